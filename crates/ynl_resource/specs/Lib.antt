@@ -1,0 +1,9 @@
+pub mod Amounts
+pub mod NameFields
+pub mod NameText
+pub mod Names
+pub mod Padded
+pub mod PathFields
+pub mod Refusals
+pub mod Tables
+pub mod Texts

@@ -1,0 +1,77 @@
+-- What texts say: the name, label, path or id that a text is, and the text of each.
+use Rattle.std.specs.Prelude.{ℕ, Bool, false, ◌&&◌, not, ◌==◌, nat_lt, nat_le, List, [], ◌∷◌, ◌++◌, length, slice_index, Result, Ok, Err, codes, decimal, if◌then◌else◌}
+use Rattle.std.specs.List.{list_all, slice_split, join_with_byte, before_first, after_first}
+use Rattle.std.specs.Str.{all_ascii_digits}
+use Rattle.std.specs.Str.Parse.{digits_value}
+use Rattle.ynl_resource.specs.declared.names.BadName.{BadName}
+use Rattle.ynl_resource.specs.declared.paths.PathFault.{PathFault}
+use Rattle.ynl_resource.specs.declared.paths.PathFault.TheVariants.{TooDeep, BadPath}
+use Rattle.ynl_resource.specs.NameText.{is_name}
+use Rattle.ynl_resource.specs.Names.{Name, same_name, Label, Unlabelled, Named, Path, Id}
+
+-- the text is no name
+abbrev pub bad_name : BadName
+bad_name = record {}
+
+-- ---- names
+
+unfoldable pub read_name : List ℕ → Result Name BadName
+read_name text = if is_name text then Ok text else Err bad_name
+
+-- ---- labels: the empty text is DEFAULT
+
+abbrev pub named : Result Name BadName → Result Label BadName
+named (Ok name) = Ok (Named name)
+named (Err e) = Err e
+
+unfoldable pub read_label : List ℕ → Result Label BadName
+read_label text = if length text == 0 then Ok Unlabelled else named (read_name text)
+
+abbrev pub label_text : Label → List ℕ
+label_text Unlabelled = []
+label_text (Named name) = name
+
+-- ---- paths: names with dots between, the first `root`
+
+abbrev pub is_dot : ℕ → Bool
+is_dot b = b == 46
+
+-- a path has at most so many names, `root` included
+abbrev pub most_names : ℕ
+most_names = 8
+
+-- the path that these parts of a text are
+abbrev pub path_of : List (List ℕ) → Result Path PathFault
+path_of [] = Err BadPath
+path_of (first ∷ names) = if same_name first (codes "root") && list_all is_name names then Ok names else Err BadPath
+
+unfoldable pub read_path : List ℕ → Result Path PathFault
+read_path text = if nat_lt most_names (length (slice_split is_dot text)) then Err TooDeep else path_of (slice_split is_dot text)
+
+unfoldable pub path_text : Path → List ℕ
+path_text path = join_with_byte 46 (codes "root" ∷ path)
+
+-- ---- ids: the label, `#`, and the clock's number without leading zeros
+
+abbrev pub is_mark : ℕ → Bool
+is_mark b = b == 35
+
+-- the largest number of a clock
+abbrev pub most_clock : ℕ
+most_clock = 9007199254740991
+
+-- whether digits are the number of a clock after a placement
+abbrev pub is_clock : List ℕ → Bool
+is_clock digits =
+    all_ascii_digits digits && nat_le 1 (digits_value 10 digits) && nat_le (digits_value 10 digits) most_clock && not (slice_index digits 0 == 48)
+
+abbrev pub id_of : Result Label BadName → List ℕ → Result Id BadName
+id_of (Ok label) digits = if is_clock digits then Ok (record { label = label; clock = digits_value 10 digits }) else Err bad_name
+id_of (Err e) digits = Err e
+
+-- the first `#` ends the label, and after it comes the number
+unfoldable pub read_id : List ℕ → Result Id BadName
+read_id text = id_of (read_label (before_first is_mark text)) (after_first is_mark text)
+
+abbrev pub id_text : Id → List ℕ
+id_text id = label_text id.label ++ codes "#" ++ decimal id.clock

@@ -1,0 +1,37 @@
+//! Labels of nodes and of requests.
+
+ghost use Rattle.std.specs.Prelude.{◌≡◌};
+ghost use Rattle.ynl_resource.specs.Texts.{read_label, label_text};
+
+use crate::names::{BadName, Name};
+
+/// A label, which names a partition of the nodes: none, for the DEFAULT partition, or a name.
+#[derive(Clone, Copy, PartialEq, Eq, PartialOrd, Ord)]
+pub enum Label {
+    Unlabelled,
+    Named(Name),
+}
+
+impl Label {
+    /// The label that the text is; the empty text is DEFAULT.
+    #[tactic(auto, unfolding(crate::specs::Texts::read_label))]
+    pub fn parse(text: &str) -> Result<Label, BadName>
+        ensures { result ≡ read_label text.now }
+    {
+        if text.is_empty() {
+            return Ok(Label::Unlabelled);
+        }
+        let name = Name::parse(text)?;
+        Ok(Label::Named(name))
+    }
+
+    /// The label's text, which is empty for DEFAULT.
+    pub fn as_str(&self) -> &str
+        ensures { result.now ≡ label_text self.now }
+    {
+        match self {
+            Label::Unlabelled => "",
+            Label::Named(name) => name.as_str(),
+        }
+    }
+}

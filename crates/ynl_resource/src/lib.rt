@@ -1,0 +1,17 @@
+//! The words of the scheduler: names, labels, paths of queues, ids of containers, amounts, and the
+//! reasons for which an event is refused. Each is read from its text exactly, and printed back.
+#![tactic(auto)]
+
+pub use amounts::{Hundredths, Resource, Size};
+pub use ids::Id;
+pub use labels::Label;
+pub use names::{BadName, Name};
+pub use paths::{Path, PathFault};
+pub use refusals::Refusal;
+
+mod amounts;
+mod ids;
+mod labels;
+mod names;
+mod paths;
+mod refusals;

@@ -1,0 +1,156 @@
+//! Names of nodes, users, applications, queues and labels.
+
+ghost use Rattle.std.specs.Prelude.{◌≡◌, length, ◌≤◌, IsTrue, Some, refl, nat_eq};
+ghost use Rattle.std.specs.List.{list_all};
+ghost use Rattle.std.specs.Cmp.{partial_equiv_from_equiv};
+ghost use Rattle.std.specs.Ordering.{nat_cmp};
+ghost use Rattle.std.specs.Cmp.Lexicographic.{slice_cmp, pointwise, nat_list_eq_equiv, nat_list_cmp_total, texts_po, texts_ties};
+ghost use Rattle.ynl_resource.specs.NameText.{is_name, is_name_byte};
+ghost use Rattle.ynl_resource.specs.Padded.{padded};
+ghost use Rattle.ynl_resource.specs.Texts.{read_name};
+
+use std::cmp::Ordering;
+use std::marker::Model;
+use thiserror::Error;
+
+/// A name: 1 to 64 bytes, each an ASCII letter, a digit, `_` or `-`. A contract sees it as its
+/// bytes, and names are ordered by them.
+#[derive(Clone, Copy)]
+pub struct Name {
+    bytes: [u8; 64],
+    len: u8,
+}
+
+/// The text is no name.
+#[derive(Clone, Copy, Debug, PartialEq, Eq, Error)]
+#[error("not a name")]
+pub struct BadName;
+
+impl Model for Name {
+    ghost use Rattle.std.specs.Prelude.{List, ℕ};
+
+    ghost Value = { List ℕ };
+
+    ghost use Rattle.ynl_resource.specs.NameFields.{text_of, fields_of, fields_back, IsNamed};
+
+    ghost view = { text_of };
+
+    ghost invariant = { IsNamed };
+
+    ghost inverse = { fields_of };
+
+    ghost inverse_ok = { fields_back };
+}
+
+fn is_name_byte(byte: u8) -> bool
+    ensures { result ≡ is_name_byte byte }
+{
+    byte.is_ascii_lowercase()
+        || byte.is_ascii_uppercase()
+        || byte.is_ascii_digit()
+        || byte == b'_'
+        || byte == b'-'
+}
+
+fn has_name_bytes(bytes: &[u8]) -> bool
+    ensures { result ≡ list_all is_name_byte bytes.now }
+{
+    bytes.iter().all(|b| is_name_byte(*b))
+}
+
+fn is_name(bytes: &[u8]) -> bool
+    ensures value { result ≡ is_name bytes.now }
+    ensures small { IsTrue result → length bytes.now ≤ 64 }
+{
+    if bytes.is_empty() || bytes.len() > 64 {
+        return false;
+    }
+    has_name_bytes(bytes)
+}
+
+/// The bytes, and zeros up to 64 bytes.
+fn pad(bytes: &[u8]) -> [u8; 64]
+    requires { length bytes.now ≤ 64 }
+    ensures { result ≡ padded 64 0 bytes.now }
+{
+    let mut kept = [0u8; 64];
+    for (i, b) in bytes.iter().enumerate() {
+        kept[i] = *b;
+    }
+    kept
+}
+
+impl Name {
+    /// The name that the text is.
+    #[tactic(auto, unfolding(crate::specs::Texts::read_name))]
+    pub fn parse(text: &str) -> Result<Name, BadName>
+        ensures { result ≡ read_name text.now }
+    {
+        let bytes = text.as_bytes();
+        if !is_name(bytes) {
+            return Err(BadName);
+        }
+        Ok(Name {
+            bytes: pad(bytes),
+            len: bytes.len() as u8,
+        })
+    }
+
+    /// The name's bytes.
+    pub fn as_bytes(&self) -> &[u8]
+        ensures text { result.now ≡ self.now }
+        ensures name { IsTrue (is_name self.now) }
+    {
+        &self.bytes[..self.len as usize]
+    }
+
+    /// The name's text.
+    #[tactic(auto, using(crate::proofs::Ascii::utf8_name))]
+    pub fn as_str(&self) -> &str
+        ensures text { result.now ≡ self.now }
+        ensures name { IsTrue (is_name self.now) }
+    {
+        match str::from_utf8(self.as_bytes()) {
+            Ok(text) => text,
+            Err(_) => "",
+        }
+    }
+}
+
+impl PartialEq for Name {
+    ghost eq = { pointwise nat_eq };
+
+    ghost laws = { partial_equiv_from_equiv nat_list_eq_equiv };
+
+    fn eq(&self, other: &Name) -> bool {
+        self.as_bytes() == other.as_bytes()
+    }
+}
+
+impl Eq for Name {
+    ghost laws = { nat_list_eq_equiv };
+}
+
+impl PartialOrd for Name {
+    ghost partial_cmp = { λ x y. Some (slice_cmp nat_cmp x y) };
+
+    ghost laws = { texts_po };
+
+    fn partial_cmp(&self, other: &Name) -> Option<Ordering> {
+        Some(self.cmp(other))
+    }
+}
+
+impl Ord for Name {
+    ghost cmp = { slice_cmp nat_cmp };
+
+    ghost total = { nat_list_cmp_total };
+
+    ghost matches_partial_cmp = { λ x y. refl };
+
+    ghost matches_eq = { texts_ties };
+
+    fn cmp(&self, other: &Name) -> Ordering {
+        self.as_bytes().cmp(other.as_bytes())
+    }
+}
