@@ -1,0 +1,379 @@
+-- What clusters answer to given lists of events, computed by the definitions.
+use Rattle.std.specs.Prelude.{◌≡◌, true, List, [], ◌∷◌, ◌++◌, Some, None, refl}
+use Rattle.ynl_resource.specs.Amounts.{amount}
+use Rattle.ynl_resource.specs.Names.{root}
+use Rattle.ynl_resource.specs.declared.paths.Path.{Path}
+use Rattle.ynl_model.specs.Queues.{Config, Inherited}
+use Rattle.ynl_resource.specs.declared.refusals.Refusal.TheVariants.{NoSuchLabel, NodeExists, NoSuchNode, SameLabel, NoSuchQueue, NotALeaf, QueueStopped, RootQueue, LabelNotAccessible, TooLarge, NameUsed, TooManyApplications, NoSuchApplication, LabelMismatch, TooManyAsks, NoSuchContainer, IsMaster, ClockSpent, Stale, NotAccessible, NoSuchAsk, NoRoom, PartitionBusy, OverMaximum, OverUserLimit, OverMasterShare, BelowCapacity}
+use Rattle.ynl_model.specs.declared.proposals.What.TheVariants.{Master, Ask as Asked}
+use Rattle.ynl_model.specs.Events.{replies, replies_to, state_after}
+use Rattle.ynl_model.specs.declared.events.Event.{Event}
+use Rattle.ynl_model.specs.declared.replies.Reply.{Reply}
+use Rattle.ynl_model.specs.declared.replies.Reply.TheVariants.{Done, Refused, Placed, Proposed, Committed, Held}
+use Rattle.ynl_laws.proofs.Opened.{opened}
+use Rattle.ynl_laws.specs.Setups.{name, none, gpu, ssd, zzz, eng, ml, etl, mkt, nope, label_row, queue_row, config_of, c0, c1, c1_with, eng_row, ml_row, reg, lost, relabel, hb, exit, sub, ask, rel, fin, stop, start, poll, use_of, prop, proposal, cmt, max_of, container, one, no_more, uses, pends}
+
+-- what the cluster answers to the second list, after the first
+abbrev later : Config → List Event → List Event → List Reply
+later c before events = replies c (state_after c before) events
+
+-- two tenants, with a setting changed
+abbrev pub c_25 : Config
+c_25 = c1_with (label_row "gpu" true) eng_row (record ml_row { user_percent = 2500 })
+
+abbrev pub c_one_app : Config
+c_one_app = c1_with (label_row "gpu" true) eng_row (record ml_row { most_applications = 1 })
+
+abbrev pub c_limit_2 : Config
+c_limit_2 = c1_with (record { name = name "gpu"; exclusive = true; limit = 2 }) eng_row ml_row
+
+abbrev pub c_limit_3 : Config
+c_limit_3 = record (c1_with (record { name = name "gpu"; exclusive = true; limit = 3 }) eng_row ml_row) { per_heartbeat = 5 }
+
+abbrev pub c_three : Config
+c_three = record c1 { per_heartbeat = 3 }
+
+abbrev pub c_8192 : Config
+c_8192 = record c1 { maximum_allocation = amount 8192 4 }
+
+abbrev pub c_eng_60 : Config
+c_eng_60 = c1_with (label_row "gpu" true) (record eng_row { maximum = 6000 }) ml_row
+
+-- three queues by thirds
+abbrev pub root_a : Path
+root_a = name "a" ∷ []
+
+abbrev pub c_thirds : Config
+c_thirds = config_of [] (queue_row root_a 3333 Inherited [] ∷ queue_row (name "b" ∷ []) 3333 Inherited [] ∷ queue_row (name "c" ∷ []) 3334 Inherited [] ∷ [])
+
+abbrev pub row2 : List Event
+row2 =
+    reg "g1" gpu 10000 10 ∷ sub ml "j1" "ann" gpu 1000 1 ∷ hb "g1" ∷ []
+
+abbrev pub row3 : List Event
+row3 =
+    row2 ++ sub ml "j2" "ann" gpu 1000 1 ∷ hb "g1" ∷ []
+
+abbrev pub row4 : List Event
+row4 =
+    row3 ++ ask "eng" "j1" gpu 1 4 2000 2 ∷ hb "g1" ∷ hb "g1" ∷ hb "g1" ∷ hb "g1" ∷ use_of ml gpu ∷ poll "eng" "j1" gpu ∷ []
+
+abbrev pub row5 : List Event
+row5 =
+    reg "g1" gpu 10000 10 ∷ sub etl "e1" "ann" gpu 1000 1 ∷ hb "g1" ∷ ask "eng" "e1" gpu 1 3 2000 2 ∷ hb "g1" ∷ hb "g1" ∷ use_of etl gpu ∷ []
+
+abbrev pub row8 : List Event
+row8 =
+    reg "g1" gpu 10000 10 ∷ reg "d1" none 10000 10 ∷ reg "s1" ssd 4000 4 ∷ sub ml "x1" "ann" none 1000 1 ∷ hb "d1" ∷ ask "eng" "x1" none 1 2 2000 2
+    ∷ hb "g1" ∷ []
+
+abbrev pub row10 : List Event
+row10 =
+    reg "g1" gpu 10000 10 ∷ reg "g2" gpu 10000 10 ∷ sub etl "e1" "ann" gpu 1000 1 ∷ hb "g1" ∷ ask "eng" "e1" gpu 1 2 5000 4 ∷ prop "g1" ∷ prop "g2"
+    ∷ cmt "g1" 3 "eng" "e1" (Asked gpu 1) 5000 4 ∷ cmt "g2" 2 "eng" "e1" (Asked gpu 1) 5000 4 ∷ []
+
+abbrev pub row12 : List Event
+row12 =
+    reg "d1" none 10000 10 ∷ sub ml "x1" "ann" none 1000 1 ∷ hb "d1" ∷ relabel "d1" gpu ∷ sub ml "j1" "bob" gpu 1000 1 ∷ hb "d1"
+    ∷ relabel "d1" none ∷ hb "d1" ∷ []
+
+abbrev pub row14 : List Event
+row14 =
+    sub ml "j1" "ann" none 100 1 ∷ sub mkt "j1" "mia" ssd 100 1 ∷ sub ml "j2" "ann" gpu 100 1 ∷ sub etl "j1" "ann" gpu 100 1 ∷ fin "eng" "j1"
+    ∷ sub ml "j2" "ann" gpu 100 1 ∷ sub etl "j1" "ann" gpu 100 1 ∷ []
+
+-- a master is placed, and its id is the clock after that
+row-2 : replies_to c1 row2
+    ≡ Done ∷ Done ∷ one (container gpu 2 "g1" "eng" "j1" Master 1000 1) ∷ []
+unfolding opened
+row-2 = refl
+
+-- the same with one queue
+row-2a : replies_to c0 (reg "g1" gpu 10000 10 ∷ sub eng "j1" "ann" gpu 1000 1 ∷ hb "g1" ∷ [])
+    ≡ Done ∷ Done ∷ one (container gpu 2 "g1" "eng" "j1" Master 1000 1) ∷ []
+unfolding opened
+row-2a = refl
+
+-- the master share is used up
+row-3 : later c1 row2 (sub ml "j2" "ann" gpu 1000 1 ∷ hb "g1" ∷ [])
+    ≡ Done ∷ no_more ∷ []
+unfolding opened
+row-3 = refl
+
+-- a first master may be larger than the master share
+row-3-apart : replies_to c1 (reg "g1" gpu 10000 10 ∷ sub ml "j1" "ann" gpu 3000 1 ∷ hb "g1" ∷ [])
+    ≡ Done ∷ Done ∷ one (container gpu 2 "g1" "eng" "j1" Master 3000 1) ∷ []
+unfolding opened
+row-3-apart = refl
+
+-- a queue grows to its user limit; usage and poll
+row-4 : later c1 row3 (ask "eng" "j1" gpu 1 4 2000 2 ∷ hb "g1" ∷ hb "g1" ∷ hb "g1" ∷ hb "g1" ∷ use_of ml gpu ∷ poll "eng" "j1" gpu ∷ [])
+    ≡ Done ∷ one (container gpu 3 "g1" "eng" "j1" (Asked gpu 1) 2000 2) ∷ one (container gpu 4 "g1" "eng" "j1" (Asked gpu 1) 2000 2)
+    ∷ one (container gpu 5 "g1" "eng" "j1" (Asked gpu 1) 2000 2) ∷ no_more ∷ uses 7000 7 7000 7 10000 10 1000 1 0 0
+    ∷ Held (container gpu 2 "g1" "eng" "j1" Master 1000 1 ∷ container gpu 3 "g1" "eng" "j1" (Asked gpu 1) 2000 2
+    ∷ container gpu 4 "g1" "eng" "j1" (Asked gpu 1) 2000 2 ∷ container gpu 5 "g1" "eng" "j1" (Asked gpu 1) 2000 2 ∷ []) (pends 1 1 2000 2 ∷ [])
+    ∷ []
+unfolding opened
+row-4 = refl
+
+-- a leaf stops at its maximum
+row-5 : replies_to c1 (row5 ++ prop "g1" ∷ cmt "g1" 4 "eng" "e1" (Asked gpu 1) 2000 2 ∷ [])
+    ≡ Done ∷ Done ∷ one (container gpu 2 "g1" "eng" "e1" Master 1000 1) ∷ Done ∷ one (container gpu 3 "g1" "eng" "e1" (Asked gpu 1) 2000 2)
+    ∷ one (container gpu 4 "g1" "eng" "e1" (Asked gpu 1) 2000 2) ∷ uses 5000 5 3000 3 5000 5 1000 1 0 0 ∷ Proposed None ∷ Refused OverMaximum ∷ []
+unfolding opened
+row-5 = refl
+
+-- two users share, each by half
+row-6 : replies_to c_25 (reg "g1" gpu 10000 10 ∷ sub ml "a1" "ann" gpu 1000 1 ∷ sub ml "b1" "bob" gpu 1000 1 ∷ hb "g1" ∷ ask "eng" "a1" gpu 1 1 2000 1
+    ∷ hb "g1" ∷ ask "eng" "a1" gpu 1 1 1000 1 ∷ hb "g1" ∷ cmt "g1" 3 "eng" "a1" (Asked gpu 1) 1000 1 ∷ [])
+    ≡ Done ∷ Done ∷ Done ∷ one (container gpu 2 "g1" "eng" "a1" Master 1000 1) ∷ Done ∷ one (container gpu 3 "g1" "eng" "a1" (Asked gpu 1) 2000 1)
+    ∷ Done ∷ no_more ∷ Refused OverUserLimit ∷ []
+unfolding opened
+row-6 = refl
+
+-- four users share, each by a quarter
+row-6-fresh : replies_to c_25 (reg "g1" gpu 10000 10 ∷ sub ml "a1" "ann" gpu 1000 1 ∷ sub ml "b1" "bob" gpu 1000 1 ∷ sub ml "c1" "cid" gpu 1000 1
+    ∷ sub ml "d1" "dan" gpu 1000 1 ∷ hb "g1" ∷ ask "eng" "a1" gpu 1 1 1000 1 ∷ hb "g1" ∷ ask "eng" "a1" gpu 1 1 750 1 ∷ hb "g1" ∷ [])
+    ≡ Done ∷ Done ∷ Done ∷ Done ∷ Done ∷ one (container gpu 2 "g1" "eng" "a1" Master 1000 1) ∷ Done ∷ no_more ∷ Done
+    ∷ one (container gpu 3 "g1" "eng" "a1" (Asked gpu 1) 750 1) ∷ []
+unfolding opened
+row-6-fresh = refl
+
+-- refusals of submit, stop and start
+row-7 : replies_to c1 (sub mkt "m1" "mia" gpu 100 1 ∷ sub mkt "m1" "mia" zzz 100 1 ∷ sub eng "m1" "mia" gpu 100 1 ∷ sub nope "m1" "mia" gpu 100 1
+    ∷ stop root ∷ stop eng ∷ sub ml "j1" "ann" zzz 100 1 ∷ start eng ∷ [])
+    ≡ Refused LabelNotAccessible ∷ Refused NoSuchLabel ∷ Refused NotALeaf ∷ Refused NoSuchQueue ∷ Refused RootQueue ∷ Done ∷ Refused QueueStopped
+    ∷ Done ∷ []
+unfolding opened
+row-7 = refl
+
+-- a guest comes only where nothing is eligible, and not to an exclusive partition
+row-8 : replies_to c1 (row8 ++ hb "s1" ∷ use_of mkt ssd ∷ sub mkt "m1" "mia" ssd 1000 1 ∷ cmt "s1" 2 "eng" "x1" (Asked none 1) 2000 2 ∷ hb "s1"
+    ∷ hb "s1" ∷ use_of ml ssd ∷ [])
+    ≡ Done ∷ Done ∷ Done ∷ Done ∷ one (container none 2 "d1" "eng" "x1" Master 1000 1) ∷ Done ∷ no_more
+    ∷ one (container ssd 2 "s1" "eng" "x1" (Asked none 1) 2000 2) ∷ uses 0 0 4000 4 4000 4 0 0 0 0 ∷ Done ∷ Refused PartitionBusy
+    ∷ one (container ssd 3 "s1" "mkt" "m1" Master 1000 1) ∷ no_more ∷ uses 0 0 0 0 0 0 0 0 2000 2 ∷ []
+unfolding opened
+row-8 = refl
+
+-- a proposal is committed once, and not after its node was lost
+row-9 : later c1 row2 (ask "eng" "j1" gpu 1 2 2000 2 ∷ prop "g1" ∷ prop "g1" ∷ cmt "g1" 2 "eng" "j1" (Asked gpu 1) 2000 2
+    ∷ cmt "g1" 2 "eng" "j1" (Asked gpu 1) 2000 2 ∷ prop "g1" ∷ lost "g1" ∷ reg "g1" gpu 10000 10 ∷ cmt "g1" 3 "eng" "j1" (Asked gpu 1) 2000 2 ∷ [])
+    ≡ Done ∷ Proposed (Some (proposal "g1" 2 "eng" "j1" (Asked gpu 1) 2000 2)) ∷ Proposed (Some (proposal "g1" 2 "eng" "j1" (Asked gpu 1) 2000 2))
+    ∷ Committed (container gpu 3 "g1" "eng" "j1" (Asked gpu 1) 2000 2) ∷ Refused Stale
+    ∷ Proposed (Some (proposal "g1" 3 "eng" "j1" (Asked gpu 1) 2000 2)) ∷ Done ∷ Done ∷ Refused Stale ∷ []
+unfolding opened
+row-9 = refl
+
+-- the stamp of the new node
+row-9-stamp : later c1 (row2 ++ ask "eng" "j1" gpu 1 2 2000 2 ∷ prop "g1" ∷ prop "g1" ∷ cmt "g1" 2 "eng" "j1" (Asked gpu 1) 2000 2
+    ∷ cmt "g1" 2 "eng" "j1" (Asked gpu 1) 2000 2 ∷ prop "g1" ∷ lost "g1" ∷ reg "g1" gpu 10000 10 ∷ []) (sub ml "j2" "ann" gpu 1000 1 ∷ prop "g1"
+    ∷ [])
+    ≡ Done ∷ Proposed (Some (proposal "g1" 4 "eng" "j1" Master 1000 1)) ∷ []
+unfolding opened
+row-9-stamp = refl
+
+-- the maximum is tested again at the commit
+row-10 : replies_to c1 row10
+    ≡ Done ∷ Done ∷ Done ∷ one (container gpu 3 "g1" "eng" "e1" Master 1000 1) ∷ Done
+    ∷ Proposed (Some (proposal "g1" 3 "eng" "e1" (Asked gpu 1) 5000 4)) ∷ Proposed (Some (proposal "g2" 2 "eng" "e1" (Asked gpu 1) 5000 4))
+    ∷ Committed (container gpu 4 "g1" "eng" "e1" (Asked gpu 1) 5000 4) ∷ Refused OverMaximum ∷ []
+unfolding opened
+row-10 = refl
+
+-- a queue stands above its maximum after a loss
+row-11 : later c1 row10 (lost "g2" ∷ use_of etl gpu ∷ ask "eng" "e1" gpu 2 1 500 1 ∷ hb "g1" ∷ cmt "g1" 4 "eng" "e1" (Asked gpu 2) 500 1
+    ∷ poll "eng" "e1" gpu ∷ [])
+    ≡ Done ∷ uses 6000 5 3000 3 5000 5 1000 1 0 0 ∷ Done ∷ no_more ∷ Refused OverMaximum ∷ Held (container gpu 3 "g1" "eng" "e1" Master 1000 1
+    ∷ container gpu 4 "g1" "eng" "e1" (Asked gpu 1) 5000 4 ∷ []) (pends 1 1 5000 4 ∷ pends 2 1 500 1 ∷ []) ∷ []
+unfolding opened
+row-11 = refl
+
+-- a relabelled node loses its containers, and an application waits again
+row-12 : replies_to c1 row12
+    ≡ Done ∷ Done ∷ one (container none 2 "d1" "eng" "x1" Master 1000 1) ∷ Done ∷ Done ∷ one (container gpu 2 "d1" "eng" "j1" Master 1000 1) ∷ Done
+    ∷ one (container none 4 "d1" "eng" "x1" Master 1000 1) ∷ []
+unfolding opened
+row-12 = refl
+
+-- names stay used, and a leaf has so many live applications at most
+row-14 : replies_to c_one_app row14
+    ≡ Done ∷ Done ∷ Refused TooManyApplications ∷ Refused NameUsed ∷ Done ∷ Done ∷ Refused NameUsed ∷ []
+unfolding opened
+row-14 = refl
+
+-- where the clock is spent nothing is placed, and all else goes on
+row-15 : later c_limit_2 row2 (hb "g1" ∷ prop "g1" ∷ cmt "g1" 2 "eng" "j9" (Asked gpu 1) 100 1 ∷ fin "eng" "j1" ∷ reg "g2" gpu 1 1 ∷ poll "eng" "j1" gpu
+    ∷ [])
+    ≡ Refused ClockSpent ∷ Refused ClockSpent ∷ Refused ClockSpent ∷ Done ∷ Done ∷ Refused NoSuchApplication ∷ []
+unfolding opened
+row-15 = refl
+
+-- a stranger is told nothing of a partition
+row-16 : later c1 row2 (sub mkt "m1" "mia" ssd 100 1 ∷ cmt "g1" 2 "mkt" "m1" Master 100 1 ∷ rel "mkt" gpu 2 ∷ rel "eng" gpu 2 ∷ rel "eng" gpu 9 ∷ [])
+    ≡ Done ∷ Refused NotAccessible ∷ Refused NoSuchContainer ∷ Refused IsMaster ∷ Refused NoSuchContainer ∷ []
+unfolding opened
+row-16 = refl
+
+-- refusals of node events
+row-23 : replies_to c1 (reg "g1" zzz 1 1 ∷ reg "g1" gpu 1 1 ∷ reg "g1" gpu 1 1 ∷ relabel "g1" gpu ∷ relabel "g9" gpu ∷ lost "g9" ∷ hb "g9" ∷ [])
+    ≡ Refused NoSuchLabel ∷ Done ∷ Refused NodeExists ∷ Refused SameLabel ∷ Refused NoSuchNode ∷ Refused NoSuchNode ∷ Refused NoSuchNode ∷ []
+unfolding opened
+row-23 = refl
+
+-- ends move the clock, and an application whose master ended waits in its old place
+row-24 : later c1 row4 (exit "g1" gpu 9 ∷ exit "g1" gpu 2 ∷ hb "g1" ∷ rel "eng" gpu 3 ∷ hb "g1" ∷ fin "eng" "j1" ∷ hb "g1" ∷ [])
+    ≡ Refused NoSuchContainer ∷ Done ∷ one (container gpu 7 "g1" "eng" "j1" Master 1000 1) ∷ Done
+    ∷ one (container gpu 9 "g1" "eng" "j1" (Asked gpu 1) 2000 2) ∷ Done ∷ one (container gpu 14 "g1" "eng" "j2" Master 1000 1) ∷ []
+unfolding opened
+row-24 = refl
+
+-- leaves are served by their ratios
+row-25 : replies_to c1 (reg "g1" gpu 10000 10 ∷ sub ml "j1" "ann" gpu 700 1 ∷ sub etl "e1" "bob" gpu 300 1 ∷ hb "g1" ∷ hb "g1"
+    ∷ ask "eng" "j1" gpu 1 9 100 1 ∷ ask "eng" "e1" gpu 1 9 100 1 ∷ hb "g1" ∷ hb "g1" ∷ hb "g1" ∷ hb "g1" ∷ hb "g1" ∷ [])
+    ≡ Done ∷ Done ∷ Done ∷ one (container gpu 2 "g1" "eng" "e1" Master 300 1) ∷ one (container gpu 3 "g1" "eng" "j1" Master 700 1) ∷ Done ∷ Done
+    ∷ one (container gpu 4 "g1" "eng" "e1" (Asked gpu 1) 100 1) ∷ one (container gpu 5 "g1" "eng" "j1" (Asked gpu 1) 100 1)
+    ∷ one (container gpu 6 "g1" "eng" "j1" (Asked gpu 1) 100 1) ∷ one (container gpu 7 "g1" "eng" "j1" (Asked gpu 1) 100 1)
+    ∷ one (container gpu 8 "g1" "eng" "e1" (Asked gpu 1) 100 1) ∷ []
+unfolding opened
+row-25 = refl
+
+-- queues are ordered level by level
+row-26 : replies_to c1 (reg "d1" none 100000 100 ∷ sub etl "e1" "ann" none 3000 1 ∷ sub mkt "m1" "mia" none 1000 1 ∷ sub ml "j1" "bob" none 1000 1
+    ∷ hb "d1" ∷ hb "d1" ∷ ask "mkt" "m1" none 1 1 1000 1 ∷ hb "d1" ∷ hb "d1" ∷ [])
+    ≡ Done ∷ Done ∷ Done ∷ Done ∷ one (container none 2 "d1" "eng" "e1" Master 3000 1) ∷ one (container none 3 "d1" "mkt" "m1" Master 1000 1) ∷ Done
+    ∷ one (container none 4 "d1" "mkt" "m1" (Asked none 1) 1000 1) ∷ one (container none 5 "d1" "eng" "j1" Master 1000 1) ∷ []
+unfolding opened
+row-26 = refl
+
+-- refusals of ask, and at most 64 asks of a label
+row-27 : later c_8192 row2 (sub ml "j3" "ann" gpu 9000 1 ∷ ask "eng" "j9" gpu 1 1 1 1 ∷ ask "eng" "j1" zzz 1 1 1 1 ∷ ask "eng" "j1" ssd 1 1 1 1
+    ∷ ask "eng" "j1" gpu 1 1 9000 1 ∷ ask "eng" "j1" gpu 1 1 1 1 ∷ ask "eng" "j1" gpu 2 1 1 1 ∷ ask "eng" "j1" gpu 3 1 1 1
+    ∷ ask "eng" "j1" gpu 4 1 1 1 ∷ ask "eng" "j1" gpu 5 1 1 1 ∷ ask "eng" "j1" gpu 6 1 1 1 ∷ ask "eng" "j1" gpu 7 1 1 1
+    ∷ ask "eng" "j1" gpu 8 1 1 1 ∷ ask "eng" "j1" gpu 9 1 1 1 ∷ ask "eng" "j1" gpu 10 1 1 1 ∷ ask "eng" "j1" gpu 11 1 1 1
+    ∷ ask "eng" "j1" gpu 12 1 1 1 ∷ ask "eng" "j1" gpu 13 1 1 1 ∷ ask "eng" "j1" gpu 14 1 1 1 ∷ ask "eng" "j1" gpu 15 1 1 1
+    ∷ ask "eng" "j1" gpu 16 1 1 1 ∷ ask "eng" "j1" gpu 17 1 1 1 ∷ ask "eng" "j1" gpu 18 1 1 1 ∷ ask "eng" "j1" gpu 19 1 1 1
+    ∷ ask "eng" "j1" gpu 20 1 1 1 ∷ ask "eng" "j1" gpu 21 1 1 1 ∷ ask "eng" "j1" gpu 22 1 1 1 ∷ ask "eng" "j1" gpu 23 1 1 1
+    ∷ ask "eng" "j1" gpu 24 1 1 1 ∷ ask "eng" "j1" gpu 25 1 1 1 ∷ ask "eng" "j1" gpu 26 1 1 1 ∷ ask "eng" "j1" gpu 27 1 1 1
+    ∷ ask "eng" "j1" gpu 28 1 1 1 ∷ ask "eng" "j1" gpu 29 1 1 1 ∷ ask "eng" "j1" gpu 30 1 1 1 ∷ ask "eng" "j1" gpu 31 1 1 1
+    ∷ ask "eng" "j1" gpu 32 1 1 1 ∷ ask "eng" "j1" gpu 33 1 1 1 ∷ ask "eng" "j1" gpu 34 1 1 1 ∷ ask "eng" "j1" gpu 35 1 1 1
+    ∷ ask "eng" "j1" gpu 36 1 1 1 ∷ ask "eng" "j1" gpu 37 1 1 1 ∷ ask "eng" "j1" gpu 38 1 1 1 ∷ ask "eng" "j1" gpu 39 1 1 1
+    ∷ ask "eng" "j1" gpu 40 1 1 1 ∷ ask "eng" "j1" gpu 41 1 1 1 ∷ ask "eng" "j1" gpu 42 1 1 1 ∷ ask "eng" "j1" gpu 43 1 1 1
+    ∷ ask "eng" "j1" gpu 44 1 1 1 ∷ ask "eng" "j1" gpu 45 1 1 1 ∷ ask "eng" "j1" gpu 46 1 1 1 ∷ ask "eng" "j1" gpu 47 1 1 1
+    ∷ ask "eng" "j1" gpu 48 1 1 1 ∷ ask "eng" "j1" gpu 49 1 1 1 ∷ ask "eng" "j1" gpu 50 1 1 1 ∷ ask "eng" "j1" gpu 51 1 1 1
+    ∷ ask "eng" "j1" gpu 52 1 1 1 ∷ ask "eng" "j1" gpu 53 1 1 1 ∷ ask "eng" "j1" gpu 54 1 1 1 ∷ ask "eng" "j1" gpu 55 1 1 1
+    ∷ ask "eng" "j1" gpu 56 1 1 1 ∷ ask "eng" "j1" gpu 57 1 1 1 ∷ ask "eng" "j1" gpu 58 1 1 1 ∷ ask "eng" "j1" gpu 59 1 1 1
+    ∷ ask "eng" "j1" gpu 60 1 1 1 ∷ ask "eng" "j1" gpu 61 1 1 1 ∷ ask "eng" "j1" gpu 62 1 1 1 ∷ ask "eng" "j1" gpu 63 1 1 1
+    ∷ ask "eng" "j1" gpu 64 1 1 1 ∷ ask "eng" "j1" gpu 65 1 1 1 ∷ ask "eng" "j1" gpu 65 0 1 1 ∷ [])
+    ≡ Refused TooLarge ∷ Refused NoSuchApplication ∷ Refused NoSuchLabel ∷ Refused LabelMismatch ∷ Refused TooLarge ∷ Done ∷ Done ∷ Done ∷ Done
+    ∷ Done ∷ Done ∷ Done ∷ Done ∷ Done ∷ Done ∷ Done ∷ Done ∷ Done ∷ Done ∷ Done ∷ Done ∷ Done ∷ Done ∷ Done ∷ Done ∷ Done ∷ Done ∷ Done ∷ Done
+    ∷ Done ∷ Done ∷ Done ∷ Done ∷ Done ∷ Done ∷ Done ∷ Done ∷ Done ∷ Done ∷ Done ∷ Done ∷ Done ∷ Done ∷ Done ∷ Done ∷ Done ∷ Done ∷ Done ∷ Done
+    ∷ Done ∷ Done ∷ Done ∷ Done ∷ Done ∷ Done ∷ Done ∷ Done ∷ Done ∷ Done ∷ Done ∷ Done ∷ Done ∷ Done ∷ Done ∷ Done ∷ Done ∷ Done ∷ Done ∷ Done
+    ∷ Refused TooManyAsks ∷ Done ∷ []
+unfolding opened
+row-27 = refl
+
+-- register, submit and heartbeat
+row-three-events : replies_to c0 (reg "g1" zzz 1 1 ∷ reg "g1" gpu 10000 10 ∷ reg "g1" gpu 10000 10 ∷ sub nope "j1" "ann" gpu 1 1 ∷ sub root "j1" "ann" gpu 1 1
+    ∷ sub eng "j1" "ann" zzz 1 1 ∷ sub eng "j1" "ann" gpu 1000 1 ∷ sub eng "j1" "ann" gpu 1000 1 ∷ hb "g9" ∷ hb "g1" ∷ hb "g1" ∷ [])
+    ≡ Refused NoSuchLabel ∷ Done ∷ Refused NodeExists ∷ Refused NoSuchQueue ∷ Refused NotALeaf ∷ Refused NoSuchLabel ∷ Done ∷ Refused NameUsed
+    ∷ Refused NoSuchNode ∷ one (container gpu 2 "g1" "eng" "j1" Master 1000 1) ∷ no_more ∷ []
+unfolding opened
+row-three-events = refl
+
+-- the life of an application
+row-applications : replies_to c1 (reg "g1" gpu 10000 10 ∷ sub ml "j1" "ann" gpu 1000 1 ∷ hb "g1" ∷ ask "eng" "j1" gpu 1 2 2000 2 ∷ poll "eng" "j1" gpu ∷ hb "g1"
+    ∷ poll "eng" "j1" gpu ∷ ask "eng" "j1" gpu 1 0 2000 2 ∷ hb "g1" ∷ rel "eng" gpu 3 ∷ exit "g1" gpu 2 ∷ hb "g1" ∷ fin "eng" "j1"
+    ∷ poll "eng" "j1" gpu ∷ fin "eng" "j1" ∷ rel "eng" gpu 6 ∷ [])
+    ≡ Done ∷ Done ∷ one (container gpu 2 "g1" "eng" "j1" Master 1000 1) ∷ Done ∷ Held (container gpu 2 "g1" "eng" "j1" Master 1000 1
+    ∷ []) (pends 1 2 2000 2 ∷ []) ∷ one (container gpu 3 "g1" "eng" "j1" (Asked gpu 1) 2000 2)
+    ∷ Held (container gpu 2 "g1" "eng" "j1" Master 1000 1 ∷ container gpu 3 "g1" "eng" "j1" (Asked gpu 1) 2000 2 ∷ []) (pends 1 1 2000 2 ∷ [])
+    ∷ Done ∷ no_more ∷ Done ∷ Done ∷ one (container gpu 6 "g1" "eng" "j1" Master 1000 1) ∷ Done ∷ Refused NoSuchApplication
+    ∷ Refused NoSuchApplication ∷ Refused NoSuchContainer ∷ []
+unfolding opened
+row-applications = refl
+
+-- lower priority numbers first, and a count is replaced
+row-priorities : later c1 row2 (ask "eng" "j1" gpu 2 1 100 1 ∷ ask "eng" "j1" gpu 1 5 200 1 ∷ ask "eng" "j1" gpu 1 1 200 1 ∷ hb "g1" ∷ hb "g1" ∷ hb "g1" ∷ [])
+    ≡ Done ∷ Done ∷ Done ∷ one (container gpu 3 "g1" "eng" "j1" (Asked gpu 1) 200 1) ∷ one (container gpu 4 "g1" "eng" "j1" (Asked gpu 2) 100 1)
+    ∷ no_more ∷ []
+unfolding opened
+row-priorities = refl
+
+-- one heartbeat places three
+row-many-per-heartbeat : replies_to c_three (reg "g1" gpu 10000 10 ∷ sub ml "j1" "ann" gpu 1000 1 ∷ ask "eng" "j1" gpu 1 5 2000 2 ∷ hb "g1" ∷ [])
+    ≡ Done ∷ Done ∷ Done ∷ Placed (container gpu 2 "g1" "eng" "j1" Master 1000 1 ∷ container gpu 3 "g1" "eng" "j1" (Asked gpu 1) 2000 2
+    ∷ container gpu 4 "g1" "eng" "j1" (Asked gpu 1) 2000 2 ∷ []) ∷ []
+unfolding opened
+row-many-per-heartbeat = refl
+
+-- the maximum of a queue above the leaf
+row-maximum-above : replies_to c_eng_60 (reg "d1" none 100000 100 ∷ sub ml "j1" "bob" none 6000 6 ∷ ask "eng" "j1" none 1 1 14000 1 ∷ hb "d1" ∷ hb "d1"
+    ∷ sub etl "e1" "ann" none 3000 1 ∷ ask "eng" "e1" none 1 4 10000 1 ∷ hb "d1" ∷ hb "d1" ∷ hb "d1" ∷ hb "d1" ∷ hb "d1" ∷ use_of eng none ∷ [])
+    ≡ Done ∷ Done ∷ Done ∷ one (container none 2 "d1" "eng" "j1" Master 6000 6) ∷ one (container none 3 "d1" "eng" "j1" (Asked none 1) 14000 1)
+    ∷ Done ∷ Done ∷ one (container none 4 "d1" "eng" "e1" Master 3000 1) ∷ one (container none 5 "d1" "eng" "e1" (Asked none 1) 10000 1)
+    ∷ one (container none 6 "d1" "eng" "e1" (Asked none 1) 10000 1) ∷ one (container none 7 "d1" "eng" "e1" (Asked none 1) 10000 1) ∷ no_more
+    ∷ uses 53000 11 60000 60 60000 60 9000 7 0 0 ∷ []
+unfolding opened
+row-maximum-above = refl
+
+-- users are counted by label
+row-users-by-label : replies_to c_25 (reg "g1" gpu 10000 10 ∷ sub ml "a1" "ann" gpu 1000 1 ∷ sub ml "b1" "bob" none 1000 1 ∷ hb "g1" ∷ ask "eng" "a1" gpu 1 2 3000 3
+    ∷ hb "g1" ∷ hb "g1" ∷ [])
+    ≡ Done ∷ Done ∷ Done ∷ one (container gpu 2 "g1" "eng" "a1" Master 1000 1) ∷ Done ∷ one (container gpu 3 "g1" "eng" "a1" (Asked gpu 1) 3000 3)
+    ∷ one (container gpu 4 "g1" "eng" "a1" (Asked gpu 1) 3000 3) ∷ []
+unfolding opened
+row-users-by-label = refl
+
+-- a lost node takes the master, and not the rest
+row-loss : later c1 row2 (ask "eng" "j1" gpu 1 1 2000 2 ∷ reg "g2" gpu 10000 10 ∷ hb "g2" ∷ lost "g1" ∷ poll "eng" "j1" gpu ∷ hb "g2" ∷ [])
+    ≡ Done ∷ Done ∷ one (container gpu 4 "g2" "eng" "j1" (Asked gpu 1) 2000 2) ∷ Done ∷ Held (container gpu 4 "g2" "eng" "j1" (Asked gpu 1) 2000 2
+    ∷ []) ([]) ∷ one (container gpu 5 "g2" "eng" "j1" Master 1000 1) ∷ []
+unfolding opened
+row-loss = refl
+
+-- refusals of commit
+row-commits : later c1 row3 (cmt "g9" 2 "eng" "j2" Master 1000 1 ∷ cmt "g1" 1 "eng" "j2" Master 1000 1 ∷ cmt "g1" 2 "abc" "j2" Master 1000 1
+    ∷ cmt "g1" 2 "eng" "j1" (Asked none 1) 1 1 ∷ cmt "g1" 2 "eng" "j9" Master 1 1 ∷ cmt "g1" 2 "eng" "j2" Master 900 1
+    ∷ cmt "g1" 2 "eng" "j2" Master 1000 1 ∷ ask "eng" "j1" gpu 1 1 9500 1 ∷ cmt "g1" 2 "eng" "j1" (Asked gpu 1) 9500 1 ∷ [])
+    ≡ Refused NoSuchNode ∷ Refused Stale ∷ Refused NotAccessible ∷ Refused NotAccessible ∷ Refused NoSuchApplication ∷ Refused NoSuchAsk
+    ∷ Refused OverMasterShare ∷ Done ∷ Refused NoRoom ∷ []
+unfolding opened
+row-commits = refl
+
+-- the clock is spent within a heartbeat
+row-spent-within : replies_to c_limit_3 (reg "g1" gpu 10000 10 ∷ sub ml "j1" "ann" gpu 1000 1 ∷ ask "eng" "j1" gpu 1 5 1000 1 ∷ hb "g1" ∷ hb "g1"
+    ∷ rel "eng" gpu 3 ∷ cmt "g1" 3 "eng" "j1" (Asked gpu 1) 1000 1 ∷ reg "g2" gpu 1 1 ∷ [])
+    ≡ Done ∷ Done ∷ Done ∷ Placed (container gpu 2 "g1" "eng" "j1" Master 1000 1 ∷ container gpu 3 "g1" "eng" "j1" (Asked gpu 1) 1000 1 ∷ [])
+    ∷ Refused ClockSpent ∷ Done ∷ Refused ClockSpent ∷ Done ∷ []
+unfolding opened
+row-spent-within = refl
+
+-- a proposal twice, and one of a stranger
+row-forged : later c1 row2 (ask "eng" "j1" gpu 1 2 100 1 ∷ cmt "g1" 2 "eng" "j1" (Asked gpu 1) 100 1 ∷ cmt "g1" 2 "eng" "j1" (Asked gpu 1) 100 1
+    ∷ cmt "g1" 3 "mkt" "j1" (Asked gpu 1) 100 1 ∷ [])
+    ≡ Done ∷ Committed (container gpu 3 "g1" "eng" "j1" (Asked gpu 1) 100 1) ∷ Refused Stale ∷ Refused NotAccessible ∷ []
+unfolding opened
+row-forged = refl
+
+-- shares in hundredths of a percent
+row-hundredths : replies_to c_thirds (reg "d1" none 10000 10 ∷ use_of root_a none ∷ [])
+    ≡ Done ∷ uses 0 0 3333 3 10000 10 0 0 0 0 ∷ []
+unfolding opened
+row-hundredths = refl
+
+-- a maximum that changes
+row-maximum : later c1 row5 (max_of etl gpu 8000 ∷ ask "eng" "e1" gpu 1 1 1000 1 ∷ prop "g1" ∷ cmt "g1" 4 "eng" "e1" (Asked gpu 1) 1000 1 ∷ use_of etl gpu
+    ∷ max_of etl gpu 4000 ∷ use_of etl gpu ∷ ask "eng" "e1" gpu 1 1 100 1 ∷ hb "g1" ∷ cmt "g1" 5 "eng" "e1" (Asked gpu 1) 100 1 ∷ [])
+    ≡ Done ∷ Done ∷ Proposed (Some (proposal "g1" 4 "eng" "e1" (Asked gpu 1) 1000 1))
+    ∷ Committed (container gpu 5 "g1" "eng" "e1" (Asked gpu 1) 1000 1) ∷ uses 6000 6 3000 3 8000 8 1000 1 0 0 ∷ Done
+    ∷ uses 6000 6 3000 3 4000 4 1000 1 0 0 ∷ Done ∷ no_more ∷ Refused OverMaximum ∷ []
+unfolding opened
+row-maximum = refl
+
+-- refusals of maximum
+row-maximum-refused : replies_to c1 (max_of nope gpu 5000 ∷ max_of root gpu 5000 ∷ max_of etl zzz 4000 ∷ max_of etl ssd 4000 ∷ max_of etl gpu 2999
+    ∷ max_of etl gpu 3000 ∷ [])
+    ≡ Refused NoSuchQueue ∷ Refused RootQueue ∷ Refused NoSuchLabel ∷ Refused LabelNotAccessible ∷ Refused BelowCapacity ∷ Done ∷ []
+unfolding opened
+row-maximum-refused = refl

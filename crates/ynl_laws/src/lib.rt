@@ -1,0 +1,2 @@
+//! Laws of the model: theorems over the definitions alone, each the contract of a public function.
+#![tactic(auto)]

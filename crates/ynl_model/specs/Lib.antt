@@ -1,0 +1,12 @@
+pub mod Accepted
+pub mod Applications
+pub mod Changes
+pub mod Check
+pub mod Cluster
+pub mod Events
+pub mod Limits
+pub mod Nodes
+pub mod Promises
+pub mod Queues
+pub mod Service
+pub mod View

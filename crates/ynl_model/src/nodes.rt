@@ -1,0 +1,13 @@
+//! Nodes.
+
+use ynl_resource::{Label, Name, Size};
+
+/// A node: its name, its partition, its size, and the clock of the partition after the node's last
+/// change.
+#[derive(Clone, Copy)]
+pub struct Node {
+    pub name: Name,
+    pub label: Label,
+    pub size: Size,
+    pub stamp: u64,
+}
