@@ -15,12 +15,10 @@ use Rattle.ynl_model.specs.declared.events.Event.{Event}
 use Rattle.ynl_model.specs.declared.events.Event.TheVariants.{Register, Lost, Relabel, Heartbeat, Exited, Submit, Ask, Release, Finish, Stop, Start, Poll, Usage, Propose, Commit, Maximum}
 use Rattle.ynl_model.specs.View.{Tracked, tracked, joined, dropped, registers, relabels, track_step}
 use Rattle.ynl_model.specs.Promises.{without_stamp}
+use Rattle.ynl_laws.specs.Working.{Apart}
 use Rattle.ynl_laws.proofs.Restricted.{left-true, right-true, and-true, same-name_sym, same-name_self, same-label_self}
 use Rattle.ynl_laws.proofs.Tracked.{step-is}
-use Rattle.ynl_laws.proofs.Lists.{not-true, some-same, none-is, Each-kept, Each-weaker, Each-with, Pairs, Pairs-filter, Pairs-last, find-nothing, none-found, found-passes}
-
-abbrev pub Apart : List Tracked → Type 0
-Apart nodes = Pairs (λ a b. same_name a.name b.name ≡ false) nodes
+use Rattle.ynl_laws.proofs.Lists.{not-true, some-same, none-is, Each-kept, Each-weaker, Each-with, Pairs-filter, Pairs-last, find-nothing, none-found, found-passes}
 
 -- a node is what its name finds
 abbrev pub FindsItself : List Tracked → Tracked → Type 0

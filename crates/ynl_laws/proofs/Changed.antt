@@ -22,8 +22,9 @@ use Rattle.ynl_model.specs.Events.{Outcome, answered, where_there, container_at,
 use Rattle.ynl_model.specs.declared.events.Event.{Event}
 use Rattle.ynl_model.specs.declared.events.Event.TheVariants.{Register, Lost, Relabel, Heartbeat, Exited, Submit, Ask, Release, Finish, Stop, Start, Poll, Usage, Propose, Commit, Maximum}
 use Rattle.ynl_model.specs.declared.replies.Reply.TheVariants.{Refused}
+use Rattle.ynl_laws.specs.Working.{IsKnown, UsesAll, EachUses, Kept}
 use Rattle.ynl_laws.proofs.Lists.{Each-filter, Each-append, Each-map, Each-all, Each-update, some-map}
-use Rattle.ynl_laws.proofs.Kept.{with_app-names, finished-names, with_app-apps, finished-apps, Extends, leaf-extends, leaf-knows, each-extends, IsKnown, UsesAll, EachUses, Kept, kept-leaf, kept-submit}
+use Rattle.ynl_laws.proofs.Kept.{with_app-names, finished-names, with_app-apps, finished-apps, Extends, leaf-extends, leaf-knows, each-extends, kept-leaf, kept-submit}
 use Rattle.ynl_laws.proofs.Chosen.{Fits, choice-fits, commit-fits, none-holds}
 
 -- ---- changes

@@ -17,9 +17,10 @@ use Rattle.ynl_model.specs.declared.proposals.What.{What}
 use Rattle.ynl_model.specs.Service.{Item, master_item, ask_item, asks_of, masters_for, asks_for, items_for, has_room, within_maximum, is_eligible, eligible, takes_guests, some_eligible, guests_for, key, first_of, choice}
 use Rattle.ynl_model.specs.Check.{comes_as_guest, proposed_item, commit_reasons}
 use Rattle.ynl_model.specs.declared.proposals.Proposal.{Proposal}
+use Rattle.ynl_laws.specs.Working.{IsKnown, Kept}
 use Rattle.ynl_laws.proofs.Restricted.{left-true, right-true, and-true}
 use Rattle.ynl_laws.proofs.Lists.{not-false, Each-filter, Each-append, Each-map, Each-all, Each-flat, Each-kept, Each-weaker, Each-both, Each-found, filter-passes}
-use Rattle.ynl_laws.proofs.Kept.{IsKnown, Kept, kept-find}
+use Rattle.ynl_laws.proofs.Kept.{kept-find}
 
 -- the request's application is known, it has room on the node, and it comes as a guest or keeps each maximum
 pub record Fits (s : State) (node : Node) (item : Item) : Type 0 where

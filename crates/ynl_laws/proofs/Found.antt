@@ -19,9 +19,10 @@ use Rattle.ynl_model.specs.Check.{proposed_item}
 use Rattle.ynl_model.specs.Events.{Outcome, where_there, container_at, container_for, home_of, accepted, reasons, step, after, state_after}
 use Rattle.ynl_model.specs.declared.events.Event.{Event}
 use Rattle.ynl_model.specs.declared.events.Event.TheVariants.{Register, Lost, Relabel, Heartbeat, Exited, Submit, Ask, Release, Finish, Stop, Start, Poll, Usage, Propose, Commit, Maximum}
+use Rattle.ynl_laws.specs.Working.{IsKnown, KnowsAll, Kept}
 use Rattle.ynl_laws.proofs.Restricted.{same-path, same-name_sym, same-name_self, find-filter}
 use Rattle.ynl_laws.proofs.Lists.{Each-all, Each-append, Each-found, Each-map, Each-kept, Each-weaker, Each-with, find-through, find-append, find-append_none, find-nothing, some-same, update-none}
-use Rattle.ynl_laws.proofs.Kept.{KeepsNames, with_app-names, finished-names, IsKnown, KnowsAll, Kept, any-other, submit-finds}
+use Rattle.ynl_laws.proofs.Kept.{KeepsNames, with_app-names, finished-names, any-other, submit-finds}
 use Rattle.ynl_laws.proofs.Chosen.{none-holds}
 use Rattle.ynl_laws.proofs.Changed.{taken-leaf, taken-name, kept-place, beat-keeps, step-cases, step-keeps, kept-opening}
 

@@ -11,34 +11,23 @@ use Rattle.ynl_resource.specs.Names.{same_name, same_label}
 use Rattle.ynl_resource.specs.declared.names.Name.{Name}
 use Rattle.ynl_resource.specs.declared.labels.Label.{Label}
 use Rattle.ynl_model.specs.Queues.{Config}
-use Rattle.ynl_model.specs.Cluster.{State, Partition, is_partition, in_partition, sizes, free, no_containers, opening}
+use Rattle.ynl_model.specs.Cluster.{Partition, is_partition, in_partition, sizes, free, no_containers, opening}
 use Rattle.ynl_model.specs.declared.containers.Placed.{Placed as Container}
 use Rattle.ynl_model.specs.Changes.{node_joins, node_leaves, changed_at, container_of, place, end}
 use Rattle.ynl_model.specs.Events.{after}
 use Rattle.ynl_model.specs.declared.events.Event.{Event}
 use Rattle.ynl_model.specs.View.{Tracked, tracked, joined, dropped}
 use Rattle.ynl_model.specs.Promises.{without_stamp}
+use Rattle.ynl_laws.specs.Working.{Apart, places, on_in, StandsOn, filled, Housed, IsHoused}
 use Rattle.ynl_laws.proofs.Restricted.{left-true, same-label_path, same-label_self, same-name_sym, find-filter}
 use Rattle.ynl_laws.proofs.Tracked.{joins-is, leaves-is, place-same, end-same}
 use Rattle.ynl_laws.proofs.Sums.{fits-trans, total-append}
 use Rattle.ynl_laws.proofs.Lists.{not-true, some-same, Each-filter, Each-append, Each-kept, Each-weaker, Each-with, Each-found, filter-last, find-append}
 use Rattle.ynl_laws.proofs.Kept.{by-row}
 use Rattle.ynl_laws.proofs.Within.{fewer-in, fewer-filter}
-use Rattle.ynl_laws.proofs.Apart.{Apart, FindsItself, each-itself}
-use Rattle.ynl_laws.proofs.Steps.{places, Stays, always}
-use Rattle.ynl_laws.proofs.Ordered.{on_in, ticked, EitherWay, either-way, opening-empty}
-
--- a container's node is there, on the partition
-abbrev pub StandsOn : List Tracked → Label → Container → Type 0
-StandsOn nodes p container = option_map_or (λ node. same_label node.label p) (tracked nodes container.node) false ≡ true
-
--- the sizes of the containers on a node
-abbrev pub filled : List Container → Name → Resource
-filled containers name = sizes (filter (λ container. same_name container.node name) containers)
-
-pub record Housed (nodes : List Tracked) (rows : List Partition) : Type 0 where
-  pub standing : (p : Label) → AllByRecursion (StandsOn nodes p) (on_in rows p)
-  pub room : AllByRecursion (λ node. fits_in (filled (on_in rows node.label) node.name) node.size ≡ true) nodes
+use Rattle.ynl_laws.proofs.Apart.{FindsItself, each-itself}
+use Rattle.ynl_laws.proofs.Steps.{Stays, always}
+use Rattle.ynl_laws.proofs.Ordered.{ticked, EitherWay, either-way, opening-empty}
 
 -- ---- a node joins
 
@@ -157,10 +146,7 @@ housed-placed nodes rows node container new h apart found on room = record {
 
 -- ---- runs
 
-abbrev pub IsHoused : State → Type 0
-IsHoused s = Housed (places s) s.partitions
-
-housed-stays : (c : Config) → Stays IsHoused c
+pub housed-stays : (c : Config) → Stays IsHoused c
 unfolding node_joins node_leaves end place changed_at container_of free
 housed-stays c = record {
   joins = λ s name label size h known none. subst (λ nodes. Housed nodes (node_joins c name label size s).partitions) (sym (joins-is c name label size s)) (housed-joins (places s) s.partitions name label size _ h none);
@@ -171,7 +157,7 @@ housed-stays c = record {
   elsewhere = λ s u nodes rows h. subst (λ rows. Housed (places u) rows) rows (subst (λ nodes. Housed (map without_stamp nodes) s.partitions) nodes h);
 }
 
-housed-opening : (c : Config) → IsHoused (opening c)
+pub housed-opening : (c : Config) → IsHoused (opening c)
 housed-opening c = record {
   standing = λ p. go p (find (is_partition p) (no_containers c.labels)) (Each-found _ (is_partition p) (no_containers c.labels) (opening-empty c.labels));
   room = tt;

@@ -12,6 +12,7 @@ use Rattle.ynl_resource.specs.declared.paths.Path.{Path}
 use Rattle.ynl_model.specs.Applications.{Application, LeafApps, row_of, leaf_of, find_app, in_leaf, submitted, with_app, finished}
 use Rattle.ynl_model.specs.Cluster.{State, Partition, is_partition, in_partition, containers_on}
 use Rattle.ynl_model.specs.declared.containers.Placed.{Placed as Container}
+use Rattle.ynl_laws.specs.Working.{IsKnown, KnowsAll, UsesAll, EachUses, Kept}
 use Rattle.ynl_laws.proofs.Restricted.{and-true, same-path, same-name_sym}
 use Rattle.ynl_laws.proofs.Lists.{Each-filter, Each-append, Each-weaker, Each-update, Each-found, find-updated, found-passes, update-none}
 
@@ -31,13 +32,6 @@ with_app-names name change = record { leaf = λ row. refl; names = λ row. refl 
 
 pub finished-names : (name : Name) → KeepsNames (finished name)
 finished-names name = record { leaf = λ row. refl; names = λ row. refl }
-
--- an application is found by its tenant and name
-abbrev pub IsKnown : List LeafApps → Path → Name → Type 0
-IsKnown leaves leaf name = leaf_of leaves (tenant_of leaf) name ≡ Some leaf
-
-abbrev pub KnowsAll : List LeafApps → List LeafApps → Type 0
-KnowsAll leaves rows = AllByRecursion (λ row. AllByRecursion (λ app. IsKnown leaves app.leaf app.name) row.apps) rows
 
 -- ---- submission
 
@@ -92,20 +86,8 @@ knows-extends old new rows ext h =
 
 -- ---- containers
 
--- the leaf of each container is found
-abbrev pub UsesAll : List LeafApps → List Container → Type 0
-UsesAll leaves containers = AllByRecursion (λ container. is_some (leaf_of leaves container.tenant container.app) ≡ true) containers
-
 pub uses-extends : (old new : List LeafApps) (containers : List Container) → Extends old new → UsesAll old containers → UsesAll new containers
 uses-extends old new containers ext h = Each-weaker _ _ (λ k e. ap is_some (ext k.tenant k.app e) ∙ e) containers h
-
-abbrev pub EachUses : List LeafApps → List Partition → Type 0
-EachUses leaves rows = AllByRecursion (λ row. UsesAll leaves row.containers) rows
-
--- each live application is known, and each container's leaf
-pub record Kept (s : State) : Type 0 where
-  pub apps : KnowsAll s.leaves s.leaves
-  pub uses : EachUses s.leaves s.partitions
 
 pub kept-on : (s : State) → Kept s → (p : Label) → UsesAll s.leaves (containers_on s p)
 kept-on s h p = go (find (is_partition p) s.partitions) (Each-found _ (is_partition p) s.partitions h.uses)

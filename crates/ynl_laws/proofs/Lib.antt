@@ -18,3 +18,8 @@ pub mod Sound
 pub mod Examples
 pub mod OwnOpening
 pub mod Found
+pub mod OrderTotal
+pub mod Least
+pub mod Working
+pub mod Bounds
+pub mod Floors

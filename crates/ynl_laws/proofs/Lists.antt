@@ -1,9 +1,10 @@
 -- Lists: what holds of each element, and what filters and finds leave of it.
 use Rattle.std.proofs.Common.{◌≡◌, not, ◌&&◌, is_some, Bool, true, false, cond, ◌||◌, List, [], ◌∷◌, ◌++◌, map, Option, Some, None, option_map, filter, find, refl, sym, ap, subst, ◌∙◌, arith}
-use Rattle.std.specs.Prelude.{⊤, flat_map, IfSome, if◌then◌else◌}
+use Rattle.std.specs.Prelude.{flat_map, IfSome, if◌then◌else◌}
 use Rattle.std.specs.List.{AllByRecursion, list_any, list_all}
 use mathlib.Core.Bool.{true≢false}
 use Rattle.ynl_resource.specs.Tables.{update}
+use Rattle.ynl_laws.specs.Working.{Pairs}
 
 -- each element of a list, kept by what makes lists of lists
 pub Each-filter : {X : Type 0} (P : X → Type 0) (p : X → Bool) (xs : List X) → AllByRecursion P xs → AllByRecursion P (filter p xs)
@@ -21,6 +22,10 @@ Each-append P (x ∷ xs) ys h k = (h.0, Each-append P xs ys h.1 k)
 pub Each-map : {X Y : Type 0} (P : X → Type 0) (Q : Y → Type 0) (f : X → Y) → ((x : X) → P x → Q (f x)) → (xs : List X) → AllByRecursion P xs → AllByRecursion Q (map f xs)
 Each-map P Q f step [] h = tt
 Each-map P Q f step (x ∷ xs) h = (step x h.0, Each-map P Q f step xs h.1)
+
+pub Each-unmap : {X Y : Type 0} (f : X → Y) (P : Y → Type 0) (xs : List X) → AllByRecursion P (map f xs) → AllByRecursion (λ x. P (f x)) xs
+Each-unmap f P [] h = tt
+Each-unmap f P (x ∷ xs) h = (h.0, Each-unmap f P xs h.1)
 
 pub Each-all : {X : Type 0} (P : X → Type 0) → ((x : X) → P x) → (xs : List X) → AllByRecursion P xs
 Each-all P all [] = tt
@@ -159,11 +164,6 @@ some-map P Q step (Some x) h = step x h
 pub filter-filter : {X : Type 0} (p q : X → Bool) → ((x : X) → q x ≡ true → p x ≡ true) → (xs : List X) → filter q (filter p xs) ≡ filter q xs
 filter-filter p q implies [] = refl
 filter-filter {X} p q implies (x ∷ xs) = grind (arith, implies x, filter-filter p q implies xs)
-
--- each two elements, the earlier one first
-abbrev pub Pairs : {X : Type 0} → (X → X → Type 0) → List X → Type 0
-Pairs R [] = ⊤
-Pairs R (x ∷ xs) = AllByRecursion (R x) xs × Pairs R xs
 
 pub Pairs-filter : {X : Type 0} (R : X → X → Type 0) (f : X → Bool) (xs : List X) → Pairs R xs → Pairs R (filter f xs)
 Pairs-filter R f [] h = tt

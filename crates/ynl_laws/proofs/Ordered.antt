@@ -18,8 +18,9 @@ use Rattle.ynl_model.specs.declared.containers.Placed.{Placed as Container}
 use Rattle.ynl_model.specs.Changes.{node_joins, node_leaves, changed_at, container_of, place, end}
 use Rattle.ynl_model.specs.Events.{after}
 use Rattle.ynl_model.specs.declared.events.Event.{Event}
+use Rattle.ynl_laws.specs.Working.{Pairs, on_in}
 use Rattle.ynl_laws.proofs.Restricted.{right-true, same-label_path}
-use Rattle.ynl_laws.proofs.Lists.{Each-filter, Each-append, Each-map, Each-weaker, Each-all, Pairs, Pairs-filter, Pairs-last, find-through, found-passes, Each-found}
+use Rattle.ynl_laws.proofs.Lists.{Each-filter, Each-append, Each-map, Each-weaker, Each-all, Pairs-filter, Pairs-last, find-through, found-passes, Each-found}
 use Rattle.ynl_laws.proofs.Kept.{by-row}
 use Rattle.ynl_laws.proofs.Steps.{Stays, always}
 
@@ -28,9 +29,6 @@ use Rattle.ynl_laws.proofs.Steps.{Stays, always}
 -- what the rows of partitions show of one
 abbrev pub clock_in : List Partition → Label → ℕ
 clock_in rows p = option_map_or (λ row. row.clock) (find (is_partition p) rows) 0
-
-abbrev pub on_in : List Partition → Label → List Container
-on_in rows p = option_map_or (λ row. row.containers) (find (is_partition p) rows) []
 
 abbrev pub has_row : List Partition → Label → Bool
 has_row rows p = option_map_or (λ row. true) (find (is_partition p) rows) false

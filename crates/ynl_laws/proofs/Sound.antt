@@ -15,13 +15,13 @@ use Rattle.ynl_model.specs.Events.{step, replies, after, state_after}
 use Rattle.ynl_model.specs.declared.events.Event.{Event}
 use Rattle.ynl_model.specs.View.{tracked}
 use Rattle.ynl_model.specs.Promises.{without_stamp, IsStanding, IsSound, IsAlwaysSound, HasOneReplyEach}
+use Rattle.ynl_laws.specs.Working.{Pairs, Apart, places, StandsOn, IsHoused}
 use Rattle.ynl_laws.proofs.Restricted.{same-label_path, same-name_self}
 use Rattle.ynl_laws.proofs.Tracked.{tracked-is}
-use Rattle.ynl_laws.proofs.Lists.{Each-weaker, Each-with, Pairs}
-use Rattle.ynl_laws.proofs.Apart.{Apart, step-apart}
-use Rattle.ynl_laws.proofs.Steps.{places}
+use Rattle.ynl_laws.proofs.Lists.{Each-weaker, Each-with, Each-unmap}
+use Rattle.ynl_laws.proofs.Apart.{step-apart}
 use Rattle.ynl_laws.proofs.Ordered.{IsOrdered, is_ordered}
-use Rattle.ynl_laws.proofs.Housed.{StandsOn, IsHoused, is_housed}
+use Rattle.ynl_laws.proofs.Housed.{is_housed}
 
 all-of : {X : Type 0} (P : X → Type 0) (xs : List X) → AllByRecursion P xs → All P xs
 all-of P [] h k d below = absurd (grind (arith, below))
@@ -32,13 +32,9 @@ pairs-of : {X : Type 0} (R : X → X → Type 0) (xs : List X) → Pairs R xs �
 pairs-of R [] h = λ i j d less below. absurd (grind (arith, below))
 pairs-of R (x ∷ xs) h = AllPairs-cons R x xs (all-of (R x) xs h.0) (pairs-of R xs h.1)
 
-each-unmap : {X Y : Type 0} (f : X → Y) (P : Y → Type 0) (xs : List X) → AllByRecursion P (map f xs) → AllByRecursion (λ x. P (f x)) xs
-each-unmap f P [] h = tt
-each-unmap f P (x ∷ xs) h = (h.0, each-unmap f P xs h.1)
-
 pairs-unmap : {X Y : Type 0} (f : X → Y) (R : Y → Y → Type 0) (xs : List X) → Pairs R (map f xs) → Pairs (λ a b. R (f a) (f b)) xs
 pairs-unmap f R [] h = tt
-pairs-unmap f R (x ∷ xs) h = (each-unmap f (R (f x)) xs h.0, pairs-unmap f R xs h.1)
+pairs-unmap f R (x ∷ xs) h = (Each-unmap f (R (f x)) xs h.0, pairs-unmap f R xs h.1)
 
 pairs-weaker : {X : Type 0} (R S : X → X → Type 0) → ((a b : X) → R a b → S a b) → (xs : List X) → Pairs R xs → Pairs S xs
 pairs-weaker R S step [] h = tt
@@ -74,7 +70,7 @@ module _ (c : Config) (s : State) (ordered : IsOrdered c s) (housed : IsHoused s
     names = pairs-of _ s.nodes names;
     ids = λ p. pairs-of _ (containers_on s p) (ids p);
     standing = λ p. all-of (IsStanding s p) (containers_on s p) (standing p);
-    not_overfull = all-of _ s.nodes (each-unmap without_stamp _ s.nodes housed.room);
+    not_overfull = all-of _ s.nodes (Each-unmap without_stamp _ s.nodes housed.room);
   }
 
 pub is_always_sound : IsAlwaysSound

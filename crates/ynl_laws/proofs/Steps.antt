@@ -1,5 +1,5 @@
 -- What stays with each change that an event can make stays with each event.
-use Rattle.std.proofs.Common.{◌≡◌, ℕ, true, false, List, [], ◌∷◌, map, Option, Some, None, is_some, option_map, refl, sym, ap, subst, ◌∙◌}
+use Rattle.std.proofs.Common.{◌≡◌, ℕ, true, false, List, [], ◌∷◌, Option, Some, None, is_some, option_map, refl, sym, ap, subst, ◌∙◌}
 use Rattle.std.specs.Prelude.{IfSome}
 use Rattle.std.specs.Option.{option_map_or}
 use Rattle.ynl_resource.specs.declared.amounts.Resource.{Resource}
@@ -19,23 +19,15 @@ use Rattle.ynl_model.specs.Check.{proposed_item, commit_reasons}
 use Rattle.ynl_model.specs.Events.{Outcome, where_there, container_at, container_for, accepted, reasons, step, after}
 use Rattle.ynl_model.specs.declared.events.Event.{Event}
 use Rattle.ynl_model.specs.declared.events.Event.TheVariants.{Register, Lost, Relabel, Heartbeat, Exited, Submit, Ask, Release, Finish, Stop, Start, Poll, Usage, Propose, Commit, Maximum}
-use Rattle.ynl_model.specs.View.{Tracked, tracked}
+use Rattle.ynl_model.specs.View.{tracked}
 use Rattle.ynl_model.specs.Promises.{without_stamp}
+use Rattle.ynl_laws.specs.Working.{Apart, Kept, places, Stands}
 use Rattle.ynl_laws.proofs.Restricted.{same-name_sym}
 use Rattle.ynl_laws.proofs.Tracked.{tracked-is, place-same, leaves-is}
 use Rattle.ynl_laws.proofs.Lists.{not-false, none-is, found-passes}
-use Rattle.ynl_laws.proofs.Apart.{Apart, gone, step-apart}
-use Rattle.ynl_laws.proofs.Kept.{Kept}
+use Rattle.ynl_laws.proofs.Apart.{gone, step-apart}
 use Rattle.ynl_laws.proofs.Chosen.{Fits, commit-fits, none-holds}
 use Rattle.ynl_laws.proofs.Changed.{kept-place, beat-keeps, step-cases, step-keeps, kept-opening}
-
--- the nodes without their stamps
-abbrev pub places : State → List Tracked
-places s = map without_stamp s.nodes
-
--- a node is there, but for its stamp
-abbrev pub Stands : State → Node → Type 0
-Stands s node = tracked (places s) node.name ≡ Some (without_stamp node)
 
 pub stands-found : (s : State) (name : Name) (node : Node) → node_of s name ≡ Some node → Stands s node
 stands-found s name node e =
@@ -100,9 +92,12 @@ module _ (P : State → Type 0) (c : Config) (stays : Stays P c) where
       spent = (none-holds (commit_reasons c s proposal) none).1.0
   accepted-stays s (Maximum queue label share) k a h none = stays.elsewhere s _ refl refl h
 
+  pub step-stays : (s : State) (event : Event) → Kept s → Apart (places s) → P s → P (step c s event).state
+  step-stays s event k a h = step-cases P c s event h (accepted-stays s event k a h)
+
   pub after-stays : (events : List Event) (s : State) → Kept s → Apart (places s) → P s → P (after c s events)
   after-stays [] s k a h = h
-  after-stays (event ∷ events) s k a h = after-stays events (step c s event).state (step-keeps c s event k) (step-apart c s event a) (step-cases P c s event h (accepted-stays s event k a h))
+  after-stays (event ∷ events) s k a h = after-stays events (step c s event).state (step-keeps c s event k) (step-apart c s event a) (step-stays s event k a h)
 
 -- what holds at first and stays with each change holds after each list of events
 pub always : (P : State → Type 0) (c : Config) → Stays P c → P (opening c) → (events : List Event) → P (after c (opening c) events)

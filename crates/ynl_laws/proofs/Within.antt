@@ -29,11 +29,12 @@ use Rattle.ynl_model.specs.Events.{Outcome, where_there, container_at, container
 use Rattle.ynl_model.specs.declared.events.Event.{Event}
 use Rattle.ynl_model.specs.declared.events.Event.TheVariants.{Register, Lost, Relabel, Heartbeat, Exited, Submit, Ask, Release, Finish, Stop, Start, Poll, Usage, Propose, Commit, Maximum}
 use Rattle.ynl_model.specs.Promises.{without_stamp, KeepsMaximum, IsNeverOver, LowersMaximum, IsOnlyLoweredInto}
+use Rattle.ynl_laws.specs.Working.{IsKnown, UsesAll, Kept}
 use Rattle.ynl_laws.proofs.Restricted.{left-true, right-true, and-true, fold-same, same-path, same-name_sym, same-label_path}
 use Rattle.ynl_laws.proofs.Tracked.{filter-map, Same, place-same, end-same}
 use Rattle.ynl_laws.proofs.Lists.{all-map-is, not-true, filter-agree, filter-swap, filter-filter, filter-last}
 use Rattle.ynl_laws.proofs.Sums.{fits-refl, fits-trans, fits-filter, total-append}
-use Rattle.ynl_laws.proofs.Kept.{IsKnown, KeepsNames, Extends, UsesAll, Kept, kept-on, by-row, submit-extends, leaf-extends, with_app-names, finished-names}
+use Rattle.ynl_laws.proofs.Kept.{KeepsNames, Extends, kept-on, by-row, submit-extends, leaf-extends, with_app-names, finished-names}
 use Rattle.ynl_laws.proofs.Chosen.{Fits, commit-fits, none-holds}
 use Rattle.ynl_laws.proofs.Changed.{kept-place, place-extends, kept-leaves, kept-end, beat-keeps, step-cases, step-keeps, after-keeps, kept-opening}
 
@@ -77,12 +78,12 @@ use-falls s u queue p h ext few =
 
 -- ---- maxima
 
-total-map : {X Y : Type 0} (size : Y → Resource) (f : X → Y) (xs : List X) → total_of size (map f xs) ≡ total_of (λ x. size (f x)) xs
+pub total-map : {X Y : Type 0} (size : Y → Resource) (f : X → Y) (xs : List X) → total_of size (map f xs) ≡ total_of (λ x. size (f x)) xs
 total-map size f [] = refl
 total-map size f (x ∷ xs) = ap (plus (size (f x))) (total-map size f xs)
 
 -- the total is that of the nodes without their stamps
-total-places : (nodes : List Node) (p : Label) → total_on nodes p ≡ total_of (λ node. node.size) (filter (λ node. same_label node.label p) (map without_stamp nodes))
+pub total-places : (nodes : List Node) (p : Label) → total_on nodes p ≡ total_of (λ node. node.size) (filter (λ node. same_label node.label p) (map without_stamp nodes))
 unfolding total_on
 total-places nodes p = sym (ap (total_of (λ node. node.size)) (filter-map without_stamp (λ node. same_label node.label p) nodes) ∙ total-map (λ node. node.size) without_stamp (nodes_of nodes p))
 

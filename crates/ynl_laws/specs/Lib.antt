@@ -1,2 +1,4 @@
 pub mod Examples
 pub mod Setups
+pub mod Least
+pub mod Working

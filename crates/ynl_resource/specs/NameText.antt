@@ -8,5 +8,3 @@ is_name_byte b =
 
 abbrev pub is_name : List ℕ → Bool
 is_name text = nat_le 1 (length text) && nat_le (length text) 64 && list_all is_name_byte text
-
-

@@ -1,5 +1,5 @@
 -- What texts say: the name, label, path or id that a text is, and the text of each.
-use Rattle.std.specs.Prelude.{ℕ, Bool, false, ◌&&◌, not, ◌==◌, nat_lt, nat_le, List, [], ◌∷◌, ◌++◌, length, slice_index, Result, Ok, Err, codes, decimal, if◌then◌else◌}
+use Rattle.std.specs.Prelude.{ℕ, Bool, ◌&&◌, not, ◌==◌, nat_lt, nat_le, List, [], ◌∷◌, ◌++◌, length, slice_index, Result, Ok, Err, codes, decimal, if◌then◌else◌}
 use Rattle.std.specs.List.{list_all, slice_split, join_with_byte, before_first, after_first}
 use Rattle.std.specs.Str.{all_ascii_digits}
 use Rattle.std.specs.Str.Parse.{digits_value}
@@ -69,9 +69,9 @@ abbrev pub id_of : Result Label BadName → List ℕ → Result Id BadName
 id_of (Ok label) digits = if is_clock digits then Ok (record { label = label; clock = digits_value 10 digits }) else Err bad_name
 id_of (Err e) digits = Err e
 
--- the first `#` ends the label, and after it comes the number
+-- the first `#`, byte 35, ends the label, and after it comes the number
 unfoldable pub read_id : List ℕ → Result Id BadName
 read_id text = id_of (read_label (before_first is_mark text)) (after_first is_mark text)
 
 abbrev pub id_text : Id → List ℕ
-id_text id = label_text id.label ++ codes "#" ++ decimal id.clock
+id_text id = label_text id.label ++ 35 ∷ decimal id.clock

@@ -139,8 +139,11 @@ impl Model for Hundredths {
 }
 
 impl Hundredths {
+    /// None of it.
+    pub const NOTHING: Hundredths = Hundredths { number: 0 };
+
     /// The whole: 100 percent.
-    pub const WHOLE: u64 = 10000;
+    pub const WHOLE: Hundredths = Hundredths { number: 10000 };
 
     /// The share, if it is at most the whole.
     pub fn new(number: u64) -> Option<Hundredths>

@@ -1,6 +1,6 @@
 //! Labels of nodes and of requests.
 
-ghost use Rattle.std.specs.Prelude.{◌≡◌};
+ghost use Rattle.std.specs.Prelude.{◌≡◌, Ok};
 ghost use Rattle.ynl_resource.specs.Texts.{read_label, label_text};
 
 use crate::names::{BadName, Name};
@@ -26,8 +26,10 @@ impl Label {
     }
 
     /// The label's text, which is empty for DEFAULT.
+    #[tactic(auto, unfolding(crate::specs::Texts::read_label, crate::specs::Texts::read_name))]
     pub fn as_str(&self) -> &str
-        ensures { result.now ≡ label_text self.now }
+        ensures text { result.now ≡ label_text self.now }
+        ensures reads { read_label result.now ≡ Ok self.now }
     {
         match self {
             Label::Unlabelled => "",

@@ -10,6 +10,7 @@ pub use paths::{Path, PathFault};
 pub use refusals::Refusal;
 
 mod amounts;
+mod cuts;
 mod ids;
 mod labels;
 mod names;

@@ -1,6 +1,6 @@
 //! Names of nodes, users, applications, queues and labels.
 
-ghost use Rattle.std.specs.Prelude.{◌≡◌, length, ◌≤◌, IsTrue, Some, refl, nat_eq};
+ghost use Rattle.std.specs.Prelude.{◌≡◌, length, ◌≤◌, IsTrue, Some, Ok, refl, nat_eq};
 ghost use Rattle.std.specs.List.{list_all};
 ghost use Rattle.std.specs.Cmp.{partial_equiv_from_equiv};
 ghost use Rattle.std.specs.Ordering.{nat_cmp};
@@ -105,10 +105,11 @@ impl Name {
     }
 
     /// The name's text.
-    #[tactic(auto, using(crate::proofs::Ascii::utf8_name))]
+    #[tactic(auto, using(crate::proofs::Ascii::utf8_name), unfolding(crate::specs::Texts::read_name))]
     pub fn as_str(&self) -> &str
         ensures text { result.now ≡ self.now }
         ensures name { IsTrue (is_name self.now) }
+        ensures reads { read_name self.now ≡ Ok self.now }
     {
         match str::from_utf8(self.as_bytes()) {
             Ok(text) => text,

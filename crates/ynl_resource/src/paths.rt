@@ -1,10 +1,17 @@
 //! Paths of queues.
 
-ghost use Rattle.std.specs.Prelude.{◌≡◌, ◌≤◌, length, nat_eq};
+ghost use Rattle.std.specs.Prelude.{◌≡◌, ◌<◌, ◌≤◌, length, nat_eq, count_by, ◌++◌, ◌∷◌, IsTrue, OnOk, IfOk, Ok};
+ghost use Rattle.std.specs.Option.{SomeIff};
+ghost use Rattle.std.specs.String.{string_bytes};
 ghost use Rattle.std.specs.Cmp.{partial_equiv_from_equiv};
 ghost use Rattle.std.specs.Cmp.Lexicographic.{pointwise, lists_equiv, nat_list_eq_equiv};
+ghost use Rattle.ynl_resource.specs.NameText.{is_name};
+ghost use Rattle.ynl_resource.specs.Names.{tenant_of};
+ghost use Rattle.ynl_resource.specs.Texts.{is_dot, read_path, path_text};
 
+use crate::cuts::cut;
 use crate::names::Name;
+use std::alloc::{AllocError, Global};
 use std::marker::Model;
 use thiserror::Error;
 
@@ -42,7 +49,75 @@ impl Model for Path {
     ghost inverse_ok = { fields_back };
 }
 
+fn dots(text: &str) -> usize
+    ensures { result ≡ count_by is_dot text.now }
+{
+    text.as_bytes().iter().filter(|b| **b == b'.').count()
+}
+
+/// The name with a dot before it, put last.
+fn push_name(text: &mut String, name: &Name) -> Result<(), AllocError>
+    ensures text { OnOk result (string_bytes text.new ≡ string_bytes text.old ++ (46 ∷ name.now)) }
+    ensures name { OnOk result (IsTrue (is_name name.now)) }
+{
+    text.push('.')?;
+    text.push_str(name.as_str())?;
+    Ok(())
+}
+
 impl Path {
+    /// The path that the text is: one to eight names with dots between, the first `root`.
+    #[tactic(auto, unfolding(crate::specs::Texts::read_path))]
+    pub fn parse(text: &str) -> Result<Path, PathFault>
+        ensures { result ≡ read_path text.now }
+    {
+        if dots(text) > 7 {
+            return Err(PathFault::TooDeep);
+        }
+        let (first, below) = cut(text, '.');
+        if first != "root" {
+            return Err(PathFault::BadPath);
+        }
+        let Ok(root) = Name::parse(first) else {
+            return Err(PathFault::BadPath);
+        };
+        let mut names = [root; 7];
+        let mut len = 0;
+        let mut rest = below;
+        'parts: while let Some(parts) = rest {
+            let (part, more) = cut(parts, '.');
+            let Ok(name) = Name::parse(part) else {
+                return Err(PathFault::BadPath);
+            };
+            names[len] = name;
+            len += 1;
+            rest = more;
+        }
+        Ok(Path {
+            names,
+            len: len as u8,
+        })
+    }
+
+    /// The path's text.
+    pub fn text(&self, alloc: Global) -> Result<String, AllocError>
+        ensures text { IfOk result (λ t. string_bytes t ≡ path_text self.now) }
+        ensures reads { IfOk result (λ t. read_path (string_bytes t) ≡ Ok self.now) }
+    {
+        let mut text = String::from_str(alloc, "root")?;
+        for name in self.names() {
+            push_name(&mut text, name)?;
+        }
+        Ok(text)
+    }
+
+    /// The tenant to which the queue belongs: the first name below root, and none for root itself.
+    pub fn tenant(&self) -> Option<Name>
+        ensures { SomeIff result (0 < length self.now) (tenant_of self.now) }
+    {
+        self.names().first().copied()
+    }
+
     /// The names below root, from the top-level queue down.
     pub fn names(&self) -> &[Name]
         ensures names { result.now ≡ self.now }

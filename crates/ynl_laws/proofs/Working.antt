@@ -1,0 +1,190 @@
+-- What a state keeps holds at first, and stays with every event in range and with each placement of a turn.
+use Rattle.std.proofs.Common.{◌≡◌, ℕ, ◌≤◌, ◌<◌, Bool, true, false, cond, not, ◌&&◌, List, [], ◌∷◌, ◌++◌, map, length, Option, Some, None, filter, refl, sym, ap, subst, ◌∙◌, arith, append-nil, length-append, le_trans}
+use Rattle.std.specs.Prelude.{IfSome, nat_le}
+use Rattle.std.specs.List.{AllByRecursion}
+use Rattle.std.specs.Option.{option_map_or}
+use Rattle.std.proofs.lemmas.List.{length-map}
+use Rattle.std.proofs.lemmas.Bool.Decides.{nat_tests}
+use Rattle.ynl_resource.specs.Amounts.{IsSize}
+use Rattle.ynl_resource.specs.Names.{same_name, same_label}
+use Rattle.ynl_resource.specs.declared.labels.Label.{Label}
+use Rattle.ynl_model.specs.Nodes.{nodes_of, most_nodes}
+use Rattle.ynl_model.specs.declared.nodes.Node.{Node}
+use Rattle.ynl_model.specs.Queues.{Config}
+use Rattle.ynl_model.specs.Cluster.{State, is_spent, opening}
+use Rattle.ynl_model.specs.Service.{Item, choice}
+use Rattle.ynl_model.specs.Changes.{place}
+use Rattle.ynl_model.specs.Events.{step}
+use Rattle.ynl_model.specs.declared.events.Event.{Event}
+use Rattle.ynl_model.specs.declared.events.Event.TheVariants.{Register, Lost, Relabel, Heartbeat, Exited, Submit, Ask, Release, Finish, Stop, Start, Poll, Usage, Propose, Commit, Maximum}
+use Rattle.ynl_model.specs.View.{Tracked, tracked, joined, dropped, registers, relabels, has_place, track_step}
+use Rattle.ynl_model.specs.Promises.{without_stamp}
+use Rattle.ynl_laws.specs.Working.{places, Apart, Stands, IsWorking, IsRanged}
+use Rattle.ynl_laws.proofs.Restricted.{right-true, same-label_path}
+use Rattle.ynl_laws.proofs.Tracked.{filter-map, place-same, step-is}
+use Rattle.ynl_laws.proofs.Lists.{not-true, Each-filter, Each-append, Each-map, Each-unmap, Each-find, filter-swap, filter-last}
+use Rattle.ynl_laws.proofs.Chosen.{Fits, choice-fits}
+use Rattle.ynl_laws.proofs.Changed.{kept-place, step-keeps, kept-opening}
+use Rattle.ynl_laws.proofs.Apart.{step-apart}
+use Rattle.ynl_laws.proofs.Steps.{step-stays}
+use Rattle.ynl_laws.proofs.Housed.{housed-stays, housed-opening}
+
+-- ---- sizes
+
+abbrev pub Sized : List Tracked → Type 0
+Sized nodes = AllByRecursion (λ node. IsSize node.size) nodes
+
+pub sized-places : (nodes : List Node) → AllByRecursion (λ node. IsSize node.size) nodes → Sized (map without_stamp nodes)
+sized-places nodes h = Each-map _ _ without_stamp (λ node k. k) nodes h
+
+sized-nodes : (nodes : List Node) → Sized (map without_stamp nodes) → AllByRecursion (λ node. IsSize node.size) nodes
+sized-nodes nodes h = Each-unmap without_stamp (λ node. IsSize node.size) nodes h
+
+track-sized : (c : Config) (nodes : List Tracked) (event : Event) → IsRanged event → Sized nodes → Sized (track_step c nodes event)
+unfolding track_step
+track-sized c nodes (Register name label size) ranged h = go (registers c nodes name label)
+  where
+    go : (b : Bool) → Sized (cond b (joined nodes name label size) nodes)
+    go true = Each-append _ nodes _ h (ranged, tt)
+    go false = h
+track-sized c nodes (Lost name) ranged h = go (tracked nodes name)
+  where
+    go : (o : Option Tracked) → Sized (option_map_or (dropped nodes) o nodes)
+    go None = h
+    go (Some node) = Each-filter _ _ nodes h
+track-sized c nodes (Relabel name label) ranged h = go (relabels c nodes name label) (tracked nodes name) refl
+  where
+    go : (b : Bool) (o : Option Tracked) → tracked nodes name ≡ o → Sized (cond b (option_map_or (λ node. joined (dropped nodes node) name label node.size) o nodes) nodes)
+    go true None e = h
+    go true (Some node) e = Each-append _ (dropped nodes node) _ (Each-filter _ _ nodes h) ((Each-find (λ node. IsSize node.size) (λ node. same_name node.name name) nodes h node e).0, tt)
+    go false o e = h
+track-sized c nodes (Heartbeat name) ranged h = h
+track-sized c nodes (Exited name id) ranged h = h
+track-sized c nodes (Submit queue app user label master) ranged h = h
+track-sized c nodes (Ask tenant app label priority count size) ranged h = h
+track-sized c nodes (Release tenant id) ranged h = h
+track-sized c nodes (Finish tenant app) ranged h = h
+track-sized c nodes (Stop queue) ranged h = h
+track-sized c nodes (Start queue) ranged h = h
+track-sized c nodes (Poll tenant app label) ranged h = h
+track-sized c nodes (Usage queue label) ranged h = h
+track-sized c nodes (Propose name) ranged h = h
+track-sized c nodes (Commit proposal) ranged h = h
+track-sized c nodes (Maximum queue label share) ranged h = h
+
+-- ---- counts
+
+-- the nodes on a partition
+abbrev pub on : Label → List Tracked → List Tracked
+on p nodes = filter (λ node. same_label node.label p) nodes
+
+abbrev pub Counted : List Tracked → Type 0
+Counted nodes = (p : Label) → length (on p nodes) ≤ most_nodes
+
+count-same : (p : Label) (nodes : List Node) → length (on p (map without_stamp nodes)) ≡ length (nodes_of nodes p)
+count-same p nodes = ap length (filter-map without_stamp (λ node. same_label node.label p) nodes) ∙ length-map (nodes_of nodes p) without_stamp
+
+fewer-left : {X : Type 0} (f : X → Bool) (xs : List X) → length (filter f xs) ≤ length xs
+fewer-left f [] = grind (arith)
+fewer-left f (x ∷ xs) = grind (arith, fewer-left f xs)
+
+fewer-on : (f : Tracked → Bool) (p : Label) (nodes : List Tracked) → length (on p (filter f nodes)) ≤ length (on p nodes)
+fewer-on f p nodes = subst (λ few. length few ≤ length (on p nodes)) (sym (filter-swap f (λ node. same_label node.label p) nodes)) (fewer-left f (on p nodes))
+
+counted-filter : (f : Tracked → Bool) (nodes : List Tracked) → Counted nodes → Counted (filter f nodes)
+counted-filter f nodes h p = le_trans (fewer-on f p nodes) (h p)
+
+one-more : (nodes : List Tracked) (node : Tracked) → length nodes < most_nodes → length (nodes ++ node ∷ []) ≤ most_nodes
+one-more nodes node h = omega (arith, h, length-append nodes (node ∷ []))
+
+-- one more node on a partition that has a place
+counted-joined : (nodes : List Tracked) (node : Tracked) → Counted nodes → length (on node.label nodes) < most_nodes → Counted (nodes ++ node ∷ [])
+counted-joined nodes node h room p = subst (λ more. length more ≤ most_nodes) (sym (filter-last (λ other. same_label other.label p) nodes node)) (go (same_label node.label p) refl)
+  where
+    go : (b : Bool) → same_label node.label p ≡ b → length (on p nodes ++ cond b (node ∷ []) []) ≤ most_nodes
+    go true e = one-more (on p nodes) node (subst (λ l. length (on l nodes) < most_nodes) (same-label_path node.label p e) room)
+    go false e = subst (λ more. length more ≤ most_nodes) (sym (append-nil (on p nodes))) (h p)
+
+has-room : (nodes : List Tracked) (label : Label) → has_place nodes label ≡ true → length (on label nodes) < most_nodes
+has-room nodes label e = go (length (on label nodes)) e
+  where
+    go : (n : ℕ) → not (nat_le most_nodes n) ≡ true → n < most_nodes
+    go n e = let off : nat_le most_nodes n ≡ false = not-true _ e in grind (arith, nat_tests, off)
+
+track-counted : (c : Config) (nodes : List Tracked) (event : Event) → Counted nodes → Counted (track_step c nodes event)
+unfolding track_step
+track-counted c nodes (Register name label size) h = go (registers c nodes name label) refl
+  where
+    go : (b : Bool) → registers c nodes name label ≡ b → Counted (cond b (joined nodes name label size) nodes)
+    go true e = counted-joined nodes _ h (has-room nodes label (right-true _ (has_place nodes label) e))
+    go false e = h
+track-counted c nodes (Lost name) h = go (tracked nodes name)
+  where
+    go : (o : Option Tracked) → Counted (option_map_or (dropped nodes) o nodes)
+    go None = h
+    go (Some node) = counted-filter _ nodes h
+track-counted c nodes (Relabel name label) h = go (relabels c nodes name label) refl (tracked nodes name)
+  where
+    go : (b : Bool) → relabels c nodes name label ≡ b → (o : Option Tracked) → Counted (cond b (option_map_or (λ node. joined (dropped nodes node) name label node.size) o nodes) nodes)
+    go true e None = h
+    go true e (Some node) = counted-joined (dropped nodes node) _ (counted-filter _ nodes h)
+        (le_trans (grind (arith, fewer-on (λ other. not (same_name other.name node.name && same_label other.label node.label)) label nodes)) (has-room nodes label (right-true _ (has_place nodes label) e)))
+    go false e o = h
+track-counted c nodes (Heartbeat name) h = h
+track-counted c nodes (Exited name id) h = h
+track-counted c nodes (Submit queue app user label master) h = h
+track-counted c nodes (Ask tenant app label priority count size) h = h
+track-counted c nodes (Release tenant id) h = h
+track-counted c nodes (Finish tenant app) h = h
+track-counted c nodes (Stop queue) h = h
+track-counted c nodes (Start queue) h = h
+track-counted c nodes (Poll tenant app label) h = h
+track-counted c nodes (Usage queue label) h = h
+track-counted c nodes (Propose name) h = h
+track-counted c nodes (Commit proposal) h = h
+track-counted c nodes (Maximum queue label share) h = h
+
+-- ---- whole states
+
+abbrev Ranged : List Tracked → Type 0
+Ranged nodes = Sized nodes × Counted nodes
+
+ranged-of : (c : Config) (s : State) → IsWorking c s → Ranged (places s)
+ranged-of c s h = (sized-places s.nodes h.sizes, λ p. subst (λ n. n ≤ most_nodes) (sym (count-same p s.nodes)) (h.counts p))
+
+counts-of : (s : State) → Counted (places s) → (p : Label) → length (nodes_of s.nodes p) ≤ most_nodes
+counts-of s h p = subst (λ n. n ≤ most_nodes) (count-same p s.nodes) (h p)
+
+-- the opening state
+pub working-opening : (c : Config) → IsWorking c (opening c)
+working-opening c = record { kept = kept-opening c; apart = tt; housed = housed-opening c; sizes = tt; counts = λ p. omega arith }
+
+-- an event in range
+pub working-step : (c : Config) (s : State) (event : Event) → IsRanged event → IsWorking c s → IsWorking c (step c s event).state
+working-step c s event ranged h =
+    let now = ranged-of c s h in
+    record {
+      kept = step-keeps c s event h.kept;
+      apart = step-apart c s event h.apart;
+      housed = step-stays _ c (housed-stays c) s event h.kept h.apart h.housed;
+      sizes = sized-nodes (step c s event).state.nodes (subst Sized (sym (step-is c s event)) (track-sized c (places s) event ranged now.0));
+      counts = counts-of (step c s event).state (subst Counted (sym (step-is c s event)) (track-counted c (places s) event now.1));
+    }
+
+-- a node stays while a request is placed on it
+pub stands-place : (c : Config) (s : State) (node : Node) (item : Item) → Stands s node → Stands (place c node item s) node
+stands-place c s node item h = ap (λ nodes. tracked nodes node.name) (place-same c node item s) ∙ h
+
+-- the chosen request is placed
+pub working-place : (c : Config) (s : State) (node : Node) (item : Item) → IsWorking c s → Stands s node → choice c s node ≡ Some item → is_spent c.labels s node.label ≡ false → IsWorking c (place c node item s)
+working-place c s node item h stands chosen fresh =
+    let fits : Fits s node item = subst (λ o. IfSome o (Fits s node)) chosen (choice-fits c s node h.kept) in
+    let now = ranged-of c s h in
+    let stays = housed-stays c in
+    record {
+      kept = kept-place c node item s h.kept fits.known;
+      apart = subst Apart (sym (place-same c node item s)) h.apart;
+      housed = stays.placed s node item h.housed h.kept stands h.apart fits fresh;
+      sizes = sized-nodes (place c node item s).nodes (subst Sized (sym (place-same c node item s)) now.0);
+      counts = counts-of (place c node item s) (subst Counted (sym (place-same c node item s)) now.1);
+    }

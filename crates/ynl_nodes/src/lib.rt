@@ -1,0 +1,6 @@
+//! Labels of the cluster's partitions.
+#![tactic(auto)]
+
+pub use labels::{LabelRow, Labels};
+
+mod labels;

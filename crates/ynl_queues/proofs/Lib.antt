@@ -1,0 +1,2 @@
+pub mod Prefixes
+pub mod Shares

@@ -1,0 +1,158 @@
+//! The configuration, and its rows.
+
+ghost use Rattle.std.specs.Prelude.{◌≡◌, option_map, ◌&&◌, not};
+ghost use Rattle.std.specs.List.{list_any};
+ghost use Rattle.ynl_model.specs.Queues.{queue_row, is_queue, is_leaf, setting};
+ghost use Rattle.ynl_resource.specs.Names.{is_within, same_path};
+ghost use Rattle.ynl_resource.specs.declared.labels.Label.TheVariants.{Unlabelled};
+
+use crate::rows::QueueRow;
+use crate::ways::is_within;
+use std::marker::Model;
+use ynl_nodes::Labels;
+use ynl_resource::{Hundredths, Label, Name, Size};
+
+/// What does not change while a cluster runs: the labels, the queues below root, the most containers
+/// that a heartbeat places, and the largest request.
+#[derive(Drop)]
+pub struct Config {
+    labels: Labels,
+    queues: Vec<QueueRow>,
+    per_heartbeat: u32,
+    maximum_allocation: Size,
+}
+
+impl Model for Config {
+    ghost use Rattle.ynl_model.specs.Queues.{Config as Configured};
+
+    ghost Value = { Configured };
+
+    ghost view = { λ c. record { labels = c.labels; queues = c.queues.items; per_heartbeat = c.per_heartbeat; maximum_allocation = c.maximum_allocation } };
+}
+
+impl Config {
+    /// The configuration of these rows, as they stand.
+    pub fn new(
+        labels: Labels,
+        queues: Vec<QueueRow>,
+        per_heartbeat: u32,
+        maximum_allocation: Size,
+    ) -> Config
+        ensures { result ≡ record { labels = labels; queues = queues.items; per_heartbeat = per_heartbeat; maximum_allocation = maximum_allocation } }
+    {
+        Config {
+            labels,
+            queues,
+            per_heartbeat,
+            maximum_allocation,
+        }
+    }
+
+    /// The labels.
+    pub fn labels(&self) -> &Labels
+        ensures { result.now ≡ self.now.labels }
+    {
+        &self.labels
+    }
+
+    /// The queues below root, in the order of the configuration.
+    pub fn queues(&self) -> &[QueueRow]
+        ensures { result.now ≡ self.now.queues }
+    {
+        &self.queues
+    }
+
+    /// The most containers that a heartbeat places.
+    pub fn per_heartbeat(&self) -> u32
+        ensures { result ≡ self.now.per_heartbeat }
+    {
+        self.per_heartbeat
+    }
+
+    /// The largest request.
+    pub fn maximum_allocation(&self) -> Size
+        ensures { result ≡ self.now.maximum_allocation }
+    {
+        self.maximum_allocation
+    }
+
+    /// The row of a queue.
+    pub fn row(&self, queue: &[Name]) -> Option<&QueueRow>
+        ensures { option_map (λ r. r.now) result ≡ queue_row self.now queue.now }
+    {
+        self.queues.iter().find(|row| row.path.names() == queue)
+    }
+
+    /// Whether there is such a queue; root is one.
+    pub fn is_queue(&self, queue: &[Name]) -> bool
+        ensures { result ≡ is_queue self.now queue.now }
+    {
+        queue.is_empty() || self.row(queue).is_some()
+    }
+
+    fn has_below(&self, queue: &[Name]) -> bool
+        ensures { result ≡ list_any (λ row. is_within queue.now row.path && not (same_path queue.now row.path)) self.now.queues }
+    {
+        self.queues
+            .iter()
+            .any(|row| is_within(queue, row.path.names()) && queue != row.path.names())
+    }
+
+    /// Whether the queue is a leaf: no other queue is below it.
+    #[tactic(auto, unfolding(ynl_model::specs::Queues::is_leaf))]
+    pub fn is_leaf(&self, queue: &[Name]) -> bool
+        ensures { result ≡ is_leaf self.now queue.now }
+    {
+        !self.has_below(queue)
+    }
+
+    /// The leaf's label for applications that name none.
+    pub fn default_label(&self, leaf: &[Name]) -> Label
+        ensures { result ≡ setting (λ row. row.default_label) Unlabelled self.now leaf.now }
+    {
+        match self.row(leaf) {
+            Some(row) => row.default_label,
+            None => Label::Unlabelled,
+        }
+    }
+
+    /// The least percentage of the leaf's share that a user may take.
+    pub fn user_percent(&self, leaf: &[Name]) -> Hundredths
+        ensures { result ≡ setting (λ row. row.user_percent) 0 self.now leaf.now }
+    {
+        match self.row(leaf) {
+            Some(row) => row.user_percent,
+            None => Hundredths::NOTHING,
+        }
+    }
+
+    /// The multiple of the leaf's guarantee that a user may take, in hundredths.
+    pub fn user_factor(&self, leaf: &[Name]) -> u16
+        ensures { result ≡ setting (λ row. row.user_factor) 0 self.now leaf.now }
+    {
+        match self.row(leaf) {
+            Some(row) => row.user_factor,
+            None => 0,
+        }
+    }
+
+    /// The share of the leaf's maximum that masters may take together.
+    pub fn master_percent(&self, leaf: &[Name]) -> Hundredths
+        ensures { result ≡ setting (λ row. row.master_percent) 0 self.now leaf.now }
+    {
+        match self.row(leaf) {
+            Some(row) => row.master_percent,
+            None => Hundredths::NOTHING,
+        }
+    }
+
+    /// The most live applications of the leaf.
+    pub fn most_applications(&self, leaf: &[Name]) -> u32
+        ensures { result ≡ setting (λ row. row.most_applications) 0 self.now leaf.now }
+    {
+        match self.row(leaf) {
+            Some(row) => row.most_applications,
+            None => 0,
+        }
+    }
+}
