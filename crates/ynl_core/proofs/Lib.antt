@@ -1,2 +1,5 @@
 pub mod Finding
 pub mod Adding
+pub mod Filters
+pub mod Shared
+pub mod Rooms

@@ -1,3 +1,5 @@
 pub mod Bounds
+pub mod LeafUses
+pub mod Sharing
 pub mod Tables
 pub mod Uses

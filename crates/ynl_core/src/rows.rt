@@ -1,6 +1,7 @@
 //! The rows of a cluster's state, as they are kept.
 
 ghost use Rattle.std.specs.Prelude.{◌≡◌, IsTrue};
+ghost use Rattle.ynl_resource.specs.Names.{same_name, tenant_of};
 
 use std::marker::Model;
 use ynl_model::Placed;
@@ -35,13 +36,15 @@ pub struct App {
     pub asks: Vec<Ask>,
 }
 
-/// A leaf: the names of all applications that were ever submitted there, and those of them that are
+/// A leaf: its path, its tenant, the names of all applications that were ever submitted there, and those of them that are
 /// live, both in the order of submission.
 #[derive(Drop)]
 pub struct LeafRow {
     pub path: Path,
+    pub tenant: Name,
     pub names: Vec<Name>,
     pub apps: Vec<App>,
+    ghost of_tenant: { IsTrue (same_name tenant (tenant_of path)) },
 }
 
 /// A partition: its clock, and the containers on it in the order in which they were placed.

@@ -60,7 +60,7 @@ fn is_below(leaves: &[LeafRow], queue: &[Name], container: &Placed) -> bool
 }
 
 /// Whether the container counts in the use of a queue.
-fn counts(leaves: &[LeafRow], queue: &[Name], container: &Placed) -> bool
+pub fn counts(leaves: &[LeafRow], queue: &[Name], container: &Placed) -> bool
     ensures { result ≡ counts (leaves_of leaves.now) queue.now container.now }
 {
     !is_guest_on(&container.id.label, &container.what) && is_below(leaves, queue, container)

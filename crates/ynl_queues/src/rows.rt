@@ -1,7 +1,7 @@
 //! The rows of a configuration.
 
 ghost use Rattle.std.specs.Prelude.{◌≡◌, find};
-ghost use Rattle.ynl_resource.specs.Names.{same_name};
+ghost use Rattle.ynl_resource.specs.Names.{same_name, tenant_of};
 ghost use Rattle.ynl_model.specs.Queues.{share_on, written_capacity, written_maximum};
 
 use std::marker::Model;
@@ -36,7 +36,7 @@ impl Model for Share {
     ghost inverse = { λ s. record { label = s.label; capacity = s.capacity; maximum = s.maximum } };
 }
 
-/// A configured queue. The last four settings before the shares work in leaves alone; the user limit
+/// A configured queue, below root. The last four settings before the shares work in leaves alone; the user limit
 /// factor is in hundredths.
 #[derive(Drop)]
 pub struct QueueRow {
@@ -73,9 +73,23 @@ impl Model for QueueRow {
         most_applications = r.most_applications;
         shares = r.shares.items;
     } };
+
+    ghost use Rattle.std.specs.Prelude.{◌<◌, length};
+
+    ghost invariant = { λ r. 0 < length r.path };
 }
 
 impl QueueRow {
+    /// The tenant of the queue: its top-level queue's name.
+    pub fn tenant(&self) -> Name
+        ensures { result ≡ tenant_of self.now.path }
+    {
+        match self.path.tenant() {
+            Some(tenant) => tenant,
+            None => unreachable!(),
+        }
+    }
+
     fn written_share(&self, name: &Name) -> Option<Share>
         ensures { result ≡ find (λ share. same_name share.label name.now) self.now.shares }
     {

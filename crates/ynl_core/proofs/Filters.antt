@@ -1,0 +1,33 @@
+-- Filters one after another.
+use Rattle.std.proofs.Common.{◌≡◌, Bool, true, false, cond, List, [], ◌∷◌, ◌++◌, filter, refl, sym, ◌∙◌}
+use Rattle.std.specs.List.{list_all}
+use Rattle.std.specs.Prelude.{◌&&◌}
+
+pub filter_and : {X : Type 0} (p q : X → Bool) (xs : List X) → filter (λ x. p x && q x) xs ≡ filter q (filter p xs)
+filter_and p q [] = refl
+filter_and {X = X} p q (x ∷ xs) = go (p x) (q x) refl (filter_and p q xs)
+  where
+    go : (a b : Bool) → q x ≡ b → filter (λ x. p x && q x) xs ≡ filter q (filter p xs) → cond (a && b) (x ∷ filter (λ x. p x && q x) xs) (filter (λ x. p x && q x) xs) ≡ filter q (cond a (x ∷ filter p xs) (filter p xs))
+    go true true e h = (λ i. x ∷ h i) ∙ sym (λ i. cond (e i) (x ∷ filter q (filter p xs)) (filter q (filter p xs)))
+    go true false e h = h ∙ sym (λ i. cond (e i) (x ∷ filter q (filter p xs)) (filter q (filter p xs)))
+    go false b e h = h
+
+pub filter_true : {X : Type 0} (p : X → Bool) (xs : List X) → filter (λ x. p x && true) xs ≡ filter p xs
+filter_true p [] = refl
+filter_true {X = X} p (x ∷ xs) = go (p x) (filter_true p xs)
+  where
+    go : (a : Bool) → filter (λ x. p x && true) xs ≡ filter p xs → cond (a && true) (x ∷ filter (λ x. p x && true) xs) (filter (λ x. p x && true) xs) ≡ cond a (x ∷ filter p xs) (filter p xs)
+    go true h = λ i. x ∷ h i
+    go false h = h
+
+pub all_last : {X : Type 0} (f : X → Bool) (xs : List X) (x : X) → list_all f (xs ++ x ∷ []) ≡ (list_all f xs && f x)
+all_last f [] x = go (f x)
+  where
+    go : (b : Bool) → (b && true) ≡ b
+    go true = refl
+    go false = refl
+all_last {X = X} f (y ∷ xs) x = go (f y) (all_last f xs x)
+  where
+    go : (b : Bool) → list_all f (xs ++ x ∷ []) ≡ (list_all f xs && f x) → (b && list_all f (xs ++ x ∷ [])) ≡ (b && list_all f xs && f x)
+    go true h = h
+    go false h = refl
