@@ -3,3 +3,5 @@ pub mod Adding
 pub mod Filters
 pub mod Shared
 pub mod Rooms
+pub mod Ranked
+pub mod Considering

@@ -1,4 +1,6 @@
 pub mod Bounds
+pub mod Candidates
+pub mod Choosing
 pub mod LeafUses
 pub mod Sharing
 pub mod Tables

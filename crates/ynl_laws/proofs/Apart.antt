@@ -1,6 +1,5 @@
 -- No two nodes have one name.
 use Rattle.std.proofs.Common.{◌≡◌, Bool, true, false, cond, not, ◌&&◌, List, [], ◌∷◌, map, Option, Some, None, refl, sym, ap, subst, ◌∙◌}
-use Rattle.std.specs.Prelude.{IfSome}
 use Rattle.std.specs.List.{AllByRecursion}
 use Rattle.std.specs.Option.{option_map_or}
 use mathlib.Core.Bool.{true≢false}
@@ -18,7 +17,7 @@ use Rattle.ynl_model.specs.Promises.{without_stamp}
 use Rattle.ynl_laws.specs.Working.{Apart}
 use Rattle.ynl_laws.proofs.Restricted.{left-true, right-true, and-true, same-name_sym, same-name_self, same-label_self}
 use Rattle.ynl_laws.proofs.Tracked.{step-is}
-use Rattle.ynl_laws.proofs.Lists.{not-true, some-same, none-is, Each-kept, Each-weaker, Each-with, Pairs-filter, Pairs-last, find-nothing, none-found, found-passes}
+use Rattle.ynl_laws.proofs.Lists.{not-true, some-same, none-is, Each-kept, Each-weaker, Each-with, Pairs-filter, Pairs-last, find-nothing, none-found}
 
 -- a node is what its name finds
 abbrev pub FindsItself : List Tracked → Tracked → Type 0
@@ -45,9 +44,6 @@ gone nodes name node h e = find-nothing _ (dropped nodes node) (Each-kept (λ ot
 
 joined-apart : (nodes : List Tracked) (name : Name) (label : Label) (size : Resource) → Apart nodes → tracked nodes name ≡ None → Apart (joined nodes name label size)
 joined-apart nodes name label size h none = Pairs-last _ nodes _ h (none-found _ nodes none)
-
-found-name : (nodes : List Tracked) (name : Name) (node : Tracked) → tracked nodes name ≡ Some node → node.name ≡ name
-found-name nodes name node e = same-name_sym node.name name (subst (λ o. IfSome o (λ node. same_name node.name name ≡ true)) e (found-passes (λ node. same_name node.name name) nodes))
 
 track-apart : (c : Config) (nodes : List Tracked) (event : Event) → Apart nodes → Apart (track_step c nodes event)
 unfolding track_step

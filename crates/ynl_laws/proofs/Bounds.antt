@@ -14,15 +14,17 @@ use Rattle.ynl_model.specs.Nodes.{nodes_of, total as total_on}
 use Rattle.ynl_model.specs.declared.nodes.Node.{Node}
 use Rattle.ynl_model.specs.Queues.{Config}
 use Rattle.ynl_model.specs.declared.containers.Placed.{Placed as Container}
-use Rattle.ynl_model.specs.Cluster.{State, total, containers_on, sizes, counted, used, user_used, masters_used, guests}
+use Rattle.ynl_model.specs.Cluster.{State, total, containers_on, sizes, counted, used, user_used, masters_used, guests, opening}
 use Rattle.ynl_model.specs.View.{Tracked, tracked}
 use Rattle.ynl_model.specs.Promises.{without_stamp}
+use Rattle.ynl_model.specs.Events.{state_after}
+use Rattle.ynl_laws.specs.Bounded.{IsBounded, IsAlwaysBounded}
 use Rattle.ynl_laws.specs.Working.{places, Stands, StandsOn, filled, IsWorking}
 use Rattle.ynl_laws.proofs.Restricted.{same-label_path, same-name_sym, same-name_self}
 use Rattle.ynl_laws.proofs.Lists.{not-true, Each-filter, Each-kept, Each-weaker, Each-find, filter-swap}
 use Rattle.ynl_laws.proofs.Sums.{fits-refl, fits-trans, fits-more, fits-plus, fits-filter}
 use Rattle.ynl_laws.proofs.Within.{total-places}
-use Rattle.ynl_laws.proofs.Working.{sized-places}
+use Rattle.ynl_laws.proofs.Working.{sized-places, working-opening, working-after}
 
 -- ---- totals
 
@@ -201,3 +203,23 @@ small-within c s h p a fits = both (total s p) fits (total-small c s h p)
         let memory : b.memory < 2 ^ 48 = small.0 in
         let vcores : b.vcores ≤ 2 ^ 32 = small.1 in
         (grind (arith, nat_tests, memory), grind (arith, nat_tests, vcores))
+
+-- ---- runs
+
+less-is : {a b : ℕ} → a < b → a ≤ b
+less-is h = omega (arith, h)
+
+bounded : (c : Config) (s : State) → IsWorking c s → (queue : Path) (p : Label) → IsBounded s queue p
+bounded c s h queue p = record {
+  memory = less-is (total-small c s h p).0;
+  vcores = (total-small c s h p).1;
+  all_fits = on-within c s h p;
+  use_fits = used-within c s h queue p;
+  users_fit = λ user. user_used-within c s h queue user p;
+  masters_fit = masters_used-within c s h queue p;
+  guests_fit = guests-within c s h queue p;
+}
+
+-- each state after events in range
+pub is_always_bounded : IsAlwaysBounded
+is_always_bounded c events queue p ranged = bounded c (state_after c events) (working-after c events (opening c) ranged (working-opening c)) queue p

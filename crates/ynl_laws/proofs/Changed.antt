@@ -64,10 +64,6 @@ kept-place c node item s h known = record {
       (uses-update s.leaves node.label _ (λ row k. Each-append _ row.containers _ k (ap is_some known, tt)) s.partitions h.uses);
 }
 
-pub kept-all_end : (c : Config) (containers : List Container) (s : State) → Kept s → Kept (all_end c containers s)
-kept-all_end c [] s h = h
-kept-all_end c (container ∷ containers) s h = kept-all_end c containers (end c s container) (kept-end c s container h)
-
 pub kept-finish : (c : Config) (app : Application) (s : State) → Kept s → Kept (app_finishes c app s)
 unfolding app_finishes end changed_at
 kept-finish c app s h = go (all_own s (tenant_of app.leaf) app.name) s h
@@ -78,26 +74,31 @@ kept-finish c app s h = go (all_own s (tenant_of app.leaf) app.name) s h
 
 -- ---- turns
 
--- what holds of the state and stays with each placement holds after the turns
-pub beat-keeps : (P : State → Type 0) (c : Config) (node : Node) → ((s : State) (item : Item) → P s → Fits s node item → is_spent c.labels s node.label ≡ false → P (place c node item s)) → ((s : State) → P s → Kept s) →
-    (times : ℕ) (s : State) → P s → P (beat c node times s).state
+-- what holds of the state, and stays with each placement of what is chosen, holds after the turns
+pub beat-keeps-by : (P : State → Type 0) (Q : State → Item → Type 0) (c : Config) (node : Node) → ((s : State) → P s → IfSome (choice c s node) (Q s)) →
+    ((s : State) (item : Item) → P s → Q s item → is_spent c.labels s node.label ≡ false → P (place c node item s)) → (times : ℕ) (s : State) → P s → P (beat c node times s).state
 unfolding beat
-beat-keeps P c node step known zero s h = h
-beat-keeps P c node step known (suc times) s h =
-    go (next_item c s node) (next (is_spent c.labels s node.label) refl) (λ item k. beat-keeps P c node step known times (place c node item s) (step s item h k.0 k.1))
+beat-keeps-by P Q c node chosen step zero s h = h
+beat-keeps-by P Q c node chosen step (suc times) s h =
+    go (next_item c s node) (next (is_spent c.labels s node.label) refl) (λ item k. beat-keeps-by P Q c node chosen step times (place c node item s) (step s item h k.0 k.1))
   where
-    next : (b : Bool) → is_spent c.labels s node.label ≡ b → IfSome (cond b None (choice c s node)) (λ item. Fits s node item × (is_spent c.labels s node.label ≡ false))
+    next : (b : Bool) → is_spent c.labels s node.label ≡ b → IfSome (cond b None (choice c s node)) (λ item. Q s item × (is_spent c.labels s node.label ≡ false))
     next true e = tt
-    next false e = some-map (Fits s node) _ (λ item k. (k, e)) (choice c s node) (choice-fits c s node (known s h))
+    next false e = some-map (Q s) _ (λ item k. (k, e)) (choice c s node) (chosen s h)
 
-    go : (o : Option Item) → IfSome o (λ item. Fits s node item × (is_spent c.labels s node.label ≡ false)) →
-        ((item : Item) → Fits s node item × (is_spent c.labels s node.label ≡ false) → P (beat c node times (place c node item s)).state) →
+    go : (o : Option Item) → IfSome o (λ item. Q s item × (is_spent c.labels s node.label ≡ false)) →
+        ((item : Item) → Q s item × (is_spent c.labels s node.label ≡ false) → P (beat c node times (place c node item s)).state) →
         P (option_map_or {U = Beat} (λ item. record {
           placed = container_of c s node item ∷ (beat c node times (place c node item s)).placed;
           state = (beat c node times (place c node item s)).state;
         }) o (record { placed = []; state = s })).state
     go None k rest = h
     go (Some item) k rest = rest item k
+
+-- the same where no more is known of what is chosen than that it fits
+pub beat-keeps : (P : State → Type 0) (c : Config) (node : Node) → ((s : State) (item : Item) → P s → Fits s node item → is_spent c.labels s node.label ≡ false → P (place c node item s)) → ((s : State) → P s → Kept s) →
+    (times : ℕ) (s : State) → P s → P (beat c node times s).state
+beat-keeps P c node step known times s h = beat-keeps-by P (λ u item. Fits u node item) c node (λ u k. choice-fits c u node (known u k)) step times s h
 
 -- ---- events
 

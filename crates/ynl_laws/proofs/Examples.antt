@@ -3,18 +3,18 @@ use Rattle.std.specs.Prelude.{refl}
 use Rattle.ynl_laws.specs.Examples.{PremisesAreMet, ViewIsShorter, BothArePlaced, RestrictionIsNotAccepted}
 use Rattle.ynl_laws.proofs.Opened.{opened}
 
-premises_are_met : PremisesAreMet
+pub premises_are_met : PremisesAreMet
 unfolding opened
 premises_are_met = (refl, refl)
 
-view_is_shorter : ViewIsShorter
+pub view_is_shorter : ViewIsShorter
 unfolding opened
 view_is_shorter = refl
 
-both_are_placed : BothArePlaced
+pub both_are_placed : BothArePlaced
 unfolding opened
 both_are_placed = (refl, refl)
 
-restriction_is_not_accepted : RestrictionIsNotAccepted
+pub restriction_is_not_accepted : RestrictionIsNotAccepted
 unfolding opened
 restriction_is_not_accepted = refl

@@ -11,7 +11,7 @@ use Rattle.ynl_resource.specs.declared.paths.Path.{Path}
 use Rattle.ynl_resource.specs.Refusals.{first_that_holds}
 use Rattle.ynl_model.specs.declared.nodes.Node.{Node}
 use Rattle.ynl_model.specs.Queues.{Config, QueueRow, is_leaf}
-use Rattle.ynl_model.specs.Applications.{Application, LeafApps, no_apps, row_of, leaf_of, find_app, in_leaf, submitted, with_app, finished, new_app, set_ask}
+use Rattle.ynl_model.specs.Applications.{Application, LeafApps, no_apps, row_of, leaf_of, find_app, in_leaf, submitted, with_app, finished, new_app, set_ask, all_apps}
 use Rattle.ynl_model.specs.Cluster.{State, node_of, opening}
 use Rattle.ynl_model.specs.Service.{Item}
 use Rattle.ynl_model.specs.Changes.{node_joins, node_leaves, changed_at, taken, place, end, app_finishes}
@@ -19,9 +19,10 @@ use Rattle.ynl_model.specs.Check.{proposed_item}
 use Rattle.ynl_model.specs.Events.{Outcome, where_there, container_at, container_for, home_of, accepted, reasons, step, after, state_after}
 use Rattle.ynl_model.specs.declared.events.Event.{Event}
 use Rattle.ynl_model.specs.declared.events.Event.TheVariants.{Register, Lost, Relabel, Heartbeat, Exited, Submit, Ask, Release, Finish, Stop, Start, Poll, Usage, Propose, Commit, Maximum}
+use Rattle.ynl_laws.specs.Found.{FindsItself, AreAppsFound}
 use Rattle.ynl_laws.specs.Working.{IsKnown, KnowsAll, Kept}
 use Rattle.ynl_laws.proofs.Restricted.{same-path, same-name_sym, same-name_self, find-filter}
-use Rattle.ynl_laws.proofs.Lists.{Each-all, Each-append, Each-found, Each-map, Each-kept, Each-weaker, Each-with, find-through, find-append, find-append_none, find-nothing, some-same, update-none}
+use Rattle.ynl_laws.proofs.Lists.{all-of, Each-flat, Each-find, Each-all, Each-append, Each-found, Each-map, Each-kept, Each-weaker, Each-with, find-through, find-append, find-append_none, find-nothing, some-same, update-none}
 use Rattle.ynl_laws.proofs.Kept.{KeepsNames, with_app-names, finished-names, any-other, submit-finds}
 use Rattle.ynl_laws.proofs.Chosen.{none-holds}
 use Rattle.ynl_laws.proofs.Changed.{taken-leaf, taken-name, kept-place, beat-keeps, step-cases, step-keeps, kept-opening}
@@ -34,10 +35,10 @@ abbrev pub FindsAll : List LeafApps → Type 0
 FindsAll leaves = AllByRecursion (λ row. AllByRecursion (IsFound leaves row) row.apps) leaves
 
 -- a row after a change of one leaf
-abbrev at-leaf : Path → (LeafApps → LeafApps) → LeafApps → LeafApps
+abbrev pub at-leaf : Path → (LeafApps → LeafApps) → LeafApps → LeafApps
 at-leaf leaf change row = if same_path row.leaf leaf then change row else row
 
-row-after : (leaf : Path) (change : LeafApps → LeafApps) → KeepsNames change → (leaves : List LeafApps) (tenant name : Name) → row_of (in_leaf leaf change leaves) tenant name ≡ option_map (at-leaf leaf change) (row_of leaves tenant name)
+pub row-after : (leaf : Path) (change : LeafApps → LeafApps) → KeepsNames change → (leaves : List LeafApps) (tenant name : Name) → row_of (in_leaf leaf change leaves) tenant name ≡ option_map (at-leaf leaf change) (row_of leaves tenant name)
 row-after leaf change same leaves tenant name = find-through (at-leaf leaf change) (λ row. same_name (tenant_of row.leaf) tenant && list_any (same_name name) row.names)
     (λ row. elim (same_path row.leaf leaf) as (λ b. (same_name (tenant_of (cond b (change row) row).leaf) tenant && list_any (same_name name) (cond b (change row) row).names) ≡ (same_name (tenant_of row.leaf) tenant && list_any (same_name name) row.names))
     [ true ↦ (λ i. same_name (tenant_of (same.leaf row i)) tenant && list_any (same_name name) (same.names row i)) | false ↦ refl ]) leaves
@@ -112,13 +113,13 @@ finds-finished leaf name leaves knows finds = Each-map (λ row. AllByRecursion (
 -- ---- an application is submitted
 
 module _ (app : Application) (leaves : List LeafApps) (unused : is_some (leaf_of leaves (tenant_of app.leaf) app.name) ≡ false) (knows : KnowsAll leaves leaves) (finds : FindsAll leaves) where
-  abbrev holds : Name → Name → LeafApps → Bool
+  abbrev pub holds : Name → Name → LeafApps → Bool
   holds tenant name row = same_name (tenant_of row.leaf) tenant && list_any (same_name name) row.names
 
   abbrev new-leaves : List LeafApps
   new-leaves = in_leaf app.leaf (submitted app) leaves
 
-  test-stays : (tenant name : Name) → is_some (leaf_of leaves tenant name) ≡ true → (row : LeafApps) → holds tenant name (at-leaf app.leaf (submitted app) row) ≡ holds tenant name row
+  pub test-stays : (tenant name : Name) → is_some (leaf_of leaves tenant name) ≡ true → (row : LeafApps) → holds tenant name (at-leaf app.leaf (submitted app) row) ≡ holds tenant name row
   test-stays tenant name used row = go (same_path row.leaf app.leaf) (same_name name app.name) (same_name (tenant_of app.leaf) tenant) refl refl refl
     where
       go : (a b d : Bool) → same_path row.leaf app.leaf ≡ a → same_name name app.name ≡ b → same_name (tenant_of app.leaf) tenant ≡ d → holds tenant name (cond a (submitted app row) row) ≡ holds tenant name row
@@ -192,7 +193,7 @@ module _ (app : Application) (leaves : List LeafApps) (unused : is_some (leaf_of
 abbrev Both : State → Type 0
 Both s = Kept s × FindsAll s.leaves
 
-place-finds : (c : Config) (node : Node) (item : Item) (s : State) → Kept s → FindsAll s.leaves → FindsAll (place c node item s).leaves
+pub place-finds : (c : Config) (node : Node) (item : Item) (s : State) → Kept s → FindsAll s.leaves → FindsAll (place c node item s).leaves
 unfolding place
 place-finds c node item s k h = finds-changed item.leaf item.app (taken item.what) (taken-leaf item.what) (taken-name item.what) s.leaves k.apps h
 
@@ -227,11 +228,30 @@ accepted-finds c s (Commit proposal) k h none =
     there (node_of s proposal.node) s _ h (λ node e. there (find_app s.leaves proposal.tenant proposal.app) s _ h (λ app f. place-finds c node (proposed_item proposal app) s k h))
 accepted-finds c s (Maximum queue label share) k h none = h
 
+pub step-finds : (c : Config) (s : State) (event : Event) → Kept s → FindsAll s.leaves → FindsAll (step c s event).state.leaves
+step-finds c s event k h = step-cases (λ u. FindsAll u.leaves) c s event h (accepted-finds c s event k h)
+
 after-finds : (c : Config) (events : List Event) (s : State) → Kept s → FindsAll s.leaves → FindsAll (after c s events).leaves
 after-finds c [] s k h = h
-after-finds c (event ∷ events) s k h = after-finds c events (step c s event).state (step-keeps c s event k) (step-cases (λ u. FindsAll u.leaves) c s event h (accepted-finds c s event k h))
+after-finds c (event ∷ events) s k h = after-finds c events (step c s event).state (step-keeps c s event k) (step-finds c s event k h)
 
 -- in each state each live application is in its leaf's row, and is what its tenant and name find
 pub is_found : (c : Config) (events : List Event) → FindsAll (state_after c events).leaves
 is_found c events = after-finds c events (opening c) (kept-opening c)
     (Each-map (λ (row : QueueRow). ⊤) (λ row. AllByRecursion (IsFound (no_apps c) row) row.apps) _ (λ row _. tt) (filter (λ row. is_leaf c row.path) c.queues) (Each-all (λ (row : QueueRow). ⊤) (λ row. tt) (filter (λ row. is_leaf c row.path) c.queues)))
+
+-- and so is each in the list of all
+pub finds-apps : (s : State) → FindsAll s.leaves → AllByRecursion (FindsItself s) (all_apps s.leaves)
+finds-apps s h = Each-flat (λ row. AllByRecursion (IsFound s.leaves row) row.apps) (FindsItself s) (λ row. row.apps) (λ row k. Each-weaker (IsFound s.leaves row) (FindsItself s) (λ app found. found.itself) row.apps k) s.leaves h
+
+pub are_apps_found : AreAppsFound
+are_apps_found c events = all-of (FindsItself (state_after c events)) _ (finds-apps (state_after c events) (is_found c events))
+
+-- what is found is itself
+pub finds-found : (s : State) → FindsAll s.leaves → (tenant name : Name) (app : Application) → find_app s.leaves tenant name ≡ Some app → FindsItself s app
+unfolding find_app
+finds-found s h tenant name app e = go (row_of s.leaves tenant name) (Each-found _ _ s.leaves h) e
+  where
+    go : (o : Option LeafApps) → IfSome o (λ row. AllByRecursion (IsFound s.leaves row) row.apps) → option_and_then (λ row. find (λ app. same_name app.name name) row.apps) o ≡ Some app → FindsItself s app
+    go None k e = cc
+    go (Some row) k e = (Each-find (IsFound s.leaves row) (λ app. same_name app.name name) row.apps k app e).0.itself

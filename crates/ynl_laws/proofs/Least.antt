@@ -8,8 +8,10 @@ use Rattle.std.specs.Cmp.{IsTotalOrder}
 use Rattle.std.proofs.lemmas.Cmp.{upto, tied_itself}
 use Rattle.std.proofs.lemmas.List.Sums.{fold-append}
 use mathlib.Core.Bool.{true≢false}
-use Rattle.ynl_model.specs.Service.{Item, Key, key_order, first_of}
-use Rattle.ynl_laws.specs.Least.{sooner, least_of}
+use Rattle.std.specs.Option.{option_or}
+use Rattle.ynl_resource.specs.declared.labels.Label.TheVariants.{Unlabelled}
+use Rattle.ynl_model.specs.Service.{Item, Key, key, key_order, first_of, eligible, guests_for, choice}
+use Rattle.ynl_laws.specs.Least.{sooner, least_of, IsChosenByScanning}
 use Rattle.ynl_laws.proofs.OrderTotal.{key_order_total}
 
 -- ---- any total order of keys
@@ -110,3 +112,8 @@ least_of-append key_of best xs ys = fold-append (sooner key_of) best xs ys
 
 pub least_of-push : (key_of : Item → Key) (xs : List Item) (x : Item) → least_of key_of (xs ++ x ∷ []) ≡ sooner key_of (least_of key_of xs) x
 least_of-push key_of xs x = fold-append (sooner key_of) None xs (x ∷ [])
+
+-- the choice on a node by such passes
+pub is_chosen_by_scanning : IsChosenByScanning
+unfolding choice
+is_chosen_by_scanning c s node = λ i. option_or (least_is_first (key c s node.label) (eligible c s node) i) (least_is_first (key c s Unlabelled) (guests_for c s node) i)

@@ -23,3 +23,9 @@ pub mod Least
 pub mod Working
 pub mod Bounds
 pub mod Floors
+pub mod Refused
+pub mod Wanted
+pub mod Lasting
+pub mod Homes
+pub mod Entitled
+pub mod Shares

@@ -1,6 +1,6 @@
 -- Lists: what holds of each element, and what filters and finds leave of it.
-use Rattle.std.proofs.Common.{◌≡◌, not, ◌&&◌, is_some, Bool, true, false, cond, ◌||◌, List, [], ◌∷◌, ◌++◌, map, Option, Some, None, option_map, filter, find, refl, sym, ap, subst, ◌∙◌, arith}
-use Rattle.std.specs.Prelude.{flat_map, IfSome, if◌then◌else◌}
+use Rattle.std.proofs.Common.{zero, suc, ◌≡◌, not, ◌&&◌, is_some, Bool, true, false, cond, ◌||◌, List, [], ◌∷◌, ◌++◌, map, Option, Some, None, option_map, filter, find, refl, sym, ap, subst, ◌∙◌, arith}
+use Rattle.std.specs.Prelude.{flat_map, IfSome, All, if◌then◌else◌}
 use Rattle.std.specs.List.{AllByRecursion, list_any, list_all}
 use mathlib.Core.Bool.{true≢false}
 use Rattle.ynl_resource.specs.Tables.{update}
@@ -26,6 +26,12 @@ Each-map P Q f step (x ∷ xs) h = (step x h.0, Each-map P Q f step xs h.1)
 pub Each-unmap : {X Y : Type 0} (f : X → Y) (P : Y → Type 0) (xs : List X) → AllByRecursion P (map f xs) → AllByRecursion (λ x. P (f x)) xs
 Each-unmap f P [] h = tt
 Each-unmap f P (x ∷ xs) h = (h.0, Each-unmap f P xs h.1)
+
+-- what holds of each holds at each index
+pub all-of : {X : Type 0} (P : X → Type 0) (xs : List X) → AllByRecursion P xs → All P xs
+all-of P [] h k d below = absurd (grind (arith, below))
+all-of P (x ∷ xs) h zero d below = h.0
+all-of P (x ∷ xs) h (suc k) d below = all-of P xs h.1 k d (grind (arith, below))
 
 pub Each-all : {X : Type 0} (P : X → Type 0) → ((x : X) → P x) → (xs : List X) → AllByRecursion P xs
 Each-all P all [] = tt
@@ -76,13 +82,16 @@ any-append q (x ∷ xs) ys h = go (q x) h (any-append q xs ys)
     go true e rest = refl
     go false e rest = rest e
 
-pub Each-none : {X : Type 0} (q : X → Bool) (xs : List X) → list_any q xs ≡ false → AllByRecursion (λ x. q x ≡ false) xs
-Each-none q [] h = tt
-Each-none q (x ∷ xs) h = go (q x) refl h (Each-none q xs)
+pub any-later : {X : Type 0} (q : X → Bool) (x : X) (xs : List X) → list_any q xs ≡ true → list_any q (x ∷ xs) ≡ true
+any-later q x xs h = go (q x)
   where
-    go : (b : Bool) → q x ≡ b → (b || list_any q xs) ≡ false → (list_any q xs ≡ false → AllByRecursion (λ x. q x ≡ false) xs) → (q x ≡ false) × AllByRecursion (λ x. q x ≡ false) xs
-    go true e h rest = cc
-    go false e h rest = (e, rest h)
+    go : (b : Bool) → (b || list_any q xs) ≡ true
+    go true = refl
+    go false = h
+
+pub any-after : {X : Type 0} (q : X → Bool) (xs ys : List X) → list_any q ys ≡ true → list_any q (xs ++ ys) ≡ true
+any-after q [] ys h = h
+any-after q (x ∷ xs) ys h = any-later q x (xs ++ ys) (any-after q xs ys h)
 
 pub find-append : {X : Type 0} (q : X → Bool) (x : X) (xs ys : List X) → find q xs ≡ Some x → find q (xs ++ ys) ≡ Some x
 find-append q x [] ys h = cc
@@ -159,6 +168,10 @@ filter-last f (y ∷ xs) x = grind (arith, filter-last f xs x)
 pub some-map : {X : Type 0} (P Q : X → Type 0) → ((x : X) → P x → Q x) → (o : Option X) → IfSome o P → IfSome o Q
 some-map P Q step None h = tt
 some-map P Q step (Some x) h = step x h
+
+pub both-some : {X : Type 0} (P Q : X → Type 0) (o : Option X) → IfSome o P → IfSome o Q → IfSome o (λ x. P x × Q x)
+both-some P Q None h k = tt
+both-some P Q (Some x) h k = (h, k)
 
 -- a filter of a filter, where the second implies the first
 pub filter-filter : {X : Type 0} (p q : X → Bool) → ((x : X) → q x ≡ true → p x ≡ true) → (xs : List X) → filter q (filter p xs) ≡ filter q xs

@@ -1,6 +1,6 @@
 -- Each state is sound, in every configuration.
-use Rattle.std.proofs.Common.{◌≡◌, ◌≢◌, zero, suc, true, false, List, [], ◌∷◌, map, length, Option, Some, None, is_some, option_map, refl, sym, ap, ◌∙◌, arith}
-use Rattle.std.specs.Prelude.{IfSome, IsTrue, All, AllPairs}
+use Rattle.std.proofs.Common.{◌≡◌, ◌≢◌, suc, true, false, List, [], ◌∷◌, map, length, Option, Some, None, is_some, option_map, refl, sym, ap, ◌∙◌, arith}
+use Rattle.std.specs.Prelude.{IfSome, IsTrue, AllPairs}
 use Rattle.std.specs.List.{AllByRecursion}
 use Rattle.std.specs.Option.{option_map_or}
 use Rattle.std.proofs.lemmas.List.Kept.{AllPairs-cons}
@@ -18,15 +18,10 @@ use Rattle.ynl_model.specs.Promises.{without_stamp, IsStanding, IsSound, IsAlway
 use Rattle.ynl_laws.specs.Working.{Pairs, Apart, places, StandsOn, IsHoused}
 use Rattle.ynl_laws.proofs.Restricted.{same-label_path, same-name_self}
 use Rattle.ynl_laws.proofs.Tracked.{tracked-is}
-use Rattle.ynl_laws.proofs.Lists.{Each-weaker, Each-with, Each-unmap}
+use Rattle.ynl_laws.proofs.Lists.{all-of, Each-weaker, Each-with, Each-unmap}
 use Rattle.ynl_laws.proofs.Apart.{step-apart}
 use Rattle.ynl_laws.proofs.Ordered.{IsOrdered, is_ordered}
 use Rattle.ynl_laws.proofs.Housed.{is_housed}
-
-all-of : {X : Type 0} (P : X → Type 0) (xs : List X) → AllByRecursion P xs → All P xs
-all-of P [] h k d below = absurd (grind (arith, below))
-all-of P (x ∷ xs) h zero d below = h.0
-all-of P (x ∷ xs) h (suc k) d below = all-of P xs h.1 k d (grind (arith, below))
 
 pairs-of : {X : Type 0} (R : X → X → Type 0) (xs : List X) → Pairs R xs → AllPairs R xs
 pairs-of R [] h = λ i j d less below. absurd (grind (arith, below))

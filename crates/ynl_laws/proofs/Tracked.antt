@@ -203,5 +203,5 @@ from-is : (c : Config) (events : List Event) (s : State) → track_from c (map w
 from-is c [] s = refl
 from-is c (event ∷ events) s = ap (λ nodes. track_from c nodes events) (sym (step-is c s event)) ∙ from-is c events (step c s event).state
 
-is_tracked : IsTracked
+pub is_tracked : IsTracked
 is_tracked c events = from-is c events (opening c)

@@ -14,11 +14,12 @@ use Rattle.ynl_model.specs.Queues.{Config}
 use Rattle.ynl_model.specs.Cluster.{State, is_spent, opening}
 use Rattle.ynl_model.specs.Service.{Item, choice}
 use Rattle.ynl_model.specs.Changes.{place}
-use Rattle.ynl_model.specs.Events.{step}
+use Rattle.ynl_model.specs.Events.{step, after}
 use Rattle.ynl_model.specs.declared.events.Event.{Event}
 use Rattle.ynl_model.specs.declared.events.Event.TheVariants.{Register, Lost, Relabel, Heartbeat, Exited, Submit, Ask, Release, Finish, Stop, Start, Poll, Usage, Propose, Commit, Maximum}
 use Rattle.ynl_model.specs.View.{Tracked, tracked, joined, dropped, registers, relabels, has_place, track_step}
 use Rattle.ynl_model.specs.Promises.{without_stamp}
+use Rattle.ynl_laws.specs.Bounded.{AreRanged}
 use Rattle.ynl_laws.specs.Working.{places, Apart, Stands, IsWorking, IsRanged}
 use Rattle.ynl_laws.proofs.Restricted.{right-true, same-label_path}
 use Rattle.ynl_laws.proofs.Tracked.{filter-map, place-same, step-is}
@@ -170,6 +171,11 @@ working-step c s event ranged h =
       sizes = sized-nodes (step c s event).state.nodes (subst Sized (sym (step-is c s event)) (track-sized c (places s) event ranged now.0));
       counts = counts-of (step c s event).state (subst Counted (sym (step-is c s event)) (track-counted c (places s) event now.1));
     }
+
+-- a list of events in range
+pub working-after : (c : Config) (events : List Event) (s : State) → AreRanged events → IsWorking c s → IsWorking c (after c s events)
+working-after c [] s ranged h = h
+working-after c (event ∷ events) s ranged h = working-after c events (step c s event).state ranged.1 (working-step c s event ranged.0 h)
 
 -- a node stays while a request is placed on it
 pub stands-place : (c : Config) (s : State) (node : Node) (item : Item) → Stands s node → Stands (place c node item s) node

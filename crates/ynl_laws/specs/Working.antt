@@ -15,7 +15,7 @@ use Rattle.ynl_model.specs.Applications.{LeafApps, leaf_of}
 use Rattle.ynl_model.specs.declared.containers.Placed.{Placed as Container}
 use Rattle.ynl_model.specs.Cluster.{State, Partition, is_partition, sizes}
 use Rattle.ynl_model.specs.declared.events.Event.{Event}
-use Rattle.ynl_model.specs.declared.events.Event.TheVariants.{Register, Submit, Ask, Commit}
+use Rattle.ynl_model.specs.declared.events.Event.TheVariants.{Register, Submit, Ask, Commit, Maximum}
 use Rattle.ynl_model.specs.View.{Tracked, tracked}
 use Rattle.ynl_model.specs.Promises.{without_stamp}
 
@@ -80,6 +80,7 @@ pub record Housed (nodes : List Tracked) (rows : List Partition) : Type 0 where
   pub standing : (p : Label) → AllByRecursion (StandsOn nodes p) (on_in rows p)
   pub room : AllByRecursion (λ node. fits_in (filled (on_in rows node.label) node.name) node.size ≡ true) nodes
 
+-- that of a whole state
 abbrev pub IsHoused : State → Type 0
 IsHoused s = Housed (places s) s.partitions
 
@@ -104,3 +105,8 @@ IsRanged (Submit queue app user label master) = IsSize master
 IsRanged (Ask tenant app label priority count size) = IsSize size
 IsRanged (Commit proposal) = IsSize proposal.size
 IsRanged _ = ⊤
+
+-- a maximum that is set is at most the whole
+abbrev pub SetsShare : Event → Type 0
+SetsShare (Maximum queue label share) = share ≤ whole
+SetsShare _ = ⊤

@@ -1,2 +1,9 @@
 //! Laws of the model: theorems over the definitions alone, each the contract of a public function.
 #![tactic(auto)]
+
+pub mod entitlement;
+pub mod maxima;
+pub mod nodes;
+pub mod order;
+pub mod states;
+pub mod worked;

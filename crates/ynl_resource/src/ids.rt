@@ -13,6 +13,7 @@ use crate::cuts::cut;
 use crate::labels::Label;
 use crate::names::BadName;
 use std::alloc::{AllocError, Global};
+use std::fmt;
 
 /// The id of a container: the partition of its node, and that partition's clock after the placement.
 #[derive(Clone, Copy, PartialEq, Eq)]
@@ -84,5 +85,18 @@ impl Id {
         let label = self.label.as_str();
         let clock = self.clock;
         format!(in alloc; "{label}#{clock}")
+    }
+}
+
+impl fmt::Display for Id {
+    ghost use Rattle.std.specs.Prelude.{Some};
+    ghost use Rattle.ynl_resource.specs.Texts.{id_text};
+
+    ghost output = { λ id. Some (id_text id) };
+
+    fn fmt<W: fmt::Write>(&self, f: &mut fmt::Formatter<W>) -> fmt::Result {
+        let label = self.label.as_str();
+        let clock = self.clock;
+        write!(f, "{label}#{clock}")
     }
 }

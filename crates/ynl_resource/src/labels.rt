@@ -4,6 +4,7 @@ ghost use Rattle.std.specs.Prelude.{◌≡◌, Ok};
 ghost use Rattle.ynl_resource.specs.Texts.{read_label, label_text};
 
 use crate::names::{BadName, Name};
+use std::fmt;
 
 /// A label, which names a partition of the nodes: none, for the DEFAULT partition, or a name.
 #[derive(Clone, Copy, PartialEq, Eq, PartialOrd, Ord)]
@@ -35,5 +36,17 @@ impl Label {
             Label::Unlabelled => "",
             Label::Named(name) => name.as_str(),
         }
+    }
+}
+
+impl fmt::Display for Label {
+    ghost use Rattle.std.specs.Prelude.{Some};
+    ghost use Rattle.ynl_resource.specs.Texts.{label_text};
+
+    ghost output = { λ l. Some (label_text l) };
+
+    fn fmt<W: fmt::Write>(&self, f: &mut fmt::Formatter<W>) -> fmt::Result {
+        let text = self.as_str();
+        write!(f, "{text}")
     }
 }

@@ -16,3 +16,5 @@ mod labels;
 mod names;
 mod paths;
 mod refusals;
+#[cfg(test)]
+mod tests;

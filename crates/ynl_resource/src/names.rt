@@ -10,6 +10,7 @@ ghost use Rattle.ynl_resource.specs.Padded.{padded};
 ghost use Rattle.ynl_resource.specs.Texts.{read_name};
 
 use std::cmp::Ordering;
+use std::fmt;
 use std::marker::Model;
 use thiserror::Error;
 
@@ -115,6 +116,17 @@ impl Name {
             Ok(text) => text,
             Err(_) => "",
         }
+    }
+}
+
+impl fmt::Display for Name {
+    ghost use Rattle.std.specs.Prelude.{Some};
+
+    ghost output = { λ n. Some n };
+
+    fn fmt<W: fmt::Write>(&self, f: &mut fmt::Formatter<W>) -> fmt::Result {
+        let text = self.as_str();
+        write!(f, "{text}")
     }
 }
 

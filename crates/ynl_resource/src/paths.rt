@@ -12,6 +12,7 @@ ghost use Rattle.ynl_resource.specs.Texts.{is_dot, read_path, path_text};
 use crate::cuts::cut;
 use crate::names::Name;
 use std::alloc::{AllocError, Global};
+use std::fmt;
 use std::marker::Model;
 use thiserror::Error;
 
@@ -139,4 +140,20 @@ impl PartialEq for Path {
 
 impl Eq for Path {
     ghost laws = { lists_equiv nat_list_eq_equiv };
+}
+
+impl fmt::Display for Path {
+    ghost use Rattle.std.specs.Prelude.{Some};
+    ghost use Rattle.ynl_resource.specs.Texts.{path_text};
+
+    ghost output = { λ path. Some (path_text path) };
+
+    fn fmt<W: fmt::Write>(&self, f: &mut fmt::Formatter<W>) -> fmt::Result {
+        write!(f, "root")?;
+        for name in self.names() {
+            let text = name.as_str();
+            write!(f, ".{text}")?;
+        }
+        Ok(())
+    }
 }

@@ -1,0 +1,5 @@
+use Rattle.ynl_laws.proofs.Examples.{both_are_placed}
+use Rattle.ynl_laws.proofs.worked.both_are_placed.Goals as goal
+
+pub returns : goal.returns
+returns c = both_are_placed

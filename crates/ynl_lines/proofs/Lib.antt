@@ -1,0 +1,4 @@
+pub mod RoundTrip
+pub mod Readings
+pub mod Sizes
+pub mod Texts

@@ -1,0 +1,38 @@
+-- The text of an event reads as it.
+use Rattle.std.proofs.Common.{◌≡◌, ℕ, List, Some, None, Ok}
+use Rattle.ynl_resource.specs.declared.amounts.Resource.{Resource}
+use Rattle.ynl_resource.specs.declared.names.Name.{Name}
+use Rattle.ynl_resource.specs.declared.labels.Label.{Label}
+use Rattle.ynl_resource.specs.declared.paths.Path.{Path}
+use Rattle.ynl_resource.specs.Amounts.{IsSize}
+use Rattle.ynl_resource.specs.Texts.{read_name, read_label, read_path, label_text, path_text}
+use Rattle.ynl_model.specs.declared.events.Event.TheVariants.{Register, Heartbeat, Submit}
+use Rattle.ynl_lines.specs.Reading.{or_name, ◌>>=◌, text_at, number_at, keys_are, name_at, label_at, path_at, register_at, heartbeat_at, label_text_at, optional_label_at, submit_at, event_at}
+use Rattle.ynl_lines.specs.Writing.{register_data, heartbeat_data, submit_data}
+use Rattle.ynl_lines.proofs.Sizes.{size_back}
+
+pub reads_heartbeat : (node : Name) → read_name node ≡ Ok node → event_at (heartbeat_data node) ≡ Ok (Heartbeat node)
+unfolding event_at text_at keys_are heartbeat_at name_at
+reads_heartbeat node n = λ i. or_name (n i) >>= λ node. Ok (Heartbeat node)
+
+pub reads_register : (node : Name) (label : Label) (size : Resource) (text : List ℕ) → text ≡ label_text label
+    → read_name node ≡ Ok node → read_label text ≡ Ok label → IsSize size
+    → event_at (register_data node label size) ≡ Ok (Register node label size)
+unfolding event_at text_at number_at keys_are register_at name_at label_at
+reads_register node label size text t n l s =
+    λ i. or_name ((rw t at l) i) >>= λ label. or_name (n i) >>= λ node. size_back size s i >>= λ size. Ok (Register node label size)
+
+module _ (queue : Path) (app user : Name) (master : Resource) (path : List ℕ) (p : path ≡ path_text queue)
+    (a : read_name app ≡ Ok app) (u : read_name user ≡ Ok user) (q : read_path path ≡ Ok queue) (s : IsSize master) where
+  pub reads_submit : event_at (submit_data queue app user None master) ≡ Ok (Submit queue app user None master)
+  unfolding event_at text_at number_at keys_are submit_at label_text_at optional_label_at name_at path_at
+  reads_submit =
+      λ i. or_name (a i) >>= λ app. or_name ((rw p at q) i) >>= λ queue. or_name (u i) >>= λ user.
+      size_back master s i >>= λ master. Ok (Submit queue app user None master)
+
+  pub reads_labelled : (label : Label) (text : List ℕ) → text ≡ label_text label → read_label text ≡ Ok label
+      → event_at (submit_data queue app user (Some label) master) ≡ Ok (Submit queue app user (Some label) master)
+  unfolding event_at text_at number_at keys_are submit_at label_text_at optional_label_at name_at path_at label_at
+  reads_labelled label text t l =
+      λ i. or_name (a i) >>= λ app. (or_name ((rw t at l) i) >>= λ l. Ok (Some l)) >>= λ label. or_name ((rw p at q) i) >>= λ queue.
+      or_name (u i) >>= λ user. size_back master s i >>= λ master. Ok (Submit queue app user label master)

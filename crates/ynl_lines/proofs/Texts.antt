@@ -1,0 +1,93 @@
+-- Replies and events have no float and are flat.
+use Rattle.std.proofs.Common.{◌≡◌, ◌≤◌, List, [], ◌∷◌, Option, Some, None, false, map, refl, arith}
+use Rattle.serde_json.specs.Data.{depth, items_depth}
+use Rattle.serde_json.specs.View.{items_of}
+use Rattle.serde_json.specs.Written.{has_float, items_have_float}
+use Rattle.ynl_resource.specs.declared.amounts.Resource.{Resource}
+use Rattle.ynl_resource.specs.declared.names.Name.{Name}
+use Rattle.ynl_resource.specs.declared.labels.Label.{Label}
+use Rattle.ynl_resource.specs.declared.paths.Path.{Path}
+use Rattle.ynl_model.specs.declared.events.Event.{Event}
+use Rattle.ynl_model.specs.declared.events.Event.TheVariants.{Register, Heartbeat, Submit}
+use Rattle.ynl_model.specs.declared.proposals.What.{What}
+use Rattle.ynl_model.specs.declared.proposals.What.TheVariants.{Master, Ask as Asked}
+use Rattle.ynl_model.specs.declared.containers.Placed.{Placed as Container}
+use Rattle.ynl_model.specs.declared.proposals.Proposal.{Proposal}
+use Rattle.ynl_model.specs.declared.replies.Pending.{Pending}
+use Rattle.ynl_model.specs.declared.replies.Reply.{Reply}
+use Rattle.ynl_model.specs.declared.replies.Reply.TheVariants.{Done, Refused, Placed, Proposed, Committed, Held, Usage}
+use Rattle.ynl_lines.specs.Writing.{placed_by, placed_data, proposal_by, pending_data, reply_data, submit_data, event_data}
+
+plain_by : (w : What) (p : Container) → has_float (placed_by w p) ≡ false
+plain_by Master p = refl
+plain_by (Asked label priority) p = refl
+
+plain_placed : (ps : List Container) → items_have_float (items_of (map placed_data ps)) ≡ false
+plain_placed [] = refl
+plain_placed (p ∷ ps) = simp (plain_by p.what p, plain_placed ps)
+
+plain_proposal : (w : What) (p : Proposal) → has_float (proposal_by w p) ≡ false
+plain_proposal Master p = refl
+plain_proposal (Asked label priority) p = refl
+
+plain_pending : (ps : List Pending) → items_have_float (items_of (map pending_data ps)) ≡ false
+plain_pending [] = refl
+plain_pending (p ∷ ps) = plain_pending ps
+
+pub plain_reply : (r : Reply) → has_float (reply_data r) ≡ false
+plain_reply Done = refl
+plain_reply (Refused r) = refl
+plain_reply (Placed ps) = simp (plain_placed ps)
+plain_reply (Proposed None) = refl
+plain_reply (Proposed (Some p)) = simp (plain_proposal p.what p)
+plain_reply (Committed p) = simp (plain_by p.what p)
+plain_reply (Held containers asks) = simp (plain_pending asks, plain_placed containers)
+plain_reply (Usage used guaranteed maximum masters guests) = refl
+
+flat_by : (w : What) (p : Container) → depth (placed_by w p) ≤ 1
+flat_by Master p = omega arith
+flat_by (Asked label priority) p = omega arith
+
+flat_placed : (ps : List Container) → items_depth (items_of (map placed_data ps)) ≤ 1
+flat_placed [] = omega arith
+flat_placed (p ∷ ps) = omega (arith, flat_by p.what p, flat_placed ps)
+
+flat_proposal : (w : What) (p : Proposal) → depth (proposal_by w p) ≤ 1
+flat_proposal Master p = omega arith
+flat_proposal (Asked label priority) p = omega arith
+
+flat_pending : (ps : List Pending) → items_depth (items_of (map pending_data ps)) ≤ 1
+flat_pending [] = omega arith
+flat_pending (p ∷ ps) = omega (arith, flat_pending ps)
+
+pub flat_reply : (r : Reply) → depth (reply_data r) ≤ 127
+flat_reply Done = omega arith
+flat_reply (Refused r) = omega arith
+flat_reply (Placed ps) = omega (arith, flat_placed ps)
+flat_reply (Proposed None) = omega arith
+flat_reply (Proposed (Some p)) = omega (arith, flat_proposal p.what p)
+flat_reply (Committed p) = omega (arith, flat_by p.what p)
+flat_reply (Held containers asks) = omega (arith, flat_pending asks, flat_placed containers)
+flat_reply (Usage used guaranteed maximum masters guests) = omega arith
+
+-- ---- events
+
+plain_submit : (queue : Path) (app user : Name) (label : Option Label) (master : Resource) → has_float (submit_data queue app user label master) ≡ false
+plain_submit queue app user None master = refl
+plain_submit queue app user (Some label) master = refl
+
+pub plain_event : (e : Event) → has_float (event_data e) ≡ false
+plain_event (Register node label size) = refl
+plain_event (Heartbeat node) = refl
+plain_event (Submit queue app user label master) = plain_submit queue app user label master
+plain_event _ = refl
+
+flat_submit : (queue : Path) (app user : Name) (label : Option Label) (master : Resource) → depth (submit_data queue app user label master) ≤ 127
+flat_submit queue app user None master = omega arith
+flat_submit queue app user (Some label) master = omega arith
+
+pub flat_event : (e : Event) → depth (event_data e) ≤ 127
+flat_event (Register node label size) = omega arith
+flat_event (Heartbeat node) = omega arith
+flat_event (Submit queue app user label master) = flat_submit queue app user label master
+flat_event _ = omega arith

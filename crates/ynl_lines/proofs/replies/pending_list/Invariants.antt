@@ -1,0 +1,7 @@
+use Rattle.std.proofs.Common.{◌≡◌, map, take}
+use Rattle.serde_json.specs.View.{view}
+use Rattle.ynl_lines.specs.Writing.{pending_data}
+use Rattle.ynl_lines.proofs.replies.pending_list.Given as goal
+
+abbrev pub invariant-loop-one : goal.invariant-loop-one
+invariant-loop-one l = map view l.values.items ≡ map pending_data (take l.one-index l.pendings)

@@ -1,0 +1,181 @@
+-- The texts of replies, faults and events: JSON objects in the compact form, the keys in byte order.
+use Rattle.std.specs.Prelude.{ℕ, map, List, Option, Some, None, codes}
+use Rattle.serde_json.specs.Data.{Data, Members, null, object, array, string, number, unsigned, member, no_members, put}
+use Rattle.serde_json.specs.View.{items_of}
+use Rattle.serde_json.specs.Written.{compact_text}
+use Rattle.ynl_resource.specs.declared.amounts.Resource.{Resource}
+use Rattle.ynl_resource.specs.declared.names.Name.{Name}
+use Rattle.ynl_resource.specs.declared.labels.Label.{Label}
+use Rattle.ynl_resource.specs.declared.paths.Path.{Path}
+use Rattle.ynl_resource.specs.declared.refusals.Refusal.{Refusal}
+use Rattle.ynl_resource.specs.Refusals.{word}
+use Rattle.ynl_resource.specs.Texts.{label_text, path_text, id_text}
+use Rattle.ynl_model.specs.declared.proposals.What.{What}
+use Rattle.ynl_model.specs.declared.proposals.What.TheVariants.{Master, Ask as Asked}
+use Rattle.ynl_model.specs.declared.containers.Placed.{Placed as Container}
+use Rattle.ynl_model.specs.declared.proposals.Proposal.{Proposal}
+use Rattle.ynl_model.specs.declared.events.Event.{Event}
+use Rattle.ynl_model.specs.declared.events.Event.TheVariants.{Register, Heartbeat, Submit}
+use Rattle.ynl_model.specs.declared.replies.Pending.{Pending}
+use Rattle.ynl_model.specs.declared.replies.Reply.{Reply}
+use Rattle.ynl_model.specs.declared.replies.Reply.TheVariants.{Done, Refused, Placed, Proposed, Committed, Held, Usage}
+use Rattle.ynl_lines.specs.declared.faults.LineFault.{LineFault}
+use Rattle.ynl_lines.specs.declared.faults.LineFault.TheVariants as fault
+
+-- ---- what stands in several objects
+
+-- a number
+abbrev pub count : ℕ → Data
+count n = number (unsigned n)
+
+-- an amount: MB of memory, and virtual cores
+abbrev pub amount_data : Resource → Data
+amount_data a = object (member (codes "memory") (count a.memory) (member (codes "vcores") (count a.vcores) no_members))
+
+-- a container that is a master
+abbrev pub master_data : List ℕ → Container → Data
+master_data id p =
+    object (member (codes "app") (string p.app) (member (codes "id") (string id) (member (codes "memory") (count p.size.memory)
+    (member (codes "node") (string p.node) (member (codes "tenant") (string p.tenant) (member (codes "vcores") (count p.size.vcores)
+    (member (codes "what") (string (codes "master")) no_members)))))))
+
+-- a container that was asked for, under this label and at this priority
+abbrev pub asked_data : List ℕ → Container → Label → ℕ → Data
+asked_data id p label priority =
+    object (member (codes "app") (string p.app) (member (codes "id") (string id) (member (codes "label") (string (label_text label))
+    (member (codes "memory") (count p.size.memory) (member (codes "node") (string p.node) (member (codes "priority") (count priority)
+    (member (codes "tenant") (string p.tenant) (member (codes "vcores") (count p.size.vcores)
+    (member (codes "what") (string (codes "ask")) no_members)))))))))
+
+abbrev pub placed_by : What → Container → Data
+placed_by Master p = master_data (id_text p.id) p
+placed_by (Asked label priority) p = asked_data (id_text p.id) p label priority
+
+-- a container
+abbrev pub placed_data : Container → Data
+placed_data p = placed_by p.what p
+
+-- a proposal of a master
+abbrev pub master_proposal : Proposal → Data
+master_proposal p =
+    object (member (codes "app") (string p.app) (member (codes "memory") (count p.size.memory) (member (codes "node") (string p.node)
+    (member (codes "stamp") (count p.stamp) (member (codes "tenant") (string p.tenant) (member (codes "vcores") (count p.size.vcores)
+    (member (codes "what") (string (codes "master")) no_members)))))))
+
+-- a proposal of a container that was asked for
+abbrev pub asked_proposal : Proposal → Label → ℕ → Data
+asked_proposal p label priority =
+    object (member (codes "app") (string p.app) (member (codes "label") (string (label_text label)) (member (codes "memory") (count p.size.memory)
+    (member (codes "node") (string p.node) (member (codes "priority") (count priority) (member (codes "stamp") (count p.stamp)
+    (member (codes "tenant") (string p.tenant) (member (codes "vcores") (count p.size.vcores)
+    (member (codes "what") (string (codes "ask")) no_members)))))))))
+
+abbrev pub proposal_by : What → Proposal → Data
+proposal_by Master p = master_proposal p
+proposal_by (Asked label priority) p = asked_proposal p label priority
+
+-- a proposal
+abbrev pub proposal_data : Proposal → Data
+proposal_data p = proposal_by p.what p
+
+-- what is still asked for
+abbrev pub pending_data : Pending → Data
+pending_data p =
+    object (member (codes "count") (count p.count) (member (codes "memory") (count p.size.memory) (member (codes "priority") (count p.priority)
+    (member (codes "vcores") (count p.size.vcores) no_members))))
+
+-- ---- replies
+
+-- a reply that is a word alone
+abbrev pub word_data : List ℕ → Data
+word_data w = object (member (codes "reply") (string w) no_members)
+
+abbrev pub refused_data : Refusal → Data
+refused_data r = object (member (codes "refused") (string (word r)) (member (codes "reply") (string (codes "refused")) no_members))
+
+-- a reply that is one value under a key, which goes to its place in the order of keys
+abbrev pub keyed_data : List ℕ → Data → List ℕ → Data
+keyed_data key d w = object (put key d (member (codes "reply") (string w) no_members))
+
+abbrev pub proposed_data : Option Proposal → Data
+proposed_data None = word_data (codes "nothing")
+proposed_data (Some p) = object (member (codes "proposal") (proposal_data p) (member (codes "reply") (string (codes "proposal")) no_members))
+
+abbrev pub held_data : List Container → List Pending → Data
+held_data containers asks =
+    object (member (codes "asks") (array (items_of (map pending_data asks))) (member (codes "containers") (array (items_of (map placed_data containers)))
+    (member (codes "reply") (string (codes "held")) no_members)))
+
+abbrev pub usage_data : Resource → Resource → Resource → Resource → Resource → Data
+usage_data used guaranteed maximum masters guests =
+    object (member (codes "guaranteed") (amount_data guaranteed) (member (codes "guests") (amount_data guests) (member (codes "masters") (amount_data masters)
+    (member (codes "maximum") (amount_data maximum) (member (codes "reply") (string (codes "usage")) (member (codes "used") (amount_data used) no_members))))))
+
+abbrev pub placed_reply : List Container → Data
+placed_reply ps = object (member (codes "placed") (array (items_of (map placed_data ps))) (member (codes "reply") (string (codes "placed")) no_members))
+
+abbrev pub committed_reply : Container → Data
+committed_reply p = object (member (codes "container") (placed_data p) (member (codes "reply") (string (codes "committed")) no_members))
+
+abbrev pub reply_data : Reply → Data
+reply_data Done = word_data (codes "done")
+reply_data (Refused r) = refused_data r
+reply_data (Placed ps) = placed_reply ps
+reply_data (Proposed p) = proposed_data p
+reply_data (Committed p) = committed_reply p
+reply_data (Held containers asks) = held_data containers asks
+reply_data (Usage used guaranteed maximum masters guests) = usage_data used guaranteed maximum masters guests
+
+-- the text of a reply, without the newline of its line
+abbrev pub reply_text : Reply → List ℕ
+reply_text r = compact_text (reply_data r)
+
+-- ---- events
+
+abbrev pub register_data : Name → Label → Resource → Data
+register_data node label size =
+    object (member (codes "event") (string (codes "register")) (member (codes "label") (string (label_text label)) (member (codes "memory") (count size.memory)
+    (member (codes "node") (string node) (member (codes "vcores") (count size.vcores) no_members)))))
+
+abbrev pub heartbeat_data : Name → Data
+heartbeat_data node = object (member (codes "event") (string (codes "heartbeat")) (member (codes "node") (string node) no_members))
+
+-- the members of a submit without its label
+abbrev pub submit_members : List ℕ → Name → Name → Resource → Members
+submit_members queue app user master =
+    member (codes "app") (string app) (member (codes "event") (string (codes "submit")) (member (codes "memory") (count master.memory)
+    (member (codes "queue") (string queue) (member (codes "user") (string user) (member (codes "vcores") (count master.vcores) no_members)))))
+
+-- a submit, whose label may be absent
+abbrev pub submit_data : Path → Name → Name → Option Label → Resource → Data
+submit_data queue app user None master = object (submit_members (path_text queue) app user master)
+submit_data queue app user (Some label) master =
+    object (put (codes "label") (string (label_text label)) (submit_members (path_text queue) app user master))
+
+-- an event of a kind that is there
+abbrev pub event_data : Event → Data
+event_data (Register node label size) = register_data node label size
+event_data (Heartbeat node) = heartbeat_data node
+event_data (Submit queue app user label master) = submit_data queue app user label master
+event_data _ = null
+
+-- the text of an event, without the newline of its line
+abbrev pub event_text : Event → List ℕ
+event_text e = compact_text (event_data e)
+
+-- ---- faults
+
+abbrev pub fault_word : LineFault → List ℕ
+fault_word fault.Size = codes "size"
+fault_word fault.Syntax = codes "syntax"
+fault_word fault.Event = codes "event"
+fault_word fault.Field = codes "field"
+fault_word fault.Name = codes "name"
+fault_word fault.Range = codes "range"
+
+abbrev pub fault_data : LineFault → ℕ → Data
+fault_data f line = object (member (codes "fault") (string (fault_word f)) (member (codes "line") (count line) no_members))
+
+-- the text that tells a fault in a line, without its newline
+abbrev pub fault_text : LineFault → ℕ → List ℕ
+fault_text f line = compact_text (fault_data f line)

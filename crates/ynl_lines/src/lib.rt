@@ -1,0 +1,16 @@
+//! Lines of text: events are read from them, and replies, faults and events are written to them.
+//! Each is a JSON object. A text here is without the newline that ends its line.
+#![tactic(auto)]
+
+pub use faults::LineFault;
+pub use read::read_event;
+pub use write::{write_event, write_fault, write_reply};
+
+mod events;
+mod faults;
+mod object;
+mod read;
+mod replies;
+#[cfg(test)]
+mod tests;
+mod write;

@@ -1,0 +1,246 @@
+//! From lines to events.
+
+ghost use Rattle.std.specs.Prelude.{◌≡◌, option_map, IfOk, IsTrue};
+ghost use Rattle.serde_json.specs.View.{view};
+ghost use Rattle.ynl_resource.specs.Amounts.{IsSize};
+ghost use Rattle.ynl_model.specs.Kinds.{is_there};
+ghost use Rattle.ynl_lines.specs.Reading.{reading, Gives, IsRanged};
+ghost use Rattle.ynl_lines.specs.Reading as spec;
+
+use crate::faults::LineFault;
+use serde_json::Value;
+use std::alloc::{AllocError, Global};
+use ynl_model::Event;
+use ynl_resource::{Label, Name, Path, Size};
+
+/// Which event a word names.
+#[derive(Clone, Copy)]
+pub enum Kind {
+    Register,
+    Submit,
+    Heartbeat,
+}
+
+/// The value that the bytes are, if they are the text of one.
+fn parse(alloc: Global, bytes: &[u8]) -> Result<Option<Value>, AllocError>
+    ensures { IfOk result (λ found. option_map view found ≡ reading bytes.now) }
+{
+    match Value::from_slice(alloc, bytes) {
+        Ok(value) => Ok(Some(value)),
+        Err(e) => {
+            if e.is_memory() {
+                return Err(AllocError);
+            }
+            Ok(None)
+        }
+    }
+}
+
+#[tactic(auto, unfolding(crate::specs::Reading::text_at))]
+fn text_at<'v>(event: &'v Value, key: &str) -> Result<&'v str, LineFault>
+    ensures { Gives (λ s. s.now) result (spec.text_at key.now (view event.now)) }
+{
+    match event.get(key) {
+        Some(value) => value.as_str().ok_or(LineFault::Field),
+        None => Err(LineFault::Field),
+    }
+}
+
+#[tactic(auto, unfolding(crate::specs::Reading::number_at))]
+fn number_at(event: &Value, key: &str) -> Result<u64, LineFault>
+    ensures { result ≡ spec.number_at key.now (view event.now) }
+{
+    match event.get(key) {
+        Some(value) => value.as_u64().ok_or(LineFault::Field),
+        None => Err(LineFault::Field),
+    }
+}
+
+#[tactic(auto, unfolding(crate::specs::Reading::keys_are))]
+fn keys_are(event: &Value, count: usize) -> Result<(), LineFault>
+    ensures { Gives (λ _. tt) result (spec.keys_are count (view event.now)) }
+{
+    match event.as_object() {
+        Some(members) => {
+            if members.len() == count {
+                Ok(())
+            } else {
+                Err(LineFault::Field)
+            }
+        }
+        None => Err(LineFault::Field),
+    }
+}
+
+fn kind_of(word: &str) -> Option<Kind>
+    ensures { result ≡ spec.kind_of word.now }
+{
+    if word == "register" {
+        Some(Kind::Register)
+    } else if word == "submit" {
+        Some(Kind::Submit)
+    } else if word == "heartbeat" {
+        Some(Kind::Heartbeat)
+    } else {
+        None
+    }
+}
+
+#[tactic(auto, unfolding(crate::specs::Reading::name_at))]
+fn name_at(text: &str) -> Result<Name, LineFault>
+    ensures { result ≡ spec.name_at text.now }
+{
+    match Name::parse(text) {
+        Ok(name) => Ok(name),
+        Err(_) => Err(LineFault::Name),
+    }
+}
+
+#[tactic(auto, unfolding(crate::specs::Reading::label_at))]
+fn label_at(text: &str) -> Result<Label, LineFault>
+    ensures { result ≡ spec.label_at text.now }
+{
+    match Label::parse(text) {
+        Ok(label) => Ok(label),
+        Err(_) => Err(LineFault::Name),
+    }
+}
+
+#[tactic(auto, unfolding(crate::specs::Reading::path_at))]
+fn path_at(text: &str) -> Result<Path, LineFault>
+    ensures { result ≡ spec.path_at text.now }
+{
+    match Path::parse(text) {
+        Ok(path) => Ok(path),
+        Err(_) => Err(LineFault::Name),
+    }
+}
+
+/// The size; memory is in MB.
+fn size_at(memory: u64, vcores: u64) -> Result<Size, LineFault>
+    ensures size { result ≡ spec.size_at memory vcores }
+    ensures ranged { IfOk result (λ size. IsSize size) }
+{
+    Size::new(memory, vcores).ok_or(LineFault::Range)
+}
+
+#[tactic(auto, unfolding(crate::specs::Reading::register_at))]
+fn register_at(event: &Value) -> Result<Event, LineFault>
+    ensures event { result ≡ spec.register_at (view event.now) }
+    ensures there { IfOk result (λ event. IsTrue (is_there event)) }
+    ensures ranged { IfOk result (λ event. IsRanged event) }
+{
+    keys_are(event, 5)?;
+    let label = text_at(event, "label")?;
+    let memory = number_at(event, "memory")?;
+    let node = text_at(event, "node")?;
+    let vcores = number_at(event, "vcores")?;
+    let label = label_at(label)?;
+    let node = name_at(node)?;
+    let size = size_at(memory, vcores)?;
+    Ok(Event::Register { node, label, size })
+}
+
+#[tactic(auto, unfolding(crate::specs::Reading::heartbeat_at))]
+fn heartbeat_at(event: &Value) -> Result<Event, LineFault>
+    ensures event { result ≡ spec.heartbeat_at (view event.now) }
+    ensures there { IfOk result (λ event. IsTrue (is_there event)) }
+    ensures ranged { IfOk result (λ event. IsRanged event) }
+{
+    keys_are(event, 2)?;
+    let node = text_at(event, "node")?;
+    let node = name_at(node)?;
+    Ok(Event::Heartbeat { node })
+}
+
+/// The text of a submit's label, which may be absent.
+#[tactic(auto, unfolding(crate::specs::Reading::label_text_at))]
+fn label_text_at(event: &Value) -> Result<Option<&str>, LineFault>
+    ensures { Gives (λ o. option_map (λ s. s.now) o) result (spec.label_text_at (view event.now)) }
+{
+    match event.get("label") {
+        None => {
+            keys_are(event, 6)?;
+            Ok(None)
+        }
+        Some(value) => {
+            keys_are(event, 7)?;
+            match value.as_str() {
+                Some(text) => Ok(Some(text)),
+                None => Err(LineFault::Field),
+            }
+        }
+    }
+}
+
+#[tactic(auto, unfolding(crate::specs::Reading::optional_label_at))]
+fn optional_label_at(text: Option<&str>) -> Result<Option<Label>, LineFault>
+    ensures { result ≡ spec.optional_label_at (option_map (λ s. s.now) text.entry) }
+{
+    match text {
+        None => Ok(None),
+        Some(text) => {
+            let label = label_at(text)?;
+            Ok(Some(label))
+        }
+    }
+}
+
+#[tactic(auto, unfolding(crate::specs::Reading::submit_at))]
+fn submit_at(event: &Value) -> Result<Event, LineFault>
+    ensures event { result ≡ spec.submit_at (view event.now) }
+    ensures there { IfOk result (λ event. IsTrue (is_there event)) }
+    ensures ranged { IfOk result (λ event. IsRanged event) }
+{
+    let label = label_text_at(event)?;
+    let app = text_at(event, "app")?;
+    let memory = number_at(event, "memory")?;
+    let queue = text_at(event, "queue")?;
+    let user = text_at(event, "user")?;
+    let vcores = number_at(event, "vcores")?;
+    let app = name_at(app)?;
+    let label = optional_label_at(label)?;
+    let queue = path_at(queue)?;
+    let user = name_at(user)?;
+    let master = size_at(memory, vcores)?;
+    Ok(Event::Submit {
+        queue,
+        app,
+        user,
+        label,
+        master,
+    })
+}
+
+#[tactic(auto, unfolding(crate::specs::Reading::event_at))]
+fn event_at(event: &Value) -> Result<Event, LineFault>
+    ensures event { result ≡ spec.event_at (view event.now) }
+    ensures there { IfOk result (λ event. IsTrue (is_there event)) }
+    ensures ranged { IfOk result (λ event. IsRanged event) }
+{
+    let word = match event.get("event") {
+        Some(value) => value.as_str().ok_or(LineFault::Event)?,
+        None => return Err(LineFault::Event),
+    };
+    match kind_of(word).ok_or(LineFault::Event)? {
+        Kind::Register => register_at(event),
+        Kind::Submit => submit_at(event),
+        Kind::Heartbeat => heartbeat_at(event),
+    }
+}
+
+/// The event that a line is, or its first fault; the line is without its newline.
+///
+/// The line is a JSON object whose `event` is a known word, with exactly the keys of that event;
+/// `memory` is in MB. The faults come in the order of [`LineFault`], over all keys: any `field`
+/// before any `name`, and any `name` before any `range`.
+pub fn read_event(alloc: Global, line: &[u8]) -> Result<Result<Event, LineFault>, AllocError>
+    ensures event { IfOk result (λ read. read ≡ spec.event_of_line line.now) }
+    ensures there { IfOk result (λ read. IfOk read (λ event. IsTrue (is_there event))) }
+    ensures ranged { IfOk result (λ read. IfOk read (λ event. IsRanged event)) }
+{
+    match parse(alloc, line)? {
+        Some(value) => Ok(event_at(&value)),
+        None => Ok(Err(LineFault::Syntax)),
+    }
+}

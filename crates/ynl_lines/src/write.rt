@@ -1,0 +1,70 @@
+//! From replies, faults and events to texts.
+
+ghost use Rattle.std.specs.Prelude.{◌≡◌, ◌≤◌, IfOk, IsTrue, false, Some};
+ghost use Rattle.serde_json.specs.Data.{depth};
+ghost use Rattle.serde_json.specs.View.{view};
+ghost use Rattle.serde_json.specs.Written.{has_float, compact_text};
+ghost use Rattle.ynl_model.specs.Kinds.{is_there};
+ghost use Rattle.ynl_lines.specs.Reading.{reading, event_of_line};
+ghost use Rattle.ynl_lines.specs.Writing as spec;
+
+use crate::events::event_value;
+use crate::faults::LineFault;
+use crate::object::{Field, object};
+use crate::replies::reply_value;
+use serde_json::Value;
+use std::alloc::{AllocError, Global};
+use ynl_model::{Event, Reply};
+
+/// A value's text, which reads as the value.
+#[tactic(auto, using(crate::proofs::Readings::reading_text))]
+fn text_of(alloc: Global, value: &Value) -> Result<Vec<u8>, AllocError>
+    requires plain { has_float (view value.now) ≡ false }
+    requires flat { depth (view value.now) ≤ 127 }
+    ensures text { IfOk result (λ text. text.items ≡ compact_text (view value.now)) }
+    ensures reads { IfOk result (λ text. reading text.items ≡ Some (view value.now)) }
+{
+    value.to_vec(alloc)
+}
+
+/// The text of an event of a kind that is there, without the newline of its line. It reads as the
+/// event.
+#[tactic(auto, using(crate::proofs::Texts::plain_event, crate::proofs::Texts::flat_event))]
+pub fn write_event(alloc: Global, event: &Event) -> Result<Vec<u8>, AllocError>
+    requires { IsTrue (is_there event.now) }
+    ensures text { IfOk result (λ text. text.items ≡ spec.event_text event.now) }
+    ensures reads { IfOk result (λ text. event_of_line text.items ≡ Ok event.now) }
+{
+    let value = event_value(alloc, event)?;
+    text_of(alloc, &value)
+}
+
+/// The text of a reply, without the newline of its line.
+#[tactic(auto, using(crate::proofs::Texts::plain_reply, crate::proofs::Texts::flat_reply))]
+pub fn write_reply(alloc: Global, reply: &Reply) -> Result<Vec<u8>, AllocError>
+    ensures text { IfOk result (λ text. text.items ≡ spec.reply_text reply.now) }
+{
+    let value = reply_value(alloc, reply)?;
+    text_of(alloc, &value)
+}
+
+fn fault_value(alloc: Global, fault: LineFault, line: u64) -> Result<Value, AllocError>
+    ensures { IfOk result (λ v. view v ≡ spec.fault_data fault line) }
+{
+    object(
+        alloc,
+        &[
+            ("fault", Field::Word(fault.word())),
+            ("line", Field::Number(line)),
+        ],
+    )
+}
+
+/// The text of the line that tells a fault, without its newline; `line` is the number of the faulty
+/// line, from 1.
+pub fn write_fault(alloc: Global, fault: LineFault, line: u64) -> Result<Vec<u8>, AllocError>
+    ensures text { IfOk result (λ text. text.items ≡ spec.fault_text fault line) }
+{
+    let value = fault_value(alloc, fault, line)?;
+    text_of(alloc, &value)
+}

@@ -1,0 +1,78 @@
+-- What one look at a reader gives, and several of them.
+use Rattle.std.proofs.Common.{◌≡◌, ◌≢◌, ℕ, ◌+◌, ◌-◌, ◌<◌, ◌≤◌, min, List, [], ◌∷◌, ◌++◌, length, take, Option, Some, None, Ok, Err, IfSome, OnSome, sym, ap, subst, ◌∙◌, arith, get_or, append_assoc, length-append, length-take}
+use Rattle.std.proofs.Math.Seq.{take-take}
+use Rattle.std.proofs.lemmas.List.{take_more}
+use Rattle.std.proofs.lemmas.List.Elements.{All-append}
+use Rattle.std.specs.Io.KnownBytes.{Keeps, IsAtEnd, Consumes}
+use Rattle.std.proofs.KnownBytes.{Consumes-trans}
+use Rattle.ynl_tool.specs.declared.lines_in.LineEnd.{LineEnd}
+use Rattle.ynl_tool.specs.declared.lines_in.LineEnd.TheVariants.{Newline, Input, Budget}
+use Rattle.ynl_tool.specs.declared.lines_in.ReadFault.{ReadFault}
+use Rattle.ynl_tool.specs.Lines.{IsPlain, GivesPiece, GivesLine, LineEnds}
+
+-- nothing was shown, so nothing is left
+pub end_here : (a b : Option (List ℕ)) (shown : List ℕ) → Keeps a b → IfSome a (λ xs. length shown ≡ 0 → xs ≡ []) → length shown ≡ 0 → OnSome a (IsAtEnd b)
+end_here None b shown kept end none = tt
+end_here (Some x) None shown kept end none = absurd kept
+end_here (Some x) (Some y) shown kept end none = kept ∙ end none
+
+pub first_shown : (shown : List ℕ) → 0 < length shown → take 1 shown ≡ get_or shown 0 0 ∷ []
+first_shown shown h = take_more shown 0 0 h
+
+-- what stands before the newline, or within the room
+pub record Cut (before shown after : List ℕ) (end within budget : ℕ) : Type 0 where
+  pub bound : end ≤ length shown
+  pub plain : IsPlain (take end shown)
+  pub fits : length after ≤ budget
+  pub room : end < within → length after < budget
+  pub some : within ≤ end → 0 < within → 0 < length (take end shown)
+
+pub cut : (before shown after : List ℕ) (end within budget : ℕ) → end ≤ length (take within shown) → within ≡ min (budget - length before) (length shown) → length before ≤ budget
+    → IsPlain (take end (take within shown)) → after ≡ before ++ take end shown → Cut before shown after end within budget
+cut before shown after end within budget bound is had plain grown =
+    let len = length-take within shown in
+    let short : end ≤ within = omega arith in
+    let fits : end ≤ length shown = omega arith in
+    let taken = length-take end shown in
+    let all : length after ≡ length before + length (take end shown) = ap length grown ∙ length-append before (take end shown) in
+    record {
+      bound = fits;
+      plain = subst IsPlain (take-take end within shown short) plain;
+      fits = omega arith;
+      room = λ h. omega arith;
+      some = λ h k. omega arith;
+    }
+
+module _ (a b c : Option (List ℕ)) (line after : List ℕ) (budget : ℕ) (plain : IsPlain line) (had : Consumes a b line) where
+  pub line_more : GivesPiece b c line after budget (Ok None) → IsPlain after × Consumes a c after
+  line_more p = (
+    subst IsPlain (sym p.grown) (All-append (λ x. x ≢ 10) line p.bytes plain p.plain),
+    subst (Consumes a c) (sym p.grown) (Consumes-trans a b c line p.bytes had p.ended.1),
+  )
+
+  pub line_failed : (e : ReadFault) → GivesPiece b c line after budget (Err e) → GivesLine a c after budget (Err e)
+  line_failed e p = record {
+    plain = subst IsPlain (sym p.grown) (All-append (λ x. x ≢ 10) line p.bytes plain p.plain);
+    within = p.within;
+    ended = subst (Consumes a c) (sym p.grown) (Consumes-trans a b c line p.bytes had p.ended);
+  }
+
+  still_end : (x : Option (List ℕ)) → Consumes x b line → OnSome b (IsAtEnd c) → OnSome x (IsAtEnd c)
+  still_end None h e = tt
+  still_end (Some x) h e = at b h e
+    where
+      at : (y : Option (List ℕ)) → Consumes (Some x) y line → OnSome y (IsAtEnd c) → IsAtEnd c
+      at None h e = absurd h
+      at (Some y) h e = e
+
+  ends : (end : LineEnd) → GivesPiece b c line after budget (Ok (Some end)) → LineEnds a c after budget (Ok end)
+  ends Newline p = (p.ended.0, subst (Consumes a c) (sym (append_assoc line p.bytes (10 ∷ [])) ∙ ap (λ l. l ++ 10 ∷ []) (sym p.grown)) (Consumes-trans a b c line (p.bytes ++ 10 ∷ []) had p.ended.1))
+  ends Input p = (still_end a had p.ended.0, subst (Consumes a c) (sym p.grown) (Consumes-trans a b c line p.bytes had p.ended.1))
+  ends Budget p = (p.ended.0, (p.ended.1.0, subst (Consumes a c) (sym (append_assoc line p.bytes (p.ended.1.0 ∷ [])) ∙ ap (λ l. l ++ p.ended.1.0 ∷ []) (sym p.grown)) (Consumes-trans a b c line (p.bytes ++ p.ended.1.0 ∷ []) had p.ended.1.1)))
+
+  pub line_ended : (end : LineEnd) → GivesPiece b c line after budget (Ok (Some end)) → GivesLine a c after budget (Ok end)
+  line_ended end p = record {
+    plain = subst IsPlain (sym p.grown) (All-append (λ x. x ≢ 10) line p.bytes plain p.plain);
+    within = p.within;
+    ended = ends end p;
+  }

@@ -1,0 +1,16 @@
+use Rattle.std.proofs.Common.{◌-◌, ◌++◌, length, take, drop, sym, ap, subst, ◌∙◌, arith, length-take}
+use Rattle.std.proofs.Math.Seq.{take-add, take-take}
+use Rattle.std.specs.Io.KnownBytes.{Appends}
+use Rattle.std.proofs.KnownBytes.{Appends-trans}
+use Rattle.ynl_tool.proofs.lines_out.write_text.Goals as goal
+
+pub loop-written-preserved : goal.loop-written-preserved
+loop-written-preserved g c =
+    let done = c.loop-written.written in
+    let n = c.in-Ok.n in
+    let xs = c.args.text.now in
+    let before = c.loop-written.invariant in
+    let most = length-take (length xs - done) (drop done xs) in
+    let fits = c.in-Ok.ensures.bound in
+    let joined = ap (λ l. take done xs ++ l) (take-take n (length xs - done) (drop done xs) (omega arith)) ∙ sym (take-add done n xs) in
+    (omega arith, subst (Appends _ _) joined (Appends-trans _ _ _ _ _ before.1 c.in-Ok.ensures.bytes))

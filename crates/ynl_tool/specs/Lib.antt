@@ -1,0 +1,4 @@
+pub mod Jobs
+pub mod Lines
+pub mod Run
+pub mod Running

@@ -1,0 +1,215 @@
+//! The run: events are read line by line, and the reply to each is written.
+
+ghost use Rattle.std.specs.Prelude.{◌≡◌, ◌≤◌, ◌++◌, ◌∷◌, [], IfOk};
+ghost use Rattle.ynl_model.specs.Cluster.{opening};
+ghost use Rattle.ynl_tool.specs.Run.{is_blank, faulty, ending, limit, line_of};
+ghost use Rattle.ynl_tool.specs.Running.{Says, Answers, Writes, Runs};
+
+use crate::lines_in::{LineEnd, ReadFault, read_line};
+use crate::lines_out::{WriteFault, write_text};
+use std::alloc::{AllocError, Global};
+use std::io::{BufRead, Write};
+use thiserror::Error;
+use ynl_core::Core;
+use ynl_lines::{LineFault, read_event, write_fault, write_reply};
+use ynl_queues::Config;
+
+/// How many bytes a run reads at most.
+const LIMIT: usize = 67108864;
+
+/// Why a run ended before its input did.
+#[derive(Clone, Copy, Debug, PartialEq, Eq, Error)]
+pub enum ToolFault {
+    /// The reader failed.
+    #[error("read fault")]
+    Read,
+    /// The writer failed, or took nothing.
+    #[error("write fault")]
+    Write,
+    /// Memory was refused.
+    #[error("out of memory")]
+    NoMemory,
+}
+
+impl From<AllocError> for ToolFault {
+    ghost use Rattle.std.specs.Prelude.{◌≡◌};
+    ghost use Rattle.ynl_tool.specs.declared.run.ToolFault.TheVariants.{NoMemory};
+
+    ghost from_gives = { λ _ e. e ≡ NoMemory };
+
+    fn from(_error: AllocError) -> ToolFault {
+        ToolFault::NoMemory
+    }
+}
+
+impl From<ynl_core::NoMemory> for ToolFault {
+    ghost use Rattle.std.specs.Prelude.{◌≡◌};
+    ghost use Rattle.ynl_tool.specs.declared.run.ToolFault.TheVariants.{NoMemory};
+
+    ghost from_gives = { λ _ e. e ≡ NoMemory };
+
+    fn from(_error: ynl_core::NoMemory) -> ToolFault {
+        ToolFault::NoMemory
+    }
+}
+
+impl From<WriteFault> for ToolFault {
+    ghost use Rattle.std.specs.Prelude.{◌≡◌};
+    ghost use Rattle.ynl_tool.specs.declared.run.ToolFault.TheVariants.{Write};
+
+    ghost from_gives = { λ _ e. e ≡ Write };
+
+    fn from(_error: WriteFault) -> ToolFault {
+        ToolFault::Write
+    }
+}
+
+impl From<ReadFault> for ToolFault {
+    ghost use Rattle.std.specs.Prelude.{◌≡◌};
+    ghost use Rattle.ynl_tool.specs.Running.{tool_fault};
+
+    ghost from_gives = { λ r e. e ≡ tool_fault r };
+
+    fn from(error: ReadFault) -> ToolFault {
+        match error {
+            ReadFault::Read => ToolFault::Read,
+            ReadFault::NoMemory => ToolFault::NoMemory,
+        }
+    }
+}
+
+/// What a run read: how many lines, and the fault that ended it, if one did.
+#[derive(Clone, Copy, Debug, PartialEq, Eq)]
+pub struct Summary {
+    pub lines: u64,
+    pub fault: Option<LineFault>,
+}
+
+fn is_blank(line: &[u8]) -> bool
+    ensures { result ≡ is_blank line.now }
+{
+    line.iter()
+        .all(|b| *b == b' ' || *b == b'\t' || *b == b'\r')
+}
+
+fn with_newline(mut text: Vec<u8>) -> Result<Vec<u8>, AllocError>
+    ensures { IfOk result (λ line. line.items ≡ line_of text.items) }
+{
+    text.push(b'\n')?;
+    Ok(text)
+}
+
+/// Writes the text and its newline, in one write where the writer takes them whole.
+fn say<W: Write>(writer: &mut W, text: Vec<u8>) -> Result<(), ToolFault>
+    ensures { Says (W.contents writer.old) (W.contents writer.new) (line_of text.items) result }
+{
+    let line = with_newline(text)?;
+    write_text(writer, &line)?;
+    Ok(())
+}
+
+/// Answers one line, or gives its fault.
+fn answer<W: Write>(
+    alloc: Global,
+    core: &mut Core,
+    line: &[u8],
+    writer: &mut W,
+) -> Result<Option<LineFault>, ToolFault>
+    ensures { Answers (W.contents writer.old) (W.contents writer.new) core.old.config core.old.state core.new line.now result }
+{
+    let blank = is_blank(line);
+    if blank {
+        return Ok(None);
+    }
+    let event = match read_event(alloc, line)? {
+        Ok(event) => event,
+        Err(fault) => return Ok(Some(fault)),
+    };
+    let reply = core.apply(event)?;
+    let text = write_reply(alloc, &reply)?;
+    say(writer, text)?;
+    Ok(None)
+}
+
+/// The last line, which lacks its newline.
+fn finish<W: Write>(
+    alloc: Global,
+    core: &mut Core,
+    line: &[u8],
+    writer: &mut W,
+    lines: u64,
+) -> Result<Summary, ToolFault>
+    requires { lines ≤ limit }
+    ensures { Writes (W.contents writer.old) (W.contents writer.new) (ending core.old.config core.old.state line.now lines) result }
+{
+    if line.is_empty() {
+        return Ok(Summary { lines, fault: None });
+    }
+    let lines = lines + 1;
+    match answer(alloc, core, line, writer)? {
+        Some(fault) => tell(alloc, writer, fault, lines),
+        None => Ok(Summary { lines, fault: None }),
+    }
+}
+
+/// Reads lines to the end of the input or the first fault, and writes the reply to each.
+fn serve<R: BufRead, W: Write>(
+    alloc: Global,
+    core: &mut Core,
+    reader: &mut R,
+    writer: &mut W,
+) -> Result<Summary, ToolFault>
+    ensures { Runs (R.remaining reader.old) (R.remaining reader.new) (W.contents writer.old) (W.contents writer.new) core.old.config core.old.state result }
+{
+    let mut line = Vec::new(alloc);
+    let mut budget = LIMIT;
+    let mut lines = 0u64;
+    'lines: loop {
+        match read_line(reader, &mut line, budget)? {
+            LineEnd::Budget => return tell(alloc, writer, LineFault::Size, lines + 1),
+            LineEnd::Input => return finish(alloc, core, &line, writer, lines),
+            LineEnd::Newline => {}
+        }
+        lines += 1;
+        if let Some(fault) = answer(alloc, core, &line, writer)? {
+            return tell(alloc, writer, fault, lines);
+        }
+        budget -= line.len() + 1;
+    }
+}
+
+/// Writes the fault's line.
+fn tell<W: Write>(
+    alloc: Global,
+    writer: &mut W,
+    fault: LineFault,
+    lines: u64,
+) -> Result<Summary, ToolFault>
+    ensures { Writes (W.contents writer.old) (W.contents writer.new) (faulty fault lines) result }
+{
+    let text = write_fault(alloc, fault, lines)?;
+    say(writer, text)?;
+    Ok(Summary {
+        lines,
+        fault: Some(fault),
+    })
+}
+
+/// Runs a cluster of this configuration, from its opening state, on the events of the reader, and
+/// writes the reply to each as soon as its line is read: to the end of the input, or to the first
+/// line with a fault, which is told in the last line written. An input of more than 67,108,864
+/// bytes has a fault in the line where it gets too long.
+///
+/// At an error what is written is the text of the lines before: and if the writer failed, perhaps
+/// a front of the text of one line more.
+pub fn run_lines<R: BufRead, W: Write>(
+    alloc: Global,
+    config: Config,
+    reader: &mut R,
+    writer: &mut W,
+) -> Result<Summary, ToolFault>
+    ensures { Runs (R.remaining reader.old) (R.remaining reader.new) (W.contents writer.old) (W.contents writer.new) config (opening config) result }
+{
+    let mut core = Core::open(alloc, config)?;
+    serve(alloc, &mut core, reader, writer)
+}

@@ -1,0 +1,105 @@
+//! The words of the command line.
+
+use clap::error::ErrorKind;
+use clap::{Command, Error};
+use std::alloc::{AllocError, Global};
+
+/// What the program is asked to do.
+#[derive(Clone, Copy, Debug, PartialEq, Eq)]
+pub enum Kind {
+    /// To answer the events of an input.
+    Run,
+}
+
+/// A piece of work for the program.
+#[derive(Clone, Copy, Debug, PartialEq, Eq)]
+pub struct Job {
+    pub kind: Kind,
+}
+
+/// Why the words give no job.
+#[derive(Debug, Drop)]
+pub enum WordsFault {
+    /// They are wrong, or ask for help. The error's text is what the user is to read.
+    Words(Error),
+    /// Memory was refused.
+    NoMemory,
+}
+
+impl From<AllocError> for WordsFault {
+    fn from(_error: AllocError) -> WordsFault {
+        WordsFault::NoMemory
+    }
+}
+
+impl From<Error> for WordsFault {
+    fn from(error: Error) -> WordsFault {
+        if error.kind() == ErrorKind::OutOfMemory {
+            return WordsFault::NoMemory;
+        }
+        WordsFault::Words(error)
+    }
+}
+
+const ABOUT: &str = "Decides which containers of a cluster run on which node";
+
+const AFTER: &str = "\
+Exit status:
+  0  every event was answered
+  1  a line of the input is no event, or the input is too long: the last line of the output tells
+  2  the words of the command line are wrong, or ask for help
+  3  reading, writing or memory failed, as a line on standard error tells
+
+Example:
+  ynl run < events > replies";
+
+const RUN_ABOUT: &str = "Answers the events of standard input, one reply for each";
+
+const RUN_AFTER: &str = "\
+Standard input has an event on each line, a JSON object with just the keys of its kind. Memory is in
+MB. A line of blanks is passed over.
+
+  {\"event\":\"register\",\"label\":\"gpu\",\"memory\":10000,\"node\":\"g1\",\"vcores\":10}
+  {\"app\":\"j1\",\"event\":\"submit\",\"label\":\"gpu\",\"memory\":1000,\"queue\":\"root.eng\",\"user\":\"ann\",\"vcores\":1}
+  {\"event\":\"heartbeat\",\"node\":\"g1\"}
+
+Standard output has a reply for each event, a JSON object on a line, as soon as the event is read:
+
+  {\"reply\":\"done\"}
+  {\"reply\":\"done\"}
+  {\"placed\":[{\"app\":\"j1\",\"id\":\"gpu#2\", ..}],\"reply\":\"placed\"}
+
+A line that is no event ends the run. The last line of the output tells its fault and its number, as
+{\"fault\":\"syntax\",\"line\":4}; the faults are syntax, event, field, name and range, and size where the
+input is longer than 67108864 bytes.
+
+Exit status:
+  0  every event was answered
+  1  a line of the input is no event, or the input is too long
+  2  the words of the command line are wrong, or ask for help
+  3  reading, writing or memory failed, as a line on standard error tells
+
+Example:
+  printf '{\"event\":\"heartbeat\",\"node\":\"g1\"}\\n' | ynl run";
+
+fn run<'a>(alloc: Global) -> Command<'a> {
+    Command::new(alloc, "run")
+        .about(RUN_ABOUT)
+        .after_help(RUN_AFTER)
+}
+
+fn command<'a>(alloc: Global) -> Result<Command<'a>, AllocError> {
+    Command::new(alloc, "ynl")
+        .bin_name("ynl")?
+        .about(ABOUT)
+        .after_help(AFTER)
+        .subcommand_required(true)
+        .subcommand(run(alloc))
+}
+
+/// The job that the words ask for. The first word is the program's name.
+pub fn parse_words(alloc: Global, words: &[String]) -> Result<Job, WordsFault> {
+    // There is one subcommand, and it is required.
+    let _matches = command(alloc)?.try_get_matches_from(words)?;
+    Ok(Job { kind: Kind::Run })
+}
