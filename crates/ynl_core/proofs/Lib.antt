@@ -5,3 +5,5 @@ pub mod Shared
 pub mod Rooms
 pub mod Ranked
 pub mod Considering
+pub mod Choices
+pub mod InPlace

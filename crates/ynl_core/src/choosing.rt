@@ -1,10 +1,13 @@
 //! The choice on a node: of the eligible requests the first in the order of service, or else the
 //! first guest. The requests are gone through once, and the first so far is held.
 
-ghost use Rattle.std.specs.Prelude.{◌≡◌, [], ◌∷◌, IfSome, None};
+ghost use Rattle.std.specs.Prelude.{◌≡◌, [], ◌∷◌, IfSome, None, filter};
 ghost use Rattle.std.specs.List.{position_or_len};
 ghost use Rattle.ynl_resource.specs.Names.{same_name};
-ghost use Rattle.ynl_model.specs.Service.{place_in_leaf};
+ghost use Rattle.ynl_resource.specs.declared.labels.Label.TheVariants.{Unlabelled};
+ghost use Rattle.ynl_model.specs.Cluster.{free as free_on};
+ghost use Rattle.ynl_model.specs.Service.{place_in_leaf, first_of, key, eligible, has_room, asks_for, takes_guests, choice};
+ghost use Rattle.ynl_core.specs.Bounds.{IsBounded};
 ghost use Rattle.ynl_core.specs.Tables.{state_of, app_of};
 ghost use Rattle.ynl_core.specs.Choosing.{state_in, key_in, item_of, passes, IsScene, IsDesk, IsKeyed, Holds, Considers, masters_of as masters_in, wanted, asks_in, all_masters, all_asks};
 ghost use Rattle.ynl_core.specs.declared.scenes.Scene.{Scene};
@@ -13,14 +16,17 @@ ghost use Rattle.ynl_laws.specs.Least.{sooner};
 use crate::eligible::is_eligible;
 use crate::leaf_use::use_of_leaf;
 use crate::order::is_overtaken;
-use crate::queue_use::runs;
+use crate::queue_use::{free, runs};
 use crate::ranking::standings_on;
 use crate::requests::{Request, master_of, request_of};
 use crate::rows::{App, Ask, LeafRow};
 use crate::scenes::{Desk, Scene};
 use crate::standings::Candidate;
 use crate::tables::{Tables, apps_at, is_same};
-use ynl_resource::{Name, Path};
+use crate::uses::total_of;
+use ynl_model::Node;
+use ynl_queues::Config;
+use ynl_resource::{Label, Name, Path, Resource};
 
 /// What is worked out of a leaf for all its requests.
 fn desk_of(scene: &Scene<'_>, row: &LeafRow) -> Desk
@@ -231,4 +237,87 @@ fn with_all_asks(scene: &Scene<'_>, held: Option<Candidate>) -> Option<Candidate
         first = with_asks(scene, row, first);
     }
     first
+}
+
+/// The first of the eligible requests.
+fn first_eligible(
+    config: &Config,
+    tables: &Tables,
+    node: &Node,
+    free: &Resource,
+) -> Option<Request>
+    requires bounded { IsBounded (state_of tables.now) }
+    requires free { free.now ≡ free_on (state_of tables.now) node.now }
+    ensures { result ≡ first_of (key config.now (state_of tables.now) node.now.label) (eligible config.now (state_of tables.now) node.now) }
+{
+    let total = total_of(&tables.nodes, &node.label);
+    let scene = Scene {
+        config,
+        tables,
+        node: *node,
+        as_guests: false,
+        label: node.label,
+        free: *free,
+        total,
+    };
+    let held = with_all_asks(&scene, first_master(&scene));
+    request_in(held)
+}
+
+/// The first of the asks for DEFAULT that have room, as guests.
+fn first_guest(config: &Config, tables: &Tables, node: &Node, free: &Resource) -> Option<Request>
+    requires bounded { IsBounded (state_of tables.now) }
+    requires free { free.now ≡ free_on (state_of tables.now) node.now }
+    ensures { result ≡ first_of (key config.now (state_of tables.now) Unlabelled) (filter (λ item. has_room (state_of tables.now) node.now item.size) (asks_for (state_of tables.now) Unlabelled)) }
+{
+    let total = total_of(&tables.nodes, &Label::Unlabelled);
+    let scene = Scene {
+        config,
+        tables,
+        node: *node,
+        as_guests: true,
+        label: Label::Unlabelled,
+        free: *free,
+        total,
+    };
+    let held = with_all_asks(&scene, None);
+    request_in(held)
+}
+
+fn request_in(held: Option<Candidate>) -> Option<Request>
+    ensures { result ≡ item_of held }
+{
+    match held {
+        Some(candidate) => Some(candidate.request),
+        None => None,
+    }
+}
+
+/// Whether a partition takes guests: it is not exclusive, and not DEFAULT.
+fn takes_guests(config: &Config, label: &Label) -> bool
+    ensures { result ≡ takes_guests config.now label.now }
+{
+    match label {
+        Label::Unlabelled => false,
+        Label::Named(_) => !config.labels().exclusive(label),
+    }
+}
+
+/// The request that is served next on a node: the first of the eligible ones, or else the first
+/// guest. It does not look at the clock.
+pub fn choose(config: &Config, tables: &Tables, node: &Node) -> Option<Request>
+    requires { IsBounded (state_of tables.now) }
+    ensures { result ≡ choice config.now (state_of tables.now) node.now }
+{
+    let free = free(tables, node);
+    match first_eligible(config, tables, node, &free) {
+        Some(request) => Some(request),
+        None => {
+            if takes_guests(config, &node.label) {
+                first_guest(config, tables, node, &free)
+            } else {
+                None
+            }
+        }
+    }
 }

@@ -6,6 +6,7 @@ mod eligible;
 mod leaf_use;
 mod order;
 mod ranking;
+mod placing;
 mod queue_use;
 mod requests;
 mod rows;

@@ -231,9 +231,11 @@ fn event_at(event: &Value) -> Result<Event, LineFault>
 
 /// The event that a line is, or its first fault; the line is without its newline.
 ///
-/// The line is a JSON object whose `event` is a known word, with exactly the keys of that event;
-/// `memory` is in MB. The faults come in the order of [`LineFault`], over all keys: any `field`
-/// before any `name`, and any `name` before any `range`.
+/// The line is a JSON object with `event` and exactly the keys of that event: `register` has `label`,
+/// `memory` (in MB), `node` and `vcores`; `submit` has `app`, `memory`, `queue`, `user`, `vcores` and
+/// may have `label`; `heartbeat` has `node`. The faults come in the order of [`LineFault`], over all
+/// keys: any `field` before any `name`, and any `name` before any `range`. `size` is none of them,
+/// since one line does not tell it.
 pub fn read_event(alloc: Global, line: &[u8]) -> Result<Result<Event, LineFault>, AllocError>
     ensures event { IfOk result (λ read. read ≡ spec.event_of_line line.now) }
     ensures there { IfOk result (λ read. IfOk read (λ event. IsTrue (is_there event))) }

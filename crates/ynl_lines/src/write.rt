@@ -27,8 +27,8 @@ fn text_of(alloc: Global, value: &Value) -> Result<Vec<u8>, AllocError>
     value.to_vec(alloc)
 }
 
-/// The text of an event of a kind that is there, without the newline of its line. It reads as the
-/// event.
+/// The text of an event, without the newline of its line; it reads as that event. The kinds that are
+/// there so far are written: a registration, a submit and a heartbeat.
 #[tactic(auto, using(crate::proofs::Texts::plain_event, crate::proofs::Texts::flat_event))]
 pub fn write_event(alloc: Global, event: &Event) -> Result<Vec<u8>, AllocError>
     requires { IsTrue (is_there event.now) }
@@ -39,7 +39,7 @@ pub fn write_event(alloc: Global, event: &Event) -> Result<Vec<u8>, AllocError>
     text_of(alloc, &value)
 }
 
-/// The text of a reply, without the newline of its line.
+/// The text of a reply, with memory in MB, without the newline of its line.
 #[tactic(auto, using(crate::proofs::Texts::plain_reply, crate::proofs::Texts::flat_reply))]
 pub fn write_reply(alloc: Global, reply: &Reply) -> Result<Vec<u8>, AllocError>
     ensures text { IfOk result (λ text. text.items ≡ spec.reply_text reply.now) }
