@@ -1,6 +1,9 @@
 -- Rows changed in place, one after another.
 use Rattle.std.proofs.Common.{◌≡◌, ℕ, zero, suc, ◌+◌, ◌<◌, ◌≤◌, List, [], ◌∷◌, ◌++◌, length, get_or, take, drop, map, refl, sym, ap, subst, ◌∙◌, arith, add-one, append-nil, Bool, true, false, cond}
 use Rattle.ynl_resource.specs.Tables.{update}
+use Rattle.ynl_resource.specs.declared.labels.Label.{Label}
+use Rattle.ynl_core.specs.declared.rows.PartitionRow.{PartitionRow}
+use Rattle.ynl_core.specs.Tables.{HasRoom}
 use Rattle.std.specs.List.{AllByRecursion}
 use Rattle.std.proofs.Math.ListN.{set, drop_of_length-le}
 use Rattle.std.proofs.lemmas.List.{take_more, take_more_set, take_all, map_push, length-set}
@@ -106,3 +109,8 @@ update_same {X = X} test change same (x ∷ xs) = (λ i. go (test x) i ∷ updat
     go : (b : Bool) → cond b (change x) x ≡ x
     go true = same x
     go false = refl
+
+-- room for more is room for less
+pub less_room : (label : Label) (n m : ℕ) → n ≤ m → (rows : List PartitionRow) → HasRoom label m rows → HasRoom label n rows
+less_room label n m h [] k = tt
+less_room label n m h (row ∷ rows) k = ((λ same. let room = k.0 same in omega arith), less_room label n m h rows k.1)

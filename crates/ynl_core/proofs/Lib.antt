@@ -7,3 +7,6 @@ pub mod Ranked
 pub mod Considering
 pub mod Choices
 pub mod InPlace
+pub mod Serves
+pub mod Stepping
+pub mod RunMore

@@ -6,3 +6,7 @@ pub mod Placing
 pub mod Sharing
 pub mod Tables
 pub mod Uses
+pub mod CoreFields
+pub mod World
+pub mod Submitting
+pub mod Runs

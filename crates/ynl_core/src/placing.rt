@@ -52,7 +52,7 @@ pub fn stamp(nodes: &mut Vec<Node>, name: &Name, label: &Label, stamp: u64)
 }
 
 /// A container comes last.
-fn push_copy(containers: &mut Vec<Placed>, container: &Placed)
+pub fn push_copy(containers: &mut Vec<Placed>, container: &Placed)
     requires { vec_len containers.old + 1 ≤ vec_capacity containers.old }
     ensures items { containers.new.items ≡ containers.old.items ++ container.now ∷ [] }
     ensures len { vec_len containers.new ≡ vec_len containers.old + 1 }
@@ -232,4 +232,21 @@ pub fn place(config: &Config, tables: &mut Tables, node: &Node, request: &Reques
     put_container(&mut tables.partitions, &node.label, clock, &container);
     take_request(&mut tables.leaves, request);
     container
+}
+
+fn set_on(row: &mut PartitionRow, label: &Label, clock: u64)
+    ensures { partition_of row.new ≡ (if same_label row.old.label label.now then record (partition_of row.old) { clock = clock } else partition_of row.old) }
+{
+    if is_same(&row.label, label) {
+        row.clock = clock;
+    }
+}
+
+/// A partition's clock is set.
+pub fn set_clock(rows: &mut Vec<PartitionRow>, label: &Label, clock: u64)
+    ensures { partitions_of rows.new.items ≡ in_partition label.now (λ row. record row { clock = clock }) (partitions_of rows.old.items) }
+{
+    for row in rows.iter_mut() {
+        set_on(row, label, clock);
+    }
 }

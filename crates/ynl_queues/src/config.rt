@@ -93,9 +93,8 @@ impl Config {
     fn has_below(&self, queue: &[Name]) -> bool
         ensures { result ≡ list_any (λ row. is_within queue.now row.path && not (same_path queue.now row.path)) self.now.queues }
     {
-        self.queues
-            .iter()
-            .any(|row| is_within(queue, row.path.names()) && queue != row.path.names())
+        self.queues.iter().any(|row| is_within(queue, row.path.names())
+            && queue != row.path.names())
     }
 
     /// Whether the queue is a leaf: no other queue is below it.

@@ -2,16 +2,18 @@
 //! grow to. A queue is given by its names below root.
 #![tactic(auto)]
 
+pub use amounts::share_of;
 pub use config::Config;
+pub use defaults::built_in;
 pub use maxima::{Maxima, MaximumRow};
 pub use rows::{Access, QueueRow, Share};
 pub use stops::{StopRow, Stops};
-pub use amounts::share_of;
 pub use ways::{is_within, step_at};
 
 mod access;
 mod amounts;
 mod config;
+mod defaults;
 mod maxima;
 mod rows;
 mod stops;

@@ -65,11 +65,7 @@ fn push_maximum(
 }
 
 /// A row for each partition: the configured maxima of a queue.
-fn push_maxima(
-    rows: &mut Vec<MaximumRow>,
-    config: &Config,
-    queue: &Path,
-) -> Result<(), AllocError>
+fn push_maxima(rows: &mut Vec<MaximumRow>, config: &Config, queue: &Path) -> Result<(), AllocError>
     ensures { IfOk result (λ _. rows.new.items ≡ rows.old.items ++ map (opening_maximum config.now queue.now) (partition_labels config.now.labels)) }
 {
     push_maximum(rows, config, queue, &Label::Unlabelled)?;

@@ -61,17 +61,17 @@ impl Model for QueueRow {
     ghost use Rattle.ynl_queues.specs.Rows.{access_of};
 
     ghost view = { λ r. record {
-        path = r.path;
-        stopped = r.stopped;
-        capacity = r.capacity;
-        maximum = r.maximum;
-        access = access_of r.access;
-        default_label = r.default_label;
-        user_percent = r.user_percent;
-        user_factor = r.user_factor;
-        master_percent = r.master_percent;
-        most_applications = r.most_applications;
-        shares = r.shares.items;
+      path = r.path;
+      stopped = r.stopped;
+      capacity = r.capacity;
+      maximum = r.maximum;
+      access = access_of r.access;
+      default_label = r.default_label;
+      user_percent = r.user_percent;
+      user_factor = r.user_factor;
+      master_percent = r.master_percent;
+      most_applications = r.most_applications;
+      shares = r.shares.items;
     } };
 
     ghost use Rattle.std.specs.Prelude.{◌<◌, length};

@@ -1,10 +1,11 @@
 -- What the end of a run does to the reader and the writer.
-use Rattle.std.proofs.Common.{◌≡◌, ℕ, ◌+◌, List, [], ◌++◌, length, take, Option, Some, None, OnSome, IfNone, Result, Ok, Err, sym, ap, subst, ◌∙◌, arith, append-nil, length-append}
+use Rattle.std.proofs.Common.{◌≡◌, ℕ, ◌+◌, List, [], ◌++◌, length, take, Option, Some, None, OnSome, IfNone, Result, Ok, Err, sym, ap, subst, ◌∙◌, arith, append-nil, length-append, ◌≢◌, ◌-◌, ◌∷◌, inl, inr, append_assoc, refl}
 use Rattle.std.proofs.Math.Seq.{take-append-add}
-use Rattle.std.proofs.lemmas.List.{take-append-le}
+use Rattle.std.proofs.lemmas.List.{take-append-le, take_at}
+use Rattle.std.proofs.lemmas.List.Elements.{All-nil, All-take}
 use Rattle.std.specs.Io.KnownBytes.{Consumes, Appends, IsAtEnd}
 use Rattle.std.proofs.KnownBytes.{Appends-nil, Appends-trans, Consumes-nil, Consumes-trans}
-use Rattle.ynl_tool.specs.Lines.{AppendsFront}
+use Rattle.ynl_tool.specs.Lines.{AppendsFront, IsPlain, EndsLine, IsOneLine}
 use Rattle.ynl_tool.specs.declared.lines_in.ReadFault.{ReadFault}
 use Rattle.ynl_tool.specs.declared.lines_in.ReadFault.TheVariants as reading
 use Rattle.ynl_model.specs.Queues.{Config}
@@ -33,7 +34,7 @@ after_nothing a b c o (Err Write) nothing w = front_after a b c [] o.text nothin
 after_nothing a b c o (Err NoMemory) nothing w = Appends-trans a b c [] [] nothing w
 
 module _ (r0 r1 r2 w0 w1 w2 : Option (List ℕ)) (c : Config) (start s : State) (lines budget : ℕ) (bytes text more : List ℕ) (far : SoFar c start s lines budget bytes text) (read : Consumes r0 r1 bytes)
-    (written : Appends w0 w1 text) (last : Consumes r1 r2 more) where
+    (written : Appends w0 w1 text) (last : Consumes r1 r2 more) (whole : EndsLine bytes) (one_line : IsOneLine more) where
   before : Appends w0 w2 text → Appends w0 w2 (run_of c start bytes).text
   before h = subst (Appends w0 w2) (sym (ap (λ (o : Outcome). o.text) (here c start s lines budget bytes text far))) h
 
@@ -46,6 +47,8 @@ module _ (r0 r1 r2 w0 w1 w2 : Option (List ℕ)) (c : Config) (start s : State) 
   stopped o e is left = record {
     bytes = bytes;
     last = more;
+    whole = whole;
+    one_line = one_line;
     read = Consumes-trans r0 r1 r2 bytes more read last;
     good = ap (λ (o : Outcome). o.fault) (here c start s lines budget bytes text far);
     written = left_more o e is left;
@@ -53,8 +56,12 @@ module _ (r0 r1 r2 w0 w1 w2 : Option (List ℕ)) (c : Config) (start s : State) 
 
   pub closed : (o : Outcome) (r : Result Summary ToolFault) → run_of c start (bytes ++ more) ≡ said text o → IfNone o.fault (OnSome r0 (IsAtEnd r2)) → Writes w1 w2 o r → Runs r0 r2 w0 w2 c start r
   closed o (Ok summary) is ended w = record {
-    bytes = bytes ++ more;
+    bytes = bytes;
+    last = more;
+    whole = whole;
+    one_line = one_line;
     read = Consumes-trans r0 r1 r2 bytes more read last;
+    good = ap (λ (o : Outcome). o.fault) (here c start s lines budget bytes text far);
     written = subst (Appends w0 w2) (sym (ap (λ (p : Outcome). p.text) is)) (Appends-trans w0 w1 w2 text o.text written w.2);
     lines = w.0 ∙ sym (ap (λ (p : Outcome). p.lines) is);
     fault = w.1 ∙ sym (ap (λ (p : Outcome). p.fault) is);
@@ -90,6 +97,8 @@ stops_at_once a w c s =
     record {
       bytes = [];
       last = [];
+      whole = inl refl;
+      one_line = All-nil (λ x. x ≢ 10);
       read = Consumes-nil a;
       good = ap (λ (o : Outcome). o.fault) nothing;
       written = subst (Appends w w) (sym (ap (λ (o : Outcome). o.text) nothing)) (Appends-nil w);
@@ -98,3 +107,16 @@ stops_at_once a w c s =
 -- a configuration
 pub no_queues : Config
 no_queues = record { labels = record { rows = []; default_limit = 1 }; queues = []; per_heartbeat = 1; maximum_allocation = record { memory = 1; vcores = 1 } }
+
+-- ---- whole lines, and one line at most
+
+pub line_ends : (bytes line : List ℕ) → EndsLine (bytes ++ (line ++ 10 ∷ []))
+line_ends bytes line = inr (bytes ++ line, sym (append_assoc bytes line (10 ∷ [])))
+
+pub one_part : (line : List ℕ) → IsPlain line → IsOneLine line
+one_part line plain = All-take (λ x. x ≢ 10) (length line - 1) line plain
+
+pub one_whole : (line : List ℕ) (byte : ℕ) → IsPlain line → IsOneLine (line ++ byte ∷ [])
+one_whole line byte plain =
+    let n : length line ≡ length (line ++ byte ∷ []) - 1 = omega (arith, length-append line (byte ∷ [])) in
+    subst IsPlain (sym (take_at line (byte ∷ []) (length (line ++ byte ∷ []) - 1) n)) plain

@@ -1,3 +1,4 @@
 pub mod Closings
+pub mod Commands
 pub mod Pieces
 pub mod Runs

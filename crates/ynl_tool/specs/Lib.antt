@@ -2,3 +2,4 @@ pub mod Jobs
 pub mod Lines
 pub mod Run
 pub mod Running
+pub mod Words

@@ -1,5 +1,5 @@
 -- What reading a line and writing a text do to the bytes of a reader and a writer.
-use Rattle.std.specs.Prelude.{◌≡◌, ◌≢◌, ℕ, ◌<◌, ◌≤◌, List, [], ◌∷◌, ◌++◌, length, take, All, Option, Some, None, OnSome, Result, Ok, Err}
+use Rattle.std.specs.Prelude.{◌≡◌, ◌≢◌, ◌⊎◌, ℕ, ◌-◌, ◌<◌, ◌≤◌, List, [], ◌∷◌, ◌++◌, length, take, All, Option, Some, None, OnSome, Result, Ok, Err}
 use Rattle.std.specs.Io.KnownBytes.{Consumes, IsAtEnd, Appends}
 use Rattle.ynl_tool.specs.declared.lines_in.LineEnd.{LineEnd}
 use Rattle.ynl_tool.specs.declared.lines_in.LineEnd.TheVariants.{Newline, Input, Budget}
@@ -8,6 +8,14 @@ use Rattle.ynl_tool.specs.declared.lines_in.ReadFault.{ReadFault}
 -- no newline among the bytes
 abbrev pub IsPlain : List ℕ → Type 0
 IsPlain bytes = All (λ x. x ≢ 10) bytes
+
+-- nothing, or bytes that end with a newline
+abbrev pub EndsLine : List ℕ → Type 0
+EndsLine bytes = (bytes ≡ []) ⊎ ((front : List ℕ) × (bytes ≡ front ++ 10 ∷ []))
+
+-- one line at most: no newline but at the end
+abbrev pub IsOneLine : List ℕ → Type 0
+IsOneLine bytes = IsPlain (take (length bytes - 1) bytes)
 
 -- The reader gave these bytes of the line, which has n bytes now, and what ended the line.
 abbrev pub Ends : Option (List ℕ) → Option (List ℕ) → List ℕ → ℕ → ℕ → Option LineEnd → Type 0

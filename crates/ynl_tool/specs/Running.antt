@@ -3,7 +3,7 @@ use Rattle.std.specs.Prelude.{◌≡◌, ℕ, List, [], ◌++◌, Option, Some, 
 use Rattle.std.specs.Io.KnownBytes.{Consumes, Appends, IsAtEnd}
 use Rattle.ynl_tool.specs.declared.lines_in.ReadFault.{ReadFault}
 use Rattle.ynl_tool.specs.declared.lines_in.ReadFault.TheVariants as reading
-use Rattle.ynl_tool.specs.Lines.{AppendsFront}
+use Rattle.ynl_tool.specs.Lines.{AppendsFront, EndsLine, IsOneLine}
 use Rattle.ynl_model.specs.Queues.{Config}
 use Rattle.ynl_model.specs.Cluster.{State}
 use Rattle.ynl_core.specs.World.{World}
@@ -46,20 +46,27 @@ LeavesMore old new before text Write = AppendsFront old new text
 LeavesMore old new before text Read = Appends old new before
 LeavesMore old new before text NoMemory = Appends old new before
 
--- The run read these bytes, to the end or to the first fault, and wrote their text and nothing else.
+-- The run read whole lines, and then one line at most, with its newline or a part of it, and none after it. No line before that one
+-- has a fault, and where that one has none the input is at its end. It wrote the text of what it read, and nothing else.
 pub record RunsTo (old new wold wnew : Option (List ℕ)) (c : Config) (s : State) (summary : Summary) : Type 0 where
   pub bytes : List ℕ
-  pub read : Consumes old new bytes
-  pub written : Appends wold wnew (run_of c s bytes).text
-  pub lines : summary.lines ≡ (run_of c s bytes).lines
-  pub fault : summary.fault ≡ (run_of c s bytes).fault
+  pub last : List ℕ
+  pub whole : EndsLine bytes
+  pub one_line : IsOneLine last
+  pub read : Consumes old new (bytes ++ last)
+  pub good : (run_of c s bytes).fault ≡ None
+  pub written : Appends wold wnew (run_of c s (bytes ++ last)).text
+  pub lines : summary.lines ≡ (run_of c s (bytes ++ last)).lines
+  pub fault : summary.fault ≡ (run_of c s (bytes ++ last)).fault
   pub ended : IfNone summary.fault (OnSome old (IsAtEnd new))
 
--- The run read these bytes, and then one line at most, with its newline or a part of it. It wrote the text of the bytes, and of
--- that line a front if a write failed, and else nothing.
+-- The run read whole lines, and then one line at most, with its newline or a part of it. No line before that one has a fault. It
+-- wrote the text of the lines before, and of that line a front if a write failed, and else nothing.
 pub record Stops (old new wold wnew : Option (List ℕ)) (c : Config) (s : State) (e : ToolFault) : Type 0 where
   pub bytes : List ℕ
   pub last : List ℕ
+  pub whole : EndsLine bytes
+  pub one_line : IsOneLine last
   pub read : Consumes old new (bytes ++ last)
   pub good : (run_of c s bytes).fault ≡ None
   pub written : LeavesMore wold wnew (run_of c s bytes).text (run_of c s (bytes ++ last)).text e

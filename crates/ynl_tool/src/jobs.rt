@@ -1,6 +1,7 @@
 //! Doing a job.
 
 ghost use Rattle.std.specs.Prelude.{◌≡◌};
+ghost use Rattle.ynl_tool.specs.Lines.{AppendsFront};
 ghost use Rattle.ynl_tool.specs.Jobs.{error_line, status_of, Executes, RunsSome};
 
 use crate::lines_out::write_text;
@@ -18,6 +19,13 @@ fn error_line(fault: ToolFault) -> &'static str
         ToolFault::Write => "ynl: write fault\n",
         ToolFault::NoMemory => "ynl: out of memory\n",
     }
+}
+
+/// Writes the line that tells a fault. Where that fails too, the exit status alone tells it.
+fn tell_fault<E: Write>(errors: &mut E, fault: ToolFault)
+    ensures { AppendsFront (E.contents errors.old) (E.contents errors.new) (error_line fault) }
+{
+    let _told = write_text(errors, error_line(fault).as_bytes());
 }
 
 /// Runs a cluster of the built-in configuration.
@@ -51,8 +59,7 @@ pub fn execute<R: BufRead, W: Write, E: Write>(
     match ended {
         Ok(summary) => status_of(summary),
         Err(fault) => {
-            // Where the error stream fails too, the status alone tells it.
-            let _told = write_text(errors, error_line(fault).as_bytes());
+            tell_fault(errors, fault);
             3
         }
     }

@@ -1,5 +1,12 @@
 //! The words of the command line.
 
+ghost use Rattle.std.specs.Prelude.{◌≡◌, ◌∷◌, [], IfOk, IfErr, IsErr, drop, map, codes, false};
+ghost use Rattle.std.specs.String.{string_bytes};
+ghost use Rattle.clap.specs.Simple.{app_of};
+ghost use Rattle.clap.specs.declared.builder.command.Command.TheViews.{out-Command as fields_of};
+ghost use Rattle.ynl_tool.specs.Words as spec;
+ghost use Rattle.ynl_tool.specs.declared.words.WordsFault.TheVariants.{NoMemory};
+
 use clap::error::ErrorKind;
 use clap::{Command, Error};
 use std::alloc::{AllocError, Global};
@@ -27,12 +34,24 @@ pub enum WordsFault {
 }
 
 impl From<AllocError> for WordsFault {
+    ghost use Rattle.std.specs.Prelude.{◌≡◌};
+    ghost use Rattle.ynl_tool.specs.declared.words.WordsFault.TheVariants.{NoMemory};
+
+    ghost from_gives = { λ _ e. e ≡ NoMemory };
+
     fn from(_error: AllocError) -> WordsFault {
         WordsFault::NoMemory
     }
 }
 
 impl From<Error> for WordsFault {
+    ghost use Rattle.std.specs.Prelude.{◌≡◌};
+    ghost use Rattle.clap.specs.Values.{kind_of};
+    ghost use Rattle.clap.specs.declared.error.kind.ErrorKind.TheVariants.{OutOfMemory};
+    ghost use Rattle.ynl_tool.specs.declared.words.WordsFault.TheVariants.{NoMemory};
+
+    ghost from_gives = { λ error e. kind_of error ≡ OutOfMemory → e ≡ NoMemory };
+
     fn from(error: Error) -> WordsFault {
         if error.kind() == ErrorKind::OutOfMemory {
             return WordsFault::NoMemory;
@@ -82,13 +101,18 @@ Exit status:
 Example:
   printf '{\"event\":\"heartbeat\",\"node\":\"g1\"}\\n' | ynl run";
 
-fn run<'a>(alloc: Global) -> Command<'a> {
+fn run<'a>(alloc: Global) -> Command<'a>
+    ensures app { app_of result ≡ spec.run_command }
+    ensures local { (fields_of result).has_globals ≡ false }
+{
     Command::new(alloc, "run")
         .about(RUN_ABOUT)
         .after_help(RUN_AFTER)
 }
 
-fn command<'a>(alloc: Global) -> Result<Command<'a>, AllocError> {
+fn command<'a>(alloc: Global) -> Result<Command<'a>, AllocError>
+    ensures { IfOk result (λ c. app_of c ≡ spec.command) }
+{
     Command::new(alloc, "ynl")
         .bin_name("ynl")?
         .about(ABOUT)
@@ -98,7 +122,10 @@ fn command<'a>(alloc: Global) -> Result<Command<'a>, AllocError> {
 }
 
 /// The job that the words ask for. The first word is the program's name.
-pub fn parse_words(alloc: Global, words: &[String]) -> Result<Job, WordsFault> {
+pub fn parse_words(alloc: Global, words: &[String]) -> Result<Job, WordsFault>
+    ensures run { drop 1 (map string_bytes words.now) ≡ codes "run" ∷ [] → IfErr result (λ e. e ≡ NoMemory) }
+    ensures missing { drop 1 (map string_bytes words.now) ≡ [] → IsErr result }
+{
     // There is one subcommand, and it is required.
     let _matches = command(alloc)?.try_get_matches_from(words)?;
     Ok(Job { kind: Kind::Run })

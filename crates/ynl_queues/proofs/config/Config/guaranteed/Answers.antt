@@ -1,8 +1,7 @@
-use Rattle.std.proofs.Common.{◌≡◌, ◌+◌, ℕ, List, take, fold, true, ap, sym, ◌∙◌}
-use Rattle.ynl_resource.specs.Amounts.{scale_floor, whole, fits_in}
+use Rattle.std.proofs.Common.{◌+◌, ℕ, List, take, fold, ap, sym, ◌∙◌}
+use Rattle.ynl_resource.specs.Amounts.{scale_floor, whole}
 use Rattle.ynl_resource.specs.declared.amounts.Resource.{Resource}
 use Rattle.ynl_resource.specs.declared.paths.Path.{Path}
-use Rattle.ynl_resource.specs.Names.{way_to}
 use Rattle.ynl_model.specs.Queues.{capacity_on, guaranteed}
 use Rattle.ynl_queues.proofs.Prefixes.{way_fold, way_end}
 use Rattle.ynl_queues.proofs.Shares.{fits_chain}

@@ -1,4 +1,4 @@
-use Rattle.std.proofs.Common.{◌≡◌, List, [], take, fold, ◌+◌, ap, sym, ◌∙◌}
+use Rattle.std.proofs.Common.{List, [], take, fold, ap, sym, ◌∙◌}
 use Rattle.std.specs.List.{list_any}
 use Rattle.ynl_model.specs.Queues.{given, accessible, AllLabels, Inherited, setting}
 use Rattle.ynl_resource.specs.declared.names.Name.{Name}

@@ -1,0 +1,66 @@
+-- One more event of a run.
+use Rattle.std.proofs.Common.{◌≡◌, ℕ, suc, ◌+◌, ◌<◌, List, [], ◌∷◌, ◌++◌, length, take, get_or, refl, sym, ap, subst, ◌∙◌, arith, length-append}
+use Rattle.ynl_model.specs.declared.events.Event.{Event}
+use Rattle.ynl_model.specs.declared.replies.Reply.{Reply}
+use Rattle.ynl_core.specs.declared.runs.Answer.{Answer}
+use Rattle.ynl_core.specs.declared.runs.Answer.TheVariants.{Replied, NoMemory}
+use Rattle.ynl_model.specs.Queues.{Config}
+use Rattle.ynl_model.specs.Cluster.{State, opening}
+use Rattle.ynl_model.specs.Events.{step, replies, after, replies_to, state_after}
+use Rattle.ynl_core.specs.World.{World, Answers}
+use Rattle.ynl_core.specs.Runs.{Answered, kept, replied, IsRun}
+
+kept_replied : (es : List Event) (rest : List Answer) (e : Event) (r : Reply) → length rest ≡ length es → kept (es ++ e ∷ []) (rest ++ Replied r ∷ []) ≡ kept es rest ++ e ∷ []
+kept_replied [] [] e r n = refl
+kept_replied [] (a ∷ rest) e r n = absurd (omega arith)
+kept_replied (x ∷ es) [] e r n = absurd (omega arith)
+kept_replied (x ∷ es) (Replied q ∷ rest) e r n = ap (λ zs. x ∷ zs) (kept_replied es rest e r (omega arith))
+kept_replied (x ∷ es) (NoMemory ∷ rest) e r n = kept_replied es rest e r (omega arith)
+
+kept_refused : (es : List Event) (rest : List Answer) (e : Event) → length rest ≡ length es → kept (es ++ e ∷ []) (rest ++ NoMemory ∷ []) ≡ kept es rest
+kept_refused [] [] e n = refl
+kept_refused [] (a ∷ rest) e n = absurd (omega arith)
+kept_refused (x ∷ es) [] e n = absurd (omega arith)
+kept_refused (x ∷ es) (Replied q ∷ rest) e n = ap (λ zs. x ∷ zs) (kept_refused es rest e (omega arith))
+kept_refused (x ∷ es) (NoMemory ∷ rest) e n = kept_refused es rest e (omega arith)
+
+replied_push : (rest : List Answer) (r : Reply) → replied (rest ++ Replied r ∷ []) ≡ replied rest ++ r ∷ []
+replied_push [] r = refl
+replied_push (Replied q ∷ rest) r = ap (λ zs. q ∷ zs) (replied_push rest r)
+replied_push (NoMemory ∷ rest) r = replied_push rest r
+
+replied_same : (rest : List Answer) → replied (rest ++ NoMemory ∷ []) ≡ replied rest
+replied_same [] = refl
+replied_same (Replied q ∷ rest) = ap (λ zs. q ∷ zs) (replied_same rest)
+replied_same (NoMemory ∷ rest) = replied_same rest
+
+replies_push : (c : Config) (s : State) (es : List Event) (e : Event) → replies c s (es ++ e ∷ []) ≡ replies c s es ++ (step c (after c s es) e).reply ∷ []
+replies_push c s [] e = refl
+replies_push c s (x ∷ es) e = ap (λ zs. (step c s x).reply ∷ zs) (replies_push c (step c s x).state es e)
+
+state_push : (c : Config) (s : State) (es : List Event) (e : Event) → after c s (es ++ e ∷ []) ≡ (step c (after c s es) e).state
+state_push c s [] e = refl
+state_push c s (x ∷ es) e = state_push c (step c s x).state es e
+
+abbrev world : Config → State → World
+world c s = record { config = c; state = s }
+
+-- the answer to one more event makes a run of one more
+pub run_more : (c : Config) (es : List Event) (rest : List Answer) (old new : World) (e : Event) (a : Answer) → IsRun c es rest old → Answered old e new a → IsRun c (es ++ e ∷ []) (rest ++ a ∷ []) new
+run_more c es rest old new e (Replied r) i h =
+    let so_far : State = state_after c (kept es rest) in
+    let k : kept (es ++ e ∷ []) (rest ++ Replied r ∷ []) ≡ kept es rest ++ e ∷ [] = kept_replied es rest e r i.each in
+    let told : r ≡ (step c so_far e).reply = h.told ∙ ap (λ (w : World). (step w.config w.state e).reply) i.left in
+    let left : new ≡ world c (step c so_far e).state = h.left ∙ ap (λ (w : World). world w.config (step w.config w.state e).state) i.left in
+    record {
+      each = omega (arith, i.each, length-append rest (Replied r ∷ []), length-append es (e ∷ []));
+      told = replied_push rest r ∙ ap (λ zs. zs ++ r ∷ []) i.told ∙ ap (λ q. replies_to c (kept es rest) ++ q ∷ []) told ∙ sym (replies_push c (opening c) (kept es rest) e) ∙ ap (replies_to c) (sym k);
+      left = left ∙ ap (world c) (sym (state_push c (opening c) (kept es rest) e) ∙ ap (state_after c) (sym k));
+    }
+run_more c es rest old new e NoMemory i h =
+    let k : kept (es ++ e ∷ []) (rest ++ NoMemory ∷ []) ≡ kept es rest = kept_refused es rest e i.each in
+    record {
+      each = omega (arith, i.each, length-append rest (NoMemory ∷ []), length-append es (e ∷ []));
+      told = replied_same rest ∙ i.told ∙ ap (replies_to c) (sym k);
+      left = h ∙ i.left ∙ ap (λ zs. world c (state_after c zs)) (sym k);
+    }

@@ -1,0 +1,7 @@
+use Rattle.std.proofs.Common.{sym, subst}
+use Rattle.ynl_laws.specs.Working.{IsWorking}
+use Rattle.ynl_laws.proofs.Working.{working-opening}
+use Rattle.ynl_core.proofs.cluster.Core.open.Goals as goal
+
+pub invariant_of-result : goal.invariant_of-result
+invariant_of-result c = subst (IsWorking c.args.config) (sym c.in_ok-tables.ensures) (working-opening c.args.config)

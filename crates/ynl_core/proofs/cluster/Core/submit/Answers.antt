@@ -1,0 +1,50 @@
+use Rattle.std.proofs.Common.{◌≡◌, None, sym, ap, subst, ◌∙◌}
+use Rattle.ynl_resource.specs.Refusals.{first_that_holds}
+use Rattle.ynl_model.specs.declared.events.Event.{Event}
+use Rattle.ynl_model.specs.declared.events.Event.TheVariants.{Submit}
+use Rattle.ynl_model.specs.declared.replies.Reply.TheVariants.{Refused, Done}
+use Rattle.ynl_model.specs.Applications.{in_leaf, submitted, new_app}
+use Rattle.ynl_model.specs.Cluster.{State}
+use Rattle.ynl_model.specs.Events.{Outcome, done, step, reasons, accepted}
+use Rattle.ynl_laws.specs.Working.{IsWorking}
+use Rattle.ynl_laws.proofs.Working.{working-step}
+use Rattle.ynl_core.specs.Tables.{state_of, leaves_of, partitions_of}
+use Rattle.ynl_core.specs.World.{World, Answers}
+use Rattle.ynl_core.specs.CoreFields.{world_of}
+use Rattle.ynl_core.proofs.Stepping.{taken_in, answers_refused}
+use Rattle.ynl_core.proofs.cluster.Core.submit.Goals as goal
+
+pub returns-in-Some-clause-ok : goal.returns-in-Some-clause-ok
+returns-in-Some-clause-ok c =
+    let event : Event = Submit c.args.queue c.args.app c.args.user c.args.label c.args.master in
+    let P : World → Type 0 = λ w. Answers w event w (Refused c.in-Some.refusal) in
+    subst P c.self.view_is (answers_refused (world_of c.self.inside) event c.in-Some.refusal (sym c.in-Some.is ∙ c.refusal_of.ensures c.args.user c.args.label c.home_of-home.ensures))
+
+-- the step is the submission
+stepped : (c : goal.After-submit) → (step c.self.inside.config (state_of c.self.inside.tables) (Submit c.args.queue c.args.app c.args.user c.args.label c.args.master))
+    ≡ done (record { nodes = c.self.inside.tables.nodes.items; partitions = partitions_of c.self.inside.tables.partitions.items; leaves = leaves_of c.submit.new.rows.items; stops = c.self.inside.tables.stops; maxima = c.self.inside.tables.maxima })
+unfolding accepted
+stepped c =
+    let config = c.self.inside.config in
+    let tables = c.self.inside.tables in
+    let event : Event = Submit c.args.queue c.args.app c.args.user c.args.label c.args.master in
+    let none : first_that_holds (reasons config (state_of tables) event) ≡ None = sym (c.refusal_of.ensures c.args.user c.args.label c.home_of-home.ensures) ∙ c.in_default.is in
+    let leaves = c.submit.ensures ∙ (λ i. in_leaf c.args.queue (submitted (new_app c.args.queue c.args.app c.args.user (c.home_of-home.ensures i) c.args.master)) (c.reserve_place.ensures.meaning i)) in
+    taken_in config (state_of tables) event none
+    ∙ (λ i. done (record { nodes = tables.nodes.items; partitions = partitions_of tables.partitions.items; leaves = sym leaves i; stops = tables.stops; maxima = tables.maxima }))
+
+pub invariant_of-self-2 : goal.invariant_of-self-2
+invariant_of-self-2 c =
+    let config = c.self.inside.config in
+    let event : Event = Submit c.args.queue c.args.app c.args.user c.args.label c.args.master in
+    subst (IsWorking config) (ap (λ (o : Outcome). o.state) (stepped c)) (working-step config (state_of c.self.inside.tables) event c.amount-sized.ensures.range c.self.invariant)
+
+pub returns-clause-ok : goal.returns-clause-ok
+returns-clause-ok c =
+    let event : Event = Submit c.args.queue c.args.app c.args.user c.args.label c.args.master in
+    let new : World = record { config = c.self.inside.config; state = (done (record { nodes = c.self.inside.tables.nodes.items; partitions = partitions_of c.self.inside.tables.partitions.items; leaves = leaves_of c.submit.new.rows.items; stops = c.self.inside.tables.stops; maxima = c.self.inside.tables.maxima })).state } in
+    let P : World → Type 0 = λ w. Answers w event new Done in
+    subst P c.self.view_is (record {
+      told = sym (ap (λ (o : Outcome). o.reply) (stepped c));
+      left = λ i. record { config = c.self.inside.config; state = sym (ap (λ (o : Outcome). o.state) (stepped c)) i };
+    })

@@ -1,0 +1,21 @@
+use Rattle.std.proofs.Common.{◌≡◌, ◌+◌, List, [], ◌∷◌, ◌++◌, take, arith, sym, subst, ap, ◌∙◌}
+use Rattle.std.proofs.lemmas.List.{take_more}
+use Rattle.ynl_model.specs.declared.events.Event.{Event}
+use Rattle.ynl_core.specs.declared.runs.Answer.{Answer}
+use Rattle.ynl_core.specs.Runs.{IsRun}
+use Rattle.ynl_core.proofs.RunMore.{run_more}
+use Rattle.ynl_core.proofs.running.run.Goals as goal
+
+pub loop-event-preserved : goal.loop-event-preserved
+loop-event-preserved c =
+    let events : List Event = take c.loop-event.event-index c.args.events.now in
+    let more : take (c.loop-event.event-index + 1) c.args.events.now ≡ events ++ c.event-item.result ∷ [] =
+    take_more c.args.events.now c.loop-event.event-index c.event-item.result c.loop-event-test.true ∙ ap (λ e. events ++ e ∷ []) (sym c.event-item.is) in
+    let made : IsRun c.args.config (events ++ c.event-item.result ∷ []) (c.loop-event.answers.items ++ c.answer_one.result ∷ []) c.answer_one.new.core =
+    run_more c.args.config events c.loop-event.answers.items c.loop-event.core c.answer_one.new.core c.event-item.result c.answer_one.result c.loop-event.invariant.so_far c.answer_one.ensures in
+    record {
+      so_far =
+          subst (λ es. IsRun c.args.config es c.push_reserved.new.self.items c.answer_one.new.core) (sym more)
+          (subst (λ rest. IsRun c.args.config (events ++ c.event-item.result ∷ []) rest c.answer_one.new.core) (sym c.push_reserved.ensures.items) made);
+      room = omega arith;
+    }

@@ -1,0 +1,33 @@
+-- A run: each event is one step, or memory was refused and nothing changed.
+use Rattle.std.specs.Prelude.{◌≡◌, List, [], ◌∷◌, length}
+use Rattle.ynl_model.specs.declared.events.Event.{Event}
+use Rattle.ynl_model.specs.declared.replies.Reply.{Reply}
+use Rattle.ynl_core.specs.declared.runs.Answer.{Answer}
+use Rattle.ynl_core.specs.declared.runs.Answer.TheVariants.{Replied, NoMemory}
+use Rattle.ynl_model.specs.Queues.{Config}
+use Rattle.ynl_model.specs.Events.{replies_to, state_after}
+use Rattle.ynl_core.specs.World.{World, Answers}
+
+-- an event was answered as the model does, or for want of memory nothing changed
+abbrev pub Answered : World → Event → World → Answer → Type 0
+Answered old e new (Replied r) = Answers old e new r
+Answered old e new NoMemory = new ≡ old
+
+-- the events that were answered by a reply
+abbrev pub kept : List Event → List Answer → List Event
+kept [] rest = []
+kept (e ∷ es) [] = []
+kept (e ∷ es) (Replied r ∷ rest) = e ∷ kept es rest
+kept (e ∷ es) (NoMemory ∷ rest) = kept es rest
+
+-- their replies
+abbrev pub replied : List Answer → List Reply
+replied [] = []
+replied (Replied r ∷ rest) = r ∷ replied rest
+replied (NoMemory ∷ rest) = replied rest
+
+-- one answer for each event; the replies and the state are those of the model over the events that memory was not refused for
+pub record IsRun (c : Config) (events : List Event) (answers : List Answer) (core : World) : Type 0 where
+  pub each : length answers ≡ length events
+  pub told : replied answers ≡ replies_to c (kept events answers)
+  pub left : core ≡ record { config = c; state = state_after c (kept events answers) }

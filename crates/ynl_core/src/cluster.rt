@@ -1,0 +1,156 @@
+//! The cluster that takes one event after another.
+
+ghost use Rattle.std.specs.Prelude.{◌≡◌, IfOk, OnErr, IsTrue};
+ghost use Rattle.ynl_model.specs.declared.events.Event.TheVariants.{Register, Submit, Heartbeat};
+ghost use Rattle.ynl_model.specs.Kinds.{is_there};
+ghost use Rattle.ynl_model.specs.Cluster.{containers_on};
+ghost use Rattle.ynl_core.specs.World.{opened, Answers};
+
+use crate::memory::NoMemory;
+use crate::opening::opening;
+use crate::placing::{next_clock, push_copy, reserve, set_clock};
+use crate::serving::{is_spent, serve};
+use crate::submitting::{Submission, home_of, refusal_of, reserve_place, submit};
+use crate::tables::{Tables, containers_at, is_full, node_at};
+use std::alloc::Global;
+use std::marker::Model;
+use ynl_model::{Event, Node, Placed, PlacedList, Reply};
+use ynl_queues::Config;
+use ynl_resource::{Label, Name, Path, Refusal, Size};
+
+/// A cluster: what it is configured with, and its state.
+#[derive(Drop)]
+pub struct Core {
+    config: Config,
+    tables: Tables,
+}
+
+impl Model for Core {
+    ghost use Rattle.ynl_core.specs.World.{World};
+
+    ghost Value = { World };
+
+    ghost use Rattle.ynl_core.specs.CoreFields.{world_of, IsWorkingCore};
+
+    ghost view = { world_of };
+
+    ghost invariant = { IsWorkingCore };
+}
+
+impl Core {
+    #[tactic(auto, unfolding(ynl_model::specs::Events::step, ynl_model::specs::Events::reasons, ynl_model::specs::Events::accepted, ynl_model::specs::Changes::node_joins, ynl_model::specs::Nodes::joined))]
+    fn register(&mut self, name: Name, label: Label, size: Size) -> Result<Reply, NoMemory>
+        ensures ok { IfOk result (λ reply. Answers self.old (Register name label size) self.new reply) }
+        ensures err { OnErr result (self.new ≡ self.old) }
+    {
+        if !self.config.labels().has(&label) {
+            return Ok(Reply::Refused(Refusal::NoSuchLabel));
+        }
+        if node_at(&self.tables.nodes, &name).is_some() {
+            return Ok(Reply::Refused(Refusal::NodeExists));
+        }
+        if is_full(&self.tables.nodes, &label) {
+            return Ok(Reply::Refused(Refusal::PartitionFull));
+        }
+        let _sized = size.amount();
+        self.tables.nodes.reserve(1)?;
+        let stamp = next_clock(&self.config, &self.tables, &label);
+        set_clock(&mut self.tables.partitions, &label, stamp);
+        self.tables.nodes.push_reserved(Node {
+            name,
+            label,
+            size,
+            stamp,
+        });
+        Ok(Reply::Done)
+    }
+
+    #[tactic(auto, unfolding(ynl_model::specs::Events::step, ynl_model::specs::Events::reasons, ynl_model::specs::Events::accepted))]
+    fn submit(
+        &mut self,
+        queue: Path,
+        app: Name,
+        user: Name,
+        label: Option<Label>,
+        master: Size,
+    ) -> Result<Reply, NoMemory>
+        ensures ok { IfOk result (λ reply. Answers self.old (Submit queue app user label master) self.new reply) }
+        ensures err { OnErr result (self.new ≡ self.old) }
+    {
+        let home = home_of(&self.config, &queue, label);
+        if let Some(refusal) = refusal_of(&self.config, &self.tables, &queue, &app, &home, &master) {
+            return Ok(Reply::Refused(refusal));
+        }
+        let _sized = master.amount();
+        reserve_place(&mut self.tables.leaves, &queue)?;
+        let new = Submission {
+            leaf: queue,
+            name: app,
+            user,
+            home,
+            master,
+        };
+        let alloc = *self.tables.leaves.allocator();
+        submit(&mut self.tables.leaves, &new, alloc);
+        Ok(Reply::Done)
+    }
+
+    #[tactic(auto, unfolding(ynl_model::specs::Events::step, ynl_model::specs::Events::reasons, ynl_model::specs::Events::accepted))]
+    fn heartbeat(&mut self, name: Name) -> Result<Reply, NoMemory>
+        ensures ok { IfOk result (λ reply. Answers self.old (Heartbeat name) self.new reply) }
+        ensures err { OnErr result (self.new ≡ self.old) }
+    {
+        let Some(node) = node_at(&self.tables.nodes, &name) else {
+            return Ok(Reply::Refused(Refusal::NoSuchNode));
+        };
+        if is_spent(&self.config, &self.tables, &node.label) {
+            return Ok(Reply::Refused(Refusal::ClockSpent));
+        }
+        let count = self.config.per_heartbeat() as usize;
+        let mut placed = Vec::with_capacity(*self.tables.nodes.allocator(), count)?;
+        reserve(&mut self.tables.partitions, &node.label, count)?;
+        serve(&self.config, &mut self.tables, &node, count, &mut placed);
+        Ok(Reply::Placed(PlacedList::new(placed)))
+    }
+
+    /// A cluster without nodes, applications or containers.
+    pub fn open(alloc: Global, config: Config) -> Result<Core, NoMemory>
+        ensures { IfOk result (λ core. core ≡ opened config) }
+    {
+        let tables = opening(alloc, &config)?;
+        Ok(Core { config, tables })
+    }
+
+    /// One event is one step of the model. Where memory is refused, nothing has changed; a refused
+    /// event changes nothing either.
+    pub fn apply(&mut self, event: Event) -> Result<Reply, NoMemory>
+        requires { IsTrue (is_there event) }
+        ensures ok { IfOk result (λ reply. Answers self.old event self.new reply) }
+        ensures err { OnErr result (self.new ≡ self.old) }
+    {
+        match event {
+            Event::Register { node, label, size } => self.register(node, label, size),
+            Event::Submit {
+                queue,
+                app,
+                user,
+                label,
+                master,
+            } => self.submit(queue, app, user, label, master),
+            Event::Heartbeat { node } => self.heartbeat(node),
+            _ => unreachable!(),
+        }
+    }
+
+    /// The containers on a partition, in the order of placement, which is that of their ids.
+    pub fn containers(&self, alloc: Global, label: &Label) -> Result<Vec<Placed>, NoMemory>
+        ensures { IfOk result (λ list. list.items ≡ containers_on self.now.state label.now) }
+    {
+        let containers = containers_at(&self.tables.partitions, label);
+        let mut list = Vec::with_capacity(alloc, containers.len())?;
+        for container in containers {
+            push_copy(&mut list, container);
+        }
+        Ok(list)
+    }
+}

@@ -1,0 +1,58 @@
+//! Serving a node: the next request is placed there, again and again.
+
+ghost use Rattle.std.specs.Prelude.{◌≡◌, ◌≤◌, ◌+◌, ◌++◌, vec_len, vec_capacity};
+ghost use Rattle.ynl_model.specs.Cluster.{is_spent};
+ghost use Rattle.ynl_model.specs.Changes.{next_item, beat};
+ghost use Rattle.ynl_laws.specs.Working.{IsWorking, Stands};
+ghost use Rattle.ynl_core.specs.Tables.{state_of, HasRoom};
+
+use crate::choosing::choose;
+use crate::placing::{place, push_copy};
+use crate::requests::Request;
+use crate::tables::{Tables, clock_at};
+use ynl_model::{Node, Placed};
+use ynl_queues::Config;
+use ynl_resource::Label;
+
+/// Whether a partition's clock is spent: it stands at its limit, and nothing is placed there.
+#[tactic(auto, unfolding(ynl_model::specs::Cluster::is_spent, ynl_model::specs::Cluster::clock))]
+pub fn is_spent(config: &Config, tables: &Tables, label: &Label) -> bool
+    ensures { result ≡ is_spent config.now.labels (state_of tables.now) label.now }
+{
+    config.labels().limit(label) <= clock_at(&tables.partitions, label)
+}
+
+/// The request that is placed next on a node: none where the clock is spent.
+fn next_request(config: &Config, tables: &Tables, node: &Node) -> Option<Request>
+    requires { IsWorking config.now (state_of tables.now) }
+    ensures { result ≡ next_item config.now (state_of tables.now) node.now }
+{
+    if is_spent(config, tables, &node.label) {
+        return None;
+    }
+    choose(config, tables, node)
+}
+
+/// Places the next request on a node, so many times at most, and notes the containers.
+pub fn serve(
+    config: &Config,
+    tables: &mut Tables,
+    node: &Node,
+    times: usize,
+    placed: &mut Vec<Placed>,
+)
+    requires working { IsWorking config.now (state_of tables.old) }
+    requires stands { Stands (state_of tables.old) node.now }
+    requires room { HasRoom node.now.label times tables.old.partitions.items }
+    requires reply_room { vec_len placed.old + times ≤ vec_capacity placed.old }
+    ensures state { state_of tables.new ≡ (beat config.now node.now times (state_of tables.old)).state }
+    ensures placed { placed.new.items ≡ placed.old.items ++ (beat config.now node.now times (state_of tables.old)).placed }
+{
+    for _i in 0..times {
+        let Some(request) = next_request(config, tables, node) else {
+            return;
+        };
+        let container = place(config, tables, node, &request);
+        push_copy(placed, &container);
+    }
+}
