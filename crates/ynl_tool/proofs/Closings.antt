@@ -104,10 +104,6 @@ stops_at_once a w c s =
       written = subst (Appends w w) (sym (ap (λ (o : Outcome). o.text) nothing)) (Appends-nil w);
     }
 
--- a configuration
-pub no_queues : Config
-no_queues = record { labels = record { rows = []; default_limit = 1 }; queues = []; per_heartbeat = 1; maximum_allocation = record { memory = 1; vcores = 1 } }
-
 -- ---- whole lines, and one line at most
 
 pub line_ends : (bytes line : List ℕ) → EndsLine (bytes ++ (line ++ 10 ∷ []))

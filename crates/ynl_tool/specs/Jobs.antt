@@ -2,8 +2,8 @@
 use Rattle.std.specs.Prelude.{◌≡◌, ℕ, List, [], Option, Result, Ok, Err, codes}
 use Rattle.std.specs.Option.{option_map_or}
 use Rattle.std.specs.Io.KnownBytes.{Appends}
-use Rattle.ynl_model.specs.Queues.{Config}
 use Rattle.ynl_model.specs.Cluster.{opening}
+use Rattle.ynl_queues.specs.BuiltIn.{built_in}
 use Rattle.ynl_tool.specs.declared.run.ToolFault.{ToolFault}
 use Rattle.ynl_tool.specs.declared.run.ToolFault.TheVariants.{Read, Write, NoMemory}
 use Rattle.ynl_tool.specs.declared.run.Summary.{Summary}
@@ -31,13 +31,13 @@ abbrev pub Tells : Option (List ℕ) → Option (List ℕ) → Result Summary To
 Tells old new (Ok summary) = Appends old new []
 Tells old new (Err e) = AppendsFront old new (error_line e)
 
--- a run of some configuration, from its opening state
-abbrev pub RunsSome : Option (List ℕ) → Option (List ℕ) → Option (List ℕ) → Option (List ℕ) → Result Summary ToolFault → Type 0
-RunsSome old new wold wnew r = (c : Config) × Runs old new wold wnew c (opening c) r
+-- a run of the built-in configuration, from its opening state
+abbrev pub RunsBuiltIn : Option (List ℕ) → Option (List ℕ) → Option (List ℕ) → Option (List ℕ) → Result Summary ToolFault → Type 0
+RunsBuiltIn old new wold wnew r = Runs old new wold wnew built_in (opening built_in) r
 
 -- the job was done, and the exit status and the error stream tell how it ended
 pub record Executes (old new wold wnew eold enew : Option (List ℕ)) (status : ℕ) : Type 0 where
   pub ended : Result Summary ToolFault
-  pub ran : RunsSome old new wold wnew ended
+  pub ran : RunsBuiltIn old new wold wnew ended
   pub told : Tells eold enew ended
   pub tells : status ≡ status_by ended

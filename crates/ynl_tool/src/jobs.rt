@@ -2,7 +2,7 @@
 
 ghost use Rattle.std.specs.Prelude.{◌≡◌};
 ghost use Rattle.ynl_tool.specs.Lines.{AppendsFront};
-ghost use Rattle.ynl_tool.specs.Jobs.{error_line, status_of, Executes, RunsSome};
+ghost use Rattle.ynl_tool.specs.Jobs.{error_line, status_of, Executes, RunsBuiltIn};
 
 use crate::lines_out::write_text;
 use crate::run::{Summary, ToolFault, run_lines};
@@ -34,7 +34,7 @@ fn run_built_in<R: BufRead, W: Write>(
     reader: &mut R,
     writer: &mut W,
 ) -> Result<Summary, ToolFault>
-    ensures { RunsSome (R.remaining reader.old) (R.remaining reader.new) (W.contents writer.old) (W.contents writer.new) result }
+    ensures { RunsBuiltIn (R.remaining reader.old) (R.remaining reader.new) (W.contents writer.old) (W.contents writer.new) result }
 {
     let Ok(config) = ynl_queues::built_in(alloc) else {
         return Err(ToolFault::NoMemory);
