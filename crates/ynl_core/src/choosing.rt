@@ -34,14 +34,27 @@ fn desk_of(scene: &Scene<'_>, row: &LeafRow) -> Desk
     ensures { IsDesk scene.now row.now.path result }
 {
     let names = row.path.names();
-    let standings = standings_on(scene.config, scene.tables, names, &row.tenant, &scene.label, &scene.total);
+    let standings = standings_on(
+        scene.config,
+        scene.tables,
+        names,
+        &row.tenant,
+        &scene.label,
+        &scene.total,
+    );
     if scene.as_guests {
         return Desk {
             standings,
             limits: None,
         };
     }
-    let limits = use_of_leaf(scene.config, scene.tables, &row.path, &scene.label, &scene.total);
+    let limits = use_of_leaf(
+        scene.config,
+        scene.tables,
+        &row.path,
+        &scene.label,
+        &scene.total,
+    );
     Desk {
         standings,
         limits: Some(limits),
@@ -138,11 +151,7 @@ fn with_master(
 }
 
 /// The masters wanted on the partition by the applications of a leaf.
-fn with_masters(
-    scene: &Scene<'_>,
-    row: &LeafRow,
-    held: Option<Candidate>,
-) -> Option<Candidate>
+fn with_masters(scene: &Scene<'_>, row: &LeafRow, held: Option<Candidate>) -> Option<Candidate>
     requires { IsScene scene.now }
     ensures { Considers scene.now held (masters_in scene.now row.now.path row.now.apps.items) result }
 {
@@ -240,12 +249,7 @@ fn with_all_asks(scene: &Scene<'_>, held: Option<Candidate>) -> Option<Candidate
 }
 
 /// The first of the eligible requests.
-fn first_eligible(
-    config: &Config,
-    tables: &Tables,
-    node: &Node,
-    free: &Resource,
-) -> Option<Request>
+fn first_eligible(config: &Config, tables: &Tables, node: &Node, free: &Resource) -> Option<Request>
     requires bounded { IsBounded (state_of tables.now) }
     requires free { free.now ≡ free_on (state_of tables.now) node.now }
     ensures { result ≡ first_of (key config.now (state_of tables.now) node.now.label) (eligible config.now (state_of tables.now) node.now) }

@@ -78,7 +78,14 @@ impl Core {
         ensures err { OnErr result (self.new ≡ self.old) }
     {
         let home = home_of(&self.config, &queue, label);
-        if let Some(refusal) = refusal_of(&self.config, &self.tables, &queue, &app, &home, &master) {
+        if let Some(refusal) = refusal_of(
+            &self.config,
+            &self.tables,
+            &queue,
+            &app,
+            &home,
+            &master,
+        ) {
             return Ok(Reply::Refused(refusal));
         }
         let _sized = master.amount();

@@ -48,7 +48,10 @@ pub fn is_eligible(
     ensures { (c : Config) → IsLeafUse c (state_of tables.now) node.now.label request.now.leaf u.now → result ≡ is_eligible c (state_of tables.now) node.now request.now }
 {
     let size = request.size.amount();
-    if !size.fits_in(*free) || !allows(&u.headroom, &size) || !keeps_master_share(u, &request.what, &size) {
+    if !size.fits_in(*free)
+        || !allows(&u.headroom, &size)
+        || !keeps_master_share(u, &request.what, &size)
+    {
         return false;
     }
     let used = user_used(tables, request.leaf.names(), &request.user, &node.label);

@@ -21,7 +21,11 @@ fn ratio_order(a: &Standing, b: &Standing) -> Ordering
     ensures { result ≡ ratio_order a.now.ratio b.now.ratio }
 {
     if a.guaranteed == 0 {
-        return if b.guaranteed == 0 { Ordering::Equal } else { Ordering::Greater };
+        return if b.guaranteed == 0 {
+            Ordering::Equal
+        } else {
+            Ordering::Greater
+        };
     }
     if b.guaranteed == 0 {
         return Ordering::Less;

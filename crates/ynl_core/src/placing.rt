@@ -24,7 +24,10 @@ use ynl_resource::{Id, Label, Name, Path};
 pub fn next_clock(config: &Config, tables: &Tables, label: &Label) -> u64
     ensures { result ≡ next_clock config.now.labels (state_of tables.now) label.now }
 {
-    risen(config.labels().limit(label), clock_at(&tables.partitions, label))
+    risen(
+        config.labels().limit(label),
+        clock_at(&tables.partitions, label),
+    )
 }
 
 fn restamped(node: &Node, name: &Name, label: &Label, stamp: u64) -> Node

@@ -79,9 +79,7 @@ pub fn free(tables: &Tables, node: &Node) -> Resource
 fn holds_master(containers: &[Placed], tenant: &[u8], app: &Name) -> bool
     ensures { result ≡ list_any (λ k. is_master k && is_of tenant.now app.now k) containers.now }
 {
-    containers
-        .iter()
-        .any(|k| is_master(k) && k.tenant.as_bytes() == tenant && k.app == *app)
+    containers.iter().any(|k| is_master(k) && k.tenant.as_bytes() == tenant && k.app == *app)
 }
 
 /// Whether an application of a leaf runs: it has its master container, which stands on its home.

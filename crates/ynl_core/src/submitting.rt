@@ -131,7 +131,10 @@ pub fn refusal_of(
     if !config.may_use(names, home) {
         return Some(Refusal::LabelNotAccessible);
     }
-    if !master.amount().fits_in(config.maximum_allocation().amount()) {
+    if !master
+        .amount()
+        .fits_in(config.maximum_allocation().amount())
+    {
         return Some(Refusal::TooLarge);
     }
     if is_used(tables, queue, app) {

@@ -116,8 +116,7 @@ fn lists_name(names: &[Name], name: &Name) -> bool
 fn submitted_row<'a>(rows: &'a [LeafRow], tenant: &[u8], name: &Name) -> Option<&'a LeafRow>
     ensures { option_map (λ r. r.now) result ≡ find (λ row. same_name (tenant_of row.path) tenant.now && list_any (same_name name.now) row.names.items) rows.now }
 {
-    rows.iter()
-        .find(|row| tenant_bytes(&row.path) == tenant && lists_name(&row.names, name))
+    rows.iter().find(|row| tenant_bytes(&row.path) == tenant && lists_name(&row.names, name))
 }
 
 /// The row of the leaf to which a tenant's application of that name was submitted; the tenant is

@@ -96,12 +96,7 @@ fn is_whose(leaves: &[LeafRow], whose: Whose<'_>, container: &Placed) -> bool
     }
 }
 
-fn is_counted(
-    leaves: &[LeafRow],
-    queue: &[Name],
-    whose: Whose<'_>,
-    container: &Placed,
-) -> bool
+fn is_counted(leaves: &[LeafRow], queue: &[Name], whose: Whose<'_>, container: &Placed) -> bool
     ensures { result ≡ is_counted (leaves_of leaves.now) queue.now whose.entry container.now }
 {
     counts(leaves, queue, container) && is_whose(leaves, whose, container)
@@ -112,11 +107,7 @@ fn added(sum: &Resource, size: &Size, counts: bool) -> Resource
     requires { IsTotal sum.now }
     ensures { result ≡ (if counts then plus sum.now size.now else sum.now) }
 {
-    if counts {
-        sum.add(size.amount())
-    } else {
-        *sum
-    }
+    if counts { sum.add(size.amount()) } else { *sum }
 }
 
 /// What a queue uses of a partition, or one user or the masters in it, by the containers there.
