@@ -13,13 +13,23 @@ pub enum Event {
         size: Size,
     },
     /// A node is lost, and its containers end.
-    Lost { node: Name },
+    Lost {
+        node: Name,
+    },
     /// A node goes to another partition, and its containers end.
-    Relabel { node: Name, label: Label },
+    Relabel {
+        node: Name,
+        label: Label,
+    },
     /// A node is ready for more, and is served.
-    Heartbeat { node: Name },
+    Heartbeat {
+        node: Name,
+    },
     /// A container ended by itself.
-    Exited { node: Name, id: Id },
+    Exited {
+        node: Name,
+        id: Id,
+    },
     /// An application comes to a leaf, for the label or else the leaf's default one.
     Submit {
         queue: Path,
@@ -38,13 +48,23 @@ pub enum Event {
         size: Size,
     },
     /// An application gives a container back.
-    Release { tenant: Name, id: Id },
+    Release {
+        tenant: Name,
+        id: Id,
+    },
     /// An application is finished, and its containers end.
-    Finish { tenant: Name, app: Name },
+    Finish {
+        tenant: Name,
+        app: Name,
+    },
     /// A queue and all below it take no new applications.
-    Stop { queue: Path },
+    Stop {
+        queue: Path,
+    },
     /// A stopped queue takes applications again.
-    Start { queue: Path },
+    Start {
+        queue: Path,
+    },
     /// What does an application hold on a partition, and ask for?
     Poll {
         tenant: Name,
@@ -52,11 +72,18 @@ pub enum Event {
         label: Label,
     },
     /// What does a queue use of a partition?
-    Usage { queue: Path, label: Label },
+    Usage {
+        queue: Path,
+        label: Label,
+    },
     /// What would be placed on a node?
-    Propose { node: Name },
+    Propose {
+        node: Name,
+    },
     /// A proposal is to be placed.
-    Commit { proposal: Proposal },
+    Commit {
+        proposal: Proposal,
+    },
     /// A queue's maximum on a partition is set.
     Maximum {
         queue: Path,

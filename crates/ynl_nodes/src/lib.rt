@@ -4,3 +4,5 @@
 pub use labels::{LabelRow, Labels};
 
 mod labels;
+#[cfg(test)]
+mod tests;

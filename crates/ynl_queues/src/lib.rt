@@ -17,4 +17,6 @@ mod defaults;
 mod maxima;
 mod rows;
 mod stops;
+#[cfg(test)]
+mod tests;
 mod ways;

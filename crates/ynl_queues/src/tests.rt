@@ -1,0 +1,92 @@
+use crate::{Config, Maxima, Stops, built_in, share_of};
+use std::alloc::{AllocError, Global};
+use std::test::Fail;
+use ynl_resource::{Hundredths, Label, Path, Resource};
+
+// Run with each allocation failing in turn: where memory is refused at the first try, the second
+// gives the value.
+fn config(alloc: Global) -> Result<Config, AllocError> {
+    match built_in(alloc) {
+        Ok(config) => Ok(config),
+        Err(_) => built_in(alloc),
+    }
+}
+
+fn maxima(alloc: Global, config: &Config) -> Result<Maxima, AllocError> {
+    match Maxima::new(alloc, config) {
+        Ok(maxima) => Ok(maxima),
+        Err(_) => Maxima::new(alloc, config),
+    }
+}
+
+fn stops(alloc: Global, config: &Config) -> Result<Stops, AllocError> {
+    match Stops::new(alloc, config) {
+        Ok(stops) => Ok(stops),
+        Err(_) => Stops::new(alloc, config),
+    }
+}
+
+#[test]
+fn knows_its_queues(rt: HostRuntime) -> Result<(), Fail> {
+    let config = config(rt.alloc())?;
+    assert_eq!(rt; config.labels().rows().len(), 1);
+    assert_eq!(rt; config.queues().len(), 1);
+    assert_eq!(rt; config.per_heartbeat(), 1);
+    assert_eq!(rt; config.maximum_allocation().amount().vcores, 65536);
+    for (text, is_queue, is_leaf) in [
+        ("root", true, false),
+        ("root.eng", true, true),
+        ("root.eng.ml", false, true),
+    ] {
+        let path = Path::parse(text)?;
+        assert_eq!(rt; config.is_queue(path.names()), is_queue, "{text}");
+        assert_eq!(rt; config.is_leaf(path.names()), is_leaf, "{text}");
+    }
+    let eng = Path::parse("root.eng")?;
+    assert!(rt; config.default_label(eng.names()) == Label::Unlabelled);
+    assert!(rt; config.user_percent(eng.names()) == Hundredths::WHOLE);
+    assert_eq!(rt; config.user_factor(eng.names()), 100);
+    assert_eq!(rt; config.master_percent(eng.names()).number(), 1000);
+    assert_eq!(rt; config.most_applications(eng.names()), 10000);
+    Ok(())
+}
+
+#[test]
+fn gives_a_queue_its_share(rt: HostRuntime) -> Result<(), Fail> {
+    let alloc = rt.alloc();
+    let config = config(alloc)?;
+    let maxima = maxima(alloc, &config)?;
+    let eng = Path::parse("root.eng")?;
+    let total = Resource {
+        memory: 10000,
+        vcores: 10,
+    };
+    for (text, may_use, memory, vcores) in [
+        ("", true, 10000, 10),
+        ("gpu", true, 10000, 10),
+        ("zzz", false, 0, 0),
+    ] {
+        let label = Label::parse(text)?;
+        assert_eq!(rt; config.may_use(eng.names(), &label), may_use, "{text}");
+        let guaranteed = config.guaranteed(eng.names(), &label, &total);
+        assert_eq!(rt; guaranteed, Resource { memory, vcores }, "{text}");
+        let maximum = maxima.maximum(eng.names(), &label, &total);
+        assert_eq!(rt; maximum, Resource { memory, vcores }, "{text}");
+    }
+    let tenth = share_of(&total, &config.master_percent(eng.names()));
+    assert_eq!(rt; tenth.memory, 1000);
+    assert_eq!(rt; tenth.vcores, 1);
+    Ok(())
+}
+
+#[test]
+fn accepts_where_nothing_is_stopped(rt: HostRuntime) -> Result<(), Fail> {
+    let alloc = rt.alloc();
+    let config = config(alloc)?;
+    let stops = stops(alloc, &config)?;
+    assert!(rt; stops.accepts(Path::parse("root.eng")?.names()));
+    for row in config.queues() {
+        assert!(rt; row.tenant().as_str() == "eng");
+    }
+    Ok(())
+}
