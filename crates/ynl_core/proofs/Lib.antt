@@ -8,5 +8,6 @@ pub mod Considering
 pub mod Choices
 pub mod InPlace
 pub mod Serves
+pub mod Idle
 pub mod Stepping
 pub mod RunMore

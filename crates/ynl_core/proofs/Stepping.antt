@@ -1,13 +1,16 @@
 -- A step, by the first reason that holds.
-use Rattle.std.proofs.Common.{◌≡◌, Option, Some, None, sym, ap, ◌∙◌}
+use Rattle.std.proofs.Common.{◌≡◌, List, [], Option, Some, None, sym, ap, subst, ◌∙◌}
 use Rattle.std.specs.Option.{option_map_or}
 use Rattle.ynl_resource.specs.Refusals.{first_that_holds}
 use Rattle.ynl_resource.specs.declared.refusals.Refusal.{Refusal}
+use Rattle.ynl_resource.specs.declared.names.Name.{Name}
 use Rattle.ynl_model.specs.declared.events.Event.{Event}
 use Rattle.ynl_model.specs.declared.replies.Reply.TheVariants.{Refused}
 use Rattle.ynl_model.specs.Queues.{Config}
 use Rattle.ynl_model.specs.Cluster.{State}
 use Rattle.ynl_model.specs.Events.{Outcome, answered, reasons, accepted, step}
+use Rattle.ynl_laws.specs.Working.{IsWorking}
+use Rattle.ynl_core.specs.CoreFields.{IsSound}
 use Rattle.ynl_core.specs.World.{World, Answers}
 
 pub refused : (c : Config) (s : State) (event : Event) (refusal : Refusal) → Some refusal ≡ first_that_holds (reasons c s event) → step c s event ≡ answered s (Refused refusal)
@@ -25,3 +28,7 @@ answers_refused old event refusal e =
       told = sym (ap (λ (o : Outcome). o.reply) same);
       left = λ i. record { config = old.config; state = sym (ap (λ (o : Outcome). o.state) same) i };
     }
+
+-- after a change no node rests
+pub none_rests : (c : Config) (s : State) (names : List Name) → names ≡ [] → IsWorking c s → IsSound c s names
+none_rests c s names e w = subst (IsSound c s) (sym e) (record { working = w; resting = tt })

@@ -1,12 +1,21 @@
 -- What a cluster's fields mean.
+use Rattle.std.specs.Prelude.{List}
+use Rattle.ynl_resource.specs.declared.names.Name.{Name}
+use Rattle.ynl_model.specs.Queues.{Config}
+use Rattle.ynl_model.specs.Cluster.{State}
 use Rattle.ynl_laws.specs.Working.{IsWorking}
 use Rattle.ynl_core.specs.declared.cluster.Core.TheInside.{Inside}
+use Rattle.ynl_core.specs.Resting.{AreResting}
 use Rattle.ynl_core.specs.Tables.{state_of}
 use Rattle.ynl_core.specs.World.{World}
 
 abbrev pub world_of : Inside → World
 world_of a = record { config = a.config; state = state_of a.tables }
 
--- the state is one that works, as each that events lead to
+-- the state is one that works, as each that events lead to, and nothing is to be placed on the nodes that rest
+pub record IsSound (c : Config) (s : State) (names : List Name) : Type 0 where
+  pub working : IsWorking c s
+  pub resting : AreResting c s names
+
 abbrev pub IsWorkingCore : Inside → Type 0
-IsWorkingCore a = IsWorking a.config (state_of a.tables)
+IsWorkingCore a = IsSound a.config (state_of a.tables) a.resting.items

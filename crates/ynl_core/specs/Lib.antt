@@ -3,6 +3,7 @@ pub mod Candidates
 pub mod Choosing
 pub mod LeafUses
 pub mod Placing
+pub mod Resting
 pub mod Sharing
 pub mod Tables
 pub mod Uses

@@ -9,6 +9,7 @@ ghost use Rattle.ynl_core.specs.World.{opened, Answers};
 use crate::memory::NoMemory;
 use crate::opening::opening;
 use crate::placing::{next_clock, push_copy, reserve, set_clock};
+use crate::resting::{rest, rests};
 use crate::serving::{is_spent, serve};
 use crate::submitting::{Submission, home_of, refusal_of, reserve_place, submit};
 use crate::tables::{Tables, containers_at, is_full, node_at};
@@ -18,11 +19,13 @@ use ynl_model::{Event, Node, Placed, PlacedList, Reply};
 use ynl_queues::Config;
 use ynl_resource::{Label, Name, Path, Refusal, Size};
 
-/// A cluster: what it is configured with, and its state.
+/// A cluster: what it is configured with, and its state. The names of nodes that rest are listed
+/// beside it, so that their heartbeats take no search; a change of the cluster strikes them all.
 #[derive(Drop)]
 pub struct Core {
     config: Config,
     tables: Tables,
+    resting: Vec<Name>,
 }
 
 impl Model for Core {
@@ -62,6 +65,7 @@ impl Core {
             size,
             stamp,
         });
+        self.resting.clear();
         Ok(Reply::Done)
     }
 
@@ -99,6 +103,7 @@ impl Core {
         };
         let alloc = *self.tables.leaves.allocator();
         submit(&mut self.tables.leaves, &new, alloc);
+        self.resting.clear();
         Ok(Reply::Done)
     }
 
@@ -113,10 +118,19 @@ impl Core {
         if is_spent(&self.config, &self.tables, &node.label) {
             return Ok(Reply::Refused(Refusal::ClockSpent));
         }
+        let alloc = *self.tables.nodes.allocator();
+        if rests(&self.resting, &name) {
+            return Ok(Reply::Placed(PlacedList::new(Vec::new(alloc))));
+        }
         let count = self.config.per_heartbeat() as usize;
-        let mut placed = Vec::with_capacity(*self.tables.nodes.allocator(), count)?;
+        let mut placed = Vec::with_capacity(alloc, count)?;
         reserve(&mut self.tables.partitions, &node.label, count)?;
         serve(&self.config, &mut self.tables, &node, count, &mut placed);
+        if placed.is_empty() && count > 0 {
+            rest(&mut self.resting, &name);
+        } else {
+            self.resting.clear();
+        }
         Ok(Reply::Placed(PlacedList::new(placed)))
     }
 
@@ -125,7 +139,12 @@ impl Core {
         ensures { IfOk result (λ core. core ≡ opened config) }
     {
         let tables = opening(alloc, &config)?;
-        Ok(Core { config, tables })
+        let resting = Vec::new(alloc);
+        Ok(Core {
+            config,
+            tables,
+            resting,
+        })
     }
 
     /// One event is one step of the model. Where memory is refused, nothing has changed; a refused

@@ -17,6 +17,7 @@ mod placing;
 mod queue_use;
 mod ranking;
 mod requests;
+mod resting;
 mod rows;
 mod running;
 mod runs;
@@ -26,6 +27,4 @@ mod sharing;
 mod standings;
 mod submitting;
 mod tables;
-#[cfg(test)]
-mod tests;
 mod uses;

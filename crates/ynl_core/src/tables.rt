@@ -107,7 +107,8 @@ pub fn tenant_bytes(path: &Path) -> &[u8]
     }
 }
 
-fn lists_name(names: &[Name], name: &Name) -> bool
+/// Whether a name is listed.
+pub fn lists_name(names: &[Name], name: &Name) -> bool
     ensures { result ≡ list_any (same_name name.now) names.now }
 {
     names.iter().any(|listed| *name == *listed)

@@ -1,22 +1,64 @@
-use Rattle.std.proofs.Common.{◌≡◌, Some, rules, sym, ap, subst, ◌∙◌}
+use Rattle.std.proofs.Common.{◌≡◌, ◌<◌, [], None, Some, false, rules, sym, ap, subst, ◌∙◌}
 use Rattle.ynl_model.specs.declared.events.Event.{Event}
 use Rattle.ynl_model.specs.declared.events.Event.TheVariants.{Heartbeat}
-use Rattle.ynl_model.specs.Cluster.{State, Partition, node_of}
-use Rattle.ynl_model.specs.Events.{step, reasons, accepted}
+use Rattle.ynl_model.specs.declared.replies.Reply.TheVariants.{Placed}
+use Rattle.ynl_model.specs.Nodes.{find_node}
+use Rattle.ynl_model.specs.Cluster.{State, is_spent}
+use Rattle.ynl_model.specs.Changes.{Beat, beat, next_item}
+use Rattle.ynl_model.specs.Events.{Outcome, step, reasons, accepted}
 use Rattle.ynl_laws.specs.Working.{IsWorking, Stands}
 use Rattle.ynl_laws.proofs.Working.{working-step}
 use Rattle.ynl_laws.proofs.Steps.{stands-found}
-use Rattle.ynl_core.specs.Tables.{state_of}
+use Rattle.ynl_core.specs.CoreFields.{world_of, IsSound}
+use Rattle.ynl_core.specs.Resting.{AreResting}
+use Rattle.ynl_core.specs.Tables.{state_of, leaves_of, partitions_of}
+use Rattle.ynl_core.specs.World.{World, Answers}
+use Rattle.ynl_core.proofs.Idle.{empty_items, unplaced_more, unplaced_rests, unplaced_same, resting_step}
+use Rattle.ynl_core.proofs.Stepping.{none_rests}
 use Rattle.ynl_core.proofs.cluster.Core.heartbeat.Goals as goal
 
 pub serve-requires-clause-stands : goal.serve-requires-clause-stands
 serve-requires-clause-stands c = stands-found (state_of c.self.inside.tables) c.args.name c.in-Some.node (search rules)
 
-pub invariant_of-self-2 : goal.invariant_of-self-2
+pub invariant_of-self-else-is_empty : goal.invariant_of-self-else-is_empty
 unfolding step reasons accepted
-invariant_of-self-2 c =
+invariant_of-self-else-is_empty c =
     let old : State = state_of c.self.inside.tables in
     let config = c.self.inside.config in
     let event : Event = Heartbeat c.args.name in
     let same : (step config old event).state ≡ state_of c.serve.new.tables = search rules in
-    subst (IsWorking config) same (working-step config old event tt c.self.invariant)
+    none_rests config _ _ (search rules) (subst (IsWorking config) same (working-step config old event tt c.self.invariant.working))
+
+pub invariant_of-self-then-count-gt0 : goal.invariant_of-self-then-count-gt0
+invariant_of-self-then-count-gt0 c =
+    let tables = c.self.inside.tables in
+    let config = c.self.inside.config in
+    let node = c.in-Some.node in
+    let times = c.per_heartbeat-count.result in
+    let reserved : State = record { nodes = tables.nodes.items; partitions = partitions_of c.reserve.new.rows.items; leaves = leaves_of tables.leaves.items; stops = tables.stops; maxima = tables.maxima } in
+    let as_before : state_of tables ≡ reserved = λ i. record { nodes = tables.nodes.items; partitions = sym c.reserve.ensures.meaning i; leaves = leaves_of tables.leaves.items; stops = tables.stops; maxima = tables.maxima } in
+    let found : find_node reserved.nodes c.args.name ≡ Some node = search rules in
+    let nothing : c.serve.new.placed.items ≡ [] = empty_items c.serve.new.placed.items (search rules) in
+    let unplaced : (beat config node times reserved).placed ≡ [] = unplaced_more (beat config node times reserved) c.in_ok-placed.placed.items c.serve.new.placed.items c.in_ok-placed.ensures.items c.serve.ensures.placed nothing in
+    let inside : 0 < times = search rules in
+    let sound : IsSound config reserved c.self.inside.resting.items = subst (λ s. IsSound config s c.self.inside.resting.items) as_before c.self.invariant in
+    let same : state_of c.serve.new.tables ≡ reserved = c.serve.ensures.state ∙ unplaced_same config node times reserved inside unplaced in
+    subst (λ s. IsSound config s c.rest.new.names.items) (sym same) (record {
+      working = sound.working;
+      resting = c.rest.ensures config reserved (unplaced_rests config reserved c.args.name node times found inside unplaced) sound.resting;
+    })
+
+pub returns-then-rests-clause-ok : goal.returns-then-rests-clause-ok
+returns-then-rests-clause-ok c =
+    let old = world_of c.self.inside in
+    let node = c.in-Some.node in
+    let event : Event = Heartbeat c.args.name in
+    let found : find_node old.state.nodes c.args.name ≡ Some node = search rules in
+    let fresh : is_spent old.config.labels old.state node.label ≡ false = search rules in
+    let none = c.rests.ensures (search rules) old.config old.state (subst (AreResting old.config old.state) (sym c.deref-2.ensures.value) c.self.invariant.resting) node found in
+    let same = resting_step old.config old.state c.args.name node found fresh none in
+    let P : World → Type 0 = λ w. Answers w event w (Placed c.new-then-rests.result) in
+    subst P c.self.view_is (record {
+      told = ap Placed (c.new-then-rests.ensures ∙ c.new.ensures.items) ∙ sym (ap (λ (o : Outcome). o.reply) same);
+      left = λ i. record { config = old.config; state = sym (ap (λ (o : Outcome). o.state) same) i };
+    })

@@ -1,7 +1,8 @@
-use Rattle.std.proofs.Common.{sym, subst}
+use Rattle.std.proofs.Common.{rules, sym, subst}
 use Rattle.ynl_laws.specs.Working.{IsWorking}
 use Rattle.ynl_laws.proofs.Working.{working-opening}
+use Rattle.ynl_core.proofs.Stepping.{none_rests}
 use Rattle.ynl_core.proofs.cluster.Core.open.Goals as goal
 
 pub invariant_of-result : goal.invariant_of-result
-invariant_of-result c = subst (IsWorking c.args.config) (sym c.in_ok-tables.ensures) (working-opening c.args.config)
+invariant_of-result c = none_rests c.args.config _ _ (search rules) (subst (IsWorking c.args.config) (sym c.in_ok-tables.ensures) (working-opening c.args.config))

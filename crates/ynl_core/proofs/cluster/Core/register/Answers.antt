@@ -7,6 +7,7 @@ use Rattle.ynl_model.specs.Changes.{node_joins}
 use Rattle.ynl_model.specs.Events.{step, reasons, accepted}
 use Rattle.ynl_laws.specs.Working.{IsWorking}
 use Rattle.ynl_laws.proofs.Working.{working-step}
+use Rattle.ynl_core.proofs.Stepping.{none_rests}
 use Rattle.ynl_core.specs.Tables.{state_of, leaves_of, partitions_of}
 use Rattle.ynl_core.proofs.cluster.Core.register.Goals as goal
 
@@ -18,4 +19,4 @@ invariant_of-self-2 c =
     let event : Event = Register c.args.name c.args.label c.args.size in
     let new : State = record { nodes = c.push_reserved.new.self.items; partitions = partitions_of c.set_clock.new.rows.items; leaves = leaves_of tables.leaves.items; stops = tables.stops; maxima = tables.maxima } in
     let same : (step config (state_of tables) event).state ≡ new = search rules in
-    subst (IsWorking config) same (working-step config (state_of tables) event c.amount-sized.ensures.range c.self.invariant)
+    none_rests config new _ (search rules) (subst (IsWorking config) same (working-step config (state_of tables) event c.amount-sized.ensures.range c.self.invariant.working))

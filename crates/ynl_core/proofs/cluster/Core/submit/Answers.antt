@@ -1,4 +1,4 @@
-use Rattle.std.proofs.Common.{◌≡◌, None, sym, ap, subst, ◌∙◌}
+use Rattle.std.proofs.Common.{◌≡◌, None, rules, sym, ap, subst, ◌∙◌}
 use Rattle.ynl_resource.specs.Refusals.{first_that_holds}
 use Rattle.ynl_model.specs.declared.events.Event.{Event}
 use Rattle.ynl_model.specs.declared.events.Event.TheVariants.{Submit}
@@ -11,7 +11,7 @@ use Rattle.ynl_laws.proofs.Working.{working-step}
 use Rattle.ynl_core.specs.Tables.{state_of, leaves_of, partitions_of}
 use Rattle.ynl_core.specs.World.{World, Answers}
 use Rattle.ynl_core.specs.CoreFields.{world_of}
-use Rattle.ynl_core.proofs.Stepping.{taken_in, answers_refused}
+use Rattle.ynl_core.proofs.Stepping.{taken_in, answers_refused, none_rests}
 use Rattle.ynl_core.proofs.cluster.Core.submit.Goals as goal
 
 pub returns-in-Some-clause-ok : goal.returns-in-Some-clause-ok
@@ -21,7 +21,7 @@ returns-in-Some-clause-ok c =
     subst P c.self.view_is (answers_refused (world_of c.self.inside) event c.in-Some.refusal (sym c.in-Some.is ∙ c.refusal_of.ensures c.args.user c.args.label c.home_of-home.ensures))
 
 -- the step is the submission
-stepped : (c : goal.After-submit) → (step c.self.inside.config (state_of c.self.inside.tables) (Submit c.args.queue c.args.app c.args.user c.args.label c.args.master))
+stepped : (c : goal.After-clear) → (step c.self.inside.config (state_of c.self.inside.tables) (Submit c.args.queue c.args.app c.args.user c.args.label c.args.master))
     ≡ done (record { nodes = c.self.inside.tables.nodes.items; partitions = partitions_of c.self.inside.tables.partitions.items; leaves = leaves_of c.submit.new.rows.items; stops = c.self.inside.tables.stops; maxima = c.self.inside.tables.maxima })
 unfolding accepted
 stepped c =
@@ -37,7 +37,7 @@ pub invariant_of-self-2 : goal.invariant_of-self-2
 invariant_of-self-2 c =
     let config = c.self.inside.config in
     let event : Event = Submit c.args.queue c.args.app c.args.user c.args.label c.args.master in
-    subst (IsWorking config) (ap (λ (o : Outcome). o.state) (stepped c)) (working-step config (state_of c.self.inside.tables) event c.amount-sized.ensures.range c.self.invariant)
+    none_rests config _ _ (search rules) (subst (IsWorking config) (ap (λ (o : Outcome). o.state) (stepped c)) (working-step config (state_of c.self.inside.tables) event c.amount-sized.ensures.range c.self.invariant.working))
 
 pub returns-clause-ok : goal.returns-clause-ok
 returns-clause-ok c =

@@ -1,0 +1,64 @@
+-- Nodes that rest, and a heartbeat that places nothing.
+use Rattle.std.proofs.Common.{rules, ◌≡◌, ℕ, zero, suc, ◌<◌, Bool, true, false, ◌||◌, List, [], ◌∷◌, ◌++◌, length, Option, None, Some, refl, sym, ap, subst, ◌∙◌, arith}
+use Rattle.std.specs.List.{list_any}
+use Rattle.ynl_resource.specs.declared.names.Name.{Name}
+use Rattle.ynl_resource.specs.Names.{same_name}
+use Rattle.ynl_model.specs.declared.nodes.Node.{Node}
+use Rattle.ynl_model.specs.declared.containers.Placed.{Placed}
+use Rattle.ynl_model.specs.Queues.{Config}
+use Rattle.ynl_model.specs.declared.events.Event.{Event}
+use Rattle.ynl_model.specs.declared.events.Event.TheVariants.{Heartbeat}
+use Rattle.ynl_model.specs.Nodes.{find_node}
+use Rattle.ynl_model.specs.Cluster.{State, is_spent}
+use Rattle.ynl_model.specs.Service.{Item}
+use Rattle.ynl_model.specs.Changes.{Beat, beat, next_item, place, container_of}
+use Rattle.ynl_model.specs.Events.{Outcome, served, step, reasons, accepted}
+use Rattle.ynl_laws.proofs.Lists.{some-same}
+use Rattle.ynl_laws.proofs.Restricted.{same-name_sym}
+use Rattle.ynl_core.specs.Resting.{Rests, AreResting}
+use Rattle.ynl_core.proofs.Serves.{beat_next, beat_none}
+
+-- a node that is listed rests
+pub listed_rests : (c : Config) (s : State) (names : List Name) (name : Name) → list_any (same_name name) names ≡ true → AreResting c s names → Rests c s name
+listed_rests c s [] name e h = absurd (cc)
+listed_rests c s (x ∷ xs) name e h = go (same_name name x) refl e (λ more. listed_rests c s xs name more h.1)
+  where
+    go : (b : Bool) → same_name name x ≡ b → (b || list_any (same_name name) xs) ≡ true → (list_any (same_name name) xs ≡ true → Rests c s name) → Rests c s name
+    go true f g later = subst (Rests c s) (sym (same-name_sym name x f)) h.0
+    go false f g later = later g
+
+-- a heartbeat that places nothing finds nothing to place
+pub unplaced_none : (c : Config) (node : Node) (times : ℕ) (s : State) → 0 < times → (beat c node times s).placed ≡ [] → next_item c s node ≡ None
+unplaced_none c node zero s inside e = absurd (grind (arith))
+unplaced_none c node (suc times) s inside e = go (next_item c s node) refl
+  where
+    go : (o : Option Item) → next_item c s node ≡ o → next_item c s node ≡ None
+    go None f = f
+    go (Some item) f =
+        let more : container_of c s node item ∷ (beat c node times (place c node item s)).placed ≡ [] = sym (ap (λ (b : Beat). b.placed) (beat_next c node (suc times) times s item refl f)) ∙ e in
+        absurd (cc)
+
+pub empty_items : (xs : List Placed) → length xs ≡ 0 → xs ≡ []
+empty_items [] e = refl
+empty_items (x ∷ xs) e = absurd (omega arith)
+
+-- what a heartbeat places comes after what is there
+pub unplaced_more : (b : Beat) (so_far all : List Placed) → so_far ≡ [] → all ≡ so_far ++ b.placed → all ≡ [] → b.placed ≡ []
+unplaced_more b so_far all none e h = sym (e ∙ ap (λ xs. xs ++ b.placed) none) ∙ h
+
+-- and leaves the cluster as it was
+pub unplaced_same : (c : Config) (node : Node) (times : ℕ) (s : State) → 0 < times → (beat c node times s).placed ≡ [] → (beat c node times s).state ≡ s
+unplaced_same c node times s inside e = ap (λ (b : Beat). b.state) (beat_none c node times s (unplaced_none c node times s inside e))
+
+-- from then on its node rests
+pub unplaced_rests : (c : Config) (s : State) (name : Name) (node : Node) (times : ℕ) → find_node s.nodes name ≡ Some node → 0 < times → (beat c node times s).placed ≡ [] → Rests c s name
+unplaced_rests c s name node times found inside e other h =
+    subst (λ n. next_item c s n ≡ None) (some-same node other (find_node s.nodes name) found h) (unplaced_none c node times s inside e)
+
+-- the heartbeat of a node that rests
+pub resting_step : (c : Config) (s : State) (name : Name) (node : Node) → find_node s.nodes name ≡ Some node → is_spent c.labels s node.label ≡ false → next_item c s node ≡ None
+    → step c s (Heartbeat name) ≡ served (record { placed = []; state = s })
+unfolding step reasons accepted
+resting_step c s name node found fresh none =
+    let idle : beat c node c.per_heartbeat s ≡ record { placed = []; state = s } = beat_none c node c.per_heartbeat s none in
+    search rules

@@ -1,0 +1,13 @@
+use Rattle.std.proofs.Common.{[], ◌∷◌, ◌++◌, sym, subst, ◌∙◌, ap}
+use Rattle.std.specs.List.{AllByRecursion}
+use Rattle.ynl_laws.proofs.Lists.{Each-append}
+use Rattle.ynl_core.specs.Resting.{Rests, AreResting}
+use Rattle.ynl_core.proofs.resting.rest.Goals as goal
+
+pub returns-then-is_ok : goal.returns-then-is_ok
+returns-then-is_ok c config s p each =
+    let listed = subst (AreResting config s) (sym c.reserve.ensures.items) each in
+    subst (AreResting config s) (sym c.push_reserved.ensures.items) (Each-append (Rests config s) c.reserve.new.self.items (c.args.name.now ∷ []) listed (p, tt))
+
+pub returns-else-is_ok : goal.returns-else-is_ok
+returns-else-is_ok c config s p each = subst (AreResting config s) (sym c.reserve.ensures.items) each
