@@ -27,6 +27,4 @@ mod sharing;
 mod standings;
 mod submitting;
 mod tables;
-#[cfg(test)]
-mod tests;
 mod uses;
