@@ -1,5 +1,6 @@
 -- The choice by one pass over the requests, which holds the first so far.
 use Rattle.std.specs.Prelude.{◌≡◌, ℕ, Bool, true, false, ◌&&◌, List, [], ◌∷◌, map, filter, fold, flat_map, Option, Some, None, IfSome, option_map, if◌then◌else◌, nat_lt}
+use Rattle.std.specs.Ordering.{is_gt}
 use Rattle.ynl_resource.specs.declared.labels.Label.{Label}
 use Rattle.ynl_resource.specs.declared.labels.Label.TheVariants.{Unlabelled}
 use Rattle.ynl_resource.specs.declared.paths.Path.{Path}
@@ -7,7 +8,7 @@ use Rattle.ynl_resource.specs.Names.{same_label, way_to}
 use Rattle.ynl_model.specs.declared.nodes.Node.{Node}
 use Rattle.ynl_model.specs.Queues.{Config}
 use Rattle.ynl_model.specs.Cluster.{State, waits, runs, free, total}
-use Rattle.ynl_model.specs.Service.{Item, Key, Standing, standing, master_item, ask_item, asks_of, has_room, is_eligible, key}
+use Rattle.ynl_model.specs.Service.{Item, Key, Standing, standing, master_item, ask_item, asks_of, has_room, is_eligible, key, key_order}
 use Rattle.ynl_laws.specs.Least.{sooner}
 use Rattle.ynl_model.specs.Applications.{Application, AskRow, all_apps}
 use Rattle.ynl_core.specs.declared.rows.App.{App}
@@ -66,6 +67,11 @@ IsKeyed scene candidate = key_of candidate ≡ key_in scene candidate.request
 pub record Holds (scene : Scene) (held : Option Candidate) (item : Option Item) : Type 0 where
   pub is : item_of held ≡ item
   pub keyed : IfSome held (IsKeyed scene)
+
+-- whether a request is before the one that is held, and first where none is held
+abbrev pub overtakes : (Item → Key) → Option Item → Item → Bool
+overtakes key_of None item = true
+overtakes key_of (Some best) item = is_gt (key_order (key_of best) (key_of item))
 
 -- what is held after these requests more
 abbrev pub considered : Scene → Option Item → List Item → Option Item

@@ -9,9 +9,8 @@ ghost use Rattle.ynl_model.specs.Cluster.{free as free_on};
 ghost use Rattle.ynl_model.specs.Service.{place_in_leaf, first_of, key, eligible, has_room, asks_for, takes_guests, choice};
 ghost use Rattle.ynl_core.specs.Bounds.{IsBounded};
 ghost use Rattle.ynl_core.specs.Tables.{state_of, app_of};
-ghost use Rattle.ynl_core.specs.Choosing.{state_in, key_in, item_of, passes, IsScene, IsDesk, IsKeyed, Holds, Considers, masters_of as masters_in, wanted, asks_in, all_masters, all_asks};
+ghost use Rattle.ynl_core.specs.Choosing.{state_in, key_in, item_of, passes, overtakes, IsScene, IsDesk, IsKeyed, Considers, masters_of as masters_in, wanted, asks_in, all_masters, all_asks};
 ghost use Rattle.ynl_core.specs.declared.scenes.Scene.{Scene};
-ghost use Rattle.ynl_laws.specs.Least.{sooner};
 
 use crate::eligible::is_eligible;
 use crate::leaf_use::use_of_leaf;
@@ -73,23 +72,17 @@ fn may_be_placed(scene: &Scene<'_>, desk: &Desk, request: &Request) -> bool
     }
 }
 
-/// Of the candidate that is held and one more, the one that is before the other.
-fn sooner(held: Option<Candidate>, next: Candidate) -> Option<Candidate>
-    ensures { (scene : Scene) → IfSome held (IsKeyed scene) → IsKeyed scene next → Holds scene result (sooner (key_in scene) (item_of held) next.request) }
+/// Whether a candidate is before the one that is held.
+fn overtakes(held: &Option<Candidate>, next: &Candidate) -> bool
+    ensures { (scene : Scene) → IfSome held.now (IsKeyed scene) → IsKeyed scene next.now → result ≡ overtakes (key_in scene) (item_of held.now) next.now.request }
 {
     match held {
-        None => Some(next),
-        Some(best) => {
-            if is_overtaken(&best, &next) {
-                Some(next)
-            } else {
-                Some(best)
-            }
-        }
+        None => true,
+        Some(best) => is_overtaken(best, next),
     }
 }
 
-/// One request more.
+/// One request more. The order is looked at first: it takes no sum.
 fn with_request(
     scene: &Scene<'_>,
     desk: &Desk,
@@ -102,15 +95,15 @@ fn with_request(
     requires place { place ≡ place_in_leaf (state_in scene.now) request.now.leaf request.now.app }
     ensures { Considers scene.now held (request.now ∷ []) result }
 {
-    if !may_be_placed(scene, desk, request) {
-        return held;
-    }
     let next = Candidate {
         request: *request,
         standings: desk.standings,
         place,
     };
-    sooner(held, next)
+    if overtakes(&held, &next) && may_be_placed(scene, desk, request) {
+        return Some(next);
+    }
+    held
 }
 
 fn place_among(apps: &[App], name: &Name) -> u64

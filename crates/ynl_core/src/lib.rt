@@ -27,4 +27,6 @@ mod sharing;
 mod standings;
 mod submitting;
 mod tables;
+#[cfg(test)]
+mod tests;
 mod uses;
