@@ -1,5 +1,7 @@
-//! Worked scripts whose results no text shows, as tests.
+//! What crosses crates: the built-in configuration beside that of the worked scripts, and scripts whose results no
+//! text shows, as tests.
 #![tactic(auto)]
 
+pub mod configured;
 #[cfg(test)]
 mod tests;
