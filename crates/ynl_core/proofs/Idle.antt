@@ -6,13 +6,12 @@ use Rattle.ynl_resource.specs.Names.{same_name}
 use Rattle.ynl_model.specs.declared.nodes.Node.{Node}
 use Rattle.ynl_model.specs.declared.containers.Placed.{Placed}
 use Rattle.ynl_model.specs.Queues.{Config}
-use Rattle.ynl_model.specs.declared.events.Event.{Event}
 use Rattle.ynl_model.specs.declared.events.Event.TheVariants.{Heartbeat}
 use Rattle.ynl_model.specs.Nodes.{find_node}
 use Rattle.ynl_model.specs.Cluster.{State, is_spent}
 use Rattle.ynl_model.specs.Service.{Item}
 use Rattle.ynl_model.specs.Changes.{Beat, beat, next_item, place, container_of}
-use Rattle.ynl_model.specs.Events.{Outcome, served, step, reasons, accepted}
+use Rattle.ynl_model.specs.Events.{served, step, reasons, accepted}
 use Rattle.ynl_laws.proofs.Lists.{some-same}
 use Rattle.ynl_laws.proofs.Restricted.{same-name_sym}
 use Rattle.ynl_core.specs.Resting.{Rests, AreResting}

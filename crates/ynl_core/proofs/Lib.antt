@@ -1,11 +1,3 @@
-pub mod Finding
-pub mod Adding
-pub mod Filters
-pub mod Shared
-pub mod Rooms
-pub mod Ranked
-pub mod Considering
-pub mod Choices
 pub mod InPlace
 pub mod Serves
 pub mod Idle

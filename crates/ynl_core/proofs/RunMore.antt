@@ -1,5 +1,5 @@
 -- One more event of a run.
-use Rattle.std.proofs.Common.{◌≡◌, ℕ, suc, ◌+◌, ◌<◌, List, [], ◌∷◌, ◌++◌, length, take, get_or, refl, sym, ap, subst, ◌∙◌, arith, length-append}
+use Rattle.std.proofs.Common.{◌≡◌, List, [], ◌∷◌, ◌++◌, length, refl, sym, ap, ◌∙◌, arith, length-append}
 use Rattle.ynl_model.specs.declared.events.Event.{Event}
 use Rattle.ynl_model.specs.declared.replies.Reply.{Reply}
 use Rattle.ynl_core.specs.declared.runs.Answer.{Answer}
@@ -7,7 +7,7 @@ use Rattle.ynl_core.specs.declared.runs.Answer.TheVariants.{Replied, NoMemory}
 use Rattle.ynl_model.specs.Queues.{Config}
 use Rattle.ynl_model.specs.Cluster.{State, opening}
 use Rattle.ynl_model.specs.Events.{step, replies, after, replies_to, state_after}
-use Rattle.ynl_core.specs.World.{World, Answers}
+use Rattle.ynl_core.specs.World.{World}
 use Rattle.ynl_core.specs.Runs.{Answered, kept, replied, IsRun}
 
 kept_replied : (es : List Event) (rest : List Answer) (e : Event) (r : Reply) → length rest ≡ length es → kept (es ++ e ∷ []) (rest ++ Replied r ∷ []) ≡ kept es rest ++ e ∷ []

@@ -1,6 +1,5 @@
 -- The turns of a heartbeat, one by one.
-use Rattle.std.proofs.Common.{◌≡◌, ℕ, zero, suc, ◌+◌, ◌-◌, ◌≤◌, ◌<◌, Bool, true, false, cond, List, [], ◌∷◌, ◌++◌, Option, None, Some, refl, sym, ap, subst, ◌∙◌, arith, append_assoc, append-nil}
-use Rattle.std.specs.Option.{option_map_or}
+use Rattle.std.proofs.Common.{◌≡◌, ℕ, zero, suc, Bool, true, false, cond, List, [], ◌∷◌, ◌++◌, None, Some, refl, sym, ap, subst, ◌∙◌, append_assoc, append-nil}
 use Rattle.ynl_model.specs.declared.nodes.Node.{Node}
 use Rattle.ynl_model.specs.declared.containers.Placed.{Placed}
 use Rattle.ynl_model.specs.Queues.{Config}
@@ -10,7 +9,7 @@ use Rattle.ynl_model.specs.Changes.{Beat, beat, next_item, place, container_of}
 use Rattle.ynl_laws.specs.Working.{IsWorking, Stands}
 use Rattle.ynl_laws.proofs.Working.{working-place, stands-place}
 use Rattle.ynl_laws.proofs.Bounds.{total-small, on-within, small-within}
-use Rattle.ynl_core.specs.Bounds.{IsBounded}
+use Rattle.ynl_tables.specs.Bounds.{IsBounded}
 
 -- sums and totals of a state are small
 pub bounded : (c : Config) (s : State) → IsWorking c s → IsBounded s

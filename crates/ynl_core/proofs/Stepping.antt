@@ -1,5 +1,5 @@
 -- A step, by the first reason that holds.
-use Rattle.std.proofs.Common.{◌≡◌, List, [], Option, Some, None, sym, ap, subst, ◌∙◌}
+use Rattle.std.proofs.Common.{◌≡◌, List, [], Some, None, sym, ap, subst}
 use Rattle.std.specs.Option.{option_map_or}
 use Rattle.ynl_resource.specs.Refusals.{first_that_holds}
 use Rattle.ynl_resource.specs.declared.refusals.Refusal.{Refusal}

@@ -6,7 +6,7 @@ use Rattle.ynl_model.specs.Cluster.{State}
 use Rattle.ynl_laws.specs.Working.{IsWorking}
 use Rattle.ynl_core.specs.declared.cluster.Core.TheInside.{Inside}
 use Rattle.ynl_core.specs.Resting.{AreResting}
-use Rattle.ynl_core.specs.Tables.{state_of}
+use Rattle.ynl_tables.specs.Tables.{state_of}
 use Rattle.ynl_core.specs.World.{World}
 
 abbrev pub world_of : Inside → World

@@ -1,12 +1,5 @@
-pub mod Bounds
-pub mod Candidates
-pub mod Choosing
-pub mod LeafUses
 pub mod Placing
 pub mod Resting
-pub mod Sharing
-pub mod Tables
-pub mod Uses
 pub mod CoreFields
 pub mod World
 pub mod Submitting

@@ -3,7 +3,7 @@ use Rattle.std.specs.Prelude.{◌≡◌, ◌+◌, ◌≤◌, true, vec_len, vec_
 use Rattle.ynl_resource.specs.Names.{same_path}
 use Rattle.ynl_resource.specs.declared.paths.Path.{Path}
 use Rattle.ynl_model.specs.Applications.{Application, new_app}
-use Rattle.ynl_core.specs.declared.rows.LeafRow.{LeafRow}
+use Rattle.ynl_tables.specs.declared.rows.LeafRow.{LeafRow}
 use Rattle.ynl_core.specs.declared.submitting.Submission.{Submission}
 
 -- the application that a submission makes

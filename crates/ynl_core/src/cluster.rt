@@ -12,12 +12,12 @@ use crate::placing::{next_clock, push_copy, reserve, set_clock};
 use crate::resting::{rest, rests};
 use crate::serving::{is_spent, serve};
 use crate::submitting::{Submission, home_of, refusal_of, reserve_place, submit};
-use crate::tables::{Tables, containers_at, is_full, node_at};
 use std::alloc::Global;
 use std::marker::Model;
 use ynl_model::{Event, Node, Placed, PlacedList, Reply};
 use ynl_queues::Config;
 use ynl_resource::{Label, Name, Path, Refusal, Size};
+use ynl_tables::{Tables, containers_at, is_full, node_at};
 
 /// A cluster: what it is configured with, and its state. The names of nodes that rest are listed
 /// beside it, so that their heartbeats take no search; a change of the cluster strikes them all.

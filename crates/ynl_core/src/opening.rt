@@ -3,15 +3,14 @@
 ghost use Rattle.std.specs.Prelude.{◌≡◌, [], ◌∷◌, ◌++◌, IfOk};
 ghost use Rattle.ynl_model.specs.Applications.{no_apps};
 ghost use Rattle.ynl_model.specs.Cluster.{opening, no_containers};
-ghost use Rattle.ynl_core.specs.Tables.{state_of, leaves_of, partitions_of};
+ghost use Rattle.ynl_tables.specs.Tables.{state_of, leaves_of, partitions_of};
 
 use crate::memory::NoMemory;
-use crate::rows::{LeafRow, PartitionRow};
-use crate::tables::Tables;
 use std::alloc::Global;
 use ynl_nodes::Labels;
 use ynl_queues::{Config, Maxima, Stops};
 use ynl_resource::Label;
+use ynl_tables::{LeafRow, PartitionRow, Tables};
 
 fn push_partition(rows: &mut Vec<PartitionRow>, alloc: Global, label: Label) -> Result<(), NoMemory>
     ensures { IfOk result (λ _. partitions_of rows.new.items ≡ partitions_of rows.old.items ++ record { label = label; clock = 0; containers = [] } ∷ []) }

@@ -8,16 +8,15 @@ ghost use Rattle.ynl_model.specs.Nodes.{stamped, is_at};
 ghost use Rattle.ynl_model.specs.Applications.{in_leaf, with_app, is_ask_of, take_one};
 ghost use Rattle.ynl_model.specs.Cluster.{in_partition, next_clock};
 ghost use Rattle.ynl_model.specs.Changes.{place, container_of, taken};
-ghost use Rattle.ynl_core.specs.Tables.{state_of, app_of, leaf_of_row, leaves_of, partition_of, partitions_of, HasRoom};
+ghost use Rattle.ynl_tables.specs.Tables.{state_of, app_of, leaf_of_row, leaves_of, partition_of, partitions_of, HasRoom};
 ghost use Rattle.ynl_core.specs.Placing.{put_on, taken_from, taken_at};
 
-use crate::requests::Request;
-use crate::rows::{App, Ask, LeafRow, PartitionRow};
-use crate::tables::{Tables, clock_at, is_same, risen};
 use std::alloc::AllocError;
+use ynl_choice::Request;
 use ynl_model::{Node, Placed, What};
 use ynl_queues::Config;
 use ynl_resource::{Id, Label, Name, Path};
+use ynl_tables::{App, Ask, LeafRow, PartitionRow, Tables, clock_at, is_same, risen};
 
 /// What a partition's clock shows after one more change there.
 #[tactic(auto, unfolding(ynl_model::specs::Cluster::next_clock, ynl_model::specs::Cluster::clock))]

@@ -6,8 +6,8 @@ ghost use Rattle.ynl_model.specs.Queues.{Config};
 ghost use Rattle.ynl_model.specs.Cluster.{State};
 ghost use Rattle.ynl_core.specs.Resting.{Rests, AreResting};
 
-use crate::tables::lists_name;
 use ynl_resource::Name;
+use ynl_tables::lists_name;
 
 /// Whether a node is listed as one that rests.
 pub fn rests(names: &[Name], name: &Name) -> bool

@@ -4,15 +4,14 @@ ghost use Rattle.std.specs.Prelude.{◌≡◌, ◌≤◌, ◌+◌, ◌++◌, vec
 ghost use Rattle.ynl_model.specs.Cluster.{is_spent};
 ghost use Rattle.ynl_model.specs.Changes.{next_item, beat};
 ghost use Rattle.ynl_laws.specs.Working.{IsWorking, Stands};
-ghost use Rattle.ynl_core.specs.Tables.{state_of, HasRoom};
+ghost use Rattle.ynl_tables.specs.Tables.{state_of, HasRoom};
 
-use crate::choosing::choose;
 use crate::placing::{place, push_copy};
-use crate::requests::Request;
-use crate::tables::{Tables, clock_at};
+use ynl_choice::{Request, choose};
 use ynl_model::{Node, Placed};
 use ynl_queues::Config;
 use ynl_resource::Label;
+use ynl_tables::{Tables, clock_at};
 
 /// Whether a partition's clock is spent: it stands at its limit, and nothing is placed there.
 #[tactic(auto, unfolding(ynl_model::specs::Cluster::is_spent, ynl_model::specs::Cluster::clock))]

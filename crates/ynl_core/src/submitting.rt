@@ -8,14 +8,13 @@ ghost use Rattle.ynl_model.specs.Events.{has_most_apps, home_of, reasons};
 ghost use Rattle.ynl_model.specs.declared.events.Event.TheVariants.{Submit};
 ghost use Rattle.ynl_resource.specs.Refusals.{first_that_holds};
 ghost use Rattle.ynl_resource.specs.declared.labels.Label.{Label};
-ghost use Rattle.ynl_core.specs.Tables.{state_of, leaf_of_row, leaves_of};
+ghost use Rattle.ynl_tables.specs.Tables.{state_of, leaf_of_row, leaves_of};
 ghost use Rattle.ynl_core.specs.Submitting.{application, HasPlace};
 
-use crate::rows::{App, LeafRow};
-use crate::tables::{Tables, apps_at, leaf_row_of, tenant_bytes};
 use std::alloc::{AllocError, Global};
 use ynl_queues::Config;
 use ynl_resource::{Label, Name, Path, Refusal, Size};
+use ynl_tables::{App, LeafRow, Tables, apps_at, leaf_row_of, tenant_bytes};
 
 /// What a new application is: it asks for nothing yet.
 #[derive(Clone, Copy)]

@@ -1,6 +1,6 @@
 use Rattle.std.proofs.Common.{◌≡◌, [], map, filter, take}
 use Rattle.ynl_model.specs.Queues.{is_leaf}
-use Rattle.ynl_core.specs.Tables.{leaves_of}
+use Rattle.ynl_tables.specs.Tables.{leaves_of}
 use Rattle.ynl_core.proofs.opening.leaves.Given as goal
 
 abbrev pub invariant-loop-queue : goal.invariant-loop-queue

@@ -1,6 +1,6 @@
 use Rattle.std.proofs.Common.{◌≡◌, [], ◌∷◌, map, take}
 use Rattle.ynl_resource.specs.declared.labels.Label.TheVariants.{Unlabelled, Named}
-use Rattle.ynl_core.specs.Tables.{partitions_of}
+use Rattle.ynl_tables.specs.Tables.{partitions_of}
 use Rattle.ynl_core.proofs.opening.partitions.Given as goal
 
 abbrev pub invariant-loop-row : goal.invariant-loop-row

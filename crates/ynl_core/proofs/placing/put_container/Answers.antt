@@ -1,8 +1,8 @@
 use Rattle.std.proofs.Common.{◌≡◌, ℕ, ◌+◌, ◌<◌, ◌≤◌, length, take, sym, ap, subst, ◌∙◌, arith, true, vec_len, vec_capacity}
 use Rattle.std.proofs.lemmas.List.{take_all}
 use Rattle.ynl_resource.specs.Names.{same_label}
-use Rattle.ynl_core.specs.declared.rows.PartitionRow.{PartitionRow}
-use Rattle.ynl_core.specs.Tables.{partition_of, HasRoom}
+use Rattle.ynl_tables.specs.declared.rows.PartitionRow.{PartitionRow}
+use Rattle.ynl_tables.specs.Tables.{partition_of, HasRoom}
 use Rattle.ynl_core.specs.Placing.{put_on}
 use Rattle.ynl_core.proofs.InPlace.{changed_step, next_is, each_changed, each_front, whole_again}
 use Rattle.ynl_core.proofs.placing.put_container.Goals as goal

@@ -1,5 +1,5 @@
 use Rattle.std.proofs.Common.{ℕ, ◌+◌, take}
-use Rattle.ynl_core.specs.Tables.{partition_of, HasRoom}
+use Rattle.ynl_tables.specs.Tables.{partition_of, HasRoom}
 use Rattle.ynl_core.specs.Placing.{put_on}
 use Rattle.ynl_core.proofs.InPlace.{IsChanged}
 use Rattle.ynl_core.proofs.placing.put_container.Given as goal

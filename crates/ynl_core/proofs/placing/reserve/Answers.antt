@@ -1,9 +1,9 @@
-use Rattle.std.proofs.Common.{◌≡◌, ◌+◌, ◌<◌, ◌≤◌, length, ap, sym, ◌∙◌, arith, true, vec_len, vec_capacity}
+use Rattle.std.proofs.Common.{◌≡◌, ◌+◌, ◌<◌, ◌≤◌, length, ap, ◌∙◌, arith, true, vec_len, vec_capacity}
 use Rattle.std.proofs.Math.ListN.{set}
 use Rattle.std.proofs.lemmas.List.{length-set}
 use Rattle.ynl_resource.specs.Names.{same_label}
-use Rattle.ynl_core.specs.declared.rows.PartitionRow.{PartitionRow}
-use Rattle.ynl_core.specs.Tables.{partition_of, partitions_of}
+use Rattle.ynl_tables.specs.declared.rows.PartitionRow.{PartitionRow}
+use Rattle.ynl_tables.specs.Tables.{partition_of, partitions_of}
 use Rattle.ynl_core.proofs.InPlace.{each_step, same_set, whole_again}
 use Rattle.ynl_core.proofs.placing.reserve.Goals as goal
 

@@ -1,5 +1,5 @@
 use Rattle.std.proofs.Common.{◌≡◌, take}
-use Rattle.ynl_core.specs.Tables.{partitions_of, HasRoom}
+use Rattle.ynl_tables.specs.Tables.{partitions_of, HasRoom}
 use Rattle.ynl_core.proofs.placing.reserve.Given as goal
 
 abbrev pub invariant-loop-row : goal.invariant-loop-row

@@ -1,7 +1,7 @@
 use Rattle.std.proofs.Common.{cond}
 use Rattle.ynl_resource.specs.Names.{same_label}
 use Rattle.ynl_model.specs.Cluster.{Partition}
-use Rattle.ynl_core.specs.Tables.{partition_of}
+use Rattle.ynl_tables.specs.Tables.{partition_of}
 use Rattle.ynl_core.proofs.InPlace.{changed_step}
 use Rattle.ynl_core.proofs.placing.set_clock.Goals as goal
 

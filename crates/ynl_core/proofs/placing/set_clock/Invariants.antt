@@ -1,6 +1,6 @@
 use Rattle.std.proofs.Common.{cond}
 use Rattle.ynl_resource.specs.Names.{same_label}
-use Rattle.ynl_core.specs.Tables.{partition_of}
+use Rattle.ynl_tables.specs.Tables.{partition_of}
 use Rattle.ynl_core.proofs.InPlace.{IsChanged}
 use Rattle.ynl_core.proofs.placing.set_clock.Given as goal
 

@@ -1,5 +1,5 @@
 use Rattle.ynl_resource.specs.declared.paths.Path.{Path}
-use Rattle.ynl_core.specs.Tables.{app_of}
+use Rattle.ynl_tables.specs.Tables.{app_of}
 use Rattle.ynl_core.specs.Placing.{taken_at}
 use Rattle.ynl_core.proofs.InPlace.{IsChanged}
 use Rattle.ynl_core.proofs.placing.take_among.Given as goal

@@ -1,4 +1,4 @@
-use Rattle.ynl_core.specs.Tables.{leaf_of_row}
+use Rattle.ynl_tables.specs.Tables.{leaf_of_row}
 use Rattle.ynl_core.specs.Placing.{taken_from}
 use Rattle.ynl_core.proofs.InPlace.{IsChanged}
 use Rattle.ynl_core.proofs.placing.take_ask.Given as goal

@@ -1,7 +1,7 @@
 use Rattle.std.proofs.Common.{Bool, cond, sym, ap, ◌∙◌}
 use Rattle.ynl_resource.specs.declared.paths.Path.{Path}
 use Rattle.ynl_model.specs.Applications.{take_one}
-use Rattle.ynl_core.specs.Tables.{app_of}
+use Rattle.ynl_tables.specs.Tables.{app_of}
 use Rattle.ynl_core.proofs.placing.take_at.Goals as goal
 
 pub returns-then-eq : goal.returns-then-eq

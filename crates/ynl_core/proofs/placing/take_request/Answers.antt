@@ -1,10 +1,10 @@
-use Rattle.std.proofs.Common.{◌≡◌, List, refl, sym, ap, ◌∙◌}
+use Rattle.std.proofs.Common.{List, refl, sym, ap, ◌∙◌}
 use Rattle.ynl_resource.specs.Names.{same_name, same_path}
 use Rattle.ynl_model.specs.Applications.{Application, LeafApps, in_leaf, with_app}
 use Rattle.ynl_model.specs.Changes.{taken}
 use Rattle.ynl_model.specs.declared.proposals.What.{What}
 use Rattle.ynl_model.specs.Service.{Item}
-use Rattle.ynl_core.specs.Tables.{leaves_of}
+use Rattle.ynl_tables.specs.Tables.{leaves_of}
 use Rattle.ynl_core.proofs.InPlace.{update_same}
 use Rattle.ynl_core.proofs.placing.take_request.Goals as goal
 

@@ -1,5 +1,4 @@
-use Rattle.std.proofs.Common.{[], ◌∷◌, ◌++◌, sym, subst, ◌∙◌, ap}
-use Rattle.std.specs.List.{AllByRecursion}
+use Rattle.std.proofs.Common.{[], ◌∷◌, sym, subst}
 use Rattle.ynl_laws.proofs.Lists.{Each-append}
 use Rattle.ynl_core.specs.Resting.{Rests, AreResting}
 use Rattle.ynl_core.proofs.resting.rest.Goals as goal

@@ -1,7 +1,6 @@
 use Rattle.std.proofs.Common.{◌≡◌, ◌+◌, List, [], ◌∷◌, ◌++◌, take, arith, sym, subst, ap, ◌∙◌}
 use Rattle.std.proofs.lemmas.List.{take_more}
 use Rattle.ynl_model.specs.declared.events.Event.{Event}
-use Rattle.ynl_core.specs.declared.runs.Answer.{Answer}
 use Rattle.ynl_core.specs.Runs.{IsRun}
 use Rattle.ynl_core.proofs.RunMore.{run_more}
 use Rattle.ynl_core.proofs.running.run.Goals as goal

@@ -1,4 +1,4 @@
-use Rattle.ynl_core.specs.Tables.{state_of}
+use Rattle.ynl_tables.specs.Tables.{state_of}
 use Rattle.ynl_core.proofs.Serves.{bounded}
 use Rattle.ynl_core.proofs.serving.next_request.Goals as goal
 

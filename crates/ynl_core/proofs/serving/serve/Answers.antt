@@ -1,7 +1,7 @@
 use Rattle.std.proofs.Common.{◌≡◌, ℕ, suc, ◌+◌, ◌-◌, ◌≤◌, [], ◌∷◌, ◌++◌, Some, sym, ap, subst, ◌∙◌, arith}
 use Rattle.ynl_model.specs.declared.containers.Placed.{Placed}
-use Rattle.ynl_model.specs.Changes.{beat, next_item}
-use Rattle.ynl_core.specs.Tables.{state_of, HasRoom}
+use Rattle.ynl_model.specs.Changes.{next_item}
+use Rattle.ynl_tables.specs.Tables.{state_of, HasRoom}
 use Rattle.ynl_core.proofs.InPlace.{less_room}
 use Rattle.ynl_core.proofs.Serves.{beat_none, beat_zero, state_done, placed_done, state_next, placed_next, working_next, stands_next}
 use Rattle.ynl_core.proofs.serving.serve.Goals as goal

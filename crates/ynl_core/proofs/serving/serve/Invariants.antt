@@ -1,7 +1,7 @@
 use Rattle.std.proofs.Common.{◌≡◌, ◌+◌, ◌-◌, ◌≤◌, ◌++◌, vec_len, vec_capacity}
 use Rattle.ynl_model.specs.Changes.{beat}
 use Rattle.ynl_laws.specs.Working.{IsWorking, Stands}
-use Rattle.ynl_core.specs.Tables.{state_of, HasRoom}
+use Rattle.ynl_tables.specs.Tables.{state_of, HasRoom}
 use Rattle.ynl_core.proofs.serving.serve.Given as goal
 
 abbrev pub invariant-loop-i : goal.invariant-loop-i

@@ -1,7 +1,7 @@
-use Rattle.std.proofs.Common.{◌≡◌, ◌+◌, ◌<◌, ◌≤◌, length, ap, ◌∙◌, arith}
+use Rattle.std.proofs.Common.{◌<◌, length, ap, ◌∙◌, arith}
 use Rattle.std.proofs.Math.ListN.{set}
 use Rattle.std.proofs.lemmas.List.{length-set}
-use Rattle.ynl_core.specs.Tables.{leaf_of_row, leaves_of}
+use Rattle.ynl_tables.specs.Tables.{leaf_of_row, leaves_of}
 use Rattle.ynl_core.specs.Submitting.{HasPlace}
 use Rattle.ynl_core.proofs.InPlace.{each_step, same_set, whole_again}
 use Rattle.ynl_core.proofs.submitting.reserve_place.Goals as goal

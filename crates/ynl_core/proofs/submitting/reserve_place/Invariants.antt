@@ -1,6 +1,6 @@
 use Rattle.std.proofs.Common.{◌≡◌, take}
 use Rattle.std.specs.List.{AllByRecursion}
-use Rattle.ynl_core.specs.Tables.{leaves_of}
+use Rattle.ynl_tables.specs.Tables.{leaves_of}
 use Rattle.ynl_core.specs.Submitting.{HasPlace}
 use Rattle.ynl_core.proofs.submitting.reserve_place.Given as goal
 

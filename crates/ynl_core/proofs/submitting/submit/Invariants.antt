@@ -1,7 +1,7 @@
 use Rattle.std.proofs.Common.{cond}
 use Rattle.ynl_resource.specs.Names.{same_path}
 use Rattle.ynl_model.specs.Applications.{submitted}
-use Rattle.ynl_core.specs.Tables.{leaf_of_row}
+use Rattle.ynl_tables.specs.Tables.{leaf_of_row}
 use Rattle.ynl_core.specs.Submitting.{application}
 use Rattle.ynl_core.proofs.InPlace.{IsChanged}
 use Rattle.ynl_core.proofs.submitting.submit.Given as goal

@@ -1,10 +1,10 @@
-use Rattle.std.proofs.Common.{◌≡◌, Bool, true, cond, List, [], ◌∷◌, ◌++◌, map, sym, ap, ◌∙◌}
+use Rattle.std.proofs.Common.{◌≡◌, Bool, true, cond, [], ◌∷◌, ◌++◌, map, sym, ap, ◌∙◌}
 use Rattle.std.proofs.lemmas.List.{map_push}
 use Rattle.ynl_resource.specs.Names.{same_path}
 use Rattle.ynl_model.specs.Applications.{submitted}
 use Rattle.ynl_laws.proofs.Restricted.{same-path}
-use Rattle.ynl_core.specs.declared.rows.App.{App}
-use Rattle.ynl_core.specs.Tables.{app_of, leaf_of_row}
+use Rattle.ynl_tables.specs.declared.rows.App.{App}
+use Rattle.ynl_tables.specs.Tables.{app_of, leaf_of_row}
 use Rattle.ynl_core.specs.Submitting.{application}
 use Rattle.ynl_core.proofs.submitting.submit_on.Goals as goal
 

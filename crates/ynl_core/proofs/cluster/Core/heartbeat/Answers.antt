@@ -1,17 +1,17 @@
-use Rattle.std.proofs.Common.{◌≡◌, ◌<◌, [], None, Some, false, rules, sym, ap, subst, ◌∙◌}
+use Rattle.std.proofs.Common.{◌≡◌, ◌<◌, [], Some, false, rules, sym, ap, subst, ◌∙◌}
 use Rattle.ynl_model.specs.declared.events.Event.{Event}
 use Rattle.ynl_model.specs.declared.events.Event.TheVariants.{Heartbeat}
 use Rattle.ynl_model.specs.declared.replies.Reply.TheVariants.{Placed}
 use Rattle.ynl_model.specs.Nodes.{find_node}
 use Rattle.ynl_model.specs.Cluster.{State, is_spent}
-use Rattle.ynl_model.specs.Changes.{Beat, beat, next_item}
+use Rattle.ynl_model.specs.Changes.{beat}
 use Rattle.ynl_model.specs.Events.{Outcome, step, reasons, accepted}
-use Rattle.ynl_laws.specs.Working.{IsWorking, Stands}
+use Rattle.ynl_laws.specs.Working.{IsWorking}
 use Rattle.ynl_laws.proofs.Working.{working-step}
 use Rattle.ynl_laws.proofs.Steps.{stands-found}
 use Rattle.ynl_core.specs.CoreFields.{world_of, IsSound}
 use Rattle.ynl_core.specs.Resting.{AreResting}
-use Rattle.ynl_core.specs.Tables.{state_of, leaves_of, partitions_of}
+use Rattle.ynl_tables.specs.Tables.{state_of, leaves_of, partitions_of}
 use Rattle.ynl_core.specs.World.{World, Answers}
 use Rattle.ynl_core.proofs.Idle.{empty_items, unplaced_more, unplaced_rests, unplaced_same, resting_step}
 use Rattle.ynl_core.proofs.Stepping.{none_rests}

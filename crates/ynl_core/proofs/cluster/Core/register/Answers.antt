@@ -8,7 +8,7 @@ use Rattle.ynl_model.specs.Events.{step, reasons, accepted}
 use Rattle.ynl_laws.specs.Working.{IsWorking}
 use Rattle.ynl_laws.proofs.Working.{working-step}
 use Rattle.ynl_core.proofs.Stepping.{none_rests}
-use Rattle.ynl_core.specs.Tables.{state_of, leaves_of, partitions_of}
+use Rattle.ynl_tables.specs.Tables.{state_of, leaves_of, partitions_of}
 use Rattle.ynl_core.proofs.cluster.Core.register.Goals as goal
 
 pub invariant_of-self-2 : goal.invariant_of-self-2

@@ -4,11 +4,10 @@ use Rattle.ynl_model.specs.declared.events.Event.{Event}
 use Rattle.ynl_model.specs.declared.events.Event.TheVariants.{Submit}
 use Rattle.ynl_model.specs.declared.replies.Reply.TheVariants.{Refused, Done}
 use Rattle.ynl_model.specs.Applications.{in_leaf, submitted, new_app}
-use Rattle.ynl_model.specs.Cluster.{State}
 use Rattle.ynl_model.specs.Events.{Outcome, done, step, reasons, accepted}
 use Rattle.ynl_laws.specs.Working.{IsWorking}
 use Rattle.ynl_laws.proofs.Working.{working-step}
-use Rattle.ynl_core.specs.Tables.{state_of, leaves_of, partitions_of}
+use Rattle.ynl_tables.specs.Tables.{state_of, leaves_of, partitions_of}
 use Rattle.ynl_core.specs.World.{World, Answers}
 use Rattle.ynl_core.specs.CoreFields.{world_of}
 use Rattle.ynl_core.proofs.Stepping.{taken_in, answers_refused, none_rests}

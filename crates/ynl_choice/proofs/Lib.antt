@@ -1,0 +1,4 @@
+pub mod Rooms
+pub mod Ranked
+pub mod Considering
+pub mod Choices

@@ -1,0 +1,15 @@
+//! What is placed next on a node: which requests are eligible there, by room, maxima, user limit and
+//! master share, and which of them is first in the order of service.
+#![tactic(auto)]
+
+pub use choosing::choose;
+pub use requests::Request;
+
+mod choosing;
+mod eligible;
+mod leaf_use;
+mod order;
+mod ranking;
+mod requests;
+mod scenes;
+mod standings;

@@ -1,0 +1,98 @@
+//! The order of service: which of two requests is first.
+
+ghost use Rattle.std.specs.Prelude.{◌≡◌, ◌*◌};
+ghost use Rattle.std.specs.Ordering.{is_gt, nat_cmp};
+ghost use Rattle.std.specs.Cmp.Lexicographic.{slice_cmp};
+ghost use Rattle.ynl_model.specs.Service.{ratio_order, standing_order, key_order};
+ghost use Rattle.ynl_choice.specs.Candidates.{key_of, rank_order};
+
+use crate::standings::{Candidate, Standing};
+use std::cmp::Ordering;
+use ynl_model::What;
+
+fn product(a: u64, b: u64) -> u128
+    ensures { result ≡ a * b }
+{
+    u128::from(a) * u128::from(b)
+}
+
+/// The smaller ratio of use to guarantee first, compared as fractions; one over 0 comes last.
+fn ratio_order(a: &Standing, b: &Standing) -> Ordering
+    ensures { result ≡ ratio_order a.now.ratio b.now.ratio }
+{
+    if a.guaranteed == 0 {
+        return if b.guaranteed == 0 {
+            Ordering::Equal
+        } else {
+            Ordering::Greater
+        };
+    }
+    if b.guaranteed == 0 {
+        return Ordering::Less;
+    }
+    let left = product(a.used, b.guaranteed);
+    let right = product(b.used, a.guaranteed);
+    left.cmp(&right)
+}
+
+fn standing_order(a: &Standing, b: &Standing) -> Ordering
+    ensures { result ≡ standing_order a.now b.now }
+{
+    match ratio_order(a, b) {
+        Ordering::Equal => a.name.cmp(&b.name),
+        other => other,
+    }
+}
+
+fn standings_order(a: &[Standing], b: &[Standing]) -> Ordering
+    ensures { result ≡ slice_cmp standing_order a.now b.now }
+{
+    match (a.split_first(), b.split_first()) {
+        (None, None) => Ordering::Equal,
+        (None, Some(_)) => Ordering::Less,
+        (Some(_), None) => Ordering::Greater,
+        (Some((x, xs)), Some((y, ys))) => match standing_order(x, y) {
+            Ordering::Equal => standings_order(xs, ys),
+            other => other,
+        },
+    }
+}
+
+/// Within an application the master is first, and then the lower priority number.
+fn rank_order(a: &What, b: &What) -> Ordering
+    ensures { result ≡ rank_order a.now b.now }
+{
+    match (a, b) {
+        (What::Master, What::Master) => Ordering::Equal,
+        (What::Master, What::Ask(_, _)) => Ordering::Less,
+        (What::Ask(_, _), What::Master) => Ordering::Greater,
+        (What::Ask(_, p), What::Ask(_, q)) => p.cmp(q),
+    }
+}
+
+fn turn_order(a: &Candidate, b: &Candidate) -> Ordering
+    ensures { result ≡ slice_cmp nat_cmp (key_of a.now).turn (key_of b.now).turn }
+{
+    match a.place.cmp(&b.place) {
+        Ordering::Equal => rank_order(&a.request.what, &b.request.what),
+        other => other,
+    }
+}
+
+fn order(a: &Candidate, b: &Candidate) -> Ordering
+    ensures { result ≡ key_order (key_of a.now) (key_of b.now) }
+{
+    let here = &a.standings.places[..a.standings.depth];
+    let there = &b.standings.places[..b.standings.depth];
+    match standings_order(here, there) {
+        Ordering::Equal => turn_order(a, b),
+        other => other,
+    }
+}
+
+/// Whether the second candidate is before the first.
+pub fn is_overtaken(a: &Candidate, b: &Candidate) -> bool
+    ensures { result ≡ is_gt (key_order (key_of a.now) (key_of b.now)) }
+{
+    order(a, b) == Ordering::Greater
+}

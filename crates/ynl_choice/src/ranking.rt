@@ -1,0 +1,72 @@
+//! What the queues on the way to a leaf stand like on a partition.
+
+ghost use Rattle.std.specs.Prelude.{◌≡◌, ◌<◌, ◌≤◌, length, map};
+ghost use Rattle.ynl_resource.specs.Names.{way_to};
+ghost use Rattle.ynl_model.specs.Cluster.{total as total_on};
+ghost use Rattle.ynl_model.specs.Service.{standing, last_name};
+ghost use Rattle.ynl_tables.specs.Tables.{state_of};
+ghost use Rattle.ynl_tables.specs.Bounds.{IsBounded};
+ghost use Rattle.ynl_choice.specs.Candidates.{standings_of};
+
+use crate::standings::{Standing, Standings};
+use ynl_queues::{Config, step_at};
+use ynl_resource::{Label, Name, Resource};
+use ynl_tables::{Tables, used};
+
+fn last_of(queue: &[Name]) -> Name
+    requires { 0 < length queue.now }
+    ensures { result ≡ last_name queue.now }
+{
+    queue[queue.len() - 1]
+}
+
+#[tactic(auto, unfolding(ynl_model::specs::Cluster::guaranteed))]
+fn standing_of(
+    config: &Config,
+    tables: &Tables,
+    queue: &[Name],
+    label: &Label,
+    total: &Resource,
+) -> Standing
+    requires bounded { IsBounded (state_of tables.now) }
+    requires total { total.now ≡ total_on (state_of tables.now) label.now }
+    requires below_root { 0 < length queue.now }
+    ensures { result ≡ standing config.now (state_of tables.now) label.now queue.now }
+{
+    let used = used(tables, queue, label);
+    let guaranteed = config.guaranteed(queue, label, total);
+    Standing {
+        used: used.memory,
+        guaranteed: guaranteed.memory,
+        name: last_of(queue),
+    }
+}
+
+/// How the queues on the way to a leaf stand on a partition.
+pub fn standings_on(
+    config: &Config,
+    tables: &Tables,
+    leaf: &[Name],
+    tenant: &Name,
+    label: &Label,
+    total: &Resource,
+) -> Standings
+    requires bounded { IsBounded (state_of tables.now) }
+    requires total { total.now ≡ total_on (state_of tables.now) label.now }
+    requires depth { length leaf.now ≤ 7 }
+    ensures { standings_of result ≡ map (standing config.now (state_of tables.now) label.now) (way_to leaf.now) }
+{
+    let mut places = [Standing {
+        used: 0,
+        guaranteed: 0,
+        name: *tenant,
+    }; 7];
+    for depth in 0..leaf.len() {
+        let step = step_at(leaf, depth + 1);
+        places[depth] = standing_of(config, tables, step, label, total);
+    }
+    Standings {
+        places,
+        depth: leaf.len(),
+    }
+}

@@ -1,8 +1,0 @@
-use Rattle.std.proofs.Common.{◌≡◌, take, filter}
-use Rattle.ynl_model.specs.Cluster.{sizes}
-use Rattle.ynl_core.specs.Tables.{leaves_of}
-use Rattle.ynl_core.specs.Uses.{is_counted}
-use Rattle.ynl_core.proofs.uses.used_by.Given as goal
-
-abbrev pub invariant-loop-container : goal.invariant-loop-container
-invariant-loop-container l = l.sum ≡ sizes (filter (is_counted (leaves_of l.leaves) l.queue l.whose) (take l.container-index l.containers))

@@ -1,0 +1,4 @@
+pub mod Finding
+pub mod Adding
+pub mod Filters
+pub mod Shared

@@ -1,0 +1,13 @@
+use Rattle.std.proofs.Common.{Bool}
+use Rattle.std.specs.Prelude.{◌&&◌}
+use Rattle.std.specs.List.{list_any}
+use Rattle.ynl_resource.specs.Names.{same_name, tenant_of}
+use Rattle.ynl_model.specs.Applications.{LeafApps}
+use Rattle.ynl_tables.specs.Tables.{leaf_of_row}
+use Rattle.ynl_tables.proofs.Finding.{meant}
+use Rattle.ynl_tables.proofs.tables.leaf_row_of.Goals as goal
+
+pub returns : goal.returns
+returns c =
+    let q : LeafApps → Bool = λ row. same_name (tenant_of row.leaf) c.args.tenant.now && list_any (same_name c.args.name.now) row.names in
+    meant leaf_of_row q c.args.rows.now _ c.submitted_row.ensures

@@ -1,0 +1,14 @@
+-- Amounts small enough to be added up and scaled.
+use Rattle.std.specs.Prelude.{◌<◌, ◌≤◌, ◌^◌}
+use Rattle.ynl_resource.specs.declared.amounts.Resource.{Resource}
+use Rattle.ynl_resource.specs.declared.labels.Label.{Label}
+use Rattle.ynl_model.specs.Cluster.{State, total, containers_on, sizes}
+
+-- at most what the largest partition has
+abbrev pub IsTotal : Resource → Type 0
+IsTotal a = (a.memory < 2 ^ 48) × (a.vcores ≤ 2 ^ 32)
+
+-- in each partition the total is small, and so is what its containers come to
+pub record IsBounded (s : State) : Type 0 where
+  pub totals : (p : Label) → IsTotal (total s p)
+  pub sizes : (p : Label) → IsTotal (sizes (containers_on s p))

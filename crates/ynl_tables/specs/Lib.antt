@@ -1,0 +1,4 @@
+pub mod Bounds
+pub mod Sharing
+pub mod Tables
+pub mod Uses

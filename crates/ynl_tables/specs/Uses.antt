@@ -1,0 +1,28 @@
+-- Which containers count in a sum.
+use Rattle.std.specs.Prelude.{Bool, true, not, ◌&&◌, List}
+use Rattle.ynl_resource.specs.Names.{same_name}
+use Rattle.ynl_resource.specs.declared.names.Name.{Name}
+use Rattle.ynl_resource.specs.declared.paths.Path.{Path}
+use Rattle.ynl_model.specs.declared.containers.Placed.{Placed as Container}
+use Rattle.ynl_model.specs.Applications.{LeafApps}
+use Rattle.ynl_model.specs.Cluster.{is_master, is_guest, is_below, of_app_that}
+use Rattle.ynl_tables.specs.declared.uses.Whose.{Whose}
+use Rattle.ynl_tables.specs.declared.uses.Whose.TheVariants.{Everyone, User, Masters}
+
+-- whether a container counts in the use of a queue: it is no guest, and its leaf is the queue or below
+abbrev pub counts : List LeafApps → Path → Container → Bool
+counts leaves queue container = not (is_guest container) && is_below leaves queue container
+
+-- whether a container is that of a live application of a user
+abbrev pub of_user : Name → List LeafApps → Container → Bool
+of_user user leaves = of_app_that (λ app. same_name app.user user) leaves
+
+-- whether a container is among those whose use is wanted
+abbrev pub is_whose : List LeafApps → Whose → Container → Bool
+is_whose leaves Everyone container = true
+is_whose leaves (User user) container = of_user user.now leaves container
+is_whose leaves Masters container = is_master container
+
+-- whether a container counts in the use of a queue, and is among those whose use is wanted
+abbrev pub is_counted : List LeafApps → Path → Whose → Container → Bool
+is_counted leaves queue whose container = counts leaves queue container && is_whose leaves whose container

@@ -1,0 +1,152 @@
+//! The tables of a cluster, and what is read of them.
+
+ghost use Rattle.std.specs.Prelude.{◌≡◌, ◌&&◌, [], IfSome, option_map, find, map, length};
+ghost use Rattle.std.specs.List.{list_any};
+ghost use Rattle.std.specs.Option.{option_map_or};
+ghost use Rattle.ynl_resource.specs.Names.{same_name, same_path, same_label, tenant_of};
+ghost use Rattle.ynl_model.specs.Nodes.{find_node, nodes_of, is_full, rises};
+ghost use Rattle.ynl_model.specs.Applications.{row_of, apps_of};
+ghost use Rattle.ynl_model.specs.Cluster.{is_partition};
+ghost use Rattle.ynl_tables.specs.Tables.{leaf_of_row, leaves_of, partition_of, partitions_of, app_of};
+
+use crate::rows::{App, LeafRow, PartitionRow};
+use ynl_model::{Node, Placed};
+use ynl_queues::{Maxima, Stops};
+use ynl_resource::{Label, Name, Path};
+
+/// The tables of a cluster.
+#[derive(Drop)]
+pub struct Tables {
+    pub nodes: Vec<Node>,
+    pub partitions: Vec<PartitionRow>,
+    pub leaves: Vec<LeafRow>,
+    pub stops: Stops,
+    pub maxima: Maxima,
+}
+
+/// Whether two labels name the same partition.
+pub fn is_same(a: &Label, b: &Label) -> bool
+    ensures { result ≡ same_label a.now b.now }
+{
+    *a == *b
+}
+
+// ---- nodes
+
+/// The node of a name.
+pub fn node_at(nodes: &[Node], name: &Name) -> Option<Node>
+    ensures { result ≡ find_node nodes.now name.now }
+{
+    nodes.iter().copied().find(|node| node.name == *name)
+}
+
+fn count_on(nodes: &[Node], label: &Label) -> usize
+    ensures { result ≡ length (nodes_of nodes.now label.now) }
+{
+    nodes.iter().filter(|node| node.label == *label).count()
+}
+
+/// Whether a partition has no place for one more node.
+#[tactic(auto, unfolding(ynl_model::specs::Nodes::is_full))]
+pub fn is_full(nodes: &[Node], label: &Label) -> bool
+    ensures { result ≡ is_full nodes.now label.now }
+{
+    count_on(nodes, label) >= 65536
+}
+
+// ---- partitions
+
+fn partition_row<'a>(rows: &'a [PartitionRow], label: &Label) -> Option<&'a PartitionRow>
+    ensures { option_map (λ r. r.now) result ≡ find (λ row. same_label row.label label.now) rows.now }
+{
+    rows.iter().find(|row| row.label == *label)
+}
+
+fn partition_at<'a>(rows: &'a [PartitionRow], label: &Label) -> Option<&'a PartitionRow>
+    ensures { option_map (λ r. partition_of r.now) result ≡ find (is_partition label.now) (partitions_of rows.now) }
+{
+    partition_row(rows, label)
+}
+
+/// What a partition's clock shows; 0 where there is no such partition.
+pub fn clock_at(rows: &[PartitionRow], label: &Label) -> u64
+    ensures { result ≡ option_map_or (λ row. row.clock) (find (is_partition label.now) (partitions_of rows.now)) 0 }
+{
+    match partition_at(rows, label) {
+        Some(row) => row.clock,
+        None => 0,
+    }
+}
+
+/// The containers on a partition, in the order of placement.
+pub fn containers_at<'a>(rows: &'a [PartitionRow], label: &Label) -> &'a [Placed]
+    ensures { result.now ≡ option_map_or (λ row. row.containers) (find (is_partition label.now) (partitions_of rows.now)) [] }
+{
+    match partition_at(rows, label) {
+        Some(row) => &row.containers,
+        None => &[],
+    }
+}
+
+/// A clock after one more change: it rises by 1, and at its limit it stays.
+pub fn risen(limit: u64, clock: u64) -> u64
+    ensures { result ≡ rises limit clock }
+{
+    if clock < limit { clock + 1 } else { clock }
+}
+
+// ---- leaves
+
+/// The bytes of the name of a path's tenant; root has none.
+pub fn tenant_bytes(path: &Path) -> &[u8]
+    ensures { result.now ≡ tenant_of path.now }
+{
+    match path.names().first() {
+        Some(name) => name.as_bytes(),
+        None => &[],
+    }
+}
+
+/// Whether a name is listed.
+pub fn lists_name(names: &[Name], name: &Name) -> bool
+    ensures { result ≡ list_any (same_name name.now) names.now }
+{
+    names.iter().any(|listed| *name == *listed)
+}
+
+fn submitted_row<'a>(rows: &'a [LeafRow], tenant: &[u8], name: &Name) -> Option<&'a LeafRow>
+    ensures { option_map (λ r. r.now) result ≡ find (λ row. same_name (tenant_of row.path) tenant.now && list_any (same_name name.now) row.names.items) rows.now }
+{
+    rows.iter().find(|row| tenant_bytes(&row.path) == tenant && lists_name(&row.names, name))
+}
+
+/// The row of the leaf to which a tenant's application of that name was submitted; the tenant is
+/// given by the bytes of its name.
+pub fn leaf_row_of<'a>(rows: &'a [LeafRow], tenant: &[u8], name: &Name) -> Option<&'a LeafRow>
+    ensures { option_map (λ r. leaf_of_row r.now) result ≡ row_of (leaves_of rows.now) tenant.now name.now }
+{
+    submitted_row(rows, tenant, name)
+}
+
+fn leaf_row<'a>(rows: &'a [LeafRow], leaf: &Path) -> Option<&'a LeafRow>
+    ensures { option_map (λ r. r.now) result ≡ find (λ row. same_path row.path leaf.now) rows.now }
+{
+    rows.iter().find(|row| row.path == *leaf)
+}
+
+fn leaf_row_at<'a>(rows: &'a [LeafRow], leaf: &Path) -> Option<&'a LeafRow>
+    ensures meaning { option_map (λ r. leaf_of_row r.now) result ≡ find (λ row. same_path row.leaf leaf.now) (leaves_of rows.now) }
+    ensures path { IfSome result (λ r. r.now.path ≡ leaf.now) }
+{
+    leaf_row(rows, leaf)
+}
+
+/// The live applications of a leaf, in the order of submission.
+pub fn apps_at<'a>(rows: &'a [LeafRow], leaf: &Path) -> &'a [App]
+    ensures { map (app_of leaf.now) result.now ≡ apps_of (leaves_of rows.now) leaf.now }
+{
+    match leaf_row_at(rows, leaf) {
+        Some(row) => &row.apps,
+        None => &[],
+    }
+}

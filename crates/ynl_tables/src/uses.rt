@@ -1,0 +1,155 @@
+//! What containers use: sums over the containers of a partition.
+
+ghost use Rattle.std.specs.Prelude.{◌≡◌, IsTrue, filter, find, option_map, if◌then◌else◌};
+ghost use Rattle.ynl_resource.specs.Amounts.{plus, fits_in};
+ghost use Rattle.ynl_resource.specs.Names.{same_name};
+ghost use Rattle.ynl_model.specs.Nodes.{total};
+ghost use Rattle.ynl_model.specs.Cluster.{is_master, is_guest_on, is_below, sizes};
+ghost use Rattle.ynl_tables.specs.Tables.{leaves_of};
+ghost use Rattle.ynl_tables.specs.Bounds.{IsTotal};
+ghost use Rattle.ynl_tables.specs.Uses.{counts, of_user, is_whose, is_counted};
+
+use crate::rows::{App, LeafRow};
+use crate::tables::{is_same, leaf_row_of};
+use ynl_model::{Node, Placed, What};
+use ynl_queues::is_within;
+use ynl_resource::{Label, Name, Resource, Size};
+
+/// Whose use is summed.
+#[derive(Clone, Copy)]
+pub enum Whose<'a> {
+    Everyone,
+    User(&'a Name),
+    Masters,
+}
+
+const NOTHING: Resource = Resource {
+    memory: 0,
+    vcores: 0,
+};
+
+/// Whether the container is a master.
+pub fn is_master(container: &Placed) -> bool
+    ensures { result ≡ is_master container.now }
+{
+    match container.what {
+        What::Master => true,
+        What::Ask(_, _) => false,
+    }
+}
+
+/// Whether what is placed on a partition is a guest there: an ask for DEFAULT elsewhere.
+pub fn is_guest_on(partition: &Label, what: &What) -> bool
+    ensures { result ≡ is_guest_on partition.now what.now }
+{
+    match what {
+        What::Master => false,
+        What::Ask(label, _) => *label == Label::Unlabelled && *partition != Label::Unlabelled,
+    }
+}
+
+/// Whether the container's leaf is the queue or below.
+#[tactic(auto, unfolding(ynl_model::specs::Applications::leaf_of))]
+fn is_below(leaves: &[LeafRow], queue: &[Name], container: &Placed) -> bool
+    ensures { result ≡ is_below (leaves_of leaves.now) queue.now container.now }
+{
+    match leaf_row_of(leaves, container.tenant.as_bytes(), &container.app) {
+        Some(row) => is_within(queue, row.path.names()),
+        None => false,
+    }
+}
+
+/// Whether the container counts in the use of a queue.
+pub fn counts(leaves: &[LeafRow], queue: &[Name], container: &Placed) -> bool
+    ensures { result ≡ counts (leaves_of leaves.now) queue.now container.now }
+{
+    !is_guest_on(&container.id.label, &container.what) && is_below(leaves, queue, container)
+}
+
+fn app_named<'a>(apps: &'a [App], name: &Name) -> Option<&'a App>
+    ensures { option_map (λ r. r.now) result ≡ find (λ app. same_name app.name name.now) apps.now }
+{
+    apps.iter().find(|app| app.name == *name)
+}
+
+/// Whether the container is that of a live application of the user.
+#[tactic(auto, unfolding(ynl_model::specs::Applications::find_app))]
+fn is_of_user(leaves: &[LeafRow], user: &Name, container: &Placed) -> bool
+    ensures { result ≡ of_user user.now (leaves_of leaves.now) container.now }
+{
+    match leaf_row_of(leaves, container.tenant.as_bytes(), &container.app) {
+        Some(row) => match app_named(&row.apps, &container.app) {
+            Some(app) => app.user == *user,
+            None => false,
+        },
+        None => false,
+    }
+}
+
+fn is_whose(leaves: &[LeafRow], whose: Whose<'_>, container: &Placed) -> bool
+    ensures { result ≡ is_whose (leaves_of leaves.now) whose.entry container.now }
+{
+    match whose {
+        Whose::Everyone => true,
+        Whose::User(user) => is_of_user(leaves, user, container),
+        Whose::Masters => is_master(container),
+    }
+}
+
+fn is_counted(leaves: &[LeafRow], queue: &[Name], whose: Whose<'_>, container: &Placed) -> bool
+    ensures { result ≡ is_counted (leaves_of leaves.now) queue.now whose.entry container.now }
+{
+    counts(leaves, queue, container) && is_whose(leaves, whose, container)
+}
+
+/// The sum, with the size where it counts.
+fn added(sum: &Resource, size: &Size, counts: bool) -> Resource
+    requires { IsTotal sum.now }
+    ensures { result ≡ (if counts then plus sum.now size.now else sum.now) }
+{
+    if counts { sum.add(size.amount()) } else { *sum }
+}
+
+/// What a queue uses of a partition, or one user or the masters in it, by the containers there.
+pub fn used_by(
+    leaves: &[LeafRow],
+    queue: &[Name],
+    whose: Whose<'_>,
+    containers: &[Placed],
+) -> Resource
+    requires { IsTotal (sizes containers.now) }
+    ensures value { result ≡ sizes (filter (is_counted (leaves_of leaves.now) queue.now whose.entry) containers.now) }
+    ensures within { IsTrue (fits_in result (sizes containers.now)) }
+{
+    let mut sum = NOTHING;
+    for container in containers {
+        let is_counted = is_counted(leaves, queue, whose, container);
+        sum = added(&sum, &container.size, is_counted);
+    }
+    sum
+}
+
+/// What the containers on a node come to, of those on its partition.
+pub fn used_on(node: &Name, containers: &[Placed]) -> Resource
+    requires { IsTotal (sizes containers.now) }
+    ensures { result ≡ sizes (filter (λ k. same_name k.node node.now) containers.now) }
+{
+    let mut sum = NOTHING;
+    for container in containers {
+        sum = added(&sum, &container.size, container.node == *node);
+    }
+    sum
+}
+
+/// The total of a partition: the sum of its nodes.
+#[tactic(auto, unfolding(ynl_model::specs::Nodes::total))]
+pub fn total_of(nodes: &[Node], label: &Label) -> Resource
+    requires { IsTotal (total nodes.now label.now) }
+    ensures { result ≡ total nodes.now label.now }
+{
+    let mut sum = NOTHING;
+    for node in nodes {
+        sum = added(&sum, &node.size, is_same(&node.label, label));
+    }
+    sum
+}
