@@ -1,5 +1,5 @@
 -- What is known of the request that is chosen for a node, or committed to it.
-use Rattle.std.proofs.Common.{◌≡◌, ◌⊎◌, inl, inr, Bool, true, false, cond, not, ◌&&◌, [], ◌∷◌, Option, Some, None, filter, refl, sym, subst, ◌∙◌}
+use Rattle.std.proofs.Common.{◌≡◌, ◌⊎◌, inl, inr, Bool, true, false, cond, not, ◌&&◌, List, [], ◌∷◌, Option, Some, None, filter, refl, sym, subst, ◌∙◌}
 use Rattle.std.specs.Prelude.{⊤, IfSome, nat_lt}
 use Rattle.std.specs.List.{AllByRecursion}
 use Rattle.std.specs.Option.{option_map_or, option_or}
@@ -7,7 +7,7 @@ use Rattle.ynl_resource.specs.Amounts.{fits_in}
 use Rattle.ynl_resource.specs.Names.{same_label, is_default}
 use Rattle.ynl_resource.specs.declared.labels.Label.{Label}
 use Rattle.ynl_resource.specs.declared.labels.Label.TheVariants.{Unlabelled, Named}
-use Rattle.ynl_resource.specs.Refusals.{Reasons, first_that_holds}
+use Rattle.ynl_resource.specs.Refusals.{first_that_holds}
 use Rattle.ynl_model.specs.declared.nodes.Node.{Node}
 use Rattle.ynl_model.specs.Queues.{Config}
 use Rattle.ynl_model.specs.Applications.{Application, AskRow, all_apps, find_app}
@@ -90,7 +90,7 @@ choice-fits c s node h = go (first_of (key c s node.label) (eligible c s node)) 
 -- ---- what is committed
 
 -- where no reason holds, each fails
-pub none-holds : (why : Reasons) → first_that_holds why ≡ None → AllByRecursion (λ reason. reason.1 ≡ false) why
+pub none-holds : {X : Type 0} (why : List (X × Bool)) → first_that_holds why ≡ None → AllByRecursion (λ reason. reason.1 ≡ false) why
 none-holds [] h = tt
 none-holds (reason ∷ why) h = go reason.1 refl h (none-holds why)
   where

@@ -34,14 +34,14 @@ use Rattle.ynl_laws.proofs.Homes.{each-in, opening-each, all-ended}
 -- ---- applications
 
 -- an application's leaf may use its home, and none of its asks is foreign
-abbrev Fitting : Config → Application → Type 0
+abbrev pub Fitting : Config → Application → Type 0
 Fitting c app = (may_use c app.leaf app.home ≡ true) × AllByRecursion (λ ask. is_foreign ask.label app ≡ false) app.asks
 
-abbrev AllFitting : Config → List LeafApps → Type 0
+abbrev pub AllFitting : Config → List LeafApps → Type 0
 AllFitting c leaves = AllByRecursion (λ row. AllByRecursion (Fitting c) row.apps) leaves
 
 -- what is found is fitting
-fitting-found : (c : Config) (leaves : List LeafApps) → AllFitting c leaves → (tenant name : Name) (app : Application) → find_app leaves tenant name ≡ Some app → Fitting c app
+pub fitting-found : (c : Config) (leaves : List LeafApps) → AllFitting c leaves → (tenant name : Name) (app : Application) → find_app leaves tenant name ≡ Some app → Fitting c app
 unfolding find_app
 fitting-found c leaves h tenant name app e = go (row_of leaves tenant name) (Each-found _ _ leaves h) e
   where
@@ -147,14 +147,14 @@ new-entitled c leaves p app (Asked label priority) h for = go for.1
 
 -- ---- what stays
 
-record Entitled (c : Config) (s : State) : Type 0 where
-  apps : AllFitting c s.leaves
-  containers : (p : Label) → AllByRecursion (λ k. is_entitled c s.leaves k ≡ true) (on_in s.partitions p)
+pub record Entitled (c : Config) (s : State) : Type 0 where
+  pub apps : AllFitting c s.leaves
+  pub containers : (p : Label) → AllByRecursion (λ k. is_entitled c s.leaves k ≡ true) (on_in s.partitions p)
 
 all-extended : (c : Config) (old new : List LeafApps) (containers : List Container) → Extends old new → AllByRecursion (λ k. is_entitled c old k ≡ true) containers → AllByRecursion (λ k. is_entitled c new k ≡ true) containers
 all-extended c old new containers ext h = Each-weaker _ _ (λ k e. entitled-extends c old new ext k e) containers h
 
-entitled-lasts : (c : Config) → Lasts (Entitled c) c
+pub entitled-lasts : (c : Config) → Lasts (Entitled c) c
 unfolding node_joins node_leaves end place changed_at container_of app_finishes
 entitled-lasts c = record {
   joins = λ s name label size h. record { apps = h.apps; containers = λ p. each-in _ label p _ (λ row. refl) (λ row _ _ k. k) s.partitions (h.containers p) };
@@ -193,7 +193,7 @@ entitled-lasts c = record {
         ∙ (λ i. cond (is_guest_on p item.what) (takes_guests c p) (may_use c (sym wanted.leaf i) p))
         ∙ new-entitled c s.leaves p wanted.app item.what (fitting-found c s.leaves h (tenant_of item.leaf) item.app wanted.app wanted.found) wanted.what
 
-entitled-after : (c : Config) (events : List Event) → Entitled c (state_after c events)
+pub entitled-after : (c : Config) (events : List Event) → Entitled c (state_after c events)
 entitled-after c events = lasting (Entitled c) c (entitled-lasts c) (record {
   apps = Each-map (λ (row : QueueRow). ⊤) (λ row. AllByRecursion (Fitting c) row.apps) _ (λ row _. tt) _ (Each-all (λ (row : QueueRow). ⊤) (λ row. tt) _);
   containers = λ p. opening-each _ c.labels p;

@@ -34,7 +34,7 @@ use Rattle.ynl_laws.proofs.Lasting.{Lasts, lasting}
 -- ---- homes
 
 -- the home label of an application, by its tenant and name
-abbrev home_in : List LeafApps → Name → Name → Option Label
+abbrev pub home_in : List LeafApps → Name → Name → Option Label
 home_in leaves tenant name = option_map (λ app. app.home) (find_app leaves tenant name)
 
 -- the home label, by the row that was found
@@ -129,11 +129,11 @@ opening-each P labels p = go (find (is_partition p) (no_containers labels)) (Eac
     go (Some row) h = subst (AllByRecursion P) (sym h.1) tt
 
 -- a master's application is live, and the container's label is its home
-abbrev AtHome : List LeafApps → Container → Type 0
+abbrev pub AtHome : List LeafApps → Container → Type 0
 AtHome leaves container = is_master container ≡ true → home_in leaves container.tenant container.app ≡ Some container.id.label
 
 -- each container on a partition has its label, and masters are at home
-abbrev Homely : List LeafApps → List Partition → Type 0
+abbrev pub Homely : List LeafApps → List Partition → Type 0
 Homely leaves rows = (p : Label) → AllByRecursion (λ container. (container.id.label ≡ p) × AtHome leaves container) (on_in rows p)
 
 -- ---- all containers of an application end
@@ -220,7 +220,7 @@ taken-home : (what : What) (app : Application) → (taken what app).home ≡ app
 taken-home Master app = refl
 taken-home (Asked label priority) app = refl
 
-homely-lasts : (c : Config) → Lasts (λ s. Homely s.leaves s.partitions) c
+pub homely-lasts : (c : Config) → Lasts (λ s. Homely s.leaves s.partitions) c
 unfolding node_joins node_leaves end place changed_at container_of app_finishes
 homely-lasts c = record {
   joins = λ s name label size h p. each-in _ label p _ (λ row. refl) (λ row _ _ k. k) s.partitions (h p);

@@ -22,7 +22,7 @@ use Rattle.ynl_laws.specs.Working.{Apart, places, on_in, StandsOn, filled, House
 use Rattle.ynl_laws.proofs.Restricted.{left-true, same-label_path, same-label_self, same-name_sym, find-filter}
 use Rattle.ynl_laws.proofs.Tracked.{joins-is, leaves-is, place-same, end-same}
 use Rattle.ynl_laws.proofs.Sums.{fits-trans, total-append}
-use Rattle.ynl_laws.proofs.Lists.{not-true, some-same, Each-filter, Each-append, Each-kept, Each-weaker, Each-with, Each-found, filter-last, find-append}
+use Rattle.ynl_laws.proofs.Lists.{filter-nothing, not-true, some-same, Each-filter, Each-append, Each-kept, Each-weaker, Each-with, Each-found, filter-last, find-append}
 use Rattle.ynl_laws.proofs.Kept.{by-row}
 use Rattle.ynl_laws.proofs.Within.{fewer-in, fewer-filter}
 use Rattle.ynl_laws.proofs.Apart.{FindsItself, each-itself}
@@ -37,10 +37,6 @@ found-later test p nodes more h = go (find test nodes) refl h
     go : (o : Option Tracked) → find test nodes ≡ o → option_map_or (λ node. same_label node.label p) o false ≡ true → option_map_or (λ node. same_label node.label p) (find test (nodes ++ more)) false ≡ true
     go None e h = absurd (true≢false (sym h))
     go (Some node) e h = ap (λ o. option_map_or (λ node. same_label node.label p) o false) (find-append test node nodes more e) ∙ h
-
-filter-nothing : {X : Type 0} (f : X → Bool) (xs : List X) → AllByRecursion (λ x. f x ≡ false) xs → filter f xs ≡ []
-filter-nothing f [] h = refl
-filter-nothing f (x ∷ xs) h = (λ i. cond (h.0 i) (x ∷ filter f xs) (filter f xs)) ∙ filter-nothing f xs h.1
 
 -- a tick that changes no container
 same-on : (label p : Label) (new : ℕ) (rows : List Partition) → on_in (ticked label new (λ containers. containers) rows) p ≡ on_in rows p

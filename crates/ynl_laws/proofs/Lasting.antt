@@ -72,10 +72,13 @@ module _ (P : State → Type 0) (c : Config) (lasts : Lasts P c) where
       lasts.placed s node (proposed_item proposal app) h k finds (commit-fits c s proposal node app k none e f).known (commit-wanted c s proposal node app finds none e f)))
   accepted-lasts s (Maximum queue label share) k finds h none = lasts.elsewhere s _ refl refl refl h
 
+  pub step-lasts : (s : State) (event : Event) → Kept s → FindsAll s.leaves → P s → P (step c s event).state
+  step-lasts s event k finds h = step-cases P c s event h (accepted-lasts s event k finds h)
+
   after-lasts : (events : List Event) (s : State) → Kept s → FindsAll s.leaves → P s → P (after c s events)
   after-lasts [] s k finds h = h
   after-lasts (event ∷ events) s k finds h =
-      after-lasts events (step c s event).state (step-keeps c s event k) (step-finds c s event k finds) (step-cases P c s event h (accepted-lasts s event k finds h))
+      after-lasts events (step c s event).state (step-keeps c s event k) (step-finds c s event k finds) (step-lasts s event k finds h)
 
 -- what holds at first and stays with each change holds after each list of events
 pub lasting : (P : State → Type 0) (c : Config) → Lasts P c → P (opening c) → (events : List Event) → P (state_after c events)

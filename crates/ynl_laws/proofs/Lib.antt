@@ -29,3 +29,14 @@ pub mod Lasting
 pub mod Homes
 pub mod Entitled
 pub mod Shares
+pub mod Mirrored
+pub mod Alone
+pub mod Firm
+pub mod Follows
+pub mod FollowsNodes
+pub mod FollowsQueues
+pub mod FollowsRequests
+pub mod FollowsPlaces
+pub mod FollowsCommits
+pub mod FollowsEvents
+pub mod Isolated

@@ -5,6 +5,7 @@ use Rattle.std.specs.List.{AllByRecursion, list_any, list_all}
 use mathlib.Core.Bool.{true≢false}
 use Rattle.ynl_resource.specs.Tables.{update}
 use Rattle.ynl_laws.specs.Working.{Pairs}
+use Rattle.ynl_laws.proofs.Restricted.{left-true, right-true, and-true}
 
 -- each element of a list, kept by what makes lists of lists
 pub Each-filter : {X : Type 0} (P : X → Type 0) (p : X → Bool) (xs : List X) → AllByRecursion P xs → AllByRecursion P (filter p xs)
@@ -225,3 +226,17 @@ some-same x y o e f = cc
 pub none-is : {X : Type 0} (o : Option X) → is_some o ≡ false → o ≡ None
 none-is None h = refl
 none-is (Some x) h = absurd (true≢false h)
+
+-- a test of all elements, and what it says of each
+pub each-of : {X : Type 0} (f : X → Bool) (xs : List X) → list_all f xs ≡ true → AllByRecursion (λ x. f x ≡ true) xs
+each-of f [] h = tt
+each-of f (x ∷ xs) h = (left-true (f x) _ h, each-of f xs (right-true (f x) _ h))
+
+pub all-each : {X : Type 0} (f : X → Bool) (xs : List X) → AllByRecursion (λ x. f x ≡ true) xs → list_all f xs ≡ true
+all-each f [] h = refl
+all-each f (x ∷ xs) h = and-true _ _ h.0 (all-each f xs h.1)
+
+-- where none passes a filter leaves nothing
+pub filter-nothing : {X : Type 0} (f : X → Bool) (xs : List X) → AllByRecursion (λ x. f x ≡ false) xs → filter f xs ≡ []
+filter-nothing f [] h = refl
+filter-nothing f (x ∷ xs) h = (λ i. cond (h.0 i) (x ∷ filter f xs) (filter f xs)) ∙ filter-nothing f xs h.1

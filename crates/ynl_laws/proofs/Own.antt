@@ -28,7 +28,7 @@ use Rattle.ynl_model.specs.View.{restrict}
 use Rattle.ynl_laws.proofs.Lists.{all-map-is}
 use Rattle.ynl_laws.proofs.Tracked.{filter-map, find-map}
 use Rattle.std.proofs.lemmas.List.{map-append}
-use Rattle.ynl_laws.proofs.Restricted.{find-filter, and-true, left-true, right-true, fold-same, same-path, same-name_sym, same-label_path, way-within, setting-restrict, guaranteed-restrict}
+use Rattle.ynl_laws.proofs.Restricted.{find-filter_step, and-true, left-true, right-true, fold-same, same-path, same-name_sym, same-label_path, way-within, setting-restrict, guaranteed-restrict}
 
 -- ---- lists
 
@@ -99,11 +99,16 @@ filter-in : {A : Type 0} (g f w : A → Bool) → ((x : A) → g x ≡ true → 
 filter-in g f w h [] all = refl
 filter-in g f w h (x ∷ xs) all = filter-in_step f w x xs (h x (left-true (g x) (list_all g xs) all)) (filter-in g f w h xs (right-true (g x) (list_all g xs) all))
 
+-- what is found passes the second test, where that is known of the list's elements
+find-in : {A : Type 0} (g p w : A → Bool) → ((x : A) → g x ≡ true → p x ≡ true → w x ≡ true) → (xs : List A) → list_all g xs ≡ true → find p (filter w xs) ≡ find p xs
+find-in g p w h [] all = refl
+find-in g p w h (x ∷ xs) all = find-filter_step p w x xs (h x (left-true (g x) (list_all g xs) all)) (find-in g p w h xs (right-true (g x) (list_all g xs) all)) (w x) (p x) refl refl
+
 filter-none_step : {A : Type 0} (f : A → Bool) (x : A) (xs : List A) (b : Bool) → f x ≡ b → not b ≡ true → filter f xs ≡ [] → filter f (x ∷ xs) ≡ []
 filter-none_step f x xs true e h rest = absurd (true≢false (sym h))
 filter-none_step f x xs false e h rest = (λ i. cond (e i) (x ∷ filter f xs) (filter f xs)) ∙ rest
 
-filter-none : {A : Type 0} (f : A → Bool) (xs : List A) → list_all (λ x. not (f x)) xs ≡ true → filter f xs ≡ []
+pub filter-none : {A : Type 0} (f : A → Bool) (xs : List A) → list_all (λ x. not (f x)) xs ≡ true → filter f xs ≡ []
 filter-none f [] all = refl
 filter-none f (x ∷ xs) all = filter-none_step f x xs (f x) refl (left-true _ _ all) (filter-none f xs (right-true _ (list_all (λ y. not (f y)) xs) all))
 
@@ -123,12 +128,12 @@ pub all-self : {A : Type 0} (w : A → Bool) (xs : List A) → list_all w (filte
 all-self w [] = refl
 all-self w (x ∷ xs) = all-self_step w x xs (all-self w xs) (w x) refl
 
-and-false : (a : Bool) → (a && false) ≡ false
+pub and-false : (a : Bool) → (a && false) ≡ false
 and-false true = refl
 and-false false = refl
 
 -- what differs only where a test fails
-guard-same : (a b guard : Bool) → (guard ≡ true → a ≡ b) → (a && guard) ≡ (b && guard)
+pub guard-same : (a b guard : Bool) → (guard ≡ true → a ≡ b) → (a && guard) ≡ (b && guard)
 guard-same a b true h = ap (λ x. x && true) (h refl)
 guard-same a b false h = and-false a ∙ sym (and-false b)
 
@@ -166,11 +171,12 @@ pub record Holds (t : Name) (p : Label) (s u : State) : Type 0 where
   pub maxima : (queue : Path) → is_within (top_level t) queue ≡ true → maximum_on s.maxima queue p ≡ maximum_on u.maxima queue p
   pub on : containers_on s p ≡ containers_on u p
   pub owned : list_all (λ container. same_name container.tenant t) (containers_on s p) ≡ true
+  pub rooted : list_all (λ row. not (same_path row.leaf root)) s.leaves ≡ true
   pub placed : list_all (λ row. list_all (λ app. same_path app.leaf row.leaf) row.apps) s.leaves ≡ true
   pub homes : list_all (λ app. not (same_label app.home p) || of_tenant t app) (all_apps s.leaves) ≡ true
   pub asked : list_all (keeps_home p) (all_apps s.leaves) ≡ true
 
-filter-append : {A : Type 0} (f : A → Bool) (xs ys : List A) → filter f (xs ++ ys) ≡ filter f xs ++ filter f ys
+pub filter-append : {A : Type 0} (f : A → Bool) (xs ys : List A) → filter f (xs ++ ys) ≡ filter f xs ++ filter f ys
 filter-append f [] ys = refl
 filter-append f (x ∷ xs) ys = elim (f x) as (λ b. cond b (x ∷ filter f (xs ++ ys)) (filter f (xs ++ ys)) ≡ cond b (x ∷ filter f xs) (filter f xs) ++ filter f ys)
     [ true ↦ ap (λ zs. x ∷ zs) (filter-append f xs ys) | false ↦ filter-append f xs ys ]
@@ -204,33 +210,33 @@ apps-filter t (row ∷ rows) h =
     step false = refl
 
 -- a leaf whose tenant is t is within t's queue
-tenant-within : (t : Name) → same_name [] t ≡ false → (leaf : Path) → same_name (tenant_of leaf) t ≡ true → is_within (top_level t) leaf ≡ true
-tenant-within t named [] h = absurd (true≢false (sym h ∙ named))
-tenant-within t named (name ∷ leaf) h = and-true _ _ ((bytes_decides t name).1 (sym ((bytes_decides name t).0 h))) refl
+pub tenant-within : (t : Name) (leaf : Path) → not (same_path leaf root) ≡ true → same_name (tenant_of leaf) t ≡ true → is_within (top_level t) leaf ≡ true
+tenant-within t [] below h = absurd (true≢false (sym below))
+tenant-within t (name ∷ leaf) below h = and-true _ _ ((bytes_decides t name).1 (sym ((bytes_decides name t).0 h))) refl
 
-option-only : {A : Type 0} (test : Application → A) (p : Label) (none : A) → ((app : Application) → test (only p app) ≡ test app) → (o : Option Application) →
+pub option-only : {A : Type 0} (test : Application → A) (p : Label) (none : A) → ((app : Application) → test (only p app) ≡ test app) → (o : Option Application) →
     option_map_or test (option_map (only p) o) none ≡ option_map_or test o none
 option-only test p none h None = refl
 option-only test p none h (Some app) = h app
 
-module _ (c : Config) (t : Name) (p : Label) (named : same_name [] t ≡ false) (home : is_default p ≡ false) (exclusive : is_exclusive c.labels p ≡ true) (s u : State) (h : Holds t p s u) where
-  d : Config
+module _ (c : Config) (t : Name) (p : Label) (home : is_default p ≡ false) (exclusive : is_exclusive c.labels p ≡ true) (s u : State) (h : Holds t p s u) where
+  abbrev d : Config
   d = restrict c t
 
   apps-own : all_apps u.leaves ≡ map (only p) (filter (of_tenant t) (all_apps s.leaves))
   apps-own = ap all_apps h.leaves ∙ flat-only p (filter (is_row_of t) s.leaves) ∙ ap (map (only p)) (apps-filter t s.leaves h.placed)
 
   -- a row of the tenant is found in both
-  find-own : (test : LeafApps → Bool) → ((row : LeafApps) → test (only_row p row) ≡ test row) → ((row : LeafApps) → test row ≡ true → is_row_of t row ≡ true) → find test u.leaves ≡ option_map (only_row p) (find test s.leaves)
+  find-own : (test : LeafApps → Bool) → ((row : LeafApps) → test (only_row p row) ≡ test row) → ((row : LeafApps) → not (same_path row.leaf root) ≡ true → test row ≡ true → is_row_of t row ≡ true) → find test u.leaves ≡ option_map (only_row p) (find test s.leaves)
   find-own test same own =
       ap (find test) h.leaves ∙ find-map (only_row p) test (filter (is_row_of t) s.leaves)
       ∙ ap (λ (test : LeafApps → Bool). option_map (only_row p) (find test (filter (is_row_of t) s.leaves))) (λ i row. same row i)
-      ∙ ap (option_map (only_row p)) (find-filter test (is_row_of t) own s.leaves)
+      ∙ ap (option_map (only_row p)) (find-in (λ row. not (same_path row.leaf root)) test (is_row_of t) own s.leaves h.rooted)
 
   row-own : (name : Name) → row_of u.leaves t name ≡ option_map (only_row p) (row_of s.leaves t name)
-  row-own name = find-own (λ row. same_name (tenant_of row.leaf) t && list_any (same_name name) row.names) (λ row. refl) (λ row e. tenant-within t named row.leaf (left-true _ _ e))
+  row-own name = find-own (λ row. same_name (tenant_of row.leaf) t && list_any (same_name name) row.names) (λ row. refl) (λ row below e. tenant-within t row.leaf below (left-true _ _ e))
 
-  leaf-own : (name : Name) → leaf_of u.leaves t name ≡ leaf_of s.leaves t name
+  pub leaf-own : (name : Name) → leaf_of u.leaves t name ≡ leaf_of s.leaves t name
   unfolding leaf_of
   leaf-own name = ap (option_map (λ row. row.leaf)) (row-own name) ∙ go (row_of s.leaves t name)
     where
@@ -238,7 +244,7 @@ module _ (c : Config) (t : Name) (p : Label) (named : same_name [] t ≡ false) 
       go None = refl
       go (Some row) = refl
 
-  app-own : (name : Name) → find_app u.leaves t name ≡ option_map (only p) (find_app s.leaves t name)
+  pub app-own : (name : Name) → find_app u.leaves t name ≡ option_map (only p) (find_app s.leaves t name)
   unfolding find_app
   app-own name = ap (option_and_then (λ row. find (λ app. same_name app.name name) row.apps)) (row-own name) ∙ go (row_of s.leaves t name)
     where
@@ -246,9 +252,9 @@ module _ (c : Config) (t : Name) (p : Label) (named : same_name [] t ≡ false) 
       go None = refl
       go (Some row) = find-map (only p) (λ app. same_name app.name name) row.apps
 
-  apps_of-own : (leaf : Path) → is_within (top_level t) leaf ≡ true → apps_of u.leaves leaf ≡ map (only p) (apps_of s.leaves leaf)
+  pub apps_of-own : (leaf : Path) → is_within (top_level t) leaf ≡ true → apps_of u.leaves leaf ≡ map (only p) (apps_of s.leaves leaf)
   apps_of-own leaf w =
-      ap (λ o. option_map_or (λ row. row.apps) o []) (find-own (λ row. same_path row.leaf leaf) (λ row. refl) (λ row e. ap (is_within (top_level t)) (same-path row.leaf leaf e) ∙ w)) ∙ go (find (λ row. same_path row.leaf leaf) s.leaves)
+      ap (λ o. option_map_or (λ row. row.apps) o []) (find-own (λ row. same_path row.leaf leaf) (λ row. refl) (λ row below e. ap (is_within (top_level t)) (same-path row.leaf leaf e) ∙ w)) ∙ go (find (λ row. same_path row.leaf leaf) s.leaves)
     where
       go : (o : Option LeafApps) → option_map_or (λ row. row.apps) (option_map (only_row p) o) [] ≡ map (only p) (option_map_or (λ row. row.apps) o [])
       go None = refl
@@ -261,7 +267,7 @@ module _ (c : Config) (t : Name) (p : Label) (named : same_name [] t ≡ false) 
       (λ i. option_map_or test (find_app s.leaves (at i) k.app) false) ∙ sym (option-only test p false same (find_app s.leaves t k.app)) ∙ sym (ap (λ o. option_map_or test o false) (app-own k.app))
       ∙ (λ i. option_map_or test (find_app u.leaves (sym at i) k.app) false)
 
-  below-own : (q : Path) (k : Container) → same_name k.tenant t ≡ true → is_below s.leaves q k ≡ is_below u.leaves q k
+  pub below-own : (q : Path) (k : Container) → same_name k.tenant t ≡ true → is_below s.leaves q k ≡ is_below u.leaves q k
   below-own q k own =
       let at : k.tenant ≡ t = same-name_sym k.tenant t own in
       (λ i. option_map_or (is_within q) (leaf_of s.leaves (at i) k.app) false) ∙ sym (ap (λ o. option_map_or (is_within q) o false) (leaf-own k.app)) ∙ (λ i. option_map_or (is_within q) (leaf_of u.leaves (sym at i) k.app) false)
@@ -271,7 +277,7 @@ module _ (c : Config) (t : Name) (p : Label) (named : same_name [] t ≡ false) 
       filter-same (λ k. same_name k.tenant t) _ _ (λ k own. ap (λ b. not (is_guest k) && b) (below-own q k own)) (containers_on s p) h.owned
       ∙ ap (filter (λ k. not (is_guest k) && is_below u.leaves q k)) h.on
 
-  used-own : (q : Path) → used s q p ≡ used u q p
+  pub used-own : (q : Path) → used s q p ≡ used u q p
   unfolding used
   used-own q = ap sizes (counted-own q)
 
@@ -284,7 +290,7 @@ module _ (c : Config) (t : Name) (p : Label) (named : same_name [] t ≡ false) 
       (filter-same (λ k. same_name k.tenant t) _ _ (λ k own. app-test (λ app. same_name app.user user) (λ app. refl) k own) (counted s q p) (counted-owned q)
       ∙ ap (filter (of_app_that (λ app. same_name app.user user) u.leaves)) (counted-own q))
 
-  masters_used-own : (q : Path) → masters_used s q p ≡ masters_used u q p
+  pub masters_used-own : (q : Path) → masters_used s q p ≡ masters_used u q p
   unfolding masters_used
   masters_used-own q = ap (λ ks. sizes (filter is_master ks)) (counted-own q)
 
@@ -292,13 +298,13 @@ module _ (c : Config) (t : Name) (p : Label) (named : same_name [] t ≡ false) 
   unfolding free
   free-own node e on = ap (λ ks. less node.size (sizes (filter (λ k. same_name k.node node.name) ks))) on
 
-  maximum-own : (q : Path) → list_all (is_within (top_level t)) (way_to q) ≡ true → maximum s q p ≡ maximum u q p
+  pub maximum-own : (q : Path) → list_all (is_within (top_level t)) (way_to q) ≡ true → maximum s q p ≡ maximum u q p
   unfolding maximum maximum_of
   maximum-own q all = fold-same (is_within (top_level t)) _ _ (λ above step w. ap (λ share. scale_floor above share whole) (h.maxima step w)) (way_to q) all (total_on s.nodes p)
       ∙ ap (nested_floor (λ step. maximum_on u.maxima step p) q) h.total
 
-  guaranteed-own : (q : Path) → is_within (top_level t) q ≡ true → guaranteed c s q p ≡ guaranteed d u q p
-  unfolding guaranteed d
+  pub guaranteed-own : (q : Path) → is_within (top_level t) q ≡ true → guaranteed c s q p ≡ guaranteed d u q p
+  unfolding guaranteed
   guaranteed-own q w = ap (guaranteed_of c q p) h.total ∙ sym (guaranteed-restrict c t q p (total_on u.nodes p) w)
 
   users-own : (leaf : Path) → is_within (top_level t) leaf ≡ true → users s leaf p ≡ users u leaf p
@@ -310,7 +316,7 @@ module _ (c : Config) (t : Name) (p : Label) (named : same_name [] t ≡ false) 
       ∙ ap (map (λ app. app.user)) (filter-map (only p) homed (apps_of s.leaves leaf)) ∙ map-map (λ app. app.user) (only p) (filter homed (apps_of s.leaves leaf))))
 
   user_limit-own : (leaf : Path) (size : Resource) → is_within (top_level t) leaf ≡ true → user_limit c s leaf p size ≡ user_limit d u leaf p size
-  unfolding user_limit d
+  unfolding user_limit
   user_limit-own leaf size w =
       let base : greater_of (guaranteed c s leaf p) (plus (used s leaf p) size) ≡ greater_of (guaranteed d u leaf p) (plus (used u leaf p) size) =
       λ i. greater_of (guaranteed-own leaf w i) (plus (used-own leaf i) size) in
@@ -319,27 +325,27 @@ module _ (c : Config) (t : Name) (p : Label) (named : same_name [] t ≡ false) 
       (scale_floor (guaranteed-own leaf w i) (sym (setting-restrict c t (λ row. row.user_factor) 0 leaf w) i) 100)
 
   master_limit-own : (leaf : Path) → is_within (top_level t) leaf ≡ true → master_limit c s leaf p ≡ master_limit d u leaf p
-  unfolding master_limit d
+  unfolding master_limit
   master_limit-own leaf w = λ i. scale_floor (maximum-own leaf (way-within t leaf w) i) (sym (setting-restrict c t (λ row. row.master_percent) 0 leaf w) i) whole
 
-  within_maximum-own : (item : Item) → is_within (top_level t) item.leaf ≡ true → within_maximum s p item ≡ within_maximum u p item
+  pub within_maximum-own : (item : Item) → is_within (top_level t) item.leaf ≡ true → within_maximum s p item ≡ within_maximum u p item
   unfolding within_maximum
   within_maximum-own item w = λ i. fits_in (plus (used-own root i) item.size) (maximum-own root refl i)
       && all-same (is_within (top_level t)) (λ q. fits_in (plus (used s q p) item.size) (maximum s q p)) (λ q. fits_in (plus (used u q p) item.size) (maximum u q p))
       (λ q v j. fits_in (plus (used-own q j) item.size) (maximum-own q (way-within t q v) j)) (way_to item.leaf) (way-within t item.leaf w) i
 
-  within_user_limit-own : (item : Item) → is_within (top_level t) item.leaf ≡ true → within_user_limit c s p item ≡ within_user_limit d u p item
+  pub within_user_limit-own : (item : Item) → is_within (top_level t) item.leaf ≡ true → within_user_limit c s p item ≡ within_user_limit d u p item
   unfolding within_user_limit
   within_user_limit-own item w = λ i. fits_in (plus (user_used-own item.leaf item.user i) item.size) (user_limit-own item.leaf item.size w i)
 
-  within_master_share-own : (leaf : Path) (what : What) (size : Resource) → is_within (top_level t) leaf ≡ true → within_master_share c s p leaf what size ≡ within_master_share d u p leaf what size
+  pub within_master_share-own : (leaf : Path) (what : What) (size : Resource) → is_within (top_level t) leaf ≡ true → within_master_share c s p leaf what size ≡ within_master_share d u p leaf what size
   unfolding within_master_share
   within_master_share-own leaf Master size w = λ i. fits_in (plus (masters_used-own leaf i) size) (master_limit-own leaf w i) || not (list_any is_master (counted-own leaf i))
   within_master_share-own leaf (Asked label priority) size w = refl
 
   -- ---- requests
 
-  runs-own : (app : Application) → same_label app.home p ≡ true → runs s app ≡ runs u (only p app)
+  pub runs-own : (app : Application) → same_label app.home p ≡ true → runs s app ≡ runs u (only p app)
   unfolding runs
   runs-own app e =
       ap (λ l. list_any (λ k. is_master k && is_of (tenant_of app.leaf) app.name k) (containers_on s l)) (same-label_path app.home p e)
@@ -453,7 +459,7 @@ module _ (c : Config) (t : Name) (p : Label) (named : same_name [] t ≡ false) 
       (λ item w. all-same of_item _ _ (λ other v i. not (is_gt (key_order (key-own item w i) (key-own other v i)))) items all) items all
 
   module _ (node : Node) (here : node.label ≡ p) where
-    free-here : free s node ≡ free u node
+    pub free-here : free s node ≡ free u node
     unfolding free
     free-here = subst (λ l. less node.size (sizes (filter (λ k. same_name k.node node.name) (containers_on s l))) ≡ less node.size (sizes (filter (λ k. same_name k.node node.name) (containers_on u l)))) (sym here)
         (ap (λ ks. less node.size (sizes (filter (λ k. same_name k.node node.name) ks))) h.on)
@@ -476,8 +482,8 @@ module _ (c : Config) (t : Name) (p : Label) (named : same_name [] t ≡ false) 
         ∙ (λ i. cond (not (home i) && false && not (some_eligible e w node)) (filter (λ item. has_room w node item.size) (asks_for w Unlabelled)) [])
 
     -- the choice on a node of the partition is the same in both clusters
-    choice-own : choice c s node ≡ choice d u node
-    unfolding choice d
+    pub choice-own : choice c s node ≡ choice d u node
+    unfolding choice
     choice-own =
         (λ i. option_or (first_of (key c s (here i)) (filter (is_eligible c s node) (items_for s (here i)))) (first_of (key c s Unlabelled) (no_guests c s exclusive i)))
         ∙ (λ i. option_or (first-own (filter (is_eligible c s node) (items_for s p)) (all-filter of_item _ (items_for s p) items-owned) i) None)

@@ -1,24 +1,22 @@
--- At first the tenant's own cluster holds of the whole one what it should.
-use Rattle.std.proofs.Common.{◌≡◌, refl, sym, ap, ◌∙◌, Bool, true, false, cond, not, ◌&&◌, ◌||◌, List, [], ◌∷◌, ◌++◌, map, Option, Some, None, filter, find}
-use Rattle.std.specs.Prelude.{⊤, flat_map, IfSome}
+-- At first the tenant's own cluster is what the whole one is to the tenant.
+use Rattle.std.proofs.Common.{◌≡◌, refl, sym, ap, ◌∙◌, Bool, true, false, cond, not, ◌&&◌, ◌||◌, List, [], ◌∷◌, ◌++◌, map, Some, None, option_map, filter, find}
+use Rattle.std.specs.Prelude.{⊤, flat_map}
 use Rattle.std.specs.List.{list_all}
-use Rattle.std.specs.Option.{option_map_or}
 use mathlib.Core.Bool.{true≢false}
-use Rattle.ynl_resource.specs.Names.{same_name, same_label, top_level, same_path, is_within}
+use Rattle.ynl_resource.specs.Names.{same_label, root, top_level, same_path, is_within}
 use Rattle.ynl_resource.specs.declared.names.Name.{Name}
 use Rattle.ynl_resource.specs.declared.labels.Label.{Label}
 use Rattle.ynl_resource.specs.declared.paths.Path.{Path}
 use Rattle.ynl_model.specs.Nodes.{partition_labels}
-use Rattle.ynl_model.specs.Queues.{QueueRow, Config, is_leaf, configured_maximum, MaximumRow, is_maximum_of, maximum_on, opening_maxima}
-use Rattle.ynl_model.specs.Applications.{LeafApps, no_apps, all_apps}
-use Rattle.ynl_model.specs.Cluster.{Partition, is_partition, no_containers, opening}
-use Rattle.ynl_model.specs.declared.containers.Placed.{Placed as Container}
+use Rattle.ynl_model.specs.Queues.{QueueRow, Config, is_leaf, configured_maximum, MaximumRow, is_maximum_of, opening_maxima, StopRow}
+use Rattle.ynl_model.specs.Applications.{LeafApps, no_apps}
+use Rattle.ynl_model.specs.Cluster.{Partition, opening}
 use Rattle.ynl_model.specs.View.{restrict}
-use Rattle.ynl_laws.proofs.Restricted.{same-path, all-map, is_leaf-restrict, configured-restrict}
+use Rattle.ynl_laws.proofs.Restricted.{same-path, is_leaf-restrict, configured-restrict}
 use Rattle.ynl_laws.proofs.Tracked.{filter-map}
-use Rattle.ynl_laws.proofs.Lists.{filter-swap, find-append_none, Each-found, find-nothing, Each-map, Each-all}
-use Rattle.ynl_laws.proofs.Ordered.{opening-empty}
-use Rattle.ynl_laws.proofs.Own.{filter-same, all-self, map-map, only_row, is_row_of, of_tenant, keeps_home, Holds}
+use Rattle.ynl_laws.proofs.Lists.{not-true, filter-swap, find-append_none, find-nothing, Each-map, Each-all}
+use Rattle.ynl_laws.proofs.Own.{filter-same, all-self, map-map, only_row, is_row_of}
+use Rattle.ynl_laws.proofs.Mirrored.{bears_on, cleared, Mirrors}
 
 module _ (c : Config) (t : Name) (p : Label) where
   abbrev within : QueueRow → Bool
@@ -66,23 +64,27 @@ module _ (c : Config) (t : Name) (p : Label) where
       go rest true e = after rest (rows-of c row) ∙ ap (λ xs. find (is_maximum_of queue p) (xs ++ flat_map (rows-of (restrict c t)) (filter within rows))) (sym (rows-same row e (partition_labels c.labels)))
       go rest false e = find-append_none (is_maximum_of queue p) (rows-of c row) (flat_map (rows-of c) rows) (rows-none queue w row e) ∙ rest
 
-  no-apps : (rows : List QueueRow) → all_apps (map empty_row rows) ≡ []
-  no-apps [] = refl
-  no-apps (row ∷ rows) = no-apps rows
-
-  at-first : Holds t p (opening c) (opening (restrict c t))
-  unfolding maximum_on opening_maxima
-  at-first = record {
-    total = refl;
+  -- of the opening states the second is what the first is to the tenant
+  pub mirrors-opening : list_all (λ row. not (same_path row.path root)) c.queues ≡ true → Mirrors t p (opening c) (opening (restrict c t))
+  unfolding opening_maxima
+  mirrors-opening rooted = record {
+    nodes = refl;
+    partitions = sym (map-map (cleared p) (λ label. record { label = label; clock = 0; containers = [] }) (partition_labels c.labels) ∙ (λ i. map (λ label. empty label (same_label label p) i) (partition_labels c.labels)));
     leaves = leaves-are;
-    maxima = λ queue w. ap (λ found. option_map_or (λ row. row.share) found 0) (maxima-found queue w c.queues);
-    on = refl;
-    owned = go (find (is_partition p) (no_containers c.labels)) (Each-found _ (is_partition p) (no_containers c.labels) (opening-empty c.labels));
-    placed = all-map _ empty_row (λ row. refl) (filter (λ row. is_leaf c row.path) c.queues);
-    homes = ap (list_all (λ app. not (same_label app.home p) || of_tenant t app)) (no-apps (filter (λ row. is_leaf c row.path) c.queues));
-    asked = ap (list_all (keeps_home p)) (no-apps (filter (λ row. is_leaf c row.path) c.queues));
+    stops = sym (filter-map stop (bears_on t) c.queues ∙ ap (map stop) (filter-same (λ row. not (same_path row.path root)) (λ row. bears_on t (stop row)) within (λ row below. bears row (not-true _ below)) c.queues rooted));
+    maxima = λ queue w. ap (option_map (λ row. row.share)) (maxima-found queue w c.queues);
   }
     where
-      go : (o : Option Partition) → IfSome o (λ row. (row.clock ≡ 0) × (row.containers ≡ [])) → list_all (λ (container : Container). same_name container.tenant t) (option_map_or (λ row. row.containers) o []) ≡ true
-      go None h = refl
-      go (Some row) h = ap (list_all (λ container. same_name container.tenant t)) h.1
+      stop : QueueRow → StopRow
+      stop row = record { queue = row.path; stopped = row.stopped }
+
+      bears : (row : QueueRow) → same_path row.path root ≡ false → bears_on t (stop row) ≡ within row
+      bears row below = ap (λ b. within row || b) below ∙ or-false (within row)
+        where
+          or-false : (b : Bool) → (b || false) ≡ b
+          or-false true = refl
+          or-false false = refl
+
+      empty : (label : Label) (b : Bool) → ◌≡◌ {A = Partition} (cond b (record { label = label; clock = 0; containers = [] }) (record { label = label; clock = 0; containers = [] })) (record { label = label; clock = 0; containers = [] })
+      empty label true = refl
+      empty label false = refl

@@ -17,7 +17,7 @@ use Rattle.ynl_model.specs.View.{restrict}
 
 -- ---- lists
 
-find-filter_step : {A : Type 0} (p w : A → Bool) (x : A) (xs : List A) → (p x ≡ true → w x ≡ true) → find p (filter w xs) ≡ find p xs → (a b : Bool) → w x ≡ a → p x ≡ b →
+pub find-filter_step : {A : Type 0} (p w : A → Bool) (x : A) (xs : List A) → (p x ≡ true → w x ≡ true) → find p (filter w xs) ≡ find p xs → (a b : Bool) → w x ≡ a → p x ≡ b →
     find p (cond (w x) (x ∷ filter w xs) (filter w xs)) ≡ cond (p x) (Some x) (find p xs)
 find-filter_step {A} p w x xs h rest true b e f = (λ i. find p (cond (e i) (x ∷ filter w xs) (filter w xs))) ∙ ap (λ (found : Option A). cond (p x) (Some x) found) rest
 find-filter_step p w x xs h rest false true e f = absurd (true≢false (sym (h f) ∙ e))
@@ -34,7 +34,7 @@ any-filter_step p w x xs h rest true b e f = (λ i. list_any p (cond (e i) (x �
 any-filter_step p w x xs h rest false true e f = absurd (true≢false (sym (h f) ∙ e))
 any-filter_step p w x xs h rest false false e f = (λ i. list_any p (cond (e i) (x ∷ filter w xs) (filter w xs))) ∙ rest ∙ (λ i. sym f i || list_any p xs)
 
-any-filter : {A : Type 0} (p w : A → Bool) → ((x : A) → p x ≡ true → w x ≡ true) → (xs : List A) → list_any p (filter w xs) ≡ list_any p xs
+pub any-filter : {A : Type 0} (p w : A → Bool) → ((x : A) → p x ≡ true → w x ≡ true) → (xs : List A) → list_any p (filter w xs) ≡ list_any p xs
 any-filter p w h [] = refl
 any-filter p w h (x ∷ xs) = any-filter_step p w x xs (h x) (any-filter p w h xs) (w x) (p x) refl refl
 
@@ -110,12 +110,12 @@ module _ (c : Config) (t : Name) where
   accessible-restrict q h = fold-same (is_within (top_level t)) _ _
       (λ above step w. given-restrict above (setting (λ row. row.access) Inherited (restrict c t) step) ∙ ap (given above c) (setting-restrict (λ row. row.access) Inherited step w)) (way_to q) (way-within t q h) _
 
-  may_use-restrict : (q : Path) (label : Label) → is_within (top_level t) q ≡ true → may_use (restrict c t) q label ≡ may_use c q label
+  pub may_use-restrict : (q : Path) (label : Label) → is_within (top_level t) q ≡ true → may_use (restrict c t) q label ≡ may_use c q label
   unfolding may_use
   may_use-restrict q Unlabelled h = refl
   may_use-restrict q (Named name) h = ap (list_any (same_name name)) (accessible-restrict q h)
 
-  capacity-restrict : (q : Path) (label : Label) → is_within (top_level t) q ≡ true → capacity_on (restrict c t) q label ≡ capacity_on c q label
+  pub capacity-restrict : (q : Path) (label : Label) → is_within (top_level t) q ≡ true → capacity_on (restrict c t) q label ≡ capacity_on c q label
   unfolding capacity_on
   capacity-restrict q label h = λ i. cond (may_use-restrict q label h i) (setting-restrict (written_capacity label) 0 q h i) 0
 
@@ -128,7 +128,7 @@ module _ (c : Config) (t : Name) where
   guaranteed-restrict q label total h = fold-same (is_within (top_level t)) _ _
       (λ above step w. ap (λ share. scale_floor above share whole) (capacity-restrict step label w)) (way_to q) (way-within t q h) total
 
-  is_queue-restrict : (q : Path) → is_within (top_level t) q ≡ true → is_queue (restrict c t) q ≡ is_queue c q
+  pub is_queue-restrict : (q : Path) → is_within (top_level t) q ≡ true → is_queue (restrict c t) q ≡ is_queue c q
   is_queue-restrict q h = ap (λ row. same_path q root || is_some row) (row-restrict q h)
 
   pub is_leaf-restrict : (q : Path) → is_within (top_level t) q ≡ true → is_leaf (restrict c t) q ≡ is_leaf c q

@@ -39,7 +39,7 @@ filter-map f p (x ∷ xs) =
     [ true ↦ ap (λ ys. f x ∷ ys) (filter-map f p xs) | false ↦ filter-map f p xs ]
 
 -- a change that a function does not see
-map-update : {A B : Type 0} (f : A → B) (test : A → Bool) (change : A → A) → ((x : A) → f (change x) ≡ f x) → (xs : List A) → map f (update test change xs) ≡ map f xs
+pub map-update : {A B : Type 0} (f : A → B) (test : A → Bool) (change : A → A) → ((x : A) → f (change x) ≡ f x) → (xs : List A) → map f (update test change xs) ≡ map f xs
 map-update f test change unseen [] = refl
 map-update f test change unseen (x ∷ xs) =
     elim (test x) as (λ b. f (cond b (change x) x) ∷ map f (update test change xs) ≡ f x ∷ map f xs)
@@ -93,7 +93,7 @@ there-same (Some x) s f h = h x
 pub tracked-is : (name : Name) (s : State) → tracked (map without_stamp s.nodes) name ≡ option_map without_stamp (node_of s name)
 tracked-is name s = find-map without_stamp (λ node. same_name node.name name) s.nodes
 
-full-is : (label : Label) (s : State) → nat_le most_nodes (length (filter (λ node. same_label node.label label) (map without_stamp s.nodes))) ≡ is_full s.nodes label
+pub full-is : (label : Label) (s : State) → nat_le most_nodes (length (filter (λ node. same_label node.label label) (map without_stamp s.nodes))) ≡ is_full s.nodes label
 unfolding is_full
 full-is label s = ap (λ xs. nat_le most_nodes (length xs)) (filter-map without_stamp (λ node. same_label node.label label) s.nodes) ∙ ap (nat_le most_nodes) (length-map (nodes_of s.nodes label) without_stamp)
 
@@ -113,7 +113,7 @@ is_some-map : {A B : Type 0} (f : A → B) (o : Option A) → is_some (option_ma
 is_some-map f None = refl
 is_some-map f (Some x) = refl
 
-there-is : (name : Name) (s : State) → is_some (tracked (map without_stamp s.nodes) name) ≡ is_some (node_of s name)
+pub there-is : (name : Name) (s : State) → is_some (tracked (map without_stamp s.nodes) name) ≡ is_some (node_of s name)
 there-is name s = ap is_some (tracked-is name s) ∙ is_some-map without_stamp (node_of s name)
 
 -- each of the three reasons is the failure of one of the three tests

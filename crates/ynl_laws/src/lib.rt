@@ -2,6 +2,7 @@
 #![tactic(auto)]
 
 pub mod entitlement;
+pub mod isolation;
 pub mod maxima;
 pub mod nodes;
 pub mod order;
