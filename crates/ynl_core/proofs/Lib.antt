@@ -3,3 +3,4 @@ pub mod Serves
 pub mod Idle
 pub mod Stepping
 pub mod RunMore
+pub mod Alone

@@ -4,3 +4,4 @@ pub mod CoreFields
 pub mod World
 pub mod Submitting
 pub mod Runs
+pub mod Isolated

@@ -2,6 +2,7 @@
 
 ghost use Rattle.std.specs.Prelude.{◌≡◌, IfOk, IsTrue, All};
 ghost use Rattle.ynl_model.specs.Kinds.{is_there};
+ghost use Rattle.ynl_core.specs.Isolated.{AreIsolated};
 ghost use Rattle.ynl_core.specs.Runs.{Answered, IsRun};
 
 use crate::cluster::Core;
@@ -25,7 +26,8 @@ fn answer_one(core: &mut Core, event: Event) -> Answer
 /// nothing, and the run goes on.
 pub fn run(alloc: Global, config: Config, events: &[Event]) -> Result<Run, NoMemory>
     requires { All (λ event. IsTrue (is_there event)) events.now }
-    ensures { IfOk result (λ run. IsRun config events.now run.answers run.core) }
+    ensures run { IfOk result (λ run. IsRun config events.now run.answers run.core) }
+    ensures isolated { IfOk result (λ run. AreIsolated config events.now run.answers run.core) }
 {
     let mut core = Core::open(alloc, config)?;
     let mut answers = Vec::with_capacity(alloc, events.len())?;

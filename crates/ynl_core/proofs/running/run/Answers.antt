@@ -1,8 +1,9 @@
 use Rattle.std.proofs.Common.{◌≡◌, ◌+◌, List, [], ◌∷◌, ◌++◌, take, arith, sym, subst, ap, ◌∙◌}
-use Rattle.std.proofs.lemmas.List.{take_more}
+use Rattle.std.proofs.lemmas.List.{take_more, take_all}
 use Rattle.ynl_model.specs.declared.events.Event.{Event}
 use Rattle.ynl_core.specs.Runs.{IsRun}
 use Rattle.ynl_core.proofs.RunMore.{run_more}
+use Rattle.ynl_core.proofs.Alone.{are_isolated}
 use Rattle.ynl_core.proofs.running.run.Goals as goal
 
 pub loop-event-preserved : goal.loop-event-preserved
@@ -18,3 +19,10 @@ loop-event-preserved c =
           (subst (λ rest. IsRun c.args.config (events ++ c.event-item.result ∷ []) rest c.answer_one.new.core) (sym c.push_reserved.ensures.items) made);
       room = omega arith;
     }
+
+pub returns-clause-isolated : goal.returns-clause-isolated
+returns-clause-isolated c =
+    let made : IsRun c.args.config c.args.events.now c.new.result c.loop-event.core =
+    subst (λ rest. IsRun c.args.config c.args.events.now rest c.loop-event.core) (sym c.new.ensures)
+    (subst (λ es. IsRun c.args.config es c.loop-event.answers.items c.loop-event.core) (take_all c.loop-event.event-index c.args.events.now (omega arith)) c.loop-event.invariant.so_far) in
+    are_isolated c.args.config c.args.events.now c.new.result c.loop-event.core made
