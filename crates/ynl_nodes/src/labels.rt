@@ -1,9 +1,13 @@
 //! The configured labels.
 
-ghost use Rattle.std.specs.Prelude.{◌≡◌, option_map};
+ghost use Rattle.std.specs.Prelude.{◌≡◌, option_map, IfOk};
 ghost use Rattle.ynl_model.specs.Nodes.{label_row, has_label, is_exclusive, clock_limit};
+ghost use Rattle.ynl_nodes.specs.Built.{labels_of};
 
+use crate::faults::fault_of;
+use std::alloc::{AllocError, Global};
 use std::marker::Model;
+use ynl_model::LabelFault;
 use ynl_resource::{Label, Name};
 
 /// A label as it is configured: its name, whether its partition is exclusive, and how far the
@@ -49,6 +53,26 @@ impl Labels {
             rows,
             default_limit,
         }
+    }
+
+    /// The labels of these rows; or their first fault: more than 64 rows, two of one name, or a clock
+    /// limit (that of a row, or the one for DEFAULT) that is not from 1 to 9007199254740991.
+    #[tactic(auto, unfolding(crate::specs::Built::labels_of))]
+    pub fn build(rows: Vec<LabelRow>, default_limit: u64) -> Result<Labels, LabelFault>
+        ensures { result ≡ labels_of rows.items default_limit }
+    {
+        match fault_of(&rows, default_limit) {
+            Some(fault) => Err(fault),
+            None => Ok(Labels::new(rows, default_limit)),
+        }
+    }
+
+    /// The same labels once more.
+    pub fn copy(&self, alloc: Global) -> Result<Labels, AllocError>
+        ensures { IfOk result (λ copy. copy ≡ self.now) }
+    {
+        let rows = Vec::from_slice(alloc, &self.rows)?;
+        Ok(Labels::new(rows, self.default_limit))
     }
 
     /// The rows, in the order of the configuration.

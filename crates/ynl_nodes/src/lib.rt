@@ -3,6 +3,7 @@
 
 pub use labels::{LabelRow, Labels};
 
+mod faults;
 mod labels;
 #[cfg(test)]
 mod tests;

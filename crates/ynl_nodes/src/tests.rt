@@ -1,6 +1,7 @@
 use crate::{LabelRow, Labels};
-use std::alloc::Global;
+use std::alloc::{AllocError, Global};
 use std::test::Fail;
+use ynl_model::LabelFault;
 use ynl_resource::{Label, Name};
 
 fn two_labels(alloc: Global) -> Result<Labels, Fail> {
@@ -34,5 +35,105 @@ fn finds_labels(rt: HostRuntime) -> Result<(), Fail> {
         assert_eq!(rt; labels.exclusive(&label), exclusive, "{text}");
         assert_eq!(rt; labels.limit(&label), limit, "{text}");
     }
+    Ok(())
+}
+
+fn rows(alloc: Global, names: &[&str], limit: u64) -> Result<Vec<LabelRow>, Fail> {
+    let mut rows = Vec::new(alloc);
+    for text in names {
+        rows.push(LabelRow {
+            name: Name::parse(text)?,
+            exclusive: true,
+            limit,
+        })?;
+    }
+    Ok(rows)
+}
+
+#[test]
+fn tells_the_first_fault(rt: HostRuntime) -> Result<(), Fail> {
+    for (names, limit, default_limit, fault) in [
+        (["gpu", "ssd"], 1, 9007199254740991, None),
+        (["gpu", "ssd"], 0, 1, Some(LabelFault::BadLimit)),
+        (["gpu", "ssd"], 1, 0, Some(LabelFault::BadLimit)),
+        (
+            ["gpu", "ssd"],
+            9007199254740992,
+            1,
+            Some(LabelFault::BadLimit),
+        ),
+        (["gpu", "gpu"], 0, 1, Some(LabelFault::DuplicateLabel)),
+    ] {
+        let built = Labels::build(rows(rt.alloc(), &names, limit)?, default_limit);
+        assert_eq!(rt; built.err(), fault, "{limit} and {default_limit}");
+    }
+    Ok(())
+}
+
+fn many(alloc: Global, count: u64) -> Result<Vec<LabelRow>, Fail> {
+    let mut rows = Vec::new(alloc);
+    for i in 0..count {
+        let text = format!(in alloc; "label-{i}")?;
+        rows.push(LabelRow {
+            name: Name::parse(text.as_str())?,
+            exclusive: true,
+            limit: 1,
+        })?;
+    }
+    rows.push(LabelRow {
+        name: Name::parse("label-0")?,
+        exclusive: true,
+        limit: 1,
+    })?;
+    Ok(rows)
+}
+
+#[test]
+fn takes_sixty_four_labels(rt: HostRuntime) -> Result<(), Fail> {
+    let alloc = rt.alloc();
+    assert_eq!(rt;
+        Labels::build(many(alloc, 64)?, 1).err(),
+        Some(LabelFault::TooManyLabels)
+    );
+    assert_eq!(rt;
+        Labels::build(many(alloc, 63)?, 1).err(),
+        Some(LabelFault::DuplicateLabel)
+    );
+    Ok(())
+}
+
+// Run with each allocation failing in turn: where memory is refused at the first try, the second
+// gives the labels.
+fn one_label(alloc: Global, name: Name) -> Result<Labels, AllocError> {
+    let mut rows = Vec::new(alloc);
+    rows.push(LabelRow {
+        name,
+        exclusive: true,
+        limit: 7,
+    })?;
+    Ok(Labels::new(rows, 5))
+}
+
+fn one_label_again(alloc: Global, name: Name) -> Result<Labels, AllocError> {
+    match one_label(alloc, name) {
+        Ok(labels) => Ok(labels),
+        Err(_) => one_label(alloc, name),
+    }
+}
+
+fn copy(alloc: Global, labels: &Labels) -> Result<Labels, AllocError> {
+    match labels.copy(alloc) {
+        Ok(labels) => Ok(labels),
+        Err(_) => labels.copy(alloc),
+    }
+}
+
+#[test]
+fn copies_labels(rt: HostRuntime) -> Result<(), Fail> {
+    let labels = one_label_again(rt.alloc(), Name::parse("gpu")?)?;
+    let copy = copy(rt.alloc(), &labels)?;
+    assert_eq!(rt; copy.rows().len(), 1);
+    assert_eq!(rt; copy.limit(&Label::parse("gpu")?), 7);
+    assert_eq!(rt; copy.limit(&Label::Unlabelled), 5);
     Ok(())
 }

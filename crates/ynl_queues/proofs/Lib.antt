@@ -1,2 +1,9 @@
+pub mod Crowds
+pub mod Dots
+pub mod Faultless
+pub mod Gathered
+pub mod Paths
 pub mod Prefixes
 pub mod Shares
+pub mod Told
+pub mod Totals

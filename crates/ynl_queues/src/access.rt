@@ -1,14 +1,15 @@
 //! Which labels a queue may use: root all, and on the way down those that each row gives.
 
-ghost use Rattle.std.specs.Prelude.{◌≡◌, List, ℕ, map};
+ghost use Rattle.std.specs.Prelude.{◌≡◌, map, option_copied};
 ghost use Rattle.std.specs.List.{list_any};
 ghost use Rattle.ynl_model.specs.Queues.{given, accessible, may_use, Inherited, setting};
 ghost use Rattle.ynl_resource.specs.Names.{same_name};
-ghost use Rattle.ynl_queues.specs.Rows.{access_of};
+ghost use Rattle.ynl_queues.specs.Reach.{reached, is_among};
 
 use crate::config::Config;
 use crate::rows::Access;
 use crate::ways::step_at;
+use ynl_nodes::Labels;
 use ynl_resource::{Label, Name};
 
 fn lists(names: &[Name], name: &Name) -> bool
@@ -17,48 +18,54 @@ fn lists(names: &[Name], name: &Name) -> bool
     names.iter().any(|listed| *name == *listed)
 }
 
+fn configures(labels: &Labels, name: &Name) -> bool
+    ensures { result ≡ list_any (same_name name.now) (map (λ row. row.name) labels.now.rows) }
+{
+    labels
+        .rows()
+        .iter()
+        .map(|row| row.name)
+        .any(|listed| *name == listed)
+}
+
+/// Whether a label is among those given, or among all that are configured where none are given.
+pub(crate) fn reaches(labels: &Labels, reach: Option<&[Name]>, label: &Label) -> bool
+    ensures { result ≡ is_among (reached labels.now (option_copied reach.entry)) label.now }
+{
+    match (label, reach) {
+        (Label::Unlabelled, _) => true,
+        (Label::Named(name), None) => configures(labels, name),
+        (Label::Named(name), Some(names)) => lists(names, name),
+    }
+}
+
 impl Config {
-    fn names_label(&self, name: &Name) -> bool
-        ensures { result ≡ list_any (same_name name.now) (map (λ row. row.name) self.now.labels.rows) }
+    /// The labels that a queue's own row gives, where those above are its parent's.
+    fn step_reach<'a>(&'a self, step: &[Name], above: Option<&'a [Name]>) -> Option<&'a [Name]>
+        ensures { reached self.now.labels (option_copied result) ≡ given (reached self.now.labels (option_copied above.entry)) self.now (setting (λ row. row.access) Inherited self.now step.now) }
     {
-        self.labels()
-            .rows()
-            .iter()
-            .map(|row| row.name)
-            .any(|listed| *name == listed)
-    }
-
-    /// Whether a row gives the label, where the parent's set has it or not.
-    fn gives(&self, access: &Access, name: &Name, above: bool) -> bool
-        ensures { (set : List (List ℕ)) → above ≡ list_any (same_name name.now) set → result ≡ list_any (same_name name.now) (given set self.now (access_of access.now)) }
-    {
-        match access {
-            Access::Inherited => above,
-            Access::AllLabels => self.names_label(name),
-            Access::Listed(names) => lists(names, name),
-        }
-    }
-
-    /// Whether the queue's own row gives the label, where the parent's set has it or not.
-    fn step_gives(&self, queue: &[Name], name: &Name, above: bool) -> bool
-        ensures { (set : List (List ℕ)) → above ≡ list_any (same_name name.now) set → result ≡ list_any (same_name name.now) (given set self.now (setting (λ row. row.access) Inherited self.now queue.now)) }
-    {
-        match self.row(queue) {
-            Some(row) => self.gives(&row.access, name, above),
+        match self.row(step) {
+            Some(row) => match &row.access {
+                Access::Inherited => above,
+                Access::AllLabels => None,
+                Access::Listed(names) => Some(names),
+            },
             None => above,
         }
     }
 
+    /// The labels that a queue may use: those given, or all that are configured where none are
+    /// given.
     #[tactic(auto, unfolding(ynl_model::specs::Queues::accessible))]
-    fn may_use_name(&self, queue: &[Name], name: &Name) -> bool
-        ensures { result ≡ list_any (same_name name.now) (accessible self.now queue.now) }
+    pub(crate) fn reach<'a>(&'a self, queue: &[Name]) -> Option<&'a [Name]>
+        ensures { reached self.now.labels (option_copied result) ≡ accessible self.now queue.now }
     {
-        let mut may = self.names_label(name);
+        let mut reach = None;
         for depth in 0..queue.len() {
             let step = step_at(queue, depth + 1);
-            may = self.step_gives(step, name, may);
+            reach = self.step_reach(step, reach);
         }
-        may
+        reach
     }
 
     /// Whether the queue may use the label; each may use DEFAULT.
@@ -66,9 +73,6 @@ impl Config {
     pub fn may_use(&self, queue: &[Name], label: &Label) -> bool
         ensures { result ≡ may_use self.now queue.now label.now }
     {
-        match label {
-            Label::Unlabelled => true,
-            Label::Named(name) => self.may_use_name(queue, name),
-        }
+        reaches(self.labels(), self.reach(queue), label)
     }
 }

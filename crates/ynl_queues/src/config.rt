@@ -1,13 +1,15 @@
 //! The configuration, and its rows.
 
-ghost use Rattle.std.specs.Prelude.{◌≡◌, option_map, ◌&&◌, not};
+ghost use Rattle.std.specs.Prelude.{◌≡◌, option_map, ◌&&◌, not, IfOk, None, if◌then◌else◌};
 ghost use Rattle.std.specs.List.{list_any};
 ghost use Rattle.ynl_model.specs.Queues.{queue_row, is_queue, is_leaf, setting};
 ghost use Rattle.ynl_resource.specs.Names.{is_within, same_path};
 ghost use Rattle.ynl_resource.specs.declared.labels.Label.TheVariants.{Unlabelled};
 
 use crate::rows::QueueRow;
+use crate::tree::QueueTree;
 use crate::ways::is_within;
+use std::alloc::{AllocError, Global};
 use std::marker::Model;
 use ynl_nodes::Labels;
 use ynl_resource::{Hundredths, Label, Name, Size};
@@ -17,7 +19,7 @@ use ynl_resource::{Hundredths, Label, Name, Size};
 #[derive(Drop)]
 pub struct Config {
     labels: Labels,
-    queues: Vec<QueueRow>,
+    tree: QueueTree,
     per_heartbeat: u32,
     maximum_allocation: Size,
 }
@@ -27,22 +29,22 @@ impl Model for Config {
 
     ghost Value = { Configured };
 
-    ghost view = { λ c. record { labels = c.labels; queues = c.queues.items; per_heartbeat = c.per_heartbeat; maximum_allocation = c.maximum_allocation } };
+    ghost view = { λ c. record { labels = c.labels; queues = c.tree; per_heartbeat = c.per_heartbeat; maximum_allocation = c.maximum_allocation } };
 }
 
 impl Config {
-    /// The configuration of these rows, as they stand.
+    /// The configuration of these, as they stand.
     pub fn new(
         labels: Labels,
-        queues: Vec<QueueRow>,
+        tree: QueueTree,
         per_heartbeat: u32,
         maximum_allocation: Size,
     ) -> Config
-        ensures { result ≡ record { labels = labels; queues = queues.items; per_heartbeat = per_heartbeat; maximum_allocation = maximum_allocation } }
+        ensures { result ≡ record { labels = labels; queues = tree; per_heartbeat = per_heartbeat; maximum_allocation = maximum_allocation } }
     {
         Config {
             labels,
-            queues,
+            tree,
             per_heartbeat,
             maximum_allocation,
         }
@@ -59,7 +61,33 @@ impl Config {
     pub fn queues(&self) -> &[QueueRow]
         ensures { result.now ≡ self.now.queues }
     {
-        &self.queues
+        self.tree.rows()
+    }
+
+    /// The tree of queues.
+    pub fn tree(&self) -> &QueueTree
+        ensures { result.now ≡ self.now.queues }
+    {
+        &self.tree
+    }
+
+    /// The tree of queues alone.
+    pub(crate) fn into_tree(self) -> QueueTree
+        ensures { result ≡ self.queues }
+    {
+        self.tree
+    }
+
+    /// The same configuration once more.
+    pub fn copy(&self, alloc: Global) -> Result<Config, AllocError>
+        ensures { IfOk result (λ copy. copy ≡ self.now) }
+    {
+        Ok(Config {
+            labels: self.labels.copy(alloc)?,
+            tree: self.tree.copy(alloc)?,
+            per_heartbeat: self.per_heartbeat,
+            maximum_allocation: self.maximum_allocation,
+        })
     }
 
     /// The most containers that a heartbeat places.
@@ -80,7 +108,7 @@ impl Config {
     pub fn row(&self, queue: &[Name]) -> Option<&QueueRow>
         ensures { option_map (λ r. r.now) result ≡ queue_row self.now queue.now }
     {
-        self.queues.iter().find(|row| row.path.names() == queue)
+        self.tree.find(queue)
     }
 
     /// Whether there is such a queue; root is one.
@@ -93,7 +121,7 @@ impl Config {
     fn has_below(&self, queue: &[Name]) -> bool
         ensures { result ≡ list_any (λ row. is_within queue.now row.path && not (same_path queue.now row.path)) self.now.queues }
     {
-        self.queues.iter().any(|row| is_within(queue, row.path.names())
+        self.queues().iter().any(|row| is_within(queue, row.path.names())
             && queue != row.path.names())
     }
 
@@ -103,6 +131,17 @@ impl Config {
         ensures { result ≡ is_leaf self.now queue.now }
     {
         !self.has_below(queue)
+    }
+
+    /// The row of a leaf.
+    pub fn leaf(&self, queue: &[Name]) -> Option<&QueueRow>
+        ensures { option_map (λ r. r.now) result ≡ (if is_leaf self.now queue.now then queue_row self.now queue.now else None) }
+    {
+        if self.is_leaf(queue) {
+            self.row(queue)
+        } else {
+            None
+        }
     }
 
     /// The leaf's label for applications that name none.

@@ -6,6 +6,7 @@ ghost use Rattle.ynl_queues.specs.BuiltIn.{gpu, eng, labels, gpu_share, eng_row,
 
 use crate::config::Config;
 use crate::rows::{Access, QueueRow, Share};
+use crate::tree::QueueTree;
 use std::alloc::{AllocError, Global};
 use ynl_nodes::{LabelRow, Labels};
 use ynl_resource::{Hundredths, Label, Name, Path, Size};
@@ -103,6 +104,6 @@ pub fn built_in(alloc: Global) -> Result<Config, AllocError>
     ensures { IfOk result (λ config. config ≡ built_in) }
 {
     let labels = labels(alloc)?;
-    let queues = queues(alloc)?;
-    Ok(Config::new(labels, queues, 1, largest()))
+    let tree = QueueTree::new(queues(alloc)?);
+    Ok(Config::new(labels, tree, 1, largest()))
 }

@@ -1,22 +1,31 @@
-//! The configuration: labels, the tree of queues, and what a queue may use, is guaranteed and may
-//! grow to. A queue is given by its names below root.
+//! The configuration: labels, the tree of queues, and what a queue may use and is guaranteed. A queue
+//! is given by its names below root.
 #![tactic(auto)]
 
 pub use amounts::share_of;
+pub use children::Children;
 pub use config::Config;
 pub use defaults::built_in;
-pub use maxima::{Maxima, MaximumRow};
 pub use rows::{Access, QueueRow, Share};
-pub use stops::{StopRow, Stops};
-pub use ways::{is_within, step_at};
+pub use tree::QueueTree;
+pub use ways::{is_within, parent_of, step_at};
+pub use written::WrittenQueue;
 
 mod access;
 mod amounts;
+mod building;
+#[cfg(test)]
+mod building_tests;
+mod checks;
+mod children;
 mod config;
 mod defaults;
-mod maxima;
 mod rows;
-mod stops;
+mod standings;
+mod sums;
 #[cfg(test)]
 mod tests;
+mod texts;
+mod tree;
 mod ways;
+mod written;

@@ -1,9 +1,12 @@
 //! The rows of a configuration.
 
-ghost use Rattle.std.specs.Prelude.{◌≡◌, find};
+ghost use Rattle.std.specs.Prelude.{◌≡◌, find, IfOk};
 ghost use Rattle.ynl_resource.specs.Names.{same_name, tenant_of};
 ghost use Rattle.ynl_model.specs.Queues.{share_on, written_capacity, written_maximum};
+ghost use Rattle.ynl_model.specs.Accepted.{listed};
+ghost use Rattle.ynl_queues.specs.Rows.{access_of};
 
+use std::alloc::{AllocError, Global};
 use std::marker::Model;
 use ynl_resource::{Hundredths, Label, Name, Path};
 
@@ -16,6 +19,30 @@ pub enum Access {
     AllLabels,
     /// These.
     Listed(Vec<Name>),
+}
+
+impl Access {
+    /// The labels that are listed.
+    pub(crate) fn listed(&self) -> &[Name]
+        ensures { result.now ≡ listed (access_of self.now) }
+    {
+        match self {
+            Access::Inherited => &[],
+            Access::AllLabels => &[],
+            Access::Listed(names) => names,
+        }
+    }
+
+    /// The same once more.
+    fn copy(&self, alloc: Global) -> Result<Access, AllocError>
+        ensures { IfOk result (λ copy. access_of copy ≡ access_of self.now) }
+    {
+        match self {
+            Access::Inherited => Ok(Access::Inherited),
+            Access::AllLabels => Ok(Access::AllLabels),
+            Access::Listed(names) => Ok(Access::Listed(Vec::from_slice(alloc, names)?)),
+        }
+    }
 }
 
 /// What a row gives its queue on a label, as shares of the parent's: the capacity and the maximum.
@@ -88,6 +115,25 @@ impl QueueRow {
             Some(tenant) => tenant,
             None => unreachable!(),
         }
+    }
+
+    /// The same row once more.
+    pub(crate) fn copy(&self, alloc: Global) -> Result<QueueRow, AllocError>
+        ensures { IfOk result (λ copy. copy ≡ self.now) }
+    {
+        Ok(QueueRow {
+            path: self.path,
+            stopped: self.stopped,
+            capacity: self.capacity,
+            maximum: self.maximum,
+            access: self.access.copy(alloc)?,
+            default_label: self.default_label,
+            user_percent: self.user_percent,
+            user_factor: self.user_factor,
+            master_percent: self.master_percent,
+            most_applications: self.most_applications,
+            shares: Vec::from_slice(alloc, &self.shares)?,
+        })
     }
 
     fn written_share(&self, name: &Name) -> Option<Share>

@@ -1,6 +1,8 @@
-use crate::{Config, Maxima, Stops, built_in, share_of};
+use crate::{Access, Config, QueueTree, WrittenQueue, built_in, share_of};
 use std::alloc::{AllocError, Global};
 use std::test::Fail;
+use ynl_model::TreeFault;
+use ynl_nodes::Labels;
 use ynl_resource::{Hundredths, Label, Path, Resource};
 
 // Run with each allocation failing in turn: where memory is refused at the first try, the second
@@ -12,18 +14,55 @@ fn config(alloc: Global) -> Result<Config, AllocError> {
     }
 }
 
-fn maxima(alloc: Global, config: &Config) -> Result<Maxima, AllocError> {
-    match Maxima::new(alloc, config) {
-        Ok(maxima) => Ok(maxima),
-        Err(_) => Maxima::new(alloc, config),
+fn written(alloc: Global, path: &str) -> Result<WrittenQueue, AllocError> {
+    Ok(WrittenQueue {
+        path: String::from_str(alloc, path)?,
+        stopped: false,
+        capacity: Hundredths::WHOLE,
+        maximum: Hundredths::WHOLE,
+        access: Access::Inherited,
+        default_label: Label::Unlabelled,
+        user_percent: Hundredths::WHOLE,
+        user_factor: 100,
+        master_percent: Hundredths::WHOLE,
+        most_applications: 10000,
+        shares: Vec::new(alloc),
+    })
+}
+
+fn built(
+    alloc: Global,
+    labels: &Labels,
+    path: &str,
+) -> Result<Result<QueueTree, TreeFault>, AllocError> {
+    let mut rows = Vec::new(alloc);
+    rows.push(written(alloc, path)?)?;
+    QueueTree::build(alloc, labels, rows)
+}
+
+fn tree(
+    alloc: Global,
+    labels: &Labels,
+    path: &str,
+) -> Result<Result<QueueTree, TreeFault>, AllocError> {
+    match built(alloc, labels, path) {
+        Ok(tree) => Ok(tree),
+        Err(_) => built(alloc, labels, path),
     }
 }
 
-fn stops(alloc: Global, config: &Config) -> Result<Stops, AllocError> {
-    match Stops::new(alloc, config) {
-        Ok(stops) => Ok(stops),
-        Err(_) => Stops::new(alloc, config),
+#[test]
+fn builds_at_the_second_try(rt: HostRuntime) -> Result<(), Fail> {
+    let alloc = rt.alloc();
+    let labels = Labels::new(Vec::new(alloc), 1);
+    for (path, fault) in [
+        ("root.eng", None),
+        ("root", Some(TreeFault::BadPath)),
+        ("root.eng.ml", Some(TreeFault::NoParent)),
+    ] {
+        assert_eq!(rt; tree(alloc, &labels, path)?.err(), fault, "{path}");
     }
+    Ok(())
 }
 
 #[test]
@@ -55,7 +94,6 @@ fn knows_its_queues(rt: HostRuntime) -> Result<(), Fail> {
 fn gives_a_queue_its_share(rt: HostRuntime) -> Result<(), Fail> {
     let alloc = rt.alloc();
     let config = config(alloc)?;
-    let maxima = maxima(alloc, &config)?;
     let eng = Path::parse("root.eng")?;
     let total = Resource {
         memory: 10000,
@@ -70,8 +108,6 @@ fn gives_a_queue_its_share(rt: HostRuntime) -> Result<(), Fail> {
         assert_eq!(rt; config.may_use(eng.names(), &label), may_use, "{text}");
         let guaranteed = config.guaranteed(eng.names(), &label, &total);
         assert_eq!(rt; guaranteed, Resource { memory, vcores }, "{text}");
-        let maximum = maxima.maximum(eng.names(), &label, &total);
-        assert_eq!(rt; maximum, Resource { memory, vcores }, "{text}");
     }
     let tenth = share_of(&total, &config.master_percent(eng.names()));
     assert_eq!(rt; tenth.memory, 1000);
@@ -80,11 +116,8 @@ fn gives_a_queue_its_share(rt: HostRuntime) -> Result<(), Fail> {
 }
 
 #[test]
-fn accepts_where_nothing_is_stopped(rt: HostRuntime) -> Result<(), Fail> {
-    let alloc = rt.alloc();
-    let config = config(alloc)?;
-    let stops = stops(alloc, &config)?;
-    assert!(rt; stops.accepts(Path::parse("root.eng")?.names()));
+fn knows_its_tenants(rt: HostRuntime) -> Result<(), Fail> {
+    let config = config(rt.alloc())?;
     for row in config.queues() {
         assert!(rt; row.tenant().as_str() == "eng");
     }

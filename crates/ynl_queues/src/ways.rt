@@ -2,6 +2,7 @@
 
 ghost use Rattle.std.specs.Prelude.{◌≡◌, ◌≤◌, length, take};
 ghost use Rattle.ynl_resource.specs.Names.{is_within};
+ghost use Rattle.ynl_model.specs.Accepted.{parent_of};
 
 use ynl_resource::Name;
 
@@ -22,4 +23,14 @@ pub fn step_at(queue: &[Name], depth: usize) -> &[Name]
     ensures { result.now ≡ take depth queue.now }
 {
     &queue[..depth]
+}
+
+/// The queue just above a queue; root above itself.
+pub fn parent_of(queue: &[Name]) -> &[Name]
+    ensures { result.now ≡ parent_of queue.now }
+{
+    match queue.split_last() {
+        Some((_, above)) => above,
+        None => queue,
+    }
 }

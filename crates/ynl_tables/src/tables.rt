@@ -11,7 +11,7 @@ ghost use Rattle.ynl_tables.specs.Tables.{leaf_of_row, leaves_of, partition_of, 
 
 use crate::rows::{App, LeafRow, PartitionRow};
 use ynl_model::{Node, Placed};
-use ynl_queues::{Maxima, Stops};
+use ynl_controls::{Maxima, Stops};
 use ynl_resource::{Label, Name, Path};
 
 /// The tables of a cluster.

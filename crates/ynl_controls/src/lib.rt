@@ -1,0 +1,11 @@
+//! What an operator sets while a cluster runs: which queues are stopped, and how far each may grow on
+//! a partition. A queue is given by its names below root.
+#![tactic(auto)]
+
+pub use maxima::{Maxima, MaximumRow};
+pub use stops::{StopRow, Stops};
+
+mod maxima;
+mod stops;
+#[cfg(test)]
+mod tests;
