@@ -1,0 +1,20 @@
+-- What bytes read as.
+use Rattle.std.proofs.Common.{◌≡◌, ℕ, List, Bool, true, false, cond, Some, None, refl, ap, ◌∙◌}
+use Rattle.std.proofs.lemmas.Str.{IsUtf8-from_is_utf8, is_utf8-from_IsUtf8}
+use Rattle.std.specs.Prelude.{IsUtf8}
+use Rattle.std.specs.Str.{is_utf8}
+use Rattle.toml.specs.Data.{Members}
+use Rattle.toml.specs.Parse.{parse_document}
+use Rattle.ynl_config.specs.Meaning.{reading}
+
+-- UTF-8 that is the text of a table reads as it
+pub reading_table : (bytes : List ℕ) (ms : Members) → IsUtf8 bytes → parse_document bytes ≡ Some ms → reading bytes ≡ Some ms
+reading_table bytes ms utf8 e = ap (λ b. cond b (parse_document bytes) None) (is_utf8-from_IsUtf8 bytes utf8) ∙ e
+
+none_by : (bytes : List ℕ) (b : Bool) → is_utf8 bytes ≡ b → (IsUtf8 bytes → parse_document bytes ≡ None) → cond b (parse_document bytes) None ≡ None
+none_by bytes true e h = h (IsUtf8-from_is_utf8 bytes e)
+none_by bytes false e h = refl
+
+-- bytes that are not UTF-8, or not the text of a table, read as none
+pub reading_none : (bytes : List ℕ) → (IsUtf8 bytes → parse_document bytes ≡ None) → reading bytes ≡ None
+reading_none bytes h = none_by bytes (is_utf8 bytes) refl h

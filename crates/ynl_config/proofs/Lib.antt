@@ -1,0 +1,6 @@
+pub mod Bytes
+pub mod Found
+pub mod Joined
+pub mod Spaces
+pub mod Told
+pub mod Views

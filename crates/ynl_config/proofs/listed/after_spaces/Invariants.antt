@@ -1,0 +1,11 @@
+use Rattle.std.proofs.Common.{◌≡◌, length}
+use denote.Text.{Utf8}
+use denote.Shadow.{shadow}
+use Rattle.ynl_config.specs.Access.{skip_spaces}
+use Rattle.ynl_config.proofs.listed.after_spaces.Given as goal
+
+abbrev pub invariant-spaces : goal.invariant-spaces
+invariant-spaces l = shadow (Utf8 l.rest) × (skip_spaces l.rest ≡ skip_spaces l.text)
+
+abbrev pub decreases-spaces : goal.decreases-spaces
+decreases-spaces l = length l.rest

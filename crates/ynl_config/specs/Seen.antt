@@ -1,0 +1,33 @@
+-- What was read, as the model's values.
+use Rattle.std.specs.Prelude.{ℕ, List, Result, Vec}
+use Rattle.std.specs.Borrow.{Bor}
+use Rattle.std.specs.declared.alloc.Global.{Global}
+use Rattle.ynl_model.specs.Nodes.{LabelRow}
+use Rattle.ynl_model.specs.Queues.{Access, Share}
+use Rattle.ynl_queues.specs.declared.rows.Access.{Access as Kept}
+use Rattle.ynl_queues.specs.Rows.{access_of}
+use Rattle.ynl_queues.specs.Written.{WrittenRow}
+use Rattle.ynl_config.specs.declared.queues.Bounds.{Bounds}
+use Rattle.ynl_config.specs.declared.queues.LeafSettings.{LeafSettings}
+use Rattle.ynl_config.specs.declared.values.Version.{Version}
+use Rattle.ynl_config.specs.declared.written.Numbers.{Numbers}
+use Rattle.ynl_config.specs.Earliest.{ConfigFault, made}
+use Rattle.ynl_config.specs.Tables.{QueueParts, Parts}
+
+-- the access that was read
+abbrev pub access_in : Result Kept ConfigFault → Result Access ConfigFault
+access_in = made access_of
+
+abbrev pub KeptQueue : Type 0
+KeptQueue = Unit {0} × (Bor (List ℕ) × (Bounds × (LeafSettings × (Kept × Vec Share Global))))
+
+-- a queue's parts, as the model's values
+abbrev pub queue_view : KeptQueue → QueueParts
+queue_view p = (p.0, (p.1.0.now, (p.1.1.0, (p.1.1.1.0, (access_of p.1.1.1.1.0, p.1.1.1.1.1.items)))))
+
+abbrev pub KeptParts : Type 0
+KeptParts = Unit {0} × (Version × (Numbers × (Vec LabelRow Global × Vec WrittenRow Global)))
+
+-- the parts of a text, as the model's values
+abbrev pub parts_view : KeptParts → Parts
+parts_view p = (p.0, (p.1.0, (p.1.1.0, (p.1.1.1.0.items, p.1.1.1.1.items))))

@@ -1,0 +1,72 @@
+//! From a text to the configuration.
+
+ghost use Rattle.std.specs.Prelude.{◌≡◌, IfOk, option_map};
+ghost use Rattle.toml.specs.View.{table_view};
+ghost use Rattle.ynl_config.specs.Meaning as spec;
+
+use crate::faults::ConfigFault;
+use crate::written::{Written, written_in};
+use std::alloc::{AllocError, Global};
+use toml::Table;
+use ynl_nodes::Labels;
+use ynl_queues::{Config, QueueTree};
+
+/// A text has at most so many bytes.
+const MOST_BYTES: usize = 1_048_576;
+
+/// The table that the bytes are, if they are the text of one.
+fn parse(alloc: Global, bytes: &[u8]) -> Result<Option<Table>, AllocError>
+    ensures { IfOk result (λ found. option_map table_view found ≡ spec.reading bytes.now) }
+{
+    match toml::table_from_slice(alloc, bytes) {
+        Ok(table) => Ok(Some(table)),
+        Err(e) => {
+            if e.is_memory() {
+                return Err(AllocError);
+            }
+            Ok(None)
+        }
+    }
+}
+
+/// The configuration of what is written.
+#[tactic(auto, unfolding(crate::specs::Meaning::built))]
+fn build(alloc: Global, written: Written) -> Result<Result<Config, ConfigFault>, AllocError>
+    ensures { IfOk result (λ config. config ≡ spec.built written) }
+{
+    let numbers = written.numbers;
+    let labels = match Labels::build(written.labels, numbers.default_limit) {
+        Ok(labels) => labels,
+        Err(fault) => return Ok(Err(ConfigFault::from(fault))),
+    };
+    match QueueTree::build(alloc, &labels, written.queues)? {
+        Ok(tree) => Ok(Ok(Config::new(
+            labels,
+            tree,
+            numbers.per_heartbeat,
+            numbers.maximum_allocation,
+        ))),
+        Err(fault) => Ok(Err(ConfigFault::from(fault))),
+    }
+}
+
+/// The configuration that a text means, or its first fault.
+///
+/// The text is TOML of at most 1,048,576 bytes. A fault is told only where none before it in the
+/// order of [`ConfigFault`] holds anywhere in the text. Percentages are whole in version 1, and
+/// hundredths of a percent in version 2.
+#[tactic(auto, unfolding(crate::specs::Meaning::config_of))]
+pub fn read_config(alloc: Global, text: &[u8]) -> Result<Result<Config, ConfigFault>, AllocError>
+    ensures { IfOk result (λ read. read ≡ spec.config_of text.now) }
+{
+    if text.len() > MOST_BYTES {
+        return Ok(Err(ConfigFault::Size));
+    }
+    let Some(table) = parse(alloc, text)? else {
+        return Ok(Err(ConfigFault::Syntax));
+    };
+    match written_in(alloc, &table)? {
+        Ok(written) => build(alloc, written),
+        Err(fault) => Ok(Err(fault)),
+    }
+}

@@ -1,0 +1,173 @@
+//! Why a text is no configuration.
+
+ghost use Rattle.std.specs.Prelude.{◌≡◌};
+ghost use Rattle.ynl_config.specs.Earliest.{fault_word, rank, earlier};
+
+use thiserror::Error;
+use ynl_model::{LabelFault, TreeFault};
+
+/// Why a text is no configuration, in the order in which the faults are told: each only where none
+/// before it holds anywhere in the text.
+#[derive(Clone, Copy, Debug, PartialEq, Eq, Error)]
+pub enum ConfigFault {
+    /// The text is longer than 1,048,576 bytes.
+    #[error("the text is too long")]
+    Size,
+    /// The bytes are no TOML text.
+    #[error("not a TOML text")]
+    Syntax,
+    /// A table has a key that it cannot have.
+    #[error("an unknown key")]
+    UnknownKey,
+    /// The version, a label's name or a queue's path is not there.
+    #[error("a required key is missing")]
+    MissingKey,
+    /// A value is of another kind.
+    #[error("a value of another kind")]
+    WrongKind,
+    /// The version is neither 1 nor 2.
+    #[error("an unknown version")]
+    Version,
+    /// A number is out of its range, or a state is neither RUNNING nor STOPPED.
+    #[error("a number out of range, or an unknown state")]
+    Range,
+    /// A text is no name of a label.
+    #[error("not a label")]
+    BadLabel,
+    /// There are more than 64 labels.
+    #[error("more than 64 labels")]
+    TooManyLabels,
+    /// Two labels have one name.
+    #[error("two labels of one name")]
+    DuplicateLabel,
+    /// A path has more than eight names.
+    #[error("a path of more than eight names")]
+    TooDeep,
+    /// There are more than 1,024 queues, or more than 64 just below one.
+    #[error("too many queues")]
+    TooMany,
+    /// A path does not begin with `root.`, or has a part that is no name.
+    #[error("not a path")]
+    BadPath,
+    /// Two queues have one path.
+    #[error("two queues of one path")]
+    DuplicateQueue,
+    /// A queue's parent is neither root nor configured.
+    #[error("a queue without a parent")]
+    NoParent,
+    /// A queue names a label that is not configured.
+    #[error("an unknown label")]
+    NoSuchLabel,
+    /// A queue's labels are not within its parent's, or it speaks of one that it may not use.
+    #[error("labels that are not within the parent's")]
+    NotSubset,
+    /// A queue's maximum is below its capacity.
+    #[error("a maximum below the capacity")]
+    MaximumBelowCapacity,
+    /// The capacities just below a queue do not sum to the whole.
+    #[error("capacities that do not sum to the whole")]
+    SumNot100,
+}
+
+impl ConfigFault {
+    /// The word that is printed.
+    pub fn word(self) -> &'static str
+        ensures { result.now ≡ fault_word self }
+    {
+        match self {
+            ConfigFault::Size => "size",
+            ConfigFault::Syntax => "syntax",
+            ConfigFault::UnknownKey => "unknown-key",
+            ConfigFault::MissingKey => "missing-key",
+            ConfigFault::WrongKind => "wrong-kind",
+            ConfigFault::Version => "version",
+            ConfigFault::Range => "range",
+            ConfigFault::BadLabel => "bad-label",
+            ConfigFault::TooManyLabels => "too-many-labels",
+            ConfigFault::DuplicateLabel => "duplicate-label",
+            ConfigFault::TooDeep => "too-deep",
+            ConfigFault::TooMany => "too-many",
+            ConfigFault::BadPath => "bad-path",
+            ConfigFault::DuplicateQueue => "duplicate-queue",
+            ConfigFault::NoParent => "no-parent",
+            ConfigFault::NoSuchLabel => "no-such-label",
+            ConfigFault::NotSubset => "not-subset",
+            ConfigFault::MaximumBelowCapacity => "maximum-below-capacity",
+            ConfigFault::SumNot100 => "sum-not-100",
+        }
+    }
+
+    /// Its place in the order of the faults.
+    fn rank(self) -> u8
+        ensures { result ≡ rank self }
+    {
+        match self {
+            ConfigFault::Size => 0,
+            ConfigFault::Syntax => 1,
+            ConfigFault::UnknownKey => 2,
+            ConfigFault::MissingKey => 3,
+            ConfigFault::WrongKind => 4,
+            ConfigFault::Version => 5,
+            ConfigFault::Range => 6,
+            ConfigFault::BadLabel => 7,
+            ConfigFault::TooManyLabels => 8,
+            ConfigFault::DuplicateLabel => 9,
+            ConfigFault::TooDeep => 10,
+            ConfigFault::TooMany => 11,
+            ConfigFault::BadPath => 12,
+            ConfigFault::DuplicateQueue => 13,
+            ConfigFault::NoParent => 14,
+            ConfigFault::NoSuchLabel => 15,
+            ConfigFault::NotSubset => 16,
+            ConfigFault::MaximumBelowCapacity => 17,
+            ConfigFault::SumNot100 => 18,
+        }
+    }
+
+    /// The one of two that is told.
+    pub(crate) fn earlier(self, other: ConfigFault) -> ConfigFault
+        ensures { result ≡ earlier self other }
+    {
+        if self.rank() <= other.rank() {
+            self
+        } else {
+            other
+        }
+    }
+}
+
+impl From<LabelFault> for ConfigFault {
+    ghost use Rattle.std.specs.Prelude.{◌≡◌};
+    ghost use Rattle.ynl_config.specs.Meaning.{label_fault};
+
+    ghost from_gives = { λ fault told. told ≡ label_fault fault };
+
+    fn from(fault: LabelFault) -> ConfigFault {
+        match fault {
+            LabelFault::TooManyLabels => ConfigFault::TooManyLabels,
+            LabelFault::DuplicateLabel => ConfigFault::DuplicateLabel,
+            LabelFault::BadLimit => ConfigFault::Range,
+        }
+    }
+}
+
+impl From<TreeFault> for ConfigFault {
+    ghost use Rattle.std.specs.Prelude.{◌≡◌};
+    ghost use Rattle.ynl_config.specs.Meaning.{tree_fault};
+
+    ghost from_gives = { λ fault told. told ≡ tree_fault fault };
+
+    fn from(fault: TreeFault) -> ConfigFault {
+        match fault {
+            TreeFault::TooDeep => ConfigFault::TooDeep,
+            TreeFault::TooMany => ConfigFault::TooMany,
+            TreeFault::BadPath => ConfigFault::BadPath,
+            TreeFault::DuplicateQueue => ConfigFault::DuplicateQueue,
+            TreeFault::NoParent => ConfigFault::NoParent,
+            TreeFault::NoSuchLabel => ConfigFault::NoSuchLabel,
+            TreeFault::NotSubset => ConfigFault::NotSubset,
+            TreeFault::MaximumBelowCapacity => ConfigFault::MaximumBelowCapacity,
+            TreeFault::SumNot100 => ConfigFault::SumNot100,
+        }
+    }
+}
