@@ -3,10 +3,12 @@
 #![tactic(auto)]
 
 use std::alloc::AllocError;
+use std::fs::File;
 use std::io::BufReader;
 use std::process::ExitCode;
 use std::{env, io};
-use ynl_tool::{Job, WordsFault, execute, parse_words};
+use ynl_tool::{BUILT_IN, Job, ToolFault, WordsFault};
+use ynl_tool::{execute, fault_of, parse_words, read_text, tell};
 
 fn main(rt: HostRuntime) -> ExitCode {
     let args = match env::args(&rt) {
@@ -31,17 +33,42 @@ fn main(rt: HostRuntime) -> ExitCode {
     }
 }
 
-fn work(rt: &HostRuntime, job: Job) -> ExitCode {
+/// The text of the configuration: of the file that is named, or else the built-in one.
+fn read_configuration(
+    rt: &HostRuntime,
+    file: Option<&str>,
+    text: &mut Vec<u8>,
+) -> Result<(), ToolFault> {
+    let Some(path) = file else {
+        return read_text(&mut BUILT_IN.as_bytes(), text);
+    };
+    match File::open(rt, path) {
+        Ok(mut file) => read_text(&mut file, text),
+        Err(error) => Err(fault_of(&error)),
+    }
+}
+
+fn work(rt: &HostRuntime, job: Job<'_>) -> ExitCode {
+    let mut errors = rt.stderr();
+    let mut text = Vec::new(rt.alloc());
+    if let Err(fault) = read_configuration(rt, job.config, &mut text) {
+        return ExitCode::from(tell(&mut errors, fault));
+    }
     let Ok(mut reader) = BufReader::with_capacity(rt.alloc(), 65536, rt.reader()) else {
         return out_of_memory(rt);
     };
     let mut writer = io::writer(rt);
-    let mut errors = rt.stderr();
-    let status = execute(rt.alloc(), job, &mut reader, &mut writer, &mut errors);
+    let status = execute(
+        rt.alloc(),
+        job.kind,
+        &text,
+        &mut reader,
+        &mut writer,
+        &mut errors,
+    );
     ExitCode::from(status)
 }
 
-fn out_of_memory(rt: &impl Eprint) -> ExitCode {
-    let _told = eprintln!(rt; "ynl: out of memory");
-    ExitCode::from(3)
+fn out_of_memory(rt: &HostRuntime) -> ExitCode {
+    ExitCode::from(tell(&mut rt.stderr(), ToolFault::NoMemory))
 }

@@ -2,3 +2,4 @@ pub mod Closings
 pub mod Commands
 pub mod Pieces
 pub mod Runs
+pub mod Fronts

@@ -2,13 +2,14 @@
 
 ghost use Rattle.std.specs.Prelude.{◌≡◌};
 ghost use Rattle.ynl_tool.specs.Lines.{AppendsFront};
-ghost use Rattle.ynl_tool.specs.Jobs.{error_line, status_of, Executes, RunsBuiltIn};
+ghost use Rattle.ynl_tool.specs.Jobs.{error_line, config_line, status_of, Executes, RunsText};
 
-use crate::lines_out::write_text;
+use crate::lines_out::{write_text, write_three};
 use crate::run::{Summary, ToolFault, run_lines};
-use crate::words::{Job, Kind};
+use crate::words::Kind;
 use std::alloc::Global;
 use std::io::{BufRead, Write};
+use ynl_config::{ConfigFault, read_config};
 
 /// The line that tells a fault.
 fn error_line(fault: ToolFault) -> &'static str
@@ -28,41 +29,65 @@ fn tell_fault<E: Write>(errors: &mut E, fault: ToolFault)
     let _told = write_text(errors, error_line(fault).as_bytes());
 }
 
-/// Runs a cluster of the built-in configuration.
-fn run_built_in<R: BufRead, W: Write>(
-    alloc: Global,
-    reader: &mut R,
-    writer: &mut W,
-) -> Result<Summary, ToolFault>
-    ensures { RunsBuiltIn (R.remaining reader.old) (R.remaining reader.new) (W.contents writer.old) (W.contents writer.new) result }
+/// Writes the line that tells why a text is no configuration.
+fn tell_config_fault<E: Write>(errors: &mut E, fault: ConfigFault)
+    ensures { AppendsFront (E.contents errors.old) (E.contents errors.new) (config_line fault) }
 {
-    let Ok(config) = ynl_queues::built_in(alloc) else {
-        return Err(ToolFault::NoMemory);
-    };
-    run_lines(alloc, config, reader, writer)
+    let _told = write_three(errors, b"ynl: config: ", fault.word().as_bytes(), b"\n");
 }
 
-/// Does the job, and gives the exit status: 0, or 1 if a line of the input had a fault, or 3 after
-/// a fault of reading, writing or memory, which a line on `errors` tells.
+/// Runs a cluster of the configuration that a text means. Where it means none nothing is run.
+fn run_text<R: BufRead, W: Write>(
+    alloc: Global,
+    text: &[u8],
+    reader: &mut R,
+    writer: &mut W,
+) -> Result<Result<Summary, ConfigFault>, ToolFault>
+    ensures { RunsText (R.remaining reader.old) (R.remaining reader.new) (W.contents writer.old) (W.contents writer.new) text.now result }
+{
+    match read_config(alloc, text) {
+        Ok(Ok(config)) => match run_lines(alloc, config, reader, writer) {
+            Ok(summary) => Ok(Ok(summary)),
+            Err(fault) => Err(fault),
+        },
+        Ok(Err(fault)) => Ok(Err(fault)),
+        Err(_) => Err(ToolFault::NoMemory),
+    }
+}
+
+/// Does the job with the configuration that the text means, and gives the exit status: 0, or 1 if
+/// the text means none, as a line on `errors` tells, or if a line of the input had a fault; or 3
+/// after a fault of reading, writing or memory, which a line on `errors` tells.
 pub fn execute<R: BufRead, W: Write, E: Write>(
     alloc: Global,
-    job: Job,
+    kind: Kind,
+    text: &[u8],
     reader: &mut R,
     writer: &mut W,
     errors: &mut E,
 ) -> u8
-    ensures { Executes (R.remaining reader.old) (R.remaining reader.new) (W.contents writer.old) (W.contents writer.new) (E.contents errors.old) (E.contents errors.new) result }
+    ensures { Executes (R.remaining reader.old) (R.remaining reader.new) (W.contents writer.old) (W.contents writer.new) (E.contents errors.old) (E.contents errors.new) text.now result }
 {
-    let ended = match job.kind {
-        Kind::Run => run_built_in(alloc, reader, writer),
+    let ended = match kind {
+        Kind::Run => run_text(alloc, text, reader, writer),
     };
     match ended {
-        Ok(summary) => status_of(summary),
-        Err(fault) => {
-            tell_fault(errors, fault);
-            3
+        Ok(Ok(summary)) => status_of(summary),
+        Ok(Err(fault)) => {
+            tell_config_fault(errors, fault);
+            1
         }
+        Err(fault) => tell(errors, fault),
     }
+}
+
+/// Tells a fault of reading, writing or memory, and gives its status.
+pub fn tell<E: Write>(errors: &mut E, fault: ToolFault) -> u8
+    ensures told { AppendsFront (E.contents errors.old) (E.contents errors.new) (error_line fault) }
+    ensures status { result ≡ 3 }
+{
+    tell_fault(errors, fault);
+    3
 }
 
 fn status_of(summary: Summary) -> u8

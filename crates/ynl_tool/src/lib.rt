@@ -2,10 +2,12 @@
 //! events of an input, and tells how that ended.
 #![tactic(auto)]
 
-pub use jobs::execute;
+pub use config_text::{BUILT_IN, fault_of, read_text};
+pub use jobs::{execute, tell};
 pub use run::{Summary, ToolFault, run_lines};
 pub use words::{Job, Kind, WordsFault, parse_words};
 
+mod config_text;
 mod jobs;
 mod lines_in;
 mod lines_out;

@@ -1,6 +1,6 @@
 //! Text, written by single writes.
 
-ghost use Rattle.std.specs.Prelude.{OnOk, OnErr};
+ghost use Rattle.std.specs.Prelude.{OnOk, OnErr, ◌++◌};
 ghost use Rattle.std.specs.Io.KnownBytes.{Appends};
 ghost use Rattle.ynl_tool.specs.Lines.{AppendsFront};
 
@@ -23,4 +23,19 @@ pub fn write_text<W: Write>(writer: &mut W, text: &[u8]) -> Result<(), WriteFaul
         }
     }
     Ok(())
+}
+
+/// Writes three texts, one after another.
+pub fn write_three<W: Write>(
+    writer: &mut W,
+    first: &[u8],
+    second: &[u8],
+    third: &[u8],
+) -> Result<(), WriteFault>
+    ensures ok { OnOk result (Appends (W.contents writer.old) (W.contents writer.new) (first.now ++ (second.now ++ third.now))) }
+    ensures err { OnErr result (AppendsFront (W.contents writer.old) (W.contents writer.new) (first.now ++ (second.now ++ third.now))) }
+{
+    write_text(writer, first)?;
+    write_text(writer, second)?;
+    write_text(writer, third)
 }

@@ -1,4 +1,6 @@
-use crate::{Job, Kind, ToolFault, WordsFault, execute, parse_words, run_lines};
+use crate::{
+    BUILT_IN, Job, Kind, ToolFault, WordsFault, execute, parse_words, run_lines,
+};
 use std::alloc::{AllocError, Global};
 use std::io;
 use std::io::{BufReader, Read, Write};
@@ -101,10 +103,10 @@ fn reads_words(rt: HostRuntime) -> Result<(), Fail> {
     let alloc = rt.alloc();
     let run = words(alloc, &["ynl", "run"])?;
     match parse_words(alloc, run.as_slice()) {
-        Ok(job) => assert!(rt; job == Job { kind: Kind::Run }),
+        Ok(job) => assert!(rt; job == Job { kind: Kind::Run, config: None }),
         Err(_) => panic!(rt; "run is a job"),
     }
-    let wrong: [(&[&str], &str); 6] = [
+    let wrong: [(&[&str], &str); 7] = [
         (
             &["ynl"],
             "error: 'ynl' requires a subcommand but one was not provided",
@@ -121,6 +123,10 @@ fn reads_words(rt: HostRuntime) -> Result<(), Fail> {
         (
             &["ynl", "--help"],
             "Decides which containers of a cluster run on which node",
+        ),
+        (
+            &["ynl", "run", "--config"],
+            "error: a value is required for '--config <FILE>' but none was supplied",
         ),
         (
             &["ynl", "run", "-h"],
@@ -143,7 +149,7 @@ fn reads_words(rt: HostRuntime) -> Result<(), Fail> {
 #[test]
 fn tells_how_a_job_ended(rt: HostRuntime) -> Result<(), Fail> {
     let alloc = rt.alloc();
-    let job = Job { kind: Kind::Run };
+    let text = BUILT_IN.as_bytes();
     let inputs: [(&[u8], u8, &[u8]); 3] = [
         (b"", 0, b""),
         (
@@ -157,7 +163,7 @@ fn tells_how_a_job_ended(rt: HostRuntime) -> Result<(), Fail> {
         let mut reader = input;
         let mut out = Vec::new(alloc);
         let mut errors = Vec::new(alloc);
-        let given = execute(alloc, job, &mut reader, &mut out, &mut errors);
+        let given = execute(alloc, Kind::Run, text, &mut reader, &mut out, &mut errors);
         assert_eq!(rt; given, status);
         assert!(rt; out.as_slice() == replies);
         assert!(rt; errors.is_empty());
@@ -165,7 +171,7 @@ fn tells_how_a_job_ended(rt: HostRuntime) -> Result<(), Fail> {
     let mut reader = BufReader::with_capacity(alloc, 64, Cut { left: REGISTER })?;
     let mut out = Vec::new(alloc);
     let mut errors = Vec::new(alloc);
-    let given = execute(alloc, job, &mut reader, &mut out, &mut errors);
+    let given = execute(alloc, Kind::Run, text, &mut reader, &mut out, &mut errors);
     assert_eq!(rt; given, 3);
     assert!(rt; errors.as_slice() == b"ynl: read fault\n".as_slice());
     assert!(rt; out.as_slice() == DONE);

@@ -3,12 +3,13 @@
 ghost use Rattle.std.specs.Prelude.{◌≡◌, ◌∷◌, [], IfOk, IfErr, IsErr, drop, map, codes, false};
 ghost use Rattle.std.specs.String.{string_bytes};
 ghost use Rattle.clap.specs.Simple.{app_of};
+ghost use Rattle.clap.specs.Walk.{rule_of};
 ghost use Rattle.clap.specs.declared.builder.command.Command.TheViews.{out-Command as fields_of};
 ghost use Rattle.ynl_tool.specs.Words as spec;
 ghost use Rattle.ynl_tool.specs.declared.words.WordsFault.TheVariants.{NoMemory};
 
 use clap::error::ErrorKind;
-use clap::{Command, Error};
+use clap::{Arg, Command, Error};
 use std::alloc::{AllocError, Global};
 
 /// What the program is asked to do.
@@ -20,8 +21,10 @@ pub enum Kind {
 
 /// A piece of work for the program.
 #[derive(Clone, Copy, Debug, PartialEq, Eq)]
-pub struct Job {
+pub struct Job<'a> {
     pub kind: Kind,
+    /// The file of the configuration, where one is named.
+    pub config: Option<&'a str>,
 }
 
 /// Why the words give no job.
@@ -72,6 +75,8 @@ Exit status:
 Example:
   ynl run < events > replies";
 
+const CONFIG_HELP: &str = "The configuration, a TOML text; without it there is one queue, root.eng, and one label, gpu";
+
 const RUN_ABOUT: &str = "Answers the events of standard input, one reply for each";
 
 const RUN_AFTER: &str = "\
@@ -101,13 +106,26 @@ Exit status:
 Example:
   printf '{\"event\":\"heartbeat\",\"node\":\"g1\"}\\n' | ynl run";
 
-fn run<'a>(alloc: Global) -> Command<'a>
-    ensures app { app_of result ≡ spec.run_command }
-    ensures local { (fields_of result).has_globals ≡ false }
+/// The option that names the file of the configuration.
+fn config_option<'a>(alloc: Global) -> Arg<'a>
+    ensures rule { rule_of result ≡ spec.config_rule }
+    ensures local { result.global ≡ false }
 {
+    Arg::new(alloc, "config")
+        .long("config")
+        .value_name("FILE")
+        .help(CONFIG_HELP)
+}
+
+fn run<'a>(alloc: Global) -> Result<Command<'a>, AllocError>
+    ensures app { IfOk result (λ c. app_of c ≡ spec.run_command) }
+    ensures local { IfOk result (λ c. (fields_of c).has_globals ≡ false) }
+{
+    let config = config_option(alloc);
     Command::new(alloc, "run")
         .about(RUN_ABOUT)
         .after_help(RUN_AFTER)
+        .arg(config)
 }
 
 fn command<'a>(alloc: Global) -> Result<Command<'a>, AllocError>
@@ -118,15 +136,22 @@ fn command<'a>(alloc: Global) -> Result<Command<'a>, AllocError>
         .about(ABOUT)
         .after_help(AFTER)
         .subcommand_required(true)
-        .subcommand(run(alloc))
+        .subcommand(run(alloc)?)
 }
 
 /// The job that the words ask for. The first word is the program's name.
-pub fn parse_words(alloc: Global, words: &[String]) -> Result<Job, WordsFault>
+pub fn parse_words<'a>(alloc: Global, words: &'a [String]) -> Result<Job<'a>, WordsFault>
     ensures run { drop 1 (map string_bytes words.now) ≡ codes "run" ∷ [] → IfErr result (λ e. e ≡ NoMemory) }
     ensures missing { drop 1 (map string_bytes words.now) ≡ [] → IsErr result }
 {
+    let matches = command(alloc)?.try_get_matches_from(words)?;
     // There is one subcommand, and it is required.
-    let _matches = command(alloc)?.try_get_matches_from(words)?;
-    Ok(Job { kind: Kind::Run })
+    let config = match matches.subcommand() {
+        Some((_, run)) => run.get_str("config"),
+        None => None,
+    };
+    Ok(Job {
+        kind: Kind::Run,
+        config,
+    })
 }
