@@ -1,4 +1,5 @@
 pub mod Placing
+pub mod Rows
 pub mod Resting
 pub mod CoreFields
 pub mod World

@@ -1,23 +1,25 @@
 //! The cluster that takes one event after another.
 
 ghost use Rattle.std.specs.Prelude.{◌≡◌, IfOk, OnErr, IsTrue};
-ghost use Rattle.ynl_model.specs.declared.events.Event.TheVariants.{Register, Submit, Heartbeat};
+ghost use Rattle.ynl_model.specs.declared.events.Event.TheVariants.{Register, Lost, Relabel, Heartbeat, Exited, Submit, Release};
 ghost use Rattle.ynl_model.specs.Kinds.{is_there};
 ghost use Rattle.ynl_model.specs.Cluster.{containers_on};
 ghost use Rattle.ynl_core.specs.World.{opened, Answers};
 
+use crate::ending::{container_of_tenant, container_on, end};
 use crate::memory::NoMemory;
+use crate::nodes::{join, leave};
 use crate::opening::opening;
-use crate::placing::{next_clock, push_copy, reserve, set_clock};
+use crate::placing::{push_copy, reserve};
 use crate::resting::{rest, rests};
 use crate::serving::{is_spent, serve};
 use crate::submitting::{Submission, home_of, refusal_of, reserve_place, submit};
 use std::alloc::Global;
 use std::marker::Model;
-use ynl_model::{Event, Node, Placed, PlacedList, Reply};
+use ynl_model::{Event, Placed, PlacedList, Reply};
 use ynl_queues::Config;
-use ynl_resource::{Label, Name, Path, Refusal, Size};
-use ynl_tables::{Tables, containers_at, is_full, node_at};
+use ynl_resource::{Id, Label, Name, Path, Refusal, Size};
+use ynl_tables::{Tables, containers_at, is_full, is_master, is_same, node_at};
 
 /// A cluster: what it is configured with, and its state. The names of nodes that rest are listed
 /// beside it, so that their heartbeats take no search; a change of the cluster strikes them all.
@@ -41,7 +43,7 @@ impl Model for Core {
 }
 
 impl Core {
-    #[tactic(auto, unfolding(ynl_model::specs::Events::step, ynl_model::specs::Events::reasons, ynl_model::specs::Events::accepted, ynl_model::specs::Changes::node_joins, ynl_model::specs::Nodes::joined))]
+    #[tactic(auto, unfolding(ynl_model::specs::Events::step, ynl_model::specs::Events::reasons, ynl_model::specs::Events::accepted))]
     fn register(&mut self, name: Name, label: Label, size: Size) -> Result<Reply, NoMemory>
         ensures ok { IfOk result (λ reply. Answers self.old (Register name label size) self.new reply) }
         ensures err { OnErr result (self.new ≡ self.old) }
@@ -57,16 +59,76 @@ impl Core {
         }
         let _sized = size.amount();
         self.tables.nodes.reserve(1)?;
-        let stamp = next_clock(&self.config, &self.tables, &label);
-        set_clock(&mut self.tables.partitions, &label, stamp);
-        self.tables.nodes.push_reserved(Node {
-            name,
-            label,
-            size,
-            stamp,
-        });
+        join(&self.config, &mut self.tables, &name, &label, &size);
         self.resting.clear();
         Ok(Reply::Done)
+    }
+
+    #[tactic(auto, unfolding(ynl_model::specs::Events::step, ynl_model::specs::Events::reasons, ynl_model::specs::Events::accepted))]
+    fn lost(&mut self, name: Name) -> Reply
+        ensures { Answers self.old (Lost name) self.new result }
+    {
+        let Some(node) = node_at(&self.tables.nodes, &name) else {
+            return Reply::Refused(Refusal::NoSuchNode);
+        };
+        leave(&mut self.tables, &node);
+        self.resting.clear();
+        Reply::Done
+    }
+
+    #[tactic(auto, unfolding(ynl_model::specs::Events::step, ynl_model::specs::Events::reasons, ynl_model::specs::Events::accepted))]
+    fn relabel(&mut self, name: Name, label: Label) -> Result<Reply, NoMemory>
+        ensures ok { IfOk result (λ reply. Answers self.old (Relabel name label) self.new reply) }
+        ensures err { OnErr result (self.new ≡ self.old) }
+    {
+        if !self.config.labels().has(&label) {
+            return Ok(Reply::Refused(Refusal::NoSuchLabel));
+        }
+        let Some(node) = node_at(&self.tables.nodes, &name) else {
+            return Ok(Reply::Refused(Refusal::NoSuchNode));
+        };
+        if is_same(&node.label, &label) {
+            return Ok(Reply::Refused(Refusal::SameLabel));
+        }
+        if is_full(&self.tables.nodes, &label) {
+            return Ok(Reply::Refused(Refusal::PartitionFull));
+        }
+        self.tables.nodes.reserve(1)?;
+        leave(&mut self.tables, &node);
+        join(&self.config, &mut self.tables, &name, &label, &node.size);
+        self.resting.clear();
+        Ok(Reply::Done)
+    }
+
+    #[tactic(auto, unfolding(ynl_model::specs::Events::step, ynl_model::specs::Events::reasons, ynl_model::specs::Events::accepted))]
+    fn exited(&mut self, name: Name, id: Id) -> Reply
+        ensures { Answers self.old (Exited name id) self.new result }
+    {
+        let Some(node) = node_at(&self.tables.nodes, &name) else {
+            return Reply::Refused(Refusal::NoSuchNode);
+        };
+        let containers = containers_at(&self.tables.partitions, &node.label);
+        let Some(container) = container_on(containers, &name, &id) else {
+            return Reply::Refused(Refusal::NoSuchContainer);
+        };
+        end(&self.config, &mut self.tables, &container);
+        self.resting.clear();
+        Reply::Done
+    }
+
+    #[tactic(auto, unfolding(ynl_model::specs::Events::step, ynl_model::specs::Events::reasons, ynl_model::specs::Events::accepted))]
+    fn release(&mut self, tenant: Name, id: Id) -> Reply
+        ensures { Answers self.old (Release tenant id) self.new result }
+    {
+        let Some(container) = container_of_tenant(&self.tables, &tenant, &id) else {
+            return Reply::Refused(Refusal::NoSuchContainer);
+        };
+        if is_master(&container) {
+            return Reply::Refused(Refusal::IsMaster);
+        }
+        end(&self.config, &mut self.tables, &container);
+        self.resting.clear();
+        Reply::Done
     }
 
     #[tactic(auto, unfolding(ynl_model::specs::Events::step, ynl_model::specs::Events::reasons, ynl_model::specs::Events::accepted))]
@@ -163,7 +225,11 @@ impl Core {
                 label,
                 master,
             } => self.submit(queue, app, user, label, master),
+            Event::Lost { node } => Ok(self.lost(node)),
+            Event::Relabel { node, label } => self.relabel(node, label),
             Event::Heartbeat { node } => self.heartbeat(node),
+            Event::Exited { node, id } => Ok(self.exited(node, id)),
+            Event::Release { tenant, id } => Ok(self.release(tenant, id)),
             _ => unreachable!(),
         }
     }

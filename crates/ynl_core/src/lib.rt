@@ -7,7 +7,9 @@ pub use running::run;
 pub use runs::{Answer, AnswerList, Run};
 
 mod cluster;
+mod ending;
 mod memory;
+mod nodes;
 mod opening;
 mod placing;
 mod resting;

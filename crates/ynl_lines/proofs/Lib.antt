@@ -2,3 +2,4 @@ pub mod RoundTrip
 pub mod Readings
 pub mod Sizes
 pub mod Texts
+pub mod Ids

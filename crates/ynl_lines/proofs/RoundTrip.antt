@@ -1,19 +1,46 @@
 -- The text of an event reads as it.
-use Rattle.std.proofs.Common.{◌≡◌, ℕ, List, Some, None, Ok}
+use Rattle.std.proofs.Common.{◌≡◌, ℕ, List, Some, None, Result, Ok, Err, IfOk}
 use Rattle.ynl_resource.specs.declared.amounts.Resource.{Resource}
 use Rattle.ynl_resource.specs.declared.names.Name.{Name}
 use Rattle.ynl_resource.specs.declared.labels.Label.{Label}
 use Rattle.ynl_resource.specs.declared.paths.Path.{Path}
+use Rattle.ynl_resource.specs.declared.ids.Id.{Id}
 use Rattle.ynl_resource.specs.Amounts.{IsSize}
-use Rattle.ynl_resource.specs.Texts.{read_name, read_label, read_path, label_text, path_text}
-use Rattle.ynl_model.specs.declared.events.Event.TheVariants.{Register, Heartbeat, Submit}
-use Rattle.ynl_lines.specs.Reading.{or_name, ◌>>=◌, text_at, number_at, keys_are, name_at, label_at, path_at, register_at, heartbeat_at, label_text_at, optional_label_at, submit_at, event_at}
-use Rattle.ynl_lines.specs.Writing.{register_data, heartbeat_data, submit_data}
+use Rattle.ynl_resource.specs.Texts.{read_name, read_label, read_path, read_id, label_text, path_text, id_text}
+use Rattle.ynl_model.specs.declared.events.Event.TheVariants.{Register, Lost, Relabel, Heartbeat, Exited, Submit, Release}
+use Rattle.ynl_lines.specs.Reading.{or_name, ◌>>=◌, text_at, number_at, keys_are, name_at, label_at, path_at, id_at, register_at, lost_at, relabel_at, heartbeat_at, exited_at, release_at, label_text_at, optional_label_at, submit_at, event_at}
+use Rattle.ynl_lines.specs.Writing.{register_data, lost_data, relabel_data, heartbeat_data, exited_data, submit_data, release_data}
 use Rattle.ynl_lines.proofs.Sizes.{size_back}
+
+pub if_ok : {X Y P : Type 0} (r : Result X Y) → P → IfOk r (λ _. P)
+if_ok (Ok x) p = p
+if_ok (Err e) p = tt
 
 pub reads_heartbeat : (node : Name) → read_name node ≡ Ok node → event_at (heartbeat_data node) ≡ Ok (Heartbeat node)
 unfolding event_at text_at keys_are heartbeat_at name_at
 reads_heartbeat node n = λ i. or_name (n i) >>= λ node. Ok (Heartbeat node)
+
+pub reads_lost : (node : Name) → read_name node ≡ Ok node → event_at (lost_data node) ≡ Ok (Lost node)
+unfolding event_at text_at keys_are lost_at name_at
+reads_lost node n = λ i. or_name (n i) >>= λ node. Ok (Lost node)
+
+pub reads_relabel : (node : Name) (label : Label) (text : List ℕ) → text ≡ label_text label
+    → read_name node ≡ Ok node → read_label text ≡ Ok label
+    → event_at (relabel_data node label) ≡ Ok (Relabel node label)
+unfolding event_at text_at keys_are relabel_at name_at label_at
+reads_relabel node label text t n l = λ i. or_name ((rw t at l) i) >>= λ label. or_name (n i) >>= λ node. Ok (Relabel node label)
+
+pub reads_exited : (node : Name) (id : Id) (text : List ℕ) → text ≡ id_text id
+    → read_name node ≡ Ok node → read_id text ≡ Ok id
+    → event_at (exited_data node id) ≡ Ok (Exited node id)
+unfolding event_at text_at keys_are exited_at name_at id_at
+reads_exited node id text t n d = λ i. or_name ((rw t at d) i) >>= λ id. or_name (n i) >>= λ node. Ok (Exited node id)
+
+pub reads_release : (tenant : Name) (id : Id) (text : List ℕ) → text ≡ id_text id
+    → read_name tenant ≡ Ok tenant → read_id text ≡ Ok id
+    → event_at (release_data tenant id) ≡ Ok (Release tenant id)
+unfolding event_at text_at keys_are release_at name_at id_at
+reads_release tenant id text t n d = λ i. or_name ((rw t at d) i) >>= λ id. or_name (n i) >>= λ tenant. Ok (Release tenant id)
 
 pub reads_register : (node : Name) (label : Label) (size : Resource) (text : List ℕ) → text ≡ label_text label
     → read_name node ≡ Ok node → read_label text ≡ Ok label → IsSize size

@@ -1,5 +1,5 @@
 -- The event that a line is, or its first fault.
-use Rattle.std.specs.Prelude.{◌≡◌, ℕ, List, Bool, ◌&&◌, ◌==◌, nat_le, Option, Some, None, option_map, option_and_then, Result, Ok, Err, codes, if◌then◌else◌}
+use Rattle.std.specs.Prelude.{◌≡◌, ◌≤◌, ℕ, List, Bool, ◌&&◌, ◌==◌, nat_le, Option, Some, None, option_map, option_and_then, Result, Ok, Err, codes, if◌then◌else◌}
 use Rattle.std.specs.Str.{bytes_eq, is_utf8}
 use Rattle.serde_json.specs.Data.{Data}
 use Rattle.serde_json.specs.Read.{read}
@@ -10,9 +10,10 @@ use Rattle.ynl_resource.specs.Amounts.{amount, IsSize}
 use Rattle.ynl_resource.specs.declared.names.Name.{Name}
 use Rattle.ynl_resource.specs.declared.labels.Label.{Label}
 use Rattle.ynl_resource.specs.declared.paths.Path.{Path}
-use Rattle.ynl_resource.specs.Texts.{read_name, read_label, read_path}
+use Rattle.ynl_resource.specs.declared.ids.Id.{Id}
+use Rattle.ynl_resource.specs.Texts.{read_name, read_label, read_path, read_id, most_clock}
 use Rattle.ynl_model.specs.declared.events.Event.{Event}
-use Rattle.ynl_model.specs.declared.events.Event.TheVariants.{Register, Submit, Heartbeat}
+use Rattle.ynl_model.specs.declared.events.Event.TheVariants.{Register, Lost, Relabel, Heartbeat, Exited, Submit, Release}
 use Rattle.ynl_lines.specs.declared.read.Kind.{Kind}
 use Rattle.ynl_lines.specs.declared.read.Kind.TheVariants as kind
 use Rattle.ynl_lines.specs.declared.faults.LineFault.{LineFault}
@@ -63,6 +64,9 @@ label_at text = or_name (read_label text)
 unfoldable pub path_at : List ℕ → Result Path LineFault
 path_at text = or_name (read_path text)
 
+unfoldable pub id_at : List ℕ → Result Id LineFault
+id_at text = or_name (read_id text)
+
 -- whether a size is in range
 abbrev pub is_size : ℕ → ℕ → Bool
 is_size memory vcores = nat_le 1 memory && nat_le memory 4294967295 && nat_le 1 vcores && nat_le vcores 65536
@@ -84,12 +88,37 @@ register_at d = do
   size ← size_at memory vcores
   Ok (Register node' label' size)
 
+unfoldable pub lost_at : Data → Result Event LineFault
+lost_at d = do
+  keys ← keys_are 2 d
+  node ← text_at (codes "node") d
+  node' ← name_at node
+  Ok (Lost node')
+
+unfoldable pub relabel_at : Data → Result Event LineFault
+relabel_at d = do
+  keys ← keys_are 3 d
+  label ← text_at (codes "label") d
+  node ← text_at (codes "node") d
+  label' ← label_at label
+  node' ← name_at node
+  Ok (Relabel node' label')
+
 unfoldable pub heartbeat_at : Data → Result Event LineFault
 heartbeat_at d = do
   keys ← keys_are 2 d
   node ← text_at (codes "node") d
   node' ← name_at node
   Ok (Heartbeat node')
+
+unfoldable pub exited_at : Data → Result Event LineFault
+exited_at d = do
+  keys ← keys_are 3 d
+  id ← text_at (codes "id") d
+  node ← text_at (codes "node") d
+  id' ← id_at id
+  node' ← name_at node
+  Ok (Exited node' id')
 
 -- a submit's label may be absent
 unfoldable pub label_text_at : Data → Result (Option (List ℕ)) LineFault
@@ -118,18 +147,35 @@ submit_at d = do
   master ← size_at memory vcores
   Ok (Submit queue' app' user' label' master)
 
+unfoldable pub release_at : Data → Result Event LineFault
+release_at d = do
+  keys ← keys_are 3 d
+  id ← text_at (codes "id") d
+  tenant ← text_at (codes "tenant") d
+  id' ← id_at id
+  tenant' ← name_at tenant
+  Ok (Release tenant' id')
+
 -- the event that a word names, if it is a known one
 abbrev pub kind_of : List ℕ → Option Kind
 kind_of word =
     if bytes_eq word (codes "register") then Some kind.Register
-    else if bytes_eq word (codes "submit") then Some kind.Submit
+    else if bytes_eq word (codes "lost") then Some kind.Lost
+    else if bytes_eq word (codes "relabel") then Some kind.Relabel
     else if bytes_eq word (codes "heartbeat") then Some kind.Heartbeat
+    else if bytes_eq word (codes "exited") then Some kind.Exited
+    else if bytes_eq word (codes "submit") then Some kind.Submit
+    else if bytes_eq word (codes "release") then Some kind.Release
     else None
 
 abbrev pub event_by : Kind → Data → Result Event LineFault
 event_by kind.Register d = register_at d
-event_by kind.Submit d = submit_at d
+event_by kind.Lost d = lost_at d
+event_by kind.Relabel d = relabel_at d
 event_by kind.Heartbeat d = heartbeat_at d
+event_by kind.Exited d = exited_at d
+event_by kind.Submit d = submit_at d
+event_by kind.Release d = release_at d
 
 unfoldable pub event_at : Data → Result Event LineFault
 event_at d = do
@@ -141,8 +187,18 @@ event_at d = do
 abbrev pub event_of_line : List ℕ → Result Event LineFault
 event_of_line bytes = or_fault fault.Syntax (reading bytes) >>= event_at
 
--- the sizes that an event names are in range
+-- an id's number is in range
+abbrev pub HasClock : Id → Type 0
+HasClock id = (1 ≤ id.clock) × (id.clock ≤ most_clock)
+
+-- the numbers of an event are in range, but for those of a size, which always are
+abbrev pub IsInRange : Event → Type 0
+IsInRange (Exited node id) = HasClock id
+IsInRange (Release tenant id) = HasClock id
+IsInRange _ = Unit {0}
+
+-- the sizes that an event names are in range, and so are its other numbers
 abbrev pub IsRanged : Event → Type 0
 IsRanged (Register node label size) = IsSize size
 IsRanged (Submit queue app user label master) = IsSize master
-IsRanged _ = Unit {0}
+IsRanged event = IsInRange event

@@ -7,6 +7,7 @@ use Rattle.ynl_resource.specs.declared.amounts.Resource.{Resource}
 use Rattle.ynl_resource.specs.declared.names.Name.{Name}
 use Rattle.ynl_resource.specs.declared.labels.Label.{Label}
 use Rattle.ynl_resource.specs.declared.paths.Path.{Path}
+use Rattle.ynl_resource.specs.declared.ids.Id.{Id}
 use Rattle.ynl_resource.specs.declared.refusals.Refusal.{Refusal}
 use Rattle.ynl_resource.specs.Refusals.{word}
 use Rattle.ynl_resource.specs.Texts.{label_text, path_text, id_text}
@@ -15,7 +16,7 @@ use Rattle.ynl_model.specs.declared.proposals.What.TheVariants.{Master, Ask as A
 use Rattle.ynl_model.specs.declared.containers.Placed.{Placed as Container}
 use Rattle.ynl_model.specs.declared.proposals.Proposal.{Proposal}
 use Rattle.ynl_model.specs.declared.events.Event.{Event}
-use Rattle.ynl_model.specs.declared.events.Event.TheVariants.{Register, Heartbeat, Submit}
+use Rattle.ynl_model.specs.declared.events.Event.TheVariants.{Register, Lost, Relabel, Heartbeat, Exited, Submit, Release}
 use Rattle.ynl_model.specs.declared.replies.Pending.{Pending}
 use Rattle.ynl_model.specs.declared.replies.Reply.{Reply}
 use Rattle.ynl_model.specs.declared.replies.Reply.TheVariants.{Done, Refused, Placed, Proposed, Committed, Held, Usage}
@@ -137,8 +138,23 @@ register_data node label size =
     object (member (codes "event") (string (codes "register")) (member (codes "label") (string (label_text label)) (member (codes "memory") (count size.memory)
     (member (codes "node") (string node) (member (codes "vcores") (count size.vcores) no_members)))))
 
+abbrev pub lost_data : Name → Data
+lost_data node = object (member (codes "event") (string (codes "lost")) (member (codes "node") (string node) no_members))
+
+abbrev pub relabel_data : Name → Label → Data
+relabel_data node label =
+    object (member (codes "event") (string (codes "relabel")) (member (codes "label") (string (label_text label)) (member (codes "node") (string node) no_members)))
+
 abbrev pub heartbeat_data : Name → Data
 heartbeat_data node = object (member (codes "event") (string (codes "heartbeat")) (member (codes "node") (string node) no_members))
+
+-- a container that exited, by the texts of its id and its node
+abbrev pub exited_object : List ℕ → List ℕ → Data
+exited_object id node =
+    object (member (codes "event") (string (codes "exited")) (member (codes "id") (string id) (member (codes "node") (string node) no_members)))
+
+abbrev pub exited_data : Name → Id → Data
+exited_data node id = exited_object (id_text id) node
 
 -- the members of a submit without its label
 abbrev pub submit_members : List ℕ → Name → Name → Resource → Members
@@ -152,11 +168,23 @@ submit_data queue app user None master = object (submit_members (path_text queue
 submit_data queue app user (Some label) master =
     object (put (codes "label") (string (label_text label)) (submit_members (path_text queue) app user master))
 
+-- a release of a container, by the texts of its id and its tenant
+abbrev pub release_object : List ℕ → List ℕ → Data
+release_object id tenant =
+    object (member (codes "event") (string (codes "release")) (member (codes "id") (string id) (member (codes "tenant") (string tenant) no_members)))
+
+abbrev pub release_data : Name → Id → Data
+release_data tenant id = release_object (id_text id) tenant
+
 -- an event of a kind that is there
 abbrev pub event_data : Event → Data
 event_data (Register node label size) = register_data node label size
+event_data (Lost node) = lost_data node
+event_data (Relabel node label) = relabel_data node label
 event_data (Heartbeat node) = heartbeat_data node
+event_data (Exited node id) = exited_data node id
 event_data (Submit queue app user label master) = submit_data queue app user label master
+event_data (Release tenant id) = release_data tenant id
 event_data _ = null
 
 -- the text of an event, without the newline of its line

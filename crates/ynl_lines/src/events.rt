@@ -4,14 +4,14 @@ ghost use Rattle.std.specs.Prelude.{◌≡◌, IfOk, IsTrue};
 ghost use Rattle.serde_json.specs.View.{view, members_view};
 ghost use Rattle.ynl_model.specs.declared.events.Event.TheVariants as event;
 ghost use Rattle.ynl_model.specs.Kinds.{is_there};
-ghost use Rattle.ynl_lines.specs.Reading.{event_at};
+ghost use Rattle.ynl_lines.specs.Reading.{event_at, HasClock, IsInRange};
 ghost use Rattle.ynl_lines.specs.Writing as spec;
 
 use crate::object::{Field, members, object, with};
 use serde_json::{Map, Value};
 use std::alloc::{AllocError, Global};
 use ynl_model::Event;
-use ynl_resource::{Label, Name, Path, Resource, Size};
+use ynl_resource::{Id, Label, Name, Path, Resource, Size};
 
 #[tactic(auto, using(crate::proofs::RoundTrip::reads_register))]
 fn register_value<'a>(
@@ -36,6 +36,35 @@ fn register_value<'a>(
     )
 }
 
+#[tactic(auto, using(crate::proofs::RoundTrip::reads_lost))]
+fn lost_value(alloc: Global, node: &Name) -> Result<Value, AllocError>
+    ensures value { IfOk result (λ v. view v ≡ spec.lost_data node.now) }
+    ensures reads { IfOk result (λ _. event_at (spec.lost_data node.now) ≡ Ok (event.Lost node.now)) }
+{
+    object(
+        alloc,
+        &[
+            ("event", Field::Word("lost")),
+            ("node", Field::Text(node.as_str())),
+        ],
+    )
+}
+
+#[tactic(auto, using(crate::proofs::RoundTrip::reads_relabel))]
+fn relabel_value<'a>(alloc: Global, node: &'a Name, label: &'a Label) -> Result<Value, AllocError>
+    ensures value { IfOk result (λ v. view v ≡ spec.relabel_data node.now label.now) }
+    ensures reads { IfOk result (λ _. event_at (spec.relabel_data node.now label.now) ≡ Ok (event.Relabel node.now label.now)) }
+{
+    object(
+        alloc,
+        &[
+            ("event", Field::Word("relabel")),
+            ("label", Field::Text(label.as_str())),
+            ("node", Field::Text(node.as_str())),
+        ],
+    )
+}
+
 #[tactic(auto, using(crate::proofs::RoundTrip::reads_heartbeat))]
 fn heartbeat_value(alloc: Global, node: &Name) -> Result<Value, AllocError>
     ensures value { IfOk result (λ v. view v ≡ spec.heartbeat_data node.now) }
@@ -48,6 +77,28 @@ fn heartbeat_value(alloc: Global, node: &Name) -> Result<Value, AllocError>
             ("node", Field::Text(node.as_str())),
         ],
     )
+}
+
+fn exited_object<'a>(alloc: Global, id: &'a str, node: &'a str) -> Result<Value, AllocError>
+    ensures { IfOk result (λ v. view v ≡ spec.exited_object id.now node.now) }
+{
+    object(
+        alloc,
+        &[
+            ("event", Field::Word("exited")),
+            ("id", Field::Text(id)),
+            ("node", Field::Text(node)),
+        ],
+    )
+}
+
+#[tactic(auto, using(crate::proofs::RoundTrip::reads_exited))]
+fn exited_value(alloc: Global, node: &Name, id: &Id) -> Result<Value, AllocError>
+    ensures value { IfOk result (λ v. view v ≡ spec.exited_data node.now id.now) }
+    ensures reads { HasClock id.now → IfOk result (λ _. event_at (spec.exited_data node.now id.now) ≡ Ok (event.Exited node.now id.now)) }
+{
+    let text = id.text(alloc)?;
+    exited_object(alloc, text.as_str(), node.as_str())
 }
 
 /// The members of a submit without its label.
@@ -99,11 +150,33 @@ fn submit_value(
     }
 }
 
+fn release_object<'a>(alloc: Global, id: &'a str, tenant: &'a str) -> Result<Value, AllocError>
+    ensures { IfOk result (λ v. view v ≡ spec.release_object id.now tenant.now) }
+{
+    object(
+        alloc,
+        &[
+            ("event", Field::Word("release")),
+            ("id", Field::Text(id)),
+            ("tenant", Field::Text(tenant)),
+        ],
+    )
+}
+
+#[tactic(auto, using(crate::proofs::RoundTrip::reads_release))]
+fn release_value(alloc: Global, tenant: &Name, id: &Id) -> Result<Value, AllocError>
+    ensures value { IfOk result (λ v. view v ≡ spec.release_data tenant.now id.now) }
+    ensures reads { HasClock id.now → IfOk result (λ _. event_at (spec.release_data tenant.now id.now) ≡ Ok (event.Release tenant.now id.now)) }
+{
+    let text = id.text(alloc)?;
+    release_object(alloc, text.as_str(), tenant.as_str())
+}
+
 /// The object of an event of a kind that is there.
 pub fn event_value(alloc: Global, event: &Event) -> Result<Value, AllocError>
     requires { IsTrue (is_there event.now) }
     ensures value { IfOk result (λ v. view v ≡ spec.event_data event.now) }
-    ensures reads { IfOk result (λ _. event_at (spec.event_data event.now) ≡ Ok event.now) }
+    ensures reads { IsInRange event.now → IfOk result (λ _. event_at (spec.event_data event.now) ≡ Ok event.now) }
 {
     match event {
         Event::Register { node, label, size } => register_value(alloc, node, label, size),
@@ -114,7 +187,11 @@ pub fn event_value(alloc: Global, event: &Event) -> Result<Value, AllocError>
             label,
             master,
         } => submit_value(alloc, queue, app, user, label, master),
+        Event::Lost { node } => lost_value(alloc, node),
+        Event::Relabel { node, label } => relabel_value(alloc, node, label),
         Event::Heartbeat { node } => heartbeat_value(alloc, node),
+        Event::Exited { node, id } => exited_value(alloc, node, id),
+        Event::Release { tenant, id } => release_value(alloc, tenant, id),
         _ => unreachable!(),
     }
 }

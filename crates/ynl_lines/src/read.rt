@@ -4,21 +4,25 @@ ghost use Rattle.std.specs.Prelude.{◌≡◌, option_map, IfOk, IsTrue};
 ghost use Rattle.serde_json.specs.View.{view};
 ghost use Rattle.ynl_resource.specs.Amounts.{IsSize};
 ghost use Rattle.ynl_model.specs.Kinds.{is_there};
-ghost use Rattle.ynl_lines.specs.Reading.{reading, Gives, IsRanged};
+ghost use Rattle.ynl_lines.specs.Reading.{reading, Gives, HasClock, IsRanged};
 ghost use Rattle.ynl_lines.specs.Reading as spec;
 
 use crate::faults::LineFault;
 use serde_json::Value;
 use std::alloc::{AllocError, Global};
 use ynl_model::Event;
-use ynl_resource::{Label, Name, Path, Size};
+use ynl_resource::{Id, Label, Name, Path, Size};
 
 /// Which event a word names.
 #[derive(Clone, Copy)]
 pub enum Kind {
     Register,
-    Submit,
+    Lost,
+    Relabel,
     Heartbeat,
+    Exited,
+    Submit,
+    Release,
 }
 
 /// The value that the bytes are, if they are the text of one.
@@ -77,10 +81,18 @@ fn kind_of(word: &str) -> Option<Kind>
 {
     if word == "register" {
         Some(Kind::Register)
-    } else if word == "submit" {
-        Some(Kind::Submit)
+    } else if word == "lost" {
+        Some(Kind::Lost)
+    } else if word == "relabel" {
+        Some(Kind::Relabel)
     } else if word == "heartbeat" {
         Some(Kind::Heartbeat)
+    } else if word == "exited" {
+        Some(Kind::Exited)
+    } else if word == "submit" {
+        Some(Kind::Submit)
+    } else if word == "release" {
+        Some(Kind::Release)
     } else {
         None
     }
@@ -116,6 +128,17 @@ fn path_at(text: &str) -> Result<Path, LineFault>
     }
 }
 
+#[tactic(auto, unfolding(crate::specs::Reading::id_at))]
+fn id_at(text: &str) -> Result<Id, LineFault>
+    ensures id { result ≡ spec.id_at text.now }
+    ensures ranged { IfOk result (λ id. HasClock id) }
+{
+    match Id::parse(text) {
+        Ok(id) => Ok(id),
+        Err(_) => Err(LineFault::Name),
+    }
+}
+
 /// The size; memory is in MB.
 fn size_at(memory: u64, vcores: u64) -> Result<Size, LineFault>
     ensures size { result ≡ spec.size_at memory vcores }
@@ -141,6 +164,32 @@ fn register_at(event: &Value) -> Result<Event, LineFault>
     Ok(Event::Register { node, label, size })
 }
 
+#[tactic(auto, unfolding(crate::specs::Reading::lost_at))]
+fn lost_at(event: &Value) -> Result<Event, LineFault>
+    ensures event { result ≡ spec.lost_at (view event.now) }
+    ensures there { IfOk result (λ event. IsTrue (is_there event)) }
+    ensures ranged { IfOk result (λ event. IsRanged event) }
+{
+    keys_are(event, 2)?;
+    let node = text_at(event, "node")?;
+    let node = name_at(node)?;
+    Ok(Event::Lost { node })
+}
+
+#[tactic(auto, unfolding(crate::specs::Reading::relabel_at))]
+fn relabel_at(event: &Value) -> Result<Event, LineFault>
+    ensures event { result ≡ spec.relabel_at (view event.now) }
+    ensures there { IfOk result (λ event. IsTrue (is_there event)) }
+    ensures ranged { IfOk result (λ event. IsRanged event) }
+{
+    keys_are(event, 3)?;
+    let label = text_at(event, "label")?;
+    let node = text_at(event, "node")?;
+    let label = label_at(label)?;
+    let node = name_at(node)?;
+    Ok(Event::Relabel { node, label })
+}
+
 #[tactic(auto, unfolding(crate::specs::Reading::heartbeat_at))]
 fn heartbeat_at(event: &Value) -> Result<Event, LineFault>
     ensures event { result ≡ spec.heartbeat_at (view event.now) }
@@ -151,6 +200,20 @@ fn heartbeat_at(event: &Value) -> Result<Event, LineFault>
     let node = text_at(event, "node")?;
     let node = name_at(node)?;
     Ok(Event::Heartbeat { node })
+}
+
+#[tactic(auto, unfolding(crate::specs::Reading::exited_at))]
+fn exited_at(event: &Value) -> Result<Event, LineFault>
+    ensures event { result ≡ spec.exited_at (view event.now) }
+    ensures there { IfOk result (λ event. IsTrue (is_there event)) }
+    ensures ranged { IfOk result (λ event. IsRanged event) }
+{
+    keys_are(event, 3)?;
+    let id = text_at(event, "id")?;
+    let node = text_at(event, "node")?;
+    let id = id_at(id)?;
+    let node = name_at(node)?;
+    Ok(Event::Exited { node, id })
 }
 
 /// The text of a submit's label, which may be absent.
@@ -212,6 +275,20 @@ fn submit_at(event: &Value) -> Result<Event, LineFault>
     })
 }
 
+#[tactic(auto, unfolding(crate::specs::Reading::release_at))]
+fn release_at(event: &Value) -> Result<Event, LineFault>
+    ensures event { result ≡ spec.release_at (view event.now) }
+    ensures there { IfOk result (λ event. IsTrue (is_there event)) }
+    ensures ranged { IfOk result (λ event. IsRanged event) }
+{
+    keys_are(event, 3)?;
+    let id = text_at(event, "id")?;
+    let tenant = text_at(event, "tenant")?;
+    let id = id_at(id)?;
+    let tenant = name_at(tenant)?;
+    Ok(Event::Release { tenant, id })
+}
+
 #[tactic(auto, unfolding(crate::specs::Reading::event_at))]
 fn event_at(event: &Value) -> Result<Event, LineFault>
     ensures event { result ≡ spec.event_at (view event.now) }
@@ -224,8 +301,12 @@ fn event_at(event: &Value) -> Result<Event, LineFault>
     };
     match kind_of(word).ok_or(LineFault::Event)? {
         Kind::Register => register_at(event),
-        Kind::Submit => submit_at(event),
+        Kind::Lost => lost_at(event),
+        Kind::Relabel => relabel_at(event),
         Kind::Heartbeat => heartbeat_at(event),
+        Kind::Exited => exited_at(event),
+        Kind::Submit => submit_at(event),
+        Kind::Release => release_at(event),
     }
 }
 
@@ -233,7 +314,8 @@ fn event_at(event: &Value) -> Result<Event, LineFault>
 ///
 /// The line is a JSON object with `event` and exactly the keys of that event: `register` has `label`,
 /// `memory` (in MB), `node` and `vcores`; `submit` has `app`, `memory`, `queue`, `user`, `vcores` and
-/// may have `label`; `heartbeat` has `node`. The faults come in the order of [`LineFault`], over all
+/// may have `label`; `heartbeat` and `lost` have `node`; `relabel` has `label` and `node`; `exited` has
+/// `id` and `node`; `release` has `id` and `tenant`. The faults come in the order of [`LineFault`], over all
 /// keys: any `field` before any `name`, and any `name` before any `range`. `size` is none of them,
 /// since one line does not tell it.
 pub fn read_event(alloc: Global, line: &[u8]) -> Result<Result<Event, LineFault>, AllocError>

@@ -9,7 +9,7 @@ pub use tables::{
     Tables, apps_at, clock_at, containers_at, is_full, is_same, leaf_row_of, lists_name, node_at,
     risen, tenant_bytes,
 };
-pub use uses::total_of;
+pub use uses::{is_master, total_of};
 
 mod queue_use;
 mod rows;

@@ -1,10 +1,5 @@
-use Rattle.std.proofs.Common.{Result, Ok, Err, IfOk}
-use Rattle.ynl_lines.proofs.RoundTrip.{reads_register}
+use Rattle.ynl_lines.proofs.RoundTrip.{reads_register, if_ok}
 use Rattle.ynl_lines.proofs.events.register_value.Goals as goal
-
-if_ok : {X Y P : Type 0} (r : Result X Y) → P → IfOk r (λ _. P)
-if_ok (Ok x) p = p
-if_ok (Err e) p = tt
 
 pub returns-clause-reads : goal.returns-clause-reads
 returns-clause-reads c =

@@ -1,0 +1,20 @@
+-- How one row of a table is changed.
+use Rattle.std.specs.Prelude.{ℕ, if◌then◌else◌}
+use Rattle.ynl_resource.specs.declared.ids.Id.{Id}
+use Rattle.ynl_resource.specs.declared.labels.Label.{Label}
+use Rattle.ynl_resource.specs.declared.names.Name.{Name}
+use Rattle.ynl_resource.specs.Names.{same_id, same_label, same_name}
+use Rattle.ynl_resource.specs.Tables.{without}
+use Rattle.ynl_model.specs.Cluster.{Partition}
+
+-- the row of the partition is changed, and others stay
+abbrev pub in_row : Label → (Partition → Partition) → Partition → Partition
+in_row label change row = if same_label row.label label then change row else row
+
+-- a row without the containers on a node
+abbrev pub emptied : Name → Partition → Partition
+emptied node row = record row { containers = without (λ container. same_name container.node node) row.containers }
+
+-- a row without the container of an id, and with a clock
+abbrev pub without_id : Id → ℕ → Partition → Partition
+without_id id clock row = record row { clock = clock; containers = without (λ other. same_id other.id id) row.containers }
