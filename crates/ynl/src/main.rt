@@ -7,8 +7,9 @@ use std::fs::File;
 use std::io::BufReader;
 use std::process::ExitCode;
 use std::{env, io};
-use ynl_tool::{BUILT_IN, Job, ToolFault, WordsFault};
-use ynl_tool::{execute, fault_of, parse_words, read_text, tell};
+use ynl_tool::{
+    BUILT_IN, Job, ToolFault, WordsFault, execute, fault_of, parse_words, read_text, tell,
+};
 
 fn main(rt: HostRuntime) -> ExitCode {
     let args = match env::args(&rt) {

@@ -26,6 +26,7 @@ cut_spaces text = reverse (skip_spaces (reverse text))
 abbrev pub trimmed : List ℕ → List ℕ
 trimmed text = cut_spaces (skip_spaces text)
 
+-- a comma is the byte 44
 abbrev pub is_comma : ℕ → Bool
 is_comma b = b == 44
 

@@ -22,6 +22,7 @@ all_faults =
     Size ∷ Syntax ∷ UnknownKey ∷ MissingKey ∷ WrongKind ∷ WrongVersion ∷ Range ∷ BadLabel ∷ TooManyLabels ∷ DuplicateLabel ∷ TooDeep ∷ TooMany ∷ BadPath
     ∷ DuplicateQueue ∷ NoParent ∷ NoSuchLabel ∷ NotSubset ∷ MaximumBelowCapacity ∷ SumNot100 ∷ []
 
+-- whether two faults are the same
 abbrev pub same_fault : ConfigFault → ConfigFault → Bool
 same_fault a b = rank a == rank b
 

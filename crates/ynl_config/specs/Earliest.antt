@@ -52,6 +52,7 @@ rank SumNot100 = 18
 abbrev pub earlier : ConfigFault → ConfigFault → ConfigFault
 earlier a b = if nat_le (rank a) (rank b) then a else b
 
+-- what follows on a value; a fault stays
 infixl 10 ◌>>=◌
 abbrev pub ◌>>=◌ : {A B : Type 0} → Result A ConfigFault → (A → Result B ConfigFault) → Result B ConfigFault
 (Ok x) >>= f = f x

@@ -7,11 +7,13 @@ use Rattle.ynl_config.specs.declared.keys.Place.TheVariants.{Top, Label, Queue, 
 use Rattle.ynl_config.specs.Earliest.{ConfigFault}
 use Rattle.ynl_config.specs.declared.faults.ConfigFault.TheVariants.{UnknownKey}
 
+-- the keys of the whole text
 abbrev pub is_top_key : List ℕ → Bool
 is_top_key key =
     bytes_eq key (codes "version") || bytes_eq key (codes "containers-per-heartbeat") || bytes_eq key (codes "maximum-allocation-memory")
     || bytes_eq key (codes "maximum-allocation-vcores") || bytes_eq key (codes "default-clock-limit") || bytes_eq key (codes "label") || bytes_eq key (codes "queue")
 
+-- the keys of a label
 abbrev pub is_label_key : List ℕ → Bool
 is_label_key key = bytes_eq key (codes "name") || bytes_eq key (codes "exclusive") || bytes_eq key (codes "clock-limit")
 

@@ -19,12 +19,13 @@ use Rattle.ynl_config.specs.Tables.{WrittenConfig, written_in}
 abbrev pub reading : List ℕ → Option Members
 reading bytes = if is_utf8 bytes then parse_document bytes else None
 
--- the faults of labels and of the tree of queues, as those of a text
+-- a fault of labels, as one of a text
 abbrev pub label_fault : LabelFault → ConfigFault
 label_fault labels.TooManyLabels = fault.TooManyLabels
 label_fault labels.DuplicateLabel = fault.DuplicateLabel
 label_fault labels.BadLimit = fault.Range
 
+-- a fault of the tree of queues, as one of a text
 abbrev pub tree_fault : TreeFault → ConfigFault
 tree_fault tree.TooDeep = fault.TooDeep
 tree_fault tree.TooMany = fault.TooMany

@@ -35,9 +35,11 @@ natural (negsuc n) = None
 
 -- ---- what a value says
 
+-- the text that a value is
 unfoldable pub text_of : Data → Result (List ℕ) ConfigFault
 text_of d = or_fault fault.WrongKind (as_str d)
 
+-- the truth value that a value is
 unfoldable pub flag_of : Data → Result Bool ConfigFault
 flag_of d = or_fault fault.WrongKind (as_bool d)
 
@@ -63,9 +65,11 @@ percent_of version low d = do
   n ← number_of low whole d
   within 0 whole (n * unit version)
 
+-- the name of a label that a text is
 unfoldable pub name_of : List ℕ → Result Name ConfigFault
 name_of text = or_bad_label (read_name text)
 
+-- the label that a text is; the empty text is DEFAULT
 unfoldable pub label_of : List ℕ → Result Label ConfigFault
 label_of text = or_bad_label (read_label text)
 
@@ -92,15 +96,19 @@ abbrev pub needed : {A : Type 0} → (Data → Result A ConfigFault) → Option 
 needed read None = Err fault.MissingKey
 needed read (Some d) = read d
 
+-- a text that has to be there
 unfoldable pub text_at : List ℕ → Members → Result (List ℕ) ConfigFault
 text_at key ms = needed text_of (get_member key ms)
 
+-- a truth value, and what it is where none is given
 unfoldable pub flag_at : List ℕ → Bool → Members → Result Bool ConfigFault
 flag_at key given ms = or_given given flag_of (get_member key ms)
 
+-- a number from the first to the second, and what it is where none is given
 unfoldable pub number_at : List ℕ → ℕ → ℕ → ℕ → Members → Result ℕ ConfigFault
 number_at key low high given ms = or_given given (number_of low high) (get_member key ms)
 
+-- a percentage of at least so many of the version's units, and what it is where none is given
 unfoldable pub percent_at : List ℕ → Version → ℕ → ℕ → Members → Result ℕ ConfigFault
 percent_at key version low given ms = or_given given (percent_of version low) (get_member key ms)
 

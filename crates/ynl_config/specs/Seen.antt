@@ -18,6 +18,7 @@ use Rattle.ynl_config.specs.Tables.{QueueParts, Parts}
 abbrev pub access_in : Result Kept ConfigFault → Result Access ConfigFault
 access_in = made access_of
 
+-- what a queue's table says, as it is kept
 abbrev pub KeptQueue : Type 0
 KeptQueue = Unit {0} × (Bor (List ℕ) × (Bounds × (LeafSettings × (Kept × Vec Share Global))))
 
@@ -25,6 +26,7 @@ KeptQueue = Unit {0} × (Bor (List ℕ) × (Bounds × (LeafSettings × (Kept × 
 abbrev pub queue_view : KeptQueue → QueueParts
 queue_view p = (p.0, (p.1.0.now, (p.1.1.0, (p.1.1.1.0, (access_of p.1.1.1.1.0, p.1.1.1.1.1.items)))))
 
+-- what a text says, as it is kept
 abbrev pub KeptParts : Type 0
 KeptParts = Unit {0} × (Version × (Numbers × (Vec LabelRow Global × Vec WrittenRow Global)))
 

@@ -21,11 +21,12 @@ use Rattle.ynl_config.specs.Known.{known_keys}
 use Rattle.ynl_config.specs.Readings.{or_fault, or_given, text_at, flag_at, number_at, percent_at, name_of, name_at, label_at, stopped_at, version_at, size_at}
 use Rattle.ynl_config.specs.Access.{access_of}
 
--- the values of an array, and the keys and values of a table
+-- the values of an array
 abbrev pub values_in : Items → List Data
 values_in no_items = []
 values_in (item d ds) = d ∷ values_in ds
 
+-- the keys and values of a table
 abbrev pub pairs_in : Members → List (List ℕ × Data)
 pairs_in no_members = []
 pairs_in (member key d ms) = (key, d) ∷ pairs_in ms
@@ -46,6 +47,7 @@ label_parts ms =
     both (known_keys place.Label ms)
     (both (name_at (codes "name") ms) (both (flag_at (codes "exclusive") true ms) (number_at (codes "clock-limit") 1 most_clock most_clock ms)))
 
+-- the label of its parts
 abbrev pub label_row : Unit {0} × (Name × (Bool × ℕ)) → LabelRow
 label_row p = record { name = p.1.0; exclusive = p.1.1.0; limit = p.1.1.1 }
 
@@ -53,6 +55,7 @@ label_row p = record { name = p.1.0; exclusive = p.1.1.0; limit = p.1.1.1 }
 unfoldable pub label_in : Members → Result LabelRow ConfigFault
 label_in ms = made label_row (label_parts ms)
 
+-- the labels of a text
 unfoldable pub labels_at : Members → Result (List LabelRow) ConfigFault
 labels_at ms = or_given [] (in_tables label_in) (get_member (codes "label") ms)
 
@@ -62,9 +65,11 @@ labels_at ms = or_given [] (in_tables label_in) (get_member (codes "label") ms)
 abbrev pub capacities_at : Version → Members → Result (ℕ × ℕ) ConfigFault
 capacities_at version ms = both (percent_at (codes "capacity") version 0 0 ms) (percent_at (codes "maximum-capacity") version 0 whole ms)
 
+-- what a table says of a queue's share of the label of this name
 abbrev pub share_parts : Version → List ℕ → Members → Result (Unit {0} × (Name × (ℕ × ℕ))) ConfigFault
 share_parts version name ms = both (known_keys place.Share ms) (both (name_of name) (capacities_at version ms))
 
+-- the share of its parts
 abbrev pub share_row : Unit {0} × (Name × (ℕ × ℕ)) → Share
 share_row p = record { label = p.1.0; capacity = p.1.1.0; maximum = p.1.1.1 }
 
@@ -81,9 +86,11 @@ unfoldable pub shares_at : Version → Members → Result (List Share) ConfigFau
 shares_at version ms =
     or_given [] (λ d. or_fault fault.WrongKind (as_table d) >>= λ table. all_of (map (share_of version) (pairs_in table))) (get_member (codes "label") ms)
 
+-- what a queue's table says of its state and of its share of DEFAULT
 abbrev pub bounds_parts : Version → Members → Result (Bool × (ℕ × ℕ)) ConfigFault
 bounds_parts version ms = both (stopped_at (codes "state") ms) (capacities_at version ms)
 
+-- these of their parts
 abbrev pub bounds_row : Bool × (ℕ × ℕ) → Bounds
 bounds_row p = record { stopped = p.0; capacity = p.1.0; maximum = p.1.1 }
 
@@ -99,6 +106,7 @@ leaf_parts version ms =
     (both (number_at (codes "user-limit-factor") 1 10000 100 ms)
     (both (percent_at (codes "maximum-am-resource-percent") version 0 1000 ms) (number_at (codes "maximum-applications") 1 1000000 10000 ms))))
 
+-- a leaf's settings of their parts
 abbrev pub leaf_row : Label × (ℕ × (ℕ × (ℕ × ℕ))) → LeafSettings
 leaf_row p = record { default_label = p.0; user_percent = p.1.0; user_factor = p.1.1.0; master_percent = p.1.1.1.0; most_applications = p.1.1.1.1 }
 
@@ -126,14 +134,17 @@ row_of path bounds leaf access shares = record {
   shares = shares;
 }
 
+-- the keys of a queue, its path, its settings, the labels that it may use, and its shares of labels
 abbrev pub QueueParts : Type 0
 QueueParts = Unit {0} × (List ℕ × (Bounds × (LeafSettings × (Access × List Share))))
 
+-- what a queue's table says
 abbrev pub queue_parts : Version → Members → Result QueueParts ConfigFault
 queue_parts version ms =
     both (known_keys place.Queue ms)
     (both (text_at (codes "path") ms) (both (bounds_in version ms) (both (leaf_in version ms) (both (access_at ms) (shares_at version ms)))))
 
+-- the queue of its parts
 abbrev pub queue_row : QueueParts → WrittenRow
 queue_row p = row_of p.1.0 p.1.1.0 p.1.1.1.0 p.1.1.1.1.0 p.1.1.1.1.1
 
@@ -141,16 +152,19 @@ queue_row p = row_of p.1.0 p.1.1.0 p.1.1.1.0 p.1.1.1.1.0 p.1.1.1.1.1
 unfoldable pub queue_in : Version → Members → Result WrittenRow ConfigFault
 queue_in version ms = made queue_row (queue_parts version ms)
 
+-- the queues of a text
 unfoldable pub queues_at : Version → Members → Result (List WrittenRow) ConfigFault
 queues_at version ms = or_given [] (in_tables (queue_in version)) (get_member (codes "queue") ms)
 
 -- ---- the whole text
 
+-- the most containers that a heartbeat places, the largest request, and how far the clock of DEFAULT goes
 abbrev pub number_parts : Members → Result (ℕ × (Resource × ℕ)) ConfigFault
 number_parts ms =
     both (number_at (codes "containers-per-heartbeat") 1 1000 1 ms)
     (both (size_at ms) (number_at (codes "default-clock-limit") 1 most_clock most_clock ms))
 
+-- these of their parts
 abbrev pub numbers_row : ℕ × (Resource × ℕ) → Numbers
 numbers_row p = record { per_heartbeat = p.0; maximum_allocation = p.1.0; default_limit = p.1.1 }
 
@@ -169,14 +183,17 @@ abbrev pub any_version : Result Version ConfigFault → Version
 any_version (Ok version) = version
 any_version (Err e) = Whole
 
+-- the keys of a text, its version, its numbers, labels and queues
 abbrev pub Parts : Type 0
 Parts = Unit {0} × (Version × (Numbers × (List LabelRow × List WrittenRow)))
 
+-- what a text says
 abbrev pub parts_in : Members → Result Parts ConfigFault
 parts_in ms =
     both (known_keys place.Top ms)
     (both (version_at ms) (both (numbers_in ms) (both (labels_at ms) (queues_at (any_version (version_at ms)) ms))))
 
+-- the configuration of its parts
 abbrev pub written_of : Parts → WrittenConfig
 written_of p = record { numbers = p.1.1.0; labels = p.1.1.1.0; queues = p.1.1.1.1 }
 

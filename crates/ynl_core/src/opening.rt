@@ -7,8 +7,8 @@ ghost use Rattle.ynl_tables.specs.Tables.{state_of, leaves_of, partitions_of};
 
 use crate::memory::NoMemory;
 use std::alloc::Global;
-use ynl_nodes::Labels;
 use ynl_controls::{Maxima, Stops};
+use ynl_nodes::Labels;
 use ynl_queues::Config;
 use ynl_resource::Label;
 use ynl_tables::{LeafRow, PartitionRow, Tables};

@@ -1,11 +1,10 @@
 -- Which fault of queues that are written is told.
-use Rattle.std.proofs.Common.{◌≡◌, List, map, true, false, Result, Ok, Err, refl}
+use Rattle.std.proofs.Common.{◌≡◌, List, map, true, false, Err}
 use Rattle.std.specs.List.{list_any, list_all}
 use Rattle.ynl_resource.specs.Refusals.{first_that_holds}
 use Rattle.ynl_resource.specs.Texts.{read_path}
 use Rattle.ynl_model.specs.Nodes.{Labels}
 use Rattle.ynl_model.specs.Accepted.{tree_faults}
-use Rattle.ynl_model.specs.declared.faults.TreeFault.{TreeFault}
 use Rattle.ynl_model.specs.declared.faults.TreeFault.TheVariants.{TooDeep, TooMany, BadPath}
 use Rattle.ynl_queues.specs.Written.{WrittenRow, is_too_deep, are_too_many, is_below_root, row_of, configured, written_faults, unless_fault, tree_of}
 

@@ -6,7 +6,7 @@ use Rattle.ynl_resource.specs.declared.labels.Label.{Label}
 use Rattle.ynl_resource.specs.declared.labels.Label.TheVariants.{Unlabelled, Named}
 use Rattle.ynl_resource.specs.declared.paths.Path.{Path}
 use Rattle.ynl_model.specs.Nodes.{Labels}
-use Rattle.ynl_model.specs.Queues.{Config, capacity_on, whole}
+use Rattle.ynl_model.specs.Queues.{Config, capacity_on}
 use Rattle.ynl_model.specs.Accepted.{children, adds_up, sum_below}
 use Rattle.ynl_queues.specs.declared.standings.Standing.{Standing}
 use Rattle.ynl_queues.specs.Standings.{capacity_at, total_at}

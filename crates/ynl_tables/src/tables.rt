@@ -10,8 +10,8 @@ ghost use Rattle.ynl_model.specs.Cluster.{is_partition};
 ghost use Rattle.ynl_tables.specs.Tables.{leaf_of_row, leaves_of, partition_of, partitions_of, app_of};
 
 use crate::rows::{App, LeafRow, PartitionRow};
-use ynl_model::{Node, Placed};
 use ynl_controls::{Maxima, Stops};
+use ynl_model::{Node, Placed};
 use ynl_resource::{Label, Name, Path};
 
 /// The tables of a cluster.

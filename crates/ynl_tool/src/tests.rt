@@ -1,6 +1,4 @@
-use crate::{
-    BUILT_IN, Job, Kind, ToolFault, WordsFault, execute, parse_words, run_lines,
-};
+use crate::{BUILT_IN, Job, Kind, ToolFault, WordsFault, execute, parse_words, run_lines};
 use std::alloc::{AllocError, Global};
 use std::io;
 use std::io::{BufReader, Read, Write};
@@ -103,7 +101,12 @@ fn reads_words(rt: HostRuntime) -> Result<(), Fail> {
     let alloc = rt.alloc();
     let run = words(alloc, &["ynl", "run"])?;
     match parse_words(alloc, run.as_slice()) {
-        Ok(job) => assert!(rt; job == Job { kind: Kind::Run, config: None }),
+        Ok(job) => assert!(rt;
+            job == Job {
+                kind: Kind::Run,
+                config: None
+            }
+        ),
         Err(_) => panic!(rt; "run is a job"),
     }
     let wrong: [(&[&str], &str); 7] = [

@@ -75,7 +75,8 @@ Exit status:
 Example:
   ynl run < events > replies";
 
-const CONFIG_HELP: &str = "The configuration, a TOML text; without it there is one queue, root.eng, and one label, gpu";
+const CONFIG_HELP: &str =
+    "The configuration, a TOML text; without it there is one queue, root.eng, and one label, gpu";
 
 const RUN_ABOUT: &str = "Answers the events of standard input, one reply for each";
 

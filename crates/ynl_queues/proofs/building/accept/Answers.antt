@@ -1,5 +1,4 @@
-use Rattle.std.proofs.Common.{◌≡◌, rules, subst, sym, ap, ◌∙◌, false}
-use Rattle.ynl_model.specs.Queues.{Config}
+use Rattle.std.proofs.Common.{◌≡◌, ap, ◌∙◌}
 use Rattle.ynl_queues.specs.Written.{configured, is_crowded}
 use Rattle.ynl_queues.proofs.building.accept.Goals as goal
 

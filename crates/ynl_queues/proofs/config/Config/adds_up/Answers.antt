@@ -1,4 +1,4 @@
-use Rattle.std.proofs.Common.{rules, subst, ◌∙◌, ◌≡◌}
+use Rattle.std.proofs.Common.{◌∙◌}
 use Rattle.ynl_queues.proofs.Totals.{StandBelow, adds_up_by_totals}
 use Rattle.ynl_queues.proofs.config.Config.adds_up.Goals as goal
 

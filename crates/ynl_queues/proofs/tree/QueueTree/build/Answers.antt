@@ -1,11 +1,8 @@
-use Rattle.std.proofs.Common.{List, IfOk, ◌≡◌, ◌≤◌, true, false, rules, sym, ap, ◌∙◌, map, length, subst, arith}
-use Rattle.std.proofs.lemmas.Bool.Decides.{nat_tests}
-use Rattle.std.proofs.lemmas.List.{length-map}
+use Rattle.std.proofs.Common.{List, IfOk, ◌≡◌, true, false, rules, sym, ap, ◌∙◌}
 use Rattle.std.proofs.lemmas.Result.{IfOk-weaker}
-use Rattle.std.specs.List.{list_any, list_all}
-use Rattle.ynl_resource.specs.Texts.{read_path}
+use Rattle.std.specs.List.{list_any}
 use Rattle.ynl_model.specs.Queues.{QueueRow}
-use Rattle.ynl_queues.specs.Written.{is_too_deep, are_too_many, is_below_root, row_of, configured, is_crowded, tree_of, IsFaultless}
+use Rattle.ynl_queues.specs.Written.{is_too_deep, are_too_many, configured, is_crowded, tree_of, IsFaultless}
 use Rattle.ynl_queues.proofs.Crowds.{not_crowded, not_more}
 use Rattle.ynl_queues.proofs.Faultless.{built_faultless}
 use Rattle.ynl_queues.proofs.Told.{told_deep, told_many, told_bad, told_tree}
