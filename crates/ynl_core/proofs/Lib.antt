@@ -4,3 +4,4 @@ pub mod Idle
 pub mod Stepping
 pub mod RunMore
 pub mod Alone
+pub mod Own

@@ -8,6 +8,7 @@ pub use runs::{Answer, AnswerList, Run};
 
 mod cluster;
 mod ending;
+mod finishing;
 mod memory;
 mod nodes;
 mod opening;
