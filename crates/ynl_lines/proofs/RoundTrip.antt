@@ -7,9 +7,9 @@ use Rattle.ynl_resource.specs.declared.paths.Path.{Path}
 use Rattle.ynl_resource.specs.declared.ids.Id.{Id}
 use Rattle.ynl_resource.specs.Amounts.{IsSize}
 use Rattle.ynl_resource.specs.Texts.{read_name, read_label, read_path, read_id, label_text, path_text, id_text}
-use Rattle.ynl_model.specs.declared.events.Event.TheVariants.{Register, Lost, Relabel, Heartbeat, Exited, Submit, Release}
-use Rattle.ynl_lines.specs.Reading.{or_name, ◌>>=◌, text_at, number_at, keys_are, name_at, label_at, path_at, id_at, register_at, lost_at, relabel_at, heartbeat_at, exited_at, release_at, label_text_at, optional_label_at, submit_at, event_at}
-use Rattle.ynl_lines.specs.Writing.{register_data, lost_data, relabel_data, heartbeat_data, exited_data, submit_data, release_data}
+use Rattle.ynl_model.specs.declared.events.Event.TheVariants.{Register, Lost, Relabel, Heartbeat, Exited, Submit, Release, Finish}
+use Rattle.ynl_lines.specs.Reading.{or_name, ◌>>=◌, text_at, number_at, keys_are, name_at, label_at, path_at, id_at, register_at, lost_at, relabel_at, heartbeat_at, exited_at, release_at, finish_at, label_text_at, optional_label_at, submit_at, event_at}
+use Rattle.ynl_lines.specs.Writing.{register_data, lost_data, relabel_data, heartbeat_data, exited_data, submit_data, release_data, finish_data}
 use Rattle.ynl_lines.proofs.Sizes.{size_back}
 
 pub if_ok : {X Y P : Type 0} (r : Result X Y) → P → IfOk r (λ _. P)
@@ -41,6 +41,10 @@ pub reads_release : (tenant : Name) (id : Id) (text : List ℕ) → text ≡ id_
     → event_at (release_data tenant id) ≡ Ok (Release tenant id)
 unfolding event_at text_at keys_are release_at name_at id_at
 reads_release tenant id text t n d = λ i. or_name ((rw t at d) i) >>= λ id. or_name (n i) >>= λ tenant. Ok (Release tenant id)
+
+pub reads_finish : (tenant app : Name) → read_name tenant ≡ Ok tenant → read_name app ≡ Ok app → event_at (finish_data tenant app) ≡ Ok (Finish tenant app)
+unfolding event_at text_at keys_are finish_at name_at
+reads_finish tenant app t a = λ i. or_name (a i) >>= λ app. or_name (t i) >>= λ tenant. Ok (Finish tenant app)
 
 pub reads_register : (node : Name) (label : Label) (size : Resource) (text : List ℕ) → text ≡ label_text label
     → read_name node ≡ Ok node → read_label text ≡ Ok label → IsSize size

@@ -13,7 +13,7 @@ use Rattle.ynl_resource.specs.declared.paths.Path.{Path}
 use Rattle.ynl_resource.specs.declared.ids.Id.{Id}
 use Rattle.ynl_resource.specs.Texts.{read_name, read_label, read_path, read_id, most_clock}
 use Rattle.ynl_model.specs.declared.events.Event.{Event}
-use Rattle.ynl_model.specs.declared.events.Event.TheVariants.{Register, Lost, Relabel, Heartbeat, Exited, Submit, Release}
+use Rattle.ynl_model.specs.declared.events.Event.TheVariants.{Register, Lost, Relabel, Heartbeat, Exited, Submit, Release, Finish}
 use Rattle.ynl_lines.specs.declared.read.Kind.{Kind}
 use Rattle.ynl_lines.specs.declared.read.Kind.TheVariants as kind
 use Rattle.ynl_lines.specs.declared.faults.LineFault.{LineFault}
@@ -156,6 +156,15 @@ release_at d = do
   tenant' ← name_at tenant
   Ok (Release tenant' id')
 
+unfoldable pub finish_at : Data → Result Event LineFault
+finish_at d = do
+  keys ← keys_are 3 d
+  app ← text_at (codes "app") d
+  tenant ← text_at (codes "tenant") d
+  app' ← name_at app
+  tenant' ← name_at tenant
+  Ok (Finish tenant' app')
+
 -- the event that a word names, if it is a known one
 abbrev pub kind_of : List ℕ → Option Kind
 kind_of word =
@@ -166,6 +175,7 @@ kind_of word =
     else if bytes_eq word (codes "exited") then Some kind.Exited
     else if bytes_eq word (codes "submit") then Some kind.Submit
     else if bytes_eq word (codes "release") then Some kind.Release
+    else if bytes_eq word (codes "finish") then Some kind.Finish
     else None
 
 abbrev pub event_by : Kind → Data → Result Event LineFault
@@ -176,6 +186,7 @@ event_by kind.Heartbeat d = heartbeat_at d
 event_by kind.Exited d = exited_at d
 event_by kind.Submit d = submit_at d
 event_by kind.Release d = release_at d
+event_by kind.Finish d = finish_at d
 
 unfoldable pub event_at : Data → Result Event LineFault
 event_at d = do

@@ -16,7 +16,7 @@ use Rattle.ynl_model.specs.declared.proposals.What.TheVariants.{Master, Ask as A
 use Rattle.ynl_model.specs.declared.containers.Placed.{Placed as Container}
 use Rattle.ynl_model.specs.declared.proposals.Proposal.{Proposal}
 use Rattle.ynl_model.specs.declared.events.Event.{Event}
-use Rattle.ynl_model.specs.declared.events.Event.TheVariants.{Register, Lost, Relabel, Heartbeat, Exited, Submit, Release}
+use Rattle.ynl_model.specs.declared.events.Event.TheVariants.{Register, Lost, Relabel, Heartbeat, Exited, Submit, Release, Finish}
 use Rattle.ynl_model.specs.declared.replies.Pending.{Pending}
 use Rattle.ynl_model.specs.declared.replies.Reply.{Reply}
 use Rattle.ynl_model.specs.declared.replies.Reply.TheVariants.{Done, Refused, Placed, Proposed, Committed, Held, Usage}
@@ -176,6 +176,10 @@ release_object id tenant =
 abbrev pub release_data : Name → Id → Data
 release_data tenant id = release_object (id_text id) tenant
 
+abbrev pub finish_data : Name → Name → Data
+finish_data tenant app =
+    object (member (codes "app") (string app) (member (codes "event") (string (codes "finish")) (member (codes "tenant") (string tenant) no_members)))
+
 -- an event of a kind that is there
 abbrev pub event_data : Event → Data
 event_data (Register node label size) = register_data node label size
@@ -185,6 +189,7 @@ event_data (Heartbeat node) = heartbeat_data node
 event_data (Exited node id) = exited_data node id
 event_data (Submit queue app user label master) = submit_data queue app user label master
 event_data (Release tenant id) = release_data tenant id
+event_data (Finish tenant app) = finish_data tenant app
 event_data _ = null
 
 -- the text of an event, without the newline of its line

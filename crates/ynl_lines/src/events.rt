@@ -172,6 +172,21 @@ fn release_value(alloc: Global, tenant: &Name, id: &Id) -> Result<Value, AllocEr
     release_object(alloc, text.as_str(), tenant.as_str())
 }
 
+#[tactic(auto, using(crate::proofs::RoundTrip::reads_finish))]
+fn finish_value<'a>(alloc: Global, tenant: &'a Name, app: &'a Name) -> Result<Value, AllocError>
+    ensures value { IfOk result (λ v. view v ≡ spec.finish_data tenant.now app.now) }
+    ensures reads { IfOk result (λ _. event_at (spec.finish_data tenant.now app.now) ≡ Ok (event.Finish tenant.now app.now)) }
+{
+    object(
+        alloc,
+        &[
+            ("app", Field::Text(app.as_str())),
+            ("event", Field::Word("finish")),
+            ("tenant", Field::Text(tenant.as_str())),
+        ],
+    )
+}
+
 /// The object of an event of a kind that is there.
 pub fn event_value(alloc: Global, event: &Event) -> Result<Value, AllocError>
     requires { IsTrue (is_there event.now) }
@@ -192,6 +207,7 @@ pub fn event_value(alloc: Global, event: &Event) -> Result<Value, AllocError>
         Event::Heartbeat { node } => heartbeat_value(alloc, node),
         Event::Exited { node, id } => exited_value(alloc, node, id),
         Event::Release { tenant, id } => release_value(alloc, tenant, id),
+        Event::Finish { tenant, app } => finish_value(alloc, tenant, app),
         _ => unreachable!(),
     }
 }

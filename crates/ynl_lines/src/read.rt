@@ -23,6 +23,7 @@ pub enum Kind {
     Exited,
     Submit,
     Release,
+    Finish,
 }
 
 /// The value that the bytes are, if they are the text of one.
@@ -93,6 +94,8 @@ fn kind_of(word: &str) -> Option<Kind>
         Some(Kind::Submit)
     } else if word == "release" {
         Some(Kind::Release)
+    } else if word == "finish" {
+        Some(Kind::Finish)
     } else {
         None
     }
@@ -289,6 +292,20 @@ fn release_at(event: &Value) -> Result<Event, LineFault>
     Ok(Event::Release { tenant, id })
 }
 
+#[tactic(auto, unfolding(crate::specs::Reading::finish_at))]
+fn finish_at(event: &Value) -> Result<Event, LineFault>
+    ensures event { result ≡ spec.finish_at (view event.now) }
+    ensures there { IfOk result (λ event. IsTrue (is_there event)) }
+    ensures ranged { IfOk result (λ event. IsRanged event) }
+{
+    keys_are(event, 3)?;
+    let app = text_at(event, "app")?;
+    let tenant = text_at(event, "tenant")?;
+    let app = name_at(app)?;
+    let tenant = name_at(tenant)?;
+    Ok(Event::Finish { tenant, app })
+}
+
 #[tactic(auto, unfolding(crate::specs::Reading::event_at))]
 fn event_at(event: &Value) -> Result<Event, LineFault>
     ensures event { result ≡ spec.event_at (view event.now) }
@@ -307,6 +324,7 @@ fn event_at(event: &Value) -> Result<Event, LineFault>
         Kind::Exited => exited_at(event),
         Kind::Submit => submit_at(event),
         Kind::Release => release_at(event),
+        Kind::Finish => finish_at(event),
     }
 }
 
@@ -315,7 +333,8 @@ fn event_at(event: &Value) -> Result<Event, LineFault>
 /// The line is a JSON object with `event` and exactly the keys of that event: `register` has `label`,
 /// `memory` (in MB), `node` and `vcores`; `submit` has `app`, `memory`, `queue`, `user`, `vcores` and
 /// may have `label`; `heartbeat` and `lost` have `node`; `relabel` has `label` and `node`; `exited` has
-/// `id` and `node`; `release` has `id` and `tenant`. The faults come in the order of [`LineFault`], over all
+/// `id` and `node`; `release` has `id` and `tenant`; `finish` has
+/// `app` and `tenant`. The faults come in the order of [`LineFault`], over all
 /// keys: any `field` before any `name`, and any `name` before any `range`. `size` is none of them,
 /// since one line does not tell it.
 pub fn read_event(alloc: Global, line: &[u8]) -> Result<Result<Event, LineFault>, AllocError>
