@@ -267,6 +267,23 @@ impl Core {
             Event::Relabel { node, label } => self.relabel(node, label),
             Event::Heartbeat { node } => self.heartbeat(node),
             Event::Exited { node, id } => Ok(self.exited(node, id)),
+            Event::Ask {
+                tenant,
+                app,
+                label,
+                priority,
+                count,
+                size,
+            } => self.ask(
+                tenant,
+                app,
+                Ask {
+                    label,
+                    priority,
+                    count,
+                    size,
+                },
+            ),
             Event::Release { tenant, id } => Ok(self.release(tenant, id)),
             Event::Finish { tenant, app } => self.finish(tenant, app),
             _ => unreachable!(),

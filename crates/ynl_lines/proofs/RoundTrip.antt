@@ -1,5 +1,7 @@
 -- The text of an event reads as it.
-use Rattle.std.proofs.Common.{◌≡◌, ℕ, List, Some, None, Result, Ok, Err, IfOk}
+use Rattle.std.proofs.lemmas.Bool.{le-leb}
+use Rattle.ynl_lines.specs.declared.faults.LineFault.TheVariants as fault
+use Rattle.std.proofs.Common.{◌≡◌, ◌≤◌, ℕ, cond, ap, List, Some, None, Result, Ok, Err, IfOk}
 use Rattle.ynl_resource.specs.declared.amounts.Resource.{Resource}
 use Rattle.ynl_resource.specs.declared.names.Name.{Name}
 use Rattle.ynl_resource.specs.declared.labels.Label.{Label}
@@ -7,9 +9,9 @@ use Rattle.ynl_resource.specs.declared.paths.Path.{Path}
 use Rattle.ynl_resource.specs.declared.ids.Id.{Id}
 use Rattle.ynl_resource.specs.Amounts.{IsSize}
 use Rattle.ynl_resource.specs.Texts.{read_name, read_label, read_path, read_id, label_text, path_text, id_text}
-use Rattle.ynl_model.specs.declared.events.Event.TheVariants.{Register, Lost, Relabel, Heartbeat, Exited, Submit, Release, Finish}
-use Rattle.ynl_lines.specs.Reading.{or_name, ◌>>=◌, text_at, number_at, keys_are, name_at, label_at, path_at, id_at, register_at, lost_at, relabel_at, heartbeat_at, exited_at, release_at, finish_at, label_text_at, optional_label_at, submit_at, event_at}
-use Rattle.ynl_lines.specs.Writing.{register_data, lost_data, relabel_data, heartbeat_data, exited_data, submit_data, release_data, finish_data}
+use Rattle.ynl_model.specs.declared.events.Event.TheVariants.{Register, Lost, Relabel, Heartbeat, Exited, Submit, Ask, Release, Finish}
+use Rattle.ynl_lines.specs.Reading.{or_name, ◌>>=◌, text_at, number_at, keys_are, name_at, label_at, path_at, id_at, register_at, lost_at, relabel_at, heartbeat_at, exited_at, ask_at, within, most_count, most_priority, release_at, finish_at, label_text_at, optional_label_at, submit_at, event_at}
+use Rattle.ynl_lines.specs.Writing.{register_data, lost_data, relabel_data, heartbeat_data, exited_data, submit_data, ask_data, release_data, finish_data}
 use Rattle.ynl_lines.proofs.Sizes.{size_back}
 
 pub if_ok : {X Y P : Type 0} (r : Result X Y) → P → IfOk r (λ _. P)
@@ -35,6 +37,18 @@ pub reads_exited : (node : Name) (id : Id) (text : List ℕ) → text ≡ id_tex
     → event_at (exited_data node id) ≡ Ok (Exited node id)
 unfolding event_at text_at keys_are exited_at name_at id_at
 reads_exited node id text t n d = λ i. or_name ((rw t at d) i) >>= λ id. or_name (n i) >>= λ node. Ok (Exited node id)
+
+within_back : (most n : ℕ) → n ≤ most → within most n ≡ Ok n
+unfolding within
+within_back most n h = ap (λ b. cond b (Ok n) (Err fault.Range)) (le-leb n most h)
+
+pub reads_ask : (tenant app : Name) (label : Label) (priority count : ℕ) (size : Resource) (text : List ℕ) → text ≡ label_text label
+    → read_name tenant ≡ Ok tenant → read_name app ≡ Ok app → read_label text ≡ Ok label → count ≤ most_count → priority ≤ most_priority → IsSize size
+    → event_at (ask_data tenant app label priority count size) ≡ Ok (Ask tenant app label priority count size)
+unfolding event_at text_at number_at keys_are ask_at name_at label_at
+reads_ask tenant app label priority count size text t n a l k p s =
+    λ i. or_name (a i) >>= λ app. or_name ((rw t at l) i) >>= λ label. or_name (n i) >>= λ tenant. within_back most_count count k i >>= λ count.
+    within_back most_priority priority p i >>= λ priority. size_back size s i >>= λ size. Ok (Ask tenant app label priority count size)
 
 pub reads_release : (tenant : Name) (id : Id) (text : List ℕ) → text ≡ id_text id
     → read_name tenant ≡ Ok tenant → read_id text ≡ Ok id

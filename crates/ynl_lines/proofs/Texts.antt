@@ -8,7 +8,7 @@ use Rattle.ynl_resource.specs.declared.names.Name.{Name}
 use Rattle.ynl_resource.specs.declared.labels.Label.{Label}
 use Rattle.ynl_resource.specs.declared.paths.Path.{Path}
 use Rattle.ynl_model.specs.declared.events.Event.{Event}
-use Rattle.ynl_model.specs.declared.events.Event.TheVariants.{Register, Lost, Relabel, Heartbeat, Exited, Submit, Release, Finish}
+use Rattle.ynl_model.specs.declared.events.Event.TheVariants.{Register, Lost, Relabel, Heartbeat, Exited, Submit, Ask, Release, Finish}
 use Rattle.ynl_model.specs.declared.proposals.What.{What}
 use Rattle.ynl_model.specs.declared.proposals.What.TheVariants.{Master, Ask as Asked}
 use Rattle.ynl_model.specs.declared.containers.Placed.{Placed as Container}
@@ -82,6 +82,7 @@ plain_event (Lost node) = refl
 plain_event (Relabel node label) = refl
 plain_event (Heartbeat node) = refl
 plain_event (Exited node id) = refl
+plain_event (Ask tenant app label priority count size) = refl
 plain_event (Release tenant id) = refl
 plain_event (Finish tenant app) = refl
 plain_event (Submit queue app user label master) = plain_submit queue app user label master
@@ -97,6 +98,7 @@ flat_event (Lost node) = omega arith
 flat_event (Relabel node label) = omega arith
 flat_event (Heartbeat node) = omega arith
 flat_event (Exited node id) = omega arith
+flat_event (Ask tenant app label priority count size) = omega arith
 flat_event (Release tenant id) = omega arith
 flat_event (Finish tenant app) = omega arith
 flat_event (Submit queue app user label master) = flat_submit queue app user label master

@@ -13,7 +13,7 @@ use Rattle.ynl_resource.specs.declared.paths.Path.{Path}
 use Rattle.ynl_resource.specs.declared.ids.Id.{Id}
 use Rattle.ynl_resource.specs.Texts.{read_name, read_label, read_path, read_id, most_clock}
 use Rattle.ynl_model.specs.declared.events.Event.{Event}
-use Rattle.ynl_model.specs.declared.events.Event.TheVariants.{Register, Lost, Relabel, Heartbeat, Exited, Submit, Release, Finish}
+use Rattle.ynl_model.specs.declared.events.Event.TheVariants.{Register, Lost, Relabel, Heartbeat, Exited, Submit, Ask, Release, Finish}
 use Rattle.ynl_lines.specs.declared.read.Kind.{Kind}
 use Rattle.ynl_lines.specs.declared.read.Kind.TheVariants as kind
 use Rattle.ynl_lines.specs.declared.faults.LineFault.{LineFault}
@@ -73,6 +73,16 @@ is_size memory vcores = nat_le 1 memory && nat_le memory 4294967295 && nat_le 1 
 
 unfoldable pub size_at : ℕ → ℕ → Result Resource LineFault
 size_at memory vcores = if is_size memory vcores then Ok (amount memory vcores) else Err fault.Range
+
+-- the largest count of an ask, and the largest priority number
+abbrev pub most_count : ℕ
+most_count = 1000000
+
+abbrev pub most_priority : ℕ
+most_priority = 4294967295
+
+unfoldable pub within : ℕ → ℕ → Result ℕ LineFault
+within most n = if nat_le n most then Ok n else Err fault.Range
 
 -- ---- the events: first all fields, then all names, then the range
 
@@ -147,6 +157,24 @@ submit_at d = do
   master ← size_at memory vcores
   Ok (Submit queue' app' user' label' master)
 
+unfoldable pub ask_at : Data → Result Event LineFault
+ask_at d = do
+  keys ← keys_are 8 d
+  app ← text_at (codes "app") d
+  count ← number_at (codes "count") d
+  label ← text_at (codes "label") d
+  memory ← number_at (codes "memory") d
+  priority ← number_at (codes "priority") d
+  tenant ← text_at (codes "tenant") d
+  vcores ← number_at (codes "vcores") d
+  app' ← name_at app
+  label' ← label_at label
+  tenant' ← name_at tenant
+  count' ← within most_count count
+  priority' ← within most_priority priority
+  size ← size_at memory vcores
+  Ok (Ask tenant' app' label' priority' count' size)
+
 unfoldable pub release_at : Data → Result Event LineFault
 release_at d = do
   keys ← keys_are 3 d
@@ -174,6 +202,7 @@ kind_of word =
     else if bytes_eq word (codes "heartbeat") then Some kind.Heartbeat
     else if bytes_eq word (codes "exited") then Some kind.Exited
     else if bytes_eq word (codes "submit") then Some kind.Submit
+    else if bytes_eq word (codes "ask") then Some kind.Ask
     else if bytes_eq word (codes "release") then Some kind.Release
     else if bytes_eq word (codes "finish") then Some kind.Finish
     else None
@@ -185,6 +214,7 @@ event_by kind.Relabel d = relabel_at d
 event_by kind.Heartbeat d = heartbeat_at d
 event_by kind.Exited d = exited_at d
 event_by kind.Submit d = submit_at d
+event_by kind.Ask d = ask_at d
 event_by kind.Release d = release_at d
 event_by kind.Finish d = finish_at d
 
@@ -205,6 +235,7 @@ HasClock id = (1 ≤ id.clock) × (id.clock ≤ most_clock)
 -- the numbers of an event are in range, but for those of a size, which always are
 abbrev pub IsInRange : Event → Type 0
 IsInRange (Exited node id) = HasClock id
+IsInRange (Ask tenant app label priority count size) = (count ≤ most_count) × (priority ≤ most_priority)
 IsInRange (Release tenant id) = HasClock id
 IsInRange _ = Unit {0}
 
@@ -212,4 +243,5 @@ IsInRange _ = Unit {0}
 abbrev pub IsRanged : Event → Type 0
 IsRanged (Register node label size) = IsSize size
 IsRanged (Submit queue app user label master) = IsSize master
+IsRanged (Ask tenant app label priority count size) = IsSize size × (count ≤ most_count) × (priority ≤ most_priority)
 IsRanged event = IsInRange event

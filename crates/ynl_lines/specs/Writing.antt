@@ -16,7 +16,7 @@ use Rattle.ynl_model.specs.declared.proposals.What.TheVariants.{Master, Ask as A
 use Rattle.ynl_model.specs.declared.containers.Placed.{Placed as Container}
 use Rattle.ynl_model.specs.declared.proposals.Proposal.{Proposal}
 use Rattle.ynl_model.specs.declared.events.Event.{Event}
-use Rattle.ynl_model.specs.declared.events.Event.TheVariants.{Register, Lost, Relabel, Heartbeat, Exited, Submit, Release, Finish}
+use Rattle.ynl_model.specs.declared.events.Event.TheVariants.{Register, Lost, Relabel, Heartbeat, Exited, Submit, Ask, Release, Finish}
 use Rattle.ynl_model.specs.declared.replies.Pending.{Pending}
 use Rattle.ynl_model.specs.declared.replies.Reply.{Reply}
 use Rattle.ynl_model.specs.declared.replies.Reply.TheVariants.{Done, Refused, Placed, Proposed, Committed, Held, Usage}
@@ -168,6 +168,12 @@ submit_data queue app user None master = object (submit_members (path_text queue
 submit_data queue app user (Some label) master =
     object (put (codes "label") (string (label_text label)) (submit_members (path_text queue) app user master))
 
+abbrev pub ask_data : Name → Name → Label → ℕ → ℕ → Resource → Data
+ask_data tenant app label priority quantity size =
+    object (member (codes "app") (string app) (member (codes "count") (count quantity) (member (codes "event") (string (codes "ask"))
+    (member (codes "label") (string (label_text label)) (member (codes "memory") (count size.memory) (member (codes "priority") (count priority)
+    (member (codes "tenant") (string tenant) (member (codes "vcores") (count size.vcores) no_members))))))))
+
 -- a release of a container, by the texts of its id and its tenant
 abbrev pub release_object : List ℕ → List ℕ → Data
 release_object id tenant =
@@ -188,6 +194,7 @@ event_data (Relabel node label) = relabel_data node label
 event_data (Heartbeat node) = heartbeat_data node
 event_data (Exited node id) = exited_data node id
 event_data (Submit queue app user label master) = submit_data queue app user label master
+event_data (Ask tenant app label priority quantity size) = ask_data tenant app label priority quantity size
 event_data (Release tenant id) = release_data tenant id
 event_data (Finish tenant app) = finish_data tenant app
 event_data _ = null

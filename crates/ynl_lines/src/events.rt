@@ -150,6 +150,36 @@ fn submit_value(
     }
 }
 
+#[tactic(auto, using(crate::proofs::RoundTrip::reads_ask))]
+fn ask_value<'a>(
+    alloc: Global,
+    tenant: &'a Name,
+    app: &'a Name,
+    label: &'a Label,
+    priority: u32,
+    count: u32,
+    size: &Size,
+) -> Result<Value, AllocError>
+    ensures value { IfOk result (λ v. view v ≡ spec.ask_data tenant.now app.now label.now priority count size.now) }
+    ensures reads { IsInRange (event.Ask tenant.now app.now label.now priority count size.now)
+        → IfOk result (λ _. event_at (spec.ask_data tenant.now app.now label.now priority count size.now) ≡ Ok (event.Ask tenant.now app.now label.now priority count size.now)) }
+{
+    let size = size.amount();
+    object(
+        alloc,
+        &[
+            ("app", Field::Text(app.as_str())),
+            ("count", Field::Number(u64::from(count))),
+            ("event", Field::Word("ask")),
+            ("label", Field::Text(label.as_str())),
+            ("memory", Field::Number(size.memory)),
+            ("priority", Field::Number(u64::from(priority))),
+            ("tenant", Field::Text(tenant.as_str())),
+            ("vcores", Field::Number(size.vcores)),
+        ],
+    )
+}
+
 fn release_object<'a>(alloc: Global, id: &'a str, tenant: &'a str) -> Result<Value, AllocError>
     ensures { IfOk result (λ v. view v ≡ spec.release_object id.now tenant.now) }
 {
@@ -206,6 +236,14 @@ pub fn event_value(alloc: Global, event: &Event) -> Result<Value, AllocError>
         Event::Relabel { node, label } => relabel_value(alloc, node, label),
         Event::Heartbeat { node } => heartbeat_value(alloc, node),
         Event::Exited { node, id } => exited_value(alloc, node, id),
+        Event::Ask {
+            tenant,
+            app,
+            label,
+            priority,
+            count,
+            size,
+        } => ask_value(alloc, tenant, app, label, *priority, *count, size),
         Event::Release { tenant, id } => release_value(alloc, tenant, id),
         Event::Finish { tenant, app } => finish_value(alloc, tenant, app),
         _ => unreachable!(),

@@ -1,6 +1,6 @@
 //! From lines to events.
 
-ghost use Rattle.std.specs.Prelude.{◌≡◌, option_map, IfOk, IsTrue};
+ghost use Rattle.std.specs.Prelude.{◌≡◌, ◌≤◌, option_map, IfOk, IsTrue};
 ghost use Rattle.serde_json.specs.View.{view};
 ghost use Rattle.ynl_resource.specs.Amounts.{IsSize};
 ghost use Rattle.ynl_model.specs.Kinds.{is_there};
@@ -22,6 +22,7 @@ pub enum Kind {
     Heartbeat,
     Exited,
     Submit,
+    Ask,
     Release,
     Finish,
 }
@@ -92,6 +93,8 @@ fn kind_of(word: &str) -> Option<Kind>
         Some(Kind::Exited)
     } else if word == "submit" {
         Some(Kind::Submit)
+    } else if word == "ask" {
+        Some(Kind::Ask)
     } else if word == "release" {
         Some(Kind::Release)
     } else if word == "finish" {
@@ -278,6 +281,49 @@ fn submit_at(event: &Value) -> Result<Event, LineFault>
     })
 }
 
+/// The number, where it is at most so large.
+#[tactic(auto, unfolding(crate::specs::Reading::within))]
+fn within(most: u32, number: u64) -> Result<u32, LineFault>
+    ensures value { result ≡ spec.within most number }
+    ensures ranged { IfOk result (λ n. n ≤ most) }
+{
+    if number <= u64::from(most) {
+        Ok(number as u32)
+    } else {
+        Err(LineFault::Range)
+    }
+}
+
+#[tactic(auto, unfolding(crate::specs::Reading::ask_at))]
+fn ask_at(event: &Value) -> Result<Event, LineFault>
+    ensures event { result ≡ spec.ask_at (view event.now) }
+    ensures there { IfOk result (λ event. IsTrue (is_there event)) }
+    ensures ranged { IfOk result (λ event. IsRanged event) }
+{
+    keys_are(event, 8)?;
+    let app = text_at(event, "app")?;
+    let count = number_at(event, "count")?;
+    let label = text_at(event, "label")?;
+    let memory = number_at(event, "memory")?;
+    let priority = number_at(event, "priority")?;
+    let tenant = text_at(event, "tenant")?;
+    let vcores = number_at(event, "vcores")?;
+    let app = name_at(app)?;
+    let label = label_at(label)?;
+    let tenant = name_at(tenant)?;
+    let count = within(1000000, count)?;
+    let priority = within(4294967295, priority)?;
+    let size = size_at(memory, vcores)?;
+    Ok(Event::Ask {
+        tenant,
+        app,
+        label,
+        priority,
+        count,
+        size,
+    })
+}
+
 #[tactic(auto, unfolding(crate::specs::Reading::release_at))]
 fn release_at(event: &Value) -> Result<Event, LineFault>
     ensures event { result ≡ spec.release_at (view event.now) }
@@ -323,6 +369,7 @@ fn event_at(event: &Value) -> Result<Event, LineFault>
         Kind::Heartbeat => heartbeat_at(event),
         Kind::Exited => exited_at(event),
         Kind::Submit => submit_at(event),
+        Kind::Ask => ask_at(event),
         Kind::Release => release_at(event),
         Kind::Finish => finish_at(event),
     }
