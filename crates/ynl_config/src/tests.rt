@@ -2,11 +2,24 @@ use crate::read_config;
 use std::alloc::Global;
 use std::test::Fail;
 use ynl_queues::Config;
-use ynl_resource::{Label, Path};
+use ynl_resource::{Label, Path, Resource};
 
 /// Two labels, and a queue that has all of DEFAULT; its other settings may follow.
 const ONE_QUEUE: &str =
     "version = 1\n[[label]]\nname = \"gpu\"\n[[label]]\nname = \"ssd\"\n[[queue]]\npath = \"root.a\"\ncapacity = 100\n";
+
+/// Three queues that share DEFAULT by hundredths of a percent.
+const THREE_QUEUES: &str = "version = 2
+[[queue]]
+path = \"root.a\"
+capacity = 3333
+[[queue]]
+path = \"root.b\"
+capacity = 3333
+[[queue]]
+path = \"root.c\"
+capacity = 3334
+";
 
 /// The word of the text's first fault, or `ok`.
 fn word_of(alloc: Global, text: &str) -> Result<&'static str, Fail> {
@@ -32,18 +45,21 @@ fn text_of(
     Ok(text)
 }
 
-// Run with each allocation failing in turn: where memory is refused at the first try, the second
-// reads the text.
-fn config(alloc: Global, text: &str) -> Result<Config, Fail> {
-    match read_config(alloc, text.as_bytes()) {
+// Run with each allocation failing in turn: where memory is refused at the first try, which a line
+// tells, the second reads the text.
+fn config(rt: &HostRuntime, text: &str) -> Result<Config, Fail> {
+    match read_config(rt.alloc(), text.as_bytes()) {
         Ok(read) => Ok(read?),
-        Err(_) => Ok(read_config(alloc, text.as_bytes())??),
+        Err(_) => {
+            println!(rt; "refused")?;
+            Ok(read_config(rt.alloc(), text.as_bytes())??)
+        }
     }
 }
 
 #[test]
 fn reads_at_the_second_try(rt: HostRuntime) -> Result<(), Fail> {
-    let config = config(rt.alloc(), ONE_QUEUE)?;
+    let config = config(&rt, ONE_QUEUE)?;
     assert_eq!(rt; config.labels().rows().len(), 2);
     assert_eq!(rt; config.queues().len(), 1);
     assert_eq!(rt; config.per_heartbeat(), 1);
@@ -141,7 +157,7 @@ fn reads_which_labels_a_queue_may_use(rt: HostRuntime) -> Result<(), Fail> {
         ("accessible-node-labels = \" gpu , ssd,gpu \"", true, true),
     ] {
         let text = text_of(rt.alloc(), ONE_QUEUE, "", 0, last)?;
-        let config = config(rt.alloc(), text.as_str())?;
+        let config = config(&rt, text.as_str())?;
         assert_eq!(rt; config.may_use(queue.names(), &gpu), may_gpu, "{last}");
         assert_eq!(rt; config.may_use(queue.names(), &ssd), may_ssd, "{last}");
     }
@@ -191,7 +207,7 @@ fn reads_percentages(rt: HostRuntime) -> Result<(), Fail> {
             1,
             last,
         )?;
-        let config = config(rt.alloc(), text.as_str())?;
+        let config = config(&rt, text.as_str())?;
         assert_eq!(rt; config.user_percent(queue.names()).number(), user, "{text}");
         assert_eq!(rt;
             config.master_percent(queue.names()).number(),
@@ -199,6 +215,20 @@ fn reads_percentages(rt: HostRuntime) -> Result<(), Fail> {
             "{text}"
         );
         assert_eq!(rt; config.user_factor(queue.names()), factor, "{text}");
+    }
+    Ok(())
+}
+
+#[test]
+fn reads_hundredths_of_a_percent(rt: HostRuntime) -> Result<(), Fail> {
+    let total = Resource {
+        memory: 10000,
+        vcores: 10,
+    };
+    let config = config(&rt, THREE_QUEUES)?;
+    for (path, memory, vcores) in [("root.a", 3333, 3), ("root.b", 3333, 3), ("root.c", 3334, 3)] {
+        let guaranteed = config.guaranteed(Path::parse(path)?.names(), &Label::Unlabelled, &total);
+        assert_eq!(rt; guaranteed, Resource { memory, vcores }, "{path}");
     }
     Ok(())
 }

@@ -5,35 +5,43 @@ use ynl_nodes::Labels;
 use ynl_queues::{Access, Config, QueueTree, WrittenQueue, built_in};
 use ynl_resource::{Hundredths, Label, Path, Resource, Size};
 
-// Run with each allocation failing in turn: where memory is refused at the first try, the second
-// gives the value.
-fn config(alloc: Global) -> Result<Config, AllocError> {
-    match built_in(alloc) {
+// Run with each allocation failing in turn: where memory is refused at the first try, which a line
+// tells, the second gives the value.
+fn config(rt: &HostRuntime) -> Result<Config, Fail> {
+    match built_in(rt.alloc()) {
         Ok(config) => Ok(config),
-        Err(_) => built_in(alloc),
+        Err(_) => {
+            println!(rt; "refused")?;
+            Ok(built_in(rt.alloc())?)
+        }
     }
 }
 
-fn maxima(alloc: Global, config: &Config) -> Result<Maxima, AllocError> {
-    match Maxima::new(alloc, config) {
+fn maxima(rt: &HostRuntime, config: &Config) -> Result<Maxima, Fail> {
+    match Maxima::new(rt.alloc(), config) {
         Ok(maxima) => Ok(maxima),
-        Err(_) => Maxima::new(alloc, config),
+        Err(_) => {
+            println!(rt; "refused")?;
+            Ok(Maxima::new(rt.alloc(), config)?)
+        }
     }
 }
 
-fn stops(alloc: Global, config: &Config) -> Result<Stops, AllocError> {
-    match Stops::new(alloc, config) {
+fn stops(rt: &HostRuntime, config: &Config) -> Result<Stops, Fail> {
+    match Stops::new(rt.alloc(), config) {
         Ok(stops) => Ok(stops),
-        Err(_) => Stops::new(alloc, config),
+        Err(_) => {
+            println!(rt; "refused")?;
+            Ok(Stops::new(rt.alloc(), config)?)
+        }
     }
 }
 
 #[test]
-fn opens_as_configured(rt: HostRuntime) -> Result<(), Fail> {
-    let alloc = rt.alloc();
-    let config = config(alloc)?;
-    let maxima = maxima(alloc, &config)?;
-    let stops = stops(alloc, &config)?;
+fn opens_as_configured_at_the_second_try(rt: HostRuntime) -> Result<(), Fail> {
+    let config = config(&rt)?;
+    let maxima = maxima(&rt, &config)?;
+    let stops = stops(&rt, &config)?;
     let eng = Path::parse("root.eng")?;
     let total = Resource {
         memory: 10000,

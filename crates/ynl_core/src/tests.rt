@@ -4,23 +4,30 @@ ghost use Rattle.std.specs.Prelude.{IfOk, IsTrue};
 ghost use Rattle.ynl_model.specs.Kinds.{is_there};
 
 use crate::{Core, NoMemory};
-use std::alloc::Global;
 use std::test::Fail;
 use ynl_model::{Event, Placed, Reply};
 use ynl_queues::Config;
 use ynl_resource::{Label, Name, Path, Size};
 
-fn configured(alloc: Global) -> Result<Config, Fail> {
-    match ynl_queues::built_in(alloc) {
+// Run with each allocation failing in turn: where memory is refused at the first try, which a line
+// tells, the second gives the answer.
+fn configured(rt: &HostRuntime) -> Result<Config, Fail> {
+    match ynl_queues::built_in(rt.alloc()) {
         Ok(config) => Ok(config),
-        Err(_) => Ok(ynl_queues::built_in(alloc)?),
+        Err(_) => {
+            println!(rt; "refused")?;
+            Ok(ynl_queues::built_in(rt.alloc())?)
+        }
     }
 }
 
-fn opened(alloc: Global) -> Result<Core, Fail> {
-    match Core::open(alloc, configured(alloc)?) {
+fn opened(rt: &HostRuntime) -> Result<Core, Fail> {
+    match Core::open(rt.alloc(), configured(rt)?) {
         Ok(core) => Ok(core),
-        Err(NoMemory) => Ok(Core::open(alloc, configured(alloc)?)?),
+        Err(NoMemory) => {
+            println!(rt; "refused")?;
+            Ok(Core::open(rt.alloc(), configured(rt)?)?)
+        }
     }
 }
 
@@ -56,18 +63,24 @@ fn event(number: u64) -> Result<Event, Fail>
     Ok(Event::Heartbeat { node })
 }
 
-fn answered(core: &mut Core, number: u64) -> Result<Reply, Fail> {
+fn answered(rt: &HostRuntime, core: &mut Core, number: u64) -> Result<Reply, Fail> {
     match core.apply(event(number)?) {
         Ok(reply) => Ok(reply),
-        Err(NoMemory) => Ok(core.apply(event(number)?)?),
+        Err(NoMemory) => {
+            println!(rt; "refused")?;
+            Ok(core.apply(event(number)?)?)
+        }
     }
 }
 
-fn listed(alloc: Global, core: &Core) -> Result<Vec<Placed>, Fail> {
+fn listed(rt: &HostRuntime, core: &Core) -> Result<Vec<Placed>, Fail> {
     let gpu = Label::parse("gpu")?;
-    match core.containers(alloc, &gpu) {
+    match core.containers(rt.alloc(), &gpu) {
         Ok(list) => Ok(list),
-        Err(NoMemory) => Ok(core.containers(alloc, &gpu)?),
+        Err(NoMemory) => {
+            println!(rt; "refused")?;
+            Ok(core.containers(rt.alloc(), &gpu)?)
+        }
     }
 }
 
@@ -81,15 +94,14 @@ fn placed(reply: &Reply) -> Option<usize> {
 
 #[test]
 fn second_try_places_the_master(rt: HostRuntime) -> Result<(), Fail> {
-    let alloc = rt.alloc();
-    let mut core = opened(alloc)?;
-    let registered = answered(&mut core, 0)?;
+    let mut core = opened(&rt)?;
+    let registered = answered(&rt, &mut core, 0)?;
     assert!(rt; matches!(registered, Reply::Done));
-    let submitted = answered(&mut core, 1)?;
+    let submitted = answered(&rt, &mut core, 1)?;
     assert!(rt; matches!(submitted, Reply::Done));
-    let beat = answered(&mut core, 2)?;
+    let beat = answered(&rt, &mut core, 2)?;
     assert_eq!(rt; placed(&beat), Some(1));
-    let list = listed(alloc, &core)?;
+    let list = listed(&rt, &core)?;
     assert_eq!(rt; list.len(), 1);
     Ok(())
 }

@@ -173,7 +173,7 @@ fn replies_have_their_texts(rt: HostRuntime) -> Result<(), Fail> {
     Ok(())
 }
 
-// Under `rt try --test --fail-alloc N` the first try may be refused memory.
+// Under `rt try --test --fail-alloc N` the first try may be refused memory, which a line tells.
 #[test]
 fn is_written_at_the_second_try(rt: HostRuntime) -> Result<(), Fail> {
     let reply = Reply::Committed(container(What::Master)?);
@@ -182,7 +182,13 @@ fn is_written_at_the_second_try(rt: HostRuntime) -> Result<(), Fail> {
     let mut written = None;
     for _ in 0..2 {
         if written.is_none() {
-            written = write_reply(rt.alloc(), &reply).ok();
+            written = match write_reply(rt.alloc(), &reply) {
+                Ok(text) => Some(text),
+                Err(_) => {
+                    println!(rt; "refused")?;
+                    None
+                }
+            };
         }
     }
     let written = written.ok_or("a text")?;

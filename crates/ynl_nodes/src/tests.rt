@@ -102,8 +102,8 @@ fn takes_sixty_four_labels(rt: HostRuntime) -> Result<(), Fail> {
     Ok(())
 }
 
-// Run with each allocation failing in turn: where memory is refused at the first try, the second
-// gives the labels.
+// Run with each allocation failing in turn: where memory is refused at the first try, which a line
+// tells, the second gives the labels.
 fn one_label(alloc: Global, name: Name) -> Result<Labels, AllocError> {
     let mut rows = Vec::new(alloc);
     rows.push(LabelRow {
@@ -114,24 +114,30 @@ fn one_label(alloc: Global, name: Name) -> Result<Labels, AllocError> {
     Ok(Labels::new(rows, 5))
 }
 
-fn one_label_again(alloc: Global, name: Name) -> Result<Labels, AllocError> {
-    match one_label(alloc, name) {
+fn one_label_again(rt: &HostRuntime, name: Name) -> Result<Labels, Fail> {
+    match one_label(rt.alloc(), name) {
         Ok(labels) => Ok(labels),
-        Err(_) => one_label(alloc, name),
+        Err(_) => {
+            println!(rt; "refused")?;
+            Ok(one_label(rt.alloc(), name)?)
+        }
     }
 }
 
-fn copy(alloc: Global, labels: &Labels) -> Result<Labels, AllocError> {
-    match labels.copy(alloc) {
+fn copy(rt: &HostRuntime, labels: &Labels) -> Result<Labels, Fail> {
+    match labels.copy(rt.alloc()) {
         Ok(labels) => Ok(labels),
-        Err(_) => labels.copy(alloc),
+        Err(_) => {
+            println!(rt; "refused")?;
+            Ok(labels.copy(rt.alloc())?)
+        }
     }
 }
 
 #[test]
-fn copies_labels(rt: HostRuntime) -> Result<(), Fail> {
-    let labels = one_label_again(rt.alloc(), Name::parse("gpu")?)?;
-    let copy = copy(rt.alloc(), &labels)?;
+fn copies_labels_at_the_second_try(rt: HostRuntime) -> Result<(), Fail> {
+    let labels = one_label_again(&rt, Name::parse("gpu")?)?;
+    let copy = copy(&rt, &labels)?;
     assert_eq!(rt; copy.rows().len(), 1);
     assert_eq!(rt; copy.limit(&Label::parse("gpu")?), 7);
     assert_eq!(rt; copy.limit(&Label::Unlabelled), 5);

@@ -1,19 +1,12 @@
-use crate::{Access, Config, QueueTree, WrittenQueue, built_in, share_of};
+use crate::{Access, QueueTree, WrittenQueue, built_in, share_of};
 use std::alloc::{AllocError, Global};
 use std::test::Fail;
 use ynl_model::TreeFault;
 use ynl_nodes::Labels;
 use ynl_resource::{Hundredths, Label, Path, Resource};
 
-// Run with each allocation failing in turn: where memory is refused at the first try, the second
-// gives the value.
-fn config(alloc: Global) -> Result<Config, AllocError> {
-    match built_in(alloc) {
-        Ok(config) => Ok(config),
-        Err(_) => built_in(alloc),
-    }
-}
-
+// Run with each allocation failing in turn: where memory is refused at the first try, which a line
+// tells, the second gives the value.
 fn written(alloc: Global, path: &str) -> Result<WrittenQueue, AllocError> {
     Ok(WrittenQueue {
         path: String::from_str(alloc, path)?,
@@ -40,34 +33,32 @@ fn built(
     QueueTree::build(alloc, labels, rows)
 }
 
-fn tree(
-    alloc: Global,
-    labels: &Labels,
-    path: &str,
-) -> Result<Result<QueueTree, TreeFault>, AllocError> {
-    match built(alloc, labels, path) {
-        Ok(tree) => Ok(tree),
-        Err(_) => built(alloc, labels, path),
+fn fault_of(rt: &HostRuntime, labels: &Labels, path: &str) -> Result<Option<TreeFault>, Fail> {
+    match built(rt.alloc(), labels, path) {
+        Ok(tree) => Ok(tree.err()),
+        Err(_) => {
+            println!(rt; "refused")?;
+            Ok(built(rt.alloc(), labels, path)?.err())
+        }
     }
 }
 
 #[test]
 fn builds_at_the_second_try(rt: HostRuntime) -> Result<(), Fail> {
-    let alloc = rt.alloc();
-    let labels = Labels::new(Vec::new(alloc), 1);
+    let labels = Labels::new(Vec::new(rt.alloc()), 1);
     for (path, fault) in [
         ("root.eng", None),
         ("root", Some(TreeFault::BadPath)),
         ("root.eng.ml", Some(TreeFault::NoParent)),
     ] {
-        assert_eq!(rt; tree(alloc, &labels, path)?.err(), fault, "{path}");
+        assert_eq!(rt; fault_of(&rt, &labels, path)?, fault, "{path}");
     }
     Ok(())
 }
 
 #[test]
 fn knows_its_queues(rt: HostRuntime) -> Result<(), Fail> {
-    let config = config(rt.alloc())?;
+    let config = built_in(rt.alloc())?;
     assert_eq!(rt; config.labels().rows().len(), 1);
     assert_eq!(rt; config.queues().len(), 1);
     assert_eq!(rt; config.per_heartbeat(), 1);
@@ -93,7 +84,7 @@ fn knows_its_queues(rt: HostRuntime) -> Result<(), Fail> {
 #[test]
 fn gives_a_queue_its_share(rt: HostRuntime) -> Result<(), Fail> {
     let alloc = rt.alloc();
-    let config = config(alloc)?;
+    let config = built_in(alloc)?;
     let eng = Path::parse("root.eng")?;
     let total = Resource {
         memory: 10000,
@@ -117,7 +108,7 @@ fn gives_a_queue_its_share(rt: HostRuntime) -> Result<(), Fail> {
 
 #[test]
 fn knows_its_tenants(rt: HostRuntime) -> Result<(), Fail> {
-    let config = config(rt.alloc())?;
+    let config = built_in(rt.alloc())?;
     for row in config.queues() {
         assert!(rt; row.tenant().as_str() == "eng");
     }

@@ -96,17 +96,20 @@ fn reads_ids(rt: HostRuntime) -> Result<(), Fail> {
     Ok(())
 }
 
-// Run with each allocation failing in turn: where memory is refused at the first try, the second
-// gives the whole text.
+// Run with each allocation failing in turn: where memory is refused at the first try, which a line
+// tells, the second gives the whole text.
 #[test]
-fn writes_after_a_refused_allocation(rt: HostRuntime) -> Result<(), Fail> {
+fn writes_at_the_second_try(rt: HostRuntime) -> Result<(), Fail> {
     let alloc = rt.alloc();
     let Ok(path) = Path::parse("root.eng.ml") else {
         panic!(rt; "root.eng.ml");
     };
     let text = match path.text(alloc) {
         Ok(text) => text,
-        Err(_) => path.text(alloc)?,
+        Err(_) => {
+            println!(rt; "refused")?;
+            path.text(alloc)?
+        }
     };
     assert!(rt; text.as_str() == "root.eng.ml");
     Ok(())
