@@ -2,6 +2,8 @@
 use Rattle.std.specs.Prelude.{◌≡◌, ℕ, List, [], ◌++◌, Option, Result, Ok, Err, codes}
 use Rattle.std.specs.Option.{option_map_or}
 use Rattle.std.specs.Io.KnownBytes.{Consumes, Appends}
+use Rattle.std.specs.declared.io.kind.ErrorKind.{ErrorKind}
+use Rattle.std.specs.declared.io.kind.ErrorKind.TheVariants.{OutOfMemory}
 use Rattle.ynl_model.specs.Cluster.{opening}
 use Rattle.ynl_model.specs.Queues.{Config}
 use Rattle.ynl_config.specs.declared.faults.ConfigFault.{ConfigFault}
@@ -17,6 +19,11 @@ use Rattle.ynl_tool.specs.Running.{Runs}
 -- how many bytes of a configuration are read at most: one more than it may have
 abbrev pub most_read : ℕ
 most_read = 1048577
+
+-- what is told of an error that was met in reading: want of memory is told from the others
+abbrev pub fault_by : ErrorKind → ToolFault
+fault_by OutOfMemory = NoMemory
+fault_by _ = Read
 
 -- the line on the error stream
 abbrev pub error_line : ToolFault → List ℕ

@@ -1,7 +1,8 @@
 //! The text of a configuration.
 
 ghost use Rattle.std.specs.Prelude.{◌≡◌, ◌++◌, IfSome, OnOk, take};
-ghost use Rattle.ynl_tool.specs.Jobs.{most_read};
+ghost use Rattle.std.specs.IoError.{error_kind};
+ghost use Rattle.ynl_tool.specs.Jobs.{fault_by, most_read};
 
 use crate::run::ToolFault;
 use std::io;
@@ -24,8 +25,10 @@ capacity = 100
 capacity = 100
 ";
 
-/// What a run that met this error tells.
-pub fn fault_of(error: &io::Error) -> ToolFault {
+/// What is told of an error that was met in reading.
+pub fn fault_of(error: &io::Error) -> ToolFault
+    ensures { result ≡ fault_by (error_kind error.now) }
+{
     if error.kind() == ErrorKind::OutOfMemory {
         return ToolFault::NoMemory;
     }

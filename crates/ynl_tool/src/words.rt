@@ -1,6 +1,6 @@
 //! The words of the command line.
 
-ghost use Rattle.std.specs.Prelude.{◌≡◌, ◌∷◌, [], IfOk, IfErr, IsErr, drop, map, codes, false};
+ghost use Rattle.std.specs.Prelude.{◌≡◌, ◌∷◌, [], IfOk, IfErr, IsErr, option_map, drop, map, codes, false};
 ghost use Rattle.std.specs.String.{string_bytes};
 ghost use Rattle.clap.specs.Simple.{app_of};
 ghost use Rattle.clap.specs.Walk.{rule_of};
@@ -140,9 +140,11 @@ fn command<'a>(alloc: Global) -> Result<Command<'a>, AllocError>
         .subcommand(run(alloc)?)
 }
 
-/// The job that the words ask for. The first word is the program's name.
+/// The job that the words ask for, with the file that `--config` names. The first word is the program's
+/// name.
 pub fn parse_words<'a>(alloc: Global, words: &'a [String]) -> Result<Job<'a>, WordsFault>
     ensures run { drop 1 (map string_bytes words.now) ≡ codes "run" ∷ [] → IfErr result (λ e. e ≡ NoMemory) }
+    ensures file { IfOk result (λ job. option_map (λ s. s.now) job.config ≡ spec.file_of (map string_bytes words.now)) }
     ensures missing { drop 1 (map string_bytes words.now) ≡ [] → IsErr result }
 {
     let matches = command(alloc)?.try_get_matches_from(words)?;
