@@ -1,6 +1,7 @@
 pub mod Bytes
 pub mod Found
 pub mod Joined
+pub mod Ranges
 pub mod Spaces
 pub mod Told
 pub mod Views

@@ -1,7 +1,8 @@
 //! From a text to the configuration.
 
-ghost use Rattle.std.specs.Prelude.{◌≡◌, IfOk, option_map};
+ghost use Rattle.std.specs.Prelude.{◌≡◌, IfOk, option_map, true};
 ghost use Rattle.toml.specs.View.{table_view};
+ghost use Rattle.ynl_model.specs.Accepted.{is_accepted};
 ghost use Rattle.ynl_config.specs.Meaning as spec;
 
 use crate::faults::ConfigFault;
@@ -54,10 +55,12 @@ fn build(alloc: Global, written: Written) -> Result<Result<Config, ConfigFault>,
 ///
 /// The text is TOML of at most 1,048,576 bytes. A fault is told only where none before it in the
 /// order of [`ConfigFault`] holds anywhere in the text. Percentages are whole in version 1, and
-/// hundredths of a percent in version 2.
+/// hundredths of a percent in version 2. What is read is accepted: its numbers are in range, and it has
+/// no fault.
 #[tactic(auto, unfolding(crate::specs::Meaning::config_of))]
 pub fn read_config(alloc: Global, text: &[u8]) -> Result<Result<Config, ConfigFault>, AllocError>
-    ensures { IfOk result (λ read. read ≡ spec.config_of text.now) }
+    ensures meaning { IfOk result (λ read. read ≡ spec.config_of text.now) }
+    ensures accepted { IfOk result (λ read. IfOk read (λ config. is_accepted config ≡ true)) }
 {
     if text.len() > MOST_BYTES {
         return Ok(Err(ConfigFault::Size));

@@ -23,7 +23,7 @@ none_behind a b d false false true xs h = absurd cc
 none_behind a b d false false false xs h = h
 
 -- what is given is given where no fault holds
-given_none : (fault : Option TreeFault) (rows tree : List QueueRow) → unless_fault fault rows ≡ Ok tree → (fault ≡ None) × (rows ≡ tree)
+pub given_none : (fault : Option TreeFault) (rows tree : List QueueRow) → unless_fault fault rows ≡ Ok tree → (fault ≡ None) × (rows ≡ tree)
 given_none None rows tree h = (refl, cc)
 given_none (Some fault) rows tree h = absurd cc
 
