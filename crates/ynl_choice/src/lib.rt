@@ -3,12 +3,16 @@
 #![tactic(auto)]
 
 pub use choosing::choose;
+pub use limits::{master_limit_of, user_limit_of};
+pub use proposing::propose;
 pub use requests::Request;
 
 mod choosing;
 mod eligible;
 mod leaf_use;
+mod limits;
 mod order;
+mod proposing;
 mod ranking;
 mod requests;
 mod scenes;
