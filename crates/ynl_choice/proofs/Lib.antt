@@ -2,3 +2,4 @@ pub mod Rooms
 pub mod Ranked
 pub mod Considering
 pub mod Choices
+pub mod Checks

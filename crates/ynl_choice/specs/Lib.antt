@@ -1,3 +1,4 @@
 pub mod Candidates
 pub mod Choosing
 pub mod LeafUses
+pub mod Checking

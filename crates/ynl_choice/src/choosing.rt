@@ -6,7 +6,7 @@ ghost use Rattle.std.specs.List.{position_or_len};
 ghost use Rattle.ynl_resource.specs.Names.{same_name};
 ghost use Rattle.ynl_resource.specs.declared.labels.Label.TheVariants.{Unlabelled};
 ghost use Rattle.ynl_model.specs.Cluster.{free as free_on};
-ghost use Rattle.ynl_model.specs.Service.{place_in_leaf, first_of, key, eligible, has_room, asks_for, takes_guests, choice};
+ghost use Rattle.ynl_model.specs.Service.{place_in_leaf, first_of, key, eligible, has_room, asks_for, some_eligible, takes_guests, choice};
 ghost use Rattle.ynl_tables.specs.Bounds.{IsBounded};
 ghost use Rattle.ynl_tables.specs.Tables.{state_of, app_of};
 ghost use Rattle.ynl_choice.specs.Choosing.{state_in, key_in, item_of, passes, overtakes, IsScene, IsDesk, IsKeyed, Considers, masters_of as masters_in, wanted, asks_in, all_masters, all_asks};
@@ -287,8 +287,17 @@ fn request_in(held: Option<Candidate>) -> Option<Request>
     }
 }
 
+/// Whether any request is eligible on a node.
+pub fn some_eligible(config: &Config, tables: &Tables, node: &Node) -> bool
+    requires { IsBounded (state_of tables.now) }
+    ensures { result ≡ some_eligible config.now (state_of tables.now) node.now }
+{
+    let free = free(tables, node);
+    first_eligible(config, tables, node, &free).is_some()
+}
+
 /// Whether a partition takes guests: it is not exclusive, and not DEFAULT.
-fn takes_guests(config: &Config, label: &Label) -> bool
+pub fn takes_guests(config: &Config, label: &Label) -> bool
     ensures { result ≡ takes_guests config.now label.now }
 {
     match label {

@@ -2,13 +2,20 @@
 //! master share, and which of them is first in the order of service.
 #![tactic(auto)]
 
+pub use checking::{Checked, check, is_spent};
 pub use choosing::choose;
+pub use limits::{master_limit_of, user_limit_of};
+pub use proposing::propose;
 pub use requests::Request;
 
+mod access;
+mod checking;
 mod choosing;
 mod eligible;
 mod leaf_use;
+mod limits;
 mod order;
+mod proposing;
 mod ranking;
 mod requests;
 mod scenes;

@@ -1,24 +1,30 @@
 //! The cluster that takes one event after another.
 
-ghost use Rattle.std.specs.Prelude.{◌≡◌, IfOk, OnErr, IsTrue};
-ghost use Rattle.ynl_model.specs.declared.events.Event.TheVariants.{Register, Lost, Relabel, Heartbeat, Exited, Submit, Release};
+ghost use Rattle.std.specs.Prelude.{◌≡◌, Some, None, IfOk, IfErr, OnErr, IsTrue};
+ghost use Rattle.std.specs.Option.{option_and_then};
+ghost use Rattle.ynl_resource.specs.Refusals.{first_that_holds};
+ghost use Rattle.ynl_model.specs.declared.events.Event.TheVariants.{Register, Lost, Relabel, Heartbeat, Exited, Submit, Release, Usage, Propose, Commit};
 ghost use Rattle.ynl_model.specs.Kinds.{is_there};
-ghost use Rattle.ynl_model.specs.Cluster.{containers_on};
+ghost use Rattle.ynl_model.specs.Check.{proposed, commit_reasons};
+ghost use Rattle.ynl_model.specs.Cluster.{containers_on, node_of};
+ghost use Rattle.ynl_model.specs.Limits.{user_limit, master_limit};
 ghost use Rattle.ynl_core.specs.World.{opened, Answers};
 
 use crate::ending::{container_of_tenant, container_on, end};
 use crate::memory::NoMemory;
 use crate::nodes::{join, leave};
 use crate::opening::opening;
-use crate::placing::{push_copy, reserve};
+use crate::placing::{place, push_copy, reserve};
 use crate::resting::{rest, rests};
-use crate::serving::{is_spent, serve};
+use crate::serving::serve;
 use crate::submitting::{Submission, home_of, refusal_of, reserve_place, submit};
+use crate::usage::usage;
 use std::alloc::Global;
 use std::marker::Model;
-use ynl_model::{Event, Placed, PlacedList, Reply};
+use ynl_choice::{check, is_spent, master_limit_of, propose, user_limit_of};
+use ynl_model::{Event, Placed, PlacedList, Proposal, Reply};
 use ynl_queues::Config;
-use ynl_resource::{Id, Label, Name, Path, Refusal, Size};
+use ynl_resource::{Id, Label, Name, Path, Refusal, Resource, Size};
 use ynl_tables::{Tables, containers_at, is_full, is_master, is_same, node_at};
 
 /// A cluster: what it is configured with, and its state. The names of nodes that rest are listed
@@ -196,6 +202,49 @@ impl Core {
         Ok(Reply::Placed(PlacedList::new(placed)))
     }
 
+    #[tactic(auto, unfolding(ynl_model::specs::Events::step, ynl_model::specs::Events::reasons, ynl_model::specs::Events::accepted))]
+    fn usage(&self, queue: Path, label: Label) -> Reply
+        ensures { Answers self.now (Usage queue label) self.now result }
+    {
+        if !self.config.is_queue(queue.names()) {
+            return Reply::Refused(Refusal::NoSuchQueue);
+        }
+        if !self.config.labels().has(&label) {
+            return Reply::Refused(Refusal::NoSuchLabel);
+        }
+        usage(&self.config, &self.tables, &queue, &label)
+    }
+
+    #[tactic(auto, unfolding(ynl_model::specs::Events::step, ynl_model::specs::Events::reasons, ynl_model::specs::Events::accepted))]
+    fn propose(&self, name: Name) -> Reply
+        ensures { Answers self.now (Propose name) self.now result }
+    {
+        let Some(node) = node_at(&self.tables.nodes, &name) else {
+            return Reply::Refused(Refusal::NoSuchNode);
+        };
+        if is_spent(&self.config, &self.tables, &node.label) {
+            return Reply::Refused(Refusal::ClockSpent);
+        }
+        Reply::Proposed(propose(&self.config, &self.tables, &node))
+    }
+
+    #[tactic(auto, unfolding(ynl_model::specs::Events::step, ynl_model::specs::Events::reasons, ynl_model::specs::Events::accepted))]
+    fn commit(&mut self, proposal: Proposal) -> Result<Reply, NoMemory>
+        ensures ok { IfOk result (λ reply. Answers self.old (Commit proposal) self.new reply) }
+        ensures err { OnErr result (self.new ≡ self.old) }
+    {
+        let checked = match check(&self.config, &self.tables, &proposal) {
+            Ok(checked) => checked,
+            Err(refusal) => return Ok(Reply::Refused(refusal)),
+        };
+        let _sized = proposal.size.amount();
+        let node = checked.node;
+        reserve(&mut self.tables.partitions, &node.label, 1)?;
+        let container = place(&self.config, &mut self.tables, &node, &checked.request);
+        self.resting.clear();
+        Ok(Reply::Committed(container))
+    }
+
     /// A cluster without nodes, applications or containers.
     pub fn open(alloc: Global, config: Config) -> Result<Core, NoMemory>
         ensures { IfOk result (λ core. core ≡ opened config) }
@@ -230,6 +279,9 @@ impl Core {
             Event::Heartbeat { node } => self.heartbeat(node),
             Event::Exited { node, id } => Ok(self.exited(node, id)),
             Event::Release { tenant, id } => Ok(self.release(tenant, id)),
+            Event::Usage { queue, label } => Ok(self.usage(queue, label)),
+            Event::Propose { node } => Ok(self.propose(node)),
+            Event::Commit { proposal } => self.commit(proposal),
             _ => unreachable!(),
         }
     }
@@ -244,5 +296,42 @@ impl Core {
             push_copy(&mut list, container);
         }
         Ok(list)
+    }
+
+    /// What would be placed on the node next, with its stamp; nothing where there is no such node. It
+    /// does not look at the clock.
+    pub fn choose(&self, node: &Name) -> Option<Proposal>
+        ensures { result ≡ option_and_then (proposed self.now.config self.now.state) (node_of self.now.state node.now) }
+    {
+        match node_at(&self.tables.nodes, node) {
+            Some(node) => propose(&self.config, &self.tables, &node),
+            None => None,
+        }
+    }
+
+    /// The first reason for which a proposal would not be committed.
+    pub fn check(&self, proposal: &Proposal) -> Result<(), Refusal>
+        ensures refused { IfErr result (λ refusal. first_that_holds (commit_reasons self.now.config self.now.state proposal.now) ≡ Some refusal) }
+        ensures free { IfOk result (λ _. first_that_holds (commit_reasons self.now.config self.now.state proposal.now) ≡ None) }
+    {
+        match check(&self.config, &self.tables, proposal) {
+            Ok(_) => Ok(()),
+            Err(refusal) => Err(refusal),
+        }
+    }
+
+    /// The most that one user may use of the leaf's part of a partition, where a container of this size
+    /// is asked for.
+    pub fn user_limit(&self, leaf: &Path, label: &Label, ask: &Size) -> Resource
+        ensures { result ≡ user_limit self.now.config self.now.state leaf.now label.now ask.now }
+    {
+        user_limit_of(&self.config, &self.tables, leaf, label, ask)
+    }
+
+    /// The most that the masters of the leaf may use together on a partition.
+    pub fn master_limit(&self, leaf: &Path, label: &Label) -> Resource
+        ensures { result ≡ master_limit self.now.config self.now.state leaf.now label.now }
+    {
+        master_limit_of(&self.config, &self.tables, leaf, label)
     }
 }

@@ -19,3 +19,4 @@ mod serving;
 mod submitting;
 #[cfg(test)]
 mod tests;
+mod usage;

@@ -16,7 +16,7 @@ use ynl_choice::Request;
 use ynl_model::{Node, Placed, What};
 use ynl_queues::Config;
 use ynl_resource::{Id, Label, Name, Path};
-use ynl_tables::{App, Ask, LeafRow, PartitionRow, Tables, clock_at, is_same, risen};
+use ynl_tables::{App, Ask, LeafRow, PartitionRow, Tables, clock_at, is_ask_of, is_same, risen};
 
 /// What a partition's clock shows after one more change there.
 #[tactic(auto, unfolding(ynl_model::specs::Cluster::next_clock, ynl_model::specs::Cluster::clock))]
@@ -116,12 +116,6 @@ pub fn reserve(rows: &mut Vec<PartitionRow>, label: &Label, count: usize) -> Res
         reserve_on(row, label, count)?;
     }
     Ok(())
-}
-
-fn is_ask_of(ask: &Ask, label: &Label, priority: u32) -> bool
-    ensures { result ≡ is_ask_of label.now priority ask.now }
-{
-    is_same(&ask.label, label) && ask.priority == priority
 }
 
 fn lowered(ask: &Ask, label: &Label, priority: u32) -> Ask

@@ -1,25 +1,15 @@
 //! Serving a node: the next request is placed there, again and again.
 
 ghost use Rattle.std.specs.Prelude.{◌≡◌, ◌≤◌, ◌+◌, ◌++◌, vec_len, vec_capacity};
-ghost use Rattle.ynl_model.specs.Cluster.{is_spent};
 ghost use Rattle.ynl_model.specs.Changes.{next_item, beat};
 ghost use Rattle.ynl_laws.specs.Working.{IsWorking, Stands};
 ghost use Rattle.ynl_tables.specs.Tables.{state_of, HasRoom};
 
 use crate::placing::{place, push_copy};
-use ynl_choice::{Request, choose};
+use ynl_choice::{Request, choose, is_spent};
 use ynl_model::{Node, Placed};
 use ynl_queues::Config;
-use ynl_resource::Label;
-use ynl_tables::{Tables, clock_at};
-
-/// Whether a partition's clock is spent: it stands at its limit, and nothing is placed there.
-#[tactic(auto, unfolding(ynl_model::specs::Cluster::is_spent, ynl_model::specs::Cluster::clock))]
-pub fn is_spent(config: &Config, tables: &Tables, label: &Label) -> bool
-    ensures { result ≡ is_spent config.now.labels (state_of tables.now) label.now }
-{
-    config.labels().limit(label) <= clock_at(&tables.partitions, label)
-}
+use ynl_tables::Tables;
 
 /// The request that is placed next on a node: none where the clock is spent.
 fn next_request(config: &Config, tables: &Tables, node: &Node) -> Option<Request>

@@ -1,11 +1,11 @@
-//! A refused allocation, and the right answer at the second try.
+//! A refused allocation, and the right answer at the second try; and what is read of a cluster.
 
 ghost use Rattle.std.specs.Prelude.{IfOk, IsTrue};
 ghost use Rattle.ynl_model.specs.Kinds.{is_there};
 
 use crate::{Core, NoMemory};
 use std::test::Fail;
-use ynl_model::{Event, Placed, Reply};
+use ynl_model::{Event, Placed, Reply, What};
 use ynl_queues::Config;
 use ynl_resource::{Label, Name, Path, Size};
 
@@ -103,5 +103,56 @@ fn second_try_places_the_master(rt: HostRuntime) -> Result<(), Fail> {
     assert_eq!(rt; placed(&beat), Some(1));
     let list = listed(&rt, &core)?;
     assert_eq!(rt; list.len(), 1);
+    Ok(())
+}
+
+/// A cluster where an application waits for its master on a node.
+fn waiting(alloc: Global) -> Result<Core, Fail> {
+    let mut core = opened(alloc)?;
+    let _registered = answered(&mut core, 0)?;
+    let _submitted = answered(&mut core, 1)?;
+    Ok(core)
+}
+
+#[test]
+fn chooses_the_master_at_the_stamp(rt: HostRuntime) -> Result<(), Fail> {
+    let core = waiting(rt.alloc())?;
+    let Some(chosen) = core.choose(&Name::parse("g1")?) else {
+        return Err(Fail::new("nothing is chosen"));
+    };
+    assert_eq!(rt; chosen.stamp, 1);
+    assert!(rt; matches!(chosen.what, What::Master));
+    Ok(())
+}
+
+#[test]
+fn checks_what_is_chosen(rt: HostRuntime) -> Result<(), Fail> {
+    let core = waiting(rt.alloc())?;
+    let Some(chosen) = core.choose(&Name::parse("g1")?) else {
+        return Err(Fail::new("nothing is chosen"));
+    };
+    assert!(rt; core.check(&chosen).is_ok());
+    Ok(())
+}
+
+#[test]
+fn limits_a_user_to_the_guarantee(rt: HostRuntime) -> Result<(), Fail> {
+    let core = waiting(rt.alloc())?;
+    let limit = core.user_limit(
+        &Path::parse("root.eng")?,
+        &Label::parse("gpu")?,
+        &size(1000, 1)?,
+    );
+    assert_eq!(rt; limit.memory, 10000);
+    assert_eq!(rt; limit.vcores, 10);
+    Ok(())
+}
+
+#[test]
+fn limits_masters_to_a_tenth(rt: HostRuntime) -> Result<(), Fail> {
+    let core = waiting(rt.alloc())?;
+    let limit = core.master_limit(&Path::parse("root.eng")?, &Label::parse("gpu")?);
+    assert_eq!(rt; limit.memory, 1000);
+    assert_eq!(rt; limit.vcores, 1);
     Ok(())
 }

@@ -1,5 +1,5 @@
 -- Which containers count in a sum.
-use Rattle.std.specs.Prelude.{Bool, true, not, ◌&&◌, List}
+use Rattle.std.specs.Prelude.{Bool, not, ◌&&◌, List}
 use Rattle.ynl_resource.specs.Names.{same_name}
 use Rattle.ynl_resource.specs.declared.names.Name.{Name}
 use Rattle.ynl_resource.specs.declared.paths.Path.{Path}
@@ -7,7 +7,7 @@ use Rattle.ynl_model.specs.declared.containers.Placed.{Placed as Container}
 use Rattle.ynl_model.specs.Applications.{LeafApps}
 use Rattle.ynl_model.specs.Cluster.{is_master, is_guest, is_below, of_app_that}
 use Rattle.ynl_tables.specs.declared.uses.Whose.{Whose}
-use Rattle.ynl_tables.specs.declared.uses.Whose.TheVariants.{Everyone, User, Masters}
+use Rattle.ynl_tables.specs.declared.uses.Whose.TheVariants.{Everyone, User, Masters, Guests}
 
 -- whether a container counts in the use of a queue: it is no guest, and its leaf is the queue or below
 abbrev pub counts : List LeafApps → Path → Container → Bool
@@ -17,12 +17,9 @@ counts leaves queue container = not (is_guest container) && is_below leaves queu
 abbrev pub of_user : Name → List LeafApps → Container → Bool
 of_user user leaves = of_app_that (λ app. same_name app.user user) leaves
 
--- whether a container is among those whose use is wanted
-abbrev pub is_whose : List LeafApps → Whose → Container → Bool
-is_whose leaves Everyone container = true
-is_whose leaves (User user) container = of_user user.now leaves container
-is_whose leaves Masters container = is_master container
-
--- whether a container counts in the use of a queue, and is among those whose use is wanted
+-- whether a container counts in a sum over a queue: guests in a sum of their own, and all others in the queue's use
 abbrev pub is_counted : List LeafApps → Path → Whose → Container → Bool
-is_counted leaves queue whose container = counts leaves queue container && is_whose leaves whose container
+is_counted leaves queue Everyone container = counts leaves queue container
+is_counted leaves queue (User user) container = counts leaves queue container && of_user user.now leaves container
+is_counted leaves queue Masters container = counts leaves queue container && is_master container
+is_counted leaves queue Guests container = is_guest container && is_below leaves queue container

@@ -2,7 +2,9 @@
 //! and what is read of them: sums of use, totals, who shares a leaf.
 #![tactic(auto)]
 
-pub use queue_use::{free, masters_used, no_master_in, runs, used, user_used};
+pub use asks::{ask_of, is_ask_of};
+pub use live::{Live, live_at};
+pub use queue_use::{free, guests, masters_used, no_master_in, runs, used, user_used};
 pub use rows::{App, Ask, LeafRow, PartitionRow};
 pub use sharing::users;
 pub use tables::{
@@ -11,6 +13,8 @@ pub use tables::{
 };
 pub use uses::{is_master, total_of};
 
+mod asks;
+mod live;
 mod queue_use;
 mod rows;
 mod sharing;

@@ -2,7 +2,7 @@
 
 ghost use Rattle.std.specs.Prelude.{◌≡◌, ◌&&◌};
 ghost use Rattle.std.specs.List.{list_any};
-ghost use Rattle.ynl_model.specs.Cluster.{used, user_used, masters_used, is_master, is_of, runs, free, counted};
+ghost use Rattle.ynl_model.specs.Cluster.{used, user_used, masters_used, guests, is_master, is_of, runs, free, counted};
 ghost use Rattle.ynl_model.specs.Service.{no_master_in};
 ghost use Rattle.ynl_tables.specs.Tables.{state_of, app_of};
 ghost use Rattle.ynl_tables.specs.Bounds.{IsBounded, IsTotal};
@@ -44,6 +44,16 @@ pub fn masters_used(tables: &Tables, queue: &[Name], label: &Label) -> Resource
 {
     let containers = containers_at(&tables.partitions, label);
     used_by(&tables.leaves, queue, Whose::Masters, containers)
+}
+
+/// What the guests of a queue use of a partition.
+#[tactic(auto, unfolding(ynl_model::specs::Cluster::guests))]
+pub fn guests(tables: &Tables, queue: &[Name], label: &Label) -> Resource
+    requires { IsBounded (state_of tables.now) }
+    ensures { result ≡ guests (state_of tables.now) queue.now label.now }
+{
+    let containers = containers_at(&tables.partitions, label);
+    used_by(&tables.leaves, queue, Whose::Guests, containers)
 }
 
 fn has_counted_master(tables: &Tables, leaf: &[Name], label: &Label) -> bool

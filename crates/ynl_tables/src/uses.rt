@@ -7,7 +7,7 @@ ghost use Rattle.ynl_model.specs.Nodes.{total};
 ghost use Rattle.ynl_model.specs.Cluster.{is_master, is_guest_on, is_below, sizes};
 ghost use Rattle.ynl_tables.specs.Tables.{leaves_of};
 ghost use Rattle.ynl_tables.specs.Bounds.{IsTotal};
-ghost use Rattle.ynl_tables.specs.Uses.{counts, of_user, is_whose, is_counted};
+ghost use Rattle.ynl_tables.specs.Uses.{counts, of_user, is_counted};
 
 use crate::rows::{App, LeafRow};
 use crate::tables::{is_same, leaf_row_of};
@@ -21,6 +21,7 @@ pub enum Whose<'a> {
     Everyone,
     User(&'a Name),
     Masters,
+    Guests,
 }
 
 const NOTHING: Resource = Resource {
@@ -66,7 +67,8 @@ pub fn counts(leaves: &[LeafRow], queue: &[Name], container: &Placed) -> bool
     !is_guest_on(&container.id.label, &container.what) && is_below(leaves, queue, container)
 }
 
-fn app_named<'a>(apps: &'a [App], name: &Name) -> Option<&'a App>
+/// The application of a name among those of a leaf.
+pub fn app_named<'a>(apps: &'a [App], name: &Name) -> Option<&'a App>
     ensures { option_map (λ r. r.now) result ≡ find (λ app. same_name app.name name.now) apps.now }
 {
     apps.iter().find(|app| app.name == *name)
@@ -86,20 +88,19 @@ fn is_of_user(leaves: &[LeafRow], user: &Name, container: &Placed) -> bool
     }
 }
 
-fn is_whose(leaves: &[LeafRow], whose: Whose<'_>, container: &Placed) -> bool
-    ensures { result ≡ is_whose (leaves_of leaves.now) whose.entry container.now }
-{
-    match whose {
-        Whose::Everyone => true,
-        Whose::User(user) => is_of_user(leaves, user, container),
-        Whose::Masters => is_master(container),
-    }
-}
-
 fn is_counted(leaves: &[LeafRow], queue: &[Name], whose: Whose<'_>, container: &Placed) -> bool
     ensures { result ≡ is_counted (leaves_of leaves.now) queue.now whose.entry container.now }
 {
-    counts(leaves, queue, container) && is_whose(leaves, whose, container)
+    match whose {
+        Whose::Everyone => counts(leaves, queue, container),
+        Whose::User(user) => {
+            counts(leaves, queue, container) && is_of_user(leaves, user, container)
+        }
+        Whose::Masters => counts(leaves, queue, container) && is_master(container),
+        Whose::Guests => {
+            is_guest_on(&container.id.label, &container.what) && is_below(leaves, queue, container)
+        }
+    }
 }
 
 /// The sum, with the size where it counts.
@@ -110,7 +111,8 @@ fn added(sum: &Resource, size: &Size, counts: bool) -> Resource
     if counts { sum.add(size.amount()) } else { *sum }
 }
 
-/// What a queue uses of a partition, or one user or the masters in it, by the containers there.
+/// What a queue uses of a partition, or one user, the masters or the guests in it, by the containers
+/// there.
 pub fn used_by(
     leaves: &[LeafRow],
     queue: &[Name],

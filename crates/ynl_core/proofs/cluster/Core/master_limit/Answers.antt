@@ -1,0 +1,6 @@
+use Rattle.ynl_tables.specs.Tables.{state_of}
+use Rattle.ynl_core.proofs.Serves.{bounded}
+use Rattle.ynl_core.proofs.cluster.Core.master_limit.Goals as goal
+
+pub master_limit_of-requires : goal.master_limit_of-requires
+master_limit_of-requires c = bounded c.self.inside.config (state_of c.self.inside.tables) c.self.invariant.working
