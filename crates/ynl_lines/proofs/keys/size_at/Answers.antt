@@ -2,7 +2,7 @@ use Rattle.std.proofs.Common.{◌≡◌, ◌∙◌, rules}
 use Rattle.ynl_lines.specs.declared.faults.LineFault.TheVariants as fault
 use Rattle.ynl_lines.specs.Reading.{or_fault}
 use Rattle.ynl_lines.proofs.Sizes.{size_at-from_new}
-use Rattle.ynl_lines.proofs.read.size_at.Goals as goal
+use Rattle.ynl_lines.proofs.keys.size_at.Goals as goal
 
 pub returns-clause-size : goal.returns-clause-size
 returns-clause-size c =

@@ -1,7 +1,7 @@
 use Rattle.std.proofs.Common.{◌≡◌, rules, length, sym, ◌∙◌}
 use Rattle.serde_json.proofs.Views.{members_len-members_view}
 use Rattle.ynl_lines.proofs.Readings.{keys_kept, keys_lost}
-use Rattle.ynl_lines.proofs.read.keys_are.Goals as goal
+use Rattle.ynl_lines.proofs.keys.keys_are.Goals as goal
 
 pub returns-then-len-count : goal.returns-then-len-count
 returns-then-len-count c =
