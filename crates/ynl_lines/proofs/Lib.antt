@@ -3,3 +3,4 @@ pub mod Readings
 pub mod Sizes
 pub mod Texts
 pub mod Ids
+pub mod ProposalTrip

@@ -1,5 +1,5 @@
--- A size is in range by the test just where it is by the words.
-use Rattle.std.proofs.Common.{◌≡◌, ℕ, Bool, true, false, cond, Option, Some, None, Ok, Err, refl, ap, sym, ◌∙◌, arith}
+-- Sizes and other numbers are in range by the test just where they are by the words.
+use Rattle.std.proofs.Common.{◌≡◌, ◌≤◌, ℕ, leb, Bool, true, false, cond, Option, Some, None, Ok, Err, refl, ap, sym, ◌∙◌, arith}
 use Rattle.std.specs.Option.{SomeIff}
 use Rattle.std.specs.Cmp.Derive.{both_true}
 use Rattle.std.proofs.lemmas.Bool.{false≢true, le-leb}
@@ -7,7 +7,7 @@ use Rattle.std.proofs.lemmas.Bool.Decides.{nat_tests}
 use Rattle.ynl_resource.specs.declared.amounts.Resource.{Resource}
 use Rattle.ynl_resource.specs.Amounts.{amount, IsSize}
 use Rattle.ynl_lines.specs.declared.faults.LineFault.TheVariants as fault
-use Rattle.ynl_lines.specs.Reading.{or_fault, is_size, size_at}
+use Rattle.ynl_lines.specs.Reading.{or_fault, is_size, size_at, within}
 
 pub is_size-from_IsSize : (m v : ℕ) → IsSize (amount m v) → is_size m v ≡ true
 is_size-from_IsSize m v h =
@@ -36,3 +36,19 @@ module _ (m v : ℕ) where
 pub size_back : (size : Resource) → IsSize size → size_at size.memory size.vcores ≡ Ok size
 unfolding size_at
 size_back size h = ap (λ b. cond b (Ok size) (Err fault.Range)) (is_size-from_IsSize size.memory size.vcores h)
+
+-- a number that is at most so large is read as it stands
+pub within_back : (most n : ℕ) → n ≤ most → within most n ≡ Ok n
+unfolding within
+within_back most n h = ap (λ b. cond b (Ok n) (Err fault.Range)) (le-leb n most h)
+
+module _ (most n : ℕ) where
+  share_by : (b : Bool) (o : Option ℕ) → leb n most ≡ b → SomeIff o (n ≤ most) n → or_fault fault.Range o ≡ cond b (Ok n) (Err fault.Range)
+  share_by true (Some x) e h = ap Ok h.1
+  share_by true None e h = absurd (h (grind (arith, nat_tests)))
+  share_by false (Some x) e h = absurd (false≢true (sym e ∙ le-leb n most h.0))
+  share_by false None e h = refl
+
+  pub within-from_new : (o : Option ℕ) → SomeIff o (n ≤ most) n → or_fault fault.Range o ≡ within most n
+  unfolding within
+  within-from_new o h = share_by (leb n most) o refl h

@@ -8,7 +8,7 @@ use Rattle.ynl_resource.specs.declared.names.Name.{Name}
 use Rattle.ynl_resource.specs.declared.labels.Label.{Label}
 use Rattle.ynl_resource.specs.declared.paths.Path.{Path}
 use Rattle.ynl_model.specs.declared.events.Event.{Event}
-use Rattle.ynl_model.specs.declared.events.Event.TheVariants.{Register, Lost, Relabel, Heartbeat, Exited, Submit, Release}
+use Rattle.ynl_model.specs.declared.events.Event.TheVariants.{Submit, Commit}
 use Rattle.ynl_model.specs.declared.proposals.What.{What}
 use Rattle.ynl_model.specs.declared.proposals.What.TheVariants.{Master, Ask as Asked}
 use Rattle.ynl_model.specs.declared.containers.Placed.{Placed as Container}
@@ -77,13 +77,8 @@ plain_submit queue app user None master = refl
 plain_submit queue app user (Some label) master = refl
 
 pub plain_event : (e : Event) → has_float (event_data e) ≡ false
-plain_event (Register node label size) = refl
-plain_event (Lost node) = refl
-plain_event (Relabel node label) = refl
-plain_event (Heartbeat node) = refl
-plain_event (Exited node id) = refl
-plain_event (Release tenant id) = refl
 plain_event (Submit queue app user label master) = plain_submit queue app user label master
+plain_event (Commit proposal) = simp (plain_proposal proposal.what proposal)
 plain_event _ = refl
 
 flat_submit : (queue : Path) (app user : Name) (label : Option Label) (master : Resource) → depth (submit_data queue app user label master) ≤ 127
@@ -91,11 +86,6 @@ flat_submit queue app user None master = omega arith
 flat_submit queue app user (Some label) master = omega arith
 
 pub flat_event : (e : Event) → depth (event_data e) ≤ 127
-flat_event (Register node label size) = omega arith
-flat_event (Lost node) = omega arith
-flat_event (Relabel node label) = omega arith
-flat_event (Heartbeat node) = omega arith
-flat_event (Exited node id) = omega arith
-flat_event (Release tenant id) = omega arith
 flat_event (Submit queue app user label master) = flat_submit queue app user label master
+flat_event (Commit proposal) = omega (arith, flat_proposal proposal.what proposal)
 flat_event _ = omega arith

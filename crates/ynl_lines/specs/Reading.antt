@@ -6,14 +6,17 @@ use Rattle.serde_json.specs.Read.{read}
 use Rattle.serde_json.specs.Find.{get, as_str, as_number, as_u64, as_object}
 use Rattle.serde_json.specs.Events.{members_len}
 use Rattle.ynl_resource.specs.declared.amounts.Resource.{Resource}
-use Rattle.ynl_resource.specs.Amounts.{amount, IsSize}
+use Rattle.ynl_resource.specs.Amounts.{amount, whole, IsSize}
 use Rattle.ynl_resource.specs.declared.names.Name.{Name}
 use Rattle.ynl_resource.specs.declared.labels.Label.{Label}
 use Rattle.ynl_resource.specs.declared.paths.Path.{Path}
 use Rattle.ynl_resource.specs.declared.ids.Id.{Id}
 use Rattle.ynl_resource.specs.Texts.{read_name, read_label, read_path, read_id, most_clock}
 use Rattle.ynl_model.specs.declared.events.Event.{Event}
-use Rattle.ynl_model.specs.declared.events.Event.TheVariants.{Register, Lost, Relabel, Heartbeat, Exited, Submit, Release}
+use Rattle.ynl_model.specs.declared.events.Event.TheVariants.{Register, Lost, Relabel, Heartbeat, Exited, Submit, Ask, Release, Finish, Stop, Start, Poll, Usage, Propose, Commit, Maximum}
+use Rattle.ynl_model.specs.declared.proposals.What.{What}
+use Rattle.ynl_model.specs.declared.proposals.What.TheVariants.{Master, Ask as Asked}
+use Rattle.ynl_model.specs.declared.proposals.Proposal.{Proposal}
 use Rattle.ynl_lines.specs.declared.read.Kind.{Kind}
 use Rattle.ynl_lines.specs.declared.read.Kind.TheVariants as kind
 use Rattle.ynl_lines.specs.declared.faults.LineFault.{LineFault}
@@ -74,6 +77,17 @@ is_size memory vcores = nat_le 1 memory && nat_le memory 4294967295 && nat_le 1 
 unfoldable pub size_at : ℕ → ℕ → Result Resource LineFault
 size_at memory vcores = if is_size memory vcores then Ok (amount memory vcores) else Err fault.Range
 
+-- the largest count of an ask, and the largest number of a priority
+abbrev pub most_count : ℕ
+most_count = 1000000
+
+abbrev pub most_priority : ℕ
+most_priority = 4294967295
+
+-- a number that is at most so large
+unfoldable pub within : ℕ → ℕ → Result ℕ LineFault
+within most n = if nat_le n most then Ok n else Err fault.Range
+
 -- ---- the events: first all fields, then all names, then the range
 
 unfoldable pub register_at : Data → Result Event LineFault
@@ -88,12 +102,15 @@ register_at d = do
   size ← size_at memory vcores
   Ok (Register node' label' size)
 
-unfoldable pub lost_at : Data → Result Event LineFault
-lost_at d = do
+-- the node of an event that names nothing but a node
+unfoldable pub node_at : Data → Result Name LineFault
+node_at d = do
   keys ← keys_are 2 d
   node ← text_at (codes "node") d
-  node' ← name_at node
-  Ok (Lost node')
+  name_at node
+
+unfoldable pub lost_at : Data → Result Event LineFault
+lost_at d = node_at d >>= λ node. Ok (Lost node)
 
 unfoldable pub relabel_at : Data → Result Event LineFault
 relabel_at d = do
@@ -105,11 +122,7 @@ relabel_at d = do
   Ok (Relabel node' label')
 
 unfoldable pub heartbeat_at : Data → Result Event LineFault
-heartbeat_at d = do
-  keys ← keys_are 2 d
-  node ← text_at (codes "node") d
-  node' ← name_at node
-  Ok (Heartbeat node')
+heartbeat_at d = node_at d >>= λ node. Ok (Heartbeat node)
 
 unfoldable pub exited_at : Data → Result Event LineFault
 exited_at d = do
@@ -147,6 +160,24 @@ submit_at d = do
   master ← size_at memory vcores
   Ok (Submit queue' app' user' label' master)
 
+unfoldable pub ask_at : Data → Result Event LineFault
+ask_at d = do
+  keys ← keys_are 8 d
+  app ← text_at (codes "app") d
+  count ← number_at (codes "count") d
+  label ← text_at (codes "label") d
+  memory ← number_at (codes "memory") d
+  priority ← number_at (codes "priority") d
+  tenant ← text_at (codes "tenant") d
+  vcores ← number_at (codes "vcores") d
+  app' ← name_at app
+  label' ← label_at label
+  tenant' ← name_at tenant
+  count' ← within most_count count
+  priority' ← within most_priority priority
+  size ← size_at memory vcores
+  Ok (Ask tenant' app' label' priority' count' size)
+
 unfoldable pub release_at : Data → Result Event LineFault
 release_at d = do
   keys ← keys_are 3 d
@@ -155,6 +186,115 @@ release_at d = do
   id' ← id_at id
   tenant' ← name_at tenant
   Ok (Release tenant' id')
+
+unfoldable pub finish_at : Data → Result Event LineFault
+finish_at d = do
+  keys ← keys_are 3 d
+  app ← text_at (codes "app") d
+  tenant ← text_at (codes "tenant") d
+  app' ← name_at app
+  tenant' ← name_at tenant
+  Ok (Finish tenant' app')
+
+-- the queue of an event that names nothing but a queue
+unfoldable pub queue_at : Data → Result Path LineFault
+queue_at d = do
+  keys ← keys_are 2 d
+  queue ← text_at (codes "queue") d
+  path_at queue
+
+unfoldable pub stop_at : Data → Result Event LineFault
+stop_at d = queue_at d >>= λ queue. Ok (Stop queue)
+
+unfoldable pub start_at : Data → Result Event LineFault
+start_at d = queue_at d >>= λ queue. Ok (Start queue)
+
+unfoldable pub poll_at : Data → Result Event LineFault
+poll_at d = do
+  keys ← keys_are 4 d
+  app ← text_at (codes "app") d
+  label ← text_at (codes "label") d
+  tenant ← text_at (codes "tenant") d
+  app' ← name_at app
+  label' ← label_at label
+  tenant' ← name_at tenant
+  Ok (Poll tenant' app' label')
+
+unfoldable pub usage_at : Data → Result Event LineFault
+usage_at d = do
+  keys ← keys_are 3 d
+  label ← text_at (codes "label") d
+  queue ← text_at (codes "queue") d
+  label' ← label_at label
+  queue' ← path_at queue
+  Ok (Usage queue' label')
+
+unfoldable pub propose_at : Data → Result Event LineFault
+propose_at d = node_at d >>= λ node. Ok (Propose node)
+
+-- the label's text and the priority of what was asked for
+abbrev pub asked_at : Data → Result (Option (List ℕ × ℕ)) LineFault
+asked_at d = do
+  keys ← keys_are 9 d
+  label ← text_at (codes "label") d
+  priority ← number_at (codes "priority") d
+  Ok (Some (label, priority))
+
+-- what a proposal is for: nothing more of a master, and the label's text and the priority of what was asked for
+abbrev pub wanted_by : List ℕ → Data → Result (Option (List ℕ × ℕ)) LineFault
+wanted_by word d =
+    if bytes_eq word (codes "master") then (keys_are 7 d >>= λ _. Ok None)
+    else if bytes_eq word (codes "ask") then asked_at d
+    else Err fault.Field
+
+unfoldable pub wanted_at : Data → Result (Option (List ℕ × ℕ)) LineFault
+wanted_at d = text_at (codes "what") d >>= λ word. wanted_by word d
+
+-- the same, where its label is a label
+unfoldable pub wanted_label_at : Option (List ℕ × ℕ) → Result (Option (Label × ℕ)) LineFault
+wanted_label_at None = Ok None
+wanted_label_at (Some wanted) = label_at wanted.0 >>= λ l. Ok (Some (l, wanted.1))
+
+-- the same, where its priority is in range
+unfoldable pub what_at : Option (Label × ℕ) → Result What LineFault
+what_at None = Ok Master
+what_at (Some wanted) = within most_priority wanted.1 >>= λ p. Ok (Asked wanted.0 p)
+
+unfoldable pub proposal_at : Data → Result Proposal LineFault
+proposal_at d = do
+  wanted ← wanted_at d
+  app ← text_at (codes "app") d
+  memory ← number_at (codes "memory") d
+  node ← text_at (codes "node") d
+  stamp ← number_at (codes "stamp") d
+  tenant ← text_at (codes "tenant") d
+  vcores ← number_at (codes "vcores") d
+  app' ← name_at app
+  wanted' ← wanted_label_at wanted
+  node' ← name_at node
+  tenant' ← name_at tenant
+  what ← what_at wanted'
+  stamp' ← within most_clock stamp
+  size ← size_at memory vcores
+  Ok (record { node = node'; stamp = stamp'; tenant = tenant'; app = app'; what = what; size = size })
+
+unfoldable pub commit_at : Data → Result Event LineFault
+commit_at d = do
+  keys ← keys_are 2 d
+  proposal ← or_fault fault.Field (get (codes "proposal") d)
+  proposal' ← proposal_at proposal
+  Ok (Commit proposal')
+
+unfoldable pub maximum_at : Data → Result Event LineFault
+maximum_at d = do
+  keys ← keys_are 4 d
+  label ← text_at (codes "label") d
+  maximum ← number_at (codes "maximum") d
+  queue ← text_at (codes "queue") d
+  label' ← label_at label
+  queue' ← path_at queue
+  maximum' ← within whole maximum
+  Ok (Maximum queue' label' maximum')
 
 -- the event that a word names, if it is a known one
 abbrev pub kind_of : List ℕ → Option Kind
@@ -165,7 +305,16 @@ kind_of word =
     else if bytes_eq word (codes "heartbeat") then Some kind.Heartbeat
     else if bytes_eq word (codes "exited") then Some kind.Exited
     else if bytes_eq word (codes "submit") then Some kind.Submit
+    else if bytes_eq word (codes "ask") then Some kind.Ask
     else if bytes_eq word (codes "release") then Some kind.Release
+    else if bytes_eq word (codes "finish") then Some kind.Finish
+    else if bytes_eq word (codes "stop") then Some kind.Stop
+    else if bytes_eq word (codes "start") then Some kind.Start
+    else if bytes_eq word (codes "poll") then Some kind.Poll
+    else if bytes_eq word (codes "usage") then Some kind.Usage
+    else if bytes_eq word (codes "propose") then Some kind.Propose
+    else if bytes_eq word (codes "commit") then Some kind.Commit
+    else if bytes_eq word (codes "maximum") then Some kind.Maximum
     else None
 
 abbrev pub event_by : Kind → Data → Result Event LineFault
@@ -175,7 +324,16 @@ event_by kind.Relabel d = relabel_at d
 event_by kind.Heartbeat d = heartbeat_at d
 event_by kind.Exited d = exited_at d
 event_by kind.Submit d = submit_at d
+event_by kind.Ask d = ask_at d
 event_by kind.Release d = release_at d
+event_by kind.Finish d = finish_at d
+event_by kind.Stop d = stop_at d
+event_by kind.Start d = start_at d
+event_by kind.Poll d = poll_at d
+event_by kind.Usage d = usage_at d
+event_by kind.Propose d = propose_at d
+event_by kind.Commit d = commit_at d
+event_by kind.Maximum d = maximum_at d
 
 unfoldable pub event_at : Data → Result Event LineFault
 event_at d = do
@@ -191,14 +349,32 @@ event_of_line bytes = or_fault fault.Syntax (reading bytes) >>= event_at
 abbrev pub HasClock : Id → Type 0
 HasClock id = (1 ≤ id.clock) × (id.clock ≤ most_clock)
 
--- the numbers of an event are in range, but for those of a size, which always are
+-- an ask's numbers are in range, but for those of its size
+abbrev pub HasAskNumbers : ℕ → ℕ → Type 0
+HasAskNumbers priority count = (priority ≤ most_priority) × (count ≤ most_count)
+
+-- the priority of what is wanted is in range
+abbrev pub HasPriority : What → Type 0
+HasPriority Master = Unit {0}
+HasPriority (Asked label priority) = priority ≤ most_priority
+
+-- a proposal's numbers are in range, but for those of its size
+abbrev pub HasProposalNumbers : Proposal → Type 0
+HasProposalNumbers p = HasPriority p.what × (p.stamp ≤ most_clock)
+
+-- the numbers of an event are in range, but for those of a size and of a share, which always are
 abbrev pub IsInRange : Event → Type 0
 IsInRange (Exited node id) = HasClock id
+IsInRange (Ask tenant app label priority count size) = HasAskNumbers priority count
 IsInRange (Release tenant id) = HasClock id
+IsInRange (Commit proposal) = HasProposalNumbers proposal
 IsInRange _ = Unit {0}
 
--- the sizes that an event names are in range, and so are its other numbers
+-- the sizes and shares that an event names are in range, and so are its other numbers
 abbrev pub IsRanged : Event → Type 0
 IsRanged (Register node label size) = IsSize size
 IsRanged (Submit queue app user label master) = IsSize master
+IsRanged (Ask tenant app label priority count size) = IsSize size × HasAskNumbers priority count
+IsRanged (Commit proposal) = IsSize proposal.size × HasProposalNumbers proposal
+IsRanged (Maximum queue label maximum) = maximum ≤ whole
 IsRanged event = IsInRange event

@@ -1,6 +1,6 @@
 -- The texts of replies, faults and events: JSON objects in the compact form, the keys in byte order.
 use Rattle.std.specs.Prelude.{ℕ, map, List, Option, Some, None, codes}
-use Rattle.serde_json.specs.Data.{Data, Members, null, object, array, string, number, unsigned, member, no_members, put}
+use Rattle.serde_json.specs.Data.{Data, Members, object, array, string, number, unsigned, member, no_members, put}
 use Rattle.serde_json.specs.View.{items_of}
 use Rattle.serde_json.specs.Written.{compact_text}
 use Rattle.ynl_resource.specs.declared.amounts.Resource.{Resource}
@@ -16,7 +16,7 @@ use Rattle.ynl_model.specs.declared.proposals.What.TheVariants.{Master, Ask as A
 use Rattle.ynl_model.specs.declared.containers.Placed.{Placed as Container}
 use Rattle.ynl_model.specs.declared.proposals.Proposal.{Proposal}
 use Rattle.ynl_model.specs.declared.events.Event.{Event}
-use Rattle.ynl_model.specs.declared.events.Event.TheVariants.{Register, Lost, Relabel, Heartbeat, Exited, Submit, Release}
+use Rattle.ynl_model.specs.declared.events.Event.TheVariants as event
 use Rattle.ynl_model.specs.declared.replies.Pending.{Pending}
 use Rattle.ynl_model.specs.declared.replies.Reply.{Reply}
 use Rattle.ynl_model.specs.declared.replies.Reply.TheVariants.{Done, Refused, Placed, Proposed, Committed, Held, Usage}
@@ -138,15 +138,19 @@ register_data node label size =
     object (member (codes "event") (string (codes "register")) (member (codes "label") (string (label_text label)) (member (codes "memory") (count size.memory)
     (member (codes "node") (string node) (member (codes "vcores") (count size.vcores) no_members)))))
 
+-- an event that names nothing but a node, by its word
+abbrev pub node_object : List ℕ → Name → Data
+node_object w node = object (member (codes "event") (string w) (member (codes "node") (string node) no_members))
+
 abbrev pub lost_data : Name → Data
-lost_data node = object (member (codes "event") (string (codes "lost")) (member (codes "node") (string node) no_members))
+lost_data node = node_object (codes "lost") node
 
 abbrev pub relabel_data : Name → Label → Data
 relabel_data node label =
     object (member (codes "event") (string (codes "relabel")) (member (codes "label") (string (label_text label)) (member (codes "node") (string node) no_members)))
 
 abbrev pub heartbeat_data : Name → Data
-heartbeat_data node = object (member (codes "event") (string (codes "heartbeat")) (member (codes "node") (string node) no_members))
+heartbeat_data node = node_object (codes "heartbeat") node
 
 -- a container that exited, by the texts of its id and its node
 abbrev pub exited_object : List ℕ → List ℕ → Data
@@ -168,6 +172,12 @@ submit_data queue app user None master = object (submit_members (path_text queue
 submit_data queue app user (Some label) master =
     object (put (codes "label") (string (label_text label)) (submit_members (path_text queue) app user master))
 
+abbrev pub ask_data : Name → Name → Label → ℕ → ℕ → Resource → Data
+ask_data tenant app label priority quantity size =
+    object (member (codes "app") (string app) (member (codes "count") (count quantity) (member (codes "event") (string (codes "ask"))
+    (member (codes "label") (string (label_text label)) (member (codes "memory") (count size.memory) (member (codes "priority") (count priority)
+    (member (codes "tenant") (string tenant) (member (codes "vcores") (count size.vcores) no_members))))))))
+
 -- a release of a container, by the texts of its id and its tenant
 abbrev pub release_object : List ℕ → List ℕ → Data
 release_object id tenant =
@@ -176,16 +186,66 @@ release_object id tenant =
 abbrev pub release_data : Name → Id → Data
 release_data tenant id = release_object (id_text id) tenant
 
--- an event of a kind that is there
+abbrev pub finish_data : Name → Name → Data
+finish_data tenant app =
+    object (member (codes "app") (string app) (member (codes "event") (string (codes "finish")) (member (codes "tenant") (string tenant) no_members)))
+
+-- an event that names nothing but a queue, by its word and the text of the path
+abbrev pub queue_object : List ℕ → List ℕ → Data
+queue_object w queue = object (member (codes "event") (string w) (member (codes "queue") (string queue) no_members))
+
+abbrev pub stop_data : Path → Data
+stop_data queue = queue_object (codes "stop") (path_text queue)
+
+abbrev pub start_data : Path → Data
+start_data queue = queue_object (codes "start") (path_text queue)
+
+abbrev pub poll_data : Name → Name → Label → Data
+poll_data tenant app label =
+    object (member (codes "app") (string app) (member (codes "event") (string (codes "poll")) (member (codes "label") (string (label_text label))
+    (member (codes "tenant") (string tenant) no_members))))
+
+-- a question for a queue's use, by the texts of its path and the label
+abbrev pub usage_event_object : List ℕ → List ℕ → Data
+usage_event_object queue label =
+    object (member (codes "event") (string (codes "usage")) (member (codes "label") (string label) (member (codes "queue") (string queue) no_members)))
+
+abbrev pub usage_event_data : Path → Label → Data
+usage_event_data queue label = usage_event_object (path_text queue) (label_text label)
+
+abbrev pub propose_data : Name → Data
+propose_data node = node_object (codes "propose") node
+
+abbrev pub commit_data : Proposal → Data
+commit_data p = object (member (codes "event") (string (codes "commit")) (member (codes "proposal") (proposal_data p) no_members))
+
+-- a maximum that is set, in hundredths of a percent, by the texts of the queue's path and the label
+abbrev pub maximum_object : List ℕ → List ℕ → ℕ → Data
+maximum_object queue label maximum =
+    object (member (codes "event") (string (codes "maximum")) (member (codes "label") (string label) (member (codes "maximum") (count maximum)
+    (member (codes "queue") (string queue) no_members))))
+
+abbrev pub maximum_data : Path → Label → ℕ → Data
+maximum_data queue label maximum = maximum_object (path_text queue) (label_text label) maximum
+
+-- an event
 abbrev pub event_data : Event → Data
-event_data (Register node label size) = register_data node label size
-event_data (Lost node) = lost_data node
-event_data (Relabel node label) = relabel_data node label
-event_data (Heartbeat node) = heartbeat_data node
-event_data (Exited node id) = exited_data node id
-event_data (Submit queue app user label master) = submit_data queue app user label master
-event_data (Release tenant id) = release_data tenant id
-event_data _ = null
+event_data (event.Register node label size) = register_data node label size
+event_data (event.Lost node) = lost_data node
+event_data (event.Relabel node label) = relabel_data node label
+event_data (event.Heartbeat node) = heartbeat_data node
+event_data (event.Exited node id) = exited_data node id
+event_data (event.Submit queue app user label master) = submit_data queue app user label master
+event_data (event.Ask tenant app label priority quantity size) = ask_data tenant app label priority quantity size
+event_data (event.Release tenant id) = release_data tenant id
+event_data (event.Finish tenant app) = finish_data tenant app
+event_data (event.Stop queue) = stop_data queue
+event_data (event.Start queue) = start_data queue
+event_data (event.Poll tenant app label) = poll_data tenant app label
+event_data (event.Usage queue label) = usage_event_data queue label
+event_data (event.Propose node) = propose_data node
+event_data (event.Commit proposal) = commit_data proposal
+event_data (event.Maximum queue label maximum) = maximum_data queue label maximum
 
 -- the text of an event, without the newline of its line
 abbrev pub event_text : Event → List ℕ

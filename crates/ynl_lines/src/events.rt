@@ -4,14 +4,15 @@ ghost use Rattle.std.specs.Prelude.{◌≡◌, IfOk, IsTrue};
 ghost use Rattle.serde_json.specs.View.{view, members_view};
 ghost use Rattle.ynl_model.specs.declared.events.Event.TheVariants as event;
 ghost use Rattle.ynl_model.specs.Kinds.{is_there};
-ghost use Rattle.ynl_lines.specs.Reading.{event_at, HasClock, IsInRange};
+ghost use Rattle.ynl_lines.specs.Reading.{event_at, HasAskNumbers, HasClock, HasProposalNumbers, IsInRange};
 ghost use Rattle.ynl_lines.specs.Writing as spec;
 
 use crate::object::{Field, members, object, with};
+use crate::proposals::proposal_value;
 use serde_json::{Map, Value};
 use std::alloc::{AllocError, Global};
-use ynl_model::Event;
-use ynl_resource::{Id, Label, Name, Path, Resource, Size};
+use ynl_model::{Event, Proposal};
+use ynl_resource::{Hundredths, Id, Label, Name, Path, Resource, Size};
 
 #[tactic(auto, using(crate::proofs::RoundTrip::reads_register))]
 fn register_value<'a>(
@@ -36,18 +37,22 @@ fn register_value<'a>(
     )
 }
 
+/// The object of an event that names nothing but a node.
+fn node_object(alloc: Global, word: &'static str, node: &str) -> Result<Value, AllocError>
+    ensures { IfOk result (λ v. view v ≡ spec.node_object word.now node.now) }
+{
+    object(
+        alloc,
+        &[("event", Field::Word(word)), ("node", Field::Text(node))],
+    )
+}
+
 #[tactic(auto, using(crate::proofs::RoundTrip::reads_lost))]
 fn lost_value(alloc: Global, node: &Name) -> Result<Value, AllocError>
     ensures value { IfOk result (λ v. view v ≡ spec.lost_data node.now) }
     ensures reads { IfOk result (λ _. event_at (spec.lost_data node.now) ≡ Ok (event.Lost node.now)) }
 {
-    object(
-        alloc,
-        &[
-            ("event", Field::Word("lost")),
-            ("node", Field::Text(node.as_str())),
-        ],
-    )
+    node_object(alloc, "lost", node.as_str())
 }
 
 #[tactic(auto, using(crate::proofs::RoundTrip::reads_relabel))]
@@ -70,13 +75,7 @@ fn heartbeat_value(alloc: Global, node: &Name) -> Result<Value, AllocError>
     ensures value { IfOk result (λ v. view v ≡ spec.heartbeat_data node.now) }
     ensures reads { IfOk result (λ _. event_at (spec.heartbeat_data node.now) ≡ Ok (event.Heartbeat node.now)) }
 {
-    object(
-        alloc,
-        &[
-            ("event", Field::Word("heartbeat")),
-            ("node", Field::Text(node.as_str())),
-        ],
-    )
+    node_object(alloc, "heartbeat", node.as_str())
 }
 
 fn exited_object<'a>(alloc: Global, id: &'a str, node: &'a str) -> Result<Value, AllocError>
@@ -150,6 +149,36 @@ fn submit_value(
     }
 }
 
+#[tactic(auto, using(crate::proofs::RoundTrip::reads_ask))]
+fn ask_value<'a>(
+    alloc: Global,
+    tenant: &'a Name,
+    app: &'a Name,
+    label: &'a Label,
+    priority: u32,
+    count: u32,
+    size: &Size,
+) -> Result<Value, AllocError>
+    ensures value { IfOk result (λ v. view v ≡ spec.ask_data tenant.now app.now label.now priority count size.now) }
+    ensures reads { HasAskNumbers priority count → IfOk result (λ _.
+        event_at (spec.ask_data tenant.now app.now label.now priority count size.now) ≡ Ok (event.Ask tenant.now app.now label.now priority count size.now)) }
+{
+    let size = size.amount();
+    object(
+        alloc,
+        &[
+            ("app", Field::Text(app.as_str())),
+            ("count", Field::Number(u64::from(count))),
+            ("event", Field::Word("ask")),
+            ("label", Field::Text(label.as_str())),
+            ("memory", Field::Number(size.memory)),
+            ("priority", Field::Number(u64::from(priority))),
+            ("tenant", Field::Text(tenant.as_str())),
+            ("vcores", Field::Number(size.vcores)),
+        ],
+    )
+}
+
 fn release_object<'a>(alloc: Global, id: &'a str, tenant: &'a str) -> Result<Value, AllocError>
     ensures { IfOk result (λ v. view v ≡ spec.release_object id.now tenant.now) }
 {
@@ -172,7 +201,145 @@ fn release_value(alloc: Global, tenant: &Name, id: &Id) -> Result<Value, AllocEr
     release_object(alloc, text.as_str(), tenant.as_str())
 }
 
-/// The object of an event of a kind that is there.
+#[tactic(auto, using(crate::proofs::RoundTrip::reads_finish))]
+fn finish_value<'a>(alloc: Global, tenant: &'a Name, app: &'a Name) -> Result<Value, AllocError>
+    ensures value { IfOk result (λ v. view v ≡ spec.finish_data tenant.now app.now) }
+    ensures reads { IfOk result (λ _. event_at (spec.finish_data tenant.now app.now) ≡ Ok (event.Finish tenant.now app.now)) }
+{
+    object(
+        alloc,
+        &[
+            ("app", Field::Text(app.as_str())),
+            ("event", Field::Word("finish")),
+            ("tenant", Field::Text(tenant.as_str())),
+        ],
+    )
+}
+
+/// The object of an event that names nothing but a queue.
+fn queue_object(alloc: Global, word: &'static str, queue: &str) -> Result<Value, AllocError>
+    ensures { IfOk result (λ v. view v ≡ spec.queue_object word.now queue.now) }
+{
+    object(
+        alloc,
+        &[("event", Field::Word(word)), ("queue", Field::Text(queue))],
+    )
+}
+
+#[tactic(auto, using(crate::proofs::RoundTrip::reads_stop))]
+fn stop_value(alloc: Global, queue: &Path) -> Result<Value, AllocError>
+    ensures value { IfOk result (λ v. view v ≡ spec.stop_data queue.now) }
+    ensures reads { IfOk result (λ _. event_at (spec.stop_data queue.now) ≡ Ok (event.Stop queue.now)) }
+{
+    let path = queue.text(alloc)?;
+    queue_object(alloc, "stop", path.as_str())
+}
+
+#[tactic(auto, using(crate::proofs::RoundTrip::reads_start))]
+fn start_value(alloc: Global, queue: &Path) -> Result<Value, AllocError>
+    ensures value { IfOk result (λ v. view v ≡ spec.start_data queue.now) }
+    ensures reads { IfOk result (λ _. event_at (spec.start_data queue.now) ≡ Ok (event.Start queue.now)) }
+{
+    let path = queue.text(alloc)?;
+    queue_object(alloc, "start", path.as_str())
+}
+
+#[tactic(auto, using(crate::proofs::RoundTrip::reads_poll))]
+fn poll_value<'a>(
+    alloc: Global,
+    tenant: &'a Name,
+    app: &'a Name,
+    label: &'a Label,
+) -> Result<Value, AllocError>
+    ensures value { IfOk result (λ v. view v ≡ spec.poll_data tenant.now app.now label.now) }
+    ensures reads { IfOk result (λ _. event_at (spec.poll_data tenant.now app.now label.now) ≡ Ok (event.Poll tenant.now app.now label.now)) }
+{
+    object(
+        alloc,
+        &[
+            ("app", Field::Text(app.as_str())),
+            ("event", Field::Word("poll")),
+            ("label", Field::Text(label.as_str())),
+            ("tenant", Field::Text(tenant.as_str())),
+        ],
+    )
+}
+
+fn usage_object<'a>(alloc: Global, queue: &'a str, label: &'a str) -> Result<Value, AllocError>
+    ensures { IfOk result (λ v. view v ≡ spec.usage_event_object queue.now label.now) }
+{
+    object(
+        alloc,
+        &[
+            ("event", Field::Word("usage")),
+            ("label", Field::Text(label)),
+            ("queue", Field::Text(queue)),
+        ],
+    )
+}
+
+#[tactic(auto, using(crate::proofs::RoundTrip::reads_usage))]
+fn usage_value(alloc: Global, queue: &Path, label: &Label) -> Result<Value, AllocError>
+    ensures value { IfOk result (λ v. view v ≡ spec.usage_event_data queue.now label.now) }
+    ensures reads { IfOk result (λ _. event_at (spec.usage_event_data queue.now label.now) ≡ Ok (event.Usage queue.now label.now)) }
+{
+    let path = queue.text(alloc)?;
+    usage_object(alloc, path.as_str(), label.as_str())
+}
+
+#[tactic(auto, using(crate::proofs::RoundTrip::reads_propose))]
+fn propose_value(alloc: Global, node: &Name) -> Result<Value, AllocError>
+    ensures value { IfOk result (λ v. view v ≡ spec.propose_data node.now) }
+    ensures reads { IfOk result (λ _. event_at (spec.propose_data node.now) ≡ Ok (event.Propose node.now)) }
+{
+    node_object(alloc, "propose", node.as_str())
+}
+
+#[tactic(auto, using(crate::proofs::RoundTrip::reads_commit))]
+fn commit_value(alloc: Global, proposal: &Proposal) -> Result<Value, AllocError>
+    ensures value { IfOk result (λ v. view v ≡ spec.commit_data proposal.now) }
+    ensures reads { HasProposalNumbers proposal.now → IfOk result (λ _. event_at (spec.commit_data proposal.now) ≡ Ok (event.Commit proposal.now)) }
+{
+    let value = proposal_value(alloc, proposal)?;
+    let map = members(alloc, &[("event", Field::Word("commit"))])?;
+    let map = with(alloc, map, "proposal", value)?;
+    Ok(Value::Object(map))
+}
+
+fn maximum_object<'a>(
+    alloc: Global,
+    queue: &'a str,
+    label: &'a str,
+    maximum: u64,
+) -> Result<Value, AllocError>
+    ensures { IfOk result (λ v. view v ≡ spec.maximum_object queue.now label.now maximum) }
+{
+    object(
+        alloc,
+        &[
+            ("event", Field::Word("maximum")),
+            ("label", Field::Text(label)),
+            ("maximum", Field::Number(maximum)),
+            ("queue", Field::Text(queue)),
+        ],
+    )
+}
+
+#[tactic(auto, using(crate::proofs::RoundTrip::reads_maximum))]
+fn maximum_value(
+    alloc: Global,
+    queue: &Path,
+    label: &Label,
+    maximum: &Hundredths,
+) -> Result<Value, AllocError>
+    ensures value { IfOk result (λ v. view v ≡ spec.maximum_data queue.now label.now maximum.now) }
+    ensures reads { IfOk result (λ _. event_at (spec.maximum_data queue.now label.now maximum.now) ≡ Ok (event.Maximum queue.now label.now maximum.now)) }
+{
+    let path = queue.text(alloc)?;
+    maximum_object(alloc, path.as_str(), label.as_str(), maximum.number())
+}
+
+/// The object of an event.
 pub fn event_value(alloc: Global, event: &Event) -> Result<Value, AllocError>
     requires { IsTrue (is_there event.now) }
     ensures value { IfOk result (λ v. view v ≡ spec.event_data event.now) }
@@ -180,6 +347,10 @@ pub fn event_value(alloc: Global, event: &Event) -> Result<Value, AllocError>
 {
     match event {
         Event::Register { node, label, size } => register_value(alloc, node, label, size),
+        Event::Lost { node } => lost_value(alloc, node),
+        Event::Relabel { node, label } => relabel_value(alloc, node, label),
+        Event::Heartbeat { node } => heartbeat_value(alloc, node),
+        Event::Exited { node, id } => exited_value(alloc, node, id),
         Event::Submit {
             queue,
             app,
@@ -187,11 +358,26 @@ pub fn event_value(alloc: Global, event: &Event) -> Result<Value, AllocError>
             label,
             master,
         } => submit_value(alloc, queue, app, user, label, master),
-        Event::Lost { node } => lost_value(alloc, node),
-        Event::Relabel { node, label } => relabel_value(alloc, node, label),
-        Event::Heartbeat { node } => heartbeat_value(alloc, node),
-        Event::Exited { node, id } => exited_value(alloc, node, id),
+        Event::Ask {
+            tenant,
+            app,
+            label,
+            priority,
+            count,
+            size,
+        } => ask_value(alloc, tenant, app, label, *priority, *count, size),
         Event::Release { tenant, id } => release_value(alloc, tenant, id),
-        _ => unreachable!(),
+        Event::Finish { tenant, app } => finish_value(alloc, tenant, app),
+        Event::Stop { queue } => stop_value(alloc, queue),
+        Event::Start { queue } => start_value(alloc, queue),
+        Event::Poll { tenant, app, label } => poll_value(alloc, tenant, app, label),
+        Event::Usage { queue, label } => usage_value(alloc, queue, label),
+        Event::Propose { node } => propose_value(alloc, node),
+        Event::Commit { proposal } => commit_value(alloc, proposal),
+        Event::Maximum {
+            queue,
+            label,
+            maximum,
+        } => maximum_value(alloc, queue, label, maximum),
     }
 }

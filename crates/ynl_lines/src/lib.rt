@@ -8,8 +8,14 @@ pub use write::{write_event, write_fault, write_reply};
 
 mod events;
 mod faults;
+mod keys;
 mod object;
+mod proposals;
 mod read;
+mod read_applications;
+mod read_nodes;
+mod read_proposals;
+mod read_queues;
 mod replies;
 #[cfg(test)]
 mod tests;

@@ -5,6 +5,7 @@ ghost use Rattle.serde_json.specs.View.{view};
 ghost use Rattle.ynl_lines.specs.Writing as spec;
 
 use crate::object::{Field, members, object, with};
+use crate::proposals::proposal_value;
 use serde_json::Value;
 use std::alloc::{AllocError, Global};
 use ynl_model::{Pending, Placed, Proposal, Reply, What};
@@ -73,59 +74,6 @@ fn placed_list(alloc: Global, placed: &[Placed]) -> Result<Vec<Value>, AllocErro
         values.push(placed_value(alloc, one)?)?;
     }
     Ok(values)
-}
-
-fn master_proposal(alloc: Global, proposal: &Proposal) -> Result<Value, AllocError>
-    ensures { IfOk result (λ v. view v ≡ spec.master_proposal proposal.now) }
-{
-    let size = proposal.size.amount();
-    object(
-        alloc,
-        &[
-            ("app", Field::Text(proposal.app.as_str())),
-            ("memory", Field::Number(size.memory)),
-            ("node", Field::Text(proposal.node.as_str())),
-            ("stamp", Field::Number(proposal.stamp)),
-            ("tenant", Field::Text(proposal.tenant.as_str())),
-            ("vcores", Field::Number(size.vcores)),
-            ("what", Field::Word("master")),
-        ],
-    )
-}
-
-fn asked_proposal<'a>(
-    alloc: Global,
-    proposal: &'a Proposal,
-    label: &'a Label,
-    priority: u32,
-) -> Result<Value, AllocError>
-    ensures { IfOk result (λ v. view v ≡ spec.asked_proposal proposal.now label.now priority) }
-{
-    let size = proposal.size.amount();
-    object(
-        alloc,
-        &[
-            ("app", Field::Text(proposal.app.as_str())),
-            ("label", Field::Text(label.as_str())),
-            ("memory", Field::Number(size.memory)),
-            ("node", Field::Text(proposal.node.as_str())),
-            ("priority", Field::Number(u64::from(priority))),
-            ("stamp", Field::Number(proposal.stamp)),
-            ("tenant", Field::Text(proposal.tenant.as_str())),
-            ("vcores", Field::Number(size.vcores)),
-            ("what", Field::Word("ask")),
-        ],
-    )
-}
-
-/// The object of a proposal.
-fn proposal_value(alloc: Global, proposal: &Proposal) -> Result<Value, AllocError>
-    ensures { IfOk result (λ v. view v ≡ spec.proposal_data proposal.now) }
-{
-    match &proposal.what {
-        What::Master => master_proposal(alloc, proposal),
-        What::Ask(label, priority) => asked_proposal(alloc, proposal, label, *priority),
-    }
 }
 
 /// The object of what is still asked for.

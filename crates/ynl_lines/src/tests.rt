@@ -38,6 +38,16 @@ fn events_are_read_and_written(rt: HostRuntime) -> Result<(), Fail> {
         r#"{"app":"j1","event":"submit","label":"gpu","memory":1000,"queue":"root.eng","user":"ann","vcores":1}"#,
         r#"{"app":"j1","event":"submit","memory":1000,"queue":"root.eng.ml","user":"ann","vcores":1}"#,
         r#"{"event":"heartbeat","node":"g1"}"#,
+        r#"{"app":"j1","count":1000000,"event":"ask","label":"","memory":1000,"priority":4294967295,"tenant":"eng","vcores":1}"#,
+        r#"{"app":"j1","event":"finish","tenant":"eng"}"#,
+        r#"{"event":"stop","queue":"root"}"#,
+        r#"{"event":"start","queue":"root.eng.ml"}"#,
+        r#"{"app":"j1","event":"poll","label":"gpu","tenant":"eng"}"#,
+        r#"{"event":"usage","label":"","queue":"root.eng"}"#,
+        r#"{"event":"propose","node":"g1"}"#,
+        r#"{"event":"commit","proposal":{"app":"j1","memory":1000,"node":"g1","stamp":9007199254740991,"tenant":"eng","vcores":1,"what":"master"}}"#,
+        r#"{"event":"commit","proposal":{"app":"j1","label":"gpu","memory":1000,"node":"g1","priority":0,"stamp":0,"tenant":"eng","vcores":1,"what":"ask"}}"#,
+        r#"{"event":"maximum","label":"gpu","maximum":10000,"queue":"root.eng"}"#,
     ] {
         match read_event(rt.alloc(), line.as_bytes()) {
             Ok(Ok(event)) => {

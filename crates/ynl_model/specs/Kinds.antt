@@ -1,18 +1,7 @@
 -- Which kinds of event the cluster takes so far.
-use Rattle.std.specs.Prelude.{Bool, true, false}
+use Rattle.std.specs.Prelude.{Bool, true}
 use Rattle.ynl_model.specs.declared.events.Event.{Event}
-use Rattle.ynl_model.specs.declared.events.Event.TheVariants.{Register, Lost, Relabel, Heartbeat, Exited, Submit, Release, Usage, Propose, Commit}
 
--- whether events of this kind are there; this goes with the last kind that is missing
+-- whether events of this kind are there, and all are
 abbrev pub is_there : Event → Bool
-is_there (Register node label size) = true
-is_there (Lost node) = true
-is_there (Relabel node label) = true
-is_there (Heartbeat node) = true
-is_there (Exited node id) = true
-is_there (Submit queue app user label master) = true
-is_there (Release tenant id) = true
-is_there (Usage queue label) = true
-is_there (Propose node) = true
-is_there (Commit proposal) = true
-is_there _ = false
+is_there event = true

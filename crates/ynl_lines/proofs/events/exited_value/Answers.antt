@@ -1,4 +1,3 @@
-use Rattle.std.proofs.Common.{rules}
 use Rattle.ynl_lines.proofs.RoundTrip.{reads_exited, if_ok}
 use Rattle.ynl_lines.proofs.events.exited_value.Goals as goal
 

@@ -1,4 +1,3 @@
-use Rattle.std.proofs.Common.{rules}
 use Rattle.ynl_lines.proofs.RoundTrip.{reads_release, if_ok}
 use Rattle.ynl_lines.proofs.events.release_value.Goals as goal
 

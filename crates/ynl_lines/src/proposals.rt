@@ -1,0 +1,74 @@
+//! JSON values of proposals.
+
+ghost use Rattle.std.specs.Prelude.{◌≡◌, ◌≤◌, IfOk};
+ghost use Rattle.serde_json.specs.View.{view};
+ghost use Rattle.ynl_model.specs.declared.proposals.What.TheVariants.{Master, Ask as Asked};
+ghost use Rattle.ynl_resource.specs.Texts.{most_clock};
+ghost use Rattle.ynl_lines.specs.Reading.{proposal_at, most_priority, HasProposalNumbers};
+ghost use Rattle.ynl_lines.specs.Writing as spec;
+
+use crate::object::{Field, object};
+use serde_json::Value;
+use std::alloc::{AllocError, Global};
+use ynl_model::{Proposal, What};
+use ynl_resource::Label;
+
+#[tactic(auto, using(crate::proofs::ProposalTrip::reads_master))]
+fn master_proposal(alloc: Global, proposal: &Proposal) -> Result<Value, AllocError>
+    ensures value { IfOk result (λ v. view v ≡ spec.master_proposal proposal.now) }
+    ensures reads { proposal.now.what ≡ Master → proposal.now.stamp ≤ most_clock
+        → IfOk result (λ _. proposal_at (spec.master_proposal proposal.now) ≡ Ok proposal.now) }
+{
+    let size = proposal.size.amount();
+    object(
+        alloc,
+        &[
+            ("app", Field::Text(proposal.app.as_str())),
+            ("memory", Field::Number(size.memory)),
+            ("node", Field::Text(proposal.node.as_str())),
+            ("stamp", Field::Number(proposal.stamp)),
+            ("tenant", Field::Text(proposal.tenant.as_str())),
+            ("vcores", Field::Number(size.vcores)),
+            ("what", Field::Word("master")),
+        ],
+    )
+}
+
+#[tactic(auto, using(crate::proofs::ProposalTrip::reads_asked))]
+fn asked_proposal<'a>(
+    alloc: Global,
+    proposal: &'a Proposal,
+    label: &'a Label,
+    priority: u32,
+) -> Result<Value, AllocError>
+    ensures value { IfOk result (λ v. view v ≡ spec.asked_proposal proposal.now label.now priority) }
+    ensures reads { proposal.now.what ≡ Asked label.now priority → priority ≤ most_priority → proposal.now.stamp ≤ most_clock
+        → IfOk result (λ _. proposal_at (spec.asked_proposal proposal.now label.now priority) ≡ Ok proposal.now) }
+{
+    let size = proposal.size.amount();
+    object(
+        alloc,
+        &[
+            ("app", Field::Text(proposal.app.as_str())),
+            ("label", Field::Text(label.as_str())),
+            ("memory", Field::Number(size.memory)),
+            ("node", Field::Text(proposal.node.as_str())),
+            ("priority", Field::Number(u64::from(priority))),
+            ("stamp", Field::Number(proposal.stamp)),
+            ("tenant", Field::Text(proposal.tenant.as_str())),
+            ("vcores", Field::Number(size.vcores)),
+            ("what", Field::Word("ask")),
+        ],
+    )
+}
+
+/// The object of a proposal.
+pub fn proposal_value(alloc: Global, proposal: &Proposal) -> Result<Value, AllocError>
+    ensures value { IfOk result (λ v. view v ≡ spec.proposal_data proposal.now) }
+    ensures reads { HasProposalNumbers proposal.now → IfOk result (λ _. proposal_at (spec.proposal_data proposal.now) ≡ Ok proposal.now) }
+{
+    match &proposal.what {
+        What::Master => master_proposal(alloc, proposal),
+        What::Ask(label, priority) => asked_proposal(alloc, proposal, label, *priority),
+    }
+}

@@ -1,0 +1,148 @@
+//! From objects to the events of applications.
+
+ghost use Rattle.std.specs.Prelude.{◌≡◌, option_map, IfOk, IsTrue};
+ghost use Rattle.serde_json.specs.View.{view};
+ghost use Rattle.ynl_model.specs.Kinds.{is_there};
+ghost use Rattle.ynl_lines.specs.Reading.{Gives, IsRanged};
+ghost use Rattle.ynl_lines.specs.Reading as spec;
+
+use crate::faults::LineFault;
+use crate::keys::{
+    id_at, keys_are, label_at, name_at, number_at, path_at, size_at, text_at, within_small,
+};
+use serde_json::Value;
+use ynl_model::Event;
+use ynl_resource::Label;
+
+/// The text of a submit's label, which may be absent.
+#[tactic(auto, unfolding(crate::specs::Reading::label_text_at))]
+fn label_text_at(event: &Value) -> Result<Option<&str>, LineFault>
+    ensures { Gives (λ o. option_map (λ s. s.now) o) result (spec.label_text_at (view event.now)) }
+{
+    match event.get("label") {
+        None => {
+            keys_are(event, 6)?;
+            Ok(None)
+        }
+        Some(value) => {
+            keys_are(event, 7)?;
+            match value.as_str() {
+                Some(text) => Ok(Some(text)),
+                None => Err(LineFault::Field),
+            }
+        }
+    }
+}
+
+#[tactic(auto, unfolding(crate::specs::Reading::optional_label_at))]
+fn optional_label_at(text: Option<&str>) -> Result<Option<Label>, LineFault>
+    ensures { result ≡ spec.optional_label_at (option_map (λ s. s.now) text.entry) }
+{
+    match text {
+        None => Ok(None),
+        Some(text) => {
+            let label = label_at(text)?;
+            Ok(Some(label))
+        }
+    }
+}
+
+#[tactic(auto, unfolding(crate::specs::Reading::submit_at))]
+pub fn submit_at(event: &Value) -> Result<Event, LineFault>
+    ensures event { result ≡ spec.submit_at (view event.now) }
+    ensures there { IfOk result (λ event. IsTrue (is_there event)) }
+    ensures ranged { IfOk result (λ event. IsRanged event) }
+{
+    let label = label_text_at(event)?;
+    let app = text_at(event, "app")?;
+    let memory = number_at(event, "memory")?;
+    let queue = text_at(event, "queue")?;
+    let user = text_at(event, "user")?;
+    let vcores = number_at(event, "vcores")?;
+    let app = name_at(app)?;
+    let label = optional_label_at(label)?;
+    let queue = path_at(queue)?;
+    let user = name_at(user)?;
+    let master = size_at(memory, vcores)?;
+    Ok(Event::Submit {
+        queue,
+        app,
+        user,
+        label,
+        master,
+    })
+}
+
+#[tactic(auto, unfolding(crate::specs::Reading::ask_at))]
+pub fn ask_at(event: &Value) -> Result<Event, LineFault>
+    ensures event { result ≡ spec.ask_at (view event.now) }
+    ensures there { IfOk result (λ event. IsTrue (is_there event)) }
+    ensures ranged { IfOk result (λ event. IsRanged event) }
+{
+    keys_are(event, 8)?;
+    let app = text_at(event, "app")?;
+    let count = number_at(event, "count")?;
+    let label = text_at(event, "label")?;
+    let memory = number_at(event, "memory")?;
+    let priority = number_at(event, "priority")?;
+    let tenant = text_at(event, "tenant")?;
+    let vcores = number_at(event, "vcores")?;
+    let app = name_at(app)?;
+    let label = label_at(label)?;
+    let tenant = name_at(tenant)?;
+    let count = within_small(1000000, count)?;
+    let priority = within_small(u32::MAX, priority)?;
+    let size = size_at(memory, vcores)?;
+    Ok(Event::Ask {
+        tenant,
+        app,
+        label,
+        priority,
+        count,
+        size,
+    })
+}
+
+#[tactic(auto, unfolding(crate::specs::Reading::release_at))]
+pub fn release_at(event: &Value) -> Result<Event, LineFault>
+    ensures event { result ≡ spec.release_at (view event.now) }
+    ensures there { IfOk result (λ event. IsTrue (is_there event)) }
+    ensures ranged { IfOk result (λ event. IsRanged event) }
+{
+    keys_are(event, 3)?;
+    let id = text_at(event, "id")?;
+    let tenant = text_at(event, "tenant")?;
+    let id = id_at(id)?;
+    let tenant = name_at(tenant)?;
+    Ok(Event::Release { tenant, id })
+}
+
+#[tactic(auto, unfolding(crate::specs::Reading::finish_at))]
+pub fn finish_at(event: &Value) -> Result<Event, LineFault>
+    ensures event { result ≡ spec.finish_at (view event.now) }
+    ensures there { IfOk result (λ event. IsTrue (is_there event)) }
+    ensures ranged { IfOk result (λ event. IsRanged event) }
+{
+    keys_are(event, 3)?;
+    let app = text_at(event, "app")?;
+    let tenant = text_at(event, "tenant")?;
+    let app = name_at(app)?;
+    let tenant = name_at(tenant)?;
+    Ok(Event::Finish { tenant, app })
+}
+
+#[tactic(auto, unfolding(crate::specs::Reading::poll_at))]
+pub fn poll_at(event: &Value) -> Result<Event, LineFault>
+    ensures event { result ≡ spec.poll_at (view event.now) }
+    ensures there { IfOk result (λ event. IsTrue (is_there event)) }
+    ensures ranged { IfOk result (λ event. IsRanged event) }
+{
+    keys_are(event, 4)?;
+    let app = text_at(event, "app")?;
+    let label = text_at(event, "label")?;
+    let tenant = text_at(event, "tenant")?;
+    let app = name_at(app)?;
+    let label = label_at(label)?;
+    let tenant = name_at(tenant)?;
+    Ok(Event::Poll { tenant, app, label })
+}

@@ -1,0 +1,88 @@
+//! From objects to the events of nodes.
+
+ghost use Rattle.std.specs.Prelude.{◌≡◌, IfOk, IsTrue};
+ghost use Rattle.serde_json.specs.View.{view};
+ghost use Rattle.ynl_model.specs.Kinds.{is_there};
+ghost use Rattle.ynl_lines.specs.Reading.{IsRanged};
+ghost use Rattle.ynl_lines.specs.Reading as spec;
+
+use crate::faults::LineFault;
+use crate::keys::{id_at, keys_are, label_at, name_at, number_at, size_at, text_at};
+use serde_json::Value;
+use ynl_model::Event;
+use ynl_resource::Name;
+
+#[tactic(auto, unfolding(crate::specs::Reading::register_at))]
+pub fn register_at(event: &Value) -> Result<Event, LineFault>
+    ensures event { result ≡ spec.register_at (view event.now) }
+    ensures there { IfOk result (λ event. IsTrue (is_there event)) }
+    ensures ranged { IfOk result (λ event. IsRanged event) }
+{
+    keys_are(event, 5)?;
+    let label = text_at(event, "label")?;
+    let memory = number_at(event, "memory")?;
+    let node = text_at(event, "node")?;
+    let vcores = number_at(event, "vcores")?;
+    let label = label_at(label)?;
+    let node = name_at(node)?;
+    let size = size_at(memory, vcores)?;
+    Ok(Event::Register { node, label, size })
+}
+
+/// The node of an event that names nothing but a node.
+#[tactic(auto, unfolding(crate::specs::Reading::node_at))]
+pub fn node_at(event: &Value) -> Result<Name, LineFault>
+    ensures { result ≡ spec.node_at (view event.now) }
+{
+    keys_are(event, 2)?;
+    let node = text_at(event, "node")?;
+    name_at(node)
+}
+
+#[tactic(auto, unfolding(crate::specs::Reading::lost_at))]
+pub fn lost_at(event: &Value) -> Result<Event, LineFault>
+    ensures event { result ≡ spec.lost_at (view event.now) }
+    ensures there { IfOk result (λ event. IsTrue (is_there event)) }
+    ensures ranged { IfOk result (λ event. IsRanged event) }
+{
+    let node = node_at(event)?;
+    Ok(Event::Lost { node })
+}
+
+#[tactic(auto, unfolding(crate::specs::Reading::relabel_at))]
+pub fn relabel_at(event: &Value) -> Result<Event, LineFault>
+    ensures event { result ≡ spec.relabel_at (view event.now) }
+    ensures there { IfOk result (λ event. IsTrue (is_there event)) }
+    ensures ranged { IfOk result (λ event. IsRanged event) }
+{
+    keys_are(event, 3)?;
+    let label = text_at(event, "label")?;
+    let node = text_at(event, "node")?;
+    let label = label_at(label)?;
+    let node = name_at(node)?;
+    Ok(Event::Relabel { node, label })
+}
+
+#[tactic(auto, unfolding(crate::specs::Reading::heartbeat_at))]
+pub fn heartbeat_at(event: &Value) -> Result<Event, LineFault>
+    ensures event { result ≡ spec.heartbeat_at (view event.now) }
+    ensures there { IfOk result (λ event. IsTrue (is_there event)) }
+    ensures ranged { IfOk result (λ event. IsRanged event) }
+{
+    let node = node_at(event)?;
+    Ok(Event::Heartbeat { node })
+}
+
+#[tactic(auto, unfolding(crate::specs::Reading::exited_at))]
+pub fn exited_at(event: &Value) -> Result<Event, LineFault>
+    ensures event { result ≡ spec.exited_at (view event.now) }
+    ensures there { IfOk result (λ event. IsTrue (is_there event)) }
+    ensures ranged { IfOk result (λ event. IsRanged event) }
+{
+    keys_are(event, 3)?;
+    let id = text_at(event, "id")?;
+    let node = text_at(event, "node")?;
+    let id = id_at(id)?;
+    let node = name_at(node)?;
+    Ok(Event::Exited { node, id })
+}

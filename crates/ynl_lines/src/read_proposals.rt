@@ -1,0 +1,119 @@
+//! From objects to proposals, and to the events that speak of them.
+
+ghost use Rattle.std.specs.Prelude.{◌≡◌, option_map, IfOk, IsTrue};
+ghost use Rattle.serde_json.specs.View.{view};
+ghost use Rattle.ynl_resource.specs.Amounts.{IsSize};
+ghost use Rattle.ynl_model.specs.Kinds.{is_there};
+ghost use Rattle.ynl_lines.specs.Reading.{Gives, HasPriority, HasProposalNumbers, IsRanged};
+ghost use Rattle.ynl_lines.specs.Reading as spec;
+
+use crate::faults::LineFault;
+use crate::keys::{keys_are, label_at, name_at, number_at, size_at, text_at, within, within_small};
+use crate::read_nodes::node_at;
+use serde_json::Value;
+use ynl_model::{Event, Proposal, What};
+use ynl_resource::Label;
+
+#[tactic(auto, unfolding(crate::specs::Reading::propose_at))]
+pub fn propose_at(event: &Value) -> Result<Event, LineFault>
+    ensures event { result ≡ spec.propose_at (view event.now) }
+    ensures there { IfOk result (λ event. IsTrue (is_there event)) }
+    ensures ranged { IfOk result (λ event. IsRanged event) }
+{
+    let node = node_at(event)?;
+    Ok(Event::Propose { node })
+}
+
+/// The label's text and the priority of a container that was asked for; nothing of a master.
+#[tactic(auto, unfolding(crate::specs::Reading::wanted_at))]
+fn wanted_at(proposal: &Value) -> Result<Option<(&str, u64)>, LineFault>
+    ensures { Gives (λ o. option_map (λ wanted. (wanted.0.now, wanted.1)) o) result (spec.wanted_at (view proposal.now)) }
+{
+    let what = text_at(proposal, "what")?;
+    if what == "master" {
+        keys_are(proposal, 7)?;
+        Ok(None)
+    } else if what == "ask" {
+        keys_are(proposal, 9)?;
+        let label = text_at(proposal, "label")?;
+        let priority = number_at(proposal, "priority")?;
+        Ok(Some((label, priority)))
+    } else {
+        Err(LineFault::Field)
+    }
+}
+
+/// The same, with the label read.
+#[tactic(auto, unfolding(crate::specs::Reading::wanted_label_at))]
+fn wanted_label_at(wanted: Option<(&str, u64)>) -> Result<Option<(Label, u64)>, LineFault>
+    ensures { result ≡ spec.wanted_label_at (option_map (λ wanted. (wanted.0.now, wanted.1)) wanted.entry) }
+{
+    match wanted {
+        None => Ok(None),
+        Some((text, priority)) => {
+            let label = label_at(text)?;
+            Ok(Some((label, priority)))
+        }
+    }
+}
+
+/// What is wanted.
+#[tactic(auto, unfolding(crate::specs::Reading::what_at))]
+fn what_at(wanted: Option<(Label, u64)>) -> Result<What, LineFault>
+    ensures what { result ≡ spec.what_at wanted }
+    ensures ranged { IfOk result (λ what. HasPriority what) }
+{
+    match wanted {
+        None => Ok(What::Master),
+        Some((label, priority)) => {
+            let priority = within_small(u32::MAX, priority)?;
+            Ok(What::Ask(label, priority))
+        }
+    }
+}
+
+/// A proposal; its `label` and `priority` are there just where it is for an ask.
+#[tactic(auto, unfolding(crate::specs::Reading::proposal_at))]
+fn proposal_at(proposal: &Value) -> Result<Proposal, LineFault>
+    ensures proposal { result ≡ spec.proposal_at (view proposal.now) }
+    ensures ranged { IfOk result (λ proposal. IsSize proposal.size × HasProposalNumbers proposal) }
+{
+    let wanted = wanted_at(proposal)?;
+    let app = text_at(proposal, "app")?;
+    let memory = number_at(proposal, "memory")?;
+    let node = text_at(proposal, "node")?;
+    let stamp = number_at(proposal, "stamp")?;
+    let tenant = text_at(proposal, "tenant")?;
+    let vcores = number_at(proposal, "vcores")?;
+    let app = name_at(app)?;
+    let wanted = wanted_label_at(wanted)?;
+    let node = name_at(node)?;
+    let tenant = name_at(tenant)?;
+    let what = what_at(wanted)?;
+    let stamp = within(9007199254740991, stamp)?;
+    let size = size_at(memory, vcores)?;
+    Ok(Proposal {
+        node,
+        stamp,
+        tenant,
+        app,
+        what,
+        size,
+    })
+}
+
+#[tactic(auto, unfolding(crate::specs::Reading::commit_at))]
+pub fn commit_at(event: &Value) -> Result<Event, LineFault>
+    ensures event { result ≡ spec.commit_at (view event.now) }
+    ensures there { IfOk result (λ event. IsTrue (is_there event)) }
+    ensures ranged { IfOk result (λ event. IsRanged event) }
+{
+    keys_are(event, 2)?;
+    match event.get("proposal") {
+        Some(value) => {
+            let proposal = proposal_at(value)?;
+            Ok(Event::Commit { proposal })
+        }
+        None => Err(LineFault::Field),
+    }
+}

@@ -1,0 +1,77 @@
+//! From objects to the events of queues.
+
+ghost use Rattle.std.specs.Prelude.{◌≡◌, IfOk, IsTrue};
+ghost use Rattle.serde_json.specs.View.{view};
+ghost use Rattle.ynl_model.specs.Kinds.{is_there};
+ghost use Rattle.ynl_lines.specs.Reading.{IsRanged};
+ghost use Rattle.ynl_lines.specs.Reading as spec;
+
+use crate::faults::LineFault;
+use crate::keys::{keys_are, label_at, number_at, path_at, share_at, text_at};
+use serde_json::Value;
+use ynl_model::Event;
+use ynl_resource::Path;
+
+/// The queue of an event that names nothing but a queue.
+#[tactic(auto, unfolding(crate::specs::Reading::queue_at))]
+fn queue_at(event: &Value) -> Result<Path, LineFault>
+    ensures { result ≡ spec.queue_at (view event.now) }
+{
+    keys_are(event, 2)?;
+    let queue = text_at(event, "queue")?;
+    path_at(queue)
+}
+
+#[tactic(auto, unfolding(crate::specs::Reading::stop_at))]
+pub fn stop_at(event: &Value) -> Result<Event, LineFault>
+    ensures event { result ≡ spec.stop_at (view event.now) }
+    ensures there { IfOk result (λ event. IsTrue (is_there event)) }
+    ensures ranged { IfOk result (λ event. IsRanged event) }
+{
+    let queue = queue_at(event)?;
+    Ok(Event::Stop { queue })
+}
+
+#[tactic(auto, unfolding(crate::specs::Reading::start_at))]
+pub fn start_at(event: &Value) -> Result<Event, LineFault>
+    ensures event { result ≡ spec.start_at (view event.now) }
+    ensures there { IfOk result (λ event. IsTrue (is_there event)) }
+    ensures ranged { IfOk result (λ event. IsRanged event) }
+{
+    let queue = queue_at(event)?;
+    Ok(Event::Start { queue })
+}
+
+#[tactic(auto, unfolding(crate::specs::Reading::usage_at))]
+pub fn usage_at(event: &Value) -> Result<Event, LineFault>
+    ensures event { result ≡ spec.usage_at (view event.now) }
+    ensures there { IfOk result (λ event. IsTrue (is_there event)) }
+    ensures ranged { IfOk result (λ event. IsRanged event) }
+{
+    keys_are(event, 3)?;
+    let label = text_at(event, "label")?;
+    let queue = text_at(event, "queue")?;
+    let label = label_at(label)?;
+    let queue = path_at(queue)?;
+    Ok(Event::Usage { queue, label })
+}
+
+#[tactic(auto, unfolding(crate::specs::Reading::maximum_at))]
+pub fn maximum_at(event: &Value) -> Result<Event, LineFault>
+    ensures event { result ≡ spec.maximum_at (view event.now) }
+    ensures there { IfOk result (λ event. IsTrue (is_there event)) }
+    ensures ranged { IfOk result (λ event. IsRanged event) }
+{
+    keys_are(event, 4)?;
+    let label = text_at(event, "label")?;
+    let maximum = number_at(event, "maximum")?;
+    let queue = text_at(event, "queue")?;
+    let label = label_at(label)?;
+    let queue = path_at(queue)?;
+    let maximum = share_at(maximum)?;
+    Ok(Event::Maximum {
+        queue,
+        label,
+        maximum,
+    })
+}
