@@ -1,12 +1,15 @@
 //! The cluster that takes one event after another.
 
 ghost use Rattle.std.specs.Prelude.{◌≡◌, IfOk, OnErr, IsTrue};
-ghost use Rattle.ynl_model.specs.declared.events.Event.TheVariants.{Register, Lost, Relabel, Heartbeat, Exited, Submit, Release};
+ghost use Rattle.ynl_model.specs.declared.events.Event.TheVariants.{Register, Lost, Relabel, Heartbeat, Exited, Submit, Release, Finish};
+ghost use Rattle.ynl_model.specs.declared.events.Event.TheVariants as event;
 ghost use Rattle.ynl_model.specs.Kinds.{is_there};
 ghost use Rattle.ynl_model.specs.Cluster.{containers_on};
 ghost use Rattle.ynl_core.specs.World.{opened, Answers};
 
+use crate::asking::{ask_for, asked_leaf, reserve_ask};
 use crate::ending::{container_of_tenant, container_on, end};
+use crate::finishing::{all_own, finish};
 use crate::memory::NoMemory;
 use crate::nodes::{join, leave};
 use crate::opening::opening;
@@ -19,7 +22,9 @@ use std::marker::Model;
 use ynl_model::{Event, Placed, PlacedList, Reply};
 use ynl_queues::Config;
 use ynl_resource::{Id, Label, Name, Path, Refusal, Size};
-use ynl_tables::{Tables, containers_at, is_full, is_master, is_same, node_at};
+use ynl_tables::{
+    Ask, Tables, containers_at, is_full, is_master, is_same, live_at, node_at, tenant_bytes,
+};
 
 /// A cluster: what it is configured with, and its state. The names of nodes that rest are listed
 /// beside it, so that their heartbeats take no search; a change of the cluster strikes them all.
@@ -116,6 +121,22 @@ impl Core {
         Reply::Done
     }
 
+    #[tactic(auto, unfolding(ynl_model::specs::Events::step, ynl_model::specs::Events::accepted))]
+    fn ask(&mut self, tenant: Name, name: Name, ask: Ask) -> Result<Reply, NoMemory>
+        ensures ok { IfOk result (λ reply. Answers self.old (event.Ask tenant name ask.label ask.priority ask.count ask.size) self.new reply) }
+        ensures err { OnErr result (self.new ≡ self.old) }
+    {
+        let leaf = match asked_leaf(&self.config, &self.tables, &tenant, &name, &ask) {
+            Ok(leaf) => leaf,
+            Err(refusal) => return Ok(Reply::Refused(refusal)),
+        };
+        let _sized = ask.size.amount();
+        reserve_ask(&mut self.tables.leaves, &leaf, &name, ask.count)?;
+        ask_for(&mut self.tables.leaves, &leaf, &name, &ask);
+        self.resting.clear();
+        Ok(Reply::Done)
+    }
+
     #[tactic(auto, unfolding(ynl_model::specs::Events::step, ynl_model::specs::Events::reasons, ynl_model::specs::Events::accepted))]
     fn release(&mut self, tenant: Name, id: Id) -> Reply
         ensures { Answers self.old (Release tenant id) self.new result }
@@ -196,6 +217,23 @@ impl Core {
         Ok(Reply::Placed(PlacedList::new(placed)))
     }
 
+    #[tactic(auto, unfolding(ynl_model::specs::Events::step, ynl_model::specs::Events::reasons, ynl_model::specs::Events::accepted))]
+    fn finish(&mut self, tenant: Name, name: Name) -> Result<Reply, NoMemory>
+        ensures ok { IfOk result (λ reply. Answers self.old (Finish tenant name) self.new reply) }
+        ensures err { OnErr result (self.new ≡ self.old) }
+    {
+        let Some(live) = live_at(&self.tables.leaves, tenant.as_bytes(), &name) else {
+            return Ok(Reply::Refused(Refusal::NoSuchApplication));
+        };
+        let leaf = *live.leaf;
+        let app = live.app.name;
+        let alloc = *self.tables.nodes.allocator();
+        let own = all_own(alloc, &self.tables, tenant_bytes(&leaf), &app)?;
+        finish(&self.config, &mut self.tables, &leaf, &app, &own);
+        self.resting.clear();
+        Ok(Reply::Done)
+    }
+
     /// A cluster without nodes, applications or containers.
     pub fn open(alloc: Global, config: Config) -> Result<Core, NoMemory>
         ensures { IfOk result (λ core. core ≡ opened config) }
@@ -229,7 +267,25 @@ impl Core {
             Event::Relabel { node, label } => self.relabel(node, label),
             Event::Heartbeat { node } => self.heartbeat(node),
             Event::Exited { node, id } => Ok(self.exited(node, id)),
+            Event::Ask {
+                tenant,
+                app,
+                label,
+                priority,
+                count,
+                size,
+            } => self.ask(
+                tenant,
+                app,
+                Ask {
+                    label,
+                    priority,
+                    count,
+                    size,
+                },
+            ),
             Event::Release { tenant, id } => Ok(self.release(tenant, id)),
+            Event::Finish { tenant, app } => self.finish(tenant, app),
             _ => unreachable!(),
         }
     }

@@ -6,8 +6,10 @@ pub use memory::NoMemory;
 pub use running::run;
 pub use runs::{Answer, AnswerList, Run};
 
+mod asking;
 mod cluster;
 mod ending;
+mod finishing;
 mod memory;
 mod nodes;
 mod opening;

@@ -118,7 +118,7 @@ pub fn reserve(rows: &mut Vec<PartitionRow>, label: &Label, count: usize) -> Res
     Ok(())
 }
 
-fn is_ask_of(ask: &Ask, label: &Label, priority: u32) -> bool
+pub fn is_ask_of(ask: &Ask, label: &Label, priority: u32) -> bool
     ensures { result ≡ is_ask_of label.now priority ask.now }
 {
     is_same(&ask.label, label) && ask.priority == priority

@@ -37,6 +37,15 @@ pub found_path : (leaf : Path) (rows : List LeafRow) (o : Option (Bor LeafRow)) 
 found_path leaf rows None e = tt
 found_path leaf rows (Some r) e = same-path r.now.path leaf (found_so (λ row. same_path row.path leaf) rows (Some r) e)
 
+-- a live application, by its leaf's row
+pub live_found : (leaves : List LeafApps) (tenant name : Name) (row : LeafRow) (o : Option (Bor App)) → Some (leaf_of_row row) ≡ row_of leaves tenant name
+    → option_map (λ r. r.now) o ≡ find (λ app. same_name app.name name) row.apps.items
+    → option_map (λ r. app_of row.path r.now) o ≡ find_app leaves tenant name
+unfolding find_app
+live_found leaves tenant name row o e f =
+    meant (app_of row.path) (λ app. same_name app.name name) row.apps.items o f
+    ∙ ap (λ (found : Option LeafApps). option_and_then (λ row. find (λ app. same_name app.name name) row.apps) found) e
+
 -- the user of a live application, by its leaf's row
 pub user_found : (leaves : List LeafApps) (tenant name user : Name) (row : LeafRow) (o : Option (Bor App)) → Some (leaf_of_row row) ≡ row_of leaves tenant name
     → option_map (λ r. r.now) o ≡ find (λ app. same_name app.name name) row.apps.items

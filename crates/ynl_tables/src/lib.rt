@@ -2,6 +2,7 @@
 //! and what is read of them: sums of use, totals, who shares a leaf.
 #![tactic(auto)]
 
+pub use live::{Live, live_at};
 pub use queue_use::{free, masters_used, no_master_in, runs, used, user_used};
 pub use rows::{App, Ask, LeafRow, PartitionRow};
 pub use sharing::users;
@@ -11,6 +12,7 @@ pub use tables::{
 };
 pub use uses::{is_master, total_of};
 
+mod live;
 mod queue_use;
 mod rows;
 mod sharing;

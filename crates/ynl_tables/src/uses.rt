@@ -66,7 +66,8 @@ pub fn counts(leaves: &[LeafRow], queue: &[Name], container: &Placed) -> bool
     !is_guest_on(&container.id.label, &container.what) && is_below(leaves, queue, container)
 }
 
-fn app_named<'a>(apps: &'a [App], name: &Name) -> Option<&'a App>
+/// The application of a name among those of a leaf.
+pub fn app_named<'a>(apps: &'a [App], name: &Name) -> Option<&'a App>
     ensures { option_map (λ r. r.now) result ≡ find (λ app. same_name app.name name.now) apps.now }
 {
     apps.iter().find(|app| app.name == *name)

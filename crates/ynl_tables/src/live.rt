@@ -1,0 +1,34 @@
+//! The live applications of a tenant.
+
+ghost use Rattle.std.specs.Prelude.{◌≡◌, option_map};
+ghost use Rattle.ynl_model.specs.Applications.{find_app};
+ghost use Rattle.ynl_tables.specs.Tables.{app_of, leaves_of};
+
+use crate::rows::{App, LeafRow};
+use crate::tables::leaf_row_of;
+use crate::uses::app_named;
+use ynl_resource::{Name, Path};
+
+/// A live application, and the leaf that holds it.
+#[derive(Clone, Copy)]
+pub struct Live<'a> {
+    pub leaf: &'a Path,
+    pub app: &'a App,
+}
+
+/// The live application of a tenant and a name; the tenant is given by the bytes of its name.
+#[tactic(auto, unfolding(ynl_model::specs::Applications::find_app))]
+pub fn live_at<'a>(rows: &'a [LeafRow], tenant: &[u8], name: &Name) -> Option<Live<'a>>
+    ensures { option_map (λ live. app_of live.leaf.now live.app.now) result ≡ find_app (leaves_of rows.now) tenant.now name.now }
+{
+    match leaf_row_of(rows, tenant, name) {
+        Some(row) => match app_named(&row.apps, name) {
+            Some(app) => Some(Live {
+                leaf: &row.path,
+                app,
+            }),
+            None => None,
+        },
+        None => None,
+    }
+}
