@@ -6,3 +6,4 @@ pub mod RunMore
 pub mod Alone
 pub mod Own
 pub mod Put
+pub mod Sorted

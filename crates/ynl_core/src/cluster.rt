@@ -1,7 +1,7 @@
 //! The cluster that takes one event after another.
 
 ghost use Rattle.std.specs.Prelude.{◌≡◌, IfOk, OnErr, IsTrue};
-ghost use Rattle.ynl_model.specs.declared.events.Event.TheVariants.{Register, Lost, Relabel, Heartbeat, Exited, Submit, Release, Finish};
+ghost use Rattle.ynl_model.specs.declared.events.Event.TheVariants.{Register, Lost, Relabel, Heartbeat, Exited, Submit, Release, Finish, Stop, Start, Maximum, Poll};
 ghost use Rattle.ynl_model.specs.declared.events.Event.TheVariants as event;
 ghost use Rattle.ynl_model.specs.Kinds.{is_there};
 ghost use Rattle.ynl_model.specs.Cluster.{containers_on};
@@ -9,21 +9,23 @@ ghost use Rattle.ynl_core.specs.World.{opened, Answers};
 
 use crate::asking::{ask_for, asked_leaf, reserve_ask};
 use crate::ending::{container_of_tenant, container_on, end};
-use crate::finishing::{all_own, finish};
+use crate::controlling::{maximum_refusal, stop_refusal};
+use crate::finishing::finish;
 use crate::memory::NoMemory;
 use crate::nodes::{join, leave};
 use crate::opening::opening;
 use crate::placing::{push_copy, reserve};
+use crate::polling::{own_containers, pending_on};
 use crate::resting::{rest, rests};
 use crate::serving::{is_spent, serve};
 use crate::submitting::{Submission, home_of, refusal_of, reserve_place, submit};
 use std::alloc::Global;
 use std::marker::Model;
-use ynl_model::{Event, Placed, PlacedList, Reply};
+use ynl_model::{Event, PendingList, Placed, PlacedList, Reply};
 use ynl_queues::Config;
-use ynl_resource::{Id, Label, Name, Path, Refusal, Size};
+use ynl_resource::{Hundredths, Id, Label, Name, Path, Refusal, Size};
 use ynl_tables::{
-    Ask, Tables, containers_at, is_full, is_master, is_same, live_at, node_at, tenant_bytes,
+    Ask, Tables, containers_at, is_full, is_master, is_same, live_at, node_at,
 };
 
 /// A cluster: what it is configured with, and its state. The names of nodes that rest are listed
@@ -218,20 +220,72 @@ impl Core {
     }
 
     #[tactic(auto, unfolding(ynl_model::specs::Events::step, ynl_model::specs::Events::reasons, ynl_model::specs::Events::accepted))]
-    fn finish(&mut self, tenant: Name, name: Name) -> Result<Reply, NoMemory>
-        ensures ok { IfOk result (λ reply. Answers self.old (Finish tenant name) self.new reply) }
-        ensures err { OnErr result (self.new ≡ self.old) }
+    fn finish(&mut self, tenant: Name, name: Name) -> Reply
+        ensures { Answers self.old (Finish tenant name) self.new result }
+    {
+        let Some(live) = live_at(&self.tables.leaves, tenant.as_bytes(), &name) else {
+            return Reply::Refused(Refusal::NoSuchApplication);
+        };
+        let leaf = *live.leaf;
+        let app = live.app.name;
+        finish(&self.config, &mut self.tables, &leaf, &app);
+        self.resting.clear();
+        Reply::Done
+    }
+
+    #[tactic(auto, unfolding(ynl_model::specs::Events::step, ynl_model::specs::Events::accepted))]
+    fn stop(&mut self, queue: Path) -> Reply
+        ensures { Answers self.old (Stop queue) self.new result }
+    {
+        if let Some(refusal) = stop_refusal(&self.config, &queue) {
+            return Reply::Refused(refusal);
+        }
+        self.tables.stops.stop(queue.names());
+        self.resting.clear();
+        Reply::Done
+    }
+
+    #[tactic(auto, unfolding(ynl_model::specs::Events::step, ynl_model::specs::Events::accepted))]
+    fn start(&mut self, queue: Path) -> Reply
+        ensures { Answers self.old (Start queue) self.new result }
+    {
+        if let Some(refusal) = stop_refusal(&self.config, &queue) {
+            return Reply::Refused(refusal);
+        }
+        self.tables.stops.start(queue.names());
+        self.resting.clear();
+        Reply::Done
+    }
+
+    #[tactic(auto, unfolding(ynl_model::specs::Events::step, ynl_model::specs::Events::accepted))]
+    fn maximum(&mut self, queue: Path, label: Label, share: Hundredths) -> Reply
+        ensures { Answers self.old (Maximum queue label share) self.new result }
+    {
+        if let Some(refusal) = maximum_refusal(&self.config, &queue, &label, share) {
+            return Reply::Refused(refusal);
+        }
+        self.tables.maxima.set(queue.names(), &label, share);
+        self.resting.clear();
+        Reply::Done
+    }
+
+    #[tactic(auto, unfolding(ynl_model::specs::Events::step, ynl_model::specs::Events::reasons, ynl_model::specs::Events::accepted, ynl_model::specs::Events::held))]
+    fn poll(&self, tenant: Name, name: Name, label: Label) -> Result<Reply, NoMemory>
+        ensures { IfOk result (λ reply. Answers self.now (Poll tenant name label) self.now reply) }
     {
         let Some(live) = live_at(&self.tables.leaves, tenant.as_bytes(), &name) else {
             return Ok(Reply::Refused(Refusal::NoSuchApplication));
         };
-        let leaf = *live.leaf;
-        let app = live.app.name;
+        if !self.config.labels().has(&label) {
+            return Ok(Reply::Refused(Refusal::NoSuchLabel));
+        }
         let alloc = *self.tables.nodes.allocator();
-        let own = all_own(alloc, &self.tables, tenant_bytes(&leaf), &app)?;
-        finish(&self.config, &mut self.tables, &leaf, &app, &own);
-        self.resting.clear();
-        Ok(Reply::Done)
+        let containers = own_containers(alloc, &self.tables, &tenant, &name, &label)?;
+        let asks = pending_on(alloc, live.app, &label)?;
+        Ok(Reply::Held {
+            containers: PlacedList::new(containers),
+            asks: PendingList::new(asks),
+        })
     }
 
     /// A cluster without nodes, applications or containers.
@@ -285,7 +339,15 @@ impl Core {
                 },
             ),
             Event::Release { tenant, id } => Ok(self.release(tenant, id)),
-            Event::Finish { tenant, app } => self.finish(tenant, app),
+            Event::Finish { tenant, app } => Ok(self.finish(tenant, app)),
+            Event::Stop { queue } => Ok(self.stop(queue)),
+            Event::Start { queue } => Ok(self.start(queue)),
+            Event::Poll { tenant, app, label } => self.poll(tenant, app, label),
+            Event::Maximum {
+                queue,
+                label,
+                maximum,
+            } => Ok(self.maximum(queue, label, maximum)),
             _ => unreachable!(),
         }
     }

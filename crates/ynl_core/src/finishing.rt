@@ -1,78 +1,104 @@
-//! Applications that finish, and the lists of what they hold.
+//! Applications that finish: the clocks rise once for each of their containers, and then the
+//! containers go. So no list of them is needed.
 
-ghost use Rattle.std.specs.Prelude.{◌≡◌, ◌≤◌, ◌+◌, ◌++◌, ◌∷◌, [], filter, map, if◌then◌else◌, vec_len, vec_capacity, IfOk, OnOk};
+ghost use Rattle.std.specs.Prelude.{◌≡◌, ℕ, map, filter, slice_get, if◌then◌else◌};
+ghost use Rattle.std.specs.Option.{option_map_or};
 ghost use Rattle.ynl_resource.specs.Names.{same_name, same_path, tenant_of};
 ghost use Rattle.ynl_resource.specs.declared.paths.Path.{Path};
 ghost use Rattle.ynl_resource.specs.Tables.{without};
 ghost use Rattle.ynl_model.specs.Applications.{Application, in_leaf, finished};
 ghost use Rattle.ynl_model.specs.Cluster.{is_of};
-ghost use Rattle.ynl_model.specs.Changes.{all_own, all_end, app_finishes};
-ghost use Rattle.ynl_tables.specs.Tables.{state_of, app_of, leaf_of_row, leaves_of};
+ghost use Rattle.ynl_model.specs.Changes.{all_own, app_finishes};
+ghost use Rattle.ynl_laws.specs.Working.{IsOrdered};
+ghost use Rattle.ynl_laws.specs.Finishing.{ticked, all_ticked, without_own};
+ghost use Rattle.ynl_tables.specs.Tables.{state_of, app_of, leaf_of_row, leaves_of, partition_of, partitions_of};
+ghost use Rattle.ynl_core.specs.Rows.{containers_at_place};
 
-use crate::ending::end;
-use crate::placing::push_copy;
-use std::alloc::{AllocError, Global};
+use crate::placing::{next_clock, set_clock, stamp};
 use ynl_model::Placed;
 use ynl_queues::Config;
 use ynl_resource::{Name, Path};
-use ynl_tables::{App, LeafRow, Tables};
+use ynl_tables::{App, LeafRow, PartitionRow, Tables, tenant_bytes};
 
-fn is_own(container: &Placed, tenant: &[u8], app: &Name) -> bool
+/// Whether a container is an application's; its tenant is given by the bytes of its name.
+pub fn is_own(container: &Placed, tenant: &[u8], app: &Name) -> bool
     ensures { result ≡ is_of tenant.now app.now container.now }
 {
     container.tenant.as_bytes() == tenant && container.app == *app
 }
 
-fn push_own(list: &mut Vec<Placed>, container: &Placed, tenant: &[u8], app: &Name)
-    requires { vec_len list.old + 1 ≤ vec_capacity list.old }
-    ensures items { list.new.items ≡ list.old.items ++ filter (is_of tenant.now app.now) (container.now ∷ []) }
-    ensures len { vec_len list.new ≤ vec_len list.old + 1 }
-    ensures capacity { vec_capacity list.new ≡ vec_capacity list.old }
+/// The clock of a container's partition rises, and is the stamp of its node.
+#[tactic(auto, unfolding(ynl_model::specs::Changes::changed_at))]
+fn tick(config: &Config, tables: &mut Tables, container: &Placed)
+    ensures { state_of tables.new ≡ ticked config.now (state_of tables.old) container.now }
 {
-    if is_own(container, tenant, app) {
-        push_copy(list, container);
+    let label = container.id.label;
+    let clock = next_clock(config, tables, &label);
+    stamp(&mut tables.nodes, &container.node, &label, clock);
+    set_clock(&mut tables.partitions, &label, clock);
+}
+
+/// The containers of the row at a place, and none past the last.
+fn containers_of(rows: &[PartitionRow], row: usize) -> &[Placed]
+    ensures { result.now ≡ containers_at_place (partitions_of rows.now) row }
+{
+    match rows.get(row) {
+        Some(row) => &row.containers,
+        None => &[],
     }
 }
 
-/// Those of the containers that are an application's come last in the list; its tenant is given by
-/// the bytes of its name.
-pub fn list_own(
-    list: &mut Vec<Placed>,
-    containers: &[Placed],
+/// The clock rises for the container at a place of a row, if it is the application's.
+fn tick_at(
+    config: &Config,
+    tables: &mut Tables,
+    row: usize,
+    place: usize,
     tenant: &[u8],
     app: &Name,
-) -> Result<(), AllocError>
-    ensures { OnOk result (list.new.items ≡ list.old.items ++ filter (is_of tenant.now app.now) containers.now) }
+)
+    ensures { state_of tables.new ≡ option_map_or (λ container. if is_of tenant.now app.now container then ticked config.now (state_of tables.old) container else state_of tables.old) (slice_get (containers_at_place (state_of tables.old).partitions row) place) (state_of tables.old) }
 {
-    list.reserve(containers.len())?;
-    for container in containers {
-        push_own(list, container, tenant, app);
+    let containers = containers_of(&tables.partitions, row);
+    if let Some(container) = containers.get(place).copied() {
+        if is_own(&container, tenant, app) {
+            tick(config, tables, &container);
+        }
     }
-    Ok(())
 }
 
-/// All containers of an application, in the order of their ids.
-pub fn all_own(
-    alloc: Global,
-    tables: &Tables,
-    tenant: &[u8],
-    app: &Name,
-) -> Result<Vec<Placed>, AllocError>
-    ensures { IfOk result (λ list. list.items ≡ all_own (state_of tables.now) tenant.now app.now) }
+/// The clock rises for each container of a row that is the application's.
+fn tick_row(config: &Config, tables: &mut Tables, row: usize, tenant: &[u8], app: &Name)
+    ensures { state_of tables.new ≡ all_ticked config.now (filter (is_of tenant.now app.now) (containers_at_place (state_of tables.old).partitions row)) (state_of tables.old) }
 {
-    let mut list = Vec::new(alloc);
-    for row in &tables.partitions {
-        list_own(&mut list, &row.containers, tenant, app)?;
+    let count = containers_of(&tables.partitions, row).len();
+    for place in 0..count {
+        tick_at(config, tables, row, place, tenant, app);
     }
-    Ok(list)
 }
 
-/// Containers end one by one.
-fn end_all(config: &Config, tables: &mut Tables, containers: &[Placed])
-    ensures { state_of tables.new ≡ all_end config.now containers.now (state_of tables.old) }
+/// The clocks rise for all containers of an application, in the order of their ids.
+fn tick_own(config: &Config, tables: &mut Tables, tenant: &[u8], app: &Name)
+    ensures { state_of tables.new ≡ all_ticked config.now (all_own (state_of tables.old) tenant.now app.now) (state_of tables.old) }
 {
-    for container in containers {
-        end(config, tables, container);
+    let count = tables.partitions.len();
+    for row in 0..count {
+        tick_row(config, tables, row, tenant, app);
+    }
+}
+
+fn drop_own(row: &mut PartitionRow, tenant: &[u8], app: &Name)
+    ensures { partition_of row.new ≡ without_own tenant.now app.now (partition_of row.old) }
+{
+    row.containers.retain(|container| !is_own(container, tenant, app));
+}
+
+/// The containers of an application go.
+fn drop_all_own(rows: &mut Vec<PartitionRow>, tenant: &[u8], app: &Name)
+    ensures { partitions_of rows.new.items ≡ map (without_own tenant.now app.now) (partitions_of rows.old.items) }
+{
+    for row in rows.iter_mut() {
+        drop_own(row, tenant, app);
     }
 }
 
@@ -100,13 +126,15 @@ fn finish_in(rows: &mut Vec<LeafRow>, leaf: &Path, name: &Name)
     }
 }
 
-/// An application finishes: its containers, which are given, end in the order of their ids, and of it
-/// only the name stays.
+/// An application finishes: its containers end in the order of their ids, and of it only the name
+/// stays.
 #[tactic(auto, unfolding(ynl_model::specs::Changes::app_finishes))]
-pub fn finish(config: &Config, tables: &mut Tables, leaf: &Path, name: &Name, own: &[Placed])
-    ensures { (app : Application) → app.leaf ≡ leaf.now → app.name ≡ name.now → own.now ≡ all_own (state_of tables.old) (tenant_of app.leaf) app.name
-        → state_of tables.new ≡ app_finishes config.now app (state_of tables.old) }
+pub fn finish(config: &Config, tables: &mut Tables, leaf: &Path, name: &Name)
+    requires { IsOrdered config.now (state_of tables.old) }
+    ensures { (app : Application) → app.leaf ≡ leaf.now → app.name ≡ name.now → state_of tables.new ≡ app_finishes config.now app (state_of tables.old) }
 {
-    end_all(config, tables, own);
+    let tenant = tenant_bytes(leaf);
+    tick_own(config, tables, tenant, name);
+    drop_all_own(&mut tables.partitions, tenant, name);
     finish_in(&mut tables.leaves, leaf, name);
 }

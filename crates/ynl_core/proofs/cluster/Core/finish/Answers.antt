@@ -13,13 +13,13 @@ use Rattle.ynl_core.specs.World.{World, Answers}
 use Rattle.ynl_core.proofs.cluster.Core.finish.Goals as goal
 
 -- the step is that the application finishes
-stepped : (c : goal.After-drop-own) → step c.self.inside.config (state_of c.self.inside.tables) (Finish c.args.tenant c.args.name) ≡ done (state_of c.finish.new.tables)
+stepped : (c : goal.After-clear) → step c.self.inside.config (state_of c.self.inside.tables) (Finish c.args.tenant c.args.name) ≡ done (state_of c.finish.new.tables)
 unfolding step reasons accepted
 stepped c =
     let s : State = state_of c.self.inside.tables in
     let app : Application = app_of c.in-Some.live.leaf.now c.in-Some.live.app.now in
     let found : find_app s.leaves c.args.tenant c.args.name ≡ Some app = search rules in
-    let moved = c.finish.ensures app refl refl (c.deref-2.ensures.value ∙ c.in_ok-own.ensures ∙ search rules) in
+    let moved = c.finish.ensures app refl refl in
     rw found (ap done (sym moved))
 
 pub invariant_of-self : goal.invariant_of-self
@@ -28,8 +28,8 @@ invariant_of-self c =
     let event : Event = Finish c.args.tenant c.args.name in
     none_rests config _ _ (search rules) (subst (IsWorking config) (ap (λ (o : Outcome). o.state) (stepped c)) (working-step config (state_of c.self.inside.tables) event tt c.self.invariant.working))
 
-pub returns-clause-ok : goal.returns-clause-ok
-returns-clause-ok c =
+pub returns : goal.returns
+returns c =
     let event : Event = Finish c.args.tenant c.args.name in
     let new : World = record { config = c.self.inside.config; state = state_of c.finish.new.tables } in
     let P : World → Type 0 = λ w. Answers w event new Done in

@@ -1,7 +1,7 @@
 use Rattle.std.proofs.Common.{[], ◌∷◌, ◌++◌, filter, ap, ◌∙◌, arith}
 use Rattle.ynl_model.specs.Cluster.{is_of}
 use Rattle.ynl_core.proofs.Own.{filter_more}
-use Rattle.ynl_core.proofs.finishing.list_own.Goals as goal
+use Rattle.ynl_core.proofs.polling.list_own.Goals as goal
 
 pub loop-container-preserved : goal.loop-container-preserved
 loop-container-preserved c =
@@ -10,6 +10,6 @@ loop-container-preserved c =
       so_far =
           c.push_own.ensures.items
           ∙ ap (λ xs. xs ++ filter own (c.container-item.result ∷ [])) c.loop-container.invariant.so_far
-          ∙ filter_more own c.args.list.now.items c.args.containers.now c.loop-container.container-index c.container-item.result c.loop-container-test.true c.container-item.is;
+          ∙ filter_more own c.args.containers.now c.loop-container.container-index c.container-item.result c.loop-container-test.true c.container-item.is;
       room = omega arith;
     }
