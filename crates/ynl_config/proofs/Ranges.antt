@@ -280,10 +280,12 @@ built_if w h = with_labels (labels_of w.labels w.numbers.default_limit) refl
   where
     of : Labels → List QueueRow → Config
     of labels queues = record { labels = labels; queues = queues; per_heartbeat = w.numbers.per_heartbeat; maximum_allocation = w.numbers.maximum_allocation }
+
     with_queues : (labels : Labels) → labels_of w.labels w.numbers.default_limit ≡ Ok labels → (r : Result (List QueueRow) TreeFault) → tree_of labels w.queues ≡ r
         → IfOk (told_as tree_fault r >>= λ queues. Ok (of labels queues)) (λ c. is_accepted c ≡ true)
     with_queues labels made (Ok queues) planted = accepted_of w labels queues h made planted
     with_queues labels made (Err e) planted = tt
+
     with_labels : (r : Result Labels LabelFault) → labels_of w.labels w.numbers.default_limit ≡ r
         → IfOk (told_as label_fault r >>= λ labels. told_as tree_fault (tree_of labels w.queues) >>= λ queues. Ok (of labels queues)) (λ c. is_accepted c ≡ true)
     with_labels (Ok labels) made = with_queues labels made (tree_of labels w.queues) refl

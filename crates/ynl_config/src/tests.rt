@@ -226,7 +226,11 @@ fn reads_hundredths_of_a_percent(rt: HostRuntime) -> Result<(), Fail> {
         vcores: 10,
     };
     let config = config(&rt, THREE_QUEUES)?;
-    for (path, memory, vcores) in [("root.a", 3333, 3), ("root.b", 3333, 3), ("root.c", 3334, 3)] {
+    for (path, memory, vcores) in [
+        ("root.a", 3333, 3),
+        ("root.b", 3333, 3),
+        ("root.c", 3334, 3),
+    ] {
         let guaranteed = config.guaranteed(Path::parse(path)?.names(), &Label::Unlabelled, &total);
         assert_eq!(rt; guaranteed, Resource { memory, vcores }, "{path}");
     }

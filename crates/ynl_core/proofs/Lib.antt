@@ -4,3 +4,6 @@ pub mod Idle
 pub mod Stepping
 pub mod RunMore
 pub mod Alone
+pub mod Own
+pub mod Put
+pub mod Sorted

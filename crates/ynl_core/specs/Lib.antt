@@ -4,5 +4,6 @@ pub mod Resting
 pub mod CoreFields
 pub mod World
 pub mod Submitting
+pub mod Asking
 pub mod Runs
 pub mod Isolated

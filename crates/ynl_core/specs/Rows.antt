@@ -1,10 +1,12 @@
 -- How one row of a table is changed.
-use Rattle.std.specs.Prelude.{ℕ, if◌then◌else◌}
+use Rattle.std.specs.Prelude.{ℕ, List, [], slice_get, if◌then◌else◌}
+use Rattle.std.specs.Option.{option_map_or}
 use Rattle.ynl_resource.specs.declared.ids.Id.{Id}
 use Rattle.ynl_resource.specs.declared.labels.Label.{Label}
 use Rattle.ynl_resource.specs.declared.names.Name.{Name}
 use Rattle.ynl_resource.specs.Names.{same_id, same_label, same_name}
 use Rattle.ynl_resource.specs.Tables.{without}
+use Rattle.ynl_model.specs.declared.containers.Placed.{Placed}
 use Rattle.ynl_model.specs.Cluster.{Partition}
 
 -- the row of the partition is changed, and others stay
@@ -18,3 +20,7 @@ emptied node row = record row { containers = without (λ container. same_name co
 -- a row without the container of an id, and with a clock
 abbrev pub without_id : Id → ℕ → Partition → Partition
 without_id id clock row = record row { clock = clock; containers = without (λ other. same_id other.id id) row.containers }
+
+-- the containers of the row at a place, and none past the last
+abbrev pub containers_at_place : List Partition → ℕ → List Placed
+containers_at_place rows place = option_map_or (λ row. row.containers) (slice_get rows place) []

@@ -1,20 +1,24 @@
 //! The cluster that takes one event after another.
 
-ghost use Rattle.std.specs.Prelude.{◌≡◌, Some, None, IfOk, IfErr, OnErr, IsTrue};
+ghost use Rattle.std.specs.Prelude.{◌≡◌, Some, None, IfOk, IfErr, OnErr};
 ghost use Rattle.std.specs.Option.{option_and_then};
 ghost use Rattle.ynl_resource.specs.Refusals.{first_that_holds};
-ghost use Rattle.ynl_model.specs.declared.events.Event.TheVariants.{Register, Lost, Relabel, Heartbeat, Exited, Submit, Release, Usage, Propose, Commit};
-ghost use Rattle.ynl_model.specs.Kinds.{is_there};
+ghost use Rattle.ynl_model.specs.declared.events.Event.TheVariants.{Register, Lost, Relabel, Heartbeat, Exited, Submit, Release, Finish, Stop, Start, Poll, Usage, Propose, Commit, Maximum};
+ghost use Rattle.ynl_model.specs.declared.events.Event.TheVariants as event;
 ghost use Rattle.ynl_model.specs.Check.{proposed, commit_reasons};
 ghost use Rattle.ynl_model.specs.Cluster.{containers_on, node_of};
 ghost use Rattle.ynl_model.specs.Limits.{user_limit, master_limit};
 ghost use Rattle.ynl_core.specs.World.{opened, Answers};
 
+use crate::asking::{ask_for, asked_leaf, reserve_ask};
 use crate::ending::{container_of_tenant, container_on, end};
+use crate::controlling::{maximum_refusal, stop_refusal};
+use crate::finishing::finish;
 use crate::memory::NoMemory;
 use crate::nodes::{join, leave};
 use crate::opening::opening;
 use crate::placing::{place, push_copy, reserve};
+use crate::polling::{own_containers, pending_on};
 use crate::resting::{rest, rests};
 use crate::serving::serve;
 use crate::submitting::{Submission, home_of, refusal_of, reserve_place, submit};
@@ -22,10 +26,10 @@ use crate::usage::usage;
 use std::alloc::Global;
 use std::marker::Model;
 use ynl_choice::{check, is_spent, master_limit_of, propose, user_limit_of};
-use ynl_model::{Event, Placed, PlacedList, Proposal, Reply};
+use ynl_model::{Event, PendingList, Placed, PlacedList, Proposal, Reply};
 use ynl_queues::Config;
-use ynl_resource::{Id, Label, Name, Path, Refusal, Resource, Size};
-use ynl_tables::{Tables, containers_at, is_full, is_master, is_same, node_at};
+use ynl_resource::{Hundredths, Id, Label, Name, Path, Refusal, Resource, Size};
+use ynl_tables::{Ask, Tables, containers_at, is_full, is_master, is_same, live_at, node_at};
 
 /// A cluster: what it is configured with, and its state. The names of nodes that rest are listed
 /// beside it, so that their heartbeats take no search; a change of the cluster strikes them all.
@@ -122,6 +126,22 @@ impl Core {
         Reply::Done
     }
 
+    #[tactic(auto, unfolding(ynl_model::specs::Events::step, ynl_model::specs::Events::accepted))]
+    fn ask(&mut self, tenant: Name, name: Name, ask: Ask) -> Result<Reply, NoMemory>
+        ensures ok { IfOk result (λ reply. Answers self.old (event.Ask tenant name ask.label ask.priority ask.count ask.size) self.new reply) }
+        ensures err { OnErr result (self.new ≡ self.old) }
+    {
+        let leaf = match asked_leaf(&self.config, &self.tables, &tenant, &name, &ask) {
+            Ok(leaf) => leaf,
+            Err(refusal) => return Ok(Reply::Refused(refusal)),
+        };
+        let _sized = ask.size.amount();
+        reserve_ask(&mut self.tables.leaves, &leaf, &name, ask.count)?;
+        ask_for(&mut self.tables.leaves, &leaf, &name, &ask);
+        self.resting.clear();
+        Ok(Reply::Done)
+    }
+
     #[tactic(auto, unfolding(ynl_model::specs::Events::step, ynl_model::specs::Events::reasons, ynl_model::specs::Events::accepted))]
     fn release(&mut self, tenant: Name, id: Id) -> Reply
         ensures { Answers self.old (Release tenant id) self.new result }
@@ -203,6 +223,75 @@ impl Core {
     }
 
     #[tactic(auto, unfolding(ynl_model::specs::Events::step, ynl_model::specs::Events::reasons, ynl_model::specs::Events::accepted))]
+    fn finish(&mut self, tenant: Name, name: Name) -> Reply
+        ensures { Answers self.old (Finish tenant name) self.new result }
+    {
+        let Some(live) = live_at(&self.tables.leaves, tenant.as_bytes(), &name) else {
+            return Reply::Refused(Refusal::NoSuchApplication);
+        };
+        let leaf = *live.leaf;
+        let app = live.app.name;
+        finish(&self.config, &mut self.tables, &leaf, &app);
+        self.resting.clear();
+        Reply::Done
+    }
+
+    #[tactic(auto, unfolding(ynl_model::specs::Events::step, ynl_model::specs::Events::accepted))]
+    fn stop(&mut self, queue: Path) -> Reply
+        ensures { Answers self.old (Stop queue) self.new result }
+    {
+        if let Some(refusal) = stop_refusal(&self.config, &queue) {
+            return Reply::Refused(refusal);
+        }
+        self.tables.stops.stop(queue.names());
+        self.resting.clear();
+        Reply::Done
+    }
+
+    #[tactic(auto, unfolding(ynl_model::specs::Events::step, ynl_model::specs::Events::accepted))]
+    fn start(&mut self, queue: Path) -> Reply
+        ensures { Answers self.old (Start queue) self.new result }
+    {
+        if let Some(refusal) = stop_refusal(&self.config, &queue) {
+            return Reply::Refused(refusal);
+        }
+        self.tables.stops.start(queue.names());
+        self.resting.clear();
+        Reply::Done
+    }
+
+    #[tactic(auto, unfolding(ynl_model::specs::Events::step, ynl_model::specs::Events::accepted))]
+    fn maximum(&mut self, queue: Path, label: Label, share: Hundredths) -> Reply
+        ensures { Answers self.old (Maximum queue label share) self.new result }
+    {
+        if let Some(refusal) = maximum_refusal(&self.config, &queue, &label, share) {
+            return Reply::Refused(refusal);
+        }
+        self.tables.maxima.set(queue.names(), &label, share);
+        self.resting.clear();
+        Reply::Done
+    }
+
+    #[tactic(auto, unfolding(ynl_model::specs::Events::step, ynl_model::specs::Events::reasons, ynl_model::specs::Events::accepted, ynl_model::specs::Events::held))]
+    fn poll(&self, tenant: Name, name: Name, label: Label) -> Result<Reply, NoMemory>
+        ensures { IfOk result (λ reply. Answers self.now (Poll tenant name label) self.now reply) }
+    {
+        let Some(live) = live_at(&self.tables.leaves, tenant.as_bytes(), &name) else {
+            return Ok(Reply::Refused(Refusal::NoSuchApplication));
+        };
+        if !self.config.labels().has(&label) {
+            return Ok(Reply::Refused(Refusal::NoSuchLabel));
+        }
+        let alloc = *self.tables.nodes.allocator();
+        let containers = own_containers(alloc, &self.tables, &tenant, &name, &label)?;
+        let asks = pending_on(alloc, live.app, &label)?;
+        Ok(Reply::Held {
+            containers: PlacedList::new(containers),
+            asks: PendingList::new(asks),
+        })
+    }
+
+    #[tactic(auto, unfolding(ynl_model::specs::Events::step, ynl_model::specs::Events::reasons, ynl_model::specs::Events::accepted))]
     fn usage(&self, queue: Path, label: Label) -> Reply
         ensures { Answers self.now (Usage queue label) self.now result }
     {
@@ -261,7 +350,6 @@ impl Core {
     /// One event is one step of the model. Where memory is refused, nothing has changed; a refused
     /// event changes nothing either.
     pub fn apply(&mut self, event: Event) -> Result<Reply, NoMemory>
-        requires { IsTrue (is_there event) }
         ensures ok { IfOk result (λ reply. Answers self.old event self.new reply) }
         ensures err { OnErr result (self.new ≡ self.old) }
     {
@@ -278,11 +366,36 @@ impl Core {
             Event::Relabel { node, label } => self.relabel(node, label),
             Event::Heartbeat { node } => self.heartbeat(node),
             Event::Exited { node, id } => Ok(self.exited(node, id)),
+            Event::Ask {
+                tenant,
+                app,
+                label,
+                priority,
+                count,
+                size,
+            } => self.ask(
+                tenant,
+                app,
+                Ask {
+                    label,
+                    priority,
+                    count,
+                    size,
+                },
+            ),
             Event::Release { tenant, id } => Ok(self.release(tenant, id)),
+            Event::Finish { tenant, app } => Ok(self.finish(tenant, app)),
+            Event::Stop { queue } => Ok(self.stop(queue)),
+            Event::Start { queue } => Ok(self.start(queue)),
+            Event::Poll { tenant, app, label } => self.poll(tenant, app, label),
             Event::Usage { queue, label } => Ok(self.usage(queue, label)),
             Event::Propose { node } => Ok(self.propose(node)),
             Event::Commit { proposal } => self.commit(proposal),
-            _ => unreachable!(),
+            Event::Maximum {
+                queue,
+                label,
+                maximum,
+            } => Ok(self.maximum(queue, label, maximum)),
         }
     }
 

@@ -1,7 +1,6 @@
 //! Runs over lists of events.
 
 ghost use Rattle.std.specs.Prelude.{◌≡◌, IfOk, IsTrue, All};
-ghost use Rattle.ynl_model.specs.Kinds.{is_there};
 ghost use Rattle.ynl_core.specs.Isolated.{AreIsolated};
 ghost use Rattle.ynl_core.specs.Runs.{Answered, IsRun};
 
@@ -13,7 +12,6 @@ use ynl_model::Event;
 use ynl_queues::Config;
 
 fn answer_one(core: &mut Core, event: Event) -> Answer
-    requires { IsTrue (is_there event) }
     ensures { Answered core.old event core.new result }
 {
     match core.apply(event) {
@@ -25,7 +23,6 @@ fn answer_one(core: &mut Core, event: Event) -> Answer
 /// Answers the events in order, one answer to each. An event for which memory is refused changes
 /// nothing, and the run goes on.
 pub fn run(alloc: Global, config: Config, events: &[Event]) -> Result<Run, NoMemory>
-    requires { All (λ event. IsTrue (is_there event)) events.now }
     ensures run { IfOk result (λ run. IsRun config events.now run.answers run.core) }
     ensures isolated { IfOk result (λ run. AreIsolated config events.now run.answers run.core) }
 {

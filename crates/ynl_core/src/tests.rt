@@ -1,7 +1,6 @@
 //! A refused allocation, and the right answer at the second try; and what is read of a cluster.
 
 ghost use Rattle.std.specs.Prelude.{IfOk, IsTrue};
-ghost use Rattle.ynl_model.specs.Kinds.{is_there};
 
 use crate::{Core, NoMemory};
 use std::test::Fail;
@@ -40,7 +39,6 @@ fn size(memory: u64, vcores: u64) -> Result<Size, Fail> {
 
 /// The events in order: a node, an application, and a heartbeat.
 fn event(number: u64) -> Result<Event, Fail>
-    ensures { IfOk result (λ event. IsTrue (is_there event)) }
 {
     let node = Name::parse("g1")?;
     let gpu = Label::parse("gpu")?;

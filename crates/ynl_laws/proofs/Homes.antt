@@ -180,7 +180,7 @@ module _ (c : Config) (tenant name : Name) where
       more k true e = any-later (λ other. same_id k.id other.id) x (filter (is_of tenant name) own) e
       more k false e = e
 
-  in-rows : (rows : List Partition) → AllByRecursion (λ row. AllByRecursion (λ k. is_of tenant name k ≡ true → list_any (λ other. same_id k.id other.id) (flat_map (λ row. filter (is_of tenant name) row.containers) rows) ≡ true) row.containers) rows
+  pub in-rows : (rows : List Partition) → AllByRecursion (λ row. AllByRecursion (λ k. is_of tenant name k ≡ true → list_any (λ other. same_id k.id other.id) (flat_map (λ row. filter (is_of tenant name) row.containers) rows) ≡ true) row.containers) rows
   in-rows [] = tt
   in-rows (row ∷ rows) = (
     Each-weaker _ _ (λ k j of. any-append (λ other. same_id k.id other.id) (filter (is_of tenant name) row.containers) _ (j of)) row.containers (in-own row.containers),

@@ -40,3 +40,4 @@ pub mod FollowsPlaces
 pub mod FollowsCommits
 pub mod FollowsEvents
 pub mod Isolated
+pub mod Finished

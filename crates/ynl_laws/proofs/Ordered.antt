@@ -13,25 +13,18 @@ use Rattle.ynl_resource.specs.declared.labels.Label.TheVariants.{Unlabelled, Nam
 use Rattle.ynl_model.specs.Nodes.{Labels, LabelRow, has_label, clock_limit, partition_labels, rises, is_at, stamped, joined, left}
 use Rattle.ynl_model.specs.declared.nodes.Node.{Node}
 use Rattle.ynl_model.specs.Queues.{Config}
-use Rattle.ynl_model.specs.Cluster.{State, Partition, is_partition, in_partition, clock, next_clock, is_spent, no_containers, opening}
+use Rattle.ynl_model.specs.Cluster.{Partition, is_partition, in_partition, clock, next_clock, is_spent, no_containers, opening}
 use Rattle.ynl_model.specs.declared.containers.Placed.{Placed as Container}
 use Rattle.ynl_model.specs.Changes.{node_joins, node_leaves, changed_at, container_of, place, end}
 use Rattle.ynl_model.specs.Events.{after}
 use Rattle.ynl_model.specs.declared.events.Event.{Event}
-use Rattle.ynl_laws.specs.Working.{Pairs, on_in}
-use Rattle.ynl_laws.proofs.Restricted.{right-true, same-label_path}
+use Rattle.ynl_laws.specs.Working.{on_in, clock_in, has_row, EachFound, Numbered, Ordered, IsOrdered}
+use Rattle.ynl_laws.proofs.Restricted.{right-true, same-label_path, same-label_self}
 use Rattle.ynl_laws.proofs.Lists.{Each-filter, Each-append, Each-map, Each-weaker, Each-all, Pairs-filter, Pairs-last, find-through, found-passes, Each-found}
 use Rattle.ynl_laws.proofs.Kept.{by-row}
 use Rattle.ynl_laws.proofs.Steps.{Stays, always}
 
 -- ---- one partition changes
-
--- what the rows of partitions show of one
-abbrev pub clock_in : List Partition → Label → ℕ
-clock_in rows p = option_map_or (λ row. row.clock) (find (is_partition p) rows) 0
-
-abbrev pub has_row : List Partition → Label → Bool
-has_row rows p = option_map_or (λ row. true) (find (is_partition p) rows) false
 
 -- a change of clock and containers
 abbrev pub with_both : ℕ → (List Container → List Container) → Partition → Partition
@@ -109,16 +102,15 @@ rises-above limit value h = go (nat_lt value limit) refl
 
 -- ---- what stays
 
--- the ids on a partition are its own, rise along the containers, and are not above its clock
-pub record Numbered (p : Label) (shown : ℕ) (containers : List Container) : Type 0 where
-  pub own : AllByRecursion (λ container. (container.id.label ≡ p) × (container.id.clock ≤ shown)) containers
-  pub rising : Pairs (λ a b. a.id.clock < b.id.clock) containers
+-- rows that are changed are still found by their labels
+found-stays : (label : Label) (change : Partition → Partition) → ((row : Partition) → (change row).label ≡ row.label) → (rows : List Partition) → EachFound rows → EachFound (in_partition label change rows)
+found-stays label change keeps rows h = Each-map _ _ at (λ row e. ap (λ l. find (is_partition l) (map at rows)) (same row) ∙ through label row.label change keeps rows ∙ ap (option_map at) e) rows h
+  where
+    at : Partition → Partition
+    at row = if same_label row.label label then change row else row
 
-pub record Ordered (c : Config) (nodes : List Node) (rows : List Partition) : Type 0 where
-  pub there : (p : Label) → has_label c.labels p ≡ true → has_row rows p ≡ true
-  pub clocks : (p : Label) → clock_in rows p ≤ clock_limit c.labels p
-  pub stamps : AllByRecursion (λ node. (has_row rows node.label ≡ true) × (node.stamp ≤ clock_in rows node.label)) nodes
-  pub ids : (p : Label) → Numbered p (clock_in rows p) (on_in rows p)
+    same : (row : Partition) → (at row).label ≡ row.label
+    same row = elim (same_label row.label label) as (λ b. (cond b (change row) row).label ≡ row.label) [ true ↦ keeps row | false ↦ refl ]
 
 numbered-more : (p : Label) (old new : ℕ) (containers : List Container) → old ≤ new → Numbered p old containers → Numbered p new containers
 numbered-more p old new containers more h = record { own = Each-weaker _ _ (λ container k. (k.0, le_trans k.1 more)) containers h.own; rising = h.rising }
@@ -178,6 +170,7 @@ module _ (c : Config) (nodes : List Node) (rows : List Partition) (h : Ordered c
     clocks = tick-clocks;
     stamps = Each-append _ nodes _ (Each-weaker _ _ tick-stamp nodes h.stamps) (new-stamp (h.there label known), tt);
     ids = tick-ids keeps;
+    found = found-stays label (with_both next change) (λ row. refl) rows h.found;
   }
 
   tick-at : (name : Name) → (Numbered label (clock_in rows label) (on_in rows label) → Numbered label next (change (on_in rows label))) → Ordered c (stamped name label next nodes) (ticked label next change rows)
@@ -187,6 +180,7 @@ module _ (c : Config) (nodes : List Node) (rows : List Partition) (h : Ordered c
     clocks = tick-clocks;
     stamps = Each-map _ _ (λ node. if is_at name label node then record node { stamp = next } else node) (λ node k. go node k (is_at name label node) refl) nodes h.stamps;
     ids = tick-ids keeps;
+    found = found-stays label (with_both next change) (λ row. refl) rows h.found;
   }
     where
       go : (node : Node) → (has_row rows node.label ≡ true) × (node.stamp ≤ clock_in rows node.label) → (b : Bool) → is_at name label node ≡ b →
@@ -204,6 +198,7 @@ ordered-leaves c nodes rows label f g h = record {
   stamps = Each-filter _ g nodes (Each-weaker _ _ (λ node k. (row-stays label node.label fewer (λ row. refl) rows ∙ k.0, subst (λ n. node.stamp ≤ n) (sym (same node.label)) k.1)) nodes h.stamps);
   ids = λ p. subst (λ n. Numbered p n (on_in (in_partition label fewer rows) p)) (sym (same p))
       (by-row (λ a b. Numbered p (clock_in rows p) a → Numbered p (clock_in rows p) b) (λ row. row.containers) [] label p fewer (λ row. refl) rows (λ row _ e. go p row (same_label row.label label)) (λ k. k) (h.ids p));
+  found = found-stays label fewer (λ row. refl) rows h.found;
 }
   where
     fewer : Partition → Partition
@@ -218,10 +213,7 @@ ordered-leaves c nodes rows label f g h = record {
 
 -- ---- each change
 
-abbrev pub IsOrdered : Config → State → Type 0
-IsOrdered c s = Ordered c s.nodes s.partitions
-
-ordered-stays : (c : Config) → Stays (IsOrdered c) c
+pub ordered-stays : (c : Config) → Stays (IsOrdered c) c
 unfolding node_joins node_leaves left end place changed_at next_clock clock is_spent container_of
 ordered-stays c = record {
   joins = λ s name label size h known free. tick-joins c s.nodes s.partitions h label (λ containers. containers) name size known (numbered-more label _ _ (on_in s.partitions label) (rises-more _ _));
@@ -234,6 +226,10 @@ ordered-stays c = record {
 }
 
 -- ---- runs
+
+-- a partition's row at first
+abbrev empty_row : Label → Partition
+empty_row label = record { label = label; clock = 0; containers = [] }
 
 opening-row : (labels : List LabelRow) (name : Name) → is_some (find (λ row. same_name row.name name) labels) ≡ true →
     has_row (map (λ label. record { label = label; clock = 0; containers = [] }) (map (λ row. Named row.name) labels)) (Named name) ≡ true
@@ -254,12 +250,25 @@ opening-has labels (Named name) known = opening-row labels.rows name known
 pub opening-empty : (labels : Labels) → AllByRecursion (λ row. (row.clock ≡ 0) × (row.containers ≡ [])) (no_containers labels)
 opening-empty labels = Each-map (λ (label : Label). ⊤) _ _ (λ label _. (refl, refl)) (partition_labels labels) (Each-all (λ (label : Label). ⊤) (λ label. tt) (partition_labels labels))
 
-ordered-opening : (c : Config) → IsOrdered c (opening c)
+-- each row is found at first
+opening-found : (labels : List Label) → AllByRecursion (λ label. find (is_partition label) (map empty_row labels) ≡ Some (empty_row label)) labels
+opening-found [] = tt
+opening-found (label ∷ labels) = (
+  ap (λ b. cond b (Some (empty_row label)) (find (is_partition label) (map empty_row labels))) (same-label_self label),
+  Each-weaker _ _ (λ other k. go other (same_label label other) refl k) labels (opening-found labels),
+)
+  where
+    go : (other : Label) (b : Bool) → same_label label other ≡ b → find (is_partition other) (map empty_row labels) ≡ Some (empty_row other) → cond b (Some (empty_row label)) (find (is_partition other) (map empty_row labels)) ≡ Some (empty_row other)
+    go other true e k = ap (λ l. Some (empty_row l)) (same-label_path label other e)
+    go other false e k = k
+
+pub ordered-opening : (c : Config) → IsOrdered c (opening c)
 ordered-opening c = record {
   there = opening-has c.labels;
   clocks = λ p. clocks p (find (is_partition p) (no_containers c.labels)) (Each-found _ (is_partition p) (no_containers c.labels) (opening-empty c.labels));
   stamps = tt;
   ids = λ p. ids p (find (is_partition p) (no_containers c.labels)) (Each-found _ (is_partition p) (no_containers c.labels) (opening-empty c.labels));
+  found = Each-map _ _ empty_row (λ label e. e) (partition_labels c.labels) (opening-found (partition_labels c.labels));
 }
   where
     clocks : (p : Label) (o : Option Partition) → IfSome o (λ row. (row.clock ≡ 0) × (row.containers ≡ [])) → option_map_or (λ row. row.clock) o 0 ≤ clock_limit c.labels p

@@ -15,12 +15,12 @@ use Rattle.ynl_model.specs.Events.{step, replies, after, state_after}
 use Rattle.ynl_model.specs.declared.events.Event.{Event}
 use Rattle.ynl_model.specs.View.{tracked}
 use Rattle.ynl_model.specs.Promises.{without_stamp, IsStanding, IsSound, IsAlwaysSound, HasOneReplyEach}
-use Rattle.ynl_laws.specs.Working.{Pairs, Apart, places, StandsOn, IsHoused}
+use Rattle.ynl_laws.specs.Working.{Pairs, Apart, places, StandsOn, IsHoused, IsOrdered}
 use Rattle.ynl_laws.proofs.Restricted.{same-label_path, same-name_self}
 use Rattle.ynl_laws.proofs.Tracked.{tracked-is}
 use Rattle.ynl_laws.proofs.Lists.{all-of, Each-weaker, Each-with, Each-unmap}
 use Rattle.ynl_laws.proofs.Apart.{step-apart}
-use Rattle.ynl_laws.proofs.Ordered.{IsOrdered, is_ordered}
+use Rattle.ynl_laws.proofs.Ordered.{is_ordered}
 use Rattle.ynl_laws.proofs.Housed.{is_housed}
 
 pairs-of : {X : Type 0} (R : X → X → Type 0) (xs : List X) → Pairs R xs → AllPairs R xs

@@ -20,7 +20,7 @@ use Rattle.ynl_model.specs.declared.events.Event.TheVariants.{Register, Lost, Re
 use Rattle.ynl_model.specs.View.{Tracked, tracked, joined, dropped, registers, relabels, has_place, track_step}
 use Rattle.ynl_model.specs.Promises.{without_stamp}
 use Rattle.ynl_laws.specs.Bounded.{AreRanged}
-use Rattle.ynl_laws.specs.Working.{places, Apart, Stands, IsWorking, IsRanged}
+use Rattle.ynl_laws.specs.Working.{places, Apart, Stands, IsOrdered, IsWorking, IsRanged}
 use Rattle.ynl_laws.proofs.Restricted.{right-true, same-label_path}
 use Rattle.ynl_laws.proofs.Tracked.{filter-map, place-same, step-is}
 use Rattle.ynl_laws.proofs.Lists.{not-true, Each-filter, Each-append, Each-map, Each-unmap, Each-find, filter-swap, filter-last}
@@ -29,6 +29,7 @@ use Rattle.ynl_laws.proofs.Changed.{kept-place, step-keeps, kept-opening}
 use Rattle.ynl_laws.proofs.Apart.{step-apart}
 use Rattle.ynl_laws.proofs.Steps.{step-stays}
 use Rattle.ynl_laws.proofs.Housed.{housed-stays, housed-opening}
+use Rattle.ynl_laws.proofs.Ordered.{ordered-stays, ordered-opening}
 
 -- ---- sizes
 
@@ -158,7 +159,7 @@ counts-of s h p = subst (λ n. n ≤ most_nodes) (count-same p s.nodes) (h p)
 
 -- the opening state
 pub working-opening : (c : Config) → IsWorking c (opening c)
-working-opening c = record { kept = kept-opening c; apart = tt; housed = housed-opening c; sizes = tt; counts = λ p. omega arith }
+working-opening c = record { kept = kept-opening c; apart = tt; housed = housed-opening c; ordered = ordered-opening c; sizes = tt; counts = λ p. omega arith }
 
 -- an event in range
 pub working-step : (c : Config) (s : State) (event : Event) → IsRanged event → IsWorking c s → IsWorking c (step c s event).state
@@ -168,6 +169,7 @@ working-step c s event ranged h =
       kept = step-keeps c s event h.kept;
       apart = step-apart c s event h.apart;
       housed = step-stays _ c (housed-stays c) s event h.kept h.apart h.housed;
+      ordered = step-stays (IsOrdered c) c (ordered-stays c) s event h.kept h.apart h.ordered;
       sizes = sized-nodes (step c s event).state.nodes (subst Sized (sym (step-is c s event)) (track-sized c (places s) event ranged now.0));
       counts = counts-of (step c s event).state (subst Counted (sym (step-is c s event)) (track-counted c (places s) event now.1));
     }
@@ -187,10 +189,12 @@ working-place c s node item h stands chosen fresh =
     let fits : Fits s node item = subst (λ o. IfSome o (Fits s node)) chosen (choice-fits c s node h.kept) in
     let now = ranged-of c s h in
     let stays = housed-stays c in
+    let in_order = ordered-stays c in
     record {
       kept = kept-place c node item s h.kept fits.known;
       apart = subst Apart (sym (place-same c node item s)) h.apart;
       housed = stays.placed s node item h.housed h.kept stands h.apart fits fresh;
+      ordered = in_order.placed s node item h.ordered h.kept stands h.apart fits fresh;
       sizes = sized-nodes (place c node item s).nodes (subst Sized (sym (place-same c node item s)) now.0);
       counts = counts-of (place c node item s) (subst Counted (sym (place-same c node item s)) now.1);
     }

@@ -6,3 +6,4 @@ pub mod Bounded
 pub mod Found
 pub mod Refused
 pub mod Entitled
+pub mod Finishing

@@ -1,5 +1,5 @@
--- What every state keeps: what is known of applications and containers, nodes with names of their own, and sizes and counts in range.
-use Rattle.std.specs.Prelude.{◌≡◌, ◌≤◌, true, false, ⊤, List, [], ◌∷◌, map, filter, find, length, is_some, Some}
+-- What every state keeps: what is known of applications and containers, nodes with names of their own, ids that rise, and sizes and counts in range.
+use Rattle.std.specs.Prelude.{◌≡◌, ℕ, ◌≤◌, ◌<◌, Bool, true, false, ⊤, List, [], ◌∷◌, map, filter, find, length, is_some, Some}
 use Rattle.std.specs.List.{AllByRecursion}
 use Rattle.std.specs.Option.{option_map_or}
 use Rattle.ynl_resource.specs.declared.amounts.Resource.{Resource}
@@ -9,7 +9,7 @@ use Rattle.ynl_resource.specs.declared.names.Name.{Name}
 use Rattle.ynl_resource.specs.declared.labels.Label.{Label}
 use Rattle.ynl_resource.specs.declared.paths.Path.{Path}
 use Rattle.ynl_model.specs.declared.nodes.Node.{Node}
-use Rattle.ynl_model.specs.Nodes.{nodes_of, most_nodes}
+use Rattle.ynl_model.specs.Nodes.{nodes_of, most_nodes, has_label, clock_limit}
 use Rattle.ynl_model.specs.Queues.{Config, MaximumRow}
 use Rattle.ynl_model.specs.Applications.{LeafApps, leaf_of}
 use Rattle.ynl_model.specs.declared.containers.Placed.{Placed as Container}
@@ -84,6 +84,37 @@ pub record Housed (nodes : List Tracked) (rows : List Partition) : Type 0 where
 abbrev pub IsHoused : State → Type 0
 IsHoused s = Housed (places s) s.partitions
 
+-- ---- clocks and ids
+
+-- what a partition's clock shows, by the rows of partitions
+abbrev pub clock_in : List Partition → Label → ℕ
+clock_in rows p = option_map_or (λ row. row.clock) (find (is_partition p) rows) 0
+
+-- whether a partition has a row
+abbrev pub has_row : List Partition → Label → Bool
+has_row rows p = option_map_or (λ row. true) (find (is_partition p) rows) false
+
+-- each row is the one that its label finds: two rows of one label are the same
+abbrev pub EachFound : List Partition → Type 0
+EachFound rows = AllByRecursion (λ row. find (is_partition row.label) rows ≡ Some row) rows
+
+-- the ids on a partition are its own, rise along the containers, and are not above its clock
+pub record Numbered (p : Label) (shown : ℕ) (containers : List Container) : Type 0 where
+  pub own : AllByRecursion (λ container. (container.id.label ≡ p) × (container.id.clock ≤ shown)) containers
+  pub rising : Pairs (λ a b. a.id.clock < b.id.clock) containers
+
+-- clocks and stamps are within their limits, and ids rise
+pub record Ordered (c : Config) (nodes : List Node) (rows : List Partition) : Type 0 where
+  pub there : (p : Label) → has_label c.labels p ≡ true → has_row rows p ≡ true
+  pub clocks : (p : Label) → clock_in rows p ≤ clock_limit c.labels p
+  pub stamps : AllByRecursion (λ node. (has_row rows node.label ≡ true) × (node.stamp ≤ clock_in rows node.label)) nodes
+  pub ids : (p : Label) → Numbered p (clock_in rows p) (on_in rows p)
+  pub found : EachFound rows
+
+-- that of a whole state
+abbrev pub IsOrdered : Config → State → Type 0
+IsOrdered c s = Ordered c s.nodes s.partitions
+
 -- ---- all of it
 
 -- what a state keeps under every event in range
@@ -91,6 +122,7 @@ pub record IsWorking (c : Config) (s : State) : Type 0 where
   pub kept : Kept s
   pub apart : Apart (places s)
   pub housed : IsHoused s
+  pub ordered : IsOrdered c s
   pub sizes : AllByRecursion (λ (node : Node). IsSize node.size) s.nodes
   pub counts : (p : Label) → length (nodes_of s.nodes p) ≤ most_nodes
 

@@ -3,7 +3,6 @@
 ghost use Rattle.std.specs.Prelude.{◌≡◌, IfOk, IsTrue};
 ghost use Rattle.serde_json.specs.View.{view, members_view};
 ghost use Rattle.ynl_model.specs.declared.events.Event.TheVariants as event;
-ghost use Rattle.ynl_model.specs.Kinds.{is_there};
 ghost use Rattle.ynl_lines.specs.Reading.{event_at, HasAskNumbers, HasClock, HasProposalNumbers, IsInRange};
 ghost use Rattle.ynl_lines.specs.Writing as spec;
 
@@ -341,7 +340,6 @@ fn maximum_value(
 
 /// The object of an event.
 pub fn event_value(alloc: Global, event: &Event) -> Result<Value, AllocError>
-    requires { IsTrue (is_there event.now) }
     ensures value { IfOk result (λ v. view v ≡ spec.event_data event.now) }
     ensures reads { IsInRange event.now → IfOk result (λ _. event_at (spec.event_data event.now) ≡ Ok event.now) }
 {

@@ -2,7 +2,6 @@
 
 ghost use Rattle.std.specs.Prelude.{◌≡◌, option_map, IfOk, IsTrue};
 ghost use Rattle.serde_json.specs.View.{view};
-ghost use Rattle.ynl_model.specs.Kinds.{is_there};
 ghost use Rattle.ynl_lines.specs.Reading.{reading, IsRanged};
 ghost use Rattle.ynl_lines.specs.Reading as spec;
 
@@ -94,7 +93,6 @@ fn kind_of(word: &str) -> Option<Kind>
 #[tactic(auto, unfolding(crate::specs::Reading::event_at))]
 fn event_at(event: &Value) -> Result<Event, LineFault>
     ensures event { result ≡ spec.event_at (view event.now) }
-    ensures there { IfOk result (λ event. IsTrue (is_there event)) }
     ensures ranged { IfOk result (λ event. IsRanged event) }
 {
     let word = match event.get("event") {
@@ -140,7 +138,6 @@ fn event_at(event: &Value) -> Result<Event, LineFault>
 /// does not tell it.
 pub fn read_event(alloc: Global, line: &[u8]) -> Result<Result<Event, LineFault>, AllocError>
     ensures event { IfOk result (λ read. read ≡ spec.event_of_line line.now) }
-    ensures there { IfOk result (λ read. IfOk read (λ event. IsTrue (is_there event))) }
     ensures ranged { IfOk result (λ read. IfOk read (λ event. IsRanged event)) }
 {
     match parse(alloc, line)? {

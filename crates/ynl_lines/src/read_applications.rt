@@ -2,7 +2,6 @@
 
 ghost use Rattle.std.specs.Prelude.{◌≡◌, option_map, IfOk, IsTrue};
 ghost use Rattle.serde_json.specs.View.{view};
-ghost use Rattle.ynl_model.specs.Kinds.{is_there};
 ghost use Rattle.ynl_lines.specs.Reading.{Gives, IsRanged};
 ghost use Rattle.ynl_lines.specs.Reading as spec;
 
@@ -50,7 +49,6 @@ fn optional_label_at(text: Option<&str>) -> Result<Option<Label>, LineFault>
 #[tactic(auto, unfolding(crate::specs::Reading::submit_at))]
 pub fn submit_at(event: &Value) -> Result<Event, LineFault>
     ensures event { result ≡ spec.submit_at (view event.now) }
-    ensures there { IfOk result (λ event. IsTrue (is_there event)) }
     ensures ranged { IfOk result (λ event. IsRanged event) }
 {
     let label = label_text_at(event)?;
@@ -76,7 +74,6 @@ pub fn submit_at(event: &Value) -> Result<Event, LineFault>
 #[tactic(auto, unfolding(crate::specs::Reading::ask_at))]
 pub fn ask_at(event: &Value) -> Result<Event, LineFault>
     ensures event { result ≡ spec.ask_at (view event.now) }
-    ensures there { IfOk result (λ event. IsTrue (is_there event)) }
     ensures ranged { IfOk result (λ event. IsRanged event) }
 {
     keys_are(event, 8)?;
@@ -106,7 +103,6 @@ pub fn ask_at(event: &Value) -> Result<Event, LineFault>
 #[tactic(auto, unfolding(crate::specs::Reading::release_at))]
 pub fn release_at(event: &Value) -> Result<Event, LineFault>
     ensures event { result ≡ spec.release_at (view event.now) }
-    ensures there { IfOk result (λ event. IsTrue (is_there event)) }
     ensures ranged { IfOk result (λ event. IsRanged event) }
 {
     keys_are(event, 3)?;
@@ -120,7 +116,6 @@ pub fn release_at(event: &Value) -> Result<Event, LineFault>
 #[tactic(auto, unfolding(crate::specs::Reading::finish_at))]
 pub fn finish_at(event: &Value) -> Result<Event, LineFault>
     ensures event { result ≡ spec.finish_at (view event.now) }
-    ensures there { IfOk result (λ event. IsTrue (is_there event)) }
     ensures ranged { IfOk result (λ event. IsRanged event) }
 {
     keys_are(event, 3)?;
@@ -134,7 +129,6 @@ pub fn finish_at(event: &Value) -> Result<Event, LineFault>
 #[tactic(auto, unfolding(crate::specs::Reading::poll_at))]
 pub fn poll_at(event: &Value) -> Result<Event, LineFault>
     ensures event { result ≡ spec.poll_at (view event.now) }
-    ensures there { IfOk result (λ event. IsTrue (is_there event)) }
     ensures ranged { IfOk result (λ event. IsRanged event) }
 {
     keys_are(event, 4)?;

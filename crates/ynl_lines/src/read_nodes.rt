@@ -2,7 +2,6 @@
 
 ghost use Rattle.std.specs.Prelude.{◌≡◌, IfOk, IsTrue};
 ghost use Rattle.serde_json.specs.View.{view};
-ghost use Rattle.ynl_model.specs.Kinds.{is_there};
 ghost use Rattle.ynl_lines.specs.Reading.{IsRanged};
 ghost use Rattle.ynl_lines.specs.Reading as spec;
 
@@ -15,7 +14,6 @@ use ynl_resource::Name;
 #[tactic(auto, unfolding(crate::specs::Reading::register_at))]
 pub fn register_at(event: &Value) -> Result<Event, LineFault>
     ensures event { result ≡ spec.register_at (view event.now) }
-    ensures there { IfOk result (λ event. IsTrue (is_there event)) }
     ensures ranged { IfOk result (λ event. IsRanged event) }
 {
     keys_are(event, 5)?;
@@ -42,7 +40,6 @@ pub fn node_at(event: &Value) -> Result<Name, LineFault>
 #[tactic(auto, unfolding(crate::specs::Reading::lost_at))]
 pub fn lost_at(event: &Value) -> Result<Event, LineFault>
     ensures event { result ≡ spec.lost_at (view event.now) }
-    ensures there { IfOk result (λ event. IsTrue (is_there event)) }
     ensures ranged { IfOk result (λ event. IsRanged event) }
 {
     let node = node_at(event)?;
@@ -52,7 +49,6 @@ pub fn lost_at(event: &Value) -> Result<Event, LineFault>
 #[tactic(auto, unfolding(crate::specs::Reading::relabel_at))]
 pub fn relabel_at(event: &Value) -> Result<Event, LineFault>
     ensures event { result ≡ spec.relabel_at (view event.now) }
-    ensures there { IfOk result (λ event. IsTrue (is_there event)) }
     ensures ranged { IfOk result (λ event. IsRanged event) }
 {
     keys_are(event, 3)?;
@@ -66,7 +62,6 @@ pub fn relabel_at(event: &Value) -> Result<Event, LineFault>
 #[tactic(auto, unfolding(crate::specs::Reading::heartbeat_at))]
 pub fn heartbeat_at(event: &Value) -> Result<Event, LineFault>
     ensures event { result ≡ spec.heartbeat_at (view event.now) }
-    ensures there { IfOk result (λ event. IsTrue (is_there event)) }
     ensures ranged { IfOk result (λ event. IsRanged event) }
 {
     let node = node_at(event)?;
@@ -76,7 +71,6 @@ pub fn heartbeat_at(event: &Value) -> Result<Event, LineFault>
 #[tactic(auto, unfolding(crate::specs::Reading::exited_at))]
 pub fn exited_at(event: &Value) -> Result<Event, LineFault>
     ensures event { result ≡ spec.exited_at (view event.now) }
-    ensures there { IfOk result (λ event. IsTrue (is_there event)) }
     ensures ranged { IfOk result (λ event. IsRanged event) }
 {
     keys_are(event, 3)?;

@@ -3,7 +3,6 @@
 ghost use Rattle.std.specs.Prelude.{◌≡◌, option_map, IfOk, IsTrue};
 ghost use Rattle.serde_json.specs.View.{view};
 ghost use Rattle.ynl_resource.specs.Amounts.{IsSize};
-ghost use Rattle.ynl_model.specs.Kinds.{is_there};
 ghost use Rattle.ynl_lines.specs.Reading.{Gives, HasPriority, HasProposalNumbers, IsRanged};
 ghost use Rattle.ynl_lines.specs.Reading as spec;
 
@@ -17,7 +16,6 @@ use ynl_resource::Label;
 #[tactic(auto, unfolding(crate::specs::Reading::propose_at))]
 pub fn propose_at(event: &Value) -> Result<Event, LineFault>
     ensures event { result ≡ spec.propose_at (view event.now) }
-    ensures there { IfOk result (λ event. IsTrue (is_there event)) }
     ensures ranged { IfOk result (λ event. IsRanged event) }
 {
     let node = node_at(event)?;
@@ -105,7 +103,6 @@ fn proposal_at(proposal: &Value) -> Result<Proposal, LineFault>
 #[tactic(auto, unfolding(crate::specs::Reading::commit_at))]
 pub fn commit_at(event: &Value) -> Result<Event, LineFault>
     ensures event { result ≡ spec.commit_at (view event.now) }
-    ensures there { IfOk result (λ event. IsTrue (is_there event)) }
     ensures ranged { IfOk result (λ event. IsRanged event) }
 {
     keys_are(event, 2)?;

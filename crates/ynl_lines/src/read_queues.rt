@@ -2,7 +2,6 @@
 
 ghost use Rattle.std.specs.Prelude.{◌≡◌, IfOk, IsTrue};
 ghost use Rattle.serde_json.specs.View.{view};
-ghost use Rattle.ynl_model.specs.Kinds.{is_there};
 ghost use Rattle.ynl_lines.specs.Reading.{IsRanged};
 ghost use Rattle.ynl_lines.specs.Reading as spec;
 
@@ -25,7 +24,6 @@ fn queue_at(event: &Value) -> Result<Path, LineFault>
 #[tactic(auto, unfolding(crate::specs::Reading::stop_at))]
 pub fn stop_at(event: &Value) -> Result<Event, LineFault>
     ensures event { result ≡ spec.stop_at (view event.now) }
-    ensures there { IfOk result (λ event. IsTrue (is_there event)) }
     ensures ranged { IfOk result (λ event. IsRanged event) }
 {
     let queue = queue_at(event)?;
@@ -35,7 +33,6 @@ pub fn stop_at(event: &Value) -> Result<Event, LineFault>
 #[tactic(auto, unfolding(crate::specs::Reading::start_at))]
 pub fn start_at(event: &Value) -> Result<Event, LineFault>
     ensures event { result ≡ spec.start_at (view event.now) }
-    ensures there { IfOk result (λ event. IsTrue (is_there event)) }
     ensures ranged { IfOk result (λ event. IsRanged event) }
 {
     let queue = queue_at(event)?;
@@ -45,7 +42,6 @@ pub fn start_at(event: &Value) -> Result<Event, LineFault>
 #[tactic(auto, unfolding(crate::specs::Reading::usage_at))]
 pub fn usage_at(event: &Value) -> Result<Event, LineFault>
     ensures event { result ≡ spec.usage_at (view event.now) }
-    ensures there { IfOk result (λ event. IsTrue (is_there event)) }
     ensures ranged { IfOk result (λ event. IsRanged event) }
 {
     keys_are(event, 3)?;
@@ -59,7 +55,6 @@ pub fn usage_at(event: &Value) -> Result<Event, LineFault>
 #[tactic(auto, unfolding(crate::specs::Reading::maximum_at))]
 pub fn maximum_at(event: &Value) -> Result<Event, LineFault>
     ensures event { result ≡ spec.maximum_at (view event.now) }
-    ensures there { IfOk result (λ event. IsTrue (is_there event)) }
     ensures ranged { IfOk result (λ event. IsRanged event) }
 {
     keys_are(event, 4)?;

@@ -4,7 +4,6 @@ ghost use Rattle.std.specs.Prelude.{◌≡◌, ◌≤◌, IfOk, IsTrue, false, S
 ghost use Rattle.serde_json.specs.Data.{depth};
 ghost use Rattle.serde_json.specs.View.{view};
 ghost use Rattle.serde_json.specs.Written.{has_float, compact_text};
-ghost use Rattle.ynl_model.specs.Kinds.{is_there};
 ghost use Rattle.ynl_lines.specs.Reading.{reading, event_of_line, IsInRange};
 ghost use Rattle.ynl_lines.specs.Writing as spec;
 
@@ -28,10 +27,9 @@ fn text_of(alloc: Global, value: &Value) -> Result<Vec<u8>, AllocError>
 }
 
 /// The text of an event, without the newline of its line; where the number of its id is in range, it
-/// reads as that event. The kinds that are there so far are written.
+/// reads as that event.
 #[tactic(auto, using(crate::proofs::Texts::plain_event, crate::proofs::Texts::flat_event))]
 pub fn write_event(alloc: Global, event: &Event) -> Result<Vec<u8>, AllocError>
-    requires { IsTrue (is_there event.now) }
     ensures text { IfOk result (λ text. text.items ≡ spec.event_text event.now) }
     ensures reads { IsInRange event.now → IfOk result (λ text. event_of_line text.items ≡ Ok event.now) }
 {

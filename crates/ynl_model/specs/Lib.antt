@@ -4,7 +4,6 @@ pub mod Changes
 pub mod Check
 pub mod Cluster
 pub mod Events
-pub mod Kinds
 pub mod Limits
 pub mod Nodes
 pub mod Promises

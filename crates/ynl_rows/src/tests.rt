@@ -1,5 +1,4 @@
 ghost use Rattle.std.specs.Prelude.{IfOk, IsTrue};
-ghost use Rattle.ynl_model.specs.Kinds.{is_there};
 
 use std::alloc::Global;
 use std::test::Fail;
@@ -28,7 +27,6 @@ fn size(memory: u64, vcores: u64) -> Result<Size, Fail> {
 }
 
 fn event_of(short: &Short) -> Result<Event, Fail>
-    ensures { IfOk result (λ event. IsTrue (is_there event)) }
 {
     match *short {
         Reg(node, label, memory, vcores) => Ok(Event::Register {
