@@ -1,10 +1,11 @@
 //! The cluster that takes one event after another.
 
-ghost use Rattle.std.specs.Prelude.{◌≡◌, IfOk, OnErr, IsTrue};
+ghost use Rattle.std.specs.Prelude.{◌≡◌, IfOk, OnErr, IsOk, IsTrue};
 ghost use Rattle.ynl_model.specs.declared.events.Event.TheVariants.{Register, Lost, Relabel, Heartbeat, Exited, Submit, Release, Finish, Stop, Start, Maximum, Poll};
 ghost use Rattle.ynl_model.specs.declared.events.Event.TheVariants as event;
 ghost use Rattle.ynl_model.specs.Kinds.{is_there};
 ghost use Rattle.ynl_model.specs.Cluster.{containers_on};
+ghost use Rattle.ynl_core.specs.Sure.{is_refused, takes_no_memory};
 ghost use Rattle.ynl_core.specs.World.{opened, Answers};
 
 use crate::asking::{ask_for, asked_leaf, reserve_ask};
@@ -54,6 +55,7 @@ impl Core {
     fn register(&mut self, name: Name, label: Label, size: Size) -> Result<Reply, NoMemory>
         ensures ok { IfOk result (λ reply. Answers self.old (Register name label size) self.new reply) }
         ensures err { OnErr result (self.new ≡ self.old) }
+        ensures sure { IsTrue (is_refused self.old (Register name label size)) → IsOk result }
     {
         if !self.config.labels().has(&label) {
             return Ok(Reply::Refused(Refusal::NoSuchLabel));
@@ -87,6 +89,7 @@ impl Core {
     fn relabel(&mut self, name: Name, label: Label) -> Result<Reply, NoMemory>
         ensures ok { IfOk result (λ reply. Answers self.old (Relabel name label) self.new reply) }
         ensures err { OnErr result (self.new ≡ self.old) }
+        ensures sure { IsTrue (is_refused self.old (Relabel name label)) → IsOk result }
     {
         if !self.config.labels().has(&label) {
             return Ok(Reply::Refused(Refusal::NoSuchLabel));
@@ -127,6 +130,7 @@ impl Core {
     fn ask(&mut self, tenant: Name, name: Name, ask: Ask) -> Result<Reply, NoMemory>
         ensures ok { IfOk result (λ reply. Answers self.old (event.Ask tenant name ask.label ask.priority ask.count ask.size) self.new reply) }
         ensures err { OnErr result (self.new ≡ self.old) }
+        ensures sure { IsTrue (takes_no_memory self.old (event.Ask tenant name ask.label ask.priority ask.count ask.size)) → IsOk result }
     {
         let leaf = match asked_leaf(&self.config, &self.tables, &tenant, &name, &ask) {
             Ok(leaf) => leaf,
@@ -165,6 +169,7 @@ impl Core {
     ) -> Result<Reply, NoMemory>
         ensures ok { IfOk result (λ reply. Answers self.old (Submit queue app user label master) self.new reply) }
         ensures err { OnErr result (self.new ≡ self.old) }
+        ensures sure { IsTrue (is_refused self.old (Submit queue app user label master)) → IsOk result }
     {
         let home = home_of(&self.config, &queue, label);
         if let Some(refusal) = refusal_of(
@@ -196,6 +201,7 @@ impl Core {
     fn heartbeat(&mut self, name: Name) -> Result<Reply, NoMemory>
         ensures ok { IfOk result (λ reply. Answers self.old (Heartbeat name) self.new reply) }
         ensures err { OnErr result (self.new ≡ self.old) }
+        ensures sure { IsTrue (is_refused self.old (Heartbeat name)) → IsOk result }
     {
         let Some(node) = node_at(&self.tables.nodes, &name) else {
             return Ok(Reply::Refused(Refusal::NoSuchNode));
@@ -271,7 +277,8 @@ impl Core {
 
     #[tactic(auto, unfolding(ynl_model::specs::Events::step, ynl_model::specs::Events::reasons, ynl_model::specs::Events::accepted, ynl_model::specs::Events::held))]
     fn poll(&self, tenant: Name, name: Name, label: Label) -> Result<Reply, NoMemory>
-        ensures { IfOk result (λ reply. Answers self.now (Poll tenant name label) self.now reply) }
+        ensures ok { IfOk result (λ reply. Answers self.now (Poll tenant name label) self.now reply) }
+        ensures sure { IsTrue (is_refused self.now (Poll tenant name label)) → IsOk result }
     {
         let Some(live) = live_at(&self.tables.leaves, tenant.as_bytes(), &name) else {
             return Ok(Reply::Refused(Refusal::NoSuchApplication));
@@ -302,11 +309,13 @@ impl Core {
     }
 
     /// One event is one step of the model. Where memory is refused, nothing has changed; a refused
-    /// event changes nothing either.
+    /// event changes nothing either. A refused event takes no memory, nor does one that ends, sets or
+    /// takes back.
     pub fn apply(&mut self, event: Event) -> Result<Reply, NoMemory>
         requires { IsTrue (is_there event) }
         ensures ok { IfOk result (λ reply. Answers self.old event self.new reply) }
         ensures err { OnErr result (self.new ≡ self.old) }
+        ensures sure { IsTrue (takes_no_memory self.old event) → IsOk result }
     {
         match event {
             Event::Register { node, label, size } => self.register(node, label, size),
