@@ -3,6 +3,7 @@ pub mod Rows
 pub mod Resting
 pub mod CoreFields
 pub mod World
+pub mod Sure
 pub mod Submitting
 pub mod Asking
 pub mod Runs

@@ -1,6 +1,6 @@
 //! What applications ask for.
 
-ghost use Rattle.std.specs.Prelude.{◌≡◌, ◌≤◌, ◌<◌, ◌+◌, List, ℕ, map, find, count_by, vec_len, vec_capacity, OnOk, IfOk, IfErr, Some, None, option_map, if◌then◌else◌};
+ghost use Rattle.std.specs.Prelude.{◌≡◌, ◌≤◌, ◌<◌, ◌+◌, List, ℕ, map, find, count_by, vec_len, vec_capacity, OnOk, IsOk, IfOk, IfErr, Some, None, option_map, if◌then◌else◌};
 ghost use Rattle.std.specs.List.{AllByRecursion, position_or_len};
 ghost use Rattle.ynl_resource.specs.Names.{same_label};
 ghost use Rattle.ynl_resource.specs.declared.paths.Path.{Path};
@@ -167,6 +167,7 @@ pub fn ask_for(rows: &mut Vec<LeafRow>, leaf: &Path, name: &Name, ask: &Ask)
 fn reserve_at(app: &mut App, name: &Name, count: u32) -> Result<(), AllocError>
     ensures meaning { (leaf : Path) → app_of leaf app.new ≡ app_of leaf app.old }
     ensures room { OnOk result (HasAskRoom name.now count app.new) }
+    ensures sure { count ≡ 0 → IsOk result }
 {
     if count > 0 && app.name == *name {
         app.asks.reserve(1)?;
@@ -177,6 +178,7 @@ fn reserve_at(app: &mut App, name: &Name, count: u32) -> Result<(), AllocError>
 fn reserve_among(apps: &mut Vec<App>, name: &Name, count: u32) -> Result<(), AllocError>
     ensures meaning { (leaf : Path) → map (app_of leaf) apps.new.items ≡ map (app_of leaf) apps.old.items }
     ensures room { OnOk result (AllByRecursion (HasAskRoom name.now count) apps.new.items) }
+    ensures sure { count ≡ 0 → IsOk result }
 {
     for app in apps.iter_mut() {
         reserve_at(app, name, count)?;
@@ -187,6 +189,7 @@ fn reserve_among(apps: &mut Vec<App>, name: &Name, count: u32) -> Result<(), All
 fn reserve_in(row: &mut LeafRow, leaf: &Path, name: &Name, count: u32) -> Result<(), AllocError>
     ensures meaning { leaf_of_row row.new ≡ leaf_of_row row.old }
     ensures place { OnOk result (HasAskPlace leaf.now name.now count row.new) }
+    ensures sure { count ≡ 0 → IsOk result }
 {
     if row.path == *leaf {
         reserve_among(&mut row.apps, name, count)?;
@@ -203,6 +206,7 @@ pub fn reserve_ask(
 ) -> Result<(), AllocError>
     ensures meaning { leaves_of rows.new.items ≡ leaves_of rows.old.items }
     ensures place { OnOk result (AllByRecursion (HasAskPlace leaf.now name.now count) rows.new.items) }
+    ensures sure { count ≡ 0 → IsOk result }
 {
     for row in rows.iter_mut() {
         reserve_in(row, leaf, name, count)?;

@@ -1,6 +1,6 @@
 //! The cluster that takes one event after another.
 
-ghost use Rattle.std.specs.Prelude.{◌≡◌, Some, None, IfOk, IfErr, OnErr};
+ghost use Rattle.std.specs.Prelude.{◌≡◌, Some, None, IfOk, IfErr, OnErr, IsOk, IsTrue};
 ghost use Rattle.std.specs.Option.{option_and_then};
 ghost use Rattle.ynl_resource.specs.Refusals.{first_that_holds};
 ghost use Rattle.ynl_model.specs.declared.events.Event.TheVariants.{Register, Lost, Relabel, Heartbeat, Exited, Submit, Release, Finish, Stop, Start, Poll, Usage, Propose, Commit, Maximum};
@@ -8,6 +8,7 @@ ghost use Rattle.ynl_model.specs.declared.events.Event.TheVariants as event;
 ghost use Rattle.ynl_model.specs.Check.{proposed, commit_reasons};
 ghost use Rattle.ynl_model.specs.Cluster.{containers_on, node_of};
 ghost use Rattle.ynl_model.specs.Limits.{user_limit, master_limit};
+ghost use Rattle.ynl_core.specs.Sure.{is_refused, takes_no_memory};
 ghost use Rattle.ynl_core.specs.World.{opened, Answers};
 
 use crate::asking::{ask_for, asked_leaf, reserve_ask};
@@ -57,6 +58,7 @@ impl Core {
     fn register(&mut self, name: Name, label: Label, size: Size) -> Result<Reply, NoMemory>
         ensures ok { IfOk result (λ reply. Answers self.old (Register name label size) self.new reply) }
         ensures err { OnErr result (self.new ≡ self.old) }
+        ensures sure { IsTrue (is_refused self.old (Register name label size)) → IsOk result }
     {
         if !self.config.labels().has(&label) {
             return Ok(Reply::Refused(Refusal::NoSuchLabel));
@@ -90,6 +92,7 @@ impl Core {
     fn relabel(&mut self, name: Name, label: Label) -> Result<Reply, NoMemory>
         ensures ok { IfOk result (λ reply. Answers self.old (Relabel name label) self.new reply) }
         ensures err { OnErr result (self.new ≡ self.old) }
+        ensures sure { IsTrue (is_refused self.old (Relabel name label)) → IsOk result }
     {
         if !self.config.labels().has(&label) {
             return Ok(Reply::Refused(Refusal::NoSuchLabel));
@@ -130,6 +133,7 @@ impl Core {
     fn ask(&mut self, tenant: Name, name: Name, ask: Ask) -> Result<Reply, NoMemory>
         ensures ok { IfOk result (λ reply. Answers self.old (event.Ask tenant name ask.label ask.priority ask.count ask.size) self.new reply) }
         ensures err { OnErr result (self.new ≡ self.old) }
+        ensures sure { IsTrue (takes_no_memory self.old (event.Ask tenant name ask.label ask.priority ask.count ask.size)) → IsOk result }
     {
         let leaf = match asked_leaf(&self.config, &self.tables, &tenant, &name, &ask) {
             Ok(leaf) => leaf,
@@ -168,6 +172,7 @@ impl Core {
     ) -> Result<Reply, NoMemory>
         ensures ok { IfOk result (λ reply. Answers self.old (Submit queue app user label master) self.new reply) }
         ensures err { OnErr result (self.new ≡ self.old) }
+        ensures sure { IsTrue (is_refused self.old (Submit queue app user label master)) → IsOk result }
     {
         let home = home_of(&self.config, &queue, label);
         if let Some(refusal) = refusal_of(
@@ -199,6 +204,7 @@ impl Core {
     fn heartbeat(&mut self, name: Name) -> Result<Reply, NoMemory>
         ensures ok { IfOk result (λ reply. Answers self.old (Heartbeat name) self.new reply) }
         ensures err { OnErr result (self.new ≡ self.old) }
+        ensures sure { IsTrue (is_refused self.old (Heartbeat name)) → IsOk result }
     {
         let Some(node) = node_at(&self.tables.nodes, &name) else {
             return Ok(Reply::Refused(Refusal::NoSuchNode));
@@ -274,7 +280,8 @@ impl Core {
 
     #[tactic(auto, unfolding(ynl_model::specs::Events::step, ynl_model::specs::Events::reasons, ynl_model::specs::Events::accepted, ynl_model::specs::Events::held))]
     fn poll(&self, tenant: Name, name: Name, label: Label) -> Result<Reply, NoMemory>
-        ensures { IfOk result (λ reply. Answers self.now (Poll tenant name label) self.now reply) }
+        ensures ok { IfOk result (λ reply. Answers self.now (Poll tenant name label) self.now reply) }
+        ensures sure { IsTrue (is_refused self.now (Poll tenant name label)) → IsOk result }
     {
         let Some(live) = live_at(&self.tables.leaves, tenant.as_bytes(), &name) else {
             return Ok(Reply::Refused(Refusal::NoSuchApplication));
@@ -321,6 +328,7 @@ impl Core {
     fn commit(&mut self, proposal: Proposal) -> Result<Reply, NoMemory>
         ensures ok { IfOk result (λ reply. Answers self.old (Commit proposal) self.new reply) }
         ensures err { OnErr result (self.new ≡ self.old) }
+        ensures sure { IsTrue (is_refused self.old (Commit proposal)) → IsOk result }
     {
         let checked = match check(&self.config, &self.tables, &proposal) {
             Ok(checked) => checked,
@@ -348,10 +356,12 @@ impl Core {
     }
 
     /// One event is one step of the model. Where memory is refused, nothing has changed; a refused
-    /// event changes nothing either.
+    /// event changes nothing either. A refused event takes no memory, nor does one that ends, sets,
+    /// takes back, or asks for use or a proposal.
     pub fn apply(&mut self, event: Event) -> Result<Reply, NoMemory>
         ensures ok { IfOk result (λ reply. Answers self.old event self.new reply) }
         ensures err { OnErr result (self.new ≡ self.old) }
+        ensures sure { IsTrue (takes_no_memory self.old event) → IsOk result }
     {
         match event {
             Event::Register { node, label, size } => self.register(node, label, size),

@@ -11,9 +11,9 @@ use Rattle.ynl_tables.specs.Tables.{state_of, app_of}
 use Rattle.ynl_core.specs.World.{World, Answers}
 use Rattle.ynl_core.proofs.cluster.Core.poll.Goals as goal
 
-pub returns : goal.returns
+pub returns-clause-ok : goal.returns-clause-ok
 unfolding step reasons accepted held
-returns c =
+returns-clause-ok c =
     let config = c.self.inside.config in
     let s : State = state_of c.self.inside.tables in
     let event : Event = Poll c.args.tenant c.args.name c.args.label in

@@ -1,4 +1,6 @@
 use Rattle.std.proofs.Common.{◌≡◌, None, rules, sym, ap, subst, ◌∙◌}
+use Rattle.std.specs.Prelude.{IsOk, IsTrue, is_some}
+use mathlib.Core.Bool.{true≢false}
 use Rattle.ynl_resource.specs.Refusals.{first_that_holds}
 use Rattle.ynl_model.specs.declared.events.Event.{Event}
 use Rattle.ynl_model.specs.declared.events.Event.TheVariants.{Submit}
@@ -8,6 +10,7 @@ use Rattle.ynl_model.specs.Events.{Outcome, done, step, reasons, accepted}
 use Rattle.ynl_laws.specs.Working.{IsWorking}
 use Rattle.ynl_laws.proofs.Working.{working-step}
 use Rattle.ynl_tables.specs.Tables.{state_of, leaves_of, partitions_of}
+use Rattle.ynl_core.specs.Sure.{is_refused}
 use Rattle.ynl_core.specs.World.{World, Answers}
 use Rattle.ynl_core.specs.CoreFields.{world_of}
 use Rattle.ynl_core.proofs.Stepping.{taken_in, answers_refused, none_rests}
@@ -47,3 +50,10 @@ returns-clause-ok c =
       told = sym (ap (λ (o : Outcome). o.reply) (stepped c));
       left = λ i. record { config = c.self.inside.config; state = sym (ap (λ (o : Outcome). o.state) (stepped c)) i };
     })
+
+pub returns-in_err-reserve_place-clause-sure : goal.returns-in_err-reserve_place-clause-sure
+returns-in_err-reserve_place-clause-sure c =
+    let event : Event = Submit c.args.queue c.args.app c.args.user c.args.label c.args.master in
+    let none : first_that_holds (reasons c.self.inside.config (state_of c.self.inside.tables) event) ≡ None = sym (c.refusal_of.ensures c.args.user c.args.label c.home_of-home.ensures) ∙ c.in_default.is in
+    let P : World → Type 0 = λ w. IsTrue (is_refused w event) → IsOk c.from_residual.result in
+    subst P c.self.view_is (λ h. absurd (true≢false (sym h ∙ ap is_some none)))
