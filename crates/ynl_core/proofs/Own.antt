@@ -11,7 +11,7 @@ use Rattle.ynl_model.specs.declared.containers.Placed.{Placed}
 use Rattle.ynl_model.specs.Queues.{Config}
 use Rattle.ynl_model.specs.Cluster.{State, Partition, is_of, in_partition}
 use Rattle.ynl_model.specs.Changes.{changed_at}
-use Rattle.ynl_laws.specs.Finishing.{ticked, all_ticked}
+use Rattle.ynl_laws.specs.Finishing.{clock_rises, clocks_rise}
 use Rattle.ynl_core.specs.Rows.{containers_at_place}
 
 -- one more thing is filtered
@@ -66,12 +66,12 @@ place_stays label clock [] i = refl
 place_stays label clock (row ∷ rows) zero = elim (same_label row.label label) as (λ b. (cond b (record row { clock = clock; containers = row.containers }) row).containers ≡ row.containers) [ true ↦ refl | false ↦ refl ]
 place_stays label clock (row ∷ rows) (suc i) = place_stays label clock rows i
 
-pub places_stay : (c : Config) (ks : List Placed) (s : State) (i : ℕ) → containers_at_place (all_ticked c ks s).partitions i ≡ containers_at_place s.partitions i
+pub places_stay : (c : Config) (ks : List Placed) (s : State) (i : ℕ) → containers_at_place (clocks_rise c ks s).partitions i ≡ containers_at_place s.partitions i
 unfolding changed_at
 places_stay c [] s i = refl
-places_stay c (k ∷ ks) s i = places_stay c ks (ticked c s k) i ∙ place_stays k.id.label _ s.partitions i
+places_stay c (k ∷ ks) s i = places_stay c ks (clock_rises c s k) i ∙ place_stays k.id.label _ s.partitions i
 
-pub leaves_stay : (c : Config) (ks : List Placed) (s : State) → (all_ticked c ks s).leaves ≡ s.leaves
+pub leaves_stay : (c : Config) (ks : List Placed) (s : State) → (clocks_rise c ks s).leaves ≡ s.leaves
 unfolding changed_at
 leaves_stay c [] s = refl
-leaves_stay c (k ∷ ks) s = leaves_stay c ks (ticked c s k)
+leaves_stay c (k ∷ ks) s = leaves_stay c ks (clock_rises c s k)

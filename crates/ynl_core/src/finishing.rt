@@ -10,7 +10,7 @@ ghost use Rattle.ynl_model.specs.Applications.{Application, in_leaf, finished};
 ghost use Rattle.ynl_model.specs.Cluster.{is_of};
 ghost use Rattle.ynl_model.specs.Changes.{all_own, app_finishes};
 ghost use Rattle.ynl_laws.specs.Working.{IsOrdered};
-ghost use Rattle.ynl_laws.specs.Finishing.{ticked, all_ticked, without_own};
+ghost use Rattle.ynl_laws.specs.Finishing.{clock_rises, clocks_rise, without_own};
 ghost use Rattle.ynl_tables.specs.Tables.{state_of, app_of, leaf_of_row, leaves_of, partition_of, partitions_of};
 ghost use Rattle.ynl_core.specs.Rows.{containers_at_place};
 
@@ -29,8 +29,8 @@ pub fn is_own(container: &Placed, tenant: &[u8], app: &Name) -> bool
 
 /// The clock of a container's partition rises, and is the stamp of its node.
 #[tactic(auto, unfolding(ynl_model::specs::Changes::changed_at))]
-fn tick(config: &Config, tables: &mut Tables, container: &Placed)
-    ensures { state_of tables.new ≡ ticked config.now (state_of tables.old) container.now }
+fn raise_clock(config: &Config, tables: &mut Tables, container: &Placed)
+    ensures { state_of tables.new ≡ clock_rises config.now (state_of tables.old) container.now }
 {
     let label = container.id.label;
     let clock = next_clock(config, tables, &label);
@@ -49,7 +49,7 @@ fn containers_of(rows: &[PartitionRow], row: usize) -> &[Placed]
 }
 
 /// The clock rises for the container at a place of a row, if it is the application's.
-fn tick_at(
+fn raise_clock_at(
     config: &Config,
     tables: &mut Tables,
     row: usize,
@@ -57,33 +57,33 @@ fn tick_at(
     tenant: &[u8],
     app: &Name,
 )
-    ensures { state_of tables.new ≡ option_map_or (λ container. if is_of tenant.now app.now container then ticked config.now (state_of tables.old) container else state_of tables.old) (slice_get (containers_at_place (state_of tables.old).partitions row) place) (state_of tables.old) }
+    ensures { state_of tables.new ≡ option_map_or (λ container. if is_of tenant.now app.now container then clock_rises config.now (state_of tables.old) container else state_of tables.old) (slice_get (containers_at_place (state_of tables.old).partitions row) place) (state_of tables.old) }
 {
     let containers = containers_of(&tables.partitions, row);
     if let Some(container) = containers.get(place).copied() {
         if is_own(&container, tenant, app) {
-            tick(config, tables, &container);
+            raise_clock(config, tables, &container);
         }
     }
 }
 
 /// The clock rises for each container of a row that is the application's.
-fn tick_row(config: &Config, tables: &mut Tables, row: usize, tenant: &[u8], app: &Name)
-    ensures { state_of tables.new ≡ all_ticked config.now (filter (is_of tenant.now app.now) (containers_at_place (state_of tables.old).partitions row)) (state_of tables.old) }
+fn raise_clocks_of_row(config: &Config, tables: &mut Tables, row: usize, tenant: &[u8], app: &Name)
+    ensures { state_of tables.new ≡ clocks_rise config.now (filter (is_of tenant.now app.now) (containers_at_place (state_of tables.old).partitions row)) (state_of tables.old) }
 {
     let count = containers_of(&tables.partitions, row).len();
     for place in 0..count {
-        tick_at(config, tables, row, place, tenant, app);
+        raise_clock_at(config, tables, row, place, tenant, app);
     }
 }
 
 /// The clocks rise for all containers of an application, in the order of their ids.
-fn tick_own(config: &Config, tables: &mut Tables, tenant: &[u8], app: &Name)
-    ensures { state_of tables.new ≡ all_ticked config.now (all_own (state_of tables.old) tenant.now app.now) (state_of tables.old) }
+fn raise_clocks(config: &Config, tables: &mut Tables, tenant: &[u8], app: &Name)
+    ensures { state_of tables.new ≡ clocks_rise config.now (all_own (state_of tables.old) tenant.now app.now) (state_of tables.old) }
 {
     let count = tables.partitions.len();
     for row in 0..count {
-        tick_row(config, tables, row, tenant, app);
+        raise_clocks_of_row(config, tables, row, tenant, app);
     }
 }
 
@@ -134,7 +134,7 @@ pub fn finish(config: &Config, tables: &mut Tables, leaf: &Path, name: &Name)
     ensures { (app : Application) → app.leaf ≡ leaf.now → app.name ≡ name.now → state_of tables.new ≡ app_finishes config.now app (state_of tables.old) }
 {
     let tenant = tenant_bytes(leaf);
-    tick_own(config, tables, tenant, name);
+    raise_clocks(config, tables, tenant, name);
     drop_all_own(&mut tables.partitions, tenant, name);
     finish_in(&mut tables.leaves, leaf, name);
 }

@@ -1,6 +1,5 @@
 //! A refused allocation, and the right answer at the second try; and what is read of a cluster.
 
-ghost use Rattle.std.specs.Prelude.{IfOk, IsTrue};
 
 use crate::{Core, NoMemory};
 use std::test::Fail;
@@ -37,7 +36,7 @@ fn size(memory: u64, vcores: u64) -> Result<Size, Fail> {
     }
 }
 
-/// The events in order: a node, an application, and a heartbeat.
+/// The events in order: a node, an application, a heartbeat, and requests.
 fn event(number: u64) -> Result<Event, Fail>
 {
     let node = Name::parse("g1")?;
@@ -58,7 +57,32 @@ fn event(number: u64) -> Result<Event, Fail>
             master: size(1000, 1)?,
         });
     }
-    Ok(Event::Heartbeat { node })
+    if number == 2 {
+        return Ok(Event::Heartbeat { node });
+    }
+    request(number)
+}
+
+/// The requests in order: for two containers, what is held, and that the application is finished.
+fn request(number: u64) -> Result<Event, Fail>
+{
+    let tenant = Name::parse("eng")?;
+    let app = Name::parse("j1")?;
+    let label = Label::parse("gpu")?;
+    if number == 3 {
+        return Ok(Event::Ask {
+            tenant,
+            app,
+            label,
+            priority: 1,
+            count: 2,
+            size: size(1000, 1)?,
+        });
+    }
+    if number == 4 {
+        return Ok(Event::Poll { tenant, app, label });
+    }
+    Ok(Event::Finish { tenant, app })
 }
 
 fn answered(rt: &HostRuntime, core: &mut Core, number: u64) -> Result<Reply, Fail> {
@@ -90,6 +114,16 @@ fn placed(reply: &Reply) -> Option<usize> {
     }
 }
 
+/// How many containers are held, and how many asks.
+fn held(reply: &Reply) -> Option<(usize, usize)> {
+    match reply {
+        Reply::Held { containers, asks } => {
+            Some((containers.as_slice().len(), asks.as_slice().len()))
+        }
+        _ => None,
+    }
+}
+
 #[test]
 fn second_try_places_the_master(rt: HostRuntime) -> Result<(), Fail> {
     let mut core = opened(&rt)?;
@@ -101,6 +135,14 @@ fn second_try_places_the_master(rt: HostRuntime) -> Result<(), Fail> {
     assert_eq!(rt; placed(&beat), Some(1));
     let list = listed(&rt, &core)?;
     assert_eq!(rt; list.len(), 1);
+    let asked = answered(&rt, &mut core, 3)?;
+    assert!(rt; matches!(asked, Reply::Done));
+    let polled = answered(&rt, &mut core, 4)?;
+    assert_eq!(rt; held(&polled), Some((1, 1)));
+    let finished = answered(&rt, &mut core, 5)?;
+    assert!(rt; matches!(finished, Reply::Done));
+    let list = listed(&rt, &core)?;
+    assert_eq!(rt; list.len(), 0);
     Ok(())
 }
 

@@ -14,7 +14,7 @@ use Rattle.ynl_model.specs.Queues.{Config}
 use Rattle.ynl_model.specs.Cluster.{State, Partition, is_of, is_partition, in_partition, clock, next_clock}
 use Rattle.ynl_model.specs.Changes.{changed_at, end, all_own, all_end}
 use Rattle.ynl_laws.specs.Working.{Pairs, on_in, clock_in, EachFound, Numbered, IsOrdered}
-use Rattle.ynl_laws.specs.Finishing.{ticked, all_ticked, without_own, all_without_own}
+use Rattle.ynl_laws.specs.Finishing.{clock_rises, clocks_rise, without_own, all_without_own}
 use Rattle.ynl_laws.proofs.Restricted.{left-true, right-true, same-label_path}
 use Rattle.ynl_laws.proofs.Lists.{Each-flat, Each-kept, Each-weaker, Each-with, Each-update, filter-agree, find-through, some-same}
 use Rattle.ynl_laws.proofs.Homes.{in-rows}
@@ -59,7 +59,7 @@ rows-one d k n (row ∷ rows) = λ i. go (same_label row.label k.id.label) refl 
     go false e = λ i. record row { containers = cond (sym e i) (without (λ other. same_id other.id k.id) (d row.label row.containers)) (d row.label row.containers) }
 
 module _ (c : Config) where
-  end-one : (d : Label → List Container → List Container) (k : Container) (s : State) → end c (cleared d s) k ≡ cleared (λ p xs. hit k p (d p xs)) (ticked c s k)
+  end-one : (d : Label → List Container → List Container) (k : Container) (s : State) → end c (cleared d s) k ≡ cleared (λ p xs. hit k p (d p xs)) (clock_rises c s k)
   unfolding end changed_at
   end-one d k s =
       let same : next_clock c.labels (cleared d s) k.id.label ≡ next_clock c.labels s k.id.label = clock-same c.labels d s k.id.label in
@@ -69,15 +69,15 @@ module _ (c : Config) where
       })
       ∙ (λ i. record s { nodes = stamped k.node k.id.label (next_clock c.labels s k.id.label) s.nodes; partitions = rows-one d k (next_clock c.labels s k.id.label) s.partitions i })
 
-  ends-are : (ks : List Container) (d : Label → List Container → List Container) (s : State) → all_end c ks (cleared d s) ≡ cleared (all_hit ks d) (all_ticked c ks s)
+  ends-are : (ks : List Container) (d : Label → List Container → List Container) (s : State) → all_end c ks (cleared d s) ≡ cleared (all_hit ks d) (clocks_rise c ks s)
   ends-are [] d s = refl
-  ends-are (k ∷ ks) d s = ap (all_end c ks) (end-one d k s) ∙ ends-are ks (λ p xs. hit k p (d p xs)) (ticked c s k)
+  ends-are (k ∷ ks) d s = ap (all_end c ks) (end-one d k s) ∙ ends-are ks (λ p xs. hit k p (d p xs)) (clock_rises c s k)
 
   -- what holds of the containers of each partition holds while clocks rise
-  ticks-keep : (P : Label → List Container → Type 0) (ks : List Container) (s : State) → AllByRecursion (λ row. P row.label row.containers) s.partitions → AllByRecursion (λ row. P row.label row.containers) (all_ticked c ks s).partitions
+  rises-keep : (P : Label → List Container → Type 0) (ks : List Container) (s : State) → AllByRecursion (λ row. P row.label row.containers) s.partitions → AllByRecursion (λ row. P row.label row.containers) (clocks_rise c ks s).partitions
   unfolding changed_at
-  ticks-keep P [] s h = h
-  ticks-keep P (k ∷ ks) s h = ticks-keep P ks (ticked c s k) (Each-update (λ row. P row.label row.containers) (is_partition k.id.label) _ (λ row j. j) s.partitions h)
+  rises-keep P [] s h = h
+  rises-keep P (k ∷ ks) s h = rises-keep P ks (clock_rises c s k) (Each-update (λ row. P row.label row.containers) (is_partition k.id.label) _ (λ row j. j) s.partitions h)
 
 as-it-is : (rows : List Partition) → rows ≡ map (cleared_row (λ p xs. xs)) rows
 as-it-is [] = refl
@@ -200,13 +200,13 @@ rows-agree f g [] h = refl
 rows-agree f g (row ∷ rows) h = λ i. h.0 i ∷ rows-agree f g rows h.1 i
 
 -- the containers of an application end one by one: their clocks rise, and they go
-pub own-end : (c : Config) (s : State) (tenant app : Name) → IsOrdered c s → all_end c (all_own s tenant app) s ≡ all_without_own tenant app (all_ticked c (all_own s tenant app) s)
+pub own-end : (c : Config) (s : State) (tenant app : Name) → IsOrdered c s → all_end c (all_own s tenant app) s ≡ all_without_own tenant app (clocks_rise c (all_own s tenant app) s)
 own-end c s tenant app h =
     let own : List Container = all_own s tenant app in
-    let z : State = all_ticked c own s in
+    let z : State = clocks_rise c own s in
     let each : AllByRecursion (λ row. all_hit own (λ p xs. xs) row.label row.containers ≡ without (is_of tenant app) row.containers) s.partitions =
     Each-with _ _ (λ row. all_hit own (λ p xs. xs) row.label row.containers ≡ without (is_of tenant app) row.containers) (λ row e on. fewer-row s.partitions h.found h.ids tenant app row e on) s.partitions h.found (in-rows c tenant app s.partitions) in
     ap (all_end c own) (λ i. record s { partitions = as-it-is s.partitions i })
     ∙ ends-are c own (λ p xs. xs) s
     ∙ (λ i. record z { partitions = rows-agree (cleared_row (all_hit own (λ p xs. xs))) (without_own tenant app) z.partitions
-        (Each-weaker _ _ (λ row e j. record row { containers = e j }) z.partitions (ticks-keep c (λ p xs. all_hit own (λ p xs. xs) p xs ≡ without (is_of tenant app) xs) own s each)) i })
+        (Each-weaker _ _ (λ row e j. record row { containers = e j }) z.partitions (rises-keep c (λ p xs. all_hit own (λ p xs. xs) p xs ≡ without (is_of tenant app) xs) own s each)) i })

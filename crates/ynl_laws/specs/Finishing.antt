@@ -8,12 +8,12 @@ use Rattle.ynl_model.specs.Cluster.{State, Partition, is_of}
 use Rattle.ynl_model.specs.Changes.{changed_at}
 
 -- the clock of a container's partition rises, and is the stamp of its node
-abbrev pub ticked : Config → State → Container → State
-ticked c s container = changed_at c container.node container.id.label (λ containers. containers) s
+abbrev pub clock_rises : Config → State → Container → State
+clock_rises c s container = changed_at c container.node container.id.label (λ containers. containers) s
 
 -- that for one container after another
-abbrev pub all_ticked : Config → List Container → State → State
-all_ticked c containers s = fold (ticked c) s containers
+abbrev pub clocks_rise : Config → List Container → State → State
+clocks_rise c containers s = fold (clock_rises c) s containers
 
 -- a row without the containers of an application
 abbrev pub without_own : Name → Name → Partition → Partition
