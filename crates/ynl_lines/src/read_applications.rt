@@ -13,6 +13,9 @@ use serde_json::Value;
 use ynl_model::Event;
 use ynl_resource::Label;
 
+/// The largest count of an ask.
+const MOST_COUNT: u32 = 1000000;
+
 /// The text of a submit's label, which may be absent.
 #[tactic(auto, unfolding(crate::specs::Reading::label_text_at))]
 fn label_text_at(event: &Value) -> Result<Option<&str>, LineFault>
@@ -87,7 +90,7 @@ pub fn ask_at(event: &Value) -> Result<Event, LineFault>
     let app = name_at(app)?;
     let label = label_at(label)?;
     let tenant = name_at(tenant)?;
-    let count = within_small(1000000, count)?;
+    let count = within_small(MOST_COUNT, count)?;
     let priority = within_small(u32::MAX, priority)?;
     let size = size_at(memory, vcores)?;
     Ok(Event::Ask {

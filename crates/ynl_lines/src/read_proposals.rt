@@ -13,6 +13,9 @@ use serde_json::Value;
 use ynl_model::{Event, Proposal, What};
 use ynl_resource::Label;
 
+/// The largest stamp.
+const MOST_STAMP: u64 = 9007199254740991;
+
 #[tactic(auto, unfolding(crate::specs::Reading::propose_at))]
 pub fn propose_at(event: &Value) -> Result<Event, LineFault>
     ensures event { result ≡ spec.propose_at (view event.now) }
@@ -88,7 +91,7 @@ fn proposal_at(proposal: &Value) -> Result<Proposal, LineFault>
     let node = name_at(node)?;
     let tenant = name_at(tenant)?;
     let what = what_at(wanted)?;
-    let stamp = within(9007199254740991, stamp)?;
+    let stamp = within(MOST_STAMP, stamp)?;
     let size = size_at(memory, vcores)?;
     Ok(Proposal {
         node,

@@ -26,8 +26,8 @@ fn text_of(alloc: Global, value: &Value) -> Result<Vec<u8>, AllocError>
     value.to_vec(alloc)
 }
 
-/// The text of an event, without the newline of its line; where the number of its id is in range, it
-/// reads as that event.
+/// The text of an event, without the newline of its line; where the numbers that it names are in range,
+/// it reads as that event.
 #[tactic(auto, using(crate::proofs::Texts::plain_event, crate::proofs::Texts::flat_event))]
 pub fn write_event(alloc: Global, event: &Event) -> Result<Vec<u8>, AllocError>
     ensures text { IfOk result (λ text. text.items ≡ spec.event_text event.now) }
