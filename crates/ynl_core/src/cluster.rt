@@ -12,8 +12,8 @@ ghost use Rattle.ynl_core.specs.Sure.{is_refused, takes_no_memory};
 ghost use Rattle.ynl_core.specs.World.{opened, Answers};
 
 use crate::asking::{ask_for, asked_leaf, reserve_ask};
-use crate::ending::{container_of_tenant, container_on, end};
 use crate::controlling::{maximum_refusal, stop_refusal};
+use crate::ending::{container_of_tenant, container_on, end};
 use crate::finishing::finish;
 use crate::memory::NoMemory;
 use crate::nodes::{join, leave};

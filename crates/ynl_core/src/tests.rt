@@ -1,6 +1,5 @@
 //! A refused allocation, and the right answer at the second try; and what is read of a cluster.
 
-
 use crate::{Core, NoMemory};
 use std::test::Fail;
 use ynl_model::{Event, Placed, Reply, What};
@@ -37,8 +36,7 @@ fn size(memory: u64, vcores: u64) -> Result<Size, Fail> {
 }
 
 /// The events in order: a node, an application, a heartbeat, and requests.
-fn event(number: u64) -> Result<Event, Fail>
-{
+fn event(number: u64) -> Result<Event, Fail> {
     let node = Name::parse("g1")?;
     let gpu = Label::parse("gpu")?;
     if number == 0 {
@@ -64,8 +62,7 @@ fn event(number: u64) -> Result<Event, Fail>
 }
 
 /// The requests in order: for two containers, what is held, and that the application is finished.
-fn request(number: u64) -> Result<Event, Fail>
-{
+fn request(number: u64) -> Result<Event, Fail> {
     let tenant = Name::parse("eng")?;
     let app = Name::parse("j1")?;
     let label = Label::parse("gpu")?;

@@ -26,8 +26,7 @@ fn size(memory: u64, vcores: u64) -> Result<Size, Fail> {
     }
 }
 
-fn event_of(short: &Short) -> Result<Event, Fail>
-{
+fn event_of(short: &Short) -> Result<Event, Fail> {
     match *short {
         Reg(node, label, memory, vcores) => Ok(Event::Register {
             node: Name::parse(node)?,

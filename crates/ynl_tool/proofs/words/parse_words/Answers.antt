@@ -22,6 +22,6 @@ returns-clause-file c =
     let met = (c.in_ok-matches.ensures.matches (ap is_simple c.in_ok-command.ensures ∙ command_simple)).1 ∙ ap (λ a. subcommand_of a words) c.in_ok-command.ensures in
     elim c.match-subcommand.branch [
       | in-Some w ↦ ap (option_map (λ s. s.now)) w.config-is ∙ w.get_str-config.ensures ∙ first_value-rows (found_of w.in-Some.run'.now) (codes "config")
-        ∙ file_met (Some (rows_of (found_of w.in-Some.run'.now))) (subcommand_rows_of c.in_ok-matches.matches) w.in-Some.ensures.rows ∙ ap named met
+          ∙ file_met (Some (rows_of (found_of w.in-Some.run'.now))) (subcommand_rows_of c.in_ok-matches.matches) w.in-Some.ensures.rows ∙ ap named met
       | in-None w ↦ ap (option_map (λ s. s.now)) w.config-is ∙ file_met None (subcommand_rows_of c.in_ok-matches.matches) w.in-None.ensures.rows ∙ ap named met
     ]
