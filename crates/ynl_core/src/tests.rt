@@ -4,7 +4,7 @@ use crate::{Core, NoMemory};
 use std::test::Fail;
 use ynl_model::{Event, Placed, Reply, What};
 use ynl_queues::Config;
-use ynl_resource::{Label, Name, Path, Size};
+use ynl_resource::{Hundredths, Id, Label, Name, Path, Size};
 
 // Run with each allocation failing in turn: where memory is refused at the first try, which a line
 // tells, the second gives the answer.
@@ -35,8 +35,18 @@ fn size(memory: u64, vcores: u64) -> Result<Size, Fail> {
     }
 }
 
-/// The events in order: a node, an application, a heartbeat, and requests.
+/// The events in order, each of another kind.
 fn event(number: u64) -> Result<Event, Fail> {
+    match number {
+        0..=2 => start(number),
+        3..=5 => request(number),
+        6..=9 => control(number),
+        _ => ending(number),
+    }
+}
+
+/// A node, an application, and a heartbeat.
+fn start(number: u64) -> Result<Event, Fail> {
     let node = Name::parse("g1")?;
     let gpu = Label::parse("gpu")?;
     if number == 0 {
@@ -55,13 +65,10 @@ fn event(number: u64) -> Result<Event, Fail> {
             master: size(1000, 1)?,
         });
     }
-    if number == 2 {
-        return Ok(Event::Heartbeat { node });
-    }
-    request(number)
+    Ok(Event::Heartbeat { node })
 }
 
-/// The requests in order: for two containers, what is held, and that the application is finished.
+/// An ask for two containers, what is held, and what would be placed next.
 fn request(number: u64) -> Result<Event, Fail> {
     let tenant = Name::parse("eng")?;
     let app = Name::parse("j1")?;
@@ -79,7 +86,51 @@ fn request(number: u64) -> Result<Event, Fail> {
     if number == 4 {
         return Ok(Event::Poll { tenant, app, label });
     }
-    Ok(Event::Finish { tenant, app })
+    Ok(Event::Propose {
+        node: Name::parse("g1")?,
+    })
+}
+
+/// What an operator asks and sets of a queue.
+fn control(number: u64) -> Result<Event, Fail> {
+    let queue = Path::parse("root.eng")?;
+    let label = Label::parse("gpu")?;
+    match number {
+        6 => Ok(Event::Usage { queue, label }),
+        7 => Ok(Event::Stop { queue }),
+        8 => Ok(Event::Start { queue }),
+        _ => Ok(Event::Maximum {
+            queue,
+            label,
+            maximum: Hundredths::WHOLE,
+        }),
+    }
+}
+
+/// A container that is given back, one that exited, a node that goes to DEFAULT and is lost, and an
+/// application that finishes.
+fn ending(number: u64) -> Result<Event, Fail> {
+    let tenant = Name::parse("eng")?;
+    let node = Name::parse("g1")?;
+    match number {
+        10 => Ok(Event::Release {
+            tenant,
+            id: Id::parse("gpu#3")?,
+        }),
+        11 => Ok(Event::Exited {
+            node,
+            id: Id::parse("gpu#2")?,
+        }),
+        12 => Ok(Event::Relabel {
+            node,
+            label: Label::Unlabelled,
+        }),
+        13 => Ok(Event::Lost { node }),
+        _ => Ok(Event::Finish {
+            tenant,
+            app: Name::parse("j1")?,
+        }),
+    }
 }
 
 fn answered(rt: &HostRuntime, core: &mut Core, number: u64) -> Result<Reply, Fail> {
@@ -103,14 +154,6 @@ fn listed(rt: &HostRuntime, core: &Core) -> Result<Vec<Placed>, Fail> {
     }
 }
 
-/// How many containers a reply tells.
-fn placed(reply: &Reply) -> Option<usize> {
-    match reply {
-        Reply::Placed(list) => Some(list.as_slice().len()),
-        _ => None,
-    }
-}
-
 /// How many containers are held, and how many asks.
 fn held(reply: &Reply) -> Option<(usize, usize)> {
     match reply {
@@ -121,39 +164,53 @@ fn held(reply: &Reply) -> Option<(usize, usize)> {
     }
 }
 
+/// What is placed next is committed.
+fn committed(rt: &HostRuntime, core: &mut Core) -> Result<Reply, Fail> {
+    let Some(proposal) = core.choose(&Name::parse("g1")?) else {
+        return Err(Fail::new("nothing is chosen"));
+    };
+    match core.apply(Event::Commit { proposal }) {
+        Ok(reply) => Ok(reply),
+        Err(NoMemory) => {
+            println!(rt; "refused")?;
+            Ok(core.apply(Event::Commit { proposal })?)
+        }
+    }
+}
+
 #[test]
-fn second_try_places_the_master(rt: HostRuntime) -> Result<(), Fail> {
+fn second_try_answers_each_kind(rt: HostRuntime) -> Result<(), Fail> {
     let mut core = opened(&rt)?;
-    let registered = answered(&rt, &mut core, 0)?;
-    assert!(rt; matches!(registered, Reply::Done));
-    let submitted = answered(&rt, &mut core, 1)?;
-    assert!(rt; matches!(submitted, Reply::Done));
-    let beat = answered(&rt, &mut core, 2)?;
-    assert_eq!(rt; placed(&beat), Some(1));
-    let list = listed(&rt, &core)?;
-    assert_eq!(rt; list.len(), 1);
-    let asked = answered(&rt, &mut core, 3)?;
-    assert!(rt; matches!(asked, Reply::Done));
+    for number in 0..6 {
+        let reply = answered(&rt, &mut core, number)?;
+        assert!(rt; !matches!(reply, Reply::Refused(_)), "{number}");
+    }
     let polled = answered(&rt, &mut core, 4)?;
     assert_eq!(rt; held(&polled), Some((1, 1)));
-    let finished = answered(&rt, &mut core, 5)?;
-    assert!(rt; matches!(finished, Reply::Done));
+    let reply = committed(&rt, &mut core)?;
+    assert!(rt; matches!(reply, Reply::Committed(_)));
+    let list = listed(&rt, &core)?;
+    assert_eq!(rt; list.len(), 2);
+    for number in 6..15 {
+        let reply = answered(&rt, &mut core, number)?;
+        assert!(rt; !matches!(reply, Reply::Refused(_)), "{number}");
+    }
     let list = listed(&rt, &core)?;
     assert_eq!(rt; list.len(), 0);
     Ok(())
 }
 
 /// A cluster where an application waits for its master on a node.
-fn waiting(alloc: Global) -> Result<Core, Fail> {
-    let mut core = opened(alloc)?;
-    let _registered = answered(&mut core, 0)?;
-    let _submitted = answered(&mut core, 1)?;
+fn waiting(rt: &HostRuntime) -> Result<Core, Fail> {
+    let mut core = opened(rt)?;
+    let _registered = answered(rt, &mut core, 0)?;
+    let _submitted = answered(rt, &mut core, 1)?;
     Ok(core)
 }
 
 #[test]
 fn chooses_the_master_at_the_stamp(rt: HostRuntime) -> Result<(), Fail> {
-    let core = waiting(rt.alloc())?;
+    let core = waiting(&rt)?;
     let Some(chosen) = core.choose(&Name::parse("g1")?) else {
         return Err(Fail::new("nothing is chosen"));
     };
@@ -164,7 +221,7 @@ fn chooses_the_master_at_the_stamp(rt: HostRuntime) -> Result<(), Fail> {
 
 #[test]
 fn checks_what_is_chosen(rt: HostRuntime) -> Result<(), Fail> {
-    let core = waiting(rt.alloc())?;
+    let core = waiting(&rt)?;
     let Some(chosen) = core.choose(&Name::parse("g1")?) else {
         return Err(Fail::new("nothing is chosen"));
     };
@@ -174,7 +231,7 @@ fn checks_what_is_chosen(rt: HostRuntime) -> Result<(), Fail> {
 
 #[test]
 fn limits_a_user_to_the_guarantee(rt: HostRuntime) -> Result<(), Fail> {
-    let core = waiting(rt.alloc())?;
+    let core = waiting(&rt)?;
     let limit = core.user_limit(
         &Path::parse("root.eng")?,
         &Label::parse("gpu")?,
@@ -187,7 +244,7 @@ fn limits_a_user_to_the_guarantee(rt: HostRuntime) -> Result<(), Fail> {
 
 #[test]
 fn limits_masters_to_a_tenth(rt: HostRuntime) -> Result<(), Fail> {
-    let core = waiting(rt.alloc())?;
+    let core = waiting(&rt)?;
     let limit = core.master_limit(&Path::parse("root.eng")?, &Label::parse("gpu")?);
     assert_eq!(rt; limit.memory, 1000);
     assert_eq!(rt; limit.vcores, 1);

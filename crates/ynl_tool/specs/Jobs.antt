@@ -2,8 +2,8 @@
 use Rattle.std.specs.Prelude.{◌≡◌, ℕ, List, [], ◌++◌, Option, Result, Ok, Err, codes}
 use Rattle.std.specs.Option.{option_map_or}
 use Rattle.std.specs.Io.KnownBytes.{Consumes, Appends}
-use Rattle.std.specs.declared.io.kind.ErrorKind.{ErrorKind}
-use Rattle.std.specs.declared.io.kind.ErrorKind.TheVariants.{OutOfMemory}
+use Rattle.std.specs.declared.io.ErrorKind.{ErrorKind}
+use Rattle.std.specs.declared.io.ErrorKind.TheVariants.{OutOfMemory}
 use Rattle.ynl_model.specs.Cluster.{opening}
 use Rattle.ynl_model.specs.Queues.{Config}
 use Rattle.ynl_config.specs.declared.faults.ConfigFault.{ConfigFault}
