@@ -49,6 +49,7 @@ fn optional_label_at(text: Option<&str>) -> Result<Option<Label>, LineFault>
     }
 }
 
+/// `submit`: an application comes to a leaf.
 #[tactic(auto, unfolding(crate::specs::Reading::submit_at))]
 pub fn submit_at(event: &Value) -> Result<Event, LineFault>
     ensures event { result ≡ spec.submit_at (view event.now) }
@@ -74,6 +75,7 @@ pub fn submit_at(event: &Value) -> Result<Event, LineFault>
     })
 }
 
+/// `ask`: an application asks for containers.
 #[tactic(auto, unfolding(crate::specs::Reading::ask_at))]
 pub fn ask_at(event: &Value) -> Result<Event, LineFault>
     ensures event { result ≡ spec.ask_at (view event.now) }
@@ -103,6 +105,7 @@ pub fn ask_at(event: &Value) -> Result<Event, LineFault>
     })
 }
 
+/// `release`: a container is given back.
 #[tactic(auto, unfolding(crate::specs::Reading::release_at))]
 pub fn release_at(event: &Value) -> Result<Event, LineFault>
     ensures event { result ≡ spec.release_at (view event.now) }
@@ -116,6 +119,7 @@ pub fn release_at(event: &Value) -> Result<Event, LineFault>
     Ok(Event::Release { tenant, id })
 }
 
+/// `finish`: an application is finished.
 #[tactic(auto, unfolding(crate::specs::Reading::finish_at))]
 pub fn finish_at(event: &Value) -> Result<Event, LineFault>
     ensures event { result ≡ spec.finish_at (view event.now) }
@@ -129,6 +133,7 @@ pub fn finish_at(event: &Value) -> Result<Event, LineFault>
     Ok(Event::Finish { tenant, app })
 }
 
+/// `poll`: what does an application hold?
 #[tactic(auto, unfolding(crate::specs::Reading::poll_at))]
 pub fn poll_at(event: &Value) -> Result<Event, LineFault>
     ensures event { result ≡ spec.poll_at (view event.now) }

@@ -11,6 +11,7 @@ use serde_json::Value;
 use ynl_model::Event;
 use ynl_resource::Name;
 
+/// `register`: a node joins.
 #[tactic(auto, unfolding(crate::specs::Reading::register_at))]
 pub fn register_at(event: &Value) -> Result<Event, LineFault>
     ensures event { result ≡ spec.register_at (view event.now) }
@@ -37,6 +38,7 @@ pub fn node_at(event: &Value) -> Result<Name, LineFault>
     name_at(node)
 }
 
+/// `lost`: a node is lost.
 #[tactic(auto, unfolding(crate::specs::Reading::lost_at))]
 pub fn lost_at(event: &Value) -> Result<Event, LineFault>
     ensures event { result ≡ spec.lost_at (view event.now) }
@@ -46,6 +48,7 @@ pub fn lost_at(event: &Value) -> Result<Event, LineFault>
     Ok(Event::Lost { node })
 }
 
+/// `relabel`: a node goes to another partition.
 #[tactic(auto, unfolding(crate::specs::Reading::relabel_at))]
 pub fn relabel_at(event: &Value) -> Result<Event, LineFault>
     ensures event { result ≡ spec.relabel_at (view event.now) }
@@ -59,6 +62,7 @@ pub fn relabel_at(event: &Value) -> Result<Event, LineFault>
     Ok(Event::Relabel { node, label })
 }
 
+/// `heartbeat`: a node is ready for more.
 #[tactic(auto, unfolding(crate::specs::Reading::heartbeat_at))]
 pub fn heartbeat_at(event: &Value) -> Result<Event, LineFault>
     ensures event { result ≡ spec.heartbeat_at (view event.now) }
@@ -68,6 +72,7 @@ pub fn heartbeat_at(event: &Value) -> Result<Event, LineFault>
     Ok(Event::Heartbeat { node })
 }
 
+/// `exited`: a container ended by itself.
 #[tactic(auto, unfolding(crate::specs::Reading::exited_at))]
 pub fn exited_at(event: &Value) -> Result<Event, LineFault>
     ensures event { result ≡ spec.exited_at (view event.now) }

@@ -16,6 +16,7 @@ use ynl_resource::Label;
 /// The largest stamp.
 const MOST_STAMP: u64 = 9007199254740991;
 
+/// `propose`: what would be placed on a node?
 #[tactic(auto, unfolding(crate::specs::Reading::propose_at))]
 pub fn propose_at(event: &Value) -> Result<Event, LineFault>
     ensures event { result ≡ spec.propose_at (view event.now) }
@@ -103,6 +104,7 @@ fn proposal_at(proposal: &Value) -> Result<Proposal, LineFault>
     })
 }
 
+/// `commit`: a proposal is to be placed.
 #[tactic(auto, unfolding(crate::specs::Reading::commit_at))]
 pub fn commit_at(event: &Value) -> Result<Event, LineFault>
     ensures event { result ≡ spec.commit_at (view event.now) }

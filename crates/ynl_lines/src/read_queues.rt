@@ -21,6 +21,7 @@ fn queue_at(event: &Value) -> Result<Path, LineFault>
     path_at(queue)
 }
 
+/// `stop`: a queue is stopped.
 #[tactic(auto, unfolding(crate::specs::Reading::stop_at))]
 pub fn stop_at(event: &Value) -> Result<Event, LineFault>
     ensures event { result ≡ spec.stop_at (view event.now) }
@@ -30,6 +31,7 @@ pub fn stop_at(event: &Value) -> Result<Event, LineFault>
     Ok(Event::Stop { queue })
 }
 
+/// `start`: a stopped queue takes applications again.
 #[tactic(auto, unfolding(crate::specs::Reading::start_at))]
 pub fn start_at(event: &Value) -> Result<Event, LineFault>
     ensures event { result ≡ spec.start_at (view event.now) }
@@ -39,6 +41,7 @@ pub fn start_at(event: &Value) -> Result<Event, LineFault>
     Ok(Event::Start { queue })
 }
 
+/// `usage`: what does a queue use?
 #[tactic(auto, unfolding(crate::specs::Reading::usage_at))]
 pub fn usage_at(event: &Value) -> Result<Event, LineFault>
     ensures event { result ≡ spec.usage_at (view event.now) }
@@ -52,6 +55,7 @@ pub fn usage_at(event: &Value) -> Result<Event, LineFault>
     Ok(Event::Usage { queue, label })
 }
 
+/// `maximum`: a queue's maximum is set, in hundredths of a percent.
 #[tactic(auto, unfolding(crate::specs::Reading::maximum_at))]
 pub fn maximum_at(event: &Value) -> Result<Event, LineFault>
     ensures event { result ≡ spec.maximum_at (view event.now) }
