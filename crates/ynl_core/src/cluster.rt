@@ -9,8 +9,8 @@ ghost use Rattle.ynl_core.specs.Sure.{is_refused, takes_no_memory};
 ghost use Rattle.ynl_core.specs.World.{opened, Answers};
 
 use crate::asking::{ask_for, asked_leaf, reserve_ask};
-use crate::ending::{container_of_tenant, container_on, end};
 use crate::controlling::{maximum_refusal, stop_refusal};
+use crate::ending::{container_of_tenant, container_on, end};
 use crate::finishing::finish;
 use crate::memory::NoMemory;
 use crate::nodes::{join, leave};
@@ -25,9 +25,7 @@ use std::marker::Model;
 use ynl_model::{Event, PendingList, Placed, PlacedList, Reply};
 use ynl_queues::Config;
 use ynl_resource::{Hundredths, Id, Label, Name, Path, Refusal, Size};
-use ynl_tables::{
-    Ask, Tables, containers_at, is_full, is_master, is_same, live_at, node_at,
-};
+use ynl_tables::{Ask, Tables, containers_at, is_full, is_master, is_same, live_at, node_at};
 
 /// A cluster: what it is configured with, and its state. The names of nodes that rest are listed
 /// beside it, so that their heartbeats take no search; a change of the cluster strikes them all.

@@ -90,7 +90,8 @@ fn raise_clocks(config: &Config, tables: &mut Tables, tenant: &[u8], app: &Name)
 fn drop_own(row: &mut PartitionRow, tenant: &[u8], app: &Name)
     ensures { partition_of row.new ≡ without_own tenant.now app.now (partition_of row.old) }
 {
-    row.containers.retain(|container| !is_own(container, tenant, app));
+    row.containers
+        .retain(|container| !is_own(container, tenant, app));
 }
 
 /// The containers of an application go.

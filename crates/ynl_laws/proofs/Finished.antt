@@ -150,7 +150,7 @@ module _ (rows : List Partition) (found : EachFound rows) (ids : (p : Label) →
           subst (λ (r : Partition). AllByRecursion (IsAlone x) r.containers) (some-same row other (find (is_partition row.label) rows) at same) alone
       go false b = Each-weaker _ (IsAlone x) (λ k own h.
           absurd (true≢false (sym (
-            (λ i. same_label (sym label i) (sym own.0 i)) ∙ left-true (same_label x.id.label k.id.label) _ h
+          (λ i. same_label (sym label i) (sym own.0 i)) ∙ left-true (same_label x.id.label k.id.label) _ h
           ) ∙ b))) other.containers (numbered-row other e).own
 
   module _ (tenant app : Name) where
@@ -208,5 +208,7 @@ own-end c s tenant app h =
     Each-with _ _ (λ row. all_hit own (λ p xs. xs) row.label row.containers ≡ without (is_of tenant app) row.containers) (λ row e on. fewer-row s.partitions h.found h.ids tenant app row e on) s.partitions h.found (in-rows c tenant app s.partitions) in
     ap (all_end c own) (λ i. record s { partitions = as-it-is s.partitions i })
     ∙ ends-are c own (λ p xs. xs) s
-    ∙ (λ i. record z { partitions = rows-agree (cleared_row (all_hit own (λ p xs. xs))) (without_own tenant app) z.partitions
-        (Each-weaker _ _ (λ row e j. record row { containers = e j }) z.partitions (rises-keep c (λ p xs. all_hit own (λ p xs. xs) p xs ≡ without (is_of tenant app) xs) own s each)) i })
+    ∙ (λ i. record z {
+      partitions = rows-agree (cleared_row (all_hit own (λ p xs. xs))) (without_own tenant app) z.partitions
+          (Each-weaker _ _ (λ row e j. record row { containers = e j }) z.partitions (rises-keep c (λ p xs. all_hit own (λ p xs. xs) p xs ≡ without (is_of tenant app) xs) own s each)) i;
+    })
