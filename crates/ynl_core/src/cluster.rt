@@ -307,8 +307,8 @@ impl Core {
     }
 
     /// One event is one step of the model. Where memory is refused, nothing has changed; a refused
-    /// event changes nothing either. A refused event takes no memory, nor does one that ends, sets or
-    /// takes back.
+    /// event changes nothing either. A refused event is answered whatever memory there is, and so is
+    /// one that ends, sets or takes back.
     pub fn apply(&mut self, event: Event) -> Result<Reply, NoMemory>
         requires { IsTrue (is_there event) }
         ensures ok { IfOk result (λ reply. Answers self.old event self.new reply) }
