@@ -4,12 +4,11 @@ use Rattle.std.specs.Prelude.{slice_get, fold}
 use Rattle.std.specs.Option.{option_map_or}
 use Rattle.std.proofs.lemmas.List.{take_more}
 use Rattle.std.proofs.lemmas.List.Elements.{filter-append}
-use Rattle.ynl_resource.specs.declared.names.Name.{Name}
 use Rattle.ynl_resource.specs.declared.labels.Label.{Label}
 use Rattle.ynl_resource.specs.Names.{same_label}
 use Rattle.ynl_model.specs.declared.containers.Placed.{Placed}
 use Rattle.ynl_model.specs.Queues.{Config}
-use Rattle.ynl_model.specs.Cluster.{State, Partition, is_of, in_partition}
+use Rattle.ynl_model.specs.Cluster.{State, Partition, in_partition}
 use Rattle.ynl_model.specs.Changes.{changed_at}
 use Rattle.ynl_laws.specs.Finishing.{clock_rises, clocks_rise}
 use Rattle.ynl_core.specs.Rows.{containers_at_place}

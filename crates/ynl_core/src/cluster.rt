@@ -356,8 +356,8 @@ impl Core {
     }
 
     /// One event is one step of the model. Where memory is refused, nothing has changed; a refused
-    /// event changes nothing either. A refused event takes no memory, nor does one that ends, sets,
-    /// takes back, or asks for use or a proposal.
+    /// event changes nothing either. A refused event is answered whatever memory there is, and so is
+    /// one that ends, sets, takes back, or asks for use or a proposal.
     pub fn apply(&mut self, event: Event) -> Result<Reply, NoMemory>
         ensures ok { IfOk result (λ reply. Answers self.old event self.new reply) }
         ensures err { OnErr result (self.new ≡ self.old) }

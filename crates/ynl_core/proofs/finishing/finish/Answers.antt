@@ -1,9 +1,8 @@
-use Rattle.std.proofs.Common.{◌≡◌, List, map, sym, ap, ◌∙◌}
+use Rattle.std.proofs.Common.{◌≡◌, map, sym, ap, ◌∙◌}
 use Rattle.ynl_resource.specs.Names.{tenant_of}
 use Rattle.ynl_resource.specs.declared.names.Name.{Name}
-use Rattle.ynl_resource.specs.declared.paths.Path.{Path}
 use Rattle.ynl_model.specs.Applications.{Application, in_leaf, finished}
-use Rattle.ynl_model.specs.Cluster.{State, Partition}
+use Rattle.ynl_model.specs.Cluster.{State}
 use Rattle.ynl_model.specs.Changes.{all_own, all_end, app_finishes}
 use Rattle.ynl_laws.specs.Finishing.{clocks_rise, without_own, all_without_own}
 use Rattle.ynl_laws.proofs.Finished.{own-end}
