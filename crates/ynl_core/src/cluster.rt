@@ -1,12 +1,13 @@
 //! The cluster that takes one event after another.
 
-ghost use Rattle.std.specs.Prelude.{◌≡◌, Some, None, IfOk, IfErr, OnErr, IsTrue};
+ghost use Rattle.std.specs.Prelude.{◌≡◌, Some, None, IsSome, IsOk, IfOk, IfErr, OnErr, IsTrue};
 ghost use Rattle.std.specs.Option.{option_and_then};
 ghost use Rattle.ynl_resource.specs.Refusals.{first_that_holds};
 ghost use Rattle.ynl_model.specs.declared.events.Event.TheVariants.{Register, Lost, Relabel, Heartbeat, Exited, Submit, Release, Usage, Propose, Commit};
 ghost use Rattle.ynl_model.specs.Kinds.{is_there};
 ghost use Rattle.ynl_model.specs.Check.{proposed, commit_reasons};
 ghost use Rattle.ynl_model.specs.Cluster.{containers_on, node_of};
+ghost use Rattle.ynl_model.specs.Events.{reasons};
 ghost use Rattle.ynl_model.specs.Limits.{user_limit, master_limit};
 ghost use Rattle.ynl_core.specs.World.{opened, Answers};
 
@@ -232,6 +233,7 @@ impl Core {
     fn commit(&mut self, proposal: Proposal) -> Result<Reply, NoMemory>
         ensures ok { IfOk result (λ reply. Answers self.old (Commit proposal) self.new reply) }
         ensures err { OnErr result (self.new ≡ self.old) }
+        ensures sure { IsSome (first_that_holds (reasons self.old.config self.old.state (Commit proposal))) → IsOk result }
     {
         let checked = match check(&self.config, &self.tables, &proposal) {
             Ok(checked) => checked,
