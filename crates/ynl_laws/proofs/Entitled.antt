@@ -200,7 +200,7 @@ entitled-after c events = lasting (Entitled c) c (entitled-lasts c) (record {
 }) events
 
 -- what holds of the applications of each row holds of all
-all-apps : (P : Application → Type 0) (leaves : List LeafApps) → AllByRecursion (λ row. AllByRecursion P row.apps) leaves → AllByRecursion P (all_apps leaves)
+pub all-apps : (P : Application → Type 0) (leaves : List LeafApps) → AllByRecursion (λ row. AllByRecursion P row.apps) leaves → AllByRecursion P (all_apps leaves)
 all-apps P leaves h = Each-flat (λ row. AllByRecursion P row.apps) P (λ row. row.apps) (λ row k. k) leaves h
 
 -- in each state

@@ -42,3 +42,4 @@ pub mod FollowsCommits
 pub mod FollowsEvents
 pub mod Isolated
 pub mod Finished
+pub mod Proposed
