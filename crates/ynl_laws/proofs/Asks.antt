@@ -1,15 +1,13 @@
 -- The asks of an application differ in label or priority, and so each is what its label and priority find.
-use Rattle.std.proofs.Common.{◌≡◌, ℕ, ◌-◌, Bool, true, false, cond, not, ◌&&◌, ◌==◌, List, [], ◌∷◌, map, Some, None, find, filter, refl, sym, ap, subst, ◌∙◌, arith}
-use Rattle.std.specs.Prelude.{⊤, if◌then◌else◌}
+use Rattle.std.proofs.Common.{◌≡◌, ◌-◌, Bool, true, false, cond, not, ◌&&◌, ◌==◌, List, [], ◌∷◌, Some, find, filter, refl, sym, subst, ◌∙◌, arith}
+use Rattle.std.specs.Prelude.{⊤}
 use Rattle.std.specs.List.{AllByRecursion}
 use Rattle.std.proofs.lemmas.Bool.Decides.{nat_tests}
 use Rattle.ynl_resource.specs.Names.{same_name, same_label, same_path}
-use Rattle.ynl_resource.specs.declared.labels.Label.{Label}
 use Rattle.ynl_resource.specs.declared.paths.Path.{Path}
 use Rattle.ynl_resource.specs.Tables.{without, put}
 use Rattle.ynl_model.specs.Queues.{Config, QueueRow, is_leaf}
 use Rattle.ynl_model.specs.Applications.{Application, AskRow, LeafApps, in_leaf, submitted, with_app, finished, is_ask_of, set_ask}
-use Rattle.ynl_model.specs.Cluster.{State}
 use Rattle.ynl_model.specs.declared.proposals.What.{What}
 use Rattle.ynl_model.specs.declared.proposals.What.TheVariants.{Master, Ask as Asked}
 use Rattle.ynl_model.specs.Changes.{node_joins, node_leaves, changed_at, taken, place, end, app_finishes}

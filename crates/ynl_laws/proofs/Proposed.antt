@@ -1,10 +1,9 @@
 -- What is proposed for a node is placed where it is committed at once.
-use Rattle.std.proofs.Common.{◌≡◌, ◌⊎◌, inl, inr, Bool, true, false, cond, not, ◌&&◌, ◌||◌, ◌==◌, List, [], ◌∷◌, ◌++◌, Option, Some, None, is_some, option_map, find, filter, refl, sym, ap, subst, ◌∙◌, arith}
+use Rattle.std.proofs.Common.{◌≡◌, ◌⊎◌, inl, inr, Bool, true, false, cond, not, ◌&&◌, ◌||◌, ◌==◌, List, [], ◌∷◌, Option, Some, None, is_some, option_map, filter, refl, sym, ap, subst, ◌∙◌, arith}
 use Rattle.std.specs.Prelude.{IfSome, nat_lt}
 use Rattle.std.specs.List.{AllByRecursion}
 use Rattle.std.specs.Option.{option_map_or, option_or}
 use Rattle.std.proofs.lemmas.Bool.Decides.{nat_tests}
-use mathlib.Core.Bool.{true≢false}
 use Rattle.ynl_resource.specs.declared.amounts.Resource.{Resource}
 use Rattle.ynl_resource.specs.Names.{same_name, same_label, is_default, top_level, tenant_of}
 use Rattle.ynl_resource.specs.declared.names.Name.{Name}
@@ -17,25 +16,22 @@ use Rattle.ynl_model.specs.declared.nodes.Node.{Node}
 use Rattle.ynl_model.specs.Nodes.{is_exclusive}
 use Rattle.ynl_model.specs.Queues.{Config, queue_row, may_use}
 use Rattle.ynl_model.specs.Accepted.{is_accepted}
-use Rattle.ynl_model.specs.Applications.{Application, AskRow, LeafApps, all_apps, find_app}
+use Rattle.ynl_model.specs.Applications.{Application, AskRow, all_apps, find_app}
 use Rattle.ynl_model.specs.Cluster.{State, opening, node_of, is_spent, runs, waits}
 use Rattle.ynl_model.specs.declared.proposals.What.{What}
-use Rattle.ynl_model.specs.declared.proposals.What.TheVariants.{Master, Ask as Asked}
 use Rattle.ynl_model.specs.Service.{Item, item_of, master_item, ask_item, asks_of, masters_for, asks_for, items_for, has_room, within_maximum, within_user_limit, within_master_share, is_eligible, eligible, takes_guests, some_eligible, guests_for, key, first_of, choice}
 use Rattle.ynl_model.specs.Changes.{place, container_of}
 use Rattle.ynl_model.specs.Check.{placing_reasons, comes_as_guest, is_for, has_access, same_size, wants, proposal_of, proposed, proposed_item, request_that, commit_reasons}
 use Rattle.ynl_model.specs.Events.{Outcome, answered, where_there, commits, reasons, accepted, step, state_after}
 use Rattle.ynl_model.specs.declared.proposals.Proposal.{Proposal}
-use Rattle.ynl_model.specs.declared.events.Event.{Event}
 use Rattle.ynl_model.specs.declared.events.Event.TheVariants.{Propose, Commit}
-use Rattle.ynl_model.specs.declared.replies.Reply.{Reply}
 use Rattle.ynl_model.specs.declared.replies.Reply.TheVariants.{Refused, Proposed, Committed}
 use Rattle.ynl_laws.specs.Found.{FindsItself}
 use Rattle.ynl_laws.specs.Proposed.{IsCommitted, AreChoicesCommitted, IsCommitOf, AreProposalsCommitted}
 use Rattle.ynl_laws.proofs.Restricted.{left-true, right-true, and-true, same-name_sym, same-label_path, same-label_self}
 use Rattle.ynl_laws.proofs.Lists.{not-true, some-same, Each-append, Each-both, Each-filter, Each-flat, Each-found, Each-kept, Each-map, Each-weaker, Each-with, filter-passes, found-passes}
 use Rattle.ynl_laws.proofs.Chosen.{none-holds}
-use Rattle.ynl_laws.proofs.Found.{FindsAll, IsFound}
+use Rattle.ynl_laws.proofs.Found.{IsFound}
 use Rattle.ynl_laws.proofs.Entitled.{Fitting, may-own, all-apps}
 use Rattle.ynl_laws.proofs.Asks.{Distinct, AllDistinct, each-found, distinct-after}
 use Rattle.ynl_laws.proofs.Alone.{tops}
