@@ -24,10 +24,11 @@ use Rattle.ynl_model.specs.Changes.{place, container_of}
 use Rattle.ynl_model.specs.Check.{placing_reasons, comes_as_guest, is_for, has_access, same_size, wants, proposal_of, proposed, proposed_item, request_that, commit_reasons}
 use Rattle.ynl_model.specs.Events.{Outcome, answered, where_there, commits, reasons, accepted, step, state_after}
 use Rattle.ynl_model.specs.declared.proposals.Proposal.{Proposal}
+use Rattle.ynl_model.specs.declared.events.Event.{Event}
 use Rattle.ynl_model.specs.declared.events.Event.TheVariants.{Propose, Commit}
 use Rattle.ynl_model.specs.declared.replies.Reply.TheVariants.{Refused, Proposed, Committed}
 use Rattle.ynl_laws.specs.Found.{FindsItself}
-use Rattle.ynl_laws.specs.Proposed.{IsCommitted, AreChoicesCommitted, IsCommitOf, AreProposalsCommitted}
+use Rattle.ynl_laws.specs.Proposed.{IsCommitted, AreAccessibleChoicesCommitted, AreChoicesCommitted, IsCommitOf, AreProposalsCommitted}
 use Rattle.ynl_laws.proofs.Restricted.{left-true, right-true, and-true, same-name_sym, same-label_path, same-label_self}
 use Rattle.ynl_laws.proofs.Lists.{not-true, some-same, Each-append, Each-both, Each-filter, Each-flat, Each-found, Each-kept, Each-map, Each-weaker, Each-with, filter-passes, found-passes}
 use Rattle.ynl_laws.proofs.Chosen.{none-holds}
@@ -197,7 +198,7 @@ leaf-access c approved leaf p what there access = and-true _ _ (tops c approved 
     go (inl e) = ap (λ b. b || (may_use c (top_level (tenant_of leaf)) p && is_for p what)) e
     go (inr e) = or-true (comes_as_guest c p what) _ (and-true _ _ (top-may c approved leaf p there (left-true _ _ e)) (right-true (may_use c leaf p) _ e))
 
-module _ (c : Config) (s : State) (approved : is_accepted c ≡ true) (node : Node) (there : node_of s node.name ≡ Some node) (fresh : is_spent c.labels s node.label ≡ false) (item : Item) (h : IsChosen c s node item) where
+module _ (c : Config) (s : State) (node : Node) (there : node_of s node.name ≡ Some node) (fresh : is_spent c.labels s node.label ≡ false) (item : Item) (h : IsChosen c s node item) (access : has_access c node.label (tenant_of item.leaf) item.what ≡ true) where
   abbrev proposal : Proposal
   proposal = proposal_of node item
 
@@ -227,7 +228,7 @@ module _ (c : Config) (s : State) (approved : is_accepted c ≡ true) (node : No
     (λ i. not (is_some (there i))),
     (of-node (λ node. is_spent c.labels s node.label) fresh,
     (of-node (λ other. not (other.stamp == node.stamp)) (ap not same-stamp),
-    (of-node (λ node. not (has_access c node.label (tenant_of item.leaf) item.what)) (ap not (leaf-access c approved item.leaf node.label item.what h.request.there h.access)),
+    (of-node (λ node. not (has_access c node.label (tenant_of item.leaf) item.what)) (ap not access),
     ((λ i. not (is_some (h.request.found i))),
     (of-app (λ node app. not (wants s node.label item.what item.size app)) (ap not h.request.wanted),
     (of-request (λ node item. not (has_room s node item.size)) (ap not h.room),
@@ -249,28 +250,40 @@ module _ (c : Config) (s : State) (approved : is_accepted c ≡ true) (node : No
 
 -- ---- the laws
 
--- what is proposed in a state is committed
-state-commits : (c : Config) (s : State) (name : Name) (node : Node) (proposal : Proposal) → is_accepted c ≡ true → Firm c s → AllDistinct s.leaves → node_of s name ≡ Some node → is_spent c.labels s node.label ≡ false →
-    proposed c s node ≡ Some proposal → IsCommitted c s node proposal
+-- what is proposed in a state is chosen there
+proposed-chosen : (c : Config) (s : State) (node : Node) (proposal : Proposal) → AllByRecursion (IsLive c s) (all_apps s.leaves) → proposed c s node ≡ Some proposal → (P : Type 0) →
+    ((item : Item) → choice c s node ≡ Some item → IsChosen c s node item → proposal_of node item ≡ proposal → P) → P
 unfolding proposed
-state-commits c s name node proposal approved firm distinct e fresh is = go (choice c s node) refl (choice-chosen c s (all-live c s firm distinct) node) is
+proposed-chosen c s node proposal live is P step = go (choice c s node) refl (choice-chosen c s live node) is
   where
+    go : (o : Option Item) → choice c s node ≡ o → IfSome o (IsChosen c s node) → option_map (proposal_of node) o ≡ Some proposal → P
+    go None f h k = cc
+    go (Some item) f h k = step item f h (some-same (proposal_of node item) proposal (Some (proposal_of node item)) refl k)
+
+live-after : (c : Config) (events : List Event) → AllByRecursion (IsLive c (state_after c events)) (all_apps (state_after c events).leaves)
+live-after c events = all-live c (state_after c events) (firm-after c events) (distinct-after c events)
+
+pub are_accessible_choices_committed : AreAccessibleChoicesCommitted
+are_accessible_choices_committed c events name node proposal e fresh is access = proposed-chosen c s node proposal (live-after c events) is (IsCommitted c s node proposal) (λ item f h same.
+    let may : has_access c node.label (tenant_of item.leaf) item.what ≡ true = ap (λ (asked : Proposal). has_access c node.label asked.tenant asked.what) same ∙ access in
+    subst (IsCommitted c s node) same (record {
+      item = item;
+      chosen = f;
+      passes = passes c s node there fresh item h may;
+      reply = ap (λ (outcome : Outcome). outcome.reply) (committed c s node there fresh item h may);
+      state = ap (λ (outcome : Outcome). outcome.state) (committed c s node there fresh item h may);
+    }))
+  where
+    s : State
+    s = state_after c events
+
     there : node_of s node.name ≡ Some node
     there = ap (node_of s) (same-name_sym node.name name (subst (λ o. IfSome o (λ node. same_name node.name name ≡ true)) e (found-passes (λ node. same_name node.name name) s.nodes))) ∙ e
 
-    go : (o : Option Item) → choice c s node ≡ o → IfSome o (IsChosen c s node) → option_map (proposal_of node) o ≡ Some proposal → IsCommitted c s node proposal
-    go None f h k = cc
-    go (Some item) f h k = subst (IsCommitted c s node) (some-same (proposal_of node item) proposal (Some (proposal_of node item)) refl k) (record {
-      item = item;
-      chosen = f;
-      passes = passes c s approved node there fresh item h;
-      reply = ap (λ (outcome : Outcome). outcome.reply) (committed c s approved node there fresh item h);
-      state = ap (λ (outcome : Outcome). outcome.state) (committed c s approved node there fresh item h);
-    })
-
 pub are_choices_committed : AreChoicesCommitted
-are_choices_committed c events name node proposal approved e fresh is =
-    state-commits c (state_after c events) name node proposal approved (firm-after c events) (distinct-after c events) e fresh is
+are_choices_committed c events name node proposal approved e fresh is = are_accessible_choices_committed c events name node proposal e fresh is
+    (proposed-chosen c (state_after c events) node proposal (live-after c events) is _ (λ item f h same.
+    ap (λ (asked : Proposal). has_access c node.label asked.tenant asked.what) (sym same) ∙ leaf-access c approved item.leaf node.label item.what h.request.there h.access))
 
 -- what a proposal that is answered says of the state
 record IsAnswered (c : Config) (s : State) (name : Name) (proposal : Proposal) : Type 0 where

@@ -8,7 +8,7 @@ use Rattle.ynl_model.specs.Accepted.{is_accepted}
 use Rattle.ynl_model.specs.Cluster.{State, node_of, is_spent}
 use Rattle.ynl_model.specs.Service.{Item, choice}
 use Rattle.ynl_model.specs.Changes.{place, container_of}
-use Rattle.ynl_model.specs.Check.{proposed, commit_reasons}
+use Rattle.ynl_model.specs.Check.{has_access, proposed, commit_reasons}
 use Rattle.ynl_model.specs.Events.{step, state_after}
 use Rattle.ynl_model.specs.declared.proposals.Proposal.{Proposal}
 use Rattle.ynl_model.specs.declared.events.Event.{Event}
@@ -24,7 +24,13 @@ pub record IsCommitted (c : Config) (s : State) (node : Node) (proposal : Propos
   pub reply : (step c s (Commit proposal)).reply ≡ Committed (container_of c s node item)
   pub state : (step c s (Commit proposal)).state ≡ place c node item s
 
--- in each state of an accepted configuration what is proposed for a node is committed, where the clock of its partition is not spent
+-- in each state what is proposed for a node is committed, where the clock of its partition is not spent and the tenant has access there
+abbrev pub AreAccessibleChoicesCommitted : Type 0
+AreAccessibleChoicesCommitted =
+    (c : Config) (events : List Event) (name : Name) (node : Node) (proposal : Proposal) → node_of (state_after c events) name ≡ Some node → IsFalse (is_spent c.labels (state_after c events) node.label)
+    → proposed c (state_after c events) node ≡ Some proposal → IsTrue (has_access c node.label proposal.tenant proposal.what) → IsCommitted c (state_after c events) node proposal
+
+-- in an accepted configuration the tenant has it: there what is proposed for a node is committed, where the clock of its partition is not spent
 abbrev pub AreChoicesCommitted : Type 0
 AreChoicesCommitted =
     (c : Config) (events : List Event) (name : Name) (node : Node) (proposal : Proposal) → IsTrue (is_accepted c) → node_of (state_after c events) name ≡ Some node
