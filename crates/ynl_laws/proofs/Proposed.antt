@@ -1,5 +1,5 @@
 -- What is proposed for a node is placed where it is committed at once.
-use Rattle.std.proofs.Common.{◌≡◌, ◌⊎◌, inl, inr, Bool, true, false, cond, not, ◌&&◌, ◌||◌, ◌==◌, List, [], ◌∷◌, Option, Some, None, is_some, option_map, filter, refl, sym, ap, subst, ◌∙◌, arith}
+use Rattle.std.proofs.Common.{◌≡◌, ◌⊎◌, inl, inr, Bool, true, false, cond, not, ◌&&◌, ◌||◌, ◌==◌, List, [], Option, Some, None, is_some, option_map, filter, refl, sym, ap, subst, ◌∙◌, arith}
 use Rattle.std.specs.Prelude.{IfSome, nat_lt}
 use Rattle.std.specs.List.{AllByRecursion}
 use Rattle.std.specs.Option.{option_map_or, option_or}
@@ -12,6 +12,7 @@ use Rattle.ynl_resource.specs.declared.labels.Label.TheVariants.{Unlabelled, Nam
 use Rattle.ynl_resource.specs.declared.paths.Path.{Path}
 use Rattle.ynl_resource.specs.Refusals.{first_that_holds}
 use Rattle.ynl_resource.specs.declared.refusals.Refusal.{Refusal}
+use Rattle.ynl_resource.specs.declared.refusals.Refusal.TheVariants.{NoSuchNode, ClockSpent, Stale, NotAccessible, NoSuchApplication, NoSuchAsk, NoRoom, PartitionBusy, OverMaximum, OverUserLimit, OverMasterShare}
 use Rattle.ynl_model.specs.declared.nodes.Node.{Node}
 use Rattle.ynl_model.specs.Nodes.{is_exclusive}
 use Rattle.ynl_model.specs.Queues.{Config, queue_row, may_use}
@@ -82,8 +83,8 @@ module _ (c : Config) (s : State) (live : AllByRecursion (IsLive c s) (all_apps 
   masters-requested : (p : Label) → AllByRecursion (λ item. IsRequest c s p item × IsOwn c p item) (masters_for s p)
   masters-requested p = Each-map (λ app. IsLive c s app × ((waits s app && same_label app.home p) ≡ true)) (λ item. IsRequest c s p item × IsOwn c p item) master_item
       (λ app k. (
-      record { app = app; found = k.0.found; same = refl; wanted = and-true _ _ k.1 (same-size_self app.master); there = k.0.there },
-      record { comes = refl; may = ap (may_use c app.leaf) (sym (same-label_path app.home p (right-true (waits s app) _ k.1))) ∙ k.0.fitting.0; for = refl },
+        record { app = app; found = k.0.found; same = refl; wanted = and-true _ _ k.1 (same-size_self app.master); there = k.0.there },
+        record { comes = refl; may = ap (may_use c app.leaf) (sym (same-label_path app.home p (right-true (waits s app) _ k.1))) ∙ k.0.fitting.0; for = refl },
       )) (filter (λ app. waits s app && same_label app.home p) (all_apps s.leaves))
       (Each-both (IsLive c s) _ (filter (λ app. waits s app && same_label app.home p) (all_apps s.leaves)) (Each-filter (IsLive c s) _ (all_apps s.leaves) live) (filter-passes _ (all_apps s.leaves)))
 
@@ -166,10 +167,9 @@ module _ (c : Config) (s : State) (live : AllByRecursion (IsLive c s) (all_apps 
 
 -- ---- the reasons
 
--- where each reason fails none holds
-none-first : {X : Type 0} (why : List (X × Bool)) → AllByRecursion (λ reason. reason.1 ≡ false) why → first_that_holds why ≡ None
-none-first [] h = refl
-none-first (reason ∷ why) h = (λ i. cond (h.0 i) (Some reason.0) (first_that_holds why)) ∙ none-first why h.1
+-- a reason that fails is passed over
+pass : {X : Type 0} {a : Bool} (x : X) (o : Option X) → a ≡ false → cond a (Some x) o ≡ o
+pass x o k = λ i. cond (k i) (Some x) o
 
 -- a limit that only those are tested for that are no guests
 kept-limit : (guest within : Bool) → (guest ≡ true) ⊎ (within ≡ true) → (not guest && not within) ≡ false
@@ -224,19 +224,21 @@ module _ (c : Config) (s : State) (node : Node) (there : node_of s node.name ≡
 
   passes : first_that_holds (commit_reasons c s proposal) ≡ None
   unfolding commit_reasons is_eligible
-  passes = none-first (commit_reasons c s proposal) (
-    (λ i. not (is_some (there i))),
-    (of-node (λ node. is_spent c.labels s node.label) fresh,
-    (of-node (λ other. not (other.stamp == node.stamp)) (ap not same-stamp),
-    (of-node (λ node. not (has_access c node.label (tenant_of item.leaf) item.what)) (ap not access),
-    ((λ i. not (is_some (h.request.found i))),
-    (of-app (λ node app. not (wants s node.label item.what item.size app)) (ap not h.request.wanted),
-    (of-request (λ node item. not (has_room s node item.size)) (ap not h.room),
-    (of-request (λ node item. comes_as_guest c node.label item.what && some_eligible c s node) h.busy,
-    (of-request (λ node item. not (comes_as_guest c node.label item.what) && not (within_maximum s node.label item)) (limit (within_maximum s node.label item) (λ e. right-true (has_room s node item.size) _ (left-true _ _ (left-true _ _ e)))),
-    (of-request (λ node item. not (comes_as_guest c node.label item.what) && not (within_user_limit c s node.label item)) (limit (within_user_limit c s node.label item) (λ e. right-true (has_room s node item.size && within_maximum s node.label item) _ (left-true _ _ e))),
-    (of-request (λ node item. not (comes_as_guest c node.label item.what) && not (within_master_share c s node.label item.leaf item.what item.size))
-      (limit (within_master_share c s node.label item.leaf item.what item.size) (λ e. right-true (has_room s node item.size && within_maximum s node.label item && within_user_limit c s node.label item) _ e)), tt)))))))))))
+  passes =
+      pass NoSuchNode _ (λ i. not (is_some (there i)))
+      ∙ pass ClockSpent _ (of-node (λ node. is_spent c.labels s node.label) fresh)
+      ∙ pass Stale _ (of-node (λ other. not (other.stamp == node.stamp)) (ap not same-stamp))
+      ∙ pass NotAccessible _ (of-node (λ node. not (has_access c node.label (tenant_of item.leaf) item.what)) (ap not access))
+      ∙ pass NoSuchApplication _ (λ i. not (is_some (h.request.found i)))
+      ∙ pass NoSuchAsk _ (of-app (λ node app. not (wants s node.label item.what item.size app)) (ap not h.request.wanted))
+      ∙ pass NoRoom _ (of-request (λ node item. not (has_room s node item.size)) (ap not h.room))
+      ∙ pass PartitionBusy _ (of-request (λ node item. comes_as_guest c node.label item.what && some_eligible c s node) h.busy)
+      ∙ pass OverMaximum _ (of-request (λ node item. not (comes_as_guest c node.label item.what) && not (within_maximum s node.label item))
+      (limit (within_maximum s node.label item) (λ e. right-true (has_room s node item.size) _ (left-true _ _ (left-true _ _ e)))))
+      ∙ pass OverUserLimit _ (of-request (λ node item. not (comes_as_guest c node.label item.what) && not (within_user_limit c s node.label item))
+      (limit (within_user_limit c s node.label item) (λ e. right-true (has_room s node item.size && within_maximum s node.label item) _ (left-true _ _ e))))
+      ∙ pass OverMasterShare _ (of-request (λ node item. not (comes_as_guest c node.label item.what) && not (within_master_share c s node.label item.leaf item.what item.size))
+      (limit (within_master_share c s node.label item.leaf item.what item.size) (λ e. right-true (has_room s node item.size && within_maximum s node.label item && within_user_limit c s node.label item) _ e)))
     where
       same-stamp : (node.stamp == node.stamp) ≡ true
       same-stamp = grind (arith, nat_tests)
