@@ -42,7 +42,7 @@ IsCommitOf proposal (Committed container) =
     container ≡ record { id = container.id; node = proposal.node; tenant = proposal.tenant; app = proposal.app; what = proposal.what; size = proposal.size }
 IsCommitOf proposal _ = ⊥
 
--- whatever events came, a proposal that is answered and comes back as the next event is committed
+-- in an accepted configuration, whatever events came, a proposal that is answered and comes back as the very next event is committed
 abbrev pub AreProposalsCommitted : Type 0
 AreProposalsCommitted =
     (c : Config) (events : List Event) (name : Name) (proposal : Proposal) → IsTrue (is_accepted c) → (step c (state_after c events) (Propose name)).reply ≡ Proposed (Some proposal)
