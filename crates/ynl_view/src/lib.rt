@@ -3,6 +3,12 @@
 
 pub use exclusivity::sole;
 pub use restriction::restrict;
+pub use viewing::view;
+pub use views::View;
 
 mod exclusivity;
 mod restriction;
+mod sights;
+mod track;
+mod viewing;
+mod views;
