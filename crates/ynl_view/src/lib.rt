@@ -2,11 +2,13 @@
 #![tactic(auto)]
 
 pub use exclusivity::sole;
+pub use picking::pick;
 pub use restriction::restrict;
 pub use viewing::view;
 pub use views::View;
 
 mod exclusivity;
+mod picking;
 mod restriction;
 mod sights;
 mod track;
