@@ -13,11 +13,7 @@ use ynl_resource::{Label, Name, Path};
 fn kept_if(test: bool, event: &Event) -> Option<Event>
     ensures { result ≡ kept_if test event.now }
 {
-    if test {
-        Some(*event)
-    } else {
-        None
-    }
+    if test { Some(*event) } else { None }
 }
 
 /// Whether the queue is the tenant's top-level queue or below it.
@@ -88,7 +84,9 @@ pub fn seen_of(
         Event::Release { tenant: of, id } => kept_if(*of == *tenant && id.label == *label, event),
         Event::Usage { queue, label: on } => kept_if(*on == *label && is_of(tenant, queue), event),
         Event::Maximum {
-            queue, label: on, ..
+            queue,
+            label: on,
+            ..
         } => kept_if(*on == *label && is_of(tenant, queue), event),
         Event::Heartbeat { node } => kept_if(track.has(node, label), event),
         Event::Exited { node, .. } => kept_if(track.has(node, label), event),
@@ -96,7 +94,9 @@ pub fn seen_of(
         Event::Lost { node } => kept_if(track.has(node, label), event),
         Event::Commit { proposal } => kept_if(track.has(&proposal.node, label), event),
         Event::Register {
-            node, label: on, ..
+            node,
+            label: on,
+            ..
         } => kept_if(track.registers(config, node, on) && *on == *label, event),
         Event::Relabel { node, label: to } => seen_of_relabel(label, config, track, node, to),
     }

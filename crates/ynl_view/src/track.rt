@@ -110,8 +110,7 @@ impl Track {
     fn drop_node(&mut self, node: &Tracked)
         ensures { self.new ≡ dropped self.old node.now }
     {
-        self.nodes
-            .retain(|other| !(other.name == node.name && other.label == node.label));
+        self.nodes.retain(|other| !(other.name == node.name && other.label == node.label));
     }
 
     fn join(&mut self, name: &Name, label: &Label, size: &Size) -> Result<(), AllocError>

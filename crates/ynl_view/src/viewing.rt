@@ -1,6 +1,6 @@
 //! The view of a list of events.
 
-ghost use Rattle.std.specs.Prelude.{◌≡◌, IfOk};
+ghost use Rattle.std.specs.Prelude.{◌≡◌, ◌<◌, length, IfOk, All};
 ghost use Rattle.ynl_model.specs.View.{view, events_of, places_of};
 
 use crate::sights::seen_of;
@@ -22,6 +22,7 @@ pub fn view(
 ) -> Result<View, NoMemory>
     ensures events { IfOk result (λ seen. seen.events.items ≡ events_of (view config.now events.now tenant.now label.now)) }
     ensures places { IfOk result (λ seen. seen.places.items ≡ places_of (view config.now events.now tenant.now label.now)) }
+    ensures within { IfOk result (λ seen. All (λ place. place < length events.now) seen.places.items) }
 {
     let mut track = Track::new(alloc);
     let mut seen = Vec::new(alloc);
