@@ -66,7 +66,8 @@ pub fn pick(alloc: Global, answers: &[Answer], places: &[u64]) -> Result<Vec<Ans
 {
     let mut picked = Vec::with_capacity(alloc, places.len())?;
     for place in places {
-        let answer = answer_copy(alloc, &answers[*place as usize])?;
+        let place = *place as usize;
+        let answer = answer_copy(alloc, &answers[place])?;
         picked.push(answer)?;
     }
     Ok(picked)
