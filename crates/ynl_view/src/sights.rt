@@ -67,9 +67,9 @@ pub fn seen_of(
     ensures { result ≡ seen_of tenant.now label.now config.now track.now event.now }
 {
     match event {
-        Event::Submit { queue, .. } => kept_if(is_of(tenant, queue), event),
-        Event::Stop { queue } => kept_if(is_of(tenant, queue), event),
-        Event::Start { queue } => kept_if(is_of(tenant, queue), event),
+        Event::Submit { queue, .. } | Event::Stop { queue } | Event::Start { queue } => {
+            kept_if(is_of(tenant, queue), event)
+        }
         Event::Finish { tenant: of, .. } => kept_if(*of == *tenant, event),
         Event::Ask {
             tenant: of,
@@ -88,10 +88,10 @@ pub fn seen_of(
             label: on,
             ..
         } => kept_if(*on == *label && is_of(tenant, queue), event),
-        Event::Heartbeat { node } => kept_if(track.has(node, label), event),
-        Event::Exited { node, .. } => kept_if(track.has(node, label), event),
-        Event::Propose { node } => kept_if(track.has(node, label), event),
-        Event::Lost { node } => kept_if(track.has(node, label), event),
+        Event::Heartbeat { node }
+        | Event::Exited { node, .. }
+        | Event::Propose { node }
+        | Event::Lost { node } => kept_if(track.has(node, label), event),
         Event::Commit { proposal } => kept_if(track.has(&proposal.node, label), event),
         Event::Register {
             node,
