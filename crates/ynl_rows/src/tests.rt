@@ -8,7 +8,7 @@ use ynl_resource::{Id, Label, Name, Path, Size};
 
 /// Two tenants. One may use the partition of its own, gpu, where the users of ml get a quarter each at
 /// least; the other shares ssd with guests.
-const TWO_TENANTS: &str = "version = 1
+pub(crate) const TWO_TENANTS: &str = "version = 1
 [[label]]
 name = \"gpu\"
 [[label]]
@@ -133,7 +133,7 @@ fn application_event(words: &[&str]) -> Result<Event, Fail> {
     }
 }
 
-fn event_of(alloc: Global, short: &str) -> Result<Event, Fail> {
+pub(crate) fn event_of(alloc: Global, short: &str) -> Result<Event, Fail> {
     let words: Vec<&str> = short.split(' ').collect(alloc)?;
     match word(&words, 0)? {
         "sub" | "ask" | "fin" => application_event(&words),
