@@ -43,3 +43,4 @@ pub mod FollowsEvents
 pub mod Isolated
 pub mod Finished
 pub mod Proposed
+pub mod Replies

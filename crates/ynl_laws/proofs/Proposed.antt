@@ -310,7 +310,7 @@ answered-is c s name proposal e = go (first_that_holds (placing_reasons c s name
     }
 
 -- a proposal changes nothing
-propose-stays : (c : Config) (s : State) (name : Name) → (step c s (Propose name)).state ≡ s
+pub propose-stays : (c : Config) (s : State) (name : Name) → (step c s (Propose name)).state ≡ s
 unfolding step accepted
 propose-stays c s name = go (first_that_holds (reasons c s (Propose name))) (node_of s name)
   where

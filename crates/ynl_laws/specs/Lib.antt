@@ -8,3 +8,4 @@ pub mod Refused
 pub mod Entitled
 pub mod Finishing
 pub mod Proposed
+pub mod Replies
