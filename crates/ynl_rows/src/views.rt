@@ -43,12 +43,19 @@ fn two_tenants(alloc: Global) -> Result<Config, Fail> {
     Ok(ynl_config::read_config(alloc, TWO_TENANTS.as_bytes())??)
 }
 
-fn events_of(alloc: Global, script: &str) -> Result<Vec<Event>, Fail> {
+/// The events of a script, and what eng sees of them on a partition.
+fn events_and_view(
+    alloc: Global,
+    script: &str,
+    config: &Config,
+    label: &Label,
+) -> Result<(Vec<Event>, View), Fail> {
     let mut events = Vec::new(alloc);
     for short in script.lines() {
         events.push(event_of(alloc, short)?)?;
     }
-    Ok(events)
+    let seen = view(alloc, config, &events, &Name::parse("eng")?, label)?;
+    Ok((events, seen))
 }
 
 // ---- what is told in short
@@ -109,11 +116,10 @@ fn told(alloc: Global, seen: &View, answers: &[Answer]) -> Result<String, Fail> 
 
 /// What eng sees of a script on gpu, with the answers of the whole cluster, and with its own.
 fn twice(alloc: Global, script: &str) -> Result<(String, String), Fail> {
-    let eng = Name::parse("eng")?;
-    let events = events_of(alloc, script)?;
     let config = two_tenants(alloc)?;
-    let seen = view(alloc, &config, &events, &eng, &Label::parse("gpu")?)?;
-    let alone = run(alloc, restrict(alloc, &config, &eng)?, &seen.events)?;
+    let (events, seen) = events_and_view(alloc, script, &config, &Label::parse("gpu")?)?;
+    let only = restrict(alloc, &config, &Name::parse("eng")?)?;
+    let alone = run(alloc, only, &seen.events)?;
     let together = run(alloc, config, &events)?;
     let picked = pick(alloc, together.answers.as_slice(), &seen.places)?;
     Ok((
