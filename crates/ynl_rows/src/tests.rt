@@ -75,10 +75,10 @@ fn number(words: &[&str], place: usize) -> Result<u32, Fail> {
     }
 }
 
-/// A size: MB, and then virtual cores.
-fn size(words: &[&str], place: usize) -> Result<Size, Fail> {
-    let memory = number(words, place)?;
-    let vcores = number(words, place + 1)?;
+/// A size: the places of its MB and of its virtual cores.
+fn size(words: &[&str], memory: usize, vcores: usize) -> Result<Size, Fail> {
+    let memory = number(words, memory)?;
+    let vcores = number(words, vcores)?;
     match Size::new(u64::from(memory), u64::from(vcores)) {
         Some(size) => Ok(size),
         None => Err(Fail::new("no size")),
@@ -92,7 +92,7 @@ fn node_event(words: &[&str]) -> Result<Event, Fail> {
         "reg" => Ok(Event::Register {
             node,
             label: label(words, 2)?,
-            size: size(words, 3)?,
+            size: size(words, 3, 4)?,
         }),
         "lost" => Ok(Event::Lost { node }),
         "relabel" => Ok(Event::Relabel {
@@ -116,7 +116,7 @@ fn application_event(words: &[&str]) -> Result<Event, Fail> {
             app: name(words, 2)?,
             user: name(words, 3)?,
             label: Some(label(words, 4)?),
-            master: size(words, 5)?,
+            master: size(words, 5, 6)?,
         }),
         "ask" => Ok(Event::Ask {
             tenant: name(words, 1)?,
@@ -124,7 +124,7 @@ fn application_event(words: &[&str]) -> Result<Event, Fail> {
             label: label(words, 3)?,
             priority: number(words, 4)?,
             count: number(words, 5)?,
-            size: size(words, 6)?,
+            size: size(words, 6, 7)?,
         }),
         _ => Ok(Event::Finish {
             tenant: name(words, 1)?,
@@ -256,7 +256,7 @@ fn a_user_elsewhere_shares_nothing(rt: HostRuntime) -> Result<(), Fail> {
     let alloc = rt.alloc();
     let leaf = Path::parse("root.eng.ml")?;
     let gpu = Label::parse("gpu")?;
-    let ask = size(&["1000", "1"], 0)?;
+    let ask = size(&["1000", "1"], 0, 1)?;
     let alone =
         "reg g1 gpu 10000 10\nsub root.eng.ml j1 ann gpu 1000 1\nsub root.eng.ml x1 bob - 1000 1";
     let shared =
