@@ -1,5 +1,7 @@
 //! What a tenant's partition sees of worked scripts, and what the tenant alone is answered.
 
+ghost use Rattle.std.specs.Prelude.{◌<◌, length, IfOk, All};
+
 use crate::tests::{TWO_TENANTS, event_of};
 use std::alloc::Global;
 use std::test::Fail;
@@ -49,7 +51,9 @@ fn events_and_view(
     script: &str,
     config: &Config,
     label: &Label,
-) -> Result<(Vec<Event>, View), Fail> {
+) -> Result<(Vec<Event>, View), Fail>
+    ensures { IfOk result (λ made. All (λ place. place < length made.0.items) made.1.places.items) }
+{
     let mut events = Vec::new(alloc);
     for short in script.lines() {
         events.push(event_of(alloc, short)?)?;
