@@ -7,12 +7,7 @@ use Rattle.ynl_tables.specs.Tables.{HasRoom}
 use Rattle.std.specs.List.{AllByRecursion}
 use Rattle.std.proofs.Math.ListN.{set, drop_of_length-le}
 use Rattle.std.proofs.lemmas.List.{take_more, take_more_set, take_all, map_push, length-set}
-use Rattle.std.proofs.lemmas.List.Edits.{map_over_more}
 use Rattle.ynl_laws.proofs.Lists.{Each-append}
-
--- a loop that writes over each element what a call of `f` gave
-pub map_step : {X : Type 0} (f : X → X) (xs ys : List X) (i : ℕ) (x y : X) → i < length xs → ys ≡ map f (take i xs) ++ drop i xs → x ≡ get_or ys i x → y ≡ f (get_or ys i x) → set ys i y ≡ map f (take (i + 1) xs) ++ drop (i + 1) xs
-map_step f xs ys i x y within so_far read made = ap (set ys i) (made ∙ ap f (sym read)) ∙ map_over_more f xs ys i x within so_far read
 
 -- the first rows mean what is wanted, and the rest stand as they were
 pub record IsChanged {X Y : Type 0} (m : X → Y) (g : Y → Y) (xs ys : List X) (i : ℕ) : Type 0 where

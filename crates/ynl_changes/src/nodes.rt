@@ -16,7 +16,7 @@ use ynl_resource::{Label, Name, Size};
 use ynl_tables::{PartitionRow, Tables, is_same};
 
 /// Whether the node has this name and stands on this partition.
-pub fn is_at(node: &Node, name: &Name, label: &Label) -> bool
+fn is_at(node: &Node, name: &Name, label: &Label) -> bool
     ensures { result ≡ is_at name.now label.now node.now }
 {
     node.name == *name && is_same(&node.label, label)

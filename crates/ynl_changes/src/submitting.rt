@@ -28,14 +28,14 @@ pub struct Submission {
 
 /// Whether the tenant of a queue ever had an application of that name.
 #[tactic(auto, unfolding(ynl_model::specs::Applications::leaf_of))]
-pub fn is_used(tables: &Tables, queue: &Path, name: &Name) -> bool
+fn is_used(tables: &Tables, queue: &Path, name: &Name) -> bool
     ensures { result ≡ is_used (leaves_of tables.now.leaves.items) (tenant_of queue.now) name.now }
 {
     leaf_row_of(&tables.leaves, tenant_bytes(queue), name).is_some()
 }
 
 /// Whether a leaf has as many live applications as it may have.
-pub fn has_most_apps(config: &Config, tables: &Tables, leaf: &Path) -> bool
+fn has_most_apps(config: &Config, tables: &Tables, leaf: &Path) -> bool
     ensures { result ≡ has_most_apps config.now (state_of tables.now) leaf.now }
 {
     let most = config.most_applications(leaf.names());

@@ -1,7 +1,7 @@
 use Rattle.std.proofs.Common.{cond}
 use Rattle.ynl_model.specs.declared.nodes.Node.{Node}
 use Rattle.ynl_model.specs.Nodes.{is_at}
-use Rattle.ynl_changes.proofs.InPlace.{map_step}
+use Rattle.ynl_controls.proofs.InPlace.{map_step}
 use Rattle.ynl_changes.proofs.placing.stamp.Goals as goal
 
 pub loop-node-preserved : goal.loop-node-preserved
