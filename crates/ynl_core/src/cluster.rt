@@ -17,8 +17,8 @@ use std::alloc::Global;
 use std::marker::Model;
 use ynl_changes::{
     Submission, ask_for, asked_leaf, container_of_tenant, container_on, end, finish, home_of, join,
-    leave, maximum_refusal, opening_tables, own_containers, pending_on, place, push_copy, refusal_of,
-    reserve, reserve_ask, reserve_place, serve, stop_refusal, submit, usage_of,
+    leave, maximum_refusal, opening_tables, own_containers, pending_on, place, push_copy,
+    refusal_of, reserve, reserve_ask, reserve_place, serve, stop_refusal, submit, usage_of,
 };
 use ynl_choice::{check, is_spent, master_limit_of, propose, user_limit_of};
 use ynl_model::{Event, PendingList, Placed, PlacedList, Proposal, Reply};
