@@ -1,6 +1,6 @@
 //! What applications ask for.
 
-ghost use Rattle.std.specs.Prelude.{◌≡◌, ◌≤◌, ◌<◌, ◌+◌, List, ℕ, map, find, count_by, vec_len, vec_capacity, OnOk, IsOk, IfOk, IfErr, Some, None, option_map, if◌then◌else◌};
+ghost use Rattle.std.specs.Prelude.{◌≡◌, ◌≤◌, ◌<◌, ◌+◌, map, count_by, vec_len, vec_capacity, OnOk, IsOk, IfOk, IfErr, Some, None, option_map};
 ghost use Rattle.std.specs.List.{AllByRecursion, position_or_len};
 ghost use Rattle.ynl_resource.specs.Names.{same_label};
 ghost use Rattle.ynl_resource.specs.declared.paths.Path.{Path};

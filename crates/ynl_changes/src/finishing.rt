@@ -1,9 +1,9 @@
 //! Applications that finish: the clocks rise once for each of their containers, and then the
 //! containers go. So no list of them is needed.
 
-ghost use Rattle.std.specs.Prelude.{◌≡◌, ℕ, map, filter, slice_get, if◌then◌else◌};
+ghost use Rattle.std.specs.Prelude.{◌≡◌, map, filter, slice_get, if◌then◌else◌};
 ghost use Rattle.std.specs.Option.{option_map_or};
-ghost use Rattle.ynl_resource.specs.Names.{same_name, same_path, tenant_of};
+ghost use Rattle.ynl_resource.specs.Names.{same_name, same_path};
 ghost use Rattle.ynl_resource.specs.declared.paths.Path.{Path};
 ghost use Rattle.ynl_resource.specs.Tables.{without};
 ghost use Rattle.ynl_model.specs.Applications.{Application, in_leaf, finished};

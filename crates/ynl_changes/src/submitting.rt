@@ -1,6 +1,6 @@
 //! Applications that come to a leaf.
 
-ghost use Rattle.std.specs.Prelude.{◌≡◌, ◌≤◌, ◌+◌, true, vec_len, vec_capacity, OnOk, Option, List, ℕ, if◌then◌else◌};
+ghost use Rattle.std.specs.Prelude.{◌≡◌, OnOk, Option, List, ℕ, if◌then◌else◌};
 ghost use Rattle.std.specs.List.{AllByRecursion};
 ghost use Rattle.ynl_resource.specs.Names.{same_path, tenant_of};
 ghost use Rattle.ynl_model.specs.Applications.{in_leaf, submitted, is_used};
