@@ -78,7 +78,7 @@ fn number(words: &[&str], place: usize) -> Result<u32, Fail> {
 /// A size: MB, and then virtual cores.
 fn size(words: &[&str], place: usize) -> Result<Size, Fail> {
     let memory = number(words, place)?;
-    let vcores = number(words, place + 1)?;
+    let vcores = number(words, place.saturating_add(1))?;
     match Size::new(u64::from(memory), u64::from(vcores)) {
         Some(size) => Ok(size),
         None => Err(Fail::new("no size")),
