@@ -3,3 +3,5 @@ pub mod Commands
 pub mod Pieces
 pub mod Runs
 pub mod Fronts
+pub mod Scripts
+pub mod Tellings
