@@ -5,3 +5,4 @@ pub mod Runs
 pub mod Fronts
 pub mod Scripts
 pub mod Tellings
+pub mod Idle

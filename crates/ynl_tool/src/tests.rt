@@ -115,7 +115,36 @@ fn reads_words(rt: HostRuntime) -> Result<(), Fail> {
         ),
         Err(_) => panic!(rt; "run is a job"),
     }
-    let wrong: [(&[&str], &str); 7] = [
+    let tenant = words(
+        alloc,
+        &[
+            "ynl",
+            "tenant",
+            "--label",
+            "gpu",
+            "--tenant=-a",
+            "--config",
+            "c",
+        ],
+    )?;
+    let kind = Kind::Tenant(Name::parse("-a")?, Label::parse("gpu")?);
+    match parse_words(alloc, tenant.as_slice()) {
+        Ok(job) => assert!(rt;
+            job == Job {
+                kind,
+                config: Some("c")
+            }
+        ),
+        Err(_) => panic!(rt; "tenant is a job"),
+    }
+    for (name, label) in [("", "gpu"), ("a b", "gpu"), ("eng", "g pu")] {
+        let bad = words(
+            alloc,
+            &["ynl", "tenant", "--tenant", name, "--label", label],
+        )?;
+        assert!(rt; matches!(parse_words(alloc, bad.as_slice()), Err(WordsFault::BadName)));
+    }
+    let wrong: [(&[&str], &str); 9] = [
         (
             &["ynl"],
             "error: 'ynl' requires a subcommand but one was not provided",
@@ -140,6 +169,14 @@ fn reads_words(rt: HostRuntime) -> Result<(), Fail> {
         (
             &["ynl", "run", "-h"],
             "Answers the events of standard input, one reply for each",
+        ),
+        (
+            &["ynl", "tenant", "--help"],
+            "Tells a tenant what its own partition sees of the events",
+        ),
+        (
+            &["ynl", "tenant", "--tenant", "eng"],
+            "error: the following required arguments were not provided",
         ),
     ];
     for (texts, front) in wrong {
