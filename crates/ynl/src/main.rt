@@ -30,6 +30,10 @@ fn main(rt: HostRuntime) -> ExitCode {
             let _told = eprint!(rt; "{error}");
             ExitCode::from(2)
         }
+        Err(WordsFault::BadName) => {
+            let _told = eprintln!(rt; "ynl: bad name");
+            ExitCode::from(2)
+        }
         Err(WordsFault::NoMemory) => out_of_memory(&rt),
     }
 }
