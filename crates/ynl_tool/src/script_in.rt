@@ -31,7 +31,7 @@ fn add_line(
     }
     match read_event(alloc, line) {
         Ok(Ok(event)) => {
-            // A slice of one: for a push of an event the kit makes no proof.
+            // As a slice of one: of a push of an event the kit makes no proof.
             events.extend_from_slice(&[event])?;
             Ok(None)
         }
