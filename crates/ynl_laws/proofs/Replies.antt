@@ -1,5 +1,5 @@
 -- How long a reply can be, and what a question is answered.
-use Rattle.std.proofs.Common.{◌≡◌, ℕ, zero, suc, ◌≤◌, Bool, true, false, not, List, [], ◌∷◌, length, Option, Some, None, is_some, refl, ap, subst, arith}
+use Rattle.std.proofs.Common.{◌≡◌, ℕ, zero, suc, ◌≤◌, true, false, not, List, [], ◌∷◌, length, Option, Some, None, is_some, refl, subst, arith}
 use Rattle.std.specs.Prelude.{option_and_then}
 use Rattle.std.specs.Option.{option_map_or}
 use Rattle.ynl_resource.specs.declared.names.Name.{Name}
@@ -12,7 +12,7 @@ use Rattle.ynl_model.specs.Cluster.{State, node_of}
 use Rattle.ynl_model.specs.Service.{Item}
 use Rattle.ynl_model.specs.Changes.{Beat, beat, next_item, place, container_of}
 use Rattle.ynl_model.specs.Check.{placing_reasons, proposed}
-use Rattle.ynl_model.specs.Events.{Outcome, answered, where_there, served, reasons, accepted, step}
+use Rattle.ynl_model.specs.Events.{answered, where_there, served, reasons, accepted, step}
 use Rattle.ynl_model.specs.declared.events.Event.TheVariants.{Heartbeat, Propose}
 use Rattle.ynl_model.specs.declared.replies.Reply.TheVariants.{Refused, Placed, Proposed}
 use Rattle.ynl_laws.specs.Replies.{AreHeartbeatsBounded, proposal_for, IsProposingAsking}

@@ -1,6 +1,5 @@
 -- What the end of a run does to the reader and the writer.
-use Rattle.std.proofs.Common.{◌≡◌, ℕ, ◌+◌, List, [], ◌++◌, length, take, Option, Some, None, OnSome, IfNone, Result, Ok, Err, sym, ap, subst, ◌∙◌, arith, append-nil, length-append, ◌≢◌, ◌-◌, ◌∷◌, inl, inr, append_assoc, refl}
-use Rattle.std.proofs.Math.Seq.{take-append-add}
+use Rattle.std.proofs.Common.{◌≡◌, ℕ, List, [], ◌++◌, length, Option, Some, None, OnSome, IfNone, Result, Ok, Err, sym, ap, subst, ◌∙◌, arith, append-nil, length-append, ◌≢◌, ◌-◌, ◌∷◌, inl, inr, append_assoc, refl}
 use Rattle.std.proofs.lemmas.List.{take-append-le, take_at}
 use Rattle.std.proofs.lemmas.List.Elements.{All-nil, All-take}
 use Rattle.std.specs.Io.KnownBytes.{Consumes, Appends, IsAtEnd}

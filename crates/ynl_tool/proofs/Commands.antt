@@ -6,7 +6,7 @@ use Rattle.std.specs.Str.{bytes_eq}
 use Rattle.clap.specs.Walk.{Text, Row, nothing_held, first_of, rows_of, stop_after}
 use Rattle.clap.specs.Simple.{built, entered, is_simple, names_of, subcommand_rows}
 use Rattle.clap.specs.Takes.{takes, built_takes}
-use Rattle.clap.specs.Words.{first_value, found_of}
+use Rattle.clap.specs.Words.{first_value}
 use Rattle.clap.specs.declared.parser.matches.ArgMatches.TheViews.{out-SubCommand}
 use Rattle.clap.specs.declared.parser.matches.Found.{Found}
 use Rattle.clap.specs.declared.parser.matches.SubCommand.{SubCommand}

@@ -1,5 +1,5 @@
 -- Jobs in which memory is refused before anything is read.
-use Rattle.std.proofs.Common.{◌≡◌, ◌≢◌, ℕ, List, [], Bool, true, false, Option, Result, Ok, Err, refl, ap, inl}
+use Rattle.std.proofs.Common.{◌≢◌, ℕ, List, [], Bool, true, false, Option, Result, Ok, Err, refl, ap, inl}
 use Rattle.std.proofs.lemmas.List.Elements.{All-nil}
 use Rattle.std.proofs.KnownBytes.{Appends-nil, Consumes-nil}
 use Rattle.ynl_resource.specs.declared.names.Name.{Name}
@@ -8,7 +8,6 @@ use Rattle.ynl_model.specs.Queues.{Config}
 use Rattle.ynl_model.specs.Cluster.{opening}
 use Rattle.ynl_model.specs.View.{is_sole}
 use Rattle.ynl_config.specs.declared.faults.ConfigFault.{ConfigFault}
-use Rattle.ynl_tool.specs.declared.jobs.JobRefusal.{JobRefusal}
 use Rattle.ynl_tool.specs.declared.run.ToolFault.TheVariants.{NoMemory}
 use Rattle.ynl_tool.specs.declared.words.Kind.{Kind}
 use Rattle.ynl_tool.specs.declared.words.Kind.TheVariants.{Run, Tenant}

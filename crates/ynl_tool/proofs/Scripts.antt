@@ -1,11 +1,9 @@
 -- The script of an input, a line after another.
-use Rattle.std.proofs.Common.{◌≡◌, ℕ, ◌+◌, ◌-◌, ◌<◌, ◌≤◌, List, [], ◌∷◌, ◌++◌, length, Bool, true, false, cond, subst, Option, Some, None, OnSome, IfNone, Result, Ok, Err, refl, sym, ap, ◌∙◌, arith, append_assoc, append-nil, map}
+use Rattle.std.proofs.Common.{◌≡◌, ℕ, ◌+◌, ◌-◌, ◌<◌, ◌≤◌, List, [], ◌∷◌, ◌++◌, length, Bool, true, false, cond, subst, Option, Some, None, OnSome, IfNone, Result, Ok, Err, refl, sym, ap, ◌∙◌, arith, append_assoc, append-nil}
 use Rattle.std.specs.List.{concat}
 use Rattle.std.specs.Io.KnownBytes.{Consumes, IsAtEnd}
 use Rattle.std.proofs.KnownBytes.{Consumes-trans}
-use Rattle.std.proofs.lemmas.List.Folds.{concat-append}
 use Rattle.ynl_model.specs.declared.events.Event.{Event}
-use Rattle.ynl_model.specs.declared.replies.Reply.{Reply}
 use Rattle.ynl_model.specs.Queues.{Config}
 use Rattle.ynl_model.specs.Cluster.{State, opening}
 use Rattle.ynl_model.specs.Events.{step, replies}
@@ -14,9 +12,9 @@ use Rattle.ynl_lines.specs.declared.faults.LineFault.TheVariants as fault
 use Rattle.ynl_lines.specs.Reading.{event_of_line}
 use Rattle.ynl_lines.specs.Writing.{reply_text}
 use Rattle.ynl_tool.specs.Lines.{IsPlain, EndsLine, IsOneLine}
-use Rattle.ynl_tool.specs.Run.{Line, whole, too_long, lines_within, limit, is_blank, still, turn_of, turn, line_of, Outcome, faulty, unless_fault, said, run, run_of}
-use Rattle.ynl_tool.specs.Script.{Part, part_of, no_part, part, Script, no_script, unless_broken, after_events, last_part, script, script_of, ReadsTo, ReadsSome, fault_lines, reply_lines, answers_to, DoRunsAnswerScripts}
-use Rattle.ynl_tool.proofs.Runs.{no_bytes, one_line, last_line, long_line}
+use Rattle.ynl_tool.specs.Run.{Line, whole, too_long, lines_within, limit, is_blank, still, turn_of, turn, line_of, Outcome, faulty, unless_fault, said, run}
+use Rattle.ynl_tool.specs.Script.{part_of, no_part, part, Script, no_script, unless_broken, after_events, last_part, script, script_of, ReadsTo, ReadsSome, fault_lines, reply_lines, DoRunsAnswerScripts}
+use Rattle.ynl_tool.proofs.Runs.{no_bytes, one_line, last_line}
 
 after_twice : (a b : List Event) (s : Script) → after_events a (after_events b s) ≡ after_events (a ++ b) s
 after_twice a b s = ap (λ es. record { events = es; lines = s.lines; fault = s.fault }) (sym (append_assoc a b s.events))

@@ -1,18 +1,17 @@
 -- Lines of events that are written one after another.
-use Rattle.std.proofs.Common.{◌≡◌, ◌≢◌, ℕ, suc, ◌+◌, ◌≤◌, ◌<◌, List, [], ◌∷◌, ◌++◌, length, take, drop, get_or, Option, Some, None, Result, Ok, Err, refl, sym, ap, subst, ◌∙◌, arith, append-nil, append_assoc, length-append, inl, inr}
-use Rattle.std.specs.Prelude.{◌⊎◌, IsTrue, IfErr}
+use Rattle.std.proofs.Common.{◌≡◌, ◌≢◌, ℕ, suc, ◌+◌, ◌<◌, List, [], ◌∷◌, ◌++◌, length, drop, get_or, Option, Some, None, Result, Ok, Err, refl, sym, ap, subst, ◌∙◌, arith, append-nil, append_assoc, length-append, inr}
+use Rattle.std.specs.Prelude.{IsTrue, IfErr}
 use Rattle.std.specs.List.{concat}
 use Rattle.std.specs.Option.{option_map_or}
 use Rattle.std.specs.Io.KnownBytes.{Appends}
 use Rattle.std.proofs.KnownBytes.{Appends-nil, Appends-trans}
 use Rattle.std.proofs.lemmas.List.Folds.{concat-append}
 use Rattle.std.proofs.lemmas.List.{take-append-le, take_at}
-use Rattle.std.proofs.Math.Seq.{drop-cons, take-length}
+use Rattle.std.proofs.Math.Seq.{drop-cons}
 use Rattle.ynl_resource.specs.declared.names.Name.{Name}
 use Rattle.ynl_resource.specs.declared.labels.Label.{Label}
 use Rattle.ynl_model.specs.declared.events.Event.{Event}
 use Rattle.ynl_model.specs.Queues.{Config}
-use Rattle.ynl_model.specs.Cluster.{State}
 use Rattle.ynl_model.specs.Events.{step, replies}
 use Rattle.ynl_model.specs.View.{is_sole}
 use Rattle.ynl_laws.proofs.Isolated.{is_isolated}
@@ -26,7 +25,7 @@ use Rattle.ynl_tool.specs.Lines.{AppendsFront}
 use Rattle.ynl_tool.specs.Run.{line_of, faulty}
 use Rattle.ynl_tool.specs.Running.{Writes}
 use Rattle.ynl_tool.specs.Script.{Script, ReadsTo, fault_lines}
-use Rattle.ynl_tool.specs.Telling.{entry_lines, entry_line, view_lines, tenant_lines, AppendsLines, LeavesLine, LeavesLines, SaysLines, TellsEvent, TellsAll, TellsTenant}
+use Rattle.ynl_tool.specs.Telling.{entry_lines, entry_line, view_lines, tenant_lines, AppendsLines, LeavesLine, LeavesLines, TellsAll, TellsTenant}
 use Rattle.ynl_tool.proofs.Fronts.{front_of_more, front_after}
 
 -- the line that tells a fault, if there is one

@@ -12,7 +12,6 @@ use Rattle.ynl_lines.specs.declared.faults.LineFault.{LineFault}
 use Rattle.ynl_lines.specs.declared.faults.LineFault.TheVariants as fault
 use Rattle.ynl_lines.specs.Reading.{event_of_line}
 use Rattle.ynl_lines.specs.Writing.{reply_text, fault_text}
-use Rattle.ynl_tool.specs.declared.lines_in.ReadFault.{ReadFault}
 use Rattle.ynl_tool.specs.declared.script_in.Script.{Script as Kept}
 use Rattle.ynl_tool.specs.Lines.{EndsLine, IsOneLine}
 use Rattle.ynl_tool.specs.Run.{Line, whole, too_long, lines_within, limit, is_blank, line_of, Outcome, run_of}

@@ -1,9 +1,8 @@
-use Rattle.std.proofs.Common.{◌≡◌, ◌+◌, ◌-◌, ◌++◌, [], ◌∷◌, Some, None, Ok, length, ap, sym, subst, ◌∙◌, arith, rules}
+use Rattle.std.proofs.Common.{◌≡◌, ◌+◌, ◌-◌, ◌++◌, [], ◌∷◌, Some, Ok, length, ap, sym, subst, ◌∙◌, arith, rules}
 use Rattle.std.proofs.lemmas.Result.{err_from_is_err_and}
 use Rattle.std.proofs.KnownBytes.{Consumes-trans}
 use Rattle.ynl_tool.specs.Lines.{GivesLine}
-use Rattle.ynl_lines.specs.declared.faults.LineFault.TheVariants as fault
-use Rattle.ynl_tool.specs.Script.{Script, part, after_events, last_part, kept, Adds, ReadsScript}
+use Rattle.ynl_tool.specs.Script.{after_events, last_part, kept, Adds, ReadsScript}
 use Rattle.ynl_tool.proofs.Runs.{long_line}
 use Rattle.ynl_tool.proofs.Scripts.{far_at, then_long, then_input, then_fault, then_line, stopped, closed}
 use Rattle.ynl_tool.proofs.Closings.{end_of_all, line_ends, one_part, one_whole}

@@ -1,4 +1,4 @@
-use Rattle.std.proofs.Common.{◌≡◌, ◌+◌, ◌<◌, ◌++◌, [], ◌∷◌, length, drop, get_or, Ok, Err, sym, subst, arith, rules}
+use Rattle.std.proofs.Common.{◌++◌, [], ◌∷◌, get_or, sym, subst, arith}
 use Rattle.std.proofs.lemmas.Result.{err_from_is_err_and}
 use Rattle.ynl_model.specs.Events.{replies}
 use Rattle.ynl_tool.specs.Telling.{entry_lines, entry_line, LeavesLines, SaysLines, TellsEvent}

@@ -1,4 +1,4 @@
-use Rattle.std.proofs.Common.{◌≡◌, Ok, Err, Some, None, refl, ap, sym, subst}
+use Rattle.std.proofs.Common.{refl, sym, subst}
 use Rattle.std.proofs.lemmas.Result.{err_from_is_err_and}
 use Rattle.ynl_tool.specs.Script.{kept, ReadsScript}
 use Rattle.ynl_tool.specs.Telling.{view_lines, LeavesLines, SaysLines, TellsTenant}

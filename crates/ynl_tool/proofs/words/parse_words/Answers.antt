@@ -1,11 +1,11 @@
-use Rattle.std.proofs.Common.{◌≡◌, IfErr, List, Option, Some, None, codes, rules, map, option_map, option_and_then, string_bytes, ap, sym, subst, ◌∙◌}
+use Rattle.std.proofs.Common.{◌≡◌, IfErr, Some, None, codes, rules, map, option_and_then, string_bytes, ap, sym, subst, ◌∙◌}
 use Rattle.std.proofs.lemmas.Result.{err_from_is_err_and}
 use Rattle.ynl_tool.specs.declared.words.WordsFault.TheVariants.{NoMemory}
 use Rattle.clap.specs.Takes.{takes}
-use Rattle.clap.specs.Words.{Row, Text, found_of, is_simple, rows_of, subcommand_of, subcommand_rows_of}
+use Rattle.clap.specs.Words.{found_of, is_simple, rows_of, subcommand_of}
 use Rattle.clap.proofs.WalkLemmas.{first_value-rows}
 use Rattle.ynl_tool.specs.declared.words.Kind.TheVariants.{Run}
-use Rattle.ynl_tool.specs.Words.{command, kind_met, kind_of, file_met}
+use Rattle.ynl_tool.specs.Words.{kind_met, file_met}
 use Rattle.ynl_tool.proofs.Commands.{taken, command_simple, asks_run, met_is}
 use Rattle.ynl_tool.proofs.words.parse_words.Goals as goal
 
