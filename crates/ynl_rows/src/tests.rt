@@ -4,6 +4,7 @@ use std::alloc::Global;
 use std::test::Fail;
 use ynl_core::Core;
 use ynl_model::{Event, Placed, Proposal, What};
+use ynl_queues::Config;
 use ynl_resource::{Id, Label, Name, Path, Size};
 
 /// Two tenants. One may use the partition of its own, gpu, where the users of ml get a quarter each at
@@ -141,14 +142,19 @@ pub(crate) fn event_of(alloc: Global, short: &str) -> Result<Event, Fail> {
     }
 }
 
-/// The cluster of two tenants after events, with a line for each.
-fn after(alloc: Global, events: &str) -> Result<Core, Fail> {
-    let config = ynl_config::read_config(alloc, TWO_TENANTS.as_bytes())??;
+/// The cluster of a configuration after events, with a line for each.
+fn played(alloc: Global, config: Config, events: &str) -> Result<Core, Fail> {
     let mut core = Core::open(alloc, config)?;
     for short in events.lines() {
         let _reply = core.apply(event_of(alloc, short)?)?;
     }
     Ok(core)
+}
+
+/// The cluster of two tenants after events.
+fn after(alloc: Global, events: &str) -> Result<Core, Fail> {
+    let config = ynl_config::read_config(alloc, TWO_TENANTS.as_bytes())??;
+    played(alloc, config, events)
 }
 
 // ---- what is told in short
@@ -232,6 +238,51 @@ fn lists_containers(rt: HostRuntime) -> Result<(), Fail> {
         ),
     ] {
         let core = after(alloc, events)?;
+        let text = containers(alloc, &core, label)?;
+        assert!(rt; text.as_str() == wanted, "{text}");
+    }
+    Ok(())
+}
+
+/// Most of these are refused.
+const REFUSALS: &str = "reg g1 zzz 1 1
+reg g1 gpu 10000 10
+reg g1 gpu 10000 10
+sub root.nope j1 ann gpu 1 1
+sub root j1 ann gpu 1 1
+sub root.eng j1 ann zzz 1 1
+sub root.eng j1 ann gpu 1000 1
+sub root.eng j1 ann gpu 1000 1
+hb g9
+hb g1
+hb g1";
+
+/// Each partition has a clock of its own.
+const PARTITIONS: &str = "reg g1 gpu 10000 10
+reg g2 gpu 20000 20
+reg d1 - 10000 10
+sub root.eng j1 ann gpu 1000 1
+sub root.eng x1 ann - 1000 1
+sub root.eng j2 bob gpu 1000 1
+hb d1
+hb g2
+hb g1";
+
+#[test]
+fn lists_containers_of_the_built_in_configuration(rt: HostRuntime) -> Result<(), Fail> {
+    let alloc = rt.alloc();
+    for (events, label, wanted) in [
+        (REFUSALS, "gpu", "gpu#2 g1 eng/j1 master 1000/1\n"),
+        (REFUSALS, "", ""),
+        (REFUSALS, "zzz", ""),
+        (
+            PARTITIONS,
+            "gpu",
+            "gpu#3 g2 eng/j1 master 1000/1\ngpu#4 g1 eng/j2 master 1000/1\n",
+        ),
+        (PARTITIONS, "", "#2 d1 eng/x1 master 1000/1\n"),
+    ] {
+        let core = played(alloc, ynl_queues::built_in(alloc)?, events)?;
         let text = containers(alloc, &core, label)?;
         assert!(rt; text.as_str() == wanted, "{text}");
     }
