@@ -25,9 +25,13 @@ fn main(rt: HostRuntime) -> ExitCode {
         return out_of_memory(&rt);
     };
     match parse_words(rt.alloc(), words.as_slice()) {
-        Ok(job) => work(&rt, job),
+        Ok(job) => work(&rt, &job),
         Err(WordsFault::Words(error)) => {
             let _told = eprint!(rt; "{error}");
+            ExitCode::from(2)
+        }
+        Err(WordsFault::BadName) => {
+            let _told = eprintln!(rt; "ynl: bad name");
             ExitCode::from(2)
         }
         Err(WordsFault::NoMemory) => out_of_memory(&rt),
@@ -49,7 +53,7 @@ fn read_configuration(
     }
 }
 
-fn work(rt: &HostRuntime, job: Job<'_>) -> ExitCode {
+fn work(rt: &HostRuntime, job: &Job<'_>) -> ExitCode {
     let mut errors = rt.stderr();
     let mut text = Vec::new(rt.alloc());
     if let Err(fault) = read_configuration(rt, job.config, &mut text) {

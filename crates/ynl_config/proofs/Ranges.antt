@@ -1,5 +1,5 @@
 -- What a text means is accepted: its numbers are in range, and neither its labels nor its queues have a fault.
-use Rattle.std.proofs.Common.{◌≡◌, ◌≤◌, ◌*◌, ◌++◌, ◌&&◌, ℕ, Bool, true, false, List, [], ◌∷◌, map, fold, Option, Some, None, Result, Ok, Err, IfOk, refl, sym, subst, ap, ◌∙◌, arith, if◌then◌else◌, nat_le, is_none, codes}
+use Rattle.std.proofs.Common.{◌≡◌, ◌≤◌, ◌*◌, ◌&&◌, ℕ, Bool, true, false, List, [], ◌∷◌, map, fold, Option, Some, None, Result, Ok, Err, IfOk, refl, sym, subst, ap, ◌∙◌, arith, if◌then◌else◌, nat_le, is_none, codes}
 use Rattle.std.proofs.lemmas.Bool.{leb-true, le-leb}
 use Rattle.std.proofs.lemmas.List.Folds.{list_all-append, list_all-map}
 use Rattle.std.proofs.lemmas.Result.{IfOk-weaker}
@@ -10,7 +10,7 @@ use Rattle.ynl_resource.specs.declared.amounts.Resource.{Resource}
 use Rattle.ynl_resource.specs.Refusals.{first_that_holds}
 use Rattle.ynl_model.specs.Nodes.{LabelRow, Labels}
 use Rattle.ynl_model.specs.Queues.{Access, Share, QueueRow, Config}
-use Rattle.ynl_model.specs.Accepted.{most_clock, label_faults, tree_faults, is_from_to, row_in_range, in_range, is_accepted}
+use Rattle.ynl_model.specs.Accepted.{most_clock, label_faults, row_in_range, in_range, is_accepted}
 use Rattle.ynl_model.specs.declared.faults.LabelFault.{LabelFault}
 use Rattle.ynl_model.specs.declared.faults.TreeFault.{TreeFault}
 use Rattle.ynl_nodes.specs.Built.{unless_fault, labels_of}

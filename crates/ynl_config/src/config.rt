@@ -1,6 +1,7 @@
 //! From a text to the configuration.
 
-ghost use Rattle.std.specs.Prelude.{◌≡◌, IfOk, option_map, true};
+ghost use Rattle.std.specs.Prelude.{◌≡◌, ◌<◌, length, IfOk, option_map, true};
+ghost use Rattle.std.specs.Result.{IsOk};
 ghost use Rattle.toml.specs.View.{table_view};
 ghost use Rattle.ynl_model.specs.Accepted.{is_accepted};
 ghost use Rattle.ynl_config.specs.Meaning as spec;
@@ -56,11 +57,12 @@ fn build(alloc: Global, written: Written) -> Result<Result<Config, ConfigFault>,
 /// The text is TOML of at most 1,048,576 bytes. A fault is told only where none before it in the
 /// order of [`ConfigFault`] holds anywhere in the text. Percentages are whole in version 1, and
 /// hundredths of a percent in version 2. What is read is accepted: its numbers are in range, and it has
-/// no fault.
+/// no fault. That a text is too long is told whatever memory there is.
 #[tactic(auto, unfolding(crate::specs::Meaning::config_of))]
 pub fn read_config(alloc: Global, text: &[u8]) -> Result<Result<Config, ConfigFault>, AllocError>
     ensures meaning { IfOk result (λ read. read ≡ spec.config_of text.now) }
     ensures accepted { IfOk result (λ read. IfOk read (λ config. is_accepted config ≡ true)) }
+    ensures sure { spec.most_bytes < length text.now → IsOk result }
 {
     if text.len() > MOST_BYTES {
         return Ok(Err(ConfigFault::Size));

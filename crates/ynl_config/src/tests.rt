@@ -2,7 +2,7 @@ use crate::read_config;
 use std::alloc::Global;
 use std::test::Fail;
 use ynl_queues::Config;
-use ynl_resource::{Label, Path, Resource};
+use ynl_resource::{Label, Name, Path, Resource};
 
 /// Two labels, and a queue that has all of DEFAULT; its other settings may follow.
 const ONE_QUEUE: &str =
@@ -19,6 +19,22 @@ capacity = 3333
 [[queue]]
 path = \"root.c\"
 capacity = 3334
+";
+
+/// Two tenants, one with two leaves.
+const TWO_TENANTS: &str = "version = 1
+[[queue]]
+path = \"root.eng\"
+capacity = 60
+[[queue]]
+path = \"root.eng.ml\"
+capacity = 50
+[[queue]]
+path = \"root.eng.etl\"
+capacity = 50
+[[queue]]
+path = \"root.mkt\"
+capacity = 40
 ";
 
 /// The word of the text's first fault, or `ok`.
@@ -233,6 +249,16 @@ fn reads_hundredths_of_a_percent(rt: HostRuntime) -> Result<(), Fail> {
     ] {
         let guaranteed = config.guaranteed(Path::parse(path)?.names(), &Label::Unlabelled, &total);
         assert_eq!(rt; guaranteed, Resource { memory, vcores }, "{path}");
+    }
+    Ok(())
+}
+
+#[test]
+fn keeps_the_queues_of_one_tenant(rt: HostRuntime) -> Result<(), Fail> {
+    let config = config(&rt, TWO_TENANTS)?;
+    for (tenant, queues) in [("eng", 3), ("mkt", 1), ("nobody", 0)] {
+        let only = config.tree().only(rt.alloc(), &Name::parse(tenant)?)?;
+        assert_eq!(rt; only.rows().len(), queues, "{tenant}");
     }
     Ok(())
 }

@@ -15,7 +15,7 @@ use Rattle.ynl_model.specs.Events.{served, step, reasons, accepted}
 use Rattle.ynl_laws.proofs.Lists.{some-same}
 use Rattle.ynl_laws.proofs.Restricted.{same-name_sym}
 use Rattle.ynl_core.specs.Resting.{Rests, AreResting}
-use Rattle.ynl_core.proofs.Serves.{beat_next, beat_none}
+use Rattle.ynl_changes.proofs.Serves.{beat_next, beat_none}
 
 -- a node that is listed rests
 pub listed_rests : (c : Config) (s : State) (names : List Name) (name : Name) → list_any (same_name name) names ≡ true → AreResting c s names → Rests c s name

@@ -1,10 +1,6 @@
-pub mod Placing
-pub mod Rows
 pub mod Resting
 pub mod CoreFields
 pub mod World
 pub mod Sure
-pub mod Submitting
-pub mod Asking
 pub mod Runs
 pub mod Isolated

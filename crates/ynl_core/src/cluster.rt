@@ -11,21 +11,15 @@ ghost use Rattle.ynl_model.specs.Limits.{user_limit, master_limit};
 ghost use Rattle.ynl_core.specs.Sure.{is_refused, takes_no_memory};
 ghost use Rattle.ynl_core.specs.World.{opened, Answers};
 
-use crate::asking::{ask_for, asked_leaf, reserve_ask};
-use crate::controlling::{maximum_refusal, stop_refusal};
-use crate::ending::{container_of_tenant, container_on, end};
-use crate::finishing::finish;
 use crate::memory::NoMemory;
-use crate::nodes::{join, leave};
-use crate::opening::opening;
-use crate::placing::{place, push_copy, reserve};
-use crate::polling::{own_containers, pending_on};
 use crate::resting::{rest, rests};
-use crate::serving::serve;
-use crate::submitting::{Submission, home_of, refusal_of, reserve_place, submit};
-use crate::usage::usage;
 use std::alloc::Global;
 use std::marker::Model;
+use ynl_changes::{
+    Submission, ask_for, asked_leaf, container_of_tenant, container_on, end, finish, home_of, join,
+    leave, maximum_refusal, opening_tables, own_containers, pending_on, place, push_copy,
+    refusal_of, reserve, reserve_ask, reserve_place, serve, stop_refusal, submit, usage_of,
+};
 use ynl_choice::{check, is_spent, master_limit_of, propose, user_limit_of};
 use ynl_model::{Event, PendingList, Placed, PlacedList, Proposal, Reply};
 use ynl_queues::Config;
@@ -308,7 +302,7 @@ impl Core {
         if !self.config.labels().has(&label) {
             return Reply::Refused(Refusal::NoSuchLabel);
         }
-        usage(&self.config, &self.tables, &queue, &label)
+        usage_of(&self.config, &self.tables, &queue, &label)
     }
 
     #[tactic(auto, unfolding(ynl_model::specs::Events::step, ynl_model::specs::Events::reasons, ynl_model::specs::Events::accepted))]
@@ -346,7 +340,7 @@ impl Core {
     pub fn open(alloc: Global, config: Config) -> Result<Core, NoMemory>
         ensures { IfOk result (λ core. core ≡ opened config) }
     {
-        let tables = opening(alloc, &config)?;
+        let tables = opening_tables(alloc, &config)?;
         let resting = Vec::new(alloc);
         Ok(Core {
             config,

@@ -1,7 +1,7 @@
 //! The nodes that rest: nothing is to be placed on them until the cluster changes. A heartbeat of
 //! such a node is answered without looking for a request.
 
-ghost use Rattle.std.specs.Prelude.{◌≡◌, IsTrue};
+ghost use Rattle.std.specs.Prelude.{IsTrue};
 ghost use Rattle.ynl_model.specs.Queues.{Config};
 ghost use Rattle.ynl_model.specs.Cluster.{State};
 ghost use Rattle.ynl_core.specs.Resting.{Rests, AreResting};

@@ -1,6 +1,6 @@
 //! Runs over lists of events.
 
-ghost use Rattle.std.specs.Prelude.{◌≡◌, IfOk, IsTrue, All};
+ghost use Rattle.std.specs.Prelude.{IfOk};
 ghost use Rattle.ynl_core.specs.Isolated.{AreIsolated};
 ghost use Rattle.ynl_core.specs.Runs.{Answered, IsRun};
 

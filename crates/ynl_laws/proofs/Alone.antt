@@ -127,20 +127,20 @@ module _ (c : Config) (accepted : is_accepted c ≡ true) where
                 ∙ any-all (λ n. list_any (same_name n) (accessible c (parent_of row.path))) name (accessible c row.path) (left-true _ _ (left-true _ _ within)) (ap (λ q. list_any (same_name name) (accessible c q)) same ∙ may),
           )
 
-  -- and so may the top-level queue above it
-  tops : (fuel : Path) (queue : Path) (name : Name) → length queue ≡ length fuel → is_some (queue_row c queue) ≡ true → may_use c queue (Named name) ≡ true →
-      (is_queue c (top_level (tenant_of queue)) ≡ true) × (may_use c (top_level (tenant_of queue)) (Named name) ≡ true) × (not (same_path queue root) ≡ true)
-  tops fuel [] name long there may = absurd (true≢false (sym there ∙ none c.queues no-root))
+  -- the top-level queue above it is a queue below root, and may use that too
+  pub tops : (fuel : Path) (queue : Path) → length queue ≡ length fuel → is_some (queue_row c queue) ≡ true →
+      (is_queue c (top_level (tenant_of queue)) ≡ true) × ((name : Name) → may_use c queue (Named name) ≡ true → may_use c (top_level (tenant_of queue)) (Named name) ≡ true) × (not (same_path queue root) ≡ true)
+  tops fuel [] long there = absurd (true≢false (sym there ∙ none c.queues no-root))
     where
       none : (rows : List QueueRow) → list_all (λ row. not (same_path row.path root)) rows ≡ true → is_some (find (λ row. same_path row.path root) rows) ≡ false
       none [] h = refl
       none (row ∷ rows) h = (λ i. is_some (cond (not-true (same_path row.path root) (left-true _ _ h) i) (Some row) (find (λ row. same_path row.path root) rows))) ∙ none rows (right-true (not (same_path row.path root)) _ h)
-  tops fuel (a ∷ []) name long there may = (there, may, refl)
-  tops [] (a ∷ b ∷ queue) name long there may = absurd (grind (arith, long))
-  tops (x ∷ fuel) (a ∷ b ∷ queue) name long there may =
+  tops fuel (a ∷ []) long there = (there, λ name may. may, refl)
+  tops [] (a ∷ b ∷ queue) long there = absurd (grind (arith, long))
+  tops (x ∷ fuel) (a ∷ b ∷ queue) long there =
       let above : (is_queue c (a ∷ parent_of (b ∷ queue)) ≡ true) × ((name : Name) → may_use c (a ∷ b ∷ queue) (Named name) ≡ true → may_use c (a ∷ parent_of (b ∷ queue)) (Named name) ≡ true) = parents (a ∷ b ∷ queue) there in
-      let up = tops fuel (a ∷ parent_of (b ∷ queue)) name (shorter long) above.0 (above.1 name may) in
-      (up.0, up.1, refl)
+      let up = tops fuel (a ∷ parent_of (b ∷ queue)) (shorter long) above.0 in
+      (up.0, λ name may. up.1 name (above.1 name may), refl)
     where
       parent-length : (b : Name) (queue : Path) → length (parent_of (b ∷ queue)) ≡ length queue
       parent-length b [] = refl
@@ -178,7 +178,7 @@ alone c t p accepted sole = record {
         (queue : Path) → is_some (queue_row c queue) ≡ true → may_use c queue p ≡ true → is_within (top_level t) queue ≡ true
     owns Unlabelled home own queue there may = absurd (true≢false home)
     owns (Named name) home own queue there may =
-        let up = tops c accepted queue queue name refl there may in within queue (own (tenant_of queue) up.0 up.1) up.2
+        let up = tops c accepted queue queue refl there in within queue (own (tenant_of queue) up.0 (up.1 name may)) up.2
       where
         within : (queue : Path) → tenant_of queue ≡ t → not (same_path queue root) ≡ true → is_within (top_level t) queue ≡ true
         within [] same below = absurd (true≢false (sym below))

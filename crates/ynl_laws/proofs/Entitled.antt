@@ -63,7 +63,7 @@ fitting-taken c Master app h = h
 fitting-taken c (Asked label priority) app h =
     (h.0, Each-filter (λ ask. is_foreign ask.label app ≡ false) _ _ (Each-update (λ ask. is_foreign ask.label app ≡ false) (is_ask_of label priority) _ (λ ask k. k) app.asks h.1))
 
-Each-put : {X : Type 0} (P : X → Type 0) (test : X → Bool) (new : X) → P new → (xs : List X) → AllByRecursion P xs → AllByRecursion P (put test new xs)
+pub Each-put : {X : Type 0} (P : X → Type 0) (test : X → Bool) (new : X) → P new → (xs : List X) → AllByRecursion P xs → AllByRecursion P (put test new xs)
 Each-put P test new n [] h = (n, tt)
 Each-put P test new n (x ∷ xs) h = go (test x) (Each-put P test new n xs h.1)
   where
@@ -120,7 +120,7 @@ asked-own label app (ask ∷ asks) any own = go (same_label ask.label label) ref
     go false e any rest = rest any
 
 -- a leaf may use what its application asks for at home
-may-own : (c : Config) (app : Application) (label : Label) → may_use c app.leaf app.home ≡ true → is_foreign label app ≡ false → may_use c app.leaf label ≡ true
+pub may-own : (c : Config) (app : Application) (label : Label) → may_use c app.leaf app.home ≡ true → is_foreign label app ≡ false → may_use c app.leaf label ≡ true
 unfolding may_use
 may-own c app Unlabelled may own = refl
 may-own c app (Named name) may own = go (same_label app.home (Named name)) refl own
@@ -200,7 +200,7 @@ entitled-after c events = lasting (Entitled c) c (entitled-lasts c) (record {
 }) events
 
 -- what holds of the applications of each row holds of all
-all-apps : (P : Application → Type 0) (leaves : List LeafApps) → AllByRecursion (λ row. AllByRecursion P row.apps) leaves → AllByRecursion P (all_apps leaves)
+pub all-apps : (P : Application → Type 0) (leaves : List LeafApps) → AllByRecursion (λ row. AllByRecursion P row.apps) leaves → AllByRecursion P (all_apps leaves)
 all-apps P leaves h = Each-flat (λ row. AllByRecursion P row.apps) P (λ row. row.apps) (λ row k. k) leaves h
 
 -- in each state

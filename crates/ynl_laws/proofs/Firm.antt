@@ -18,7 +18,7 @@ use Rattle.ynl_model.specs.Cluster.{State, Partition, is_partition, in_partition
 use Rattle.ynl_model.specs.declared.containers.Placed.{Placed as Container}
 use Rattle.ynl_model.specs.Service.{Item, takes_guests}
 use Rattle.ynl_model.specs.Changes.{node_joins, node_leaves, changed_at, place, end, taken, all_own, all_end, app_finishes}
-use Rattle.ynl_model.specs.Events.{is_foreign, step}
+use Rattle.ynl_model.specs.Events.{is_foreign, step, after, state_after}
 use Rattle.ynl_model.specs.declared.events.Event.{Event}
 use Rattle.ynl_laws.specs.Working.{Pairs, on_in, IsKnown, Apart, places, Kept}
 use Rattle.ynl_laws.proofs.Restricted.{left-true, same-path, same-name_sym, same-name_self, same-label_path, same-label_self}
@@ -125,6 +125,14 @@ firm-step c s event h = record {
   apart = step-apart c s event h.apart;
   labels = step-lasts (λ s. map (λ row. row.label) s.partitions ≡ partition_labels c.labels) c (labels-lasts c) s event h.kept h.finds h.labels;
 }
+
+-- so each state keeps it
+pub firm-after : (c : Config) (events : List Event) → Firm c (state_after c events)
+firm-after c events = go events (opening c) (firm-opening c)
+  where
+    go : (events : List Event) (s : State) → Firm c s → Firm c (after c s events)
+    go [] s h = h
+    go (event ∷ events) s h = go events (step c s event).state (firm-step c s event h)
 
 -- a request that fits and is wanted is placed
 pub firm-place : (c : Config) (s : State) (node : Node) (item : Item) → Firm c s → IsKnown s.leaves item.leaf item.app → IsWanted c s node.label item → Firm c (place c node item s)

@@ -28,6 +28,7 @@ pub mod Wanted
 pub mod Lasting
 pub mod Homes
 pub mod Entitled
+pub mod Asks
 pub mod Shares
 pub mod Mirrored
 pub mod Alone
@@ -41,3 +42,5 @@ pub mod FollowsCommits
 pub mod FollowsEvents
 pub mod Isolated
 pub mod Finished
+pub mod Proposed
+pub mod Replies

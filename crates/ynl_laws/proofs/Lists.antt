@@ -187,6 +187,10 @@ Pairs-filter R f (x ∷ xs) h = go (f x) (Pairs-filter R f xs h.1)
     go true rest = (Each-filter (R x) f xs h.0, rest)
     go false rest = rest
 
+pub Pairs-map : {X : Type 0} (R : X → X → Type 0) (f : X → X) → ((a b : X) → R a b → R (f a) (f b)) → (xs : List X) → Pairs R xs → Pairs R (map f xs)
+Pairs-map R f step [] h = tt
+Pairs-map R f step (x ∷ xs) h = (Each-map (R x) (R (f x)) f (step x) xs h.0, Pairs-map R f step xs h.1)
+
 pub Pairs-last : {X : Type 0} (R : X → X → Type 0) (xs : List X) (y : X) → Pairs R xs → AllByRecursion (λ x. R x y) xs → Pairs R (xs ++ y ∷ [])
 Pairs-last R [] y h k = (tt, tt)
 Pairs-last R (x ∷ xs) y h k = (Each-append (R x) xs (y ∷ []) h.0 (k.0, tt), Pairs-last R xs y h.1 k.1)

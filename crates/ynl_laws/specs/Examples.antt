@@ -1,11 +1,12 @@
 -- What one would ask to see beside the headline: that its premises can be met, and that what it speaks of is not empty.
-use Rattle.std.specs.Prelude.{◌≡◌, false, IsTrue, List, [], ◌∷◌}
+use Rattle.std.specs.Prelude.{◌≡◌, false, IsTrue, List, [], ◌∷◌, ◌++◌, Some}
 use Rattle.ynl_model.specs.declared.proposals.What.TheVariants.{Master, Ask as Asked}
 use Rattle.ynl_model.specs.Accepted.{is_accepted}
-use Rattle.ynl_model.specs.Events.{state_after}
+use Rattle.ynl_model.specs.Events.{step, state_after}
 use Rattle.ynl_model.specs.declared.events.Event.{Event}
+use Rattle.ynl_model.specs.declared.replies.Reply.TheVariants.{Proposed, Committed}
 use Rattle.ynl_model.specs.View.{view, places_of, is_sole, restrict, seen}
-use Rattle.ynl_laws.specs.Setups.{name, gpu, ssd, ml, mkt, c1, reg, sub, ask, hb, container}
+use Rattle.ynl_laws.specs.Setups.{name, gpu, ssd, ml, mkt, c1, reg, sub, ask, hb, prop, proposal, cmt, container}
 
 -- a configuration of two tenants is accepted, and one of them alone may use an exclusive partition
 abbrev pub PremisesAreMet : Type 0
@@ -25,6 +26,12 @@ abbrev pub BothArePlaced : Type 0
 BothArePlaced =
     ((seen (state_after c1 both_at_work) gpu).containers ≡ container gpu 2 "g1" "eng" "j1" Master 1000 1 ∷ container gpu 3 "g1" "eng" "j1" (Asked gpu 1) 2000 2 ∷ [])
     × ((seen (state_after c1 both_at_work) ssd).containers ≡ container ssd 2 "s1" "mkt" "m1" Master 1000 1 ∷ container ssd 3 "s1" "mkt" "m1" (Asked ssd 1) 500 1 ∷ [])
+
+-- a proposal is answered for a node, and placed when it comes back as the next event
+abbrev pub ProposalIsCommitted : Type 0
+ProposalIsCommitted =
+    ((step c1 (state_after c1 both_at_work) (prop "g1")).reply ≡ Proposed (Some (proposal "g1" 3 "eng" "j1" (Asked gpu 1) 2000 2)))
+    × ((step c1 (state_after c1 (both_at_work ++ prop "g1" ∷ [])) (cmt "g1" 3 "eng" "j1" (Asked gpu 1) 2000 2)).reply ≡ Committed (container gpu 4 "g1" "eng" "j1" (Asked gpu 1) 2000 2))
 
 -- the tenant's own cluster is not accepted by itself, so nothing may be promised of accepted configurations alone that is used of both
 abbrev pub RestrictionIsNotAccepted : Type 0

@@ -7,3 +7,5 @@ pub mod Found
 pub mod Refused
 pub mod Entitled
 pub mod Finishing
+pub mod Proposed
+pub mod Replies

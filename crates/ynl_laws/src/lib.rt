@@ -6,5 +6,6 @@ pub mod isolation;
 pub mod maxima;
 pub mod nodes;
 pub mod order;
+pub mod proposals;
 pub mod states;
 pub mod worked;

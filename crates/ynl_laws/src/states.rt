@@ -3,6 +3,7 @@
 ghost use Rattle.ynl_laws.specs.Bounded.{IsAlwaysBounded};
 ghost use Rattle.ynl_laws.specs.Found.{AreAppsFound};
 ghost use Rattle.ynl_laws.specs.Refused.{RefusalChangesNothing};
+ghost use Rattle.ynl_laws.specs.Replies.{AreHeartbeatsBounded};
 ghost use Rattle.ynl_model.specs.Promises.{IsAlwaysSound, HasOneReplyEach};
 
 /// Whatever events come, clocks and stamps are within their limits, nodes and ids differ, containers
@@ -30,4 +31,9 @@ pub fn use_and_totals_are_bounded()
 /// An event that is refused leaves the state as it is, and the refusal is the reply.
 pub fn refusals_change_nothing()
     ensures { RefusalChangesNothing }
+{}
+
+/// A heartbeat places so many containers at most as the configuration says.
+pub fn heartbeats_are_bounded()
+    ensures { AreHeartbeatsBounded }
 {}

@@ -1,7 +1,7 @@
 //! What one would ask to see beside the laws: that their premises can be met, and that what they speak of is not
 //! empty.
 
-ghost use Rattle.ynl_laws.specs.Examples.{PremisesAreMet, ViewIsShorter, BothArePlaced, RestrictionIsNotAccepted};
+ghost use Rattle.ynl_laws.specs.Examples.{PremisesAreMet, ViewIsShorter, BothArePlaced, ProposalIsCommitted, RestrictionIsNotAccepted};
 
 /// A configuration of two tenants is accepted, and one of them alone may use an exclusive partition.
 pub fn premises_are_met()
@@ -16,6 +16,11 @@ pub fn view_is_shorter()
 /// Containers of both tenants are placed, each on its partition.
 pub fn both_are_placed()
     ensures { BothArePlaced }
+{}
+
+/// A proposal is answered, and as the next event it is committed.
+pub fn proposal_is_committed()
+    ensures { ProposalIsCommitted }
 {}
 
 /// The configuration with one tenant alone is not accepted by itself.

@@ -1,5 +1,5 @@
 -- Replies and events have no float and are flat.
-use Rattle.std.proofs.Common.{◌≡◌, ◌≤◌, List, [], ◌∷◌, Option, Some, None, false, map, refl, arith}
+use Rattle.std.proofs.Common.{◌≡◌, ◌≤◌, ℕ, List, [], ◌∷◌, Option, Some, None, false, map, refl, arith}
 use Rattle.serde_json.specs.Data.{depth, items_depth}
 use Rattle.serde_json.specs.View.{items_of}
 use Rattle.serde_json.specs.Written.{has_float, items_have_float}
@@ -16,7 +16,7 @@ use Rattle.ynl_model.specs.declared.proposals.Proposal.{Proposal}
 use Rattle.ynl_model.specs.declared.replies.Pending.{Pending}
 use Rattle.ynl_model.specs.declared.replies.Reply.{Reply}
 use Rattle.ynl_model.specs.declared.replies.Reply.TheVariants.{Done, Refused, Placed, Proposed, Committed, Held, Usage}
-use Rattle.ynl_lines.specs.Writing.{placed_by, placed_data, proposal_by, pending_data, reply_data, submit_data, event_data}
+use Rattle.ynl_lines.specs.Writing.{placed_by, placed_data, proposal_by, pending_data, reply_data, submit_data, event_data, line_data}
 
 plain_by : (w : What) (p : Container) → has_float (placed_by w p) ≡ false
 plain_by Master p = refl
@@ -60,7 +60,7 @@ flat_pending : (ps : List Pending) → items_depth (items_of (map pending_data p
 flat_pending [] = omega arith
 flat_pending (p ∷ ps) = omega (arith, flat_pending ps)
 
-pub flat_reply : (r : Reply) → depth (reply_data r) ≤ 127
+pub flat_reply : (r : Reply) → depth (reply_data r) ≤ 3
 flat_reply Done = omega arith
 flat_reply (Refused r) = omega arith
 flat_reply (Placed ps) = omega (arith, flat_placed ps)
@@ -81,11 +81,19 @@ plain_event (Submit queue app user label master) = plain_submit queue app user l
 plain_event (Commit proposal) = simp (plain_proposal proposal.what proposal)
 plain_event _ = refl
 
-flat_submit : (queue : Path) (app user : Name) (label : Option Label) (master : Resource) → depth (submit_data queue app user label master) ≤ 127
+flat_submit : (queue : Path) (app user : Name) (label : Option Label) (master : Resource) → depth (submit_data queue app user label master) ≤ 3
 flat_submit queue app user None master = omega arith
 flat_submit queue app user (Some label) master = omega arith
 
-pub flat_event : (e : Event) → depth (event_data e) ≤ 127
+pub flat_event : (e : Event) → depth (event_data e) ≤ 3
 flat_event (Submit queue app user label master) = flat_submit queue app user label master
 flat_event (Commit proposal) = omega (arith, flat_proposal proposal.what proposal)
 flat_event _ = omega arith
+
+-- ---- lines
+
+pub plain_line : (place : ℕ) (e : Event) (r : Reply) → has_float (line_data place e r) ≡ false
+plain_line place e r = simp (plain_event e, plain_reply r)
+
+pub flat_line : (place : ℕ) (e : Event) (r : Reply) → depth (line_data place e r) ≤ 127
+flat_line place e r = omega (arith, flat_event e, flat_reply r)

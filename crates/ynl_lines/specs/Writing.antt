@@ -267,3 +267,16 @@ fault_data f line = object (member (codes "fault") (string (fault_word f)) (memb
 -- the text that tells a fault in a line, without its newline
 abbrev pub fault_text : LineFault → ℕ → List ℕ
 fault_text f line = compact_text (fault_data f line)
+
+-- ---- lines
+
+abbrev pub line_object : ℕ → Data → Data → Data
+line_object place event reply = object (member (codes "event") event (member (codes "place") (count place) (member (codes "reply") reply no_members)))
+
+-- an event, its place in a list and the reply to it
+abbrev pub line_data : ℕ → Event → Reply → Data
+line_data place e r = line_object place (event_data e) (reply_data r)
+
+-- its text, without the newline of its line
+abbrev pub line_text : ℕ → Event → Reply → List ℕ
+line_text place e r = compact_text (line_data place e r)

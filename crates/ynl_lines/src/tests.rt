@@ -1,8 +1,8 @@
 // The texts are those of the format's own examples.
-use crate::{LineFault, read_event, write_event, write_fault, write_reply};
+use crate::{LineFault, read_event, write_event, write_fault, write_line, write_reply};
 use std::alloc::{AllocError, Global};
 use std::test::Fail;
-use ynl_model::{Pending, PendingList, Placed, PlacedList, Proposal, Reply, What};
+use ynl_model::{Event, Pending, PendingList, Placed, PlacedList, Proposal, Reply, What};
 use ynl_resource::{Id, Label, Name, Resource, Size};
 
 fn fault_of(alloc: Global, line: &[u8]) -> Result<Option<LineFault>, AllocError> {
@@ -180,6 +180,20 @@ fn replies_have_their_texts(rt: HostRuntime) -> Result<(), Fail> {
         fault.as_slice(),
         br#"{"fault":"range","line":3}"#.as_slice()
     );
+    Ok(())
+}
+
+#[test]
+fn lines_have_their_texts(rt: HostRuntime) -> Result<(), Fail> {
+    let line =
+        r#"{"event":{"event":"register","label":"gpu","memory":10000,"node":"g1","vcores":10},"place":18446744073709551615,"reply":{"reply":"done"}}"#;
+    let event = Event::Register {
+        node: Name::parse("g1")?,
+        label: Label::parse("gpu")?,
+        size: Size::new(10000, 10).ok_or("a size")?,
+    };
+    let written = write_line(rt.alloc(), u64::MAX, &event, &Reply::Done)?;
+    assert_eq!(rt; written.as_slice(), line.as_bytes());
     Ok(())
 }
 

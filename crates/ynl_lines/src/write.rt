@@ -9,7 +9,7 @@ ghost use Rattle.ynl_lines.specs.Writing as spec;
 
 use crate::events::event_value;
 use crate::faults::LineFault;
-use crate::object::{Field, object};
+use crate::object::{Field, members, object, with};
 use crate::replies::reply_value;
 use serde_json::Value;
 use std::alloc::{AllocError, Global};
@@ -64,5 +64,31 @@ pub fn write_fault(alloc: Global, fault: LineFault, line: u64) -> Result<Vec<u8>
     ensures text { IfOk result (λ text. text.items ≡ spec.fault_text fault line) }
 {
     let value = fault_value(alloc, fault, line)?;
+    text_of(alloc, &value)
+}
+
+/// The object of an event, its place and its reply, by the objects of the two.
+fn line_value(alloc: Global, place: u64, event: Value, reply: Value) -> Result<Value, AllocError>
+    ensures { IfOk result (λ v. view v ≡ spec.line_object place (view event) (view reply)) }
+{
+    let map = members(alloc, &[("place", Field::Number(place))])?;
+    let map = with(alloc, map, "event", event)?;
+    let map = with(alloc, map, "reply", reply)?;
+    Ok(Value::Object(map))
+}
+
+/// The text of an event, its place in a list, counted from 0, and the reply to it, without the newline
+/// of its line.
+pub fn write_line(
+    alloc: Global,
+    place: u64,
+    event: &Event,
+    reply: &Reply,
+) -> Result<Vec<u8>, AllocError>
+    ensures text { IfOk result (λ text. text.items ≡ spec.line_text place event.now reply.now) }
+{
+    let event = event_value(alloc, event)?;
+    let reply = reply_value(alloc, reply)?;
+    let value = line_value(alloc, place, event, reply)?;
     text_of(alloc, &value)
 }

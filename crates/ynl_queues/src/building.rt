@@ -1,12 +1,13 @@
 //! The tree that queues make as a configuration writes them, or its first fault.
 
-ghost use Rattle.std.specs.Prelude.{◌≡◌, ◌≤◌, length, map, true, false, IfOk, MatchOption};
-ghost use Rattle.std.specs.List.{list_all};
+ghost use Rattle.std.specs.Prelude.{◌≡◌, ◌≤◌, ◌||◌, length, map, true, false, IfOk, IsTrue, MatchOption};
+ghost use Rattle.std.specs.List.{list_all, list_any};
+ghost use Rattle.std.specs.Result.{IsOk};
 ghost use Rattle.ynl_resource.specs.Amounts.{amount};
 ghost use Rattle.ynl_resource.specs.Texts.{read_path};
 ghost use Rattle.ynl_resource.specs.Refusals.{first_that_holds};
 ghost use Rattle.ynl_model.specs.Accepted.{tree_faults};
-ghost use Rattle.ynl_queues.specs.Written.{is_below_root, row_of, is_crowded, configured, unless_fault, tree_of, IsFaultless};
+ghost use Rattle.ynl_queues.specs.Written.{is_too_deep, are_too_many, is_below_root, row_of, is_crowded, configured, unless_fault, tree_of, IsFaultless};
 
 use crate::config::Config;
 use crate::rows::QueueRow;
@@ -86,7 +87,8 @@ fn accept(
 }
 
 impl QueueTree {
-    /// The tree of these queues, or the first fault: of the paths' texts, and then of the tree.
+    /// The tree of these queues, or the first fault: of the paths' texts, and then of the tree. That a path is too
+    /// deep, or that there are too many, is told whatever memory there is.
     pub fn build(
         alloc: Global,
         labels: &Labels,
@@ -94,6 +96,7 @@ impl QueueTree {
     ) -> Result<Result<QueueTree, TreeFault>, AllocError>
         ensures built { IfOk result (λ built. built ≡ tree_of labels.now rows.items) }
         ensures accepted { IfOk result (λ built. IfOk built (IsFaultless labels.now)) }
+        ensures sure { IsTrue (list_any (λ row. is_too_deep row.path) rows.items || are_too_many rows.items) → IsOk result }
     {
         if any_too_deep(&rows) {
             return Ok(Err(TreeFault::TooDeep));

@@ -5,3 +5,5 @@
 pub mod configured;
 #[cfg(test)]
 mod tests;
+#[cfg(test)]
+mod views;

@@ -12,14 +12,6 @@ filter_and {X = X} p q (x ∷ xs) = go (p x) (q x) refl (filter_and p q xs)
     go true false e h = h ∙ sym (λ i. cond (e i) (x ∷ filter q (filter p xs)) (filter q (filter p xs)))
     go false b e h = h
 
-pub filter_true : {X : Type 0} (p : X → Bool) (xs : List X) → filter (λ x. p x && true) xs ≡ filter p xs
-filter_true p [] = refl
-filter_true {X = X} p (x ∷ xs) = go (p x) (filter_true p xs)
-  where
-    go : (a : Bool) → filter (λ x. p x && true) xs ≡ filter p xs → cond (a && true) (x ∷ filter (λ x. p x && true) xs) (filter (λ x. p x && true) xs) ≡ cond a (x ∷ filter p xs) (filter p xs)
-    go true h = λ i. x ∷ h i
-    go false h = h
-
 pub all_last : {X : Type 0} (f : X → Bool) (xs : List X) (x : X) → list_all f (xs ++ x ∷ []) ≡ (list_all f xs && f x)
 all_last f [] x = go (f x)
   where

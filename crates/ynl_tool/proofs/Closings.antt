@@ -1,6 +1,5 @@
 -- What the end of a run does to the reader and the writer.
-use Rattle.std.proofs.Common.{◌≡◌, ℕ, ◌+◌, List, [], ◌++◌, length, take, Option, Some, None, OnSome, IfNone, Result, Ok, Err, sym, ap, subst, ◌∙◌, arith, append-nil, length-append, ◌≢◌, ◌-◌, ◌∷◌, inl, inr, append_assoc, refl}
-use Rattle.std.proofs.Math.Seq.{take-append-add}
+use Rattle.std.proofs.Common.{◌≡◌, ℕ, List, [], ◌++◌, length, Option, Some, None, OnSome, IfNone, Result, Ok, Err, sym, ap, subst, ◌∙◌, arith, append-nil, length-append, ◌≢◌, ◌-◌, ◌∷◌, inl, inr, append_assoc, refl}
 use Rattle.std.proofs.lemmas.List.{take-append-le, take_at}
 use Rattle.std.proofs.lemmas.List.Elements.{All-nil, All-take}
 use Rattle.std.specs.Io.KnownBytes.{Consumes, Appends, IsAtEnd}
@@ -9,15 +8,13 @@ use Rattle.ynl_tool.specs.Lines.{AppendsFront, IsPlain, EndsLine, IsOneLine}
 use Rattle.ynl_tool.specs.declared.lines_in.ReadFault.{ReadFault}
 use Rattle.ynl_tool.specs.declared.lines_in.ReadFault.TheVariants as reading
 use Rattle.ynl_model.specs.Queues.{Config}
-use Rattle.ynl_model.specs.Cluster.{State, opening}
-use Rattle.ynl_config.specs.declared.faults.ConfigFault.{ConfigFault}
+use Rattle.ynl_model.specs.Cluster.{State}
 use Rattle.ynl_lines.specs.declared.faults.LineFault.{LineFault}
 use Rattle.ynl_tool.specs.declared.run.ToolFault.{ToolFault}
 use Rattle.ynl_tool.specs.declared.run.ToolFault.TheVariants.{Read, Write, NoMemory}
 use Rattle.ynl_tool.specs.declared.run.Summary.{Summary}
 use Rattle.ynl_tool.specs.Run.{Outcome, said, run_of, limit}
 use Rattle.ynl_tool.specs.Running.{tool_fault, LeavesFront, LeavesMore, Writes, Stops, Runs}
-use Rattle.ynl_tool.specs.Jobs.{RunsOf}
 use Rattle.ynl_tool.proofs.Fronts.{front_after}
 use Rattle.ynl_tool.proofs.Runs.{SoFar, here, at_start}
 
@@ -111,8 +108,3 @@ pub one_whole : (line : List ℕ) (byte : ℕ) → IsPlain line → IsOneLine (l
 one_whole line byte plain =
     let n : length line ≡ length (line ++ byte ∷ []) - 1 = omega (arith, length-append line (byte ∷ [])) in
     subst IsPlain (sym (take_at line (byte ∷ []) (length (line ++ byte ∷ []) - 1) n)) plain
-
--- where memory is refused before anything is read
-pub stops_unread : (old wold : Option (List ℕ)) (read : Result Config ConfigFault) → RunsOf old old wold wold read (Err NoMemory)
-stops_unread old wold (Ok c) = stops_at_once old wold c (opening c)
-stops_unread old wold (Err fault) = (refl, record { unread = Consumes-nil old; unwritten = Appends-nil wold })

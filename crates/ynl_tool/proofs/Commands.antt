@@ -1,10 +1,21 @@
--- Which words the command takes, and which file they name.
-use Rattle.std.proofs.Common.{◌≡◌, ◌&&◌, ◌∙◌, true, List, [], ◌∷◌, Option, Some, None, codes, drop, refl, ap, option_map, option_and_then}
-use Rattle.clap.specs.Walk.{Text, Row, nothing_held, first_of}
-use Rattle.clap.specs.Simple.{built, is_simple}
+-- Which words the command takes, and what they ask for.
+use Rattle.std.proofs.Common.{◌≡◌, ◌&&◌, ◌∙◌, true, cond, List, [], ◌∷◌, Option, Some, None, codes, drop, refl, sym, ap, option_map, option_and_then}
+use Rattle.std.specs.Prelude.{Box}
+use Rattle.std.specs.Box.{box_value}
+use Rattle.std.specs.Str.{bytes_eq}
+use Rattle.clap.specs.Walk.{Text, Row, nothing_held, first_of, rows_of, stop_after}
+use Rattle.clap.specs.Simple.{built, entered, is_simple, names_of, subcommand_rows}
 use Rattle.clap.specs.Takes.{takes, built_takes}
+use Rattle.clap.specs.Words.{first_value}
+use Rattle.clap.specs.declared.parser.matches.ArgMatches.TheViews.{out-SubCommand}
+use Rattle.clap.specs.declared.parser.matches.Found.{Found}
+use Rattle.clap.specs.declared.parser.matches.SubCommand.{SubCommand}
 use Rattle.clap.proofs.OnLiterals.{clap_on_literals}
-use Rattle.ynl_tool.specs.Words.{command}
+use Rattle.clap.proofs.WalkLemmas.{first_value-rows}
+use Rattle.ynl_resource.specs.declared.names.Name.{Name}
+use Rattle.ynl_resource.specs.declared.labels.Label.{Label}
+use Rattle.ynl_tool.specs.declared.words.Kind.TheVariants.{Run}
+use Rattle.ynl_tool.specs.Words.{command, name_in, label_in, tenant_by, kind_met, kind_of}
 
 pub taken : (words : List Text) → drop 1 words ≡ codes "run" ∷ [] → takes command words ≡ true
 unfolding clap_on_literals
@@ -14,11 +25,37 @@ pub command_simple : is_simple command ≡ true
 unfolding clap_on_literals
 command_simple = refl
 
--- the file that these rows of a subcommand name
-pub file_met : (rows : Option (List Row)) (met : Option (Text × List Row)) → rows ≡ option_map (λ p. p.1) met
-    → option_and_then (first_of (codes "config")) rows ≡ option_and_then (λ p. first_of (codes "config") p.1) met
-file_met rows met h = ap (option_and_then (first_of (codes "config"))) h ∙ same met
-  where
-    same : (met : Option (Text × List Row)) → option_and_then (first_of (codes "config")) (option_map (λ p. p.1) met) ≡ option_and_then (λ p. first_of (codes "config") p.1) met
-    same None = refl
-    same (Some p) = refl
+-- ---- what a subcommand asks for
+
+-- the name that an option gives, read from its rows
+name_read : (found : Found) (t : Option Name) → t ≡ option_and_then name_in (first_value found (codes "tenant")) → t ≡ option_and_then name_in (first_of (codes "tenant") (rows_of found))
+name_read found t e = e ∙ ap (option_and_then name_in) (first_value-rows found (codes "tenant"))
+
+label_read : (found : Found) (p : Option Label) → p ≡ option_and_then label_in (first_value found (codes "label")) → p ≡ option_and_then label_in (first_of (codes "label") (rows_of found))
+label_read found p e = e ∙ ap (option_and_then label_in) (first_value-rows found (codes "label"))
+
+tenant_met : (name : Text) (rows : List Row) → bytes_eq name (codes "tenant") ≡ true
+    → kind_met (name, rows) ≡ tenant_by (option_and_then name_in (first_of (codes "tenant") rows)) (option_and_then label_in (first_of (codes "label") rows))
+tenant_met name rows e = ap (λ b. cond b (tenant_by (option_and_then name_in (first_of (codes "tenant") rows)) (option_and_then label_in (first_of (codes "label") rows))) (Some Run)) e
+
+pub kind_named : (name : Text) (found : Found) (t : Option Name) (p : Option Label) → bytes_eq name (codes "tenant") ≡ true → t ≡ option_and_then name_in (first_value found (codes "tenant"))
+    → p ≡ option_and_then label_in (first_value found (codes "label")) → tenant_by t p ≡ kind_met (name, rows_of found)
+kind_named name found t p same named labelled =
+    ap (λ o. tenant_by o p) (name_read found t named)
+    ∙ ap (tenant_by (option_and_then name_in (first_of (codes "tenant") (rows_of found)))) (label_read found p labelled) ∙ sym (tenant_met name (rows_of found) same)
+
+pub kind_unnamed : (name : Text) (found : Found) → bytes_eq name (codes "tenant") ≡ true → None ≡ option_and_then name_in (first_value found (codes "tenant")) → None ≡ kind_met (name, rows_of found)
+kind_unnamed name found same named =
+    ap (λ o. tenant_by o (option_and_then label_in (first_of (codes "label") (rows_of found)))) (name_read found None named) ∙ sym (tenant_met name (rows_of found) same)
+
+-- `run` alone asks for a run
+pub asks_run : (words : List Text) → drop 1 words ≡ codes "run" ∷ [] → kind_of words ≡ Some Run
+unfolding clap_on_literals
+asks_run words same =
+    ap (λ rest. option_and_then kind_met (entered (built command) (stop_after (built command).top.rules (names_of (built command)) rest))) same
+
+-- the subcommand that was met, by its name and its rows
+pub met_is : {Z : Type 0} (x : Option (Box SubCommand Z)) (name : Text) (rows : List Row) → Some name ≡ option_map (λ b. (out-SubCommand (box_value b)).name.now) x → Some rows ≡ option_map (λ p. p.1) (subcommand_rows x)
+    → subcommand_rows x ≡ Some (name, rows)
+met_is None name rows p q = absurd (cc)
+met_is (Some b) name rows p q = cc

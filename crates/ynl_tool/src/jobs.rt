@@ -2,14 +2,26 @@
 
 ghost use Rattle.std.specs.Prelude.{◌≡◌};
 ghost use Rattle.ynl_tool.specs.Lines.{AppendsFront};
-ghost use Rattle.ynl_tool.specs.Jobs.{error_line, config_line, status_of, Executes, RunsText};
+ghost use Rattle.ynl_tool.specs.Jobs.{error_line, config_line, refusal_line, status_of, DoesJob, DoesText, Executes};
 
 use crate::lines_out::{write_text, write_three};
 use crate::run::{Summary, ToolFault, run_lines};
+use crate::tenant::tenant_lines;
 use crate::words::Kind;
 use std::alloc::Global;
 use std::io::{BufRead, Write};
 use ynl_config::{ConfigFault, read_config};
+use ynl_queues::Config;
+use ynl_view::sole;
+
+/// Why a job is not begun: nothing is read or written then.
+#[derive(Clone, Copy, Debug, PartialEq, Eq)]
+pub enum JobRefusal {
+    /// The text is no configuration.
+    Config(ConfigFault),
+    /// The tenant is not alone on an exclusive partition of that label.
+    NotSole,
+}
 
 /// The line that tells a fault.
 fn error_line(fault: ToolFault) -> &'static str
@@ -36,28 +48,66 @@ fn tell_config_fault<E: Write>(errors: &mut E, fault: ConfigFault)
     let _told = write_three(errors, b"ynl: config: ", fault.word().as_bytes(), b"\n");
 }
 
-/// Runs a cluster of the configuration that a text means. Where it means none nothing is run.
-fn run_text<R: BufRead, W: Write>(
+/// Writes the line that tells why a job is not begun.
+fn tell_refusal<E: Write>(errors: &mut E, refusal: JobRefusal)
+    ensures { AppendsFront (E.contents errors.old) (E.contents errors.new) (refusal_line refusal) }
+{
+    match refusal {
+        JobRefusal::Config(fault) => tell_config_fault(errors, fault),
+        JobRefusal::NotSole => {
+            let _told = write_text(errors, b"ynl: not sole\n");
+        }
+    }
+}
+
+/// Does the job with a cluster of this configuration.
+fn do_job<R: BufRead, W: Write>(
     alloc: Global,
-    text: &[u8],
+    kind: Kind,
+    config: Config,
     reader: &mut R,
     writer: &mut W,
-) -> Result<Result<Summary, ConfigFault>, ToolFault>
-    ensures { RunsText (R.remaining reader.old) (R.remaining reader.new) (W.contents writer.old) (W.contents writer.new) text.now result }
+) -> Result<Result<Summary, JobRefusal>, ToolFault>
+    ensures { DoesJob (R.remaining reader.old) (R.remaining reader.new) (W.contents writer.old) (W.contents writer.new) kind config result }
 {
-    match read_config(alloc, text) {
-        Ok(Ok(config)) => match run_lines(alloc, config, reader, writer) {
+    match kind {
+        Kind::Run => match run_lines(alloc, config, reader, writer) {
             Ok(summary) => Ok(Ok(summary)),
             Err(fault) => Err(fault),
         },
-        Ok(Err(fault)) => Ok(Err(fault)),
+        Kind::Tenant(tenant, label) => {
+            if !sole(&config, &tenant, &label) {
+                return Ok(Err(JobRefusal::NotSole));
+            }
+            match tenant_lines(alloc, config, &tenant, &label, reader, writer) {
+                Ok(summary) => Ok(Ok(summary)),
+                Err(fault) => Err(fault),
+            }
+        }
+    }
+}
+
+/// Does the job with the configuration that a text means. Where it means none nothing is done.
+fn do_text<R: BufRead, W: Write>(
+    alloc: Global,
+    kind: Kind,
+    text: &[u8],
+    reader: &mut R,
+    writer: &mut W,
+) -> Result<Result<Summary, JobRefusal>, ToolFault>
+    ensures { DoesText (R.remaining reader.old) (R.remaining reader.new) (W.contents writer.old) (W.contents writer.new) kind text.now result }
+{
+    match read_config(alloc, text) {
+        Ok(Ok(config)) => do_job(alloc, kind, config, reader, writer),
+        Ok(Err(fault)) => Ok(Err(JobRefusal::Config(fault))),
         Err(_) => Err(ToolFault::NoMemory),
     }
 }
 
 /// Does the job with the configuration that the text means, and gives the exit status: 0, or 1 if
-/// the text means none, as a line on `errors` tells, or if a line of the input had a fault; or 3
-/// after a fault of reading, writing or memory, which a line on `errors` tells.
+/// the text means none or the tenant is not alone on the partition, as a line on `errors` tells, or if
+/// a line of the input had a fault; or 3 after a fault of reading, writing or memory, which a line on
+/// `errors` tells.
 pub fn execute<R: BufRead, W: Write, E: Write>(
     alloc: Global,
     kind: Kind,
@@ -66,15 +116,12 @@ pub fn execute<R: BufRead, W: Write, E: Write>(
     writer: &mut W,
     errors: &mut E,
 ) -> u8
-    ensures { Executes (R.remaining reader.old) (R.remaining reader.new) (W.contents writer.old) (W.contents writer.new) (E.contents errors.old) (E.contents errors.new) text.now result }
+    ensures { Executes (R.remaining reader.old) (R.remaining reader.new) (W.contents writer.old) (W.contents writer.new) (E.contents errors.old) (E.contents errors.new) kind text.now result }
 {
-    let ended = match kind {
-        Kind::Run => run_text(alloc, text, reader, writer),
-    };
-    match ended {
+    match do_text(alloc, kind, text, reader, writer) {
         Ok(Ok(summary)) => status_of(summary),
-        Ok(Err(fault)) => {
-            tell_config_fault(errors, fault);
+        Ok(Err(refusal)) => {
+            tell_refusal(errors, refusal);
             1
         }
         Err(fault) => tell(errors, fault),

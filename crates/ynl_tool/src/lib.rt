@@ -5,6 +5,8 @@
 pub use config_text::{BUILT_IN, fault_of, read_text};
 pub use jobs::{execute, tell};
 pub use run::{Summary, ToolFault, run_lines};
+pub use script_in::{Script, read_script, runs_answer_scripts};
+pub use tenant::tenant_lines;
 pub use words::{Job, Kind, WordsFault, parse_words};
 
 mod config_text;
@@ -12,6 +14,8 @@ mod jobs;
 mod lines_in;
 mod lines_out;
 mod run;
+mod script_in;
+mod tenant;
 #[cfg(test)]
 mod tests;
 mod words;

@@ -1,7 +1,8 @@
 //! The run: events are read line by line, and the reply to each is written.
 
-ghost use Rattle.std.specs.Prelude.{◌≡◌, ◌≤◌, ◌++◌, ◌∷◌, [], IfOk};
+ghost use Rattle.std.specs.Prelude.{◌≡◌, ◌≢◌, ◌≤◌, ◌++◌, ◌∷◌, [], IfOk, IfErr};
 ghost use Rattle.ynl_model.specs.Cluster.{opening};
+ghost use Rattle.ynl_tool.specs.declared.run.ToolFault.TheVariants.{Read};
 ghost use Rattle.ynl_tool.specs.Run.{is_blank, faulty, ending, limit, line_of};
 ghost use Rattle.ynl_tool.specs.Running.{Says, Answers, Writes, Runs};
 
@@ -15,7 +16,7 @@ use ynl_lines::{LineFault, read_event, write_fault, write_reply};
 use ynl_queues::Config;
 
 /// How many bytes a run reads at most.
-const LIMIT: usize = 67108864;
+pub const LIMIT: usize = 67108864;
 
 /// Why a run ended before its input did.
 #[derive(Clone, Copy, Debug, PartialEq, Eq, Error)]
@@ -85,7 +86,8 @@ pub struct Summary {
     pub fault: Option<LineFault>,
 }
 
-fn is_blank(line: &[u8]) -> bool
+/// Whether a line is spaces, tabs and carriage returns alone.
+pub fn is_blank(line: &[u8]) -> bool
     ensures { result ≡ is_blank line.now }
 {
     line.iter()
@@ -100,8 +102,9 @@ fn with_newline(mut text: Vec<u8>) -> Result<Vec<u8>, AllocError>
 }
 
 /// Writes the text and its newline, in one write where the writer takes them whole.
-fn say<W: Write>(writer: &mut W, text: Vec<u8>) -> Result<(), ToolFault>
-    ensures { Says (W.contents writer.old) (W.contents writer.new) (line_of text.items) result }
+pub fn say<W: Write>(writer: &mut W, text: Vec<u8>) -> Result<(), ToolFault>
+    ensures text { Says (W.contents writer.old) (W.contents writer.new) (line_of text.items) result }
+    ensures fault { IfErr result (λ e. e ≢ Read) }
 {
     let line = with_newline(text)?;
     write_text(writer, &line)?;
@@ -179,13 +182,14 @@ fn serve<R: BufRead, W: Write>(
 }
 
 /// Writes the fault's line.
-fn tell<W: Write>(
+pub fn tell<W: Write>(
     alloc: Global,
     writer: &mut W,
     fault: LineFault,
     lines: u64,
 ) -> Result<Summary, ToolFault>
-    ensures { Writes (W.contents writer.old) (W.contents writer.new) (faulty fault lines) result }
+    ensures text { Writes (W.contents writer.old) (W.contents writer.new) (faulty fault lines) result }
+    ensures fault { IfErr result (λ e. e ≢ Read) }
 {
     let text = write_fault(alloc, fault, lines)?;
     say(writer, text)?;

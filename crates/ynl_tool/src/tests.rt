@@ -1,8 +1,14 @@
-use crate::{BUILT_IN, Job, Kind, ToolFault, WordsFault, execute, parse_words, run_lines};
+use crate::{
+    BUILT_IN, Job, Kind, Summary, ToolFault, WordsFault, execute, parse_words, run_lines,
+    tenant_lines,
+};
 use std::alloc::{AllocError, Global};
 use std::io;
 use std::io::{BufReader, Read, Write};
+use std::process::Abort;
 use std::test::Fail;
+use ynl_resource::{Label, Name};
+use ynl_view::sole;
 
 const REGISTER: &[u8] =
     b"{\"event\":\"register\",\"label\":\"gpu\",\"memory\":10000,\"node\":\"g1\",\"vcores\":10}\n{\"event\":\"";
@@ -109,7 +115,36 @@ fn reads_words(rt: HostRuntime) -> Result<(), Fail> {
         ),
         Err(_) => panic!(rt; "run is a job"),
     }
-    let wrong: [(&[&str], &str); 7] = [
+    let tenant = words(
+        alloc,
+        &[
+            "ynl",
+            "tenant",
+            "--label",
+            "gpu",
+            "--tenant=-a",
+            "--config",
+            "c",
+        ],
+    )?;
+    let kind = Kind::Tenant(Name::parse("-a")?, Label::parse("gpu")?);
+    match parse_words(alloc, tenant.as_slice()) {
+        Ok(job) => assert!(rt;
+            job == Job {
+                kind,
+                config: Some("c")
+            }
+        ),
+        Err(_) => panic!(rt; "tenant is a job"),
+    }
+    for (name, label) in [("", "gpu"), ("a b", "gpu"), ("eng", "g pu")] {
+        let bad = words(
+            alloc,
+            &["ynl", "tenant", "--tenant", name, "--label", label],
+        )?;
+        assert!(rt; matches!(parse_words(alloc, bad.as_slice()), Err(WordsFault::BadName)));
+    }
+    let wrong: [(&[&str], &str); 9] = [
         (
             &["ynl"],
             "error: 'ynl' requires a subcommand but one was not provided",
@@ -134,6 +169,14 @@ fn reads_words(rt: HostRuntime) -> Result<(), Fail> {
         (
             &["ynl", "run", "-h"],
             "Answers the events of standard input, one reply for each",
+        ),
+        (
+            &["ynl", "tenant", "--help"],
+            "Tells a tenant what its own partition sees of the events",
+        ),
+        (
+            &["ynl", "tenant", "--tenant", "eng"],
+            "error: the following required arguments were not provided",
         ),
     ];
     for (texts, front) in wrong {
@@ -178,6 +221,51 @@ fn tells_how_a_job_ended(rt: HostRuntime) -> Result<(), Fail> {
     assert_eq!(rt; given, 3);
     assert!(rt; errors.as_slice() == b"ynl: read fault\n".as_slice());
     assert!(rt; out.as_slice() == DONE);
+    Ok(())
+}
+
+const SCRIPT: &[u8] =
+    b"\n{\"event\":\"register\",\"label\":\"\",\"memory\":1,\"node\":\"d1\",\"vcores\":1}\n{\"event\":\"relabel\",\"label\":\"gpu\",\"node\":\"d1\"}\nx";
+
+const TOLD: &[u8] =
+    b"{\"event\":{\"event\":\"register\",\"label\":\"gpu\",\"memory\":1,\"node\":\"d1\",\"vcores\":1},\"place\":1,\"reply\":{\"reply\":\"done\"}}\n{\"fault\":\"syntax\",\"line\":4}\n";
+
+/// Tells the tenant of the built-in configuration.
+fn tell_built_in<R: std::io::BufRead, W: Write>(
+    rt: &impl Abort,
+    alloc: Global,
+    reader: &mut R,
+    writer: &mut W,
+) -> Result<Result<Summary, ToolFault>, Fail> {
+    let config = config(alloc)?;
+    let tenant = Name::parse("eng")?;
+    let label = Label::parse("gpu")?;
+    assert!(rt; sole(&config, &tenant, &label));
+    Ok(tenant_lines(alloc, config, &tenant, &label, reader, writer))
+}
+
+#[test]
+fn tells_a_tenant_once_all_is_read(rt: HostRuntime) -> Result<(), Fail> {
+    let alloc = rt.alloc();
+    let mut out = Vec::new(alloc);
+    let mut reader = SCRIPT;
+    let ended = tell_built_in(&rt, alloc, &mut reader, &mut out)?;
+    assert!(rt; ended.is_ok());
+    assert!(rt; out.as_slice() == TOLD);
+    let mut cut = BufReader::with_capacity(alloc, 7, Cut { left: REGISTER })?;
+    let mut out = Vec::new(alloc);
+    let ended = tell_built_in(&rt, alloc, &mut cut, &mut out)?;
+    assert!(rt; ended == Err(ToolFault::Read));
+    assert!(rt; out.is_empty());
+    let mut writer = Narrow {
+        taken: Vec::new(alloc),
+        room: 7,
+        fails: true,
+    };
+    let mut reader = SCRIPT;
+    let ended = tell_built_in(&rt, alloc, &mut reader, &mut writer)?;
+    assert!(rt; ended == Err(ToolFault::Write));
+    assert!(rt; writer.taken.as_slice() == &TOLD[..7]);
     Ok(())
 }
 

@@ -1,26 +1,31 @@
 //! The words of the command line.
 
-ghost use Rattle.std.specs.Prelude.{◌≡◌, ◌∷◌, [], IfOk, IfErr, IsErr, option_map, drop, map, codes, false};
+ghost use Rattle.std.specs.Prelude.{◌≡◌, ◌∷◌, [], IfOk, IfErr, IsErr, Some, None, option_map, drop, map, codes, false};
+ghost use Rattle.std.specs.Option.{option_and_then};
 ghost use Rattle.std.specs.String.{string_bytes};
 ghost use Rattle.clap.specs.Simple.{app_of};
 ghost use Rattle.clap.specs.Walk.{rule_of};
+ghost use Rattle.clap.specs.Words.{found_of, rows_of};
 ghost use Rattle.clap.specs.declared.builder.command.Command.TheViews.{out-Command as fields_of};
 ghost use Rattle.ynl_tool.specs.Words as spec;
-ghost use Rattle.ynl_tool.specs.declared.words.WordsFault.TheVariants.{NoMemory};
+ghost use Rattle.ynl_tool.specs.declared.words.WordsFault.TheVariants.{BadName, NoMemory};
 
 use clap::error::ErrorKind;
-use clap::{Arg, Command, Error};
+use clap::{Arg, ArgMatches, Command, Error};
 use std::alloc::{AllocError, Global};
+use ynl_resource::{Label, Name};
 
 /// What the program is asked to do.
-#[derive(Clone, Copy, Debug, PartialEq, Eq)]
+#[derive(Clone, Copy, PartialEq, Eq)]
 pub enum Kind {
     /// To answer the events of an input.
     Run,
+    /// To tell a tenant what the partition of a label sees of an input.
+    Tenant(Name, Label),
 }
 
 /// A piece of work for the program.
-#[derive(Clone, Copy, Debug, PartialEq, Eq)]
+#[derive(Clone, Copy, PartialEq, Eq)]
 pub struct Job<'a> {
     pub kind: Kind,
     /// The file of the configuration, where one is named.
@@ -32,6 +37,8 @@ pub struct Job<'a> {
 pub enum WordsFault {
     /// They are wrong, or ask for help. The error's text is what the user is to read.
     Words(Error),
+    /// The tenant is no name, or the label is none.
+    BadName,
     /// Memory was refused.
     NoMemory,
 }
@@ -48,12 +55,12 @@ impl From<AllocError> for WordsFault {
 }
 
 impl From<Error> for WordsFault {
-    ghost use Rattle.std.specs.Prelude.{◌≡◌};
+    ghost use Rattle.std.specs.Prelude.{◌≡◌, ◌≢◌};
     ghost use Rattle.clap.specs.Values.{kind_of};
     ghost use Rattle.clap.specs.declared.error.kind.ErrorKind.TheVariants.{OutOfMemory};
-    ghost use Rattle.ynl_tool.specs.declared.words.WordsFault.TheVariants.{NoMemory};
+    ghost use Rattle.ynl_tool.specs.declared.words.WordsFault.TheVariants.{BadName, NoMemory};
 
-    ghost from_gives = { λ error e. kind_of error ≡ OutOfMemory → e ≡ NoMemory };
+    ghost from_gives = { λ error e. (kind_of error ≡ OutOfMemory → e ≡ NoMemory) × (e ≢ BadName) };
 
     fn from(error: Error) -> WordsFault {
         if error.kind() == ErrorKind::OutOfMemory {
@@ -67,13 +74,15 @@ const ABOUT: &str = "Decides which containers of a cluster run on which node";
 
 const AFTER: &str = "\
 Exit status:
-  0  every event was answered
-  1  a line of the input is no event, or the input is too long: the last line of the output tells
+  0  the input was read to its end
+  1  a line of the input is no event, or the input is too long: the last line of the output tells; or
+     the configuration has a fault, or a tenant is not alone on its partition: standard error tells
   2  the words of the command line are wrong, or ask for help
   3  reading, writing or memory failed, as a line on standard error tells
 
-Example:
-  ynl run < events > replies";
+Examples:
+  ynl run < events > replies
+  ynl tenant --tenant eng --label gpu < events";
 
 const CONFIG_HELP: &str =
     "The configuration, a TOML text; without it there is one queue, root.eng, and one label, gpu";
@@ -107,6 +116,33 @@ Exit status:
 Example:
   printf '{\"event\":\"heartbeat\",\"node\":\"g1\"}\\n' | ynl run";
 
+const TENANT_ABOUT: &str = "Tells a tenant what its own partition sees of the events";
+
+const TENANT_AFTER: &str = "\
+The tenant is a top-level queue that alone may use an exclusive label: --tenant eng names root.eng.
+Standard input has an event on each line, as for run. Once it is read to its end, standard output has
+those events that bear on the tenant and the partition, each with its place, counted from 0 over the
+events of the input, and the reply of a cluster that holds the tenant alone and is given only them:
+
+  {\"event\":{\"event\":\"lost\",\"node\":\"g1\"},\"place\":6,\"reply\":{\"reply\":\"done\"}}
+
+In the cluster of run each of these places has the very same reply. A line that is no event ends the
+input: the events before it are told, and the last line of the output tells its fault, as for run.
+
+Exit status:
+  0  all was told
+  1  a line of the input is no event, or the input is too long; or the tenant is not alone on the
+     partition, or the configuration has a fault, as a line on standard error tells: nothing is read
+  2  the words of the command line are wrong, or ask for help; or the tenant is no name, or the label
+  3  reading, writing or memory failed, as a line on standard error tells
+
+Example:
+  ynl tenant --tenant eng --label gpu --config cluster.toml < events";
+
+const TENANT_HELP: &str = "The tenant, by the name of its top-level queue";
+
+const LABEL_HELP: &str = "The label of its partition";
+
 /// The option that names the file of the configuration.
 fn config_option<'a>(alloc: Global) -> Arg<'a>
     ensures rule { rule_of result ≡ spec.config_rule }
@@ -116,6 +152,28 @@ fn config_option<'a>(alloc: Global) -> Arg<'a>
         .long("config")
         .value_name("FILE")
         .help(CONFIG_HELP)
+}
+
+fn tenant_option<'a>(alloc: Global) -> Arg<'a>
+    ensures rule { rule_of result ≡ spec.tenant_rule }
+    ensures local { result.global ≡ false }
+{
+    Arg::new(alloc, "tenant")
+        .long("tenant")
+        .value_name("NAME")
+        .help(TENANT_HELP)
+        .required(true)
+}
+
+fn label_option<'a>(alloc: Global) -> Arg<'a>
+    ensures rule { rule_of result ≡ spec.label_rule }
+    ensures local { result.global ≡ false }
+{
+    Arg::new(alloc, "label")
+        .long("label")
+        .value_name("LABEL")
+        .help(LABEL_HELP)
+        .required(true)
 }
 
 fn run<'a>(alloc: Global) -> Result<Command<'a>, AllocError>
@@ -129,6 +187,21 @@ fn run<'a>(alloc: Global) -> Result<Command<'a>, AllocError>
         .arg(config)
 }
 
+fn tenant<'a>(alloc: Global) -> Result<Command<'a>, AllocError>
+    ensures app { IfOk result (λ c. app_of c ≡ spec.tenant_command) }
+    ensures local { IfOk result (λ c. (fields_of c).has_globals ≡ false) }
+{
+    let tenant = tenant_option(alloc);
+    let label = label_option(alloc);
+    let config = config_option(alloc);
+    Command::new(alloc, "tenant")
+        .about(TENANT_ABOUT)
+        .after_help(TENANT_AFTER)
+        .arg(tenant)?
+        .arg(label)?
+        .arg(config)
+}
+
 fn command<'a>(alloc: Global) -> Result<Command<'a>, AllocError>
     ensures { IfOk result (λ c. app_of c ≡ spec.command) }
 {
@@ -137,24 +210,59 @@ fn command<'a>(alloc: Global) -> Result<Command<'a>, AllocError>
         .about(ABOUT)
         .after_help(AFTER)
         .subcommand_required(true)
-        .subcommand(run(alloc)?)
+        .subcommand(run(alloc)?)?
+        .subcommand(tenant(alloc)?)
+}
+
+fn name_in(text: Option<&str>) -> Option<Name>
+    ensures { result ≡ option_and_then spec.name_in (option_map (λ s. s.now) text.entry) }
+{
+    match text {
+        Some(text) => Name::parse(text).ok(),
+        None => None,
+    }
+}
+
+fn label_in(text: Option<&str>) -> Option<Label>
+    ensures { result ≡ option_and_then spec.label_in (option_map (λ s. s.now) text.entry) }
+{
+    match text {
+        Some(text) => Label::parse(text).ok(),
+        None => None,
+    }
+}
+
+/// What a subcommand asks for with these options, unless one of them is a bad name.
+fn kind_of(subcommand: &str, options: &ArgMatches<'_>) -> Option<Kind>
+    ensures { result ≡ spec.kind_met (subcommand.now, rows_of (found_of options.now)) }
+{
+    if subcommand != "tenant" {
+        return Some(Kind::Run);
+    }
+    let tenant = name_in(options.get_str("tenant"))?;
+    let label = label_in(options.get_str("label"))?;
+    Some(Kind::Tenant(tenant, label))
 }
 
 /// The job that the words ask for, with the file that `--config` names. The first word is the program's
 /// name.
 pub fn parse_words<'a>(alloc: Global, words: &'a [String]) -> Result<Job<'a>, WordsFault>
     ensures run { drop 1 (map string_bytes words.now) ≡ codes "run" ∷ [] → IfErr result (λ e. e ≡ NoMemory) }
+    ensures kind { IfOk result (λ job. spec.kind_of (map string_bytes words.now) ≡ Some job.kind) }
+    ensures bad { IfErr result (λ e. e ≡ BadName → spec.kind_of (map string_bytes words.now) ≡ None) }
     ensures file { IfOk result (λ job. option_map (λ s. s.now) job.config ≡ spec.file_of (map string_bytes words.now)) }
     ensures missing { drop 1 (map string_bytes words.now) ≡ [] → IsErr result }
 {
     let matches = command(alloc)?.try_get_matches_from(words)?;
-    // There is one subcommand, and it is required.
-    let config = match matches.subcommand() {
-        Some((_, run)) => run.get_str("config"),
-        None => None,
-    };
-    Ok(Job {
-        kind: Kind::Run,
-        config,
-    })
+    match matches.subcommand() {
+        Some((name, options)) => {
+            let Some(kind) = kind_of(name, options) else {
+                return Err(WordsFault::BadName);
+            };
+            let config = options.get_str("config");
+            Ok(Job { kind, config })
+        }
+        // One is required.
+        None => Err(WordsFault::BadName),
+    }
 }

@@ -1,8 +1,6 @@
-use Rattle.std.proofs.Common.{◌≡◌, sym, ◌∙◌}
+use Rattle.std.proofs.Common.{sym, ◌∙◌}
 use Rattle.std.proofs.lemmas.Result.{IfOk-weaker}
 use Rattle.toml.specs.View.{table_view}
-use Rattle.ynl_model.specs.Accepted.{is_accepted}
-use Rattle.ynl_config.specs.Meaning as spec
 use Rattle.ynl_config.proofs.Ranges.{build_accepted}
 use Rattle.ynl_config.proofs.config.read_config.Goals as goal
 

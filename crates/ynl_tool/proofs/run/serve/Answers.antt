@@ -31,7 +31,7 @@ returns-in-Budget g c =
     let gave = subst (GivesLine (g.R.Read.remaining c.lines.reader) (g.R.Read.remaining c.read_line.new.reader) line c.lines.budget) (c.in_ok-read_line.was ∙ ap Ok c.in-Budget.is) c.read_line.ensures in
     let byte = gave.ended.1.0 in
     closed _ _ _ _ _ _ _ _ _ _ _ _ _ (line ++ byte ∷ []) far.2 far.3 far.4 gave.ended.1.1 far.7 (one_whole line byte gave.plain) (faulty fault.Size (c.lines.lines + 1)) c.tell.result
-    (then_long _ _ _ _ _ _ _ far.2 (line ++ byte ∷ []) (long_line line byte c.lines.budget gave.plain gave.ended.0)) tt c.tell.ensures
+    (then_long _ _ _ _ _ _ _ far.2 (line ++ byte ∷ []) (long_line line byte c.lines.budget gave.plain gave.ended.0)) tt c.tell.ensures.text
 
 pub returns-in-Input : goal.returns-in-Input
 returns-in-Input g c =
@@ -78,7 +78,7 @@ returns-in-Some g c =
     let said_so = subst (λ k. Answers w v k s c.answer.new.core line c.answer.result) far.6 said_so in
     let bad = subst (Answers w v k s c.answer.new.core line) (c.in_ok-fault.was ∙ ap Ok c.in-Some.is) said_so in
     closed _ _ _ _ w _ _ _ _ _ _ _ _ (line ++ 10 ∷ []) far.2 far.3 far.4 gave.ended.1 far.7 (one_whole line 10 gave.plain) (faulty f (c.lines.lines + 1)) c.tell-in-Some.result
-    (then_fault _ _ _ _ _ _ _ far.2 line f gave.plain gave.ended.0 bad.0) tt (after_nothing w v _ (faulty f (c.lines.lines + 1)) c.tell-in-Some.result bad.1 c.tell-in-Some.ensures)
+    (then_fault _ _ _ _ _ _ _ far.2 line f gave.plain gave.ended.0 bad.0) tt (after_nothing w v _ (faulty f (c.lines.lines + 1)) c.tell-in-Some.result bad.1 c.tell-in-Some.ensures.text)
 
 pub lines-preserved : goal.lines-preserved
 lines-preserved g c =

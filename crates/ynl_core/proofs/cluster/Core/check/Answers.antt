@@ -1,5 +1,5 @@
 use Rattle.ynl_tables.specs.Tables.{state_of}
-use Rattle.ynl_core.proofs.Serves.{bounded}
+use Rattle.ynl_changes.proofs.Serves.{bounded}
 use Rattle.ynl_core.proofs.cluster.Core.check.Goals as goal
 
 pub check-requires : goal.check-requires

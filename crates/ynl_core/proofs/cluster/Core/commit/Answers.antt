@@ -5,7 +5,7 @@ use Rattle.ynl_model.specs.Events.{step, reasons, accepted}
 use Rattle.ynl_laws.specs.Working.{IsWorking}
 use Rattle.ynl_laws.proofs.Working.{working-step}
 use Rattle.ynl_tables.specs.Tables.{state_of}
-use Rattle.ynl_core.proofs.Serves.{bounded}
+use Rattle.ynl_changes.proofs.Serves.{bounded}
 use Rattle.ynl_core.proofs.Stepping.{none_rests}
 use Rattle.ynl_core.proofs.cluster.Core.commit.Goals as goal
 

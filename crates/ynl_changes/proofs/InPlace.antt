@@ -1,0 +1,111 @@
+-- Rows changed in place, one after another.
+use Rattle.std.proofs.Common.{◌≡◌, ℕ, zero, suc, ◌+◌, ◌<◌, ◌≤◌, List, [], ◌∷◌, ◌++◌, length, get_or, take, drop, map, refl, sym, ap, subst, ◌∙◌, arith, add-one, append-nil, Bool, true, false, cond}
+use Rattle.ynl_resource.specs.Tables.{update}
+use Rattle.ynl_resource.specs.declared.labels.Label.{Label}
+use Rattle.ynl_tables.specs.declared.rows.PartitionRow.{PartitionRow}
+use Rattle.ynl_tables.specs.Tables.{HasRoom}
+use Rattle.std.specs.List.{AllByRecursion}
+use Rattle.std.proofs.Math.ListN.{set, drop_of_length-le}
+use Rattle.std.proofs.lemmas.List.{take_more, take_more_set, take_all, map_push, length-set}
+use Rattle.ynl_laws.proofs.Lists.{Each-append}
+
+-- the first rows mean what is wanted, and the rest stand as they were
+pub record IsChanged {X Y : Type 0} (m : X → Y) (g : Y → Y) (xs ys : List X) (i : ℕ) : Type 0 where
+  pub len : length ys ≡ length xs
+  pub done : map m (take i ys) ≡ map g (map m (take i xs))
+  pub rest : drop i ys ≡ drop i xs
+
+drop-set : {X : Type 0} (xs : List X) (i : ℕ) (y : X) → drop (suc i) (set xs i y) ≡ drop (suc i) xs
+drop-set [] i y = refl
+drop-set (x ∷ xs) zero y = refl
+drop-set (x ∷ xs) (suc i) y = drop-set xs i y
+
+drop-next : {X : Type 0} (xs ys : List X) (i : ℕ) → drop i xs ≡ drop i ys → drop (suc i) xs ≡ drop (suc i) ys
+drop-next xs ys i e = more xs i ∙ ap (drop 1) e ∙ sym (more ys i)
+  where
+    more : {X : Type 0} (xs : List X) (i : ℕ) → drop (suc i) xs ≡ drop 1 (drop i xs)
+    more xs zero = refl
+    more [] (suc i) = refl
+    more (x ∷ xs) (suc i) = more xs i
+
+get-rest : {X : Type 0} (xs : List X) (i : ℕ) (d : X) → get_or xs i d ≡ get_or (drop i xs) 0 d
+get-rest xs zero d = refl
+get-rest [] (suc i) d = refl
+get-rest (x ∷ xs) (suc i) d = get-rest xs i d
+
+module _ {X Y : Type 0} (m : X → Y) (g : Y → Y) (xs ys : List X) (i : ℕ) (h : IsChanged m g xs ys i) where
+  -- the row that comes next is as it was
+  pub next_is : (x : X) → x ≡ get_or ys i x → x ≡ get_or xs i x
+  next_is x e = e ∙ get-rest ys i x ∙ ap (λ zs. get_or zs 0 x) h.rest ∙ sym (get-rest xs i x)
+
+  pub changed_step : (x y : X) → i < length xs → x ≡ get_or ys i x → m y ≡ g (m (get_or ys i x)) → IsChanged m g xs (set ys i y) (i + 1)
+  changed_step x y inside e given =
+      let made : m y ≡ g (m x) = given ∙ ap (λ z. g (m z)) (sym e) in
+      let inside' : i < length ys = omega (arith, h.len) in
+      record {
+        len = length-set ys i y ∙ h.len;
+        done =
+            ap (map m) (take_more_set ys i y inside')
+            ∙ map_push m (take i ys) y
+            ∙ (λ k. h.done k ++ made k ∷ [])
+            ∙ sym (map_push g (map m (take i xs)) (m x))
+            ∙ ap (map g) (sym (map_push m (take i xs) x))
+            ∙ ap (λ zs. map g (map m zs)) (ap (λ z. take i xs ++ z ∷ []) (next_is x e) ∙ sym (take_more xs i x inside));
+        rest = rw add-one (drop-set ys i y ∙ drop-next ys xs i h.rest);
+      }
+
+  pub changed_end : length xs ≤ i → map m ys ≡ map g (map m xs)
+  changed_end past =
+      let past' : length ys ≤ i = omega (arith, h.len) in
+      ap (map m) (sym (take_all i ys past')) ∙ h.done ∙ ap (λ zs. map g (map m zs)) (take_all i xs past)
+
+-- what holds of each of the first rows
+pub each_step : {X : Type 0} (P : X → Type 0) (ys : List X) (i : ℕ) (y : X) → i < length ys → AllByRecursion P (take i ys) → P y → AllByRecursion P (take (i + 1) (set ys i y))
+each_step P ys i y inside h p = subst (AllByRecursion P) (sym (take_more_set ys i y inside)) (Each-append P (take i ys) (y ∷ []) h (p, tt))
+
+-- one of them, and those after
+pub each_at : {X : Type 0} (P : X → Type 0) (xs : List X) (i : ℕ) (x : X) → i < length xs → x ≡ get_or xs i x → AllByRecursion P xs → P x
+each_at P [] i x inside e h = absurd (omega arith)
+each_at P (y ∷ xs) zero x inside e h = subst P (sym e) h.0
+each_at P (y ∷ xs) (suc i) x inside e h = each_at P xs i x (omega arith) e h.1
+
+pub each_front : {X : Type 0} (P : X → Type 0) (i : ℕ) (xs : List X) → AllByRecursion P xs → AllByRecursion P (take i xs)
+each_front P zero xs h = tt
+each_front P (suc i) [] h = tt
+each_front P (suc i) (x ∷ xs) h = (h.0, each_front P i xs h.1)
+
+each_split : {X : Type 0} (P : X → Type 0) (xs ys : List X) → AllByRecursion P (xs ++ ys) → AllByRecursion P xs × AllByRecursion P ys
+each_split P [] ys h = (tt, h)
+each_split P (x ∷ xs) ys h = let rest = each_split P xs ys h.1 in ((h.0, rest.0), rest.1)
+
+-- what held of each row holds of each changed row in another way
+pub each_changed : {X : Type 0} (P Q : X → Type 0) (xs ys : List X) (i : ℕ) (x y : X) → i < length xs → i < length ys → x ≡ get_or xs i x → x ≡ get_or ys i x → (P (get_or ys i x) → Q y)
+    → (AllByRecursion P (take i xs) → AllByRecursion Q (take i ys)) → AllByRecursion P (take (i + 1) xs) → AllByRecursion Q (take (i + 1) (set ys i y))
+each_changed P Q xs ys i x y inside inside' read here change before h =
+    let split = each_split P (take i xs) (x ∷ []) (subst (AllByRecursion P) (take_more xs i x inside ∙ ap (λ z. take i xs ++ z ∷ []) (sym read)) h) in
+    each_step Q ys i y inside' (before split.0) (change (subst P here split.1.0))
+
+-- a row that means the same in the place of another
+pub same_set : {X Y : Type 0} (m : X → Y) (ys : List X) (i : ℕ) (x y : X) → i < length ys → m y ≡ m (get_or ys i x) → map m (set ys i y) ≡ map m ys
+same_set m [] i x y inside same = absurd (omega arith)
+same_set m (z ∷ ys) zero x y inside same = ap (λ v. v ∷ map m ys) same
+same_set m (z ∷ ys) (suc i) x y inside same = ap (λ vs. m z ∷ vs) (same_set m ys i x y (omega arith) same)
+
+-- a list in the place of another of the same length
+pub whole_again : {X : Type 0} (len : ℕ) (xs ys : List X) → length xs ≡ length ys → len ≡ length ys → take len (xs ++ drop (length xs) ys) ≡ xs
+whole_again len xs ys e f =
+    ap (λ zs. take len (xs ++ zs)) (drop_of_length-le ys (omega arith)) ∙ ap (take len) (append-nil xs) ∙ take_all len xs (omega arith)
+
+-- a change that leaves each row leaves all
+pub update_same : {X : Type 0} (test : X → Bool) (change : X → X) → ((x : X) → change x ≡ x) → (xs : List X) → update test change xs ≡ xs
+update_same test change same [] = refl
+update_same {X = X} test change same (x ∷ xs) = (λ i. go (test x) i ∷ update_same test change same xs i)
+  where
+    go : (b : Bool) → cond b (change x) x ≡ x
+    go true = same x
+    go false = refl
+
+-- room for more is room for less
+pub less_room : (label : Label) (n m : ℕ) → n ≤ m → (rows : List PartitionRow) → HasRoom label m rows → HasRoom label n rows
+less_room label n m h [] k = tt
+less_room label n m h (row ∷ rows) k = ((λ same. let room = k.0 same in omega arith), less_room label n m h rows k.1)

@@ -1,0 +1,5 @@
+pub mod InPlace
+pub mod Serves
+pub mod Own
+pub mod Put
+pub mod Sorted

@@ -1,0 +1,10 @@
+use Rattle.std.proofs.Common.{rules, Bool, not}
+use Rattle.std.proofs.lemmas.Fn.{filter_same}
+use Rattle.ynl_resource.specs.Names.{same_id}
+use Rattle.ynl_model.specs.declared.containers.Placed.{Placed}
+use Rattle.ynl_changes.proofs.ending.drop_id.Goals as goal
+
+pub returns : goal.returns
+returns c =
+    let test : Placed → Bool = λ other. not (same_id other.id c.args.id.now) in
+    filter_same _ test _ (λ x b f' r. (search rules, search rules)) _ _ c.retain.ensures.filtered

@@ -1,0 +1,10 @@
+use Rattle.std.proofs.Common.{rules, Bool, not, ◌==◌}
+use Rattle.std.specs.Prelude.{◌&&◌}
+use Rattle.std.proofs.lemmas.Fn.{filter_same}
+use Rattle.ynl_model.specs.Applications.{AskRow, is_ask_of}
+use Rattle.ynl_changes.proofs.placing.drop_spent.Goals as goal
+
+pub returns : goal.returns
+returns c =
+    let test : AskRow → Bool = λ ask. not (is_ask_of c.args.label.now c.args.priority ask && (ask.count == 0)) in
+    filter_same _ test _ (λ x b f' r. (search rules, search rules)) _ _ c.retain.ensures.filtered

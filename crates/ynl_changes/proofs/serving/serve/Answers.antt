@@ -1,0 +1,54 @@
+use Rattle.std.proofs.Common.{◌≡◌, ℕ, suc, ◌+◌, ◌-◌, ◌≤◌, [], ◌∷◌, ◌++◌, Some, sym, ap, subst, ◌∙◌, arith}
+use Rattle.ynl_model.specs.declared.containers.Placed.{Placed}
+use Rattle.ynl_model.specs.Changes.{next_item}
+use Rattle.ynl_tables.specs.Tables.{state_of, HasRoom}
+use Rattle.ynl_changes.proofs.InPlace.{less_room}
+use Rattle.ynl_changes.proofs.Serves.{beat_none, beat_zero, state_done, placed_done, state_next, placed_next, working_next, stands_next}
+use Rattle.ynl_changes.proofs.serving.serve.Goals as goal
+
+pub returns-in_default-clause-state : goal.returns-in_default-clause-state
+returns-in_default-clause-state c =
+    let s = state_of c.loop-i.tables in
+    state_done _ s _ (beat_none c.args.config.now c.args.node.now (c.args.times - c.loop-i._i) s (sym c.next_request.ensures ∙ c.in_default.is)) c.loop-i.invariant.state
+
+pub returns-in_default-clause-placed : goal.returns-in_default-clause-placed
+returns-in_default-clause-placed c =
+    let s = state_of c.loop-i.tables in
+    placed_done _ s c.loop-i.placed.items _ (beat_none c.args.config.now c.args.node.now (c.args.times - c.loop-i._i) s (sym c.next_request.ensures ∙ c.in_default.is)) c.loop-i.invariant.placed
+
+pub place-container-requires : goal.place-container-requires
+place-container-requires c =
+    let some : 1 ≤ c.args.times - c.loop-i._i = omega arith in
+    less_room c.args.node.now.label 1 (c.args.times - c.loop-i._i) some c.loop-i.tables.partitions.items c.loop-i.invariant.room
+
+pub loop-i-preserved : goal.loop-i-preserved
+loop-i-preserved c =
+    let config = c.args.config.now in
+    let node = c.args.node.now in
+    let s = state_of c.loop-i.tables in
+    let new = state_of c.place-container.new.tables in
+    let m : ℕ = c.args.times - c.loop-i._i in
+    let k : ℕ = c.args.times - (c.loop-i._i + 1) in
+    let e : m ≡ suc k = omega arith in
+    let f : next_item config s node ≡ Some c.in-Some.request = sym c.next_request.ensures ∙ c.in-Some.is in
+    let moved = c.place-container.ensures.state in
+    record {
+      working = working_next config s new node c.in-Some.request c.loop-i.invariant.working c.loop-i.invariant.stands f moved;
+      stands = stands_next config s new node c.in-Some.request c.loop-i.invariant.stands moved;
+      room = c.place-container.ensures.room k (subst (λ (n : ℕ). HasRoom node.label n c.loop-i.tables.partitions.items) (let g : m ≡ k + 1 = omega arith in g) c.loop-i.invariant.room);
+      reply_room = omega arith;
+      state = state_next config node m k s new c.in-Some.request e f moved _ c.loop-i.invariant.state;
+      placed = placed_next config node m k s new c.in-Some.request e f moved c.loop-i.placed.items _ _ (c.push_copy.ensures.items ∙ ap (λ (k : Placed). c.loop-i.placed.items ++ k ∷ []) c.place-container.ensures.container) c.loop-i.invariant.placed;
+    }
+
+pub returns-clause-state : goal.returns-clause-state
+returns-clause-state c =
+    let s = state_of c.loop-i.tables in
+    let none : c.args.times - c.loop-i._i ≡ 0 = omega arith in
+    state_done _ s _ (beat_zero c.args.config.now c.args.node.now (c.args.times - c.loop-i._i) s none) c.loop-i.invariant.state
+
+pub returns-clause-placed : goal.returns-clause-placed
+returns-clause-placed c =
+    let s = state_of c.loop-i.tables in
+    let none : c.args.times - c.loop-i._i ≡ 0 = omega arith in
+    placed_done _ s c.loop-i.placed.items _ (beat_zero c.args.config.now c.args.node.now (c.args.times - c.loop-i._i) s none) c.loop-i.invariant.placed

@@ -1,0 +1,11 @@
+use Rattle.std.proofs.Common.{◌≡◌, take}
+use Rattle.std.specs.List.{AllByRecursion}
+use Rattle.ynl_tables.specs.Tables.{leaves_of}
+use Rattle.ynl_changes.specs.Submitting.{HasPlace}
+use Rattle.ynl_changes.proofs.submitting.reserve_place.Given as goal
+
+abbrev pub invariant-loop-row : goal.invariant-loop-row
+invariant-loop-row l = record {
+  meaning : leaves_of l.row-items ≡ leaves_of l.initial.row-items;
+  place : AllByRecursion (HasPlace l.leaf) (take l.row-index l.row-items);
+}

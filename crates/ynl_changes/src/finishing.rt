@@ -1,0 +1,141 @@
+//! Applications that finish: the clocks rise once for each of their containers, and then the
+//! containers go. So no list of them is needed.
+
+ghost use Rattle.std.specs.Prelude.{◌≡◌, map, filter, slice_get, if◌then◌else◌};
+ghost use Rattle.std.specs.Option.{option_map_or};
+ghost use Rattle.ynl_resource.specs.Names.{same_name, same_path};
+ghost use Rattle.ynl_resource.specs.declared.paths.Path.{Path};
+ghost use Rattle.ynl_resource.specs.Tables.{without};
+ghost use Rattle.ynl_model.specs.Applications.{Application, in_leaf, finished};
+ghost use Rattle.ynl_model.specs.Cluster.{is_of};
+ghost use Rattle.ynl_model.specs.Changes.{all_own, app_finishes};
+ghost use Rattle.ynl_laws.specs.Working.{IsOrdered};
+ghost use Rattle.ynl_laws.specs.Finishing.{clock_rises, clocks_rise, without_own};
+ghost use Rattle.ynl_tables.specs.Tables.{state_of, app_of, leaf_of_row, leaves_of, partition_of, partitions_of};
+ghost use Rattle.ynl_changes.specs.Rows.{containers_at_place};
+
+use crate::placing::{next_clock, set_clock, stamp};
+use ynl_model::Placed;
+use ynl_queues::Config;
+use ynl_resource::{Name, Path};
+use ynl_tables::{App, LeafRow, PartitionRow, Tables, tenant_bytes};
+
+/// Whether a container is an application's; its tenant is given by the bytes of its name.
+pub fn is_own(container: &Placed, tenant: &[u8], app: &Name) -> bool
+    ensures { result ≡ is_of tenant.now app.now container.now }
+{
+    container.tenant.as_bytes() == tenant && container.app == *app
+}
+
+/// The clock of a container's partition rises, and is the stamp of its node.
+#[tactic(auto, unfolding(ynl_model::specs::Changes::changed_at))]
+fn raise_clock(config: &Config, tables: &mut Tables, container: &Placed)
+    ensures { state_of tables.new ≡ clock_rises config.now (state_of tables.old) container.now }
+{
+    let label = container.id.label;
+    let clock = next_clock(config, tables, &label);
+    stamp(&mut tables.nodes, &container.node, &label, clock);
+    set_clock(&mut tables.partitions, &label, clock);
+}
+
+/// The containers of the row at a place, and none past the last.
+fn containers_of(rows: &[PartitionRow], row: usize) -> &[Placed]
+    ensures { result.now ≡ containers_at_place (partitions_of rows.now) row }
+{
+    match rows.get(row) {
+        Some(row) => &row.containers,
+        None => &[],
+    }
+}
+
+/// The clock rises for the container at a place of a row, if it is the application's.
+fn raise_clock_at(
+    config: &Config,
+    tables: &mut Tables,
+    row: usize,
+    place: usize,
+    tenant: &[u8],
+    app: &Name,
+)
+    ensures { state_of tables.new ≡ option_map_or (λ container. if is_of tenant.now app.now container then clock_rises config.now (state_of tables.old) container else state_of tables.old) (slice_get (containers_at_place (state_of tables.old).partitions row) place) (state_of tables.old) }
+{
+    let containers = containers_of(&tables.partitions, row);
+    if let Some(container) = containers.get(place).copied() {
+        if is_own(&container, tenant, app) {
+            raise_clock(config, tables, &container);
+        }
+    }
+}
+
+/// The clock rises for each container of a row that is the application's.
+fn raise_clocks_of_row(config: &Config, tables: &mut Tables, row: usize, tenant: &[u8], app: &Name)
+    ensures { state_of tables.new ≡ clocks_rise config.now (filter (is_of tenant.now app.now) (containers_at_place (state_of tables.old).partitions row)) (state_of tables.old) }
+{
+    let count = containers_of(&tables.partitions, row).len();
+    for place in 0..count {
+        raise_clock_at(config, tables, row, place, tenant, app);
+    }
+}
+
+/// The clocks rise for all containers of an application, in the order of their ids.
+fn raise_clocks(config: &Config, tables: &mut Tables, tenant: &[u8], app: &Name)
+    ensures { state_of tables.new ≡ clocks_rise config.now (all_own (state_of tables.old) tenant.now app.now) (state_of tables.old) }
+{
+    let count = tables.partitions.len();
+    for row in 0..count {
+        raise_clocks_of_row(config, tables, row, tenant, app);
+    }
+}
+
+fn drop_own(row: &mut PartitionRow, tenant: &[u8], app: &Name)
+    ensures { partition_of row.new ≡ without_own tenant.now app.now (partition_of row.old) }
+{
+    row.containers
+        .retain(|container| !is_own(container, tenant, app));
+}
+
+/// The containers of an application go.
+fn drop_all_own(rows: &mut Vec<PartitionRow>, tenant: &[u8], app: &Name)
+    ensures { partitions_of rows.new.items ≡ map (without_own tenant.now app.now) (partitions_of rows.old.items) }
+{
+    for row in rows.iter_mut() {
+        drop_own(row, tenant, app);
+    }
+}
+
+fn drop_app(apps: &mut Vec<App>, name: &Name)
+    ensures { (leaf : Path) → map (app_of leaf) apps.new.items ≡ without (λ app. same_name app.name name.now) (map (app_of leaf) apps.old.items) }
+{
+    apps.retain(|app| app.name != *name);
+}
+
+/// An application is finished on a row, if it is that of its leaf.
+fn finish_on(row: &mut LeafRow, leaf: &Path, name: &Name)
+    ensures { leaf_of_row row.new ≡ (if same_path row.old.path leaf.now then finished name.now (leaf_of_row row.old) else leaf_of_row row.old) }
+{
+    if row.path == *leaf {
+        drop_app(&mut row.apps, name);
+    }
+}
+
+/// An application of a leaf is finished: of it only the name stays.
+fn finish_in(rows: &mut Vec<LeafRow>, leaf: &Path, name: &Name)
+    ensures { leaves_of rows.new.items ≡ in_leaf leaf.now (finished name.now) (leaves_of rows.old.items) }
+{
+    for row in rows.iter_mut() {
+        finish_on(row, leaf, name);
+    }
+}
+
+/// An application finishes: its containers end in the order of their ids, and of it only the name
+/// stays.
+#[tactic(auto, unfolding(ynl_model::specs::Changes::app_finishes))]
+pub fn finish(config: &Config, tables: &mut Tables, leaf: &Path, name: &Name)
+    requires { IsOrdered config.now (state_of tables.old) }
+    ensures { (app : Application) → app.leaf ≡ leaf.now → app.name ≡ name.now → state_of tables.new ≡ app_finishes config.now app (state_of tables.old) }
+{
+    let tenant = tenant_bytes(leaf);
+    raise_clocks(config, tables, tenant, name);
+    drop_all_own(&mut tables.partitions, tenant, name);
+    finish_in(&mut tables.leaves, leaf, name);
+}

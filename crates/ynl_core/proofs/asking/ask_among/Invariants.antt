@@ -1,8 +1,0 @@
-use Rattle.ynl_resource.specs.declared.paths.Path.{Path}
-use Rattle.ynl_tables.specs.Tables.{app_of}
-use Rattle.ynl_core.specs.Asking.{asked_at}
-use Rattle.ynl_core.proofs.InPlace.{IsChanged}
-use Rattle.ynl_core.proofs.asking.ask_among.Given as goal
-
-abbrev pub invariant-loop-app : goal.invariant-loop-app
-invariant-loop-app l = (leaf : Path) → IsChanged (app_of leaf) (asked_at l.name l.ask) l.initial.app-items l.app-items l.app-index

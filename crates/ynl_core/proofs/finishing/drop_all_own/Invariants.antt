@@ -1,7 +1,0 @@
-use Rattle.ynl_laws.specs.Finishing.{without_own}
-use Rattle.ynl_tables.specs.Tables.{partition_of}
-use Rattle.ynl_core.proofs.InPlace.{IsChanged}
-use Rattle.ynl_core.proofs.finishing.drop_all_own.Given as goal
-
-abbrev pub invariant-loop-row : goal.invariant-loop-row
-invariant-loop-row l = IsChanged partition_of (without_own l.tenant l.app) l.initial.row-items l.row-items l.row-index

@@ -1,7 +1,0 @@
-use Rattle.std.proofs.Common.{◌≡◌, [], ◌∷◌, map, take}
-use Rattle.ynl_resource.specs.declared.labels.Label.TheVariants.{Unlabelled, Named}
-use Rattle.ynl_tables.specs.Tables.{partitions_of}
-use Rattle.ynl_core.proofs.opening.partitions.Given as goal
-
-abbrev pub invariant-loop-row : goal.invariant-loop-row
-invariant-loop-row l = partitions_of l.rows.items ≡ map (λ label. record { label = label; clock = 0; containers = [] }) (Unlabelled ∷ map (λ row. Named row.name) (take l.row-index l.row-items))

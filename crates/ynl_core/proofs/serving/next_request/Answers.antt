@@ -1,6 +1,0 @@
-use Rattle.ynl_tables.specs.Tables.{state_of}
-use Rattle.ynl_core.proofs.Serves.{bounded}
-use Rattle.ynl_core.proofs.serving.next_request.Goals as goal
-
-pub choose-requires : goal.choose-requires
-choose-requires c = bounded c.args.config.now (state_of c.args.tables.now) c.requires

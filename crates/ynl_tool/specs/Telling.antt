@@ -1,0 +1,103 @@
+-- What is told to a tenant: the events that its partition sees, and the replies of the cluster that holds the tenant alone.
+use Rattle.std.specs.Prelude.{◌≡◌, ◌⊎◌, ℕ, ◌≤◌, IsTrue, List, [], ◌∷◌, ◌++◌, length, take, Option, Result, Ok, Err}
+use Rattle.std.specs.List.{concat}
+use Rattle.std.specs.Io.KnownBytes.{Appends}
+use Rattle.ynl_resource.specs.declared.names.Name.{Name}
+use Rattle.ynl_resource.specs.declared.labels.Label.{Label}
+use Rattle.ynl_model.specs.declared.events.Event.{Event}
+use Rattle.ynl_model.specs.declared.replies.Reply.{Reply}
+use Rattle.ynl_model.specs.Queues.{Config}
+use Rattle.ynl_model.specs.Accepted.{is_accepted}
+use Rattle.ynl_model.specs.Events.{step, replies_to}
+use Rattle.ynl_model.specs.View.{Viewed, view, events_of, places_of, restrict}
+use Rattle.ynl_model.specs.Promises.{HasSameReplies}
+use Rattle.ynl_core.specs.World.{World, stepped}
+use Rattle.ynl_lines.specs.Writing.{line_text}
+use Rattle.ynl_tool.specs.declared.run.ToolFault.{ToolFault}
+use Rattle.ynl_tool.specs.declared.run.ToolFault.TheVariants.{Read, Write, NoMemory}
+use Rattle.ynl_tool.specs.declared.run.Summary.{Summary}
+use Rattle.ynl_tool.specs.Lines.{AppendsFront}
+use Rattle.ynl_tool.specs.Run.{line_of}
+use Rattle.ynl_tool.specs.Script.{Script, ReadsTo, ReadsSome, fault_lines}
+
+-- ---- what is written
+
+-- the line of each event, with its place and the reply to it
+abbrev pub entry_lines : List ℕ → List Event → List Reply → List (List ℕ)
+entry_lines places [] replies = []
+entry_lines [] (e ∷ events) replies = []
+entry_lines (n ∷ places) (e ∷ events) [] = []
+entry_lines (n ∷ places) (e ∷ events) (r ∷ replies) = line_of (line_text n e r) ∷ entry_lines places events replies
+
+-- the lines of what is seen, with the replies of a cluster of this configuration
+abbrev pub seen_lines : Config → List Viewed → List (List ℕ)
+seen_lines c seen = entry_lines (places_of seen) (events_of seen) (replies_to c (events_of seen))
+
+-- the lines of a tenant's view: the replies are those of the cluster that holds the tenant alone
+abbrev pub view_lines : Config → Name → Label → List Event → List (List ℕ)
+view_lines c t p events = seen_lines (restrict c t) (view c events t p)
+
+-- what a tenant is told of a script
+abbrev pub tenant_lines : Config → Name → Label → Script → List (List ℕ)
+tenant_lines c t p s = view_lines c t p s.events ++ fault_lines s
+
+-- ---- writing it
+
+-- some lines from the front were written
+pub record AppendsLines (old new : Option (List ℕ)) (lines : List (List ℕ)) : Type 0 where
+  pub count : ℕ
+  pub bound : count ≤ length lines
+  pub appended : Appends old new (concat (take count lines))
+
+-- a fault left a front of the lines: whole lines where memory was refused. The reader has no part in it.
+abbrev pub LeavesLines : Option (List ℕ) → Option (List ℕ) → List (List ℕ) → ToolFault → Type 0
+LeavesLines old new lines Write = AppendsFront old new (concat lines)
+LeavesLines old new lines NoMemory = AppendsLines old new lines
+LeavesLines old new lines Read = ⊥
+
+-- a fault left a front of a line: nothing where memory was refused
+abbrev pub LeavesLine : Option (List ℕ) → Option (List ℕ) → List ℕ → ToolFault → Type 0
+LeavesLine old new line Write = AppendsFront old new line
+LeavesLine old new line NoMemory = Appends old new []
+LeavesLine old new line Read = ⊥
+
+-- the line of an event
+abbrev pub entry_line : World → ℕ → Event → List ℕ
+entry_line core place e = line_of (line_text place e (step core.config core.state e).reply)
+
+-- an event was answered, and its line was written or a front of it
+abbrev pub TellsEvent : {A : Type 0} → Option (List ℕ) → Option (List ℕ) → World → World → ℕ → Event → Result A ToolFault → Type 0
+TellsEvent old new core next place e (Ok x) = (next ≡ stepped core e) × Appends old new (entry_line core place e)
+TellsEvent old new core next place e (Err f) = LeavesLine old new (entry_line core place e) f
+
+-- the lines were written, or a fault left a front of them
+abbrev pub SaysLines : {A : Type 0} → Option (List ℕ) → Option (List ℕ) → List (List ℕ) → Result A ToolFault → Type 0
+SaysLines old new lines (Ok x) = Appends old new (concat lines)
+SaysLines old new lines (Err e) = LeavesLines old new lines e
+
+-- the script was read, and the tenant was told of it; in an accepted configuration its replies are those of the whole cluster
+pub record TellsAll (old new wold wnew : Option (List ℕ)) (c : Config) (t : Name) (p : Label) (summary : Summary) : Type 0 where
+  pub script : Script
+  pub read : ReadsTo old new script
+  pub written : Appends wold wnew (concat (tenant_lines c t p script))
+  pub lines : summary.lines ≡ script.lines
+  pub fault : summary.fault ≡ script.fault
+  pub same : IsTrue (is_accepted c) → HasSameReplies c script.events t p
+
+-- the script was read, and then an error left a front of what the tenant is told
+pub record TellsSome (old new wold wnew : Option (List ℕ)) (c : Config) (t : Name) (p : Label) (e : ToolFault) : Type 0 where
+  pub script : Script
+  pub read : ReadsTo old new script
+  pub written : LeavesLines wold wnew (tenant_lines c t p script) e
+
+-- the script was not read to its end, and nothing was written
+pub record TellsNothing (old new wold wnew : Option (List ℕ)) : Type 0 where
+  pub read : ReadsSome old new
+  pub unwritten : Appends wold wnew []
+
+-- Only once the script has been read the tenant is told of it.
+abbrev pub TellsTenant : Option (List ℕ) → Option (List ℕ) → Option (List ℕ) → Option (List ℕ) → Config → Name → Label → Result Summary ToolFault → Type 0
+TellsTenant old new wold wnew c t p (Ok summary) = TellsAll old new wold wnew c t p summary
+TellsTenant old new wold wnew c t p (Err Read) = TellsNothing old new wold wnew
+TellsTenant old new wold wnew c t p (Err NoMemory) = TellsNothing old new wold wnew ⊎ TellsSome old new wold wnew c t p NoMemory
+TellsTenant old new wold wnew c t p (Err Write) = TellsSome old new wold wnew c t p Write

@@ -1,0 +1,91 @@
+//! Telling a tenant what its partition sees of a script.
+
+ghost use Rattle.std.specs.Prelude.{◌≡◌, IsTrue, length};
+ghost use Rattle.ynl_model.specs.Events.{replies};
+ghost use Rattle.ynl_model.specs.View.{is_sole};
+ghost use Rattle.ynl_tool.specs.Telling.{entry_lines, view_lines, SaysLines, TellsEvent, TellsTenant};
+
+use crate::run::{Summary, ToolFault, say, tell};
+use crate::script_in::read_script;
+use std::alloc::Global;
+use std::io::{BufRead, Write};
+use ynl_core::Core;
+use ynl_lines::write_line;
+use ynl_model::Event;
+use ynl_queues::Config;
+use ynl_resource::{Label, Name};
+use ynl_view::{restrict, view};
+
+/// Answers an event, and writes its line.
+fn tell_event<W: Write>(
+    alloc: Global,
+    core: &mut Core,
+    place: u64,
+    event: &Event,
+    writer: &mut W,
+) -> Result<(), ToolFault>
+    ensures { TellsEvent (W.contents writer.old) (W.contents writer.new) core.old core.new place event.now result }
+{
+    let reply = core.apply(*event)?;
+    let text = write_line(alloc, place, event, &reply)?;
+    say(writer, text)
+}
+
+/// Answers the events, and writes the line of each.
+fn tell_events<W: Write>(
+    alloc: Global,
+    core: &mut Core,
+    places: &[u64],
+    events: &[Event],
+    writer: &mut W,
+) -> Result<(), ToolFault>
+    requires { length events.now ≡ length places.now }
+    ensures { SaysLines (W.contents writer.old) (W.contents writer.new) (entry_lines places.now events.now (replies core.old.config core.old.state events.now)) result }
+{
+    for (i, event) in events.iter().enumerate() {
+        tell_event(alloc, core, places[i], event, writer)?;
+    }
+    Ok(())
+}
+
+/// Tells the tenant what its partition sees of the events.
+fn tell_view<W: Write>(
+    alloc: Global,
+    config: &Config,
+    tenant: &Name,
+    label: &Label,
+    events: &[Event],
+    writer: &mut W,
+) -> Result<(), ToolFault>
+    ensures { SaysLines (W.contents writer.old) (W.contents writer.new) (view_lines config.now tenant.now label.now events.now) result }
+{
+    let seen = view(alloc, config, events, tenant, label)?;
+    let alone = restrict(alloc, config, tenant)?;
+    let mut core = Core::open(alloc, alone)?;
+    tell_events(alloc, &mut core, &seen.places, &seen.events, writer)
+}
+
+/// Reads the script, and only then writes what the tenant's partition sees of its events: each in a
+/// line with its place in the script and the reply of a cluster that holds the tenant alone. A line
+/// with a fault ends the script, and is told in the last line written.
+///
+/// After a read fault nothing is written; where memory was refused, whole lines from the front; after
+/// a write fault a front of the text.
+pub fn tenant_lines<R: BufRead, W: Write>(
+    alloc: Global,
+    config: Config,
+    tenant: &Name,
+    label: &Label,
+    reader: &mut R,
+    writer: &mut W,
+) -> Result<Summary, ToolFault>
+    requires { IsTrue (is_sole config tenant.now label.now) }
+    ensures { TellsTenant (R.remaining reader.old) (R.remaining reader.new) (W.contents writer.old) (W.contents writer.new) config tenant.now label.now result }
+{
+    let script = read_script(alloc, reader)?;
+    tell_view(alloc, &config, tenant, label, &script.events, writer)?;
+    match script.summary.fault {
+        Some(fault) => tell(alloc, writer, fault, script.summary.lines),
+        None => Ok(script.summary),
+    }
+}

@@ -1,0 +1,18 @@
+//! What a tenant's partition sees of a list of events, and the cluster of that tenant alone.
+#![tactic(auto)]
+
+pub use exclusivity::sole;
+pub use picking::pick;
+pub use restriction::restrict;
+pub use viewing::view;
+pub use views::View;
+
+mod exclusivity;
+mod picking;
+mod restriction;
+mod sights;
+#[cfg(test)]
+mod tests;
+mod track;
+mod viewing;
+mod views;

@@ -1,0 +1,74 @@
+//! The answers at the places of a view.
+
+ghost use Rattle.std.specs.Prelude.{◌≡◌, ◌<◌, IfOk, All, length, map, Some};
+ghost use Rattle.ynl_model.specs.View.{at_places};
+
+use std::alloc::{AllocError, Global};
+use ynl_core::{Answer, NoMemory};
+use ynl_model::{PendingList, PlacedList, Reply};
+
+fn placed_copy(alloc: Global, list: &PlacedList) -> Result<PlacedList, AllocError>
+    ensures { IfOk result (λ copy. copy ≡ list.now) }
+{
+    let items = Vec::from_slice(alloc, list.as_slice())?;
+    Ok(PlacedList::new(items))
+}
+
+fn pending_copy(alloc: Global, list: &PendingList) -> Result<PendingList, AllocError>
+    ensures { IfOk result (λ copy. copy ≡ list.now) }
+{
+    let items = Vec::from_slice(alloc, list.as_slice())?;
+    Ok(PendingList::new(items))
+}
+
+fn reply_copy(alloc: Global, reply: &Reply) -> Result<Reply, AllocError>
+    ensures { IfOk result (λ copy. copy ≡ reply.now) }
+{
+    match reply {
+        Reply::Done => Ok(Reply::Done),
+        Reply::Refused(refusal) => Ok(Reply::Refused(*refusal)),
+        Reply::Placed(list) => Ok(Reply::Placed(placed_copy(alloc, list)?)),
+        Reply::Proposed(proposal) => Ok(Reply::Proposed(*proposal)),
+        Reply::Committed(container) => Ok(Reply::Committed(*container)),
+        Reply::Held { containers, asks } => Ok(Reply::Held {
+            containers: placed_copy(alloc, containers)?,
+            asks: pending_copy(alloc, asks)?,
+        }),
+        Reply::Usage {
+            used,
+            guaranteed,
+            maximum,
+            masters,
+            guests,
+        } => Ok(Reply::Usage {
+            used: *used,
+            guaranteed: *guaranteed,
+            maximum: *maximum,
+            masters: *masters,
+            guests: *guests,
+        }),
+    }
+}
+
+fn answer_copy(alloc: Global, answer: &Answer) -> Result<Answer, AllocError>
+    ensures { IfOk result (λ copy. copy ≡ answer.now) }
+{
+    match answer {
+        Answer::Replied(reply) => Ok(Answer::Replied(reply_copy(alloc, reply)?)),
+        Answer::NoMemory => Ok(Answer::NoMemory),
+    }
+}
+
+/// The answers at the places, in the order of the places.
+pub fn pick(alloc: Global, answers: &[Answer], places: &[u64]) -> Result<Vec<Answer>, NoMemory>
+    requires { All (λ place. place < length answers.now) places.now }
+    ensures { IfOk result (λ picked. map Some picked.items ≡ at_places answers.now places.now) }
+{
+    let mut picked = Vec::with_capacity(alloc, places.len())?;
+    for place in places {
+        let place = *place as usize;
+        let answer = answer_copy(alloc, &answers[place])?;
+        picked.push(answer)?;
+    }
+    Ok(picked)
+}

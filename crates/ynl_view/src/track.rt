@@ -1,0 +1,180 @@
+//! Where the nodes are, told from node events alone.
+
+ghost use Rattle.std.specs.Prelude.{◌≡◌, [], length, filter, OnOk};
+ghost use Rattle.std.specs.Option.{option_map_or};
+ghost use Rattle.ynl_resource.specs.Names.{same_label};
+ghost use Rattle.ynl_model.specs.View.{tracked, is_in, has_place, registers, relabels, dropped, joined, track_step};
+ghost use Rattle.ynl_model.specs.declared.events.Event.TheVariants.{Register, Relabel};
+
+use std::alloc::{AllocError, Global};
+use std::marker::Model;
+use ynl_model::Event;
+use ynl_queues::Config;
+use ynl_resource::{Label, Name, Size};
+
+/// A node of the track: its name, its partition and its size.
+#[derive(Clone, Copy)]
+pub struct Tracked {
+    pub name: Name,
+    pub label: Label,
+    pub size: Size,
+}
+
+impl Model for Tracked {
+    ghost use Rattle.ynl_model.specs.View.{Tracked as Row};
+
+    ghost Value = { Row };
+
+    ghost view = { λ t. record { name = t.name; label = t.label; size = t.size } };
+
+    ghost inverse = { λ t. record { name = t.name; label = t.label; size = t.size } };
+}
+
+/// The nodes, in the order of joining. A contract sees their list.
+#[derive(Drop)]
+pub struct Track {
+    nodes: Vec<Tracked>,
+}
+
+impl Model for Track {
+    ghost use Rattle.std.specs.Prelude.{List};
+    ghost use Rattle.ynl_model.specs.View.{Tracked as Row};
+
+    ghost Value = { List Row };
+
+    ghost view = { λ t. t.nodes.items };
+}
+
+impl Track {
+    /// The track before the first event.
+    pub fn new(alloc: Global) -> Track
+        ensures { result ≡ [] }
+    {
+        Track {
+            nodes: Vec::new(alloc),
+        }
+    }
+
+    /// The node of a name.
+    pub fn node(&self, name: &Name) -> Option<Tracked>
+        ensures { result ≡ tracked self.now name.now }
+    {
+        self.nodes.iter().copied().find(|node| node.name == *name)
+    }
+
+    /// Whether the node is in the partition.
+    pub fn has(&self, name: &Name, label: &Label) -> bool
+        ensures { result ≡ is_in self.now name.now label.now }
+    {
+        match self.node(name) {
+            Some(node) => node.label == *label,
+            None => false,
+        }
+    }
+
+    fn count_on(&self, label: &Label) -> usize
+        ensures { result ≡ length (filter (λ node. same_label node.label label.now) self.now) }
+    {
+        self.nodes
+            .iter()
+            .filter(|node| node.label == *label)
+            .count()
+    }
+
+    fn has_place(&self, label: &Label) -> bool
+        ensures { result ≡ has_place self.now label.now }
+    {
+        let is_full = self.count_on(label) >= 65536;
+        !is_full
+    }
+
+    /// Whether the node may register: the label is configured, the name is new, and the partition has
+    /// a place.
+    pub fn registers(&self, config: &Config, name: &Name, label: &Label) -> bool
+        ensures { result ≡ registers config.now self.now name.now label.now }
+    {
+        config.labels().has(label) && self.node(name).is_none() && self.has_place(label)
+    }
+
+    /// Whether the node may be relabelled: the label is configured, the node is there with another,
+    /// and the partition has a place.
+    pub fn relabels(&self, config: &Config, name: &Name, label: &Label) -> bool
+        ensures { result ≡ relabels config.now self.now name.now label.now }
+    {
+        config.labels().has(label)
+            && self.node(name).is_some()
+            && !self.has(name, label)
+            && self.has_place(label)
+    }
+
+    fn drop_node(&mut self, node: &Tracked)
+        ensures { self.new ≡ dropped self.old node.now }
+    {
+        self.nodes.retain(|other| !(other.name == node.name && other.label == node.label));
+    }
+
+    fn join(&mut self, name: &Name, label: &Label, size: &Size) -> Result<(), AllocError>
+        ensures { OnOk result (self.new ≡ joined self.old name.now label.now size.now) }
+    {
+        self.nodes.push(Tracked {
+            name: *name,
+            label: *label,
+            size: *size,
+        })?;
+        Ok(())
+    }
+
+    #[tactic(auto, unfolding(ynl_model::specs::View::track_step))]
+    fn register(
+        &mut self,
+        config: &Config,
+        name: &Name,
+        label: &Label,
+        size: &Size,
+    ) -> Result<(), AllocError>
+        ensures { OnOk result (self.new ≡ track_step config.now self.old (Register name.now label.now size.now)) }
+    {
+        if self.registers(config, name, label) {
+            self.join(name, label, size)?;
+        }
+        Ok(())
+    }
+
+    fn lose(&mut self, name: &Name)
+        ensures { self.new ≡ option_map_or (dropped self.old) (tracked self.old name.now) self.old }
+    {
+        if let Some(node) = self.node(name) {
+            self.drop_node(&node);
+        }
+    }
+
+    #[tactic(auto, unfolding(ynl_model::specs::View::track_step))]
+    fn relabel(&mut self, config: &Config, name: &Name, label: &Label) -> Result<(), AllocError>
+        ensures { OnOk result (self.new ≡ track_step config.now self.old (Relabel name.now label.now)) }
+    {
+        if !self.relabels(config, name, label) {
+            return Ok(());
+        }
+        if let Some(node) = self.node(name) {
+            self.drop_node(&node);
+            self.join(name, label, &node.size)?;
+        }
+        Ok(())
+    }
+
+    /// The track after one more event: only an accepted Register, Lost or Relabel moves it.
+    #[tactic(auto, unfolding(ynl_model::specs::View::track_step))]
+    pub fn step(&mut self, config: &Config, event: &Event) -> Result<(), AllocError>
+        ensures { OnOk result (self.new ≡ track_step config.now self.old event.now) }
+    {
+        match event {
+            Event::Register { node, label, size } => self.register(config, node, label, size),
+            Event::Lost { node } => {
+                self.lose(node);
+                Ok(())
+            }
+            Event::Relabel { node, label } => self.relabel(config, node, label),
+            _ => Ok(()),
+        }
+    }
+}
