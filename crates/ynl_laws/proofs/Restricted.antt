@@ -133,5 +133,5 @@ module _ (c : Config) (t : Name) where
 
   pub is_leaf-restrict : (q : Path) → is_within (top_level t) q ≡ true → is_leaf (restrict c t) q ≡ is_leaf c q
   unfolding is_leaf
-  is_leaf-restrict q h = ap not (any-filter _ (λ row. is_within (top_level t) row.path)
+  is_leaf-restrict q h = ap (λ below. not (same_path q root) && not below) (any-filter _ (λ row. is_within (top_level t) row.path)
       (λ row e. within-trans (top_level t) q row.path h (left-true _ _ e)) c.queues)

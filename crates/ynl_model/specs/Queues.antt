@@ -58,9 +58,9 @@ setting field none c queue = option_map_or field (queue_row c queue) none
 abbrev pub is_queue : Config → Path → Bool
 is_queue c queue = same_path queue root || is_some (queue_row c queue)
 
--- whether the queue is a leaf: no other queue is below it
+-- whether the queue is a leaf: no other queue is below it; root is none, whatever is below it
 unfoldable pub is_leaf : Config → Path → Bool
-is_leaf c queue = not (list_any (λ row. is_within queue row.path && not (same_path queue row.path)) c.queues)
+is_leaf c queue = not (same_path queue root) && not (list_any (λ row. is_within queue row.path && not (same_path queue row.path)) c.queues)
 
 -- the labels that a queue may use, where its parent may use those above
 abbrev pub given : List Name → Config → Access → List Name

@@ -125,12 +125,12 @@ impl Config {
             && queue != row.path.names())
     }
 
-    /// Whether the queue is a leaf: no other queue is below it.
+    /// Whether the queue is a leaf: no other queue is below it. Root is none, whatever is below it.
     #[tactic(auto, unfolding(ynl_model::specs::Queues::is_leaf))]
     pub fn is_leaf(&self, queue: &[Name]) -> bool
         ensures { result ≡ is_leaf self.now queue.now }
     {
-        !self.has_below(queue)
+        !queue.is_empty() && !self.has_below(queue)
     }
 
     /// The row of a leaf.
