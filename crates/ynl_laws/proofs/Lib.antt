@@ -44,3 +44,5 @@ pub mod Isolated
 pub mod Finished
 pub mod Proposed
 pub mod Replies
+pub mod InTurn
+pub mod Untied

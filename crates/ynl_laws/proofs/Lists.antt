@@ -244,3 +244,33 @@ all-each f (x ∷ xs) h = and-true _ _ h.0 (all-each f xs h.1)
 pub filter-nothing : {X : Type 0} (f : X → Bool) (xs : List X) → AllByRecursion (λ x. f x ≡ false) xs → filter f xs ≡ []
 filter-nothing f [] h = refl
 filter-nothing f (x ∷ xs) h = (λ i. cond (h.0 i) (x ∷ filter f xs) (filter f xs)) ∙ filter-nothing f xs h.1
+
+-- ---- rows with keys
+
+-- each row is the one that its key finds: two rows of one key are the same
+abbrev pub EachKeyed : {X K : Type 0} → (K → K → Bool) → (X → K) → List X → Type 0
+EachKeyed same key rows = AllByRecursion (λ row. find (λ other. same (key other) (key row)) rows ≡ Some row) rows
+
+-- an update that keeps the keys keeps that
+pub keyed-update : {X K : Type 0} (same : K → K → Bool) (key : X → K) (w : X → Bool) (change : X → X) → ((row : X) → key (change row) ≡ key row) → (rows : List X) → EachKeyed same key rows → EachKeyed same key (update w change rows)
+keyed-update {X} same key w change keeps rows h =
+    Each-map _ _ at (λ row e. ap (λ k. find (λ other. same (key other) k) (map at rows)) (kept row) ∙ find-through at (λ other. same (key other) (key row)) (λ other. ap (λ k. same k (key row)) (kept other)) rows ∙ ap (option_map at) e) rows h
+  where
+    at : X → X
+    at row = if w row then change row else row
+
+    kept : (row : X) → key (at row) ≡ key row
+    kept row = elim (w row) as (λ b. key (cond b (change row) row) ≡ key row) [ true ↦ keeps row | false ↦ refl ]
+
+-- it holds of rows that are told by their keys
+pub keyed-made : {X Y K : Type 0} (same : K → K → Bool) (key : X → K) (make : Y → X) → ((k : K) → same k k ≡ true) → ((a b : Y) → same (key (make a)) (key (make b)) ≡ true → make a ≡ make b) → (ys : List Y) → EachKeyed same key (map make ys)
+keyed-made {Y = Y} same key make self told ys = Each-map _ _ make (λ y e. e) ys (each ys)
+  where
+    each : (ys : List Y) → AllByRecursion (λ y. find (λ other. same (key other) (key (make y))) (map make ys) ≡ Some (make y)) ys
+    each [] = tt
+    each (y ∷ ys) = ((λ i. cond (self (key (make y)) i) (Some (make y)) (find (λ other. same (key other) (key (make y))) (map make ys))), Each-weaker _ _ (λ other k. go other (same (key (make y)) (key (make other))) refl k) ys (each ys))
+      where
+        go : (other : Y) (b : Bool) → same (key (make y)) (key (make other)) ≡ b → find (λ another. same (key another) (key (make other))) (map make ys) ≡ Some (make other) →
+            cond b (Some (make y)) (find (λ another. same (key another) (key (make other))) (map make ys)) ≡ Some (make other)
+        go other true e k = ap (λ x. Some x) (told y other e)
+        go other false e k = k

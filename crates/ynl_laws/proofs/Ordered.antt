@@ -20,7 +20,7 @@ use Rattle.ynl_model.specs.Events.{after}
 use Rattle.ynl_model.specs.declared.events.Event.{Event}
 use Rattle.ynl_laws.specs.Working.{on_in, clock_in, has_row, EachFound, Numbered, Ordered, IsOrdered}
 use Rattle.ynl_laws.proofs.Restricted.{right-true, same-label_path, same-label_self}
-use Rattle.ynl_laws.proofs.Lists.{Each-filter, Each-append, Each-map, Each-weaker, Each-all, Pairs-filter, Pairs-last, find-through, found-passes, Each-found}
+use Rattle.ynl_laws.proofs.Lists.{Each-filter, Each-append, Each-map, Each-weaker, Each-all, Pairs-filter, Pairs-last, find-through, found-passes, Each-found, keyed-update, keyed-made}
 use Rattle.ynl_laws.proofs.Kept.{by-row}
 use Rattle.ynl_laws.proofs.Steps.{Stays, always}
 
@@ -104,13 +104,7 @@ rises-above limit value h = go (nat_lt value limit) refl
 
 -- rows that are changed are still found by their labels
 found-stays : (label : Label) (change : Partition → Partition) → ((row : Partition) → (change row).label ≡ row.label) → (rows : List Partition) → EachFound rows → EachFound (in_partition label change rows)
-found-stays label change keeps rows h = Each-map _ _ at (λ row e. ap (λ l. find (is_partition l) (map at rows)) (same row) ∙ through label row.label change keeps rows ∙ ap (option_map at) e) rows h
-  where
-    at : Partition → Partition
-    at row = if same_label row.label label then change row else row
-
-    same : (row : Partition) → (at row).label ≡ row.label
-    same row = elim (same_label row.label label) as (λ b. (cond b (change row) row).label ≡ row.label) [ true ↦ keeps row | false ↦ refl ]
+found-stays label change keeps rows h = keyed-update same_label (λ row. row.label) (is_partition label) change keeps rows h
 
 numbered-more : (p : Label) (old new : ℕ) (containers : List Container) → old ≤ new → Numbered p old containers → Numbered p new containers
 numbered-more p old new containers more h = record { own = Each-weaker _ _ (λ container k. (k.0, le_trans k.1 more)) containers h.own; rising = h.rising }
@@ -250,25 +244,13 @@ opening-has labels (Named name) known = opening-row labels.rows name known
 pub opening-empty : (labels : Labels) → AllByRecursion (λ row. (row.clock ≡ 0) × (row.containers ≡ [])) (no_containers labels)
 opening-empty labels = Each-map (λ (label : Label). ⊤) _ _ (λ label _. (refl, refl)) (partition_labels labels) (Each-all (λ (label : Label). ⊤) (λ label. tt) (partition_labels labels))
 
--- each row is found at first
-opening-found : (labels : List Label) → AllByRecursion (λ label. find (is_partition label) (map empty_row labels) ≡ Some (empty_row label)) labels
-opening-found [] = tt
-opening-found (label ∷ labels) = (
-  ap (λ b. cond b (Some (empty_row label)) (find (is_partition label) (map empty_row labels))) (same-label_self label),
-  Each-weaker _ _ (λ other k. go other (same_label label other) refl k) labels (opening-found labels),
-)
-  where
-    go : (other : Label) (b : Bool) → same_label label other ≡ b → find (is_partition other) (map empty_row labels) ≡ Some (empty_row other) → cond b (Some (empty_row label)) (find (is_partition other) (map empty_row labels)) ≡ Some (empty_row other)
-    go other true e k = ap (λ l. Some (empty_row l)) (same-label_path label other e)
-    go other false e k = k
-
 pub ordered-opening : (c : Config) → IsOrdered c (opening c)
 ordered-opening c = record {
   there = opening-has c.labels;
   clocks = λ p. clocks p (find (is_partition p) (no_containers c.labels)) (Each-found _ (is_partition p) (no_containers c.labels) (opening-empty c.labels));
   stamps = tt;
   ids = λ p. ids p (find (is_partition p) (no_containers c.labels)) (Each-found _ (is_partition p) (no_containers c.labels) (opening-empty c.labels));
-  found = Each-map _ _ empty_row (λ label e. e) (partition_labels c.labels) (opening-found (partition_labels c.labels));
+  found = keyed-made same_label (λ row. row.label) empty_row same-label_self (λ a b e. ap empty_row (same-label_path a b e)) (partition_labels c.labels);
 }
   where
     clocks : (p : Label) (o : Option Partition) → IfSome o (λ row. (row.clock ≡ 0) × (row.containers ≡ [])) → option_map_or (λ row. row.clock) o 0 ≤ clock_limit c.labels p

@@ -46,208 +46,208 @@ root_a = name "a" ∷ []
 abbrev pub c_thirds : Config
 c_thirds = config_of [] (queue_row root_a 3333 Inherited [] ∷ queue_row (name "b" ∷ []) 3333 Inherited [] ∷ queue_row (name "c" ∷ []) 3334 Inherited [] ∷ [])
 
-abbrev pub row2 : List Event
-row2 =
+abbrev pub one_master : List Event
+one_master =
     reg "g1" gpu 10000 10 ∷ sub ml "j1" "ann" gpu 1000 1 ∷ hb "g1" ∷ []
 
-abbrev pub row3 : List Event
-row3 =
-    row2 ++ sub ml "j2" "ann" gpu 1000 1 ∷ hb "g1" ∷ []
+abbrev pub second_waits : List Event
+second_waits =
+    one_master ++ sub ml "j2" "ann" gpu 1000 1 ∷ hb "g1" ∷ []
 
-abbrev pub row4 : List Event
-row4 =
-    row3 ++ ask "eng" "j1" gpu 1 4 2000 2 ∷ hb "g1" ∷ hb "g1" ∷ hb "g1" ∷ hb "g1" ∷ use_of ml gpu ∷ poll "eng" "j1" gpu ∷ []
+abbrev pub grown_to_limit : List Event
+grown_to_limit =
+    second_waits ++ ask "eng" "j1" gpu 1 4 2000 2 ∷ hb "g1" ∷ hb "g1" ∷ hb "g1" ∷ hb "g1" ∷ use_of ml gpu ∷ poll "eng" "j1" gpu ∷ []
 
-abbrev pub row5 : List Event
-row5 =
+abbrev pub leaf_grown : List Event
+leaf_grown =
     reg "g1" gpu 10000 10 ∷ sub etl "e1" "ann" gpu 1000 1 ∷ hb "g1" ∷ ask "eng" "e1" gpu 1 3 2000 2 ∷ hb "g1" ∷ hb "g1" ∷ use_of etl gpu ∷ []
 
-abbrev pub row8 : List Event
-row8 =
+abbrev pub guest_waits : List Event
+guest_waits =
     reg "g1" gpu 10000 10 ∷ reg "d1" none 10000 10 ∷ reg "s1" ssd 4000 4 ∷ sub ml "x1" "ann" none 1000 1 ∷ hb "d1" ∷ ask "eng" "x1" none 1 2 2000 2
     ∷ hb "g1" ∷ []
 
-abbrev pub row10 : List Event
-row10 =
+abbrev pub proposed_twice : List Event
+proposed_twice =
     reg "g1" gpu 10000 10 ∷ reg "g2" gpu 10000 10 ∷ sub etl "e1" "ann" gpu 1000 1 ∷ hb "g1" ∷ ask "eng" "e1" gpu 1 2 5000 4 ∷ prop "g1" ∷ prop "g2"
     ∷ cmt "g1" 3 "eng" "e1" (Asked gpu 1) 5000 4 ∷ cmt "g2" 2 "eng" "e1" (Asked gpu 1) 5000 4 ∷ []
 
-abbrev pub row12 : List Event
-row12 =
+abbrev pub relabelled : List Event
+relabelled =
     reg "d1" none 10000 10 ∷ sub ml "x1" "ann" none 1000 1 ∷ hb "d1" ∷ relabel "d1" gpu ∷ sub ml "j1" "bob" gpu 1000 1 ∷ hb "d1"
     ∷ relabel "d1" none ∷ hb "d1" ∷ []
 
-abbrev pub row14 : List Event
-row14 =
+abbrev pub finished : List Event
+finished =
     sub ml "j1" "ann" none 100 1 ∷ sub mkt "j1" "mia" ssd 100 1 ∷ sub ml "j2" "ann" gpu 100 1 ∷ sub etl "j1" "ann" gpu 100 1 ∷ fin "eng" "j1"
     ∷ sub ml "j2" "ann" gpu 100 1 ∷ sub etl "j1" "ann" gpu 100 1 ∷ []
 
 -- a master is placed, and its id is the clock after that
-row-2 : replies_to c1 row2
+master-placed : replies_to c1 one_master
     ≡ Done ∷ Done ∷ one (container gpu 2 "g1" "eng" "j1" Master 1000 1) ∷ []
 unfolding opened
-row-2 = refl
+master-placed = refl
 
 -- the same with one queue
-row-2a : replies_to c0 (reg "g1" gpu 10000 10 ∷ sub eng "j1" "ann" gpu 1000 1 ∷ hb "g1" ∷ [])
+one-queue : replies_to c0 (reg "g1" gpu 10000 10 ∷ sub eng "j1" "ann" gpu 1000 1 ∷ hb "g1" ∷ [])
     ≡ Done ∷ Done ∷ one (container gpu 2 "g1" "eng" "j1" Master 1000 1) ∷ []
 unfolding opened
-row-2a = refl
+one-queue = refl
 
 -- the master share is used up
-row-3 : later c1 row2 (sub ml "j2" "ann" gpu 1000 1 ∷ hb "g1" ∷ [])
+share-used-up : later c1 one_master (sub ml "j2" "ann" gpu 1000 1 ∷ hb "g1" ∷ [])
     ≡ Done ∷ no_more ∷ []
 unfolding opened
-row-3 = refl
+share-used-up = refl
 
 -- a first master may be larger than the master share
-row-3-apart : replies_to c1 (reg "g1" gpu 10000 10 ∷ sub ml "j1" "ann" gpu 3000 1 ∷ hb "g1" ∷ [])
+first-master : replies_to c1 (reg "g1" gpu 10000 10 ∷ sub ml "j1" "ann" gpu 3000 1 ∷ hb "g1" ∷ [])
     ≡ Done ∷ Done ∷ one (container gpu 2 "g1" "eng" "j1" Master 3000 1) ∷ []
 unfolding opened
-row-3-apart = refl
+first-master = refl
 
 -- a queue grows to its user limit; usage and poll
-row-4 : later c1 row3 (ask "eng" "j1" gpu 1 4 2000 2 ∷ hb "g1" ∷ hb "g1" ∷ hb "g1" ∷ hb "g1" ∷ use_of ml gpu ∷ poll "eng" "j1" gpu ∷ [])
+user-limit : later c1 second_waits (ask "eng" "j1" gpu 1 4 2000 2 ∷ hb "g1" ∷ hb "g1" ∷ hb "g1" ∷ hb "g1" ∷ use_of ml gpu ∷ poll "eng" "j1" gpu ∷ [])
     ≡ Done ∷ one (container gpu 3 "g1" "eng" "j1" (Asked gpu 1) 2000 2) ∷ one (container gpu 4 "g1" "eng" "j1" (Asked gpu 1) 2000 2)
     ∷ one (container gpu 5 "g1" "eng" "j1" (Asked gpu 1) 2000 2) ∷ no_more ∷ uses 7000 7 7000 7 10000 10 1000 1 0 0
     ∷ Held (container gpu 2 "g1" "eng" "j1" Master 1000 1 ∷ container gpu 3 "g1" "eng" "j1" (Asked gpu 1) 2000 2
     ∷ container gpu 4 "g1" "eng" "j1" (Asked gpu 1) 2000 2 ∷ container gpu 5 "g1" "eng" "j1" (Asked gpu 1) 2000 2 ∷ []) (pends 1 1 2000 2 ∷ [])
     ∷ []
 unfolding opened
-row-4 = refl
+user-limit = refl
 
 -- a leaf stops at its maximum
-row-5 : replies_to c1 (row5 ++ prop "g1" ∷ cmt "g1" 4 "eng" "e1" (Asked gpu 1) 2000 2 ∷ [])
+leaf-maximum : replies_to c1 (leaf_grown ++ prop "g1" ∷ cmt "g1" 4 "eng" "e1" (Asked gpu 1) 2000 2 ∷ [])
     ≡ Done ∷ Done ∷ one (container gpu 2 "g1" "eng" "e1" Master 1000 1) ∷ Done ∷ one (container gpu 3 "g1" "eng" "e1" (Asked gpu 1) 2000 2)
     ∷ one (container gpu 4 "g1" "eng" "e1" (Asked gpu 1) 2000 2) ∷ uses 5000 5 3000 3 5000 5 1000 1 0 0 ∷ Proposed None ∷ Refused OverMaximum ∷ []
 unfolding opened
-row-5 = refl
+leaf-maximum = refl
 
 -- two users share, each by half
-row-6 : replies_to c_25 (reg "g1" gpu 10000 10 ∷ sub ml "a1" "ann" gpu 1000 1 ∷ sub ml "b1" "bob" gpu 1000 1 ∷ hb "g1" ∷ ask "eng" "a1" gpu 1 1 2000 1
+two-users : replies_to c_25 (reg "g1" gpu 10000 10 ∷ sub ml "a1" "ann" gpu 1000 1 ∷ sub ml "b1" "bob" gpu 1000 1 ∷ hb "g1" ∷ ask "eng" "a1" gpu 1 1 2000 1
     ∷ hb "g1" ∷ ask "eng" "a1" gpu 1 1 1000 1 ∷ hb "g1" ∷ cmt "g1" 3 "eng" "a1" (Asked gpu 1) 1000 1 ∷ [])
     ≡ Done ∷ Done ∷ Done ∷ one (container gpu 2 "g1" "eng" "a1" Master 1000 1) ∷ Done ∷ one (container gpu 3 "g1" "eng" "a1" (Asked gpu 1) 2000 1)
     ∷ Done ∷ no_more ∷ Refused OverUserLimit ∷ []
 unfolding opened
-row-6 = refl
+two-users = refl
 
 -- four users share, each by a quarter
-row-6-fresh : replies_to c_25 (reg "g1" gpu 10000 10 ∷ sub ml "a1" "ann" gpu 1000 1 ∷ sub ml "b1" "bob" gpu 1000 1 ∷ sub ml "c1" "cid" gpu 1000 1
+four-users : replies_to c_25 (reg "g1" gpu 10000 10 ∷ sub ml "a1" "ann" gpu 1000 1 ∷ sub ml "b1" "bob" gpu 1000 1 ∷ sub ml "c1" "cid" gpu 1000 1
     ∷ sub ml "d1" "dan" gpu 1000 1 ∷ hb "g1" ∷ ask "eng" "a1" gpu 1 1 1000 1 ∷ hb "g1" ∷ ask "eng" "a1" gpu 1 1 750 1 ∷ hb "g1" ∷ [])
     ≡ Done ∷ Done ∷ Done ∷ Done ∷ Done ∷ one (container gpu 2 "g1" "eng" "a1" Master 1000 1) ∷ Done ∷ no_more ∷ Done
     ∷ one (container gpu 3 "g1" "eng" "a1" (Asked gpu 1) 750 1) ∷ []
 unfolding opened
-row-6-fresh = refl
+four-users = refl
 
 -- refusals of submit, stop and start
-row-7 : replies_to c1 (sub mkt "m1" "mia" gpu 100 1 ∷ sub mkt "m1" "mia" zzz 100 1 ∷ sub eng "m1" "mia" gpu 100 1 ∷ sub nope "m1" "mia" gpu 100 1
+submits-refused : replies_to c1 (sub mkt "m1" "mia" gpu 100 1 ∷ sub mkt "m1" "mia" zzz 100 1 ∷ sub eng "m1" "mia" gpu 100 1 ∷ sub nope "m1" "mia" gpu 100 1
     ∷ stop root ∷ stop eng ∷ sub ml "j1" "ann" zzz 100 1 ∷ start eng ∷ [])
     ≡ Refused LabelNotAccessible ∷ Refused NoSuchLabel ∷ Refused NotALeaf ∷ Refused NoSuchQueue ∷ Refused RootQueue ∷ Done ∷ Refused QueueStopped
     ∷ Done ∷ []
 unfolding opened
-row-7 = refl
+submits-refused = refl
 
 -- a guest comes only where nothing is eligible, and not to an exclusive partition
-row-8 : replies_to c1 (row8 ++ hb "s1" ∷ use_of mkt ssd ∷ sub mkt "m1" "mia" ssd 1000 1 ∷ cmt "s1" 2 "eng" "x1" (Asked none 1) 2000 2 ∷ hb "s1"
+guest : replies_to c1 (guest_waits ++ hb "s1" ∷ use_of mkt ssd ∷ sub mkt "m1" "mia" ssd 1000 1 ∷ cmt "s1" 2 "eng" "x1" (Asked none 1) 2000 2 ∷ hb "s1"
     ∷ hb "s1" ∷ use_of ml ssd ∷ [])
     ≡ Done ∷ Done ∷ Done ∷ Done ∷ one (container none 2 "d1" "eng" "x1" Master 1000 1) ∷ Done ∷ no_more
     ∷ one (container ssd 2 "s1" "eng" "x1" (Asked none 1) 2000 2) ∷ uses 0 0 4000 4 4000 4 0 0 0 0 ∷ Done ∷ Refused PartitionBusy
     ∷ one (container ssd 3 "s1" "mkt" "m1" Master 1000 1) ∷ no_more ∷ uses 0 0 0 0 0 0 0 0 2000 2 ∷ []
 unfolding opened
-row-8 = refl
+guest = refl
 
 -- a proposal is committed once, and not after its node was lost
-row-9 : later c1 row2 (ask "eng" "j1" gpu 1 2 2000 2 ∷ prop "g1" ∷ prop "g1" ∷ cmt "g1" 2 "eng" "j1" (Asked gpu 1) 2000 2
+committed-once : later c1 one_master (ask "eng" "j1" gpu 1 2 2000 2 ∷ prop "g1" ∷ prop "g1" ∷ cmt "g1" 2 "eng" "j1" (Asked gpu 1) 2000 2
     ∷ cmt "g1" 2 "eng" "j1" (Asked gpu 1) 2000 2 ∷ prop "g1" ∷ lost "g1" ∷ reg "g1" gpu 10000 10 ∷ cmt "g1" 3 "eng" "j1" (Asked gpu 1) 2000 2 ∷ [])
     ≡ Done ∷ Proposed (Some (proposal "g1" 2 "eng" "j1" (Asked gpu 1) 2000 2)) ∷ Proposed (Some (proposal "g1" 2 "eng" "j1" (Asked gpu 1) 2000 2))
     ∷ Committed (container gpu 3 "g1" "eng" "j1" (Asked gpu 1) 2000 2) ∷ Refused Stale
     ∷ Proposed (Some (proposal "g1" 3 "eng" "j1" (Asked gpu 1) 2000 2)) ∷ Done ∷ Done ∷ Refused Stale ∷ []
 unfolding opened
-row-9 = refl
+committed-once = refl
 
 -- the stamp of the new node
-row-9-stamp : later c1 (row2 ++ ask "eng" "j1" gpu 1 2 2000 2 ∷ prop "g1" ∷ prop "g1" ∷ cmt "g1" 2 "eng" "j1" (Asked gpu 1) 2000 2
+new-stamp : later c1 (one_master ++ ask "eng" "j1" gpu 1 2 2000 2 ∷ prop "g1" ∷ prop "g1" ∷ cmt "g1" 2 "eng" "j1" (Asked gpu 1) 2000 2
     ∷ cmt "g1" 2 "eng" "j1" (Asked gpu 1) 2000 2 ∷ prop "g1" ∷ lost "g1" ∷ reg "g1" gpu 10000 10 ∷ []) (sub ml "j2" "ann" gpu 1000 1 ∷ prop "g1"
     ∷ [])
     ≡ Done ∷ Proposed (Some (proposal "g1" 4 "eng" "j1" Master 1000 1)) ∷ []
 unfolding opened
-row-9-stamp = refl
+new-stamp = refl
 
 -- the maximum is tested again at the commit
-row-10 : replies_to c1 row10
+maximum-at-commit : replies_to c1 proposed_twice
     ≡ Done ∷ Done ∷ Done ∷ one (container gpu 3 "g1" "eng" "e1" Master 1000 1) ∷ Done
     ∷ Proposed (Some (proposal "g1" 3 "eng" "e1" (Asked gpu 1) 5000 4)) ∷ Proposed (Some (proposal "g2" 2 "eng" "e1" (Asked gpu 1) 5000 4))
     ∷ Committed (container gpu 4 "g1" "eng" "e1" (Asked gpu 1) 5000 4) ∷ Refused OverMaximum ∷ []
 unfolding opened
-row-10 = refl
+maximum-at-commit = refl
 
 -- a queue stands above its maximum after a loss
-row-11 : later c1 row10 (lost "g2" ∷ use_of etl gpu ∷ ask "eng" "e1" gpu 2 1 500 1 ∷ hb "g1" ∷ cmt "g1" 4 "eng" "e1" (Asked gpu 2) 500 1
+above-maximum : later c1 proposed_twice (lost "g2" ∷ use_of etl gpu ∷ ask "eng" "e1" gpu 2 1 500 1 ∷ hb "g1" ∷ cmt "g1" 4 "eng" "e1" (Asked gpu 2) 500 1
     ∷ poll "eng" "e1" gpu ∷ [])
     ≡ Done ∷ uses 6000 5 3000 3 5000 5 1000 1 0 0 ∷ Done ∷ no_more ∷ Refused OverMaximum ∷ Held (container gpu 3 "g1" "eng" "e1" Master 1000 1
     ∷ container gpu 4 "g1" "eng" "e1" (Asked gpu 1) 5000 4 ∷ []) (pends 1 1 5000 4 ∷ pends 2 1 500 1 ∷ []) ∷ []
 unfolding opened
-row-11 = refl
+above-maximum = refl
 
 -- a relabelled node loses its containers, and an application waits again
-row-12 : replies_to c1 row12
+node-relabelled : replies_to c1 relabelled
     ≡ Done ∷ Done ∷ one (container none 2 "d1" "eng" "x1" Master 1000 1) ∷ Done ∷ Done ∷ one (container gpu 2 "d1" "eng" "j1" Master 1000 1) ∷ Done
     ∷ one (container none 4 "d1" "eng" "x1" Master 1000 1) ∷ []
 unfolding opened
-row-12 = refl
+node-relabelled = refl
 
 -- names stay used, and a leaf has so many live applications at most
-row-14 : replies_to c_one_app row14
+names-used : replies_to c_one_app finished
     ≡ Done ∷ Done ∷ Refused TooManyApplications ∷ Refused NameUsed ∷ Done ∷ Done ∷ Refused NameUsed ∷ []
 unfolding opened
-row-14 = refl
+names-used = refl
 
 -- where the clock is spent nothing is placed, and all else goes on
-row-15 : later c_limit_2 row2 (hb "g1" ∷ prop "g1" ∷ cmt "g1" 2 "eng" "j9" (Asked gpu 1) 100 1 ∷ fin "eng" "j1" ∷ reg "g2" gpu 1 1 ∷ poll "eng" "j1" gpu
+clock-spent : later c_limit_2 one_master (hb "g1" ∷ prop "g1" ∷ cmt "g1" 2 "eng" "j9" (Asked gpu 1) 100 1 ∷ fin "eng" "j1" ∷ reg "g2" gpu 1 1 ∷ poll "eng" "j1" gpu
     ∷ [])
     ≡ Refused ClockSpent ∷ Refused ClockSpent ∷ Refused ClockSpent ∷ Done ∷ Done ∷ Refused NoSuchApplication ∷ []
 unfolding opened
-row-15 = refl
+clock-spent = refl
 
 -- a stranger is told nothing of a partition
-row-16 : later c1 row2 (sub mkt "m1" "mia" ssd 100 1 ∷ cmt "g1" 2 "mkt" "m1" Master 100 1 ∷ rel "mkt" gpu 2 ∷ rel "eng" gpu 2 ∷ rel "eng" gpu 9 ∷ [])
+stranger : later c1 one_master (sub mkt "m1" "mia" ssd 100 1 ∷ cmt "g1" 2 "mkt" "m1" Master 100 1 ∷ rel "mkt" gpu 2 ∷ rel "eng" gpu 2 ∷ rel "eng" gpu 9 ∷ [])
     ≡ Done ∷ Refused NotAccessible ∷ Refused NoSuchContainer ∷ Refused IsMaster ∷ Refused NoSuchContainer ∷ []
 unfolding opened
-row-16 = refl
+stranger = refl
 
 -- refusals of node events
-row-23 : replies_to c1 (reg "g1" zzz 1 1 ∷ reg "g1" gpu 1 1 ∷ reg "g1" gpu 1 1 ∷ relabel "g1" gpu ∷ relabel "g9" gpu ∷ lost "g9" ∷ hb "g9" ∷ [])
+nodes-refused : replies_to c1 (reg "g1" zzz 1 1 ∷ reg "g1" gpu 1 1 ∷ reg "g1" gpu 1 1 ∷ relabel "g1" gpu ∷ relabel "g9" gpu ∷ lost "g9" ∷ hb "g9" ∷ [])
     ≡ Refused NoSuchLabel ∷ Done ∷ Refused NodeExists ∷ Refused SameLabel ∷ Refused NoSuchNode ∷ Refused NoSuchNode ∷ Refused NoSuchNode ∷ []
 unfolding opened
-row-23 = refl
+nodes-refused = refl
 
 -- ends move the clock, and an application whose master ended waits in its old place
-row-24 : later c1 row4 (exit "g1" gpu 9 ∷ exit "g1" gpu 2 ∷ hb "g1" ∷ rel "eng" gpu 3 ∷ hb "g1" ∷ fin "eng" "j1" ∷ hb "g1" ∷ [])
+ends : later c1 grown_to_limit (exit "g1" gpu 9 ∷ exit "g1" gpu 2 ∷ hb "g1" ∷ rel "eng" gpu 3 ∷ hb "g1" ∷ fin "eng" "j1" ∷ hb "g1" ∷ [])
     ≡ Refused NoSuchContainer ∷ Done ∷ one (container gpu 7 "g1" "eng" "j1" Master 1000 1) ∷ Done
     ∷ one (container gpu 9 "g1" "eng" "j1" (Asked gpu 1) 2000 2) ∷ Done ∷ one (container gpu 14 "g1" "eng" "j2" Master 1000 1) ∷ []
 unfolding opened
-row-24 = refl
+ends = refl
 
 -- leaves are served by their ratios
-row-25 : replies_to c1 (reg "g1" gpu 10000 10 ∷ sub ml "j1" "ann" gpu 700 1 ∷ sub etl "e1" "bob" gpu 300 1 ∷ hb "g1" ∷ hb "g1"
+ratios : replies_to c1 (reg "g1" gpu 10000 10 ∷ sub ml "j1" "ann" gpu 700 1 ∷ sub etl "e1" "bob" gpu 300 1 ∷ hb "g1" ∷ hb "g1"
     ∷ ask "eng" "j1" gpu 1 9 100 1 ∷ ask "eng" "e1" gpu 1 9 100 1 ∷ hb "g1" ∷ hb "g1" ∷ hb "g1" ∷ hb "g1" ∷ hb "g1" ∷ [])
     ≡ Done ∷ Done ∷ Done ∷ one (container gpu 2 "g1" "eng" "e1" Master 300 1) ∷ one (container gpu 3 "g1" "eng" "j1" Master 700 1) ∷ Done ∷ Done
     ∷ one (container gpu 4 "g1" "eng" "e1" (Asked gpu 1) 100 1) ∷ one (container gpu 5 "g1" "eng" "j1" (Asked gpu 1) 100 1)
     ∷ one (container gpu 6 "g1" "eng" "j1" (Asked gpu 1) 100 1) ∷ one (container gpu 7 "g1" "eng" "j1" (Asked gpu 1) 100 1)
     ∷ one (container gpu 8 "g1" "eng" "e1" (Asked gpu 1) 100 1) ∷ []
 unfolding opened
-row-25 = refl
+ratios = refl
 
 -- queues are ordered level by level
-row-26 : replies_to c1 (reg "d1" none 100000 100 ∷ sub etl "e1" "ann" none 3000 1 ∷ sub mkt "m1" "mia" none 1000 1 ∷ sub ml "j1" "bob" none 1000 1
+level-by-level : replies_to c1 (reg "d1" none 100000 100 ∷ sub etl "e1" "ann" none 3000 1 ∷ sub mkt "m1" "mia" none 1000 1 ∷ sub ml "j1" "bob" none 1000 1
     ∷ hb "d1" ∷ hb "d1" ∷ ask "mkt" "m1" none 1 1 1000 1 ∷ hb "d1" ∷ hb "d1" ∷ [])
     ≡ Done ∷ Done ∷ Done ∷ Done ∷ one (container none 2 "d1" "eng" "e1" Master 3000 1) ∷ one (container none 3 "d1" "mkt" "m1" Master 1000 1) ∷ Done
     ∷ one (container none 4 "d1" "mkt" "m1" (Asked none 1) 1000 1) ∷ one (container none 5 "d1" "eng" "j1" Master 1000 1) ∷ []
 unfolding opened
-row-26 = refl
+level-by-level = refl
 
 -- refusals of ask, and at most 64 asks of a label
-row-27 : later c_8192 row2 (sub ml "j3" "ann" gpu 9000 1 ∷ ask "eng" "j9" gpu 1 1 1 1 ∷ ask "eng" "j1" zzz 1 1 1 1 ∷ ask "eng" "j1" ssd 1 1 1 1
+asks-refused : later c_8192 one_master (sub ml "j3" "ann" gpu 9000 1 ∷ ask "eng" "j9" gpu 1 1 1 1 ∷ ask "eng" "j1" zzz 1 1 1 1 ∷ ask "eng" "j1" ssd 1 1 1 1
     ∷ ask "eng" "j1" gpu 1 1 9000 1 ∷ ask "eng" "j1" gpu 1 1 1 1 ∷ ask "eng" "j1" gpu 2 1 1 1 ∷ ask "eng" "j1" gpu 3 1 1 1
     ∷ ask "eng" "j1" gpu 4 1 1 1 ∷ ask "eng" "j1" gpu 5 1 1 1 ∷ ask "eng" "j1" gpu 6 1 1 1 ∷ ask "eng" "j1" gpu 7 1 1 1
     ∷ ask "eng" "j1" gpu 8 1 1 1 ∷ ask "eng" "j1" gpu 9 1 1 1 ∷ ask "eng" "j1" gpu 10 1 1 1 ∷ ask "eng" "j1" gpu 11 1 1 1
@@ -271,7 +271,7 @@ row-27 : later c_8192 row2 (sub ml "j3" "ann" gpu 9000 1 ∷ ask "eng" "j9" gpu 
     ∷ Done ∷ Done ∷ Done ∷ Done ∷ Done ∷ Done ∷ Done ∷ Done ∷ Done ∷ Done ∷ Done ∷ Done ∷ Done ∷ Done ∷ Done ∷ Done ∷ Done ∷ Done ∷ Done ∷ Done
     ∷ Refused TooManyAsks ∷ Done ∷ []
 unfolding opened
-row-27 = refl
+asks-refused = refl
 
 -- register, submit and heartbeat
 row-three-events : replies_to c0 (reg "g1" zzz 1 1 ∷ reg "g1" gpu 10000 10 ∷ reg "g1" gpu 10000 10 ∷ sub nope "j1" "ann" gpu 1 1 ∷ sub root "j1" "ann" gpu 1 1
@@ -294,7 +294,7 @@ unfolding opened
 row-applications = refl
 
 -- lower priority numbers first, and a count is replaced
-row-priorities : later c1 row2 (ask "eng" "j1" gpu 2 1 100 1 ∷ ask "eng" "j1" gpu 1 5 200 1 ∷ ask "eng" "j1" gpu 1 1 200 1 ∷ hb "g1" ∷ hb "g1" ∷ hb "g1" ∷ [])
+row-priorities : later c1 one_master (ask "eng" "j1" gpu 2 1 100 1 ∷ ask "eng" "j1" gpu 1 5 200 1 ∷ ask "eng" "j1" gpu 1 1 200 1 ∷ hb "g1" ∷ hb "g1" ∷ hb "g1" ∷ [])
     ≡ Done ∷ Done ∷ Done ∷ one (container gpu 3 "g1" "eng" "j1" (Asked gpu 1) 200 1) ∷ one (container gpu 4 "g1" "eng" "j1" (Asked gpu 2) 100 1)
     ∷ no_more ∷ []
 unfolding opened
@@ -326,14 +326,14 @@ unfolding opened
 row-users-by-label = refl
 
 -- a lost node takes the master, and not the rest
-row-loss : later c1 row2 (ask "eng" "j1" gpu 1 1 2000 2 ∷ reg "g2" gpu 10000 10 ∷ hb "g2" ∷ lost "g1" ∷ poll "eng" "j1" gpu ∷ hb "g2" ∷ [])
+row-loss : later c1 one_master (ask "eng" "j1" gpu 1 1 2000 2 ∷ reg "g2" gpu 10000 10 ∷ hb "g2" ∷ lost "g1" ∷ poll "eng" "j1" gpu ∷ hb "g2" ∷ [])
     ≡ Done ∷ Done ∷ one (container gpu 4 "g2" "eng" "j1" (Asked gpu 1) 2000 2) ∷ Done ∷ Held (container gpu 4 "g2" "eng" "j1" (Asked gpu 1) 2000 2
     ∷ []) ([]) ∷ one (container gpu 5 "g2" "eng" "j1" Master 1000 1) ∷ []
 unfolding opened
 row-loss = refl
 
 -- refusals of commit
-row-commits : later c1 row3 (cmt "g9" 2 "eng" "j2" Master 1000 1 ∷ cmt "g1" 1 "eng" "j2" Master 1000 1 ∷ cmt "g1" 2 "abc" "j2" Master 1000 1
+row-commits : later c1 second_waits (cmt "g9" 2 "eng" "j2" Master 1000 1 ∷ cmt "g1" 1 "eng" "j2" Master 1000 1 ∷ cmt "g1" 2 "abc" "j2" Master 1000 1
     ∷ cmt "g1" 2 "eng" "j1" (Asked none 1) 1 1 ∷ cmt "g1" 2 "eng" "j9" Master 1 1 ∷ cmt "g1" 2 "eng" "j2" Master 900 1
     ∷ cmt "g1" 2 "eng" "j2" Master 1000 1 ∷ ask "eng" "j1" gpu 1 1 9500 1 ∷ cmt "g1" 2 "eng" "j1" (Asked gpu 1) 9500 1 ∷ [])
     ≡ Refused NoSuchNode ∷ Refused Stale ∷ Refused NotAccessible ∷ Refused NotAccessible ∷ Refused NoSuchApplication ∷ Refused NoSuchAsk
@@ -350,7 +350,7 @@ unfolding opened
 row-spent-within = refl
 
 -- a proposal twice, and one of a stranger
-row-forged : later c1 row2 (ask "eng" "j1" gpu 1 2 100 1 ∷ cmt "g1" 2 "eng" "j1" (Asked gpu 1) 100 1 ∷ cmt "g1" 2 "eng" "j1" (Asked gpu 1) 100 1
+row-forged : later c1 one_master (ask "eng" "j1" gpu 1 2 100 1 ∷ cmt "g1" 2 "eng" "j1" (Asked gpu 1) 100 1 ∷ cmt "g1" 2 "eng" "j1" (Asked gpu 1) 100 1
     ∷ cmt "g1" 3 "mkt" "j1" (Asked gpu 1) 100 1 ∷ [])
     ≡ Done ∷ Committed (container gpu 3 "g1" "eng" "j1" (Asked gpu 1) 100 1) ∷ Refused Stale ∷ Refused NotAccessible ∷ []
 unfolding opened
@@ -363,7 +363,7 @@ unfolding opened
 row-hundredths = refl
 
 -- a maximum that changes
-row-maximum : later c1 row5 (max_of etl gpu 8000 ∷ ask "eng" "e1" gpu 1 1 1000 1 ∷ prop "g1" ∷ cmt "g1" 4 "eng" "e1" (Asked gpu 1) 1000 1 ∷ use_of etl gpu
+row-maximum : later c1 leaf_grown (max_of etl gpu 8000 ∷ ask "eng" "e1" gpu 1 1 1000 1 ∷ prop "g1" ∷ cmt "g1" 4 "eng" "e1" (Asked gpu 1) 1000 1 ∷ use_of etl gpu
     ∷ max_of etl gpu 4000 ∷ use_of etl gpu ∷ ask "eng" "e1" gpu 1 1 100 1 ∷ hb "g1" ∷ cmt "g1" 5 "eng" "e1" (Asked gpu 1) 100 1 ∷ [])
     ≡ Done ∷ Done ∷ Proposed (Some (proposal "g1" 4 "eng" "e1" (Asked gpu 1) 1000 1))
     ∷ Committed (container gpu 5 "g1" "eng" "e1" (Asked gpu 1) 1000 1) ∷ uses 6000 6 3000 3 8000 8 1000 1 0 0 ∷ Done

@@ -43,9 +43,6 @@ module _ (c : Config) (s : State) (ordered : IsOrdered c s) (housed : IsHoused s
   names : Pairs (λ (a b : Node). a.name ≢ b.name) s.nodes
   names = pairs-weaker _ _ (λ a b off same. absurd (true≢false (sym (same-name_self a.name) ∙ ap (same_name a.name) same ∙ off))) s.nodes (pairs-unmap without_stamp (λ a b. same_name a.name b.name ≡ false) s.nodes apart)
 
-  ids : (p : Label) → Pairs (λ (a b : Container). a.id ≢ b.id) (containers_on s p)
-  ids p = pairs-weaker _ _ (λ a b less same. let clocks : a.id.clock ≡ b.id.clock = ap (λ id. id.clock) same in absurd (grind (arith, less, clocks))) (containers_on s p) (ordered.ids p).rising
-
   standing : (p : Label) → AllByRecursion (IsStanding s p) (containers_on s p)
   standing p = Each-with _ _ (IsStanding s p) (λ container own stands. stand container own.0 (node_of s container.node) (sym (tracked-is container.node s)) stands) (containers_on s p) (ordered.ids p).own (housed.standing p)
     where
@@ -63,7 +60,7 @@ module _ (c : Config) (s : State) (ordered : IsOrdered c s) (housed : IsHoused s
     clocks = ordered.clocks;
     stamps = all-of _ s.nodes (Each-weaker _ _ (λ node k. k.1) s.nodes ordered.stamps);
     names = pairs-of _ s.nodes names;
-    ids = λ p. pairs-of _ (containers_on s p) (ids p);
+    rising = λ p. pairs-of _ (containers_on s p) (ordered.ids p).rising;
     standing = λ p. all-of (IsStanding s p) (containers_on s p) (standing p);
     not_overfull = all-of _ s.nodes (Each-unmap without_stamp _ s.nodes housed.room);
   }

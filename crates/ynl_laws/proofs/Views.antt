@@ -16,7 +16,7 @@ use Rattle.ynl_model.specs.View.{view, events_of, places_of, at_places, is_sole,
 use Rattle.ynl_model.specs.Promises.{without_stamp}
 use Rattle.ynl_laws.proofs.Opened.{opened}
 use Rattle.ynl_laws.specs.Setups.{name, none, gpu, ssd, zzz, ml, etl, mkt, label_row, queue_row, share, config_of, c0, c1, c1_with, eng_row, ml_row, mkt_row, etl_row, reg, lost, hb, sub, ask, rel, fin, poll, use_of, prop, proposal, cmt, max_of, container, one, no_more, uses}
-use Rattle.ynl_laws.proofs.Rows.{row2, row4, row12, row14, c_one_app, c_limit_2, c_thirds, root_a}
+use Rattle.ynl_laws.proofs.Rows.{one_master, grown_to_limit, relabelled, finished, c_one_app, c_limit_2, c_thirds, root_a}
 
 -- the events and the places that eng and gpu have of a list, the replies there, and the replies of eng's own cluster to the view
 record Sees (c : Config) (events : List Event) (places : List ℕ) (kept : List Event) (answers : List Reply) : Type 0 where
@@ -26,42 +26,42 @@ record Sees (c : Config) (events : List Event) (places : List ℕ) (kept : List 
   own_replies_are : replies_to (restrict c (name "eng")) kept ≡ answers
 
 -- a node that is relabelled into the partition registers there, and one that is relabelled away is lost
-view-12 : Sees c1 (row12)
+view-relabelled : Sees c1 (relabelled)
     (1 ∷ 3 ∷ 4 ∷ 5 ∷ 6 ∷ [])
     (sub ml "x1" "ann" none 1000 1 ∷ reg "d1" gpu 10000 10 ∷ sub ml "j1" "bob" gpu 1000 1 ∷ hb "d1" ∷ lost "d1" ∷ [])
     (Done ∷ Done ∷ Done ∷ one (container gpu 2 "d1" "eng" "j1" Master 1000 1) ∷ Done ∷ [])
 unfolding opened
-view-12 = record { places_are = refl; events_are = refl; replies_are = refl; own_replies_are = refl }
+view-relabelled = record { places_are = refl; events_are = refl; replies_are = refl; own_replies_are = refl }
 
 -- another tenant is not seen
-view-14 : Sees c_one_app (row14)
+view-names : Sees c_one_app (finished)
     (0 ∷ 2 ∷ 3 ∷ 4 ∷ 5 ∷ 6 ∷ [])
     (sub ml "j1" "ann" none 100 1 ∷ sub ml "j2" "ann" gpu 100 1 ∷ sub etl "j1" "ann" gpu 100 1 ∷ fin "eng" "j1" ∷ sub ml "j2" "ann" gpu 100 1
     ∷ sub etl "j1" "ann" gpu 100 1 ∷ [])
     (Done ∷ Refused TooManyApplications ∷ Refused NameUsed ∷ Done ∷ Done ∷ Refused NameUsed ∷ [])
 unfolding opened
-view-14 = record { places_are = refl; events_are = refl; replies_are = refl; own_replies_are = refl }
+view-names = record { places_are = refl; events_are = refl; replies_are = refl; own_replies_are = refl }
 
 -- a spent clock
-view-15 : Sees c_limit_2 (row2 ++ hb "g1" ∷ prop "g1" ∷ cmt "g1" 2 "eng" "j9" (Asked gpu 1) 100 1 ∷ fin "eng" "j1" ∷ reg "g2" gpu 1 1 ∷ poll "eng" "j1" gpu ∷ [])
+view-spent : Sees c_limit_2 (one_master ++ hb "g1" ∷ prop "g1" ∷ cmt "g1" 2 "eng" "j9" (Asked gpu 1) 100 1 ∷ fin "eng" "j1" ∷ reg "g2" gpu 1 1 ∷ poll "eng" "j1" gpu ∷ [])
     (0 ∷ 1 ∷ 2 ∷ 3 ∷ 4 ∷ 5 ∷ 6 ∷ 7 ∷ 8 ∷ [])
     (reg "g1" gpu 10000 10 ∷ sub ml "j1" "ann" gpu 1000 1 ∷ hb "g1" ∷ hb "g1" ∷ prop "g1" ∷ cmt "g1" 2 "eng" "j9" (Asked gpu 1) 100 1
     ∷ fin "eng" "j1" ∷ reg "g2" gpu 1 1 ∷ poll "eng" "j1" gpu ∷ [])
     (Done ∷ Done ∷ one (container gpu 2 "g1" "eng" "j1" Master 1000 1) ∷ Refused ClockSpent ∷ Refused ClockSpent ∷ Refused ClockSpent ∷ Done ∷ Done
     ∷ Refused NoSuchApplication ∷ [])
 unfolding opened
-view-15 = record { places_are = refl; events_are = refl; replies_are = refl; own_replies_are = refl }
+view-spent = record { places_are = refl; events_are = refl; replies_are = refl; own_replies_are = refl }
 
 -- what a stranger commits on the partition is seen, and refused alike
-view-16 : Sees c1 (row2 ++ sub mkt "m1" "mia" ssd 100 1 ∷ cmt "g1" 2 "mkt" "m1" Master 100 1 ∷ rel "mkt" gpu 2 ∷ rel "eng" gpu 2 ∷ rel "eng" gpu 9 ∷ [])
+view-stranger : Sees c1 (one_master ++ sub mkt "m1" "mia" ssd 100 1 ∷ cmt "g1" 2 "mkt" "m1" Master 100 1 ∷ rel "mkt" gpu 2 ∷ rel "eng" gpu 2 ∷ rel "eng" gpu 9 ∷ [])
     (0 ∷ 1 ∷ 2 ∷ 4 ∷ 6 ∷ 7 ∷ [])
     (reg "g1" gpu 10000 10 ∷ sub ml "j1" "ann" gpu 1000 1 ∷ hb "g1" ∷ cmt "g1" 2 "mkt" "m1" Master 100 1 ∷ rel "eng" gpu 2 ∷ rel "eng" gpu 9 ∷ [])
     (Done ∷ Done ∷ one (container gpu 2 "g1" "eng" "j1" Master 1000 1) ∷ Refused NotAccessible ∷ Refused IsMaster ∷ Refused NoSuchContainer ∷ [])
 unfolding opened
-view-16 = record { places_are = refl; events_are = refl; replies_are = refl; own_replies_are = refl }
+view-stranger = record { places_are = refl; events_are = refl; replies_are = refl; own_replies_are = refl }
 
 -- forged proposals
-view-forged : Sees c1 (row2 ++ ask "eng" "j1" gpu 1 2 100 1 ∷ cmt "g1" 2 "eng" "j1" (Asked gpu 1) 100 1 ∷ cmt "g1" 2 "eng" "j1" (Asked gpu 1) 100 1
+view-forged : Sees c1 (one_master ++ ask "eng" "j1" gpu 1 2 100 1 ∷ cmt "g1" 2 "eng" "j1" (Asked gpu 1) 100 1 ∷ cmt "g1" 2 "eng" "j1" (Asked gpu 1) 100 1
     ∷ cmt "g1" 3 "mkt" "j1" (Asked gpu 1) 100 1 ∷ [])
     (0 ∷ 1 ∷ 2 ∷ 3 ∷ 4 ∷ 5 ∷ 6 ∷ [])
     (reg "g1" gpu 10000 10 ∷ sub ml "j1" "ann" gpu 1000 1 ∷ hb "g1" ∷ ask "eng" "j1" gpu 1 2 100 1 ∷ cmt "g1" 2 "eng" "j1" (Asked gpu 1) 100 1
@@ -72,7 +72,7 @@ unfolding opened
 view-forged = record { places_are = refl; events_are = refl; replies_are = refl; own_replies_are = refl }
 
 -- another tenant works elsewhere between the events
-view-13 : Sees c1 (reg "s1" ssd 4000 4 ∷ sub mkt "m0" "mia" ssd 100 1 ∷ hb "s1" ∷ ask "mkt" "m0" ssd 1 1 100 1 ∷ fin "mkt" "m0" ∷ reg "g1" gpu 10000 10
+view-elsewhere : Sees c1 (reg "s1" ssd 4000 4 ∷ sub mkt "m0" "mia" ssd 100 1 ∷ hb "s1" ∷ ask "mkt" "m0" ssd 1 1 100 1 ∷ fin "mkt" "m0" ∷ reg "g1" gpu 10000 10
     ∷ sub mkt "m1" "mia" ssd 100 1 ∷ hb "s1" ∷ ask "mkt" "m1" ssd 1 1 100 1 ∷ fin "mkt" "m1" ∷ sub ml "j1" "ann" gpu 1000 1
     ∷ sub mkt "m2" "mia" ssd 100 1 ∷ hb "s1" ∷ ask "mkt" "m2" ssd 1 1 100 1 ∷ fin "mkt" "m2" ∷ hb "g1" ∷ sub mkt "m3" "mia" ssd 100 1 ∷ hb "s1"
     ∷ ask "mkt" "m3" ssd 1 1 100 1 ∷ fin "mkt" "m3" ∷ sub ml "j2" "ann" gpu 1000 1 ∷ sub mkt "m4" "mia" ssd 100 1 ∷ hb "s1"
@@ -88,7 +88,7 @@ view-13 : Sees c1 (reg "s1" ssd 4000 4 ∷ sub mkt "m0" "mia" ssd 100 1 ∷ hb "
     ∷ one (container gpu 3 "g1" "eng" "j1" (Asked gpu 1) 2000 2) ∷ one (container gpu 4 "g1" "eng" "j1" (Asked gpu 1) 2000 2)
     ∷ one (container gpu 5 "g1" "eng" "j1" (Asked gpu 1) 2000 2) ∷ no_more ∷ [])
 unfolding opened
-view-13 = record { places_are = refl; events_are = refl; replies_are = refl; own_replies_are = refl }
+view-elsewhere = record { places_are = refl; events_are = refl; replies_are = refl; own_replies_are = refl }
 
 -- a tenant's own maxima are seen, and another's are not
 view-maximum : Sees c1 (max_of mkt none 5000 ∷ max_of mkt gpu 0 ∷ reg "g1" gpu 10000 10 ∷ max_of mkt none 5000 ∷ max_of mkt gpu 0 ∷ sub etl "e1" "ann" gpu 1000 1
@@ -133,9 +133,9 @@ unfolding opened
 sole-abc-gpu = refl
 
 -- the track of a list of events, and what is seen of the partition in both clusters
-track-12 : track c1 row12 ≡ map without_stamp (state_after c1 row12).nodes
+track-relabelled : track c1 relabelled ≡ map without_stamp (state_after c1 relabelled).nodes
 unfolding opened
-track-12 = refl
+track-relabelled = refl
 
 -- the view of a list, for eng and gpu
 abbrev small : List Event → List Event
@@ -146,17 +146,17 @@ record Looks (events : List Event) (is : Seen) : Type 0 where
   whole : seen (state_after c1 events) gpu ≡ is
   own : seen (state_after (restrict c1 (name "eng")) (small events)) gpu ≡ is
 
-looks-12 : Looks row12 (record { nodes = []; containers = []; clock = 2 })
+looks-relabelled : Looks relabelled (record { nodes = []; containers = []; clock = 2 })
 unfolding opened
-looks-12 = record { whole = refl; own = refl }
+looks-relabelled = record { whole = refl; own = refl }
 
-looks-4 : Looks row4 (record {
+looks-grown : Looks grown_to_limit (record {
   nodes = record { name = name "g1"; label = gpu; size = amount 10000 10; stamp = 5 } ∷ [];
   containers = container gpu 2 "g1" "eng" "j1" Master 1000 1 ∷ container gpu 3 "g1" "eng" "j1" (Asked gpu 1) 2000 2 ∷ container gpu 4 "g1" "eng" "j1" (Asked gpu 1) 2000 2 ∷ container gpu 5 "g1" "eng" "j1" (Asked gpu 1) 2000 2 ∷ [];
   clock = 5;
 })
 unfolding opened
-looks-4 = record { whole = refl; own = refl }
+looks-grown = record { whole = refl; own = refl }
 
 -- which configurations are accepted
 accepted-c0 : is_accepted c0 ≡ true

@@ -1,9 +1,9 @@
 -- No allocation takes a queue above its maximum, and only a node that leaves or a lowered maximum can bring a queue above it.
-use Rattle.std.proofs.Common.{◌≡◌, ◌⊎◌, inl, inr, ℕ, zero, suc, ◌+◌, ◌*◌, ◌≤◌, ◌<◌, Bool, true, false, cond, not, ◌&&◌, List, [], ◌∷◌, ◌++◌, map, length, take, Option, Some, None, is_some, filter, find, fold, refl, sym, ap, subst, ◌∙◌, arith, append-nil}
-use Rattle.std.specs.Prelude.{IfSome, IsTrue}
+use Rattle.std.proofs.Common.{◌≡◌, ◌≢◌, ◌⊎◌, inl, inr, ℕ, zero, suc, ◌+◌, ◌*◌, ◌≤◌, ◌<◌, Bool, true, false, cond, not, ◌&&◌, List, [], ◌∷◌, ◌++◌, map, length, take, Option, Some, None, is_some, option_map, filter, find, fold, refl, sym, ap, subst, ◌∙◌, arith, append-nil, le_refl, le_trans}
+use Rattle.std.specs.Prelude.{IfSome, nat_lt, if◌then◌else◌}
 use Rattle.std.specs.List.{list_all}
 use Rattle.std.specs.Option.{option_map_or}
-use Rattle.std.proofs.Math.Nat.{mul-le-mul_right}
+use Rattle.std.proofs.Math.Nat.{mul-le-mul_left, mul-le-mul_right}
 use Rattle.std.proofs.lemmas.Bool.Decides.{nat_tests}
 use Rattle.std.specs.Cmp.Lexicographic.{bytes_decides}
 use mathlib.Core.Bool.{true≢false}
@@ -14,7 +14,6 @@ use Rattle.ynl_resource.specs.declared.names.Name.{Name}
 use Rattle.ynl_resource.specs.declared.labels.Label.{Label}
 use Rattle.ynl_resource.specs.declared.paths.Path.{Path}
 use Rattle.ynl_resource.specs.Tables.{update}
-use Rattle.ynl_resource.specs.Refusals.{first_that_holds}
 use Rattle.ynl_model.specs.Nodes.{nodes_of, total as total_on, joined, left, is_at}
 use Rattle.ynl_model.specs.declared.nodes.Node.{Node}
 use Rattle.ynl_model.specs.Queues.{Config, is_maximum_of, MaximumRow, maximum_on, set_maximum, nested_floor, maximum as maximum_of}
@@ -28,11 +27,11 @@ use Rattle.ynl_model.specs.Check.{proposed_item}
 use Rattle.ynl_model.specs.Events.{Outcome, where_there, container_at, container_for, home_of, accepted, reasons, step, after, state_after}
 use Rattle.ynl_model.specs.declared.events.Event.{Event}
 use Rattle.ynl_model.specs.declared.events.Event.TheVariants.{Register, Lost, Relabel, Heartbeat, Exited, Submit, Ask, Release, Finish, Stop, Start, Poll, Usage, Propose, Commit, Maximum}
-use Rattle.ynl_model.specs.Promises.{without_stamp, KeepsMaximum, IsNeverOver, LowersMaximum, IsOnlyLoweredInto}
+use Rattle.ynl_model.specs.Promises.{without_stamp, KeepsMaximum, IsNeverOver, IsUnrefused, LowersMaximum, IsOnlyLoweredInto}
 use Rattle.ynl_laws.specs.Working.{IsKnown, UsesAll, Kept}
-use Rattle.ynl_laws.proofs.Restricted.{left-true, right-true, and-true, fold-same, same-path, same-name_sym, same-label_path}
+use Rattle.ynl_laws.proofs.Restricted.{left-true, right-true, and-true, fold-same, same-path, same-name_sym, same-label_path, same-label_self}
 use Rattle.ynl_laws.proofs.Tracked.{filter-map, Same, place-same, end-same}
-use Rattle.ynl_laws.proofs.Lists.{all-map-is, not-true, filter-agree, filter-swap, filter-filter, filter-last}
+use Rattle.ynl_laws.proofs.Lists.{all-map-is, find-through, found-passes, not-true, filter-agree, filter-swap, filter-filter, filter-last}
 use Rattle.ynl_laws.proofs.Sums.{fits-refl, fits-trans, fits-filter, total-append}
 use Rattle.ynl_laws.proofs.Kept.{KeepsNames, Extends, kept-on, by-row, submit-extends, leaf-extends, with_app-names, finished-names}
 use Rattle.ynl_laws.proofs.Chosen.{Fits, commit-fits, none-holds}
@@ -90,15 +89,23 @@ total-places nodes p = sym (ap (total_of (λ node. node.size)) (filter-map witho
 total-same : (s u : State) (p : Label) → Same s u → total_on u.nodes p ≡ total_on s.nodes p
 total-same s u p same = total-places u.nodes p ∙ ap (λ nodes. total_of (λ node. node.size) (filter (λ node. same_label node.label p) nodes)) same ∙ sym (total-places s.nodes p)
 
-floor-more : (a b : Resource) (share : ℕ) → fits_in a b ≡ true → fits_in (scale_floor a share whole) (scale_floor b share whole) ≡ true
-floor-more a b share h =
-    let memory : a.memory * share ≤ b.memory * share = mul-le-mul_right share (grind (arith, nat_tests)) in
-    let vcores : a.vcores * share ≤ b.vcores * share = mul-le-mul_right share (grind (arith, nat_tests)) in
+floor-more : (a b : Resource) (less more : ℕ) → less ≤ more → fits_in a b ≡ true → fits_in (scale_floor a less whole) (scale_floor b more whole) ≡ true
+floor-more a b less more up h =
+    let memory : a.memory * less ≤ b.memory * more = le_trans (mul-le-mul_right less (memories h)) (mul-le-mul_left b.memory up) in
+    let vcores : a.vcores * less ≤ b.vcores * more = le_trans (mul-le-mul_right less (cores h)) (mul-le-mul_left b.vcores up) in
     grind (arith, nat_tests, memory, vcores)
+  where
+    memories : fits_in a b ≡ true → a.memory ≤ b.memory
+    memories h = grind (arith, nat_tests)
 
-nested-more : (share : Path → ℕ) (way : List Path) (a b : Resource) → fits_in a b ≡ true → fits_in (fold (λ above step. scale_floor above (share step) whole) a way) (fold (λ above step. scale_floor above (share step) whole) b way) ≡ true
-nested-more share [] a b h = h
-nested-more share (queue ∷ way) a b h = nested-more share way _ _ (floor-more a b (share queue) h)
+    cores : fits_in a b ≡ true → a.vcores ≤ b.vcores
+    cores h = grind (arith, nat_tests)
+
+-- more at root, and shares that do not fall, come to more
+nested-more : (old new : Path → ℕ) → ((queue : Path) → old queue ≤ new queue) → (way : List Path) (a b : Resource) → fits_in a b ≡ true →
+    fits_in (fold (λ above step. scale_floor above (old step) whole) a way) (fold (λ above step. scale_floor above (new step) whole) b way) ≡ true
+nested-more old new up [] a b h = h
+nested-more old new up (queue ∷ way) a b h = nested-more old new up way _ _ (floor-more a b (old queue) (new queue) (up queue) h)
 
 -- the maximum of a queue does not fall
 abbrev NoLower : State → State → Path → Label → Type 0
@@ -108,7 +115,7 @@ maximum-more : (s u : State) (queue : Path) (p : Label) → u.maxima ≡ s.maxim
 unfolding maximum maximum_of
 maximum-more s u queue p same more =
     subst (λ maxima. fits_in (nested_floor (λ step. maximum_on s.maxima step p) queue (total_on s.nodes p)) (nested_floor (λ step. maximum_on maxima step p) queue (total_on u.nodes p)) ≡ true) (sym same)
-    (nested-more (λ step. maximum_on s.maxima step p) (way_to queue) _ _ more)
+    (nested-more (λ step. maximum_on s.maxima step p) (λ step. maximum_on s.maxima step p) (λ step. le_refl (maximum_on s.maxima step p)) (way_to queue) _ _ more)
 
 maximum-stays : (s u : State) (queue : Path) (p : Label) → u.maxima ≡ s.maxima → Same s u → NoLower s u queue p
 maximum-stays s u queue p same nodes = maximum-more s u queue p same (subst (λ total. fits_in (total_on s.nodes p) total ≡ true) (sym (total-same s u p nodes)) (fits-refl (total_on s.nodes p)))
@@ -309,34 +316,76 @@ unfolding maximum maximum_of
 set-stays s above queue label p share off =
     fold-same (λ step. is_within step queue) _ _ (λ amount step below. ap (λ part. scale_floor amount part whole) (set-other above step queue label p share s.maxima off below)) (way_to queue) (way-above queue) (total_on s.nodes p)
 
+-- a maximum that is not set lower leaves no maximum lower
+set-rises : (above step : Path) (label p : Label) (share : ℕ) (maxima : List MaximumRow) → maximum_on maxima above label ≤ share → maximum_on maxima step p ≤ maximum_on (set_maximum above label share maxima) step p
+unfolding maximum_on
+set-rises above step label p share maxima up =
+    subst (λ found. option_map_or (λ row. row.share) (find (is_maximum_of step p) maxima) 0 ≤ option_map_or (λ row. row.share) found 0)
+    (sym (find-through at (is_maximum_of step p) (λ row. by row (is_maximum_of above label row)) maxima))
+    (go (find (is_maximum_of step p) maxima) refl (found-passes (is_maximum_of step p) maxima))
+  where
+    at : MaximumRow → MaximumRow
+    at row = if is_maximum_of above label row then record row { share = share } else row
+
+    by : (row : MaximumRow) (b : Bool) → is_maximum_of step p (cond b (record row { share = share }) row) ≡ is_maximum_of step p row
+    by row true = refl
+    by row false = refl
+
+    -- a row that is set is the one that is found
+    same : (row : MaximumRow) → find (is_maximum_of step p) maxima ≡ Some row → is_maximum_of step p row ≡ true → is_maximum_of above label row ≡ true → row.share ≤ share
+    same row e found set =
+        let queues : above ≡ step = sym (same-path row.queue above (left-true _ _ set)) ∙ same-path row.queue step (left-true _ _ found) in
+        let labels : label ≡ p = sym (same-label_path row.label label (right-true (same_path row.queue above) _ set)) ∙ same-label_path row.label p (right-true (same_path row.queue step) _ found) in
+        subst (λ n. n ≤ share) ((λ i. option_map_or (λ row. row.share) (find (is_maximum_of (queues i) (labels i)) maxima) 0) ∙ ap (λ o. option_map_or (λ row. row.share) o 0) e) up
+
+    go : (o : Option MaximumRow) → find (is_maximum_of step p) maxima ≡ o → IfSome o (λ row. is_maximum_of step p row ≡ true) → option_map_or (λ row. row.share) o 0 ≤ option_map_or (λ row. row.share) (option_map at o) 0
+    go None e found = le_refl 0
+    go (Some row) e found = by-set (is_maximum_of above label row) refl
+      where
+        by-set : (b : Bool) → is_maximum_of above label row ≡ b → row.share ≤ (cond b (record row { share = share }) row).share
+        by-set true set = same row e found set
+        by-set false set = le_refl row.share
+
+set-more : (s : State) (above queue : Path) (label p : Label) (share : ℕ) → maximum_on s.maxima above label ≤ share → NoLower s (record s { maxima = set_maximum above label share s.maxima }) queue p
+unfolding maximum maximum_of
+set-more s above queue label p share up =
+    nested-more (λ step. maximum_on s.maxima step p) (λ step. maximum_on (set_maximum above label share s.maxima) step p) (λ step. set-rises above step label p share s.maxima up) (way_to queue) _ _ (fits-refl (total_on s.nodes p))
+
 -- ---- each event
 
--- the event is quiet for the queue, or it may lower its maximum and does not raise its use
-abbrev Allowed : State → State → Event → Path → Label → Type 0
-Allowed s u event queue p = Quiet s u queue p ⊎ (NoMoreUsed s u queue p × LowersMaximum s event queue p)
+-- the event is quiet for the queue, or it is not refused, may lower the queue's maximum, and does not raise its use
+abbrev Allowed : Config → State → State → Event → Path → Label → Type 0
+Allowed c s u event queue p = Quiet s u queue p ⊎ (NoMoreUsed s u queue p × IsUnrefused c s event × LowersMaximum s event queue p)
 
 there : {X : Type 0} (P : State → Type 0) (found : Option X) (s : State) (f : X → Outcome) → P s → ((x : X) → found ≡ Some x → P (f x).state) → P (where_there found s f).state
 there P None s f h step = h
 there P (Some x) s f h step = step x refl
 
-accepted-allowed : (c : Config) (s : State) (event : Event) (queue : Path) (p : Label) → Kept s → first_that_holds (reasons c s event) ≡ None → Allowed s (accepted c s event).state event queue p
+accepted-allowed : (c : Config) (s : State) (event : Event) (queue : Path) (p : Label) → Kept s → IsUnrefused c s event → Allowed c s (accepted c s event).state event queue p
 unfolding accepted reasons
 accepted-allowed c s (Register name label size) queue p h none = inl (joins-quiet c name label size s queue p h)
 accepted-allowed c s (Lost name) queue p h none =
-    there (λ u. Allowed s u (Lost name) queue p) (node_of s name) s _ (inl (quiet-self s queue p)) (λ node e. go node e (same_label node.label p) refl)
+    there (λ u. Allowed c s u (Lost name) queue p) (node_of s name) s _ (inl (quiet-self s queue p)) (λ node e. go node e (same_label node.label p) refl)
   where
-    go : (node : Node) → node_of s name ≡ Some node → (b : Bool) → same_label node.label p ≡ b → Allowed s (node_leaves node s) (Lost name) queue p
-    go node e true f = inr (leaves-falls node s queue p h, subst (λ o. IfSome o (λ node. IsTrue (same_label node.label p))) (sym e) f)
+    go : (node : Node) → node_of s name ≡ Some node → (b : Bool) → same_label node.label p ≡ b → Allowed c s (node_leaves node s) (Lost name) queue p
+    go node e true f = inr (leaves-falls node s queue p h, none, (node, e, same-label_path node.label p f))
     go node e false f = inl (leaves-quiet node s queue p h f)
 accepted-allowed c s (Relabel name label) queue p h none =
-    there (λ u. Allowed s u (Relabel name label) queue p) (node_of s name) s _ (inl (quiet-self s queue p)) (λ node e. go node e (same_label node.label p) refl)
+    there (λ u. Allowed c s u (Relabel name label) queue p) (node_of s name) s _ (inl (quiet-self s queue p)) (λ node e. go node e (same_label node.label p) refl)
   where
-    go : (node : Node) → node_of s name ≡ Some node → (b : Bool) → same_label node.label p ≡ b → Allowed s (node_joins c name label node.size (node_leaves node s)) (Relabel name label) queue p
+    -- it goes to another label
+    moves : (node : Node) → node_of s name ≡ Some node → node.label ≡ p → label ≢ p
+    moves node e at to = absurd (true≢false (sym (same-label_self p) ∙ (λ i. same_label (sym at i) (sym to i)) ∙ (λ i. option_map_or (λ other. same_label other.label label) (sym e i) false)
+        ∙ (none-holds (reasons c s (Relabel name label)) none).1.1.0))
+
+    go : (node : Node) → node_of s name ≡ Some node → (b : Bool) → same_label node.label p ≡ b → Allowed c s (node_joins c name label node.size (node_leaves node s)) (Relabel name label) queue p
     go node e true f =
+        let at : node.label ≡ p = same-label_path node.label p f in
         inr (
           fits-trans (used (node_joins c name label node.size (node_leaves node s)) queue p) (used (node_leaves node s) queue p) (used s queue p)
               (joins-falls c name label node.size (node_leaves node s) queue p (kept-leaves node s h)) (leaves-falls node s queue p h),
-          subst (λ o. IfSome o (λ node. IsTrue (same_label node.label p))) (sym e) f,
+          none,
+          ((node, e, at), moves node e at),
         )
     go node e false f = inl (quiet-then s (node_leaves node s) (node_joins c name label node.size (node_leaves node s)) queue p (leaves-quiet node s queue p h f)
         (joins-quiet c name label node.size (node_leaves node s) queue p (kept-leaves node s h)))
@@ -359,28 +408,35 @@ accepted-allowed c s (Commit proposal) queue p h none =
     inl (there (λ u. Quiet s u queue p) (node_of s proposal.node) s _ (quiet-self s queue p)
     (λ node e. there (λ u. Quiet s u queue p) (find_app s.leaves proposal.tenant proposal.app) s _ (quiet-self s queue p)
     (λ app f. place-quiet c node (proposed_item proposal app) s queue p h (commit-fits c s proposal node app h none e f))))
-accepted-allowed c s (Maximum above label share) queue p h none = go (same_label label p && is_within above queue) refl
+accepted-allowed c s (Maximum above label share) queue p h none = go (same_label label p && is_within above queue) (nat_lt share (maximum_on s.maxima above label)) refl refl
   where
     falls : NoMoreUsed s (record s { maxima = set_maximum above label share s.maxima }) queue p
     falls = use-falls s (record s { maxima = set_maximum above label share s.maxima }) queue p h (same-leaves s.leaves) (fewer-same (containers_on s p))
 
-    go : (b : Bool) → (same_label label p && is_within above queue) ≡ b → Allowed s (record s { maxima = set_maximum above label share s.maxima }) (Maximum above label share) queue p
-    go true f = inr (falls, (left-true _ _ f, right-true (same_label label p) _ f))
-    go false f = inl (inl (falls, subst (λ most. fits_in (maximum s queue p) most ≡ true) (sym (set-stays s above queue label p share f)) (fits-refl (maximum s queue p))))
+    -- where another maximum is set, or this one not lower, the queue's does not fall
+    stays : NoLower s (record s { maxima = set_maximum above label share s.maxima }) queue p → Allowed c s (record s { maxima = set_maximum above label share s.maxima }) (Maximum above label share) queue p
+    stays up = inl (inl (falls, up))
 
-step-allowed : (c : Config) (s : State) (event : Event) (queue : Path) (p : Label) → Kept s → Allowed s (step c s event).state event queue p
-step-allowed c s event queue p h = step-cases (λ u. Allowed s u event queue p) c s event (inl (quiet-self s queue p)) (accepted-allowed c s event queue p h)
+    go : (b d : Bool) → (same_label label p && is_within above queue) ≡ b → nat_lt share (maximum_on s.maxima above label) ≡ d → Allowed c s (record s { maxima = set_maximum above label share s.maxima }) (Maximum above label share) queue p
+    go false d f g = stays (subst (λ most. fits_in (maximum s queue p) most ≡ true) (sym (set-stays s above queue label p share f)) (fits-refl (maximum s queue p)))
+    go true false f g = stays (set-more s above queue label p share (grind (arith, nat_tests, g)))
+    go true true f g =
+        let at : label ≡ p = same-label_path label p (left-true _ _ f) in
+        inr (falls, none, (at, right-true (same_label label p) _ f, subst (λ l. share < maximum_on s.maxima above l) at (grind (arith, nat_tests, g))))
+
+step-allowed : (c : Config) (s : State) (event : Event) (queue : Path) (p : Label) → Kept s → Allowed c s (step c s event).state event queue p
+step-allowed c s event queue p h = step-cases (λ u. Allowed c s u event queue p) c s event (inl (quiet-self s queue p)) (accepted-allowed c s event queue p h)
 
 -- ---- runs
 
-allowed-keeps : (s u : State) (event : Event) (queue : Path) (p : Label) → Allowed s u event queue p → KeepsMaximum s u queue p
-allowed-keeps s u event queue p (inl (inl quiet)) rose = absurd (true≢false (sym quiet.0 ∙ rose))
-allowed-keeps s u event queue p (inl (inr within)) rose = within
-allowed-keeps s u event queue p (inr lowered) rose = absurd (true≢false (sym lowered.0 ∙ rose))
+allowed-keeps : (c : Config) (s u : State) (event : Event) (queue : Path) (p : Label) → Allowed c s u event queue p → KeepsMaximum s u queue p
+allowed-keeps c s u event queue p (inl (inl quiet)) rose = absurd (true≢false (sym quiet.0 ∙ rose))
+allowed-keeps c s u event queue p (inl (inr within)) rose = within
+allowed-keeps c s u event queue p (inr lowered) rose = absurd (true≢false (sym lowered.0 ∙ rose))
 
 never-over : (c : Config) (events : List Event) (s : State) (p : Label) → Kept s → (k : ℕ) (queue : Path) → k < length events → KeepsMaximum (after c s (take k events)) (after c s (take (suc k) events)) queue p
 never-over c [] s p h k queue below = absurd (grind (arith, below))
-never-over c (event ∷ events) s p h zero queue below = allowed-keeps s (step c s event).state event queue p (step-allowed c s event queue p h)
+never-over c (event ∷ events) s p h zero queue below = allowed-keeps c s (step c s event).state event queue p (step-allowed c s event queue p h)
 never-over c (event ∷ events) s p h (suc k) queue below = never-over c events (step c s event).state p (step-keeps c s event h) k queue (grind (arith, below))
 
 pub is_never_over : IsNeverOver
@@ -388,11 +444,11 @@ is_never_over c events p k queue below =
     let next : suc k ≡ k + 1 = grind (arith) in
     subst (λ j. KeepsMaximum (state_after c (take k events)) (state_after c (take j events)) queue p) next (never-over c events (opening c) p (kept-opening c) k queue below)
 
-allowed-lowers : (s u : State) (event : Event) (queue : Path) (p : Label) → Allowed s u event queue p → fits_in (used s queue p) (maximum s queue p) ≡ true → fits_in (used u queue p) (maximum u queue p) ≡ false → LowersMaximum s event queue p
-allowed-lowers s u event queue p (inl (inl quiet)) before over =
+allowed-lowers : (c : Config) (s u : State) (event : Event) (queue : Path) (p : Label) → Allowed c s u event queue p → fits_in (used s queue p) (maximum s queue p) ≡ true → fits_in (used u queue p) (maximum u queue p) ≡ false → IsUnrefused c s event × LowersMaximum s event queue p
+allowed-lowers c s u event queue p (inl (inl quiet)) before over =
     absurd (true≢false (sym (fits-trans (used u queue p) (used s queue p) (maximum u queue p) quiet.0 (fits-trans (used s queue p) (maximum s queue p) (maximum u queue p) before quiet.1)) ∙ over))
-allowed-lowers s u event queue p (inl (inr within)) before over = absurd (true≢false (sym within ∙ over))
-allowed-lowers s u event queue p (inr lowered) before over = lowered.1
+allowed-lowers c s u event queue p (inl (inr within)) before over = absurd (true≢false (sym within ∙ over))
+allowed-lowers c s u event queue p (inr lowered) before over = (lowered.1, lowered.2)
 
 pub after-last : (c : Config) (events : List Event) (event : Event) (s : State) → after c s (events ++ event ∷ []) ≡ (step c (after c s events) event).state
 after-last c [] event s = refl
@@ -400,5 +456,5 @@ after-last c (first ∷ events) event s = after-last c events event (step c s fi
 
 pub is_only_lowered_into : IsOnlyLoweredInto
 is_only_lowered_into c events event queue p before over =
-    allowed-lowers (state_after c events) (step c (state_after c events) event).state event queue p (step-allowed c (state_after c events) event queue p (after-keeps c events (opening c) (kept-opening c))) before
+    allowed-lowers c (state_after c events) (step c (state_after c events) event).state event queue p (step-allowed c (state_after c events) event queue p (after-keeps c events (opening c) (kept-opening c))) before
     (subst (λ u. fits_in (used u queue p) (maximum u queue p) ≡ false) (after-last c events event (opening c)) over)

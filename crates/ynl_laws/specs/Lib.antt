@@ -9,3 +9,4 @@ pub mod Entitled
 pub mod Finishing
 pub mod Proposed
 pub mod Replies
+pub mod Untied

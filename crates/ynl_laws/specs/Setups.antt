@@ -1,4 +1,4 @@
--- The two configurations of the rows, and short words for events and replies.
+-- Two configurations, and short words for events and replies.
 use Rattle.std.specs.Prelude.{ℕ, Bool, true, false, List, [], ◌∷◌, codes, Some}
 use Prim.Native.String.{String}
 use Rattle.ynl_resource.specs.Amounts.{amount}
@@ -17,6 +17,7 @@ use Rattle.ynl_model.specs.declared.replies.Pending.{Pending}
 use Rattle.ynl_model.specs.declared.replies.Reply.{Reply}
 use Rattle.ynl_model.specs.declared.replies.Reply.TheVariants.{Placed, Usage as UsageOf}
 
+-- the name that a text is
 abbrev pub name : String → Name
 name = codes
 
@@ -49,6 +50,7 @@ mkt = name "mkt" ∷ []
 abbrev pub nope : Path
 nope = name "nope" ∷ []
 
+-- the row of a label, whose clock may go as far as an id's number does
 abbrev pub label_row : String → Bool → LabelRow
 label_row text exclusive = record { name = name text; exclusive = exclusive; limit = 9007199254740991 }
 
@@ -68,9 +70,11 @@ queue_row path capacity access shares = record {
   shares = shares;
 }
 
+-- a share of a partition: the capacity and the maximum, in hundredths of a percent
 abbrev pub share : String → ℕ → ℕ → Share
 share text capacity maximum = record { label = name text; capacity = capacity; maximum = maximum }
 
+-- a configuration with these labels and queues, where a heartbeat places at most one container
 abbrev pub config_of : List LabelRow → List QueueRow → Config
 config_of labels queues = record {
   labels = record { rows = labels; default_limit = 9007199254740991 };
@@ -83,6 +87,7 @@ config_of labels queues = record {
 abbrev pub c0 : Config
 c0 = config_of (label_row "gpu" true ∷ []) (queue_row eng 10000 Inherited (share "gpu" 10000 10000 ∷ []) ∷ [])
 
+-- these are the rows of the queues that the second configuration has
 abbrev pub eng_row : QueueRow
 eng_row = queue_row eng 6000 (Listed (name "gpu" ∷ [])) (share "gpu" 10000 10000 ∷ [])
 
@@ -99,11 +104,13 @@ mkt_row = record (queue_row mkt 4000 (Listed (name "ssd" ∷ [])) (share "ssd" 1
 abbrev pub c1_with : LabelRow → QueueRow → QueueRow → Config
 c1_with gpu_label eng_queue ml_queue = config_of (gpu_label ∷ label_row "ssd" false ∷ []) (eng_queue ∷ ml_queue ∷ etl_row ∷ mkt_row ∷ [])
 
+-- the same with the rows above, and gpu exclusive
 abbrev pub c1 : Config
 c1 = c1_with (label_row "gpu" true) eng_row ml_row
 
 -- ---- events
 
+-- these are the events of each kind, with texts for names and two numbers for a size
 abbrev pub reg : String → Label → ℕ → ℕ → Event
 reg node label memory vcores = Register (name node) label (amount memory vcores)
 
@@ -146,6 +153,7 @@ use_of queue label = Usage queue label
 abbrev pub prop : String → Event
 prop node = Propose (name node)
 
+-- a proposal, in the same short words
 abbrev pub proposal : String → ℕ → String → String → What → ℕ → ℕ → Proposal
 proposal node stamp tenant app what memory vcores =
     record { node = name node; stamp = stamp; tenant = name tenant; app = name app; what = what; size = amount memory vcores }
@@ -158,6 +166,7 @@ max_of queue label maximum = Maximum queue label maximum
 
 -- ---- replies
 
+-- a container: its id by the label and the number, and texts for names
 abbrev pub container : Label → ℕ → String → String → String → What → ℕ → ℕ → Container
 container label clock node tenant app what memory vcores = record {
   id = record { label = label; clock = clock };
@@ -175,8 +184,10 @@ one c = Placed (c ∷ [])
 abbrev pub no_more : Reply
 no_more = Placed []
 
+-- a usage's answer: memory and virtual cores of what is used, guaranteed, the maximum, masters and guests
 abbrev pub uses : ℕ → ℕ → ℕ → ℕ → ℕ → ℕ → ℕ → ℕ → ℕ → ℕ → Reply
 uses um uv gm gv xm xv mm mv hm hv = UsageOf (amount um uv) (amount gm gv) (amount xm xv) (amount mm mv) (amount hm hv)
 
+-- what is still asked for at a priority: how many containers, and the size of each
 abbrev pub pends : ℕ → ℕ → ℕ → ℕ → Pending
 pends priority count memory vcores = record { priority = priority; count = count; size = amount memory vcores }

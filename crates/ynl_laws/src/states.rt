@@ -6,8 +6,9 @@ ghost use Rattle.ynl_laws.specs.Refused.{RefusalChangesNothing};
 ghost use Rattle.ynl_laws.specs.Replies.{AreHeartbeatsBounded};
 ghost use Rattle.ynl_model.specs.Promises.{IsAlwaysSound, HasOneReplyEach};
 
-/// Whatever events come, clocks and stamps are within their limits, nodes and ids differ, containers
-/// stand on nodes that are there, and no node is overfull.
+/// Whatever events come, clocks and stamps are within their limits, nodes differ, the ids of the
+/// containers on a partition rise in the order in which they are listed, so that no two are the same,
+/// containers stand on nodes that are there, and no node is overfull.
 pub fn every_state_is_sound()
     ensures { IsAlwaysSound }
 {}
