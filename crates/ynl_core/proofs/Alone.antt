@@ -16,8 +16,8 @@ use Rattle.ynl_laws.proofs.Isolated.{is_isolated}
 use Rattle.ynl_core.specs.declared.runs.Answer.{Answer}
 use Rattle.ynl_core.specs.declared.runs.Answer.TheVariants.{Replied, NoMemory}
 use Rattle.ynl_core.specs.World.{World}
-use Rattle.ynl_core.specs.Runs.{kept, replied, IsRun}
-use Rattle.ynl_core.specs.Isolated.{has_reply, AreIsolated}
+use Rattle.ynl_core.specs.Runs.{has_reply, kept, replied, IsRun}
+use Rattle.ynl_core.specs.Isolated.{AreIsolated}
 
 -- where all are answered, all are kept
 all_kept : (es : List Event) (rest : List Answer) → length rest ≡ length es → list_all has_reply rest ≡ true → kept es rest ≡ es

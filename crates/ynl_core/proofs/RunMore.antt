@@ -1,5 +1,5 @@
 -- One more event of a run.
-use Rattle.std.proofs.Common.{◌≡◌, List, [], ◌∷◌, ◌++◌, length, refl, sym, ap, ◌∙◌, arith, length-append}
+use Rattle.std.proofs.Common.{◌≡◌, List, [], ◌∷◌, ◌++◌, length, IsTrue, refl, sym, ap, subst, ◌∙◌, arith, length-append}
 use Rattle.ynl_model.specs.declared.events.Event.{Event}
 use Rattle.ynl_model.specs.declared.replies.Reply.{Reply}
 use Rattle.ynl_core.specs.declared.runs.Answer.{Answer}
@@ -7,8 +7,9 @@ use Rattle.ynl_core.specs.declared.runs.Answer.TheVariants.{Replied, NoMemory}
 use Rattle.ynl_model.specs.Queues.{Config}
 use Rattle.ynl_model.specs.Cluster.{State, opening}
 use Rattle.ynl_model.specs.Events.{step, replies, after, replies_to, state_after}
-use Rattle.ynl_core.specs.World.{World}
-use Rattle.ynl_core.specs.Runs.{Answered, kept, replied, IsRun}
+use Rattle.ynl_core.specs.World.{World, opened}
+use Rattle.ynl_core.specs.Sure.{takes_no_memory}
+use Rattle.ynl_core.specs.Runs.{Answered, has_reply, kept, replied, left_by, AreSure, IsRun}
 
 kept_replied : (es : List Event) (rest : List Answer) (e : Event) (r : Reply) → length rest ≡ length es → kept (es ++ e ∷ []) (rest ++ Replied r ∷ []) ≡ kept es rest ++ e ∷ []
 kept_replied [] [] e r n = refl
@@ -64,3 +65,29 @@ run_more c es rest old new e NoMemory i h =
       told = replied_same rest ∙ i.told ∙ ap (replies_to c) (sym k);
       left = h ∙ i.left ∙ ap (λ zs. world c (state_after c zs)) (sym k);
     }
+
+-- the cluster that some events leave
+abbrev left_after : World → List Event → List Answer → World
+left_after w [] rest = w
+left_after w (e ∷ es) [] = w
+left_after w (e ∷ es) (a ∷ rest) = left_after (left_by w e a) es rest
+
+left_kept : (c : Config) (s : State) (es : List Event) (rest : List Answer) → left_after (world c s) es rest ≡ world c (after c s (kept es rest))
+left_kept c s [] rest = refl
+left_kept c s (e ∷ es) [] = refl
+left_kept c s (e ∷ es) (Replied r ∷ rest) = left_kept c (step c s e).state es rest
+left_kept c s (e ∷ es) (NoMemory ∷ rest) = left_kept c s es rest
+
+sure_push : (w : World) (es : List Event) (rest : List Answer) (e : Event) (a : Answer) → length rest ≡ length es → AreSure w es rest
+    → (IsTrue (takes_no_memory (left_after w es rest) e) → IsTrue (has_reply a)) → AreSure w (es ++ e ∷ []) (rest ++ a ∷ [])
+sure_push w [] [] e a n h last = (last, tt)
+sure_push w [] (b ∷ rest) e a n h last = absurd (omega arith)
+sure_push w (x ∷ es) [] e a n h last = absurd (omega arith)
+sure_push w (x ∷ es) (b ∷ rest) e a n h last = (h.0, sure_push (left_by w x b) es rest e a (omega arith) h.1 last)
+
+-- one more event that is answered where it is sure to be
+pub sure_more : (c : Config) (es : List Event) (rest : List Answer) (old : World) (e : Event) (a : Answer) → IsRun c es rest old → AreSure (opened c) es rest
+    → (IsTrue (takes_no_memory old e) → IsTrue (has_reply a)) → AreSure (opened c) (es ++ e ∷ []) (rest ++ a ∷ [])
+sure_more c es rest old e a run h last =
+    sure_push (opened c) es rest e a run.each h
+    (subst (λ w. IsTrue (takes_no_memory w e) → IsTrue (has_reply a)) (run.left ∙ sym (left_kept c (opening c) es rest)) last)

@@ -9,6 +9,7 @@ use Rattle.ynl_core.specs.Resting.{AreResting}
 use Rattle.ynl_tables.specs.Tables.{state_of}
 use Rattle.ynl_core.specs.World.{World}
 
+-- the configuration that a core keeps, and the state that its tables stand for
 abbrev pub world_of : Inside → World
 world_of a = record { config = a.config; state = state_of a.tables }
 
@@ -17,5 +18,6 @@ pub record IsSound (c : Config) (s : State) (names : List Name) : Type 0 where
   pub working : IsWorking c s
   pub resting : AreResting c s names
 
+-- that is so of the state and the resting nodes that a core keeps
 abbrev pub IsWorkingCore : Inside → Type 0
 IsWorkingCore a = IsSound a.config (state_of a.tables) a.resting.items

@@ -1,5 +1,5 @@
 -- What a tenant gets of a run in which memory was never refused.
-use Rattle.std.specs.Prelude.{◌≡◌, Bool, true, false, IsTrue, List, map, Some}
+use Rattle.std.specs.Prelude.{◌≡◌, IsTrue, List, map, Some}
 use Rattle.std.specs.List.{list_all}
 use Rattle.ynl_resource.specs.declared.names.Name.{Name}
 use Rattle.ynl_resource.specs.declared.labels.Label.{Label}
@@ -10,13 +10,9 @@ use Rattle.ynl_model.specs.Events.{replies_to, state_after}
 use Rattle.ynl_model.specs.View.{view, events_of, places_of, at_places, is_sole, restrict, seen}
 use Rattle.ynl_model.specs.Promises.{LooksTheSame, NeverAllocatesOver}
 use Rattle.ynl_core.specs.declared.runs.Answer.{Answer}
-use Rattle.ynl_core.specs.declared.runs.Answer.TheVariants.{Replied, NoMemory}
+use Rattle.ynl_core.specs.declared.runs.Answer.TheVariants.{Replied}
+use Rattle.ynl_core.specs.Runs.{has_reply}
 use Rattle.ynl_core.specs.World.{World}
-
--- whether an event was answered by a reply
-abbrev pub has_reply : Answer → Bool
-has_reply (Replied r) = true
-has_reply NoMemory = false
 
 -- The answers at the places of the tenant's view are, one by one, the replies of the cluster that holds the tenant alone and is given
 -- only the view. In the end, and after each event, the partition looks as it does there. No allocation takes a queue above its

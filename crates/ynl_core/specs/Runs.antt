@@ -1,17 +1,23 @@
 -- A run: each event is one step, or memory was refused and nothing changed.
-use Rattle.std.specs.Prelude.{◌≡◌, List, [], ◌∷◌, length}
+use Rattle.std.specs.Prelude.{◌≡◌, Bool, true, false, IsTrue, List, [], ◌∷◌, length}
 use Rattle.ynl_model.specs.declared.events.Event.{Event}
 use Rattle.ynl_model.specs.declared.replies.Reply.{Reply}
 use Rattle.ynl_core.specs.declared.runs.Answer.{Answer}
 use Rattle.ynl_core.specs.declared.runs.Answer.TheVariants.{Replied, NoMemory}
 use Rattle.ynl_model.specs.Queues.{Config}
 use Rattle.ynl_model.specs.Events.{replies_to, state_after}
-use Rattle.ynl_core.specs.World.{World, Answers}
+use Rattle.ynl_core.specs.Sure.{takes_no_memory}
+use Rattle.ynl_core.specs.World.{World, Answers, stepped}
 
 -- an event was answered as the model does, or for want of memory nothing changed
 abbrev pub Answered : World → Event → World → Answer → Type 0
 Answered old e new (Replied r) = Answers old e new r
 Answered old e new NoMemory = new ≡ old
+
+-- whether an event was answered by a reply
+abbrev pub has_reply : Answer → Bool
+has_reply (Replied r) = true
+has_reply NoMemory = false
 
 -- the events that were answered by a reply
 abbrev pub kept : List Event → List Answer → List Event
@@ -31,3 +37,14 @@ pub record IsRun (c : Config) (events : List Event) (answers : List Answer) (cor
   pub each : length answers ≡ length events
   pub told : replied answers ≡ replies_to c (kept events answers)
   pub left : core ≡ record { config = c; state = state_after c (kept events answers) }
+
+-- the cluster after an event that was answered so
+abbrev pub left_by : World → Event → Answer → World
+left_by w e (Replied r) = stepped w e
+left_by w e NoMemory = w
+
+-- each event that takes no memory, in the cluster that those before it left, was answered by a reply
+abbrev pub AreSure : World → List Event → List Answer → Type 0
+AreSure w [] rest = Unit {0}
+AreSure w (e ∷ es) [] = Unit {0}
+AreSure w (e ∷ es) (a ∷ rest) = (IsTrue (takes_no_memory w e) → IsTrue (has_reply a)) × AreSure (left_by w e a) es rest

@@ -350,8 +350,10 @@ impl Core {
     }
 
     /// One event is one step of the model. Where memory is refused, nothing has changed; a refused
-    /// event changes nothing either. A refused event is answered whatever memory there is, and so is
-    /// one that ends, sets, takes back, or asks for use or a proposal.
+    /// event changes nothing either. An event that takes no memory is answered whatever memory there
+    /// is: one that is refused; one that ends something (`Lost`, `Exited`, `Release`, `Finish`), sets
+    /// it (`Stop`, `Start`, `Maximum`), or takes it back (`Ask` of count 0); and one that asks for use
+    /// or a proposal (`Usage`, `Propose`).
     pub fn apply(&mut self, event: Event) -> Result<Reply, NoMemory>
         ensures ok { IfOk result (λ reply. Answers self.old event self.new reply) }
         ensures err { OnErr result (self.new ≡ self.old) }

@@ -1,8 +1,10 @@
 //! Runs over lists of events.
 
-ghost use Rattle.std.specs.Prelude.{IfOk};
+ghost use Rattle.std.specs.Prelude.{IfOk, IsTrue};
 ghost use Rattle.ynl_core.specs.Isolated.{AreIsolated};
-ghost use Rattle.ynl_core.specs.Runs.{Answered, IsRun};
+ghost use Rattle.ynl_core.specs.Runs.{Answered, AreSure, IsRun, has_reply};
+ghost use Rattle.ynl_core.specs.Sure.{takes_no_memory};
+ghost use Rattle.ynl_core.specs.World.{opened};
 
 use crate::cluster::Core;
 use crate::memory::NoMemory;
@@ -12,7 +14,8 @@ use ynl_model::Event;
 use ynl_queues::Config;
 
 fn answer_one(core: &mut Core, event: Event) -> Answer
-    ensures { Answered core.old event core.new result }
+    ensures answered { Answered core.old event core.new result }
+    ensures sure { IsTrue (takes_no_memory core.old event) → IsTrue (has_reply result) }
 {
     match core.apply(event) {
         Ok(reply) => Answer::Replied(reply),
@@ -21,9 +24,14 @@ fn answer_one(core: &mut Core, event: Event) -> Answer
 }
 
 /// Answers the events in order, one answer to each. An event for which memory is refused changes
-/// nothing, and the run goes on.
+/// nothing, and the run goes on; an event that takes no memory, as the cluster is when its turn
+/// comes, is answered whatever memory there is. Where no event was refused memory, each tenant that
+/// alone may use an exclusive partition of an accepted configuration is answered there as its own
+/// cluster would answer. Room for the cluster and for the answers is taken first, and where that is
+/// refused there is no run.
 pub fn run(alloc: Global, config: Config, events: &[Event]) -> Result<Run, NoMemory>
     ensures run { IfOk result (λ run. IsRun config events.now run.answers run.core) }
+    ensures sure { IfOk result (λ run. AreSure (opened config) events.now run.answers) }
     ensures isolated { IfOk result (λ run. AreIsolated config events.now run.answers run.core) }
 {
     let mut core = Core::open(alloc, config)?;
