@@ -1,5 +1,5 @@
 -- What a text means is accepted: its numbers are in range, and neither its labels nor its queues have a fault.
-use Rattle.std.proofs.Common.{◌≡◌, ◌≤◌, ◌*◌, ◌&&◌, ℕ, Bool, true, false, List, [], ◌∷◌, map, fold, Option, Some, None, Result, Ok, Err, IfOk, refl, sym, subst, ap, ◌∙◌, arith, if◌then◌else◌, nat_le, is_none, codes}
+use Rattle.std.proofs.Common.{◌≡◌, ◌≤◌, ◌*◌, ◌&&◌, ℕ, Bool, true, false, List, [], ◌∷◌, map, fold, Option, Some, None, Result, Ok, Err, IfOk, refl, sym, ap, ◌∙◌, arith, if◌then◌else◌, nat_le, nat_lt, length, is_none, codes}
 use Rattle.std.proofs.lemmas.Bool.{leb-true, le-leb}
 use Rattle.std.proofs.lemmas.List.Folds.{list_all-append, list_all-map}
 use Rattle.std.proofs.lemmas.Result.{IfOk-weaker}
@@ -27,7 +27,7 @@ use Rattle.ynl_config.specs.Earliest.{ConfigFault, ◌>>=◌, both, and_one, all
 use Rattle.ynl_config.specs.Known.{known_keys}
 use Rattle.ynl_config.specs.Readings.{or_fault, or_given, natural, within, number_of, number_at, percent_of, percent_at, unit, text_at, name_of, label_at, stopped_at, version_at, size_at}
 use Rattle.ynl_config.specs.Tables.{QueueParts, values_in, pairs_in, in_table, in_tables, capacities_at, share_parts, share_row, share_in, share_of, shares_at, bounds_parts, bounds_row, bounds_in, leaf_parts, leaf_row, leaf_in, access_at, queue_parts, queue_row, queue_in, queues_at, labels_at, number_parts, numbers_row, numbers_in, WrittenConfig, any_version, parts_in, written_of, written_in}
-use Rattle.ynl_config.specs.Meaning.{label_fault, tree_fault, told_as, built}
+use Rattle.ynl_config.specs.Meaning.{label_fault, tree_fault, told_as, built, reading, most_bytes, config_of}
 
 -- ---- of readings that are put together
 
@@ -291,8 +291,13 @@ built_if w h = with_labels (labels_of w.labels w.numbers.default_limit) refl
     with_labels (Ok labels) made = with_queues labels made (tree_of labels w.queues) refl
     with_labels (Err e) made = tt
 
--- and of what calls gave
-pub build_accepted : (ms : Members) (w : WrittenConfig) (read : Result Config ConfigFault) → written_in ms ≡ Ok w → read ≡ built w → IfOk read (λ c. is_accepted c ≡ true)
-build_accepted ms w read h made =
-    let in_range : IsInRange w = subst (λ (r : Result WrittenConfig ConfigFault). IfOk r IsInRange) h (written_if ms) in
-    subst (λ (r : Result Config ConfigFault). IfOk r (λ c. is_accepted c ≡ true)) (sym made) (built_if w in_range)
+-- what a text means is accepted
+pub accepted_if : (text : List ℕ) → IfOk (config_of text) (λ c. is_accepted c ≡ true)
+unfolding config_of
+accepted_if text = go (nat_lt most_bytes (length text))
+  where
+    go : (b : Bool) → IfOk (if b then Err fault.Size else (or_fault fault.Syntax (reading text) >>= λ ms. written_in ms >>= built)) (λ c. is_accepted c ≡ true)
+    go true = tt
+    go false =
+        then_if (λ c. is_accepted c ≡ true) (or_fault fault.Syntax (reading text)) (λ ms. written_in ms >>= built)
+        (λ ms. then_given IsInRange (λ c. is_accepted c ≡ true) (written_in ms) built (written_if ms) built_if)

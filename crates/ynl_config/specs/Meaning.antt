@@ -1,5 +1,5 @@
 -- The configuration that a text means, or its first fault.
-use Rattle.std.specs.Prelude.{ℕ, List, length, nat_lt, Option, None, Result, Ok, Err, if◌then◌else◌}
+use Rattle.std.specs.Prelude.{◌≡◌, IsTrue, ℕ, List, length, nat_lt, Option, None, Result, Ok, Err, if◌then◌else◌}
 use Rattle.std.specs.Str.{is_utf8}
 use Rattle.toml.specs.Data.{Members}
 use Rattle.toml.specs.Parse.{parse_document}
@@ -8,6 +8,7 @@ use Rattle.ynl_model.specs.declared.faults.LabelFault.TheVariants as labels
 use Rattle.ynl_model.specs.declared.faults.TreeFault.{TreeFault}
 use Rattle.ynl_model.specs.declared.faults.TreeFault.TheVariants as tree
 use Rattle.ynl_model.specs.Queues.{Config}
+use Rattle.ynl_model.specs.Accepted.{is_accepted}
 use Rattle.ynl_nodes.specs.Built.{labels_of}
 use Rattle.ynl_queues.specs.Written.{tree_of}
 use Rattle.ynl_config.specs.Earliest.{ConfigFault, ◌>>=◌}
@@ -58,3 +59,7 @@ unfoldable pub config_of : List ℕ → Result Config ConfigFault
 config_of bytes =
     if nat_lt most_bytes (length bytes) then Err fault.Size
     else or_fault fault.Syntax (reading bytes) >>= λ ms. written_in ms >>= built
+
+-- what a text means is accepted: its numbers are in range, and it has no fault
+abbrev pub MeansAccepted : Type 0
+MeansAccepted = (text : List ℕ) (c : Config) → config_of text ≡ Ok c → IsTrue (is_accepted c)

@@ -1,7 +1,8 @@
 //! From a text to the configuration.
 
-ghost use Rattle.std.specs.Prelude.{◌≡◌, ◌<◌, length, IfOk, option_map, true};
+ghost use Rattle.std.specs.Prelude.{◌≡◌, ◌<◌, length, IfOk, IfErr, IsErr, Ok, Some, None, option_map, true};
 ghost use Rattle.std.specs.Result.{IsOk};
+ghost use Rattle.toml.specs.Errors.{IsMemory};
 ghost use Rattle.toml.specs.View.{table_view};
 ghost use Rattle.ynl_model.specs.Accepted.{is_accepted};
 ghost use Rattle.ynl_config.specs.Meaning as spec;
@@ -10,17 +11,21 @@ use crate::faults::ConfigFault;
 use crate::written::{Written, written_in};
 use std::alloc::{AllocError, Global};
 use toml::Table;
+use toml::de::Error;
 use ynl_nodes::Labels;
 use ynl_queues::{Config, QueueTree};
 
 /// A text has at most so many bytes.
 const MOST_BYTES: usize = 1_048_576;
 
-/// The table that the bytes are, if they are the text of one.
-fn parse(alloc: Global, bytes: &[u8]) -> Result<Option<Table>, AllocError>
-    ensures { IfOk result (λ found. option_map table_view found ≡ spec.reading bytes.now) }
+/// What reading TOML told: the table, or that the bytes are the text of none. It takes no memory, so
+/// want of memory is told only where reading met it.
+fn found(read: Result<Table, Error>) -> Result<Option<Table>, AllocError>
+    ensures table { IfOk read (λ table. result ≡ Ok (Some table)) }
+    ensures none { IfErr read (λ e. ¬ IsMemory e → result ≡ Ok None) }
+    ensures memory { IfErr read (λ e. IsMemory e → IsErr result) }
 {
-    match toml::table_from_slice(alloc, bytes) {
+    match read {
         Ok(table) => Ok(Some(table)),
         Err(e) => {
             if e.is_memory() {
@@ -29,6 +34,13 @@ fn parse(alloc: Global, bytes: &[u8]) -> Result<Option<Table>, AllocError>
             Ok(None)
         }
     }
+}
+
+/// The table that the bytes are, if they are the text of one.
+fn parse(alloc: Global, bytes: &[u8]) -> Result<Option<Table>, AllocError>
+    ensures { IfOk result (λ found. option_map table_view found ≡ spec.reading bytes.now) }
+{
+    found(toml::table_from_slice(alloc, bytes))
 }
 
 /// The configuration of what is written.

@@ -5,7 +5,6 @@
 pub use amounts::share_of;
 pub use children::Children;
 pub use config::Config;
-pub use defaults::built_in;
 pub use rows::{Access, QueueRow, Share};
 pub use tree::QueueTree;
 pub use ways::{is_within, parent_of, step_at};
@@ -14,17 +13,12 @@ pub use written::WrittenQueue;
 mod access;
 mod amounts;
 mod building;
-#[cfg(test)]
-mod building_tests;
 mod checks;
 mod children;
 mod config;
-mod defaults;
 mod rows;
 mod standings;
 mod sums;
-#[cfg(test)]
-mod tests;
 mod texts;
 mod tree;
 mod ways;

@@ -1,10 +1,8 @@
-use Rattle.std.proofs.Common.{sym}
-use Rattle.std.proofs.lemmas.Bool.{false≢true}
-use Rattle.ynl_config.proofs.Bytes.{reading_table, reading_none}
+use Rattle.toml.specs.Errors.{IsMemory}
+use Rattle.toml.specs.View.{table_view}
+use Rattle.ynl_config.proofs.Bytes.{read_found}
 use Rattle.ynl_config.proofs.config.parse.Goals as goal
 
-pub returns-in-Ok : goal.returns-in-Ok
-returns-in-Ok c = sym (reading_table c.args.bytes.now _ c.in-Ok.ensures.ok.0 c.in-Ok.ensures.ok.1)
-
-pub returns-else-is_memory : goal.returns-else-is_memory
-returns-else-is_memory c = sym (reading_none c.args.bytes.now (c.in-Err.ensures.refused (λ memory. false≢true (c.if-is_memory.ensures.1 memory))))
+pub returns : goal.returns
+returns c =
+    read_found table_view IsMemory c.args.bytes.now c.table_from_slice.result c.found.result c.table_from_slice.ensures.ok c.table_from_slice.ensures.refused c.found.ensures.table c.found.ensures.none c.found.ensures.memory
