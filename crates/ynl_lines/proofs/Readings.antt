@@ -1,7 +1,11 @@
 -- What bytes read as.
 use Rattle.std.proofs.Common.{◌≡◌, ℕ, List, Bool, true, false, cond, Option, Some, None, Result, Ok, Err, refl, ap, sym, ◌∙◌, eqb, eq-eqb, ne_eqb}
 use Rattle.std.proofs.lemmas.Str.{IsUtf8-from_is_utf8, is_utf8-from_IsUtf8}
-use Rattle.std.specs.Prelude.{IsUtf8}
+use Rattle.std.specs.Prelude.{IsUtf8, IfOk, IfErr, IsErr, option_map}
+use Rattle.serde_json.specs.Errors.{IsMemory}
+use Rattle.serde_json.specs.View.{view}
+use Rattle.serde_json.specs.declared.value.Value.{Value}
+use Rattle.serde_json.specs.declared.error.Error.{Error}
 use Rattle.std.specs.Str.{is_utf8}
 use Rattle.std.specs.Option.{option_and_then}
 use Rattle.serde_json.specs.Data.{Data, Members}
@@ -22,6 +26,18 @@ none_by bytes false e h = refl
 
 pub reading_none : (bytes : List ℕ) → (IsUtf8 bytes → read bytes ≡ None) → reading bytes ≡ None
 reading_none bytes h = none_by bytes (is_utf8 bytes) refl h
+
+-- what was found is what the bytes read as
+pub read_found : {E : Type 0} (bytes : List ℕ) (r : Result Value Error) (f : Result (Option Value) E) → IfOk r (λ v. IsUtf8 bytes × (read bytes ≡ Some (view v))) → IfErr r (λ e. ¬ IsMemory e → IsUtf8 bytes → read bytes ≡ None)
+    → IfOk r (λ v. f ≡ Ok (Some v)) → IfErr r (λ e. ¬ IsMemory e → f ≡ Ok None) → IfErr r (λ e. IsMemory e → IsErr f) → IfOk f (λ found. option_map view found ≡ reading bytes)
+read_found bytes r (Err e) ok err value none memory = tt
+read_found bytes (Ok v) (Ok found) ok err value none memory =
+    let is : found ≡ Some v = cc in
+    ap (option_map view) is ∙ sym (reading_text bytes (view v) ok.0 ok.1)
+read_found bytes (Err e) (Ok found) ok err value none memory =
+    let other : ¬ IsMemory e = λ m. let bad = memory m in cc in
+    let is : found ≡ None = let same = none other in cc in
+    ap (option_map view) is ∙ sym (reading_none bytes (err other))
 
 module _ (count : ℕ) (d : Data) (ms : Members) (found : Some ms ≡ as_object d) where
   abbrev test : Option Members → Result (Unit {0}) LineFault

@@ -5,6 +5,7 @@ use Rattle.serde_json.specs.Data.{Data, string, number, unsigned, Members, put}
 use Rattle.ynl_lines.specs.declared.object.Field.{Field}
 use Rattle.ynl_lines.specs.declared.object.Field.TheVariants.{Text, Word, Number}
 
+-- the value of a field: a string for a text or a word, and else a number
 abbrev pub field_data : Field → Data
 field_data (Text s) = string s.now
 field_data (Word s) = string s.now

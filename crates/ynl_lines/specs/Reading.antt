@@ -26,6 +26,7 @@ use Rattle.ynl_lines.specs.declared.faults.LineFault.TheVariants as fault
 abbrev pub reading : List ℕ → Option Data
 reading bytes = if is_utf8 bytes then read bytes else None
 
+-- what is read next from what was read; after a fault nothing is, and the fault stays
 infixl 10 ◌>>=◌
 abbrev pub ◌>>=◌ : {A B : Type 0} → Result A LineFault → (A → Result B LineFault) → Result B LineFault
 (Ok x) >>= f = f x
@@ -48,9 +49,11 @@ or_name (Err e) = Err fault.Name
 
 -- ---- the fields
 
+-- the string under a key, or else the fault `field`
 unfoldable pub text_at : List ℕ → Data → Result (List ℕ) LineFault
 text_at key d = or_fault fault.Field (option_and_then as_str (get key d))
 
+-- the whole number under a key, or else the fault `field`
 unfoldable pub number_at : List ℕ → Data → Result ℕ LineFault
 number_at key d = or_fault fault.Field (option_and_then as_u64 (option_and_then as_number (get key d)))
 
@@ -58,6 +61,7 @@ number_at key d = or_fault fault.Field (option_and_then as_u64 (option_and_then 
 unfoldable pub keys_are : ℕ → Data → Result (Unit {0}) LineFault
 keys_are count d = or_fault fault.Field (option_and_then (λ ms. if members_len ms == count then Some tt else None) (as_object d))
 
+-- these are the name, label, path or id that a text spells, or else the fault `name`
 unfoldable pub name_at : List ℕ → Result Name LineFault
 name_at text = or_name (read_name text)
 
@@ -74,13 +78,15 @@ id_at text = or_name (read_id text)
 abbrev pub is_size : ℕ → ℕ → Bool
 is_size memory vcores = nat_le 1 memory && nat_le memory 4294967295 && nat_le 1 vcores && nat_le vcores 65536
 
+-- a size of so many MB and virtual cores, or else the fault `range`
 unfoldable pub size_at : ℕ → ℕ → Result Resource LineFault
 size_at memory vcores = if is_size memory vcores then Ok (amount memory vcores) else Err fault.Range
 
--- the largest count of an ask, and the largest number of a priority
+-- the largest count of an ask
 abbrev pub most_count : ℕ
 most_count = 1000000
 
+-- the largest number of a priority
 abbrev pub most_priority : ℕ
 most_priority = 4294967295
 
@@ -90,6 +96,7 @@ within most n = if nat_le n most then Ok n else Err fault.Range
 
 -- ---- the events: first all fields, then all names, then the range
 
+-- a node that joins, with its label and size
 unfoldable pub register_at : Data → Result Event LineFault
 register_at d = do
   keys ← keys_are 5 d
@@ -109,9 +116,11 @@ node_at d = do
   node ← text_at (codes "node") d
   name_at node
 
+-- a node that is lost
 unfoldable pub lost_at : Data → Result Event LineFault
 lost_at d = node_at d >>= λ node. Ok (Lost node)
 
+-- a node that goes to the partition of another label
 unfoldable pub relabel_at : Data → Result Event LineFault
 relabel_at d = do
   keys ← keys_are 3 d
@@ -121,9 +130,11 @@ relabel_at d = do
   node' ← name_at node
   Ok (Relabel node' label')
 
+-- a node that is ready for more
 unfoldable pub heartbeat_at : Data → Result Event LineFault
 heartbeat_at d = node_at d >>= λ node. Ok (Heartbeat node)
 
+-- a container that ended by itself, and the node that it was on
 unfoldable pub exited_at : Data → Result Event LineFault
 exited_at d = do
   keys ← keys_are 3 d
@@ -141,10 +152,12 @@ label_text_at d = some_or_less (get (codes "label") d)
     some_or_less None = keys_are 6 d >>= λ _. Ok None
     some_or_less (Some v) = keys_are 7 d >>= λ _. or_fault fault.Field (option_map Some (as_str v))
 
+-- the label that a text spells, where there is a text
 unfoldable pub optional_label_at : Option (List ℕ) → Result (Option Label) LineFault
 optional_label_at None = Ok None
 optional_label_at (Some text) = label_at text >>= λ l. Ok (Some l)
 
+-- an application that comes to a queue, with its user and the size of its master, and perhaps a label
 unfoldable pub submit_at : Data → Result Event LineFault
 submit_at d = do
   label ← label_text_at d
@@ -160,6 +173,7 @@ submit_at d = do
   master ← size_at memory vcores
   Ok (Submit queue' app' user' label' master)
 
+-- an application that asks for so many containers of one size, at a priority and under a label
 unfoldable pub ask_at : Data → Result Event LineFault
 ask_at d = do
   keys ← keys_are 8 d
@@ -178,6 +192,7 @@ ask_at d = do
   size ← size_at memory vcores
   Ok (Ask tenant' app' label' priority' count' size)
 
+-- a container that its tenant gives back
 unfoldable pub release_at : Data → Result Event LineFault
 release_at d = do
   keys ← keys_are 3 d
@@ -187,6 +202,7 @@ release_at d = do
   tenant' ← name_at tenant
   Ok (Release tenant' id')
 
+-- a tenant's application that is finished
 unfoldable pub finish_at : Data → Result Event LineFault
 finish_at d = do
   keys ← keys_are 3 d
@@ -203,12 +219,15 @@ queue_at d = do
   queue ← text_at (codes "queue") d
   path_at queue
 
+-- a queue that takes no new applications any more
 unfoldable pub stop_at : Data → Result Event LineFault
 stop_at d = queue_at d >>= λ queue. Ok (Stop queue)
 
+-- a stopped queue that takes applications again
 unfoldable pub start_at : Data → Result Event LineFault
 start_at d = queue_at d >>= λ queue. Ok (Start queue)
 
+-- the question what an application holds on a partition, and still asks for
 unfoldable pub poll_at : Data → Result Event LineFault
 poll_at d = do
   keys ← keys_are 4 d
@@ -220,6 +239,7 @@ poll_at d = do
   tenant' ← name_at tenant
   Ok (Poll tenant' app' label')
 
+-- the question what a queue uses of a partition
 unfoldable pub usage_at : Data → Result Event LineFault
 usage_at d = do
   keys ← keys_are 3 d
@@ -229,6 +249,7 @@ usage_at d = do
   queue' ← path_at queue
   Ok (Usage queue' label')
 
+-- the question what would be placed on a node
 unfoldable pub propose_at : Data → Result Event LineFault
 propose_at d = node_at d >>= λ node. Ok (Propose node)
 
@@ -247,6 +268,7 @@ wanted_by word d =
     else if bytes_eq word (codes "ask") then asked_at d
     else Err fault.Field
 
+-- the same, from the word under `what`
 unfoldable pub wanted_at : Data → Result (Option (List ℕ × ℕ)) LineFault
 wanted_at d = text_at (codes "what") d >>= λ word. wanted_by word d
 
@@ -260,6 +282,7 @@ unfoldable pub what_at : Option (Label × ℕ) → Result What LineFault
 what_at None = Ok Master
 what_at (Some wanted) = within most_priority wanted.1 >>= λ p. Ok (Asked wanted.0 p)
 
+-- a proposal: the object under a commit's key, read in the same order as an event
 unfoldable pub proposal_at : Data → Result Proposal LineFault
 proposal_at d = do
   wanted ← wanted_at d
@@ -278,6 +301,7 @@ proposal_at d = do
   size ← size_at memory vcores
   Ok (record { node = node'; stamp = stamp'; tenant = tenant'; app = app'; what = what; size = size })
 
+-- a proposal that is to be placed
 unfoldable pub commit_at : Data → Result Event LineFault
 commit_at d = do
   keys ← keys_are 2 d
@@ -285,6 +309,7 @@ commit_at d = do
   proposal' ← proposal_at proposal
   Ok (Commit proposal')
 
+-- a queue's maximum on a partition that is set, in hundredths of a percent, of which it is at most the whole
 unfoldable pub maximum_at : Data → Result Event LineFault
 maximum_at d = do
   keys ← keys_are 4 d
@@ -317,6 +342,7 @@ kind_of word =
     else if bytes_eq word (codes "maximum") then Some kind.Maximum
     else None
 
+-- the event of a kind, from the fields that this kind has
 abbrev pub event_by : Kind → Data → Result Event LineFault
 event_by kind.Register d = register_at d
 event_by kind.Lost d = lost_at d
@@ -335,6 +361,7 @@ event_by kind.Propose d = propose_at d
 event_by kind.Commit d = commit_at d
 event_by kind.Maximum d = maximum_at d
 
+-- the event of an object: its kind is the word under `event`, and with no such word the fault is `event`
 unfoldable pub event_at : Data → Result Event LineFault
 event_at d = do
   word ← or_fault fault.Event (option_and_then as_str (get (codes "event") d))

@@ -48,6 +48,7 @@ asked_data id p label priority =
     (member (codes "tenant") (string p.tenant) (member (codes "vcores") (count p.size.vcores)
     (member (codes "what") (string (codes "ask")) no_members)))))))))
 
+-- a container, by what it is for; its id is told as a text
 abbrev pub placed_by : What → Container → Data
 placed_by Master p = master_data (id_text p.id) p
 placed_by (Asked label priority) p = asked_data (id_text p.id) p label priority
@@ -71,6 +72,7 @@ asked_proposal p label priority =
     (member (codes "tenant") (string p.tenant) (member (codes "vcores") (count p.size.vcores)
     (member (codes "what") (string (codes "ask")) no_members)))))))))
 
+-- a proposal, by what it is for
 abbrev pub proposal_by : What → Proposal → Data
 proposal_by Master p = master_proposal p
 proposal_by (Asked label priority) p = asked_proposal p label priority
@@ -91,6 +93,7 @@ pending_data p =
 abbrev pub word_data : List ℕ → Data
 word_data w = object (member (codes "reply") (string w) no_members)
 
+-- the reply to an event that was refused, with the word for why
 abbrev pub refused_data : Refusal → Data
 refused_data r = object (member (codes "refused") (string (word r)) (member (codes "reply") (string (codes "refused")) no_members))
 
@@ -98,26 +101,32 @@ refused_data r = object (member (codes "refused") (string (word r)) (member (cod
 abbrev pub keyed_data : List ℕ → Data → List ℕ → Data
 keyed_data key d w = object (put key d (member (codes "reply") (string w) no_members))
 
+-- the reply to a propose: the proposal, or that there is nothing to place
 abbrev pub proposed_data : Option Proposal → Data
 proposed_data None = word_data (codes "nothing")
 proposed_data (Some p) = object (member (codes "proposal") (proposal_data p) (member (codes "reply") (string (codes "proposal")) no_members))
 
+-- the reply to a poll: what is still asked for, and the containers that are held
 abbrev pub held_data : List Container → List Pending → Data
 held_data containers asks =
     object (member (codes "asks") (array (items_of (map pending_data asks))) (member (codes "containers") (array (items_of (map placed_data containers)))
     (member (codes "reply") (string (codes "held")) no_members)))
 
+-- the reply to a usage: what the queue uses of the partition, is guaranteed and may use there, and what its masters and its guests use
 abbrev pub usage_data : Resource → Resource → Resource → Resource → Resource → Data
 usage_data used guaranteed maximum masters guests =
     object (member (codes "guaranteed") (amount_data guaranteed) (member (codes "guests") (amount_data guests) (member (codes "masters") (amount_data masters)
     (member (codes "maximum") (amount_data maximum) (member (codes "reply") (string (codes "usage")) (member (codes "used") (amount_data used) no_members))))))
 
+-- the reply to a heartbeat: the containers that were placed, in their order
 abbrev pub placed_reply : List Container → Data
 placed_reply ps = object (member (codes "placed") (array (items_of (map placed_data ps))) (member (codes "reply") (string (codes "placed")) no_members))
 
+-- the reply to a commit: the container that its proposal became
 abbrev pub committed_reply : Container → Data
 committed_reply p = object (member (codes "container") (placed_data p) (member (codes "reply") (string (codes "committed")) no_members))
 
+-- a reply
 abbrev pub reply_data : Reply → Data
 reply_data Done = word_data (codes "done")
 reply_data (Refused r) = refused_data r
@@ -133,6 +142,7 @@ reply_text r = compact_text (reply_data r)
 
 -- ---- events
 
+-- these are the events of each kind: under each key what the event names, and under `event` the word of its kind
 abbrev pub register_data : Name → Label → Resource → Data
 register_data node label size =
     object (member (codes "event") (string (codes "register")) (member (codes "label") (string (label_text label)) (member (codes "memory") (count size.memory)
@@ -253,6 +263,7 @@ event_text e = compact_text (event_data e)
 
 -- ---- faults
 
+-- the word that tells a fault
 abbrev pub fault_word : LineFault → List ℕ
 fault_word fault.Size = codes "size"
 fault_word fault.Syntax = codes "syntax"
@@ -261,6 +272,7 @@ fault_word fault.Field = codes "field"
 fault_word fault.Name = codes "name"
 fault_word fault.Range = codes "range"
 
+-- a fault and the number of its line
 abbrev pub fault_data : LineFault → ℕ → Data
 fault_data f line = object (member (codes "fault") (string (fault_word f)) (member (codes "line") (count line) no_members))
 
@@ -270,6 +282,7 @@ fault_text f line = compact_text (fault_data f line)
 
 -- ---- lines
 
+-- an event, its place in a list and the reply to it, where event and reply are values by now
 abbrev pub line_object : ℕ → Data → Data → Data
 line_object place event reply = object (member (codes "event") event (member (codes "place") (count place) (member (codes "reply") reply no_members)))
 

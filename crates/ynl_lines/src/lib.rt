@@ -18,6 +18,4 @@ mod read_nodes;
 mod read_proposals;
 mod read_queues;
 mod replies;
-#[cfg(test)]
-mod tests;
 mod write;

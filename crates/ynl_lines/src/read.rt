@@ -1,6 +1,7 @@
 //! From lines to events.
 
-ghost use Rattle.std.specs.Prelude.{◌≡◌, option_map, IfOk, IsTrue};
+ghost use Rattle.std.specs.Prelude.{◌≡◌, option_map, IfOk, IfErr, IsErr, IsTrue, Ok, Some, None};
+ghost use Rattle.serde_json.specs.Errors.{IsMemory};
 ghost use Rattle.serde_json.specs.View.{view};
 ghost use Rattle.ynl_lines.specs.Reading.{reading, IsRanged};
 ghost use Rattle.ynl_lines.specs.Reading as spec;
@@ -10,7 +11,7 @@ use crate::read_applications::{ask_at, finish_at, poll_at, release_at, submit_at
 use crate::read_nodes::{exited_at, heartbeat_at, lost_at, register_at, relabel_at};
 use crate::read_proposals::{commit_at, propose_at};
 use crate::read_queues::{maximum_at, start_at, stop_at, usage_at};
-use serde_json::Value;
+use serde_json::{Error, Value};
 use std::alloc::{AllocError, Global};
 use ynl_model::Event;
 
@@ -35,11 +36,14 @@ pub enum Kind {
     Maximum,
 }
 
-/// The value that the bytes are, if they are the text of one.
-fn parse(alloc: Global, bytes: &[u8]) -> Result<Option<Value>, AllocError>
-    ensures { IfOk result (λ found. option_map view found ≡ reading bytes.now) }
+/// What reading JSON told: the value, or that the bytes are the text of none. It takes no memory, so
+/// want of memory is told only where reading met it.
+fn found(read: Result<Value, Error>) -> Result<Option<Value>, AllocError>
+    ensures value { IfOk read (λ value. result ≡ Ok (Some value)) }
+    ensures none { IfErr read (λ e. ¬ IsMemory e → result ≡ Ok None) }
+    ensures memory { IfErr read (λ e. IsMemory e → IsErr result) }
 {
-    match Value::from_slice(alloc, bytes) {
+    match read {
         Ok(value) => Ok(Some(value)),
         Err(e) => {
             if e.is_memory() {
@@ -48,6 +52,13 @@ fn parse(alloc: Global, bytes: &[u8]) -> Result<Option<Value>, AllocError>
             Ok(None)
         }
     }
+}
+
+/// The value that the bytes are, if they are the text of one.
+fn parse(alloc: Global, bytes: &[u8]) -> Result<Option<Value>, AllocError>
+    ensures { IfOk result (λ found. option_map view found ≡ reading bytes.now) }
+{
+    found(Value::from_slice(alloc, bytes))
 }
 
 fn kind_of(word: &str) -> Option<Kind>

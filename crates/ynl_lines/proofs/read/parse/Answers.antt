@@ -1,10 +1,6 @@
-use Rattle.std.proofs.Common.{sym}
-use Rattle.std.proofs.lemmas.Bool.{false≢true}
-use Rattle.ynl_lines.proofs.Readings.{reading_text, reading_none}
+use Rattle.ynl_lines.proofs.Readings.{read_found}
 use Rattle.ynl_lines.proofs.read.parse.Goals as goal
 
-pub returns-in-Ok : goal.returns-in-Ok
-returns-in-Ok c = sym (reading_text c.args.bytes.now _ c.in-Ok.ensures.ok.0 c.in-Ok.ensures.ok.1)
-
-pub returns-else-is_memory : goal.returns-else-is_memory
-returns-else-is_memory c = sym (reading_none c.args.bytes.now (c.in-Err.ensures.err (λ memory. false≢true (c.if-is_memory.ensures.1 memory))))
+pub returns : goal.returns
+returns c =
+    read_found c.args.bytes.now c.from_slice.result c.found.result c.from_slice.ensures.ok c.from_slice.ensures.err c.found.ensures.value c.found.ensures.none c.found.ensures.memory
