@@ -14,7 +14,7 @@ use ynl_tool::{
 fn main(rt: HostRuntime) -> ExitCode {
     let args = match env::args(&rt) {
         Ok(args) => args,
-        Err(error) if error.kind() == io::ErrorKind::OutOfMemory => return out_of_memory(&rt),
+        Err(error) if fault_of(&error) == ToolFault::NoMemory => return out_of_memory(&rt),
         Err(_) => {
             let _told = eprintln!(rt; "ynl: an argument is no text");
             return ExitCode::from(2);

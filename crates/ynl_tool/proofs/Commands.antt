@@ -1,11 +1,16 @@
 -- Which words the command takes, and what they ask for.
-use Rattle.std.proofs.Common.{◌≡◌, ◌&&◌, ◌∙◌, true, cond, List, [], ◌∷◌, Option, Some, None, codes, drop, refl, sym, ap, option_map, option_and_then}
+use Rattle.std.proofs.Common.{◌≡◌, ◌≢◌, ◌⊎◌, inl, inr, subst, ◌&&◌, ◌∙◌, true, cond, List, [], ◌∷◌, Option, Some, None, codes, drop, refl, sym, ap, option_map, option_and_then}
 use Rattle.std.specs.Prelude.{Box}
 use Rattle.std.specs.Box.{box_value}
 use Rattle.std.specs.Str.{bytes_eq}
 use Rattle.clap.specs.Walk.{Text, Row, nothing_held, first_of, rows_of, stop_after}
 use Rattle.clap.specs.Simple.{built, entered, is_simple, names_of, subcommand_rows}
 use Rattle.clap.specs.Takes.{takes, built_takes}
+use Rattle.clap.specs.Faults.{is_simple_and_free}
+use Rattle.clap.specs.Kinds.{Kinds, HasKind, IsAmong}
+use Rattle.clap.specs.Values.{kind_of as error_kind}
+use Rattle.clap.specs.declared.error.Error.{Error}
+use Rattle.clap.specs.declared.error.kind.ErrorKind.TheVariants.{OutOfMemory}
 use Rattle.clap.specs.Words.{first_value}
 use Rattle.clap.specs.declared.parser.matches.ArgMatches.TheViews.{out-SubCommand}
 use Rattle.clap.specs.declared.parser.matches.Found.{Found}
@@ -15,6 +20,8 @@ use Rattle.clap.proofs.WalkLemmas.{first_value-rows}
 use Rattle.ynl_resource.specs.declared.names.Name.{Name}
 use Rattle.ynl_resource.specs.declared.labels.Label.{Label}
 use Rattle.ynl_tool.specs.declared.words.Kind.TheVariants.{Run}
+use Rattle.ynl_tool.specs.declared.words.WordsFault.{WordsFault}
+use Rattle.ynl_tool.specs.declared.words.WordsFault.TheVariants.{Words, NoMemory}
 use Rattle.ynl_tool.specs.Words.{command, name_in, label_in, tenant_by, kind_met, kind_of}
 
 pub taken : (words : List Text) → drop 1 words ≡ codes "run" ∷ [] → takes command words ≡ true
@@ -24,6 +31,28 @@ taken words same = ap (λ rest. is_simple command && built_takes (built command)
 pub command_simple : is_simple command ≡ true
 unfolding clap_on_literals
 command_simple = refl
+
+pub command_free : is_simple_and_free command ≡ true
+unfolding clap_on_literals
+command_free = refl
+
+-- ---- what is told of an error
+
+-- what `clap`'s error becomes
+abbrev Becomes : Error → WordsFault → Type 0
+Becomes error e = ((error_kind error ≡ OutOfMemory) × (e ≡ NoMemory)) ⊎ ((error_kind error ≢ OutOfMemory) × (e ≡ Words error))
+
+pub wants_memory : (error : Error) (e : WordsFault) → Becomes error e → error_kind error ≡ OutOfMemory → e ≡ NoMemory
+wants_memory error e (inl h) kind = h.1
+wants_memory error e (inr h) kind = absurd (h.0 kind)
+
+-- an error that is told has a kind that was found
+pub told_by_kind : (found : Error) (e : WordsFault) (error : Error) (kinds : Kinds) → Becomes found e → e ≡ Words error → HasKind kinds found → IsAmong (error_kind error) kinds
+told_by_kind found e error kinds (inl h) is among = absurd (let none = sym h.1 ∙ is in cc)
+told_by_kind found e error kinds (inr h) is (inl memory) = absurd (h.0 memory)
+told_by_kind found e error kinds (inr h) is (inr among) =
+    let same : found ≡ error = let told = sym h.1 ∙ is in cc in
+    subst (λ x. IsAmong (error_kind x) kinds) same among
 
 -- ---- what a subcommand asks for
 

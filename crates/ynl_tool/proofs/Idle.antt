@@ -1,5 +1,5 @@
 -- Jobs in which memory is refused before anything is read.
-use Rattle.std.proofs.Common.{◌≢◌, ℕ, List, [], Bool, true, false, Option, Result, Ok, Err, refl, ap, inl}
+use Rattle.std.proofs.Common.{◌≢◌, ℕ, List, [], Bool, true, false, Option, Result, Ok, Err, refl, ap, inl, arith}
 use Rattle.std.proofs.lemmas.List.Elements.{All-nil}
 use Rattle.std.proofs.KnownBytes.{Appends-nil, Consumes-nil}
 use Rattle.ynl_resource.specs.declared.names.Name.{Name}
@@ -8,6 +8,7 @@ use Rattle.ynl_model.specs.Queues.{Config}
 use Rattle.ynl_model.specs.Cluster.{opening}
 use Rattle.ynl_model.specs.View.{is_sole}
 use Rattle.ynl_config.specs.declared.faults.ConfigFault.{ConfigFault}
+use Rattle.ynl_tool.specs.declared.lines_in.ReadFault.TheVariants as reading
 use Rattle.ynl_tool.specs.declared.run.ToolFault.TheVariants.{NoMemory}
 use Rattle.ynl_tool.specs.declared.words.Kind.{Kind}
 use Rattle.ynl_tool.specs.declared.words.Kind.TheVariants.{Run, Tenant}
@@ -21,7 +22,7 @@ module _ (old wold : Option (List ℕ)) where
   idle : IsIdle old old wold wold
   idle = record { unread = Consumes-nil old; unwritten = Appends-nil wold }
 
-  unread : ReadsSome old old
+  unread : ReadsSome old old reading.NoMemory
   unread = record {
     bytes = [];
     last = [];
@@ -29,13 +30,15 @@ module _ (old wold : Option (List ℕ)) where
     one_line = All-nil (λ x. x ≢ 10);
     read = Consumes-nil old;
     good = ap (λ (s : Script). s.fault) (here 0 limit [] [] at_start);
+    bound = omega arith;
+    reading = λ _. (All-nil (λ x. x ≢ 10), omega arith);
   }
 
-  idle_by : (c : Config) (t : Name) (p : Label) (sole : Bool) → TellsJob old old wold wold c t p sole (Err NoMemory)
+  idle_by : (c : Config) (t : Name) (p : Label) (sole : Bool) → TellsJob old old wold wold true c t p sole (Err NoMemory)
   idle_by c t p true = inl (record { read = unread; unwritten = Appends-nil wold })
   idle_by c t p false = (refl, idle)
 
-  idle_job : (kind : Kind) (c : Config) → DoesJob old old wold wold kind c (Err NoMemory)
+  idle_job : (kind : Kind) (c : Config) → DoesJob old old wold wold true kind c (Err NoMemory)
   idle_job Run c = stops_at_once old wold c (opening c)
   idle_job (Tenant t p) c = idle_by c t p (is_sole c t p)
 

@@ -1,14 +1,19 @@
 -- What one look at a reader gives, and several of them.
-use Rattle.std.proofs.Common.{◌≡◌, ◌≢◌, ℕ, ◌+◌, ◌-◌, ◌<◌, ◌≤◌, min, List, [], ◌∷◌, ◌++◌, length, take, Option, Some, None, Ok, Err, IfSome, OnSome, sym, ap, subst, ◌∙◌, arith, get_or, append_assoc, length-append, length-take}
+use Rattle.std.proofs.Common.{◌≡◌, ◌≢◌, ℕ, ◌+◌, ◌-◌, ◌<◌, ◌≤◌, min, List, [], ◌∷◌, ◌++◌, length, take, Option, Some, None, Result, Ok, Err, Bor, IfOk, IfErr, IfSome, OnSome, sym, ap, subst, ◌∙◌, arith, get_or, append_assoc, length-append, length-take}
 use Rattle.std.proofs.Math.Seq.{take-take}
 use Rattle.std.proofs.lemmas.List.{take_more}
 use Rattle.std.proofs.lemmas.List.Elements.{All-append}
+use Rattle.std.proofs.BufReadLemmas.{Consumes_shown}
+use Rattle.std.specs.Io.BufRead.{FillKeeps, DropsConsumable}
+use Rattle.std.specs.Io.{StartsWith}
+use Rattle.std.specs.declared.io.ErrorKind.{ErrorKind}
 use Rattle.std.specs.Io.KnownBytes.{Keeps, IsAtEnd, Consumes}
 use Rattle.std.proofs.KnownBytes.{Consumes-trans}
 use Rattle.ynl_tool.specs.declared.lines_in.LineEnd.{LineEnd}
 use Rattle.ynl_tool.specs.declared.lines_in.LineEnd.TheVariants.{Newline, Input, Budget}
 use Rattle.ynl_tool.specs.declared.lines_in.ReadFault.{ReadFault}
-use Rattle.ynl_tool.specs.Lines.{IsPlain, GivesPiece, GivesLine, LineEnds}
+use Rattle.ynl_tool.specs.declared.lines_in.Taken.{Taken}
+use Rattle.ynl_tool.specs.Lines.{IsPlain, IsTaken, AddsShown, FailsAs, Ends, GivesPiece, GivesLine, LineEnds}
 
 -- nothing was shown, so nothing is left
 pub end_here : (a b : Option (List ℕ)) (shown : List ℕ) → Keeps a b → IfSome a (λ xs. length shown ≡ 0 → xs ≡ []) → length shown ≡ 0 → OnSome a (IsAtEnd b)
@@ -41,6 +46,33 @@ cut before shown after end within budget bound is had plain grown =
       fits = omega arith;
       room = λ h. omega arith;
       some = λ h k. omega arith;
+    }
+
+-- what holds of the value that a result is
+pub of_ok : {T E : Type 0} (r : Result T E) (x : T) (P : T → Type 0) → r ≡ Ok x → P x → IfOk r P
+of_ok r x P is p = subst (λ r. IfOk r P) (sym is) p
+
+-- the bytes that are taken of what a reader showed are those that it gave
+module _ (a c : Option (List ℕ)) (shown bytes : List ℕ) (n budget count : ℕ) (moved : Consumes a c (take count shown) × (length shown ≡ 0 → OnSome a (IsAtEnd c))) where
+  taken_ends : (end : Option LineEnd) → IsTaken shown bytes n budget count end → Ends a c bytes n budget end
+  taken_ends None t = (t.0, subst (Consumes a c) t.1 moved.0)
+  taken_ends (Some Newline) t = (t.0, subst (Consumes a c) t.1 moved.0)
+  taken_ends (Some Input) t = (moved.1 t.0, subst (Consumes a c) t.1 moved.0)
+  taken_ends (Some Budget) t = (t.0, (t.1.0, subst (Consumes a c) t.1.1 moved.0))
+
+-- what one look at a reader gives
+pub piece_given : {E : Type 0} (kind : E → ErrorKind) (a b c : Option (List ℕ)) (room : Option ℕ) (shown : Result (Bor (List ℕ)) E) (before after : List ℕ) (budget : ℕ) (taken : Taken)
+    → IfSome a (λ xs. IfOk shown (λ s. StartsWith xs s.now)) → IfSome a (λ xs. IfOk shown (λ s. length s.now ≡ 0 → xs ≡ [])) → FillKeeps a b room shown → DropsConsumable b c room taken.count
+    → IfOk shown (λ s. AddsShown s.now before after budget (Ok taken)) → IfErr shown (λ e. FailsAs (kind e) before after (Ok taken)) → GivesPiece a c before after budget (Ok taken.end)
+piece_given kind a b c room (Err e) before after budget taken front end kept drops adds fails = absurd (cc)
+piece_given kind a b c room (Ok s) before after budget taken front end kept drops adds fails =
+    let moved = Consumes_shown a b c room s.now taken.count adds.ended.0 front end kept.0 kept.1 drops in
+    record {
+      bytes = adds.bytes;
+      plain = adds.plain;
+      grown = adds.grown;
+      within = adds.within;
+      ended = taken_ends a c s.now adds.bytes (length after) budget taken.count moved taken.end adds.ended.1;
     }
 
 module _ (a b c : Option (List ℕ)) (line after : List ℕ) (budget : ℕ) (plain : IsPlain line) (had : Consumes a b line) where

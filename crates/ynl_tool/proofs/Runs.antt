@@ -1,5 +1,5 @@
 -- The run of an input, a line after another.
-use Rattle.std.proofs.Common.{◌≡◌, ◌≢◌, ℕ, suc, ◌+◌, ◌-◌, ◌<◌, ◌≤◌, List, [], ◌∷◌, ◌++◌, length, Bool, true, false, cond, subst, Some, None, Result, Ok, Err, refl, sym, ap, ◌∙◌, arith, append_assoc, append-nil, eqb, eq-eqb, ne_eqb}
+use Rattle.std.proofs.Common.{◌≡◌, ◌≢◌, ℕ, suc, ◌+◌, ◌-◌, ◌<◌, ◌≤◌, List, [], ◌∷◌, ◌++◌, length, Bool, true, false, cond, subst, Some, None, Result, Ok, Err, refl, sym, ap, ◌∙◌, arith, append_assoc, append-nil, length-append, eqb, eq-eqb, ne_eqb}
 use Rattle.std.proofs.lemmas.List.Elements.{All-head, All-tail}
 use Rattle.ynl_tool.specs.Lines.{IsPlain}
 use Rattle.ynl_model.specs.declared.events.Event.{Event}
@@ -48,11 +48,16 @@ last_line (x ∷ y ∷ ys) budget plain fits some =
     byte_before x (y ∷ ys) budget (All-head IsNoNewline x (y ∷ ys) plain) (omega arith)
     ∙ ap (onto x) (last_line (y ∷ ys) (budget - 1) (All-tail IsNoNewline x (y ∷ ys) plain) (omega arith) (omega arith))
 
-pub long_line : (line : List ℕ) (b : ℕ) (budget : ℕ) → IsPlain line → length line ≡ budget → lines_within (line ++ b ∷ []) budget ≡ too_long ∷ []
-long_line [] b budget plain e = none_left b [] budget (sym e)
-long_line (x ∷ xs) b budget plain e =
-    byte_before x (xs ++ b ∷ []) budget (All-head IsNoNewline x xs plain) (omega arith)
-    ∙ ap (onto x) (long_line xs b (budget - 1) (All-tail IsNoNewline x xs plain) (omega arith))
+-- the byte past the limit, whatever follows
+pub long_line : (line : List ℕ) (b : ℕ) (rest : List ℕ) (budget : ℕ) → IsPlain line → length line ≡ budget → lines_within ((line ++ b ∷ []) ++ rest) budget ≡ too_long ∷ []
+long_line [] b rest budget plain e = none_left b rest budget (sym e)
+long_line (x ∷ xs) b rest budget plain e =
+    byte_before x ((xs ++ b ∷ []) ++ rest) budget (All-head IsNoNewline x xs plain) (omega arith)
+    ∙ ap (onto x) (long_line xs b rest (budget - 1) (All-tail IsNoNewline x xs plain) (omega arith))
+
+-- a line with its newline, whatever follows
+pub line_first : (line rest : List ℕ) (budget : ℕ) → IsPlain line → length line < budget → lines_within ((line ++ 10 ∷ []) ++ rest) budget ≡ whole line ∷ lines_within rest (budget - (length line + 1))
+line_first line rest budget plain fits = ap (λ l. lines_within l budget) (append_assoc line (10 ∷ []) rest) ∙ one_line line rest budget plain fits
 
 -- ---- the run
 
@@ -72,12 +77,20 @@ silent_by c s line false f bad = silent_of c s (event_of_line line) f bad
 pub silent : (c : Config) (s : State) (line : List ℕ) (f : LineFault) → (turn c s line).fault ≡ Some f → (turn c s line).text ≡ []
 silent c s line f bad = silent_by c s line (is_blank line) f bad
 
+-- a last line with a fault ends the run
+pub ending_faulty : (c : Config) (s : State) (line : List ℕ) (n : ℕ) (f : LineFault) → 0 < length line → (turn c s line).fault ≡ Some f → ending c s line n ≡ faulty f (n + 1)
+ending_faulty c s [] n f some bad = absurd (omega (arith, some))
+ending_faulty c s (b ∷ bs) n f some bad =
+    ap (λ g. said (turn c s (b ∷ bs)).text (unless_fault g (n + 1) (record { text = []; lines = n + 1; fault = None }))) bad
+    ∙ ap (λ t. said t (faulty f (n + 1))) (silent c s (b ∷ bs) f bad)
+
 -- These bytes were read and their text written; the run goes on with what is left.
 pub record SoFar (c : Config) (start s : State) (lines budget : ℕ) (bytes text : List ℕ) : Type 0 where
   pub goes_on : (rest : List ℕ) → run_of c start (bytes ++ rest) ≡ said text (run c (lines_within rest budget) s lines)
+  pub within : length bytes + budget ≡ limit
 
 pub at_start : (c : Config) (start : State) → SoFar c start start 0 limit [] []
-at_start c start = record { goes_on = λ rest. refl }
+at_start c start = record { goes_on = λ rest. refl; within = refl }
 
 module _ (c : Config) (start s : State) (lines budget : ℕ) (bytes text : List ℕ) (far : SoFar c start s lines budget bytes text) where
   -- the run of what was read
@@ -89,9 +102,11 @@ module _ (c : Config) (start s : State) (lines budget : ℕ) (bytes text : List 
   pub then_lines : (more : List ℕ) (ls : List Line) → lines_within more budget ≡ ls → run_of c start (bytes ++ more) ≡ said text (run c ls s lines)
   then_lines more ls e = far.goes_on more ∙ ap (λ ls. said text (run c ls s lines)) e
 
-  pub then_long : (more : List ℕ) → lines_within more budget ≡ too_long ∷ [] → run_of c start (bytes ++ more) ≡ said text (faulty fault.Size (lines + 1))
+  -- the byte past the limit, whatever follows
+  pub then_long : (line : List ℕ) (b : ℕ) → IsPlain line → length line ≡ budget → (rest : List ℕ)
+      → run_of c start (bytes ++ ((line ++ b ∷ []) ++ rest)) ≡ said text (faulty fault.Size (lines + 1))
   unfolding run
-  then_long more e = then_lines more (too_long ∷ []) e
+  then_long line b plain full rest = then_lines ((line ++ b ∷ []) ++ rest) (too_long ∷ []) (long_line line b rest budget plain full)
 
   pub then_last : (more line : List ℕ) → lines_within more budget ≡ whole line ∷ []
       → run_of c start (bytes ++ more) ≡ said (text ++ (turn c s line).text) (unless_fault (turn c s line).fault (lines + 1) (record { text = []; lines = lines + 1; fault = None }))
@@ -108,6 +123,7 @@ module _ (c : Config) (start s : State) (lines budget : ℕ) (bytes text : List 
         ∙ then_lines (line ++ 10 ∷ rest) (whole line ∷ left) (one_line line rest budget plain fits)
         ∙ ap (λ f. said text (said (turn c s line).text (unless_fault f (lines + 1) (run c left (turn c s line).state (lines + 1))))) good
         ∙ said_twice text (turn c s line).text (run c left (turn c s line).state (lines + 1));
+    within = omega (arith, far.within, length-append bytes (line ++ 10 ∷ []), length-append line (10 ∷ []));
   }
 
   -- the last line, which lacks its newline
@@ -116,25 +132,25 @@ module _ (c : Config) (start s : State) (lines budget : ℕ) (bytes text : List 
   then_input [] plain fits = then_lines [] [] (no_bytes budget)
   then_input (x ∷ xs) plain fits = then_lines (x ∷ xs) (whole (x ∷ xs) ∷ []) (last_line (x ∷ xs) budget plain fits (omega arith))
 
-  -- a line with a fault, of which nothing is written
-  pub then_fault : (line : List ℕ) (f : LineFault) → IsPlain line → length line < budget → (turn c s line).fault ≡ Some f
-      → run_of c start (bytes ++ (line ++ 10 ∷ [])) ≡ said text (faulty f (lines + 1))
+  -- a line with a fault, of which nothing is written, whatever follows
+  pub then_fault : (line : List ℕ) (f : LineFault) → IsPlain line → length line < budget → (turn c s line).fault ≡ Some f → (rest : List ℕ)
+      → run_of c start (bytes ++ ((line ++ 10 ∷ []) ++ rest)) ≡ said text (faulty f (lines + 1))
   unfolding run
-  then_fault line f plain fits bad =
-      let left = lines_within [] (budget - (length line + 1)) in
+  then_fault line f plain fits bad rest =
+      let left = lines_within rest (budget - (length line + 1)) in
       let after = run c left (turn c s line).state (lines + 1) in
-      then_lines (line ++ 10 ∷ []) (whole line ∷ left) (one_line line [] budget plain fits)
+      then_lines ((line ++ 10 ∷ []) ++ rest) (whole line ∷ left) (line_first line rest budget plain fits)
       ∙ ap (λ g. said text (said (turn c s line).text (unless_fault g (lines + 1) after))) bad
       ∙ ap (λ t. said text (said t (faulty f (lines + 1)))) (silent c s line f bad)
 
-  -- a line, whatever becomes of it
-  pub then_whole : (line : List ℕ) → IsPlain line → length line < budget
-      → (rest : Outcome) × (run_of c start (bytes ++ (line ++ 10 ∷ [])) ≡ said text (said (turn c s line).text rest))
+  -- a line, whatever becomes of it, and whatever follows
+  pub then_whole : (line : List ℕ) → IsPlain line → length line < budget → (rest : List ℕ)
+      → (o : Outcome) × (run_of c start (bytes ++ ((line ++ 10 ∷ []) ++ rest)) ≡ said text (said (turn c s line).text o))
   unfolding run
-  then_whole line plain fits =
-      let left = lines_within [] (budget - (length line + 1)) in (
+  then_whole line plain fits rest =
+      let left = lines_within rest (budget - (length line + 1)) in (
         unless_fault (turn c s line).fault (lines + 1) (run c left (turn c s line).state (lines + 1)),
-        then_lines (line ++ 10 ∷ []) (whole line ∷ left) (one_line line [] budget plain fits),
+        then_lines ((line ++ 10 ∷ []) ++ rest) (whole line ∷ left) (line_first line rest budget plain fits),
       )
 
 pub far_at : {c : Config} {start s s' : State} {lines budget budget' : ℕ} {bytes text : List ℕ} → SoFar c start s lines budget bytes text → s' ≡ s → budget' ≡ budget → SoFar c start s' lines budget' bytes text

@@ -1,5 +1,5 @@
 -- The script of an input, a line after another.
-use Rattle.std.proofs.Common.{◌≡◌, ℕ, ◌+◌, ◌-◌, ◌<◌, ◌≤◌, List, [], ◌∷◌, ◌++◌, length, Bool, true, false, cond, subst, Option, Some, None, OnSome, IfNone, Result, Ok, Err, refl, sym, ap, ◌∙◌, arith, append_assoc, append-nil}
+use Rattle.std.proofs.Common.{◌≡◌, ◌⊎◌, inl, inr, ℕ, ◌+◌, ◌-◌, ◌<◌, ◌≤◌, List, [], ◌∷◌, ◌++◌, length, Bool, true, false, cond, subst, Option, Some, None, IfSome, OnSome, IfNone, Result, Ok, Err, refl, sym, ap, ◌∙◌, arith, append_assoc, append-nil, length-append}
 use Rattle.std.specs.List.{concat}
 use Rattle.std.specs.Io.KnownBytes.{Consumes, IsAtEnd}
 use Rattle.std.proofs.KnownBytes.{Consumes-trans}
@@ -11,10 +11,14 @@ use Rattle.ynl_lines.specs.declared.faults.LineFault.{LineFault}
 use Rattle.ynl_lines.specs.declared.faults.LineFault.TheVariants as fault
 use Rattle.ynl_lines.specs.Reading.{event_of_line}
 use Rattle.ynl_lines.specs.Writing.{reply_text}
-use Rattle.ynl_tool.specs.Lines.{IsPlain, EndsLine, IsOneLine}
+use Rattle.ynl_tool.specs.declared.lines_in.ReadFault.{ReadFault}
+use Rattle.ynl_tool.specs.declared.lines_in.ReadFault.TheVariants.{Read, NoMemory}
+use Rattle.ynl_tool.specs.declared.script_in.Script.{Script as Kept}
+use Rattle.ynl_tool.specs.Lines.{IsPlain, IsBrokenOff, EndsLine, IsComplete, IsOneLine}
 use Rattle.ynl_tool.specs.Run.{Line, whole, too_long, lines_within, limit, is_blank, still, turn_of, turn, line_of, Outcome, faulty, unless_fault, said, run}
-use Rattle.ynl_tool.specs.Script.{part_of, no_part, part, Script, no_script, unless_broken, after_events, last_part, script, script_of, ReadsTo, ReadsSome, fault_lines, reply_lines, DoRunsAnswerScripts}
-use Rattle.ynl_tool.proofs.Runs.{no_bytes, one_line, last_line}
+use Rattle.ynl_tool.specs.Script.{part_of, no_part, part, Script, no_script, unless_broken, after_events, last_part, script, script_of, ReadsTo, ReadsSome, ReadsScript, ReadsWhole, fault_lines, reply_lines, DoRunsAnswerScripts}
+use Rattle.ynl_tool.proofs.Runs.{no_bytes, one_line, last_line, long_line, line_first}
+use Rattle.ynl_tool.proofs.Closings.{of_input, at_input_end, bounded, line_complete}
 
 after_twice : (a b : List Event) (s : Script) → after_events a (after_events b s) ≡ after_events (a ++ b) s
 after_twice a b s = ap (λ es. record { events = es; lines = s.lines; fault = s.fault }) (sym (append_assoc a b s.events))
@@ -37,9 +41,10 @@ barren line f bad = barren_by line (is_blank line) f bad
 -- These bytes were read, and gave these events; the script goes on with what is left.
 pub record SoFar (lines budget : ℕ) (bytes : List ℕ) (events : List Event) : Type 0 where
   pub goes_on : (rest : List ℕ) → script_of (bytes ++ rest) ≡ after_events events (script (lines_within rest budget) lines)
+  pub within : length bytes + budget ≡ limit
 
 pub at_start : SoFar 0 limit [] []
-at_start = record { goes_on = λ rest. refl }
+at_start = record { goes_on = λ rest. refl; within = refl }
 
 module _ (lines budget : ℕ) (bytes : List ℕ) (events : List Event) (far : SoFar lines budget bytes events) where
   -- the script of what was read
@@ -50,9 +55,11 @@ module _ (lines budget : ℕ) (bytes : List ℕ) (events : List Event) (far : So
   then_lines : (more : List ℕ) (ls : List Line) → lines_within more budget ≡ ls → script_of (bytes ++ more) ≡ after_events events (script ls lines)
   then_lines more ls e = far.goes_on more ∙ ap (λ ls. after_events events (script ls lines)) e
 
-  pub then_long : (more : List ℕ) → lines_within more budget ≡ too_long ∷ [] → script_of (bytes ++ more) ≡ record { events = events; lines = lines + 1; fault = Some fault.Size }
+  -- the byte past the limit, whatever follows
+  pub then_long : (line : List ℕ) (b : ℕ) → IsPlain line → length line ≡ budget → (rest : List ℕ)
+      → script_of (bytes ++ ((line ++ b ∷ []) ++ rest)) ≡ record { events = events; lines = lines + 1; fault = Some fault.Size }
   unfolding script
-  then_long more e = then_lines more (too_long ∷ []) e ∙ after_none events (Some fault.Size) (lines + 1)
+  then_long line b plain full rest = then_lines ((line ++ b ∷ []) ++ rest) (too_long ∷ []) (long_line line b rest budget plain full) ∙ after_none events (Some fault.Size) (lines + 1)
 
   pub then_line : (line : List ℕ) → IsPlain line → length line < budget → (part line).fault ≡ None
       → SoFar (lines + 1) (budget - (length line + 1)) (bytes ++ (line ++ 10 ∷ [])) (events ++ (part line).events)
@@ -64,6 +71,7 @@ module _ (lines budget : ℕ) (bytes : List ℕ) (events : List Event) (far : So
         ∙ then_lines (line ++ 10 ∷ rest) (whole line ∷ left) (one_line line rest budget plain fits)
         ∙ ap (λ f. after_events events (after_events (part line).events (unless_broken f (lines + 1) (script left (lines + 1))))) good
         ∙ after_twice events (part line).events (script left (lines + 1));
+    within = omega (arith, far.within, length-append bytes (line ++ 10 ∷ []), length-append line (10 ∷ []));
   }
 
   -- the last line, which lacks its newline
@@ -72,42 +80,77 @@ module _ (lines budget : ℕ) (bytes : List ℕ) (events : List Event) (far : So
   then_input [] plain fits = then_lines [] [] (no_bytes budget)
   then_input (x ∷ xs) plain fits = then_lines (x ∷ xs) (whole (x ∷ xs) ∷ []) (last_line (x ∷ xs) budget plain fits (omega arith))
 
-  -- a line with a fault
-  pub then_fault : (line : List ℕ) (f : LineFault) → IsPlain line → length line < budget → (part line).fault ≡ Some f
-      → script_of (bytes ++ (line ++ 10 ∷ [])) ≡ record { events = events; lines = lines + 1; fault = Some f }
+  -- a line with a fault, whatever follows
+  pub then_fault : (line : List ℕ) (f : LineFault) → IsPlain line → length line < budget → (part line).fault ≡ Some f → (rest : List ℕ)
+      → script_of (bytes ++ ((line ++ 10 ∷ []) ++ rest)) ≡ record { events = events; lines = lines + 1; fault = Some f }
   unfolding script
-  then_fault line f plain fits bad =
-      let left = lines_within [] (budget - (length line + 1)) in
-      then_lines (line ++ 10 ∷ []) (whole line ∷ left) (one_line line [] budget plain fits)
+  then_fault line f plain fits bad rest =
+      let left = lines_within rest (budget - (length line + 1)) in
+      then_lines ((line ++ 10 ∷ []) ++ rest) (whole line ∷ left) (line_first line rest budget plain fits)
       ∙ ap (λ g. after_events events (after_events (part line).events (unless_broken g (lines + 1) (script left (lines + 1))))) bad
       ∙ ap (λ es. after_events events (after_events es (no_script (Some f) (lines + 1)))) (barren line f bad)
       ∙ after_none events (Some f) (lines + 1)
 
   module _ (r0 r1 r2 : Option (List ℕ)) (more : List ℕ) (read : Consumes r0 r1 bytes) (last : Consumes r1 r2 more) (ends : EndsLine bytes) (once : IsOneLine more) where
-    pub stopped : ReadsSome r0 r2
-    stopped = record {
+    taken : Consumes r0 r2 (bytes ++ more)
+    taken = Consumes-trans r0 r1 r2 bytes more read last
+
+    pub stopped : (e : ReadFault) → length more ≤ budget + 1 → (e ≡ Read → IsBrokenOff bytes more) → ReadsSome r0 r2 e
+    stopped e fits reading = record {
       bytes = bytes;
       last = more;
       whole = ends;
       one_line = once;
-      read = Consumes-trans r0 r1 r2 bytes more read last;
+      read = taken;
       good = ap (λ (s : Script). s.fault) here;
+      bound = bounded bytes more budget far.within fits;
+      reading = reading;
     }
 
-    pub closed : (s o : Script) → s ≡ o → script_of (bytes ++ more) ≡ o → IfNone o.fault (OnSome r0 (IsAtEnd r2)) → ReadsTo r0 r2 s
-    closed s o made is ended = record {
+    -- The script ends with this, whatever follows what was read; or it ends with the input.
+    abbrev pub Closes : Script → Type 0
+    Closes o =
+        (((rest : List ℕ) → script_of (bytes ++ (more ++ rest)) ≡ o) × ((length more ≡ budget + 1) ⊎ EndsLine more))
+        ⊎ ((script_of (bytes ++ more) ≡ o) × OnSome r0 (IsAtEnd r2))
+
+    so_far : (o : Script) → Closes o → script_of (bytes ++ more) ≡ o
+    so_far o (inl h) = ap (λ l. script_of (bytes ++ l)) (sym (append-nil more)) ∙ h.0 []
+    so_far o (inr h) = h.0
+
+    complete : (o : Script) → Closes o → IsComplete r0 r2 bytes more
+    complete o (inl h) = line_complete r0 r2 bytes more budget far.within h.1
+    complete o (inr h) = inr (inr h.1)
+
+    of_whole : (s o : Script) → s ≡ o → Closes o → IfSome r0 (λ input. s ≡ script_of input)
+    of_whole s o made (inl h) = of_input r0 r2 (bytes ++ more) (λ input. s ≡ script_of input) taken (λ rest. made ∙ sym (ap script_of (append_assoc bytes more rest) ∙ h.0 rest))
+    of_whole s o made (inr h) = at_input_end r0 r2 (bytes ++ more) (λ input. s ≡ script_of input) taken h.1 (made ∙ sym h.0)
+
+    pub closed : (s o : Script) → s ≡ o → length more ≤ budget + 1 → Closes o → IfNone o.fault (OnSome r0 (IsAtEnd r2)) → ReadsTo r0 r2 s
+    closed s o made fits end ended = record {
       bytes = bytes;
       last = more;
       whole = ends;
       one_line = once;
-      read = Consumes-trans r0 r1 r2 bytes more read last;
+      read = taken;
       good = ap (λ (s : Script). s.fault) here;
-      is = made ∙ sym is;
+      bound = bounded bytes more budget far.within fits;
+      complete = complete o end;
       ended = subst (λ f. IfNone f (OnSome r0 (IsAtEnd r2))) (sym (ap (λ (s : Script). s.fault) made)) ended;
+      is = made ∙ sym (so_far o end);
+      input = of_whole s o made end;
     }
 
 pub far_at : {lines budget budget' : ℕ} {bytes : List ℕ} {events events' : List Event} → SoFar lines budget bytes events → events' ≡ events → budget' ≡ budget → SoFar lines budget' bytes events'
 far_at {lines} {budget} {budget'} {bytes} {events} {events'} far p q = subst (λ b. SoFar lines b bytes events') (sym q) (subst (λ es. SoFar lines budget bytes es) (sym p) far)
+
+-- the script of the whole input
+pub reads_whole : (old new : Option (List ℕ)) (r : Result Kept ReadFault) → ReadsScript old new r → ReadsWhole old r
+reads_whole old new (Ok s) h = h.input
+reads_whole old new (Err e) h = tt
+
+pub no_memory : (e : ReadFault) (P : Type 0) → e ≡ NoMemory → e ≡ Read → P
+no_memory Read P h bad = cc
+no_memory NoMemory P h bad = cc
 
 -- ---- what a run writes for a script
 

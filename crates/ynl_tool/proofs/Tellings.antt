@@ -1,8 +1,7 @@
 -- Lines of events that are written one after another.
-use Rattle.std.proofs.Common.{◌≡◌, ◌≢◌, ℕ, suc, ◌+◌, ◌<◌, List, [], ◌∷◌, ◌++◌, length, drop, get_or, Option, Some, None, Result, Ok, Err, refl, sym, ap, subst, ◌∙◌, arith, append-nil, append_assoc, length-append, inr}
+use Rattle.std.proofs.Common.{◌≡◌, ◌≢◌, ℕ, suc, ◌+◌, ◌<◌, List, [], ◌∷◌, ◌++◌, length, drop, get_or, Bool, Option, Some, None, Result, Ok, Err, refl, sym, ap, subst, ◌∙◌, arith, append-nil, append_assoc, length-append, inr}
 use Rattle.std.specs.Prelude.{IsTrue, IfErr}
 use Rattle.std.specs.List.{concat}
-use Rattle.std.specs.Option.{option_map_or}
 use Rattle.std.specs.Io.KnownBytes.{Appends}
 use Rattle.std.proofs.KnownBytes.{Appends-nil, Appends-trans}
 use Rattle.std.proofs.lemmas.List.Folds.{concat-append}
@@ -13,6 +12,7 @@ use Rattle.ynl_resource.specs.declared.labels.Label.{Label}
 use Rattle.ynl_model.specs.declared.events.Event.{Event}
 use Rattle.ynl_model.specs.Queues.{Config}
 use Rattle.ynl_model.specs.Events.{step, replies}
+use Rattle.ynl_model.specs.Accepted.{is_accepted}
 use Rattle.ynl_model.specs.View.{is_sole}
 use Rattle.ynl_laws.proofs.Isolated.{is_isolated}
 use Rattle.ynl_core.specs.World.{World, stepped}
@@ -21,16 +21,13 @@ use Rattle.ynl_tool.specs.declared.run.ToolFault.TheVariants.{Read, Write, NoMem
 use Rattle.ynl_lines.specs.declared.faults.LineFault.{LineFault}
 use Rattle.ynl_lines.specs.Writing.{fault_text}
 use Rattle.ynl_tool.specs.declared.run.Summary.{Summary}
-use Rattle.ynl_tool.specs.Lines.{AppendsFront}
+use Rattle.ynl_tool.specs.Lines.{AppendsPart}
 use Rattle.ynl_tool.specs.Run.{line_of, faulty}
 use Rattle.ynl_tool.specs.Running.{Writes}
-use Rattle.ynl_tool.specs.Script.{Script, ReadsTo, fault_lines}
-use Rattle.ynl_tool.specs.Telling.{entry_lines, entry_line, view_lines, tenant_lines, AppendsLines, LeavesLine, LeavesLines, TellsAll, TellsTenant}
-use Rattle.ynl_tool.proofs.Fronts.{front_of_more, front_after}
-
--- the line that tells a fault, if there is one
-abbrev lines_of_fault : ℕ → Option LineFault → List (List ℕ)
-lines_of_fault n f = option_map_or (λ f. line_of (fault_text f n) ∷ []) f []
+use Rattle.ynl_tool.specs.Script.{Script, script_of, ReadsTo, fault_lines_of, fault_lines}
+use Rattle.ynl_tool.specs.Telling.{entry_lines, entry_line, view_lines, tenant_lines, AppendsLines, LeavesLine, LeavesLines, TellsEvent, IsToldOf, TellsAll, TellsWhole, TellsTenant}
+use Rattle.ynl_tool.proofs.Closings.{of_some}
+use Rattle.ynl_tool.proofs.Fronts.{part_of_more, part_after}
 
 -- ---- lines, and more lines
 
@@ -57,14 +54,14 @@ no_lines a xs = all_of_more a a [] xs (Appends-nil a)
 pub leaves_more : (a b : Option (List ℕ)) (xs ys : List (List ℕ)) (e : ToolFault) → LeavesLines a b xs e → LeavesLines a b (xs ++ ys) e
 leaves_more a b xs ys Read h = h
 leaves_more a b xs ys NoMemory h = lines_of_more a b xs ys h
-leaves_more a b xs ys Write h = subst (AppendsFront a b) (sym (concat-append xs ys)) (front_of_more a b (concat xs) (concat ys) h)
+leaves_more a b xs ys Write h = subst (AppendsPart a b) (sym (concat-append xs ys)) (part_of_more a b (concat xs) (concat ys) h)
 
 -- lines, and then what a fault left of the next
 pub leaves_after : (a b c : Option (List ℕ)) (done : List (List ℕ)) (line : List ℕ) (rest : List (List ℕ)) (e : ToolFault) → Appends a b (concat done) → LeavesLine b c line e → LeavesLines a c (done ++ line ∷ rest) e
 leaves_after a b c done line rest Read before h = h
 leaves_after a b c done line rest NoMemory before h = all_of_more a c done (line ∷ rest) (subst (Appends a c) (append-nil (concat done)) (Appends-trans a b c (concat done) [] before h))
 leaves_after a b c done line rest Write before h =
-    subst (AppendsFront a c) (sym (concat-append done (line ∷ rest))) (front_after a b c (concat done) (line ++ concat rest) before (front_of_more b c line (concat rest) h))
+    subst (AppendsPart a c) (sym (concat-append done (line ∷ rest))) (part_after a b c (concat done) (line ++ concat rest) before (part_of_more b c line (concat rest) h))
 
 -- lines, and one more
 pub one_more : (a b c : Option (List ℕ)) (done : List (List ℕ)) (line : List ℕ) → Appends a b (concat done) → Appends b c line → Appends a c (concat (done ++ line ∷ []))
@@ -110,6 +107,12 @@ module _ (core : World) (places : List ℕ) (events : List Event) (now : World) 
   failed a b c n e f p q before h =
       subst (λ ls. LeavesLines a c ls f) (sym (next n e p q)) (leaves_after a b c done (entry_line now n e) _ f before h)
 
+-- what an error leaves of an event's line
+pub event_left : (a b : Option (List ℕ)) (core next : World) (n : ℕ) (e : Event) (f : ToolFault) → TellsEvent {A = Unit {0}} a b core next n e (Err f) → LeavesLine a b (entry_line core n e) f
+event_left a b core next n e Read h = absurd h
+event_left a b core next n e NoMemory h = h
+event_left a b core next n e Write h = h.1
+
 -- what is left begins with the next
 pub next_number : (xs : List ℕ) (i : ℕ) → i < length xs → drop i xs ≡ get_or xs i 0 ∷ drop (i + 1) xs
 next_number xs i h = let e : suc i ≡ i + 1 = omega arith in drop-cons xs i 0 h ∙ ap (λ k. get_or xs i 0 ∷ drop k xs) e
@@ -119,44 +122,57 @@ next_event xs i x h is = let e : suc i ≡ i + 1 = omega arith in drop-cons xs i
 
 -- ---- a script that was read, and what the tenant is told of it
 
-module _ (old new w0 w1 : Option (List ℕ)) (c : Config) (t : Name) (p : Label) (s : Script) (read : ReadsTo old new s) where
+module _ (old new w0 w1 : Option (List ℕ)) (c : Config) (t : Name) (p : Label) (accepted : Bool) (s : Script) (read : ReadsTo old new s) where
   abbrev seen : List (List ℕ)
   seen = view_lines c t p s.events
 
-  pub fails : (e : ToolFault) → LeavesLines w0 w1 (tenant_lines c t p s) e → TellsTenant old new w0 w1 c t p (Err e)
+  pub fails : (e : ToolFault) → LeavesLines w0 w1 (tenant_lines c t p s) e → TellsTenant old new w0 w1 accepted c t p (Err e)
   fails Read left = absurd left
   fails NoMemory left = inr (record { script = s; read = read; written = left })
   fails Write left = record { script = s; read = read; written = left }
 
   -- an error in what is seen
-  pub fails_early : (e : ToolFault) → LeavesLines w0 w1 seen e → TellsTenant old new w0 w1 c t p (Err e)
+  pub fails_early : (e : ToolFault) → LeavesLines w0 w1 seen e → TellsTenant old new w0 w1 accepted c t p (Err e)
   fails_early e left = fails e (leaves_more w0 w1 seen (fault_lines s) e left)
 
-  module _ (sole : IsTrue (is_sole c t p)) where
-    ends_well : (summary : Summary) → summary.lines ≡ s.lines → summary.fault ≡ s.fault → Appends w0 w1 (concat (tenant_lines c t p s)) → TellsAll old new w0 w1 c t p summary
+  module _ (sole : IsTrue (is_sole c t p)) (known : IsTrue accepted → IsTrue (is_accepted c)) where
+    ends_well : (summary : Summary) → summary.lines ≡ s.lines → summary.fault ≡ s.fault → Appends w0 w1 (concat (tenant_lines c t p s)) → TellsAll old new w0 w1 accepted c t p summary
     ends_well summary lines fault written = record {
       script = s;
       read = read;
       written = written;
       lines = lines;
       fault = fault;
-      same = λ accepted. (is_isolated c s.events t p accepted sole).replies;
+      same = λ is. (is_isolated c s.events t p (known is) sole).replies;
+      input = of_some old (λ input. s ≡ script_of input) (IsToldOf w0 w1 accepted c t p summary)
+          (λ input is. record {
+            written = subst (λ (k : Script). Appends w0 w1 (concat (tenant_lines c t p k))) is written;
+            lines = lines ∙ ap (λ (k : Script). k.lines) is;
+            fault = fault ∙ ap (λ (k : Script). k.fault) is;
+            same = λ is. (is_isolated c (script_of input).events t p (known is) sole).replies;
+          })
+          read.input;
     }
 
     -- no line has a fault
-    pub ends_whole : (summary : Summary) → summary.lines ≡ s.lines → summary.fault ≡ s.fault → s.fault ≡ None → Appends w0 w1 (concat seen) → TellsAll old new w0 w1 c t p summary
+    pub ends_whole : (summary : Summary) → summary.lines ≡ s.lines → summary.fault ≡ s.fault → s.fault ≡ None → Appends w0 w1 (concat seen) → TellsAll old new w0 w1 accepted c t p summary
     ends_whole summary lines fault none h =
         ends_well summary lines fault
-        (subst (λ ls. Appends w0 w1 (concat ls)) (sym (ap (λ f. seen ++ lines_of_fault s.lines f) none ∙ append-nil seen)) h)
+        (subst (λ ls. Appends w0 w1 (concat ls)) (sym (ap (λ f. seen ++ fault_lines_of s.lines f) none ∙ append-nil seen)) h)
 
     -- what was seen is written, and then the line of the fault
     pub ends_broken : (wm : Option (List ℕ)) (f : LineFault) (r : Result Summary ToolFault) → s.fault ≡ Some f → Appends w0 wm (concat seen) → Writes wm w1 (faulty f s.lines) r → IfErr r (λ e. e ≢ Read)
-        → TellsTenant old new w0 w1 c t p r
+        → TellsTenant old new w0 w1 accepted c t p r
     ends_broken wm f (Ok summary) some h w other =
         ends_well summary w.0 (w.1 ∙ sym some)
-        (subst (λ ls. Appends w0 w1 (concat ls)) (sym (ap (λ f. seen ++ lines_of_fault s.lines f) some)) (one_more w0 wm w1 seen (line_of (fault_text f s.lines)) h w.2))
+        (subst (λ ls. Appends w0 w1 (concat ls)) (sym (ap (λ f. seen ++ fault_lines_of s.lines f) some)) (one_more w0 wm w1 seen (line_of (fault_text f s.lines)) h w.2))
     ends_broken wm f (Err Read) some h w other = absurd (other refl)
     ends_broken wm f (Err NoMemory) some h w other =
-        fails NoMemory (subst (λ ls. LeavesLines w0 w1 ls NoMemory) (sym (ap (λ f. seen ++ lines_of_fault s.lines f) some)) (leaves_after w0 wm w1 seen (line_of (fault_text f s.lines)) [] NoMemory h w))
+        fails NoMemory (subst (λ ls. LeavesLines w0 w1 ls NoMemory) (sym (ap (λ f. seen ++ fault_lines_of s.lines f) some)) (leaves_after w0 wm w1 seen (line_of (fault_text f s.lines)) [] NoMemory h w))
     ends_broken wm f (Err Write) some h w other =
-        fails Write (subst (λ ls. LeavesLines w0 w1 ls Write) (sym (ap (λ f. seen ++ lines_of_fault s.lines f) some)) (leaves_after w0 wm w1 seen (line_of (fault_text f s.lines)) [] Write h w))
+        fails Write (subst (λ ls. LeavesLines w0 w1 ls Write) (sym (ap (λ f. seen ++ fault_lines_of s.lines f) some)) (leaves_after w0 wm w1 seen (line_of (fault_text f s.lines)) [] Write h w))
+
+-- what the tenant is told of the whole input
+pub tells_whole : (old new w0 w1 : Option (List ℕ)) (accepted : Bool) (c : Config) (t : Name) (p : Label) (r : Result Summary ToolFault) → TellsTenant old new w0 w1 accepted c t p r → TellsWhole old w0 w1 accepted c t p r
+tells_whole old new w0 w1 accepted c t p (Ok summary) h = h.input
+tells_whole old new w0 w1 accepted c t p (Err e) h = tt

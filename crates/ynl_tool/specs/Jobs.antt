@@ -2,8 +2,6 @@
 use Rattle.std.specs.Prelude.{◌≡◌, ℕ, Bool, true, false, List, [], ◌++◌, Option, Result, Ok, Err, codes}
 use Rattle.std.specs.Option.{option_map_or}
 use Rattle.std.specs.Io.KnownBytes.{Consumes, Appends}
-use Rattle.std.specs.declared.io.ErrorKind.{ErrorKind}
-use Rattle.std.specs.declared.io.ErrorKind.TheVariants.{OutOfMemory}
 use Rattle.ynl_resource.specs.declared.names.Name.{Name}
 use Rattle.ynl_resource.specs.declared.labels.Label.{Label}
 use Rattle.ynl_model.specs.Cluster.{opening}
@@ -27,11 +25,6 @@ use Rattle.ynl_tool.specs.declared.words.Kind.TheVariants.{Run, Tenant}
 -- how many bytes of a configuration are read at most: one more than it may have
 abbrev pub most_read : ℕ
 most_read = 1048577
-
--- what is told of an error that was met in reading: want of memory is told from the others
-abbrev pub fault_by : ErrorKind → ToolFault
-fault_by OutOfMemory = NoMemory
-fault_by _ = Read
 
 -- the line on the error stream
 abbrev pub error_line : ToolFault → List ℕ
@@ -87,20 +80,20 @@ RunsJob old new wold wnew c (Ok (Err refusal)) = ⊥
 RunsJob old new wold wnew c (Err e) = Runs old new wold wnew c (opening c) (Err e)
 
 -- what a tenant's partition sees is told, where the tenant is alone there
-abbrev pub TellsJob : Option (List ℕ) → Option (List ℕ) → Option (List ℕ) → Option (List ℕ) → Configured → Name → Label → Bool → Ending → Type 0
-TellsJob old new wold wnew c t p true (Ok (Ok summary)) = TellsTenant old new wold wnew c t p (Ok summary)
-TellsJob old new wold wnew c t p true (Ok (Err refusal)) = ⊥
-TellsJob old new wold wnew c t p true (Err e) = TellsTenant old new wold wnew c t p (Err e)
-TellsJob old new wold wnew c t p false ended = NotBegun old new wold wnew NotSole ended
+abbrev pub TellsJob : Option (List ℕ) → Option (List ℕ) → Option (List ℕ) → Option (List ℕ) → Bool → Configured → Name → Label → Bool → Ending → Type 0
+TellsJob old new wold wnew accepted c t p true (Ok (Ok summary)) = TellsTenant old new wold wnew accepted c t p (Ok summary)
+TellsJob old new wold wnew accepted c t p true (Ok (Err refusal)) = ⊥
+TellsJob old new wold wnew accepted c t p true (Err e) = TellsTenant old new wold wnew accepted c t p (Err e)
+TellsJob old new wold wnew accepted c t p false ended = NotBegun old new wold wnew NotSole ended
 
--- the job of a kind, with a cluster of this configuration
-abbrev pub DoesJob : Option (List ℕ) → Option (List ℕ) → Option (List ℕ) → Option (List ℕ) → Kind → Configured → Ending → Type 0
-DoesJob old new wold wnew Run c ended = RunsJob old new wold wnew c ended
-DoesJob old new wold wnew (Tenant t p) c ended = TellsJob old new wold wnew c t p (is_sole c t p) ended
+-- the job of a kind, with a cluster of this configuration, where that may be known to be accepted
+abbrev pub DoesJob : Option (List ℕ) → Option (List ℕ) → Option (List ℕ) → Option (List ℕ) → Bool → Kind → Configured → Ending → Type 0
+DoesJob old new wold wnew accepted Run c ended = RunsJob old new wold wnew c ended
+DoesJob old new wold wnew accepted (Tenant t p) c ended = TellsJob old new wold wnew accepted c t p (is_sole c t p) ended
 
--- the job with this configuration; or its fault, where there is none
+-- the job with this configuration, which is accepted; or its fault, where there is none
 abbrev pub DoesWith : Option (List ℕ) → Option (List ℕ) → Option (List ℕ) → Option (List ℕ) → Kind → Result Configured ConfigFault → Ending → Type 0
-DoesWith old new wold wnew kind (Ok c) ended = DoesJob old new wold wnew kind c ended
+DoesWith old new wold wnew kind (Ok c) ended = DoesJob old new wold wnew true kind c ended
 DoesWith old new wold wnew kind (Err fault) ended = NotBegun old new wold wnew (Config fault) ended
 
 -- the job with the configuration that a text means

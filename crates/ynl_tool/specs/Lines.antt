@@ -1,9 +1,14 @@
 -- What reading a line and writing a text do to the bytes of a reader and a writer.
-use Rattle.std.specs.Prelude.{◌≡◌, ◌≢◌, ◌⊎◌, ℕ, ◌-◌, ◌<◌, ◌≤◌, List, [], ◌∷◌, ◌++◌, length, take, All, Option, Some, None, OnSome, Result, Ok, Err}
+use Rattle.std.specs.Prelude.{◌≡◌, ◌≢◌, ◌⊎◌, ℕ, ◌+◌, ◌-◌, ◌<◌, ◌≤◌, List, [], ◌∷◌, ◌++◌, length, take, All, Option, Some, None, OnSome, Result, Ok, Err}
 use Rattle.std.specs.Io.KnownBytes.{Consumes, IsAtEnd, Appends}
 use Rattle.ynl_tool.specs.declared.lines_in.LineEnd.{LineEnd}
 use Rattle.ynl_tool.specs.declared.lines_in.LineEnd.TheVariants.{Newline, Input, Budget}
 use Rattle.ynl_tool.specs.declared.lines_in.ReadFault.{ReadFault}
+use Rattle.ynl_tool.specs.declared.lines_in.ReadFault.TheVariants.{Read, NoMemory}
+use Rattle.ynl_tool.specs.declared.lines_in.Taken.{Taken}
+use Rattle.std.specs.declared.io.ErrorKind.{ErrorKind}
+use Rattle.std.specs.declared.io.ErrorKind.TheVariants.{OutOfMemory}
+use Rattle.ynl_tool.specs.Run.{limit}
 
 -- no newline among the bytes
 abbrev pub IsPlain : List ℕ → Type 0
@@ -17,6 +22,43 @@ EndsLine bytes = (bytes ≡ []) ⊎ ((front : List ℕ) × (bytes ≡ front ++ 1
 abbrev pub IsOneLine : List ℕ → Type 0
 IsOneLine bytes = IsPlain (take (length bytes - 1) bytes)
 
+-- of these lines the last one was read to its end or to that of the input, or the byte past the size limit was read
+abbrev pub IsComplete : Option (List ℕ) → Option (List ℕ) → List ℕ → List ℕ → Type 0
+IsComplete old new bytes last = (length (bytes ++ last) ≡ limit + 1) ⊎ (EndsLine last ⊎ OnSome old (IsAtEnd new))
+
+-- after these lines one was broken off: it has no newline, and is not too long
+abbrev pub IsBrokenOff : List ℕ → List ℕ → Type 0
+IsBrokenOff bytes last = IsPlain last × (length (bytes ++ last) ≤ limit)
+
+-- what is told of an error that was met in reading: want of memory is told from all others
+abbrev pub read_fault : ErrorKind → ReadFault
+read_fault OutOfMemory = NoMemory
+read_fault _ = Read
+
+-- Of the bytes that were shown so many are taken: those that the line grew by, to n bytes, and what ended it.
+abbrev pub IsTaken : List ℕ → List ℕ → ℕ → ℕ → ℕ → Option LineEnd → Type 0
+IsTaken shown bytes n budget count None = (0 < length bytes) × (take count shown ≡ bytes)
+IsTaken shown bytes n budget count (Some Newline) = (n < budget) × (take count shown ≡ bytes ++ 10 ∷ [])
+IsTaken shown bytes n budget count (Some Input) = (length shown ≡ 0) × (take count shown ≡ bytes)
+IsTaken shown bytes n budget count (Some Budget) = (n ≡ budget) × ((byte : ℕ) × (take count shown ≡ bytes ++ byte ∷ []))
+
+-- these bytes are taken, with what ended the line; or none, where there was no memory for them
+abbrev pub TakesShown : List ℕ → List ℕ → ℕ → ℕ → Result Taken ReadFault → Type 0
+TakesShown shown bytes n budget (Ok taken) = (taken.count ≤ length shown) × IsTaken shown bytes n budget taken.count taken.end
+TakesShown shown bytes n budget (Err e) = (e ≡ NoMemory) × (bytes ≡ [])
+
+-- the line grew by bytes that were shown
+pub record AddsShown (shown before after : List ℕ) (budget : ℕ) (r : Result Taken ReadFault) : Type 0 where
+  pub bytes : List ℕ
+  pub plain : IsPlain bytes
+  pub grown : after ≡ before ++ bytes
+  pub within : length after ≤ budget
+  pub ended : TakesShown shown bytes (length after) budget r
+
+-- an error of this kind is told, and the line is as it was
+abbrev pub FailsAs : ErrorKind → List ℕ → List ℕ → Result Taken ReadFault → Type 0
+FailsAs kind before after r = (r ≡ Err (read_fault kind)) × (after ≡ before)
+
 -- The reader gave these bytes of the line, which has n bytes now, and what ended the line.
 abbrev pub Ends : Option (List ℕ) → Option (List ℕ) → List ℕ → ℕ → ℕ → Option LineEnd → Type 0
 Ends old new bytes n budget None = (0 < length bytes) × Consumes old new bytes
@@ -24,10 +66,12 @@ Ends old new bytes n budget (Some Newline) = (n < budget) × Consumes old new (b
 Ends old new bytes n budget (Some Input) = OnSome old (IsAtEnd new) × Consumes old new bytes
 Ends old new bytes n budget (Some Budget) = (n ≡ budget) × ((byte : ℕ) × Consumes old new (bytes ++ byte ∷ []))
 
+-- the same of a piece, which may leave the line open; and before an error these bytes were given
 abbrev pub PieceEnds : Option (List ℕ) → Option (List ℕ) → List ℕ → ℕ → ℕ → Result (Option LineEnd) ReadFault → Type 0
 PieceEnds old new bytes n budget (Ok ended) = Ends old new bytes n budget ended
 PieceEnds old new bytes n budget (Err e) = Consumes old new bytes
 
+-- the same of a line from its beginning
 abbrev pub LineEnds : Option (List ℕ) → Option (List ℕ) → List ℕ → ℕ → Result LineEnd ReadFault → Type 0
 LineEnds old new line budget (Ok ended) = Ends old new line (length line) budget (Some ended)
 LineEnds old new line budget (Err e) = Consumes old new line
@@ -51,3 +95,8 @@ pub record AppendsFront (old new : Option (List ℕ)) (text : List ℕ) : Type 0
   pub count : ℕ
   pub bound : count ≤ length text
   pub appended : Appends old new (take count text)
+
+-- a front of the text was written, and not all of it
+pub record AppendsPart (old new : Option (List ℕ)) (text : List ℕ) : Type 0 where
+  pub front : AppendsFront old new text
+  pub missing : front.count < length text

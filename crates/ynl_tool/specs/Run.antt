@@ -47,6 +47,7 @@ pub record Turn : Type 0 where
   pub text : List ℕ
   pub fault : Option LineFault
 
+-- what a line does that is an event: its step, with the reply on a line; or that has a fault: nothing but the fault
 abbrev pub turn_of : Config → State → Result Event LineFault → Turn
 turn_of c s (Ok event) = record { state = (step c s event).state; text = line_of (reply_text (step c s event).reply); fault = None }
 turn_of c s (Err f) = record { state = s; text = []; fault = Some f }
@@ -55,6 +56,7 @@ turn_of c s (Err f) = record { state = s; text = []; fault = Some f }
 abbrev pub still : State → Turn
 still s = record { state = s; text = []; fault = None }
 
+-- what a line does: a blank one nothing
 abbrev pub turn : Config → State → List ℕ → Turn
 turn c s line = if is_blank line then still s else turn_of c s (event_of_line line)
 
@@ -68,10 +70,12 @@ pub record Outcome : Type 0 where
 abbrev pub faulty : LineFault → ℕ → Outcome
 faulty f n = record { text = line_of (fault_text f n); lines = n; fault = Some f }
 
+-- the rest of a run, unless this line has a fault
 abbrev pub unless_fault : Option LineFault → ℕ → Outcome → Outcome
 unless_fault None n rest = rest
 unless_fault (Some f) n rest = faulty f n
 
+-- the rest of a run, with a text written before it
 abbrev pub said : List ℕ → Outcome → Outcome
 said text rest = record { text = text ++ rest.text; lines = rest.lines; fault = rest.fault }
 

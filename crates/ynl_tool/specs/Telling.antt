@@ -1,5 +1,5 @@
 -- What is told to a tenant: the events that its partition sees, and the replies of the cluster that holds the tenant alone.
-use Rattle.std.specs.Prelude.{◌≡◌, ◌⊎◌, ℕ, ◌≤◌, IsTrue, List, [], ◌∷◌, ◌++◌, length, take, Option, Result, Ok, Err}
+use Rattle.std.specs.Prelude.{◌≡◌, ◌⊎◌, ℕ, ◌≤◌, Bool, IsTrue, List, [], ◌∷◌, ◌++◌, length, take, Option, IfSome, Result, Ok, Err, IfOk}
 use Rattle.std.specs.List.{concat}
 use Rattle.std.specs.Io.KnownBytes.{Appends}
 use Rattle.ynl_resource.specs.declared.names.Name.{Name}
@@ -7,18 +7,19 @@ use Rattle.ynl_resource.specs.declared.labels.Label.{Label}
 use Rattle.ynl_model.specs.declared.events.Event.{Event}
 use Rattle.ynl_model.specs.declared.replies.Reply.{Reply}
 use Rattle.ynl_model.specs.Queues.{Config}
-use Rattle.ynl_model.specs.Accepted.{is_accepted}
 use Rattle.ynl_model.specs.Events.{step, replies_to}
 use Rattle.ynl_model.specs.View.{Viewed, view, events_of, places_of, restrict}
 use Rattle.ynl_model.specs.Promises.{HasSameReplies}
 use Rattle.ynl_core.specs.World.{World, stepped}
 use Rattle.ynl_lines.specs.Writing.{line_text}
+use Rattle.ynl_tool.specs.declared.lines_in.ReadFault.{ReadFault}
+use Rattle.ynl_tool.specs.declared.lines_in.ReadFault.TheVariants as reading
 use Rattle.ynl_tool.specs.declared.run.ToolFault.{ToolFault}
 use Rattle.ynl_tool.specs.declared.run.ToolFault.TheVariants.{Read, Write, NoMemory}
 use Rattle.ynl_tool.specs.declared.run.Summary.{Summary}
-use Rattle.ynl_tool.specs.Lines.{AppendsFront}
+use Rattle.ynl_tool.specs.Lines.{AppendsPart}
 use Rattle.ynl_tool.specs.Run.{line_of}
-use Rattle.ynl_tool.specs.Script.{Script, ReadsTo, ReadsSome, fault_lines}
+use Rattle.ynl_tool.specs.Script.{Script, script_of, ReadsTo, ReadsSome, fault_lines}
 
 -- ---- what is written
 
@@ -49,15 +50,16 @@ pub record AppendsLines (old new : Option (List ℕ)) (lines : List (List ℕ)) 
   pub bound : count ≤ length lines
   pub appended : Appends old new (concat (take count lines))
 
--- a fault left a front of the lines: whole lines where memory was refused. The reader has no part in it.
+-- a fault left a front of the lines: whole lines where memory was refused, and not all of them where a write failed. The reader has no
+-- part in it.
 abbrev pub LeavesLines : Option (List ℕ) → Option (List ℕ) → List (List ℕ) → ToolFault → Type 0
-LeavesLines old new lines Write = AppendsFront old new (concat lines)
+LeavesLines old new lines Write = AppendsPart old new (concat lines)
 LeavesLines old new lines NoMemory = AppendsLines old new lines
 LeavesLines old new lines Read = ⊥
 
 -- a fault left a front of a line: nothing where memory was refused
 abbrev pub LeavesLine : Option (List ℕ) → Option (List ℕ) → List ℕ → ToolFault → Type 0
-LeavesLine old new line Write = AppendsFront old new line
+LeavesLine old new line Write = AppendsPart old new line
 LeavesLine old new line NoMemory = Appends old new []
 LeavesLine old new line Read = ⊥
 
@@ -65,24 +67,42 @@ LeavesLine old new line Read = ⊥
 abbrev pub entry_line : World → ℕ → Event → List ℕ
 entry_line core place e = line_of (line_text place e (step core.config core.state e).reply)
 
--- an event was answered, and its line was written or a front of it
+-- an event was answered, and its line was written, or a part of it where a write failed; or memory was refused, and nothing was written
 abbrev pub TellsEvent : {A : Type 0} → Option (List ℕ) → Option (List ℕ) → World → World → ℕ → Event → Result A ToolFault → Type 0
 TellsEvent old new core next place e (Ok x) = (next ≡ stepped core e) × Appends old new (entry_line core place e)
-TellsEvent old new core next place e (Err f) = LeavesLine old new (entry_line core place e) f
+TellsEvent old new core next place e (Err Write) = (next ≡ stepped core e) × AppendsPart old new (entry_line core place e)
+TellsEvent old new core next place e (Err NoMemory) = Appends old new []
+TellsEvent old new core next place e (Err Read) = ⊥
 
 -- the lines were written, or a fault left a front of them
 abbrev pub SaysLines : {A : Type 0} → Option (List ℕ) → Option (List ℕ) → List (List ℕ) → Result A ToolFault → Type 0
 SaysLines old new lines (Ok x) = Appends old new (concat lines)
 SaysLines old new lines (Err e) = LeavesLines old new lines e
 
--- the script was read, and the tenant was told of it; in an accepted configuration its replies are those of the whole cluster
-pub record TellsAll (old new wold wnew : Option (List ℕ)) (c : Config) (t : Name) (p : Label) (summary : Summary) : Type 0 where
+-- Where a configuration is known to be accepted, the replies that a tenant is told are those of the whole cluster.
+abbrev pub AreThose : Bool → Config → List Event → Name → Label → Type 0
+AreThose accepted c events t p = IsTrue accepted → HasSameReplies c events t p
+
+-- the tenant was told of the script that this input is, and of nothing else
+pub record IsToldOf (wold wnew : Option (List ℕ)) (accepted : Bool) (c : Config) (t : Name) (p : Label) (summary : Summary) (input : List ℕ) : Type 0 where
+  pub written : Appends wold wnew (concat (tenant_lines c t p (script_of input)))
+  pub lines : summary.lines ≡ (script_of input).lines
+  pub fault : summary.fault ≡ (script_of input).fault
+  pub same : AreThose accepted c (script_of input).events t p
+
+-- the whole input, where the reader tells its bytes
+abbrev pub TellsWhole : Option (List ℕ) → Option (List ℕ) → Option (List ℕ) → Bool → Config → Name → Label → Result Summary ToolFault → Type 0
+TellsWhole old wold wnew accepted c t p r = IfOk r (λ summary. IfSome old (IsToldOf wold wnew accepted c t p summary))
+
+-- the script was read, and the tenant was told of it and of nothing else
+pub record TellsAll (old new wold wnew : Option (List ℕ)) (accepted : Bool) (c : Config) (t : Name) (p : Label) (summary : Summary) : Type 0 where
   pub script : Script
   pub read : ReadsTo old new script
   pub written : Appends wold wnew (concat (tenant_lines c t p script))
   pub lines : summary.lines ≡ script.lines
   pub fault : summary.fault ≡ script.fault
-  pub same : IsTrue (is_accepted c) → HasSameReplies c script.events t p
+  pub same : AreThose accepted c script.events t p
+  pub input : IfSome old (IsToldOf wold wnew accepted c t p summary)
 
 -- the script was read, and then an error left a front of what the tenant is told
 pub record TellsSome (old new wold wnew : Option (List ℕ)) (c : Config) (t : Name) (p : Label) (e : ToolFault) : Type 0 where
@@ -91,13 +111,13 @@ pub record TellsSome (old new wold wnew : Option (List ℕ)) (c : Config) (t : N
   pub written : LeavesLines wold wnew (tenant_lines c t p script) e
 
 -- the script was not read to its end, and nothing was written
-pub record TellsNothing (old new wold wnew : Option (List ℕ)) : Type 0 where
-  pub read : ReadsSome old new
+pub record TellsNothing (old new wold wnew : Option (List ℕ)) (e : ReadFault) : Type 0 where
+  pub read : ReadsSome old new e
   pub unwritten : Appends wold wnew []
 
 -- Only once the script has been read the tenant is told of it.
-abbrev pub TellsTenant : Option (List ℕ) → Option (List ℕ) → Option (List ℕ) → Option (List ℕ) → Config → Name → Label → Result Summary ToolFault → Type 0
-TellsTenant old new wold wnew c t p (Ok summary) = TellsAll old new wold wnew c t p summary
-TellsTenant old new wold wnew c t p (Err Read) = TellsNothing old new wold wnew
-TellsTenant old new wold wnew c t p (Err NoMemory) = TellsNothing old new wold wnew ⊎ TellsSome old new wold wnew c t p NoMemory
-TellsTenant old new wold wnew c t p (Err Write) = TellsSome old new wold wnew c t p Write
+abbrev pub TellsTenant : Option (List ℕ) → Option (List ℕ) → Option (List ℕ) → Option (List ℕ) → Bool → Config → Name → Label → Result Summary ToolFault → Type 0
+TellsTenant old new wold wnew accepted c t p (Ok summary) = TellsAll old new wold wnew accepted c t p summary
+TellsTenant old new wold wnew accepted c t p (Err Read) = TellsNothing old new wold wnew reading.Read
+TellsTenant old new wold wnew accepted c t p (Err NoMemory) = TellsNothing old new wold wnew reading.NoMemory ⊎ TellsSome old new wold wnew c t p NoMemory
+TellsTenant old new wold wnew accepted c t p (Err Write) = TellsSome old new wold wnew c t p Write

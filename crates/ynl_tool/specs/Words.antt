@@ -1,5 +1,5 @@
 -- The command line.
-use Rattle.std.specs.Prelude.{true, List, Option, Some, None, option_and_then, codes, if◌then◌else◌}
+use Rattle.std.specs.Prelude.{◌≡◌, true, List, Option, Some, None, option_and_then, codes, if◌then◌else◌}
 use Rattle.std.specs.Result.{result_ok}
 use Rattle.std.specs.Str.{bytes_eq}
 use Rattle.clap.specs.Walk.{Rule, Row, Text, first_of}
@@ -66,3 +66,7 @@ kind_met met =
 -- what the words ask for
 abbrev pub kind_of : List Text → Option Kind
 kind_of words = option_and_then kind_met (subcommand_of command words)
+
+-- a subcommand was found, and what it is given for a name or a label is none
+abbrev pub HasBadName : List Text → Type 0
+HasBadName words = (met : Text × List Row) × (subcommand_of command words ≡ Some met) × (kind_met met ≡ None)

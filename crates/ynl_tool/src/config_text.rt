@@ -2,37 +2,24 @@
 
 ghost use Rattle.std.specs.Prelude.{◌≡◌, ◌++◌, IfSome, OnOk, take};
 ghost use Rattle.std.specs.IoError.{error_kind};
-ghost use Rattle.ynl_tool.specs.Jobs.{fault_by, most_read};
+ghost use Rattle.ynl_tool.specs.Jobs.{most_read};
+ghost use Rattle.ynl_tool.specs.Lines.{read_fault};
+ghost use Rattle.ynl_tool.specs.Running.{tool_fault};
 
+use crate::lines_in::read_fault;
 use crate::run::ToolFault;
 use std::io;
-use std::io::{ErrorKind, Read};
+use std::io::Read;
 
 /// How many bytes of a configuration are read at most: one more than it may have, so that one that
 /// is too long is told.
 const MOST_READ: u64 = 1_048_577;
 
-/// The configuration where no file is named: one queue, root.eng, which has all of each partition,
-/// and one exclusive label, gpu.
-pub const BUILT_IN: &str = "\
-version = 1
-[[label]]
-name = \"gpu\"
-[[queue]]
-path = \"root.eng\"
-capacity = 100
-[queue.label.gpu]
-capacity = 100
-";
-
-/// What is told of an error that was met in reading.
+/// What is told of an error that was met in opening or reading: want of memory is told from all others.
 pub fn fault_of(error: &io::Error) -> ToolFault
-    ensures { result ≡ fault_by (error_kind error.now) }
+    ensures { result ≡ tool_fault (read_fault (error_kind error.now)) }
 {
-    if error.kind() == ErrorKind::OutOfMemory {
-        return ToolFault::NoMemory;
-    }
-    ToolFault::Read
+    ToolFault::from(read_fault(error))
 }
 
 /// Reads the text of a configuration. Of a file that is too long for one no more is read than shows

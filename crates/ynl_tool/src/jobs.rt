@@ -1,6 +1,7 @@
 //! Doing a job.
 
 ghost use Rattle.std.specs.Prelude.{◌≡◌};
+ghost use Rattle.ynl_model.specs.Accepted.{is_accepted};
 ghost use Rattle.ynl_tool.specs.Lines.{AppendsFront};
 ghost use Rattle.ynl_tool.specs.Jobs.{error_line, config_line, refusal_line, status_of, DoesJob, DoesText, Executes};
 
@@ -68,7 +69,7 @@ fn do_job<R: BufRead, W: Write>(
     reader: &mut R,
     writer: &mut W,
 ) -> Result<Result<Summary, JobRefusal>, ToolFault>
-    ensures { DoesJob (R.remaining reader.old) (R.remaining reader.new) (W.contents writer.old) (W.contents writer.new) kind config result }
+    ensures { DoesJob (R.remaining reader.old) (R.remaining reader.new) (W.contents writer.old) (W.contents writer.new) (is_accepted config) kind config result }
 {
     match kind {
         Kind::Run => match run_lines(alloc, config, reader, writer) {

@@ -2,12 +2,13 @@
 //! events of an input, and tells how that ended.
 #![tactic(auto)]
 
-pub use config_text::{BUILT_IN, fault_of, read_text};
+pub use config_text::{fault_of, read_text};
 pub use jobs::{execute, tell};
 pub use run::{Summary, ToolFault, run_lines};
 pub use script_in::{Script, read_script, runs_answer_scripts};
 pub use tenant::tenant_lines;
 pub use words::{Job, Kind, WordsFault, parse_words};
+pub use ynl_config::BUILT_IN;
 
 mod config_text;
 mod jobs;
@@ -16,6 +17,4 @@ mod lines_out;
 mod run;
 mod script_in;
 mod tenant;
-#[cfg(test)]
-mod tests;
 mod words;

@@ -1,10 +1,12 @@
 //! Lines, read from a reader up to a budget of bytes.
 
-ghost use Rattle.std.specs.Prelude.{◌≡◌, ◌≢◌, ◌<◌, ◌≤◌, All, length, take, vec_len, slice_index};
-ghost use Rattle.ynl_tool.specs.Lines.{GivesPiece, GivesLine};
+ghost use Rattle.std.specs.Prelude.{◌≡◌, ◌≢◌, ◌<◌, ◌≤◌, All, IfOk, IfErr, length, take, vec_len, slice_index};
+ghost use Rattle.std.specs.IoError.{error_kind};
+ghost use Rattle.ynl_tool.specs.Lines.{read_fault, AddsShown, FailsAs, GivesPiece, GivesLine};
 
 use std::alloc::AllocError;
-use std::io::BufRead;
+use std::io;
+use std::io::{BufRead, ErrorKind};
 
 /// The byte that ends a line.
 const NEWLINE: u8 = 10;
@@ -54,6 +56,60 @@ fn newline_or_end(bytes: &[u8]) -> usize
     bytes.len()
 }
 
+/// What is told of an error that was met in reading: want of memory is told from all others.
+pub fn read_fault(error: &io::Error) -> ReadFault
+    ensures { result ≡ read_fault (error_kind error.now) }
+{
+    if error.kind() == ErrorKind::OutOfMemory {
+        return ReadFault::NoMemory;
+    }
+    ReadFault::Read
+}
+
+/// What is taken of the bytes that a reader shows: how many of them, and what they end the line with,
+/// if they do.
+#[derive(Clone, Copy)]
+struct Taken {
+    count: usize,
+    end: Option<LineEnd>,
+}
+
+/// Adds what the reader shows of the line. It fails as the reader did, or for want of memory.
+fn add_shown(
+    shown: io::Result<&[u8]>,
+    line: &mut Vec<u8>,
+    budget: usize,
+) -> Result<Taken, ReadFault>
+    requires { vec_len line.old ≤ budget }
+    ensures shown { IfOk shown.entry (λ bytes. AddsShown bytes.now line.old.items line.new.items budget result) }
+    ensures failed { IfErr shown.entry (λ error. FailsAs (error_kind error) line.old.items line.new.items result) }
+{
+    let shown = match shown {
+        Ok(shown) => shown,
+        Err(error) => return Err(read_fault(&error)),
+    };
+    if shown.is_empty() {
+        let end = Some(LineEnd::Input);
+        return Ok(Taken { count: 0, end });
+    }
+    let room = budget - line.len();
+    if room == 0 {
+        let end = Some(LineEnd::Budget);
+        return Ok(Taken { count: 1, end });
+    }
+    let within = room.min(shown.len());
+    let count = newline_or_end(&shown[..within]);
+    line.extend_from_slice(&shown[..count])?;
+    if count < within {
+        let end = Some(LineEnd::Newline);
+        return Ok(Taken {
+            count: count + 1,
+            end,
+        });
+    }
+    Ok(Taken { count, end: None })
+}
+
 /// What one look at the reader gave: a part of the line, and how the line ended, if it did.
 fn take_piece<R: BufRead>(
     reader: &mut R,
@@ -63,27 +119,9 @@ fn take_piece<R: BufRead>(
     requires { vec_len line.old ≤ budget }
     ensures { GivesPiece (R.remaining reader.old) (R.remaining reader.new) line.old.items line.new.items budget result }
 {
-    let shown = match reader.fill_buf() {
-        Ok(shown) => shown,
-        Err(_) => return Err(ReadFault::Read),
-    };
-    if shown.is_empty() {
-        return Ok(Some(LineEnd::Input));
-    }
-    let room = budget - line.len();
-    if room == 0 {
-        reader.consume(1);
-        return Ok(Some(LineEnd::Budget));
-    }
-    let within = room.min(shown.len());
-    let end = newline_or_end(&shown[..within]);
-    line.extend_from_slice(&shown[..end])?;
-    if end < within {
-        reader.consume(end + 1);
-        return Ok(Some(LineEnd::Newline));
-    }
-    reader.consume(end);
-    Ok(None)
+    let taken = add_shown(reader.fill_buf(), line, budget)?;
+    reader.consume(taken.count);
+    Ok(taken.end)
 }
 
 /// Reads a line into `line`, of at most `budget` bytes with its newline.

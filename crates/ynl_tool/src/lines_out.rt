@@ -2,7 +2,7 @@
 
 ghost use Rattle.std.specs.Prelude.{OnOk, OnErr, ◌++◌};
 ghost use Rattle.std.specs.Io.KnownBytes.{Appends};
-ghost use Rattle.ynl_tool.specs.Lines.{AppendsFront};
+ghost use Rattle.ynl_tool.specs.Lines.{AppendsPart};
 
 use std::io::Write;
 
@@ -10,10 +10,11 @@ use std::io::Write;
 #[derive(Clone, Copy, Debug, PartialEq, Eq)]
 pub struct WriteFault;
 
-/// Writes the text by single writes. What a fault leaves written is a front of the text.
+/// Writes the text by single writes. What a fault leaves written is a front of the text, and not all
+/// of it.
 pub fn write_text<W: Write>(writer: &mut W, text: &[u8]) -> Result<(), WriteFault>
     ensures ok { OnOk result (Appends (W.contents writer.old) (W.contents writer.new) text.now) }
-    ensures err { OnErr result (AppendsFront (W.contents writer.old) (W.contents writer.new) text.now) }
+    ensures err { OnErr result (AppendsPart (W.contents writer.old) (W.contents writer.new) text.now) }
 {
     let mut written = 0;
     while written < text.len() {
@@ -33,7 +34,7 @@ pub fn write_three<W: Write>(
     third: &[u8],
 ) -> Result<(), WriteFault>
     ensures ok { OnOk result (Appends (W.contents writer.old) (W.contents writer.new) (first.now ++ (second.now ++ third.now))) }
-    ensures err { OnErr result (AppendsFront (W.contents writer.old) (W.contents writer.new) (first.now ++ (second.now ++ third.now))) }
+    ensures err { OnErr result (AppendsPart (W.contents writer.old) (W.contents writer.new) (first.now ++ (second.now ++ third.now))) }
 {
     write_text(writer, first)?;
     write_text(writer, second)?;

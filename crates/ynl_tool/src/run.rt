@@ -4,14 +4,14 @@ ghost use Rattle.std.specs.Prelude.{◌≡◌, ◌≢◌, ◌≤◌, ◌++◌, �
 ghost use Rattle.ynl_model.specs.Cluster.{opening};
 ghost use Rattle.ynl_tool.specs.declared.run.ToolFault.TheVariants.{Read};
 ghost use Rattle.ynl_tool.specs.Run.{is_blank, faulty, ending, limit, line_of};
-ghost use Rattle.ynl_tool.specs.Running.{Says, Answers, Writes, Runs};
+ghost use Rattle.ynl_tool.specs.Running.{Replies, Answers, Writes, Runs, RunsWhole};
 
 use crate::lines_in::{LineEnd, ReadFault, read_line};
 use crate::lines_out::{WriteFault, write_text};
 use std::alloc::{AllocError, Global};
 use std::io::{BufRead, Write};
 use thiserror::Error;
-use ynl_core::Core;
+use ynl_core::{Core, NoMemory};
 use ynl_lines::{LineFault, read_event, write_fault, write_reply};
 use ynl_queues::Config;
 
@@ -43,13 +43,13 @@ impl From<AllocError> for ToolFault {
     }
 }
 
-impl From<ynl_core::NoMemory> for ToolFault {
+impl From<NoMemory> for ToolFault {
     ghost use Rattle.std.specs.Prelude.{◌≡◌};
     ghost use Rattle.ynl_tool.specs.declared.run.ToolFault.TheVariants.{NoMemory};
 
     ghost from_gives = { λ _ e. e ≡ NoMemory };
 
-    fn from(_error: ynl_core::NoMemory) -> ToolFault {
+    fn from(_error: NoMemory) -> ToolFault {
         ToolFault::NoMemory
     }
 }
@@ -94,21 +94,33 @@ pub fn is_blank(line: &[u8]) -> bool
         .all(|b| *b == b' ' || *b == b'\t' || *b == b'\r')
 }
 
-fn with_newline(mut text: Vec<u8>) -> Result<Vec<u8>, AllocError>
+/// A text and the newline that ends its line.
+pub fn with_newline(mut text: Vec<u8>) -> Result<Vec<u8>, AllocError>
     ensures { IfOk result (λ line. line.items ≡ line_of text.items) }
 {
     text.push(b'\n')?;
     Ok(text)
 }
 
-/// Writes the text and its newline, in one write where the writer takes them whole.
-pub fn say<W: Write>(writer: &mut W, text: Vec<u8>) -> Result<(), ToolFault>
-    ensures text { Says (W.contents writer.old) (W.contents writer.new) (line_of text.items) result }
-    ensures fault { IfErr result (λ e. e ≢ Read) }
+/// Takes what a line says into the cluster, and gives the text that is written for it, which is
+/// nothing for a blank line; or gives the line's fault. Nothing but memory can be wanting here.
+fn reply_to(
+    alloc: Global,
+    core: &mut Core,
+    line: &[u8],
+) -> Result<Result<Vec<u8>, LineFault>, NoMemory>
+    ensures { Replies core.old.config core.old.state core.new line.now result }
 {
-    let line = with_newline(text)?;
-    write_text(writer, &line)?;
-    Ok(())
+    if is_blank(line) {
+        return Ok(Ok(Vec::new(alloc)));
+    }
+    let event = match read_event(alloc, line)? {
+        Ok(event) => event,
+        Err(fault) => return Ok(Err(fault)),
+    };
+    let reply = core.apply(event)?;
+    let text = write_reply(alloc, &reply)?;
+    Ok(Ok(with_newline(text)?))
 }
 
 /// Answers one line, or gives its fault.
@@ -120,18 +132,13 @@ fn answer<W: Write>(
 ) -> Result<Option<LineFault>, ToolFault>
     ensures { Answers (W.contents writer.old) (W.contents writer.new) core.old.config core.old.state core.new line.now result }
 {
-    let blank = is_blank(line);
-    if blank {
-        return Ok(None);
+    match reply_to(alloc, core, line)? {
+        Ok(text) => {
+            write_text(writer, &text)?;
+            Ok(None)
+        }
+        Err(fault) => Ok(Some(fault)),
     }
-    let event = match read_event(alloc, line)? {
-        Ok(event) => event,
-        Err(fault) => return Ok(Some(fault)),
-    };
-    let reply = core.apply(event)?;
-    let text = write_reply(alloc, &reply)?;
-    say(writer, text)?;
-    Ok(None)
 }
 
 /// The last line, which lacks its newline.
@@ -191,8 +198,8 @@ pub fn tell<W: Write>(
     ensures text { Writes (W.contents writer.old) (W.contents writer.new) (faulty fault lines) result }
     ensures fault { IfErr result (λ e. e ≢ Read) }
 {
-    let text = write_fault(alloc, fault, lines)?;
-    say(writer, text)?;
+    let line = with_newline(write_fault(alloc, fault, lines)?)?;
+    write_text(writer, &line)?;
     Ok(Summary {
         lines,
         fault: Some(fault),
@@ -212,7 +219,8 @@ pub fn run_lines<R: BufRead, W: Write>(
     reader: &mut R,
     writer: &mut W,
 ) -> Result<Summary, ToolFault>
-    ensures { Runs (R.remaining reader.old) (R.remaining reader.new) (W.contents writer.old) (W.contents writer.new) config (opening config) result }
+    ensures whole { RunsWhole (R.remaining reader.old) (W.contents writer.old) (W.contents writer.new) config (opening config) result }
+    ensures steps { Runs (R.remaining reader.old) (R.remaining reader.new) (W.contents writer.old) (W.contents writer.new) config (opening config) result }
 {
     let mut core = Core::open(alloc, config)?;
     serve(alloc, &mut core, reader, writer)

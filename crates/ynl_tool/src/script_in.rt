@@ -2,7 +2,7 @@
 
 ghost use Rattle.std.specs.Prelude.{◌≡◌, ◌≤◌, IfOk};
 ghost use Rattle.ynl_tool.specs.Run.{limit};
-ghost use Rattle.ynl_tool.specs.Script.{after_events, last_part, kept, Adds, ReadsScript, DoRunsAnswerScripts};
+ghost use Rattle.ynl_tool.specs.Script.{after_events, last_part, kept, Adds, ReadsScript, ReadsWhole, DoRunsAnswerScripts};
 
 use crate::lines_in::{LineEnd, ReadFault, read_line};
 use crate::run::{LIMIT, Summary, is_blank};
@@ -70,7 +70,8 @@ fn finish(
 /// Reads the script to the end of the input, or to the first line with a fault. An input of more than
 /// 67,108,864 bytes has a fault in the line where it gets too long.
 pub fn read_script<R: BufRead>(alloc: Global, reader: &mut R) -> Result<Script, ReadFault>
-    ensures { ReadsScript (R.remaining reader.old) (R.remaining reader.new) result }
+    ensures whole { ReadsWhole (R.remaining reader.old) result }
+    ensures steps { ReadsScript (R.remaining reader.old) (R.remaining reader.new) result }
 {
     let mut events = Vec::new(alloc);
     let mut line = Vec::new(alloc);

@@ -1,20 +1,37 @@
 //! Telling a tenant what its partition sees of a script.
 
-ghost use Rattle.std.specs.Prelude.{◌≡◌, IsTrue, length};
+ghost use Rattle.std.specs.Prelude.{◌≡◌, IfOk, IsTrue, length};
+ghost use Rattle.ynl_core.specs.World.{stepped};
+ghost use Rattle.ynl_model.specs.Accepted.{is_accepted};
 ghost use Rattle.ynl_model.specs.Events.{replies};
 ghost use Rattle.ynl_model.specs.View.{is_sole};
-ghost use Rattle.ynl_tool.specs.Telling.{entry_lines, view_lines, SaysLines, TellsEvent, TellsTenant};
+ghost use Rattle.ynl_tool.specs.Telling.{entry_line, entry_lines, view_lines, SaysLines, TellsEvent, TellsTenant, TellsWhole};
 
-use crate::run::{Summary, ToolFault, say, tell};
+use crate::lines_out::write_text;
+use crate::run::{Summary, ToolFault, tell, with_newline};
 use crate::script_in::read_script;
 use std::alloc::Global;
 use std::io::{BufRead, Write};
-use ynl_core::Core;
+use ynl_core::{Core, NoMemory};
 use ynl_lines::write_line;
 use ynl_model::Event;
 use ynl_queues::Config;
 use ynl_resource::{Label, Name};
 use ynl_view::{restrict, view};
+
+/// Answers an event, and gives its line. Nothing but memory can be wanting here.
+fn answer_event(
+    alloc: Global,
+    core: &mut Core,
+    place: u64,
+    event: &Event,
+) -> Result<Vec<u8>, NoMemory>
+    ensures { IfOk result (λ line. (core.new ≡ stepped core.old event.now) × (line.items ≡ entry_line core.old place event.now)) }
+{
+    let reply = core.apply(*event)?;
+    let text = write_line(alloc, place, event, &reply)?;
+    Ok(with_newline(text)?)
+}
 
 /// Answers an event, and writes its line.
 fn tell_event<W: Write>(
@@ -26,9 +43,9 @@ fn tell_event<W: Write>(
 ) -> Result<(), ToolFault>
     ensures { TellsEvent (W.contents writer.old) (W.contents writer.new) core.old core.new place event.now result }
 {
-    let reply = core.apply(*event)?;
-    let text = write_line(alloc, place, event, &reply)?;
-    say(writer, text)
+    let line = answer_event(alloc, core, place, event)?;
+    write_text(writer, &line)?;
+    Ok(())
 }
 
 /// Answers the events, and writes the line of each.
@@ -80,7 +97,8 @@ pub fn tenant_lines<R: BufRead, W: Write>(
     writer: &mut W,
 ) -> Result<Summary, ToolFault>
     requires { IsTrue (is_sole config tenant.now label.now) }
-    ensures { TellsTenant (R.remaining reader.old) (R.remaining reader.new) (W.contents writer.old) (W.contents writer.new) config tenant.now label.now result }
+    ensures whole { TellsWhole (R.remaining reader.old) (W.contents writer.old) (W.contents writer.new) (is_accepted config) config tenant.now label.now result }
+    ensures steps { TellsTenant (R.remaining reader.old) (R.remaining reader.new) (W.contents writer.old) (W.contents writer.new) (is_accepted config) config tenant.now label.now result }
 {
     let script = read_script(alloc, reader)?;
     tell_view(alloc, &config, tenant, label, &script.events, writer)?;

@@ -1,14 +1,19 @@
 //! The words of the command line.
 
-ghost use Rattle.std.specs.Prelude.{◌≡◌, ◌∷◌, [], IfOk, IfErr, IsErr, Some, None, option_map, drop, map, codes, false};
+ghost use Rattle.std.specs.Prelude.{◌≡◌, ◌∷◌, [], IfOk, IfErr, IsErr, Some, None, is_some, option_map, drop, map, codes, true, false};
 ghost use Rattle.std.specs.Option.{option_and_then};
 ghost use Rattle.std.specs.String.{string_bytes};
 ghost use Rattle.clap.specs.Simple.{app_of};
 ghost use Rattle.clap.specs.Walk.{rule_of};
+ghost use Rattle.clap.specs.Faults.{fault_of};
+ghost use Rattle.clap.specs.Kinds.{IsAmong};
+ghost use Rattle.clap.specs.Takes.{takes};
+ghost use Rattle.clap.specs.Values.{kind_of};
+ghost use Rattle.clap.specs.declared.error.Error.{Error};
 ghost use Rattle.clap.specs.Words.{found_of, rows_of};
 ghost use Rattle.clap.specs.declared.builder.command.Command.TheViews.{out-Command as fields_of};
 ghost use Rattle.ynl_tool.specs.Words as spec;
-ghost use Rattle.ynl_tool.specs.declared.words.WordsFault.TheVariants.{BadName, NoMemory};
+ghost use Rattle.ynl_tool.specs.declared.words.WordsFault.TheVariants.{Words, BadName, NoMemory};
 
 use clap::error::ErrorKind;
 use clap::{Arg, ArgMatches, Command, Error};
@@ -55,12 +60,12 @@ impl From<AllocError> for WordsFault {
 }
 
 impl From<Error> for WordsFault {
-    ghost use Rattle.std.specs.Prelude.{◌≡◌, ◌≢◌};
+    ghost use Rattle.std.specs.Prelude.{◌≡◌, ◌≢◌, ◌⊎◌};
     ghost use Rattle.clap.specs.Values.{kind_of};
     ghost use Rattle.clap.specs.declared.error.kind.ErrorKind.TheVariants.{OutOfMemory};
-    ghost use Rattle.ynl_tool.specs.declared.words.WordsFault.TheVariants.{BadName, NoMemory};
+    ghost use Rattle.ynl_tool.specs.declared.words.WordsFault.TheVariants.{Words, NoMemory};
 
-    ghost from_gives = { λ error e. (kind_of error ≡ OutOfMemory → e ≡ NoMemory) × (e ≢ BadName) };
+    ghost from_gives = { λ error e. ((kind_of error ≡ OutOfMemory) × (e ≡ NoMemory)) ⊎ ((kind_of error ≢ OutOfMemory) × (e ≡ Words error)) };
 
     fn from(error: Error) -> WordsFault {
         if error.kind() == ErrorKind::OutOfMemory {
@@ -203,7 +208,8 @@ fn tenant<'a>(alloc: Global) -> Result<Command<'a>, AllocError>
 }
 
 fn command<'a>(alloc: Global) -> Result<Command<'a>, AllocError>
-    ensures { IfOk result (λ c. app_of c ≡ spec.command) }
+    ensures app { IfOk result (λ c. app_of c ≡ spec.command) }
+    ensures local { IfOk result (λ c. (fields_of c).has_globals ≡ false) }
 {
     Command::new(alloc, "ynl")
         .bin_name("ynl")?
@@ -245,11 +251,15 @@ fn kind_of(subcommand: &str, options: &ArgMatches<'_>) -> Option<Kind>
 }
 
 /// The job that the words ask for, with the file that `--config` names. The first word is the program's
-/// name.
+/// name. Words that `clap` takes give their job, unless memory is refused, or the tenant is no name or
+/// the label none. Of all others its error is told, which has one of the kinds that its definitions
+/// find.
 pub fn parse_words<'a>(alloc: Global, words: &'a [String]) -> Result<Job<'a>, WordsFault>
     ensures run { drop 1 (map string_bytes words.now) ≡ codes "run" ∷ [] → IfErr result (λ e. e ≡ NoMemory) }
     ensures kind { IfOk result (λ job. spec.kind_of (map string_bytes words.now) ≡ Some job.kind) }
-    ensures bad { IfErr result (λ e. e ≡ BadName → spec.kind_of (map string_bytes words.now) ≡ None) }
+    ensures good { takes spec.command (map string_bytes words.now) ≡ true → is_some (spec.kind_of (map string_bytes words.now)) ≡ true → IfErr result (λ e. e ≡ NoMemory) }
+    ensures bad { IfErr result (λ e. e ≡ BadName → spec.HasBadName (map string_bytes words.now)) }
+    ensures words { IfErr result (λ e. (error : Error) → e ≡ Words error → IsAmong (kind_of error) (fault_of spec.command (map string_bytes words.now))) }
     ensures file { IfOk result (λ job. option_map (λ s. s.now) job.config ≡ spec.file_of (map string_bytes words.now)) }
     ensures missing { drop 1 (map string_bytes words.now) ≡ [] → IsErr result }
 {
@@ -263,6 +273,6 @@ pub fn parse_words<'a>(alloc: Global, words: &'a [String]) -> Result<Job<'a>, Wo
             Ok(Job { kind, config })
         }
         // One is required.
-        None => Err(WordsFault::BadName),
+        None => unreachable!(),
     }
 }

@@ -1,8 +1,15 @@
-use Rattle.std.proofs.Common.{◌-◌, ◌++◌, length, take, drop, sym, ap, subst, ◌∙◌, arith, length-take}
+use Rattle.std.proofs.Common.{rules, ◌-◌, ◌++◌, length, take, drop, sym, ap, subst, ◌∙◌, arith, length-take}
 use Rattle.std.proofs.Math.Seq.{take-add, take-take}
 use Rattle.std.specs.Io.KnownBytes.{Appends}
 use Rattle.std.proofs.KnownBytes.{Appends-trans}
+use Rattle.ynl_tool.proofs.Fronts.{part_so_far}
 use Rattle.ynl_tool.proofs.lines_out.write_text.Goals as goal
+
+pub returns-in-Ok-eq0-clause-err : goal.returns-in-Ok-eq0-clause-err
+returns-in-Ok-eq0-clause-err g c = part_so_far _ _ c.args.text.now c.loop-written.written c.loop-written-test.true (search rules)
+
+pub returns-in-Ok-eq0-2-clause-err : goal.returns-in-Ok-eq0-2-clause-err
+returns-in-Ok-eq0-2-clause-err g c = part_so_far _ _ c.args.text.now c.loop-written.written c.loop-written-test.true (search rules)
 
 pub loop-written-preserved : goal.loop-written-preserved
 loop-written-preserved g c =

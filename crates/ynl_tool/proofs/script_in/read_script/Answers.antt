@@ -1,11 +1,10 @@
-use Rattle.std.proofs.Common.{◌≡◌, ◌+◌, ◌-◌, ◌++◌, [], ◌∷◌, Some, Ok, length, ap, sym, subst, ◌∙◌, arith, rules}
+use Rattle.std.proofs.Common.{◌≡◌, ◌+◌, ◌-◌, ◌++◌, [], ◌∷◌, Some, None, Ok, length, refl, inl, inr, ap, sym, subst, ◌∙◌, arith, rules}
 use Rattle.std.proofs.lemmas.Result.{err_from_is_err_and}
 use Rattle.std.proofs.KnownBytes.{Consumes-trans}
 use Rattle.ynl_tool.specs.Lines.{GivesLine}
 use Rattle.ynl_tool.specs.Script.{after_events, last_part, kept, Adds, ReadsScript}
-use Rattle.ynl_tool.proofs.Runs.{long_line}
-use Rattle.ynl_tool.proofs.Scripts.{far_at, then_long, then_input, then_fault, then_line, stopped, closed}
-use Rattle.ynl_tool.proofs.Closings.{end_of_all, line_ends, one_part, one_whole}
+use Rattle.ynl_tool.proofs.Scripts.{far_at, then_long, then_input, then_fault, then_line, stopped, closed, reads_whole, no_memory}
+use Rattle.ynl_tool.proofs.Closings.{broken_off, end_of_all, line_ends, one_part, one_whole, one_longer}
 use Rattle.ynl_tool.proofs.script_in.read_script.Goals as goal
 
 pub returns-in_err-read_line : goal.returns-in_err-read_line
@@ -14,7 +13,11 @@ returns-in_err-read_line g c =
     let far = c.lines.invariant in
     let line = c.read_line.new.line.items in
     let gave = subst (GivesLine (g.R.Read.remaining c.lines.reader) (g.R.Read.remaining c.read_line.new.reader) line c.lines.budget) c.in_err-read_line.was c.read_line.ensures in
-    subst (ReadsScript _ _) (sym p.1) (stopped _ _ _ _ far.1 _ _ _ line far.2 gave.ended far.4 (one_part line gave.plain))
+    let a = g.R.Read.remaining c.args.reader.now in
+    let b = g.R.Read.remaining c.read_line.new.reader in
+    let steps : ReadsScript a b c.from_residual.result =
+    subst (ReadsScript a b) (sym p.1) (stopped _ _ _ _ far.1 _ _ _ line far.2 gave.ended far.4 (one_part line gave.plain) p.0 (let fits = gave.within in omega arith) (λ _. broken_off far.0 line c.lines.budget far.1.within gave.within gave.plain)) in
+    record { whole = reads_whole a b c.from_residual.result steps; steps = steps }
 
 pub returns-in-Budget : goal.returns-in-Budget
 returns-in-Budget g c =
@@ -22,8 +25,13 @@ returns-in-Budget g c =
     let line = c.read_line.new.line.items in
     let gave = subst (GivesLine (g.R.Read.remaining c.lines.reader) (g.R.Read.remaining c.read_line.new.reader) line c.lines.budget) (c.in_ok-read_line.was ∙ ap Ok c.in-Budget.is) c.read_line.ensures in
     let byte = gave.ended.1.0 in
+    let a = g.R.Read.remaining c.args.reader.now in
+    let b = g.R.Read.remaining c.read_line.new.reader in
+    let steps : ReadsScript a b (Ok c.close.result) =
     closed _ _ _ _ far.1 _ _ _ (line ++ byte ∷ []) far.2 gave.ended.1.1 far.4 (one_whole line byte gave.plain) (kept c.close.result) _ c.close.ensures
-    (then_long _ _ _ _ far.1 (line ++ byte ∷ []) (long_line line byte c.lines.budget gave.plain gave.ended.0)) tt
+    (let n = one_longer line byte in let full = gave.ended.0 in omega arith)
+    (inl (then_long _ _ _ _ far.1 line byte gave.plain gave.ended.0, inl (one_longer line byte ∙ ap (λ n. n + 1) gave.ended.0))) tt in
+    record { whole = reads_whole a b (Ok c.close.result) steps; steps = steps }
 
 pub returns-in_err-finish-in-Input : goal.returns-in_err-finish-in-Input
 returns-in_err-finish-in-Input g c =
@@ -31,7 +39,11 @@ returns-in_err-finish-in-Input g c =
     let far = c.lines.invariant in
     let line = c.read_line.new.line.items in
     let gave = subst (GivesLine (g.R.Read.remaining c.lines.reader) (g.R.Read.remaining c.read_line.new.reader) line c.lines.budget) (c.in_ok-read_line.was ∙ ap Ok c.in-Input.is) c.read_line.ensures in
-    subst (ReadsScript _ _) (sym p.1) (stopped _ _ _ _ far.1 _ _ _ line far.2 gave.ended.1 far.4 (one_part line gave.plain))
+    let a = g.R.Read.remaining c.args.reader.now in
+    let b = g.R.Read.remaining c.read_line.new.reader in
+    let steps : ReadsScript a b c.from_residual-in_err-finish-in-Input.result =
+    subst (ReadsScript a b) (sym p.1) (stopped _ _ _ _ far.1 _ _ _ line far.2 gave.ended.1 far.4 (one_part line gave.plain) p.0 (let fits = gave.within in omega arith) (λ _. broken_off far.0 line c.lines.budget far.1.within gave.within gave.plain)) in
+    record { whole = reads_whole a b c.from_residual-in_err-finish-in-Input.result steps; steps = steps }
 
 pub returns-in-Input : goal.returns-in-Input
 returns-in-Input g c =
@@ -40,8 +52,12 @@ returns-in-Input g c =
     let gave = subst (GivesLine (g.R.Read.remaining c.lines.reader) (g.R.Read.remaining c.read_line.new.reader) line c.lines.budget) (c.in_ok-read_line.was ∙ ap Ok c.in-Input.is) c.read_line.ensures in
     let made : kept c.in_ok-finish-in-Input.field-0 ≡ after_events c.lines.events.items (last_part line c.lines.lines) =
     c.in_ok-finish-in-Input.ensures ∙ ap (λ l. after_events c.lines.events.items (last_part l c.lines.lines)) c.deref.ensures.value in
+    let a = g.R.Read.remaining c.args.reader.now in
+    let b = g.R.Read.remaining c.read_line.new.reader in
+    let steps : ReadsScript a b (Ok c.in_ok-finish-in-Input.field-0) =
     closed _ _ _ _ far.1 _ _ _ line far.2 gave.ended.1 far.4 (one_part line gave.plain) (kept c.in_ok-finish-in-Input.field-0) _ made
-    (then_input _ _ _ _ far.1 line gave.plain gave.within) (end_of_all _ _ _ _ (last_part line c.lines.lines).fault far.2 gave.ended.0)
+    (let fits = gave.within in omega arith) (inr (then_input _ _ _ _ far.1 line gave.plain gave.within, end_of_all _ _ _ _ None far.2 gave.ended.0)) (end_of_all _ _ _ _ (last_part line c.lines.lines).fault far.2 gave.ended.0) in
+    record { whole = reads_whole a b (Ok c.in_ok-finish-in-Input.field-0) steps; steps = steps }
 
 pub returns-in_err-fault : goal.returns-in_err-fault
 returns-in_err-fault g c =
@@ -49,7 +65,11 @@ returns-in_err-fault g c =
     let far = c.lines.invariant in
     let line = c.read_line.new.line.items in
     let gave = subst (GivesLine (g.R.Read.remaining c.lines.reader) (g.R.Read.remaining c.read_line.new.reader) line c.lines.budget) (c.in_ok-read_line.was ∙ ap Ok c.in-Newline.is) c.read_line.ensures in
-    subst (ReadsScript _ _) (sym p.1) (stopped _ _ _ _ far.1 _ _ _ (line ++ 10 ∷ []) far.2 gave.ended.1 far.4 (one_whole line 10 gave.plain))
+    let a = g.R.Read.remaining c.args.reader.now in
+    let b = g.R.Read.remaining c.read_line.new.reader in
+    let steps : ReadsScript a b c.from_residual-in_err-fault.result =
+    subst (ReadsScript a b) (sym p.1) (stopped _ _ _ _ far.1 _ _ _ (line ++ 10 ∷ []) far.2 gave.ended.1 far.4 (one_whole line 10 gave.plain) p.0 (let n = one_longer line 10 in let fits = gave.ended.0 in omega arith) (no_memory p.0 _ p.2)) in
+    record { whole = reads_whole a b c.from_residual-in_err-fault.result steps; steps = steps }
 
 pub returns-in-Some : goal.returns-in-Some
 returns-in-Some g c =
@@ -62,8 +82,12 @@ returns-in-Some g c =
     let bad = subst (Adds events c.add_line.new.events.items line) (c.in_ok-fault.was ∙ ap Ok c.in-Some.is) added in
     let made : kept c.close-in-Some.result ≡ record { events = events; lines = c.lines.lines + 1; fault = Some f } =
     c.close-in-Some.ensures ∙ ap (λ es. record { events = es; lines = c.lines.lines + 1; fault = Some f }) bad.1 in
+    let a = g.R.Read.remaining c.args.reader.now in
+    let b = g.R.Read.remaining c.read_line.new.reader in
+    let steps : ReadsScript a b (Ok c.close-in-Some.result) =
     closed _ _ _ _ far.1 _ _ _ (line ++ 10 ∷ []) far.2 gave.ended.1 far.4 (one_whole line 10 gave.plain) (kept c.close-in-Some.result) _ made
-    (then_fault _ _ _ _ far.1 line f gave.plain gave.ended.0 bad.0) tt
+    (let n = one_longer line 10 in let fits = gave.ended.0 in omega arith) (inl (then_fault _ _ _ _ far.1 line f gave.plain gave.ended.0 bad.0, inr (inr (line, refl)))) tt in
+    record { whole = reads_whole a b (Ok c.close-in-Some.result) steps; steps = steps }
 
 pub lines-preserved : goal.lines-preserved
 lines-preserved g c =

@@ -2,7 +2,7 @@ use Rattle.std.proofs.Common.{◌++◌, [], ◌∷◌, get_or, sym, subst, arith
 use Rattle.std.proofs.lemmas.Result.{err_from_is_err_and}
 use Rattle.ynl_model.specs.Events.{replies}
 use Rattle.ynl_tool.specs.Telling.{entry_lines, entry_line, LeavesLines, SaysLines, TellsEvent}
-use Rattle.ynl_tool.proofs.Tellings.{told, failed, one_more, next_number, next_event}
+use Rattle.ynl_tool.proofs.Tellings.{told, failed, event_left, one_more, next_number, next_event}
 use Rattle.ynl_tool.proofs.tenant.tell_events.Goals as goal
 
 pub returns-in_err-tell_event : goal.returns-in_err-tell_event
@@ -19,7 +19,7 @@ returns-in_err-tell_event g c =
     let lines = entry_lines c.args.places.now c.args.events.now (replies c.args.core.now.config c.args.core.now.state c.args.events.now) in
     subst (SaysLines start v lines) (sym p.1)
     (subst (LeavesLines start v lines) (sym p.2)
-    (failed _ _ _ c.loop-i.core i far.0 far.1 _ w v place event _ (next_number c.args.places.now i (omega arith)) (next_event c.args.events.now i event c.loop-i-test.true c.index-events-i.is) far.2 left))
+    (failed _ _ _ c.loop-i.core i far.0 far.1 _ w v place event _ (next_number c.args.places.now i (omega arith)) (next_event c.args.events.now i event c.loop-i-test.true c.index-events-i.is) far.2 (event_left _ _ _ _ _ _ _ left)))
 
 pub loop-i-preserved : goal.loop-i-preserved
 loop-i-preserved g c =

@@ -1,33 +1,62 @@
 use Rattle.std.proofs.Common.{◌≡◌, IfErr, Some, None, codes, rules, map, option_and_then, string_bytes, ap, sym, subst, ◌∙◌}
 use Rattle.std.proofs.lemmas.Result.{err_from_is_err_and}
-use Rattle.ynl_tool.specs.declared.words.WordsFault.TheVariants.{NoMemory}
+use Rattle.ynl_tool.specs.declared.words.WordsFault.TheVariants.{Words, NoMemory}
+use Rattle.clap.specs.Values.{kind_of}
+use Rattle.clap.specs.Kinds.{HasKind, IsAmong}
+use Rattle.clap.specs.Faults.{fault_of, is_simple_and_free}
+use Rattle.clap.specs.declared.error.Error.{Error}
 use Rattle.clap.specs.Takes.{takes}
 use Rattle.clap.specs.Words.{found_of, is_simple, rows_of, subcommand_of}
 use Rattle.clap.proofs.WalkLemmas.{first_value-rows}
 use Rattle.ynl_tool.specs.declared.words.Kind.TheVariants.{Run}
-use Rattle.ynl_tool.specs.Words.{kind_met, file_met}
-use Rattle.ynl_tool.proofs.Commands.{taken, command_simple, asks_run, met_is}
+use Rattle.ynl_tool.specs.Words.{command, kind_met, file_met}
+use Rattle.ynl_tool.proofs.Commands.{taken, command_simple, command_free, wants_memory, told_by_kind, asks_run, met_is}
 use Rattle.ynl_tool.proofs.words.parse_words.Goals as goal
 
 pub returns-in_err-matches-clause-run : goal.returns-in_err-matches-clause-run
 returns-in_err-matches-clause-run c = λ same.
     let words = map string_bytes c.args.words.now in
-    let kind = c.in_err-matches.ensures.passes (ap (λ a. takes a words) c.in_ok-command.ensures ∙ taken words same) in
+    let kind = c.in_err-matches.ensures.passes (ap (λ a. takes a words) c.in_ok-command.ensures.app ∙ taken words same) in
     let p = err_from_is_err_and c.from_residual-in_err-matches.result c.from_residual-in_err-matches.ensures.1 in
-    subst (λ r. IfErr r (λ e. e ≡ NoMemory)) (sym p.1) (p.2.0 kind)
+    subst (λ r. IfErr r (λ e. e ≡ NoMemory)) (sym p.1) (wants_memory _ _ p.2 kind)
+
+pub returns-in_err-matches-clause-good : goal.returns-in_err-matches-clause-good
+returns-in_err-matches-clause-good c = λ good known.
+    let words = map string_bytes c.args.words.now in
+    let kind = c.in_err-matches.ensures.passes (ap (λ a. takes a words) c.in_ok-command.ensures.app ∙ good) in
+    let p = err_from_is_err_and c.from_residual-in_err-matches.result c.from_residual-in_err-matches.ensures.1 in
+    subst (λ r. IfErr r (λ e. e ≡ NoMemory)) (sym p.1) (wants_memory _ _ p.2 kind)
+
+pub returns-in_err-matches-clause-words : goal.returns-in_err-matches-clause-words
+returns-in_err-matches-clause-words c =
+    let words = map string_bytes c.args.words.now in
+    let kinds = c.in_err-matches.ensures.kinds (ap is_simple_and_free c.in_ok-command.ensures.app ∙ command_free) in
+    let among = subst (λ a. HasKind (fault_of a words) c.in_err-matches.field-0.0) c.in_ok-command.ensures.app kinds in
+    let p = err_from_is_err_and c.from_residual-in_err-matches.result c.from_residual-in_err-matches.ensures.1 in
+    subst (λ r. IfErr r (λ e. (error : Error) → e ≡ Words error → IsAmong (kind_of error) (fault_of command words))) (sym p.1)
+    (λ error is. told_by_kind _ _ error (fault_of command words) p.2 is among)
+
+pub returns-in_default-clause-bad : goal.returns-in_default-clause-bad
+returns-in_default-clause-bad c = λ _.
+    let words = map string_bytes c.args.words.now in
+    let met = (c.in_ok-matches.ensures.matches (ap is_simple c.in_ok-command.ensures.app ∙ command_simple)).1 ∙ ap (λ a. subcommand_of a words) c.in_ok-command.ensures.app in
+    let rows = rows_of (found_of c.in-Some.options.now) in
+    let is = met_is _ c.in-Some.name.now rows c.in-Some.ensures.name c.in-Some.ensures.rows in
+    let none : c.kind_of.result ≡ None = search rules in
+    ((c.in-Some.name.now, rows), sym met ∙ is, sym c.kind_of.ensures ∙ none)
 
 pub returns-in_default-clause-run : goal.returns-in_default-clause-run
 returns-in_default-clause-run c = λ same.
     let words = map string_bytes c.args.words.now in
-    let met = (c.in_ok-matches.ensures.matches (ap is_simple c.in_ok-command.ensures ∙ command_simple)).1 ∙ ap (λ a. subcommand_of a words) c.in_ok-command.ensures in
+    let met = (c.in_ok-matches.ensures.matches (ap is_simple c.in_ok-command.ensures.app ∙ command_simple)).1 ∙ ap (λ a. subcommand_of a words) c.in_ok-command.ensures.app in
     let is = met_is _ c.in-Some.name.now (rows_of (found_of c.in-Some.options.now)) c.in-Some.ensures.name c.in-Some.ensures.rows in
     let none : c.kind_of.result ≡ None = search rules in
     let asked : None ≡ Some Run = sym none ∙ c.kind_of.ensures ∙ ap (option_and_then kind_met) (sym is ∙ met) ∙ asks_run words same in
     absurd (cc)
 
-pub returns-in-Some-clause-file : goal.returns-in-Some-clause-file
-returns-in-Some-clause-file c =
+pub returns-clause-file : goal.returns-clause-file
+returns-clause-file c =
     let words = map string_bytes c.args.words.now in
-    let met = (c.in_ok-matches.ensures.matches (ap is_simple c.in_ok-command.ensures ∙ command_simple)).1 ∙ ap (λ a. subcommand_of a words) c.in_ok-command.ensures in
+    let met = (c.in_ok-matches.ensures.matches (ap is_simple c.in_ok-command.ensures.app ∙ command_simple)).1 ∙ ap (λ a. subcommand_of a words) c.in_ok-command.ensures.app in
     let is = met_is _ c.in-Some.name.now (rows_of (found_of c.in-Some.options.now)) c.in-Some.ensures.name c.in-Some.ensures.rows in
     c.get_str-config.ensures ∙ first_value-rows (found_of c.in-Some.options.now) (codes "config") ∙ ap (option_and_then file_met) (sym is ∙ met)
