@@ -1,0 +1,79 @@
+//! The book of a cluster: all that it was told, and what it answered.
+
+ghost use Rattle.std.specs.Prelude.{◌≡◌, [], ◌∷◌, ◌++◌, length, IfOk, OnErr, Some};
+ghost use Rattle.ynl_model.specs.Events.{IsHistory, state_after, step};
+ghost use Rattle.ynl_journal.specs.Journal.{Agrees, Journal, entry, events_in};
+
+use crate::copying::{copy_into, room_for};
+use std::alloc::Global;
+use std::marker::Model;
+use ynl_core::{Core, NoMemory};
+use ynl_model::{Entry, Event, Reply};
+use ynl_queues::Config;
+
+/// A cluster with its journal. Each event that comes is entered with its reply, and the state is at all
+/// times what the entries' events lead to.
+#[derive(Drop)]
+pub struct Book {
+    alloc: Global,
+    core: Core,
+    entries: Vec<Entry>,
+    per_heartbeat: usize,
+}
+
+impl Model for Book {
+    ghost use Rattle.ynl_journal.specs.BookFields.{IsReplay, journal_of};
+    ghost use Rattle.ynl_journal.specs.Journal.{Journal};
+
+    ghost Value = { Journal };
+
+    ghost view = { journal_of };
+
+    ghost invariant = { IsReplay };
+}
+
+impl Book {
+    /// A book without entries, of a cluster that has just been opened.
+    pub fn open(alloc: Global, config: Config) -> Result<Book, NoMemory>
+        ensures { IfOk result (λ book. book ≡ record { config = config; entries = [] }) }
+    {
+        let per_heartbeat = config.per_heartbeat() as usize;
+        let core = Core::open(alloc, config)?;
+        Ok(Book {
+            alloc,
+            core,
+            entries: Vec::new(alloc),
+            per_heartbeat,
+        })
+    }
+
+    /// The entries, in the order in which their events came. Each reply that is there is the cluster's.
+    pub fn entries(&self) -> &[Entry]
+        ensures entries { result.now ≡ self.now.entries }
+        ensures agrees { Agrees self.now.config self.now.entries }
+    {
+        self.entries.as_slice()
+    }
+
+    /// Takes an event, and answers its place, counted from 0, and the cluster's reply. Where memory is
+    /// refused nothing has changed: room for the entry and for the second copy of the reply is made
+    /// before the event is applied, and what a poll lists is copied after it, since a poll changes nothing.
+    pub fn enter(&mut self, event: Event) -> Result<(u64, Reply), NoMemory>
+        ensures place { IfOk result (λ told. told.0 ≡ length self.old.entries) }
+        ensures reply { IfOk result (λ told. told.1 ≡ (step self.old.config (state_after self.old.config (events_in self.old.entries)) event).reply) }
+        ensures entry { IfOk result (λ told. self.new ≡ record self.old { entries = self.old.entries ++ entry event (Some told.1) ∷ [] }) }
+        ensures closed { IfOk result (λ _. IsHistory self.old.config self.old.entries → IsHistory self.new.config self.new.entries) }
+        ensures err { OnErr result (self.new ≡ self.old) }
+    {
+        let place = self.entries.len() as u64;
+        self.entries.reserve(1)?;
+        let room = room_for(self.alloc, &event, self.per_heartbeat)?;
+        let reply = self.core.apply(event)?;
+        let kept = copy_into(self.alloc, room, &reply)?;
+        self.entries.push_reserved(Entry {
+            event,
+            reply: Some(kept),
+        });
+        Ok((place, reply))
+    }
+}

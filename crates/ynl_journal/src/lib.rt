@@ -1,0 +1,14 @@
+//! The journal of a scheduler: each event with the reply that it got, in order, and its audit.
+#![tactic(auto)]
+
+pub use auditing::{AuditFault, audit};
+pub use journal::Book;
+pub use replaying::replay;
+pub use ynl_model::Entry;
+
+mod auditing;
+mod comparing;
+mod copying;
+pub mod histories;
+mod journal;
+mod replaying;
