@@ -1,5 +1,5 @@
 //! All that changes the tables of a cluster: nodes that join and leave, applications that are submitted, ask and
-//! finish, containers that are placed and end. A change is written without knowing which event it is for; what is
+//! finish, containers that are placed and end. Most changes serve more than one event, and `ynl_core` says which; what is
 //! listed and told of the tables for a reply stands here too.
 #![tactic(auto)]
 

@@ -7,5 +7,3 @@ pub use stops::{StopRow, Stops};
 
 mod maxima;
 mod stops;
-#[cfg(test)]
-mod tests;

@@ -11,5 +11,3 @@ mod memory;
 mod resting;
 mod running;
 mod runs;
-#[cfg(test)]
-mod tests;

@@ -5,5 +5,3 @@ pub use labels::{LabelRow, Labels};
 
 mod faults;
 mod labels;
-#[cfg(test)]
-mod tests;

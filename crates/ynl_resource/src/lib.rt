@@ -16,5 +16,3 @@ mod labels;
 mod names;
 mod paths;
 mod refusals;
-#[cfg(test)]
-mod tests;

@@ -282,7 +282,7 @@ fn lists_containers_of_the_built_in_configuration(rt: HostRuntime) -> Result<(),
         ),
         (PARTITIONS, "", "#2 d1 eng/x1 master 1000/1\n"),
     ] {
-        let core = played(alloc, ynl_queues::built_in(alloc)?, events)?;
+        let core = played(alloc, ynl_config::built_in(alloc)?, events)?;
         let text = containers(alloc, &core, label)?;
         assert!(rt; text.as_str() == wanted, "{text}");
     }

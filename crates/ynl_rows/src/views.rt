@@ -173,3 +173,19 @@ fn other_tenants_queues_are_left_out(rt: HostRuntime) -> Result<(), Fail> {
     assert!(rt; alone.row(Path::parse("root.mkt")?.names()).is_none());
     Ok(())
 }
+
+/// Root is no leaf, even where no queue is left below it.
+#[test]
+fn nobody_submits_to_root(rt: HostRuntime) -> Result<(), Fail> {
+    let alloc = rt.alloc();
+    let nobody = restrict(alloc, &two_tenants(alloc)?, &Name::parse("zzz")?)?;
+    assert_eq!(rt; nobody.queues().len(), 0);
+    let asked = [event_of(alloc, "sub root j1 ann - 1 1")?];
+    let answered = run(alloc, nobody, &asked)?;
+    assert_eq!(rt; answered.answers.as_slice().len(), 1);
+    for answer in answered.answers.as_slice() {
+        let text = answer_text(alloc, answer)?;
+        assert!(rt; text.as_str() == "NotALeaf", "{text}");
+    }
+    Ok(())
+}

@@ -11,8 +11,6 @@ mod exclusivity;
 mod picking;
 mod restriction;
 mod sights;
-#[cfg(test)]
-mod tests;
 mod track;
 mod viewing;
 mod views;

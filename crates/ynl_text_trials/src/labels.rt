@@ -1,42 +1,10 @@
-use crate::{LabelRow, Labels};
+//! Labels that are built, and copied.
+
 use std::alloc::{AllocError, Global};
 use std::test::Fail;
 use ynl_model::LabelFault;
+use ynl_nodes::{LabelRow, Labels};
 use ynl_resource::{Label, Name};
-
-fn two_labels(alloc: Global) -> Result<Labels, Fail> {
-    let mut rows = Vec::new(alloc);
-    rows.push(LabelRow {
-        name: Name::parse("gpu")?,
-        exclusive: true,
-        limit: 7,
-    })?;
-    rows.push(LabelRow {
-        name: Name::parse("ssd")?,
-        exclusive: false,
-        limit: 9,
-    })?;
-    Ok(Labels::new(rows, 5))
-}
-
-#[test]
-fn finds_labels(rt: HostRuntime) -> Result<(), Fail> {
-    let labels = two_labels(rt.alloc())?;
-    assert_eq!(rt; labels.rows().len(), 2);
-    for (text, has, exclusive, limit) in [
-        ("", true, true, 5),
-        ("gpu", true, true, 7),
-        ("ssd", true, false, 9),
-        ("zzz", false, false, 0),
-        ("gp", false, false, 0),
-    ] {
-        let label = Label::parse(text)?;
-        assert_eq!(rt; labels.has(&label), has, "{text}");
-        assert_eq!(rt; labels.exclusive(&label), exclusive, "{text}");
-        assert_eq!(rt; labels.limit(&label), limit, "{text}");
-    }
-    Ok(())
-}
 
 fn rows(alloc: Global, names: &[&str], limit: u64) -> Result<Vec<LabelRow>, Fail> {
     let mut rows = Vec::new(alloc);
@@ -67,38 +35,6 @@ fn tells_the_first_fault(rt: HostRuntime) -> Result<(), Fail> {
         let built = Labels::build(rows(rt.alloc(), &names, limit)?, default_limit);
         assert_eq!(rt; built.err(), fault, "{limit} and {default_limit}");
     }
-    Ok(())
-}
-
-fn many(alloc: Global, count: u64) -> Result<Vec<LabelRow>, Fail> {
-    let mut rows = Vec::new(alloc);
-    for i in 0..count {
-        let text = format!(in alloc; "label-{i}")?;
-        rows.push(LabelRow {
-            name: Name::parse(text.as_str())?,
-            exclusive: true,
-            limit: 1,
-        })?;
-    }
-    rows.push(LabelRow {
-        name: Name::parse("label-0")?,
-        exclusive: true,
-        limit: 1,
-    })?;
-    Ok(rows)
-}
-
-#[test]
-fn takes_sixty_four_labels(rt: HostRuntime) -> Result<(), Fail> {
-    let alloc = rt.alloc();
-    assert_eq!(rt;
-        Labels::build(many(alloc, 64)?, 1).err(),
-        Some(LabelFault::TooManyLabels)
-    );
-    assert_eq!(rt;
-        Labels::build(many(alloc, 63)?, 1).err(),
-        Some(LabelFault::DuplicateLabel)
-    );
     Ok(())
 }
 

@@ -1,13 +1,14 @@
-// What is seen of worked scripts, and answered, is tested above this crate, in `ynl_rows`.
+//! What a tenant sees, and the answers that are picked. Worked scripts stand in `ynl_rows`.
+
 ghost use Rattle.std.specs.Prelude.{◌≡◌, length};
 
-use crate::{pick, restrict, sole, view};
 use std::alloc::{AllocError, Global};
 use std::test::Fail;
 use ynl_core::{Answer, NoMemory};
 use ynl_model::{Event, Placed, PlacedList, Reply, What};
 use ynl_queues::Config;
 use ynl_resource::{Id, Label, Name, Size};
+use ynl_view::{pick, restrict, sole, view};
 
 /// A node of 10,000 MB joins a partition.
 fn registered(node: &str, label: &str) -> Result<Event, Fail> {
@@ -21,11 +22,11 @@ fn registered(node: &str, label: &str) -> Result<Event, Fail> {
 // Run with each allocation failing in turn: where memory is refused at the first try, which a line
 // tells, the second gives the value.
 fn configured(rt: &HostRuntime) -> Result<Config, Fail> {
-    match ynl_queues::built_in(rt.alloc()) {
+    match ynl_config::built_in(rt.alloc()) {
         Ok(config) => Ok(config),
         Err(AllocError) => {
             println!(rt; "refused")?;
-            Ok(ynl_queues::built_in(rt.alloc())?)
+            Ok(ynl_config::built_in(rt.alloc())?)
         }
     }
 }

@@ -1,0 +1,255 @@
+//! Jobs whose reader or writer fails in mid-stream, or whose memory is refused, and words that are read.
+
+use std::alloc::{AllocError, Global};
+use std::io;
+use std::io::{BufReader, Read, Write};
+use std::process::Abort;
+use std::test::Fail;
+use ynl_config::built_in;
+use ynl_resource::{Label, Name};
+use ynl_tool::{Job, Kind, Summary, ToolFault, parse_words, run_lines, tenant_lines};
+use ynl_view::sole;
+
+const REGISTER: &[u8] =
+    b"{\"event\":\"register\",\"label\":\"gpu\",\"memory\":10000,\"node\":\"g1\",\"vcores\":10}\n{\"event\":\"";
+
+const DONE: &[u8] = b"{\"reply\":\"done\"}\n";
+
+/// Gives its bytes and then fails.
+#[derive(Drop)]
+struct Cut<'a> {
+    left: &'a [u8],
+}
+
+impl Read for Cut<'_> {
+    fn read(&mut self, buf: &mut [u8]) -> io::Result<usize> {
+        if self.left.is_empty() {
+            return Err(io::Error::from(io::ErrorKind::Other));
+        }
+        let n = self.left.len().min(buf.len());
+        let (front, rest) = self.left.split_at(n);
+        buf[..n].copy_from_slice(front);
+        self.left = rest;
+        Ok(n)
+    }
+}
+
+/// Takes some bytes and then fails, or takes none.
+#[derive(Drop)]
+struct Narrow {
+    taken: Vec<u8>,
+    room: usize,
+    fails: bool,
+}
+
+impl Write for Narrow {
+    fn write(&mut self, buf: &[u8]) -> io::Result<usize> {
+        if self.room == 0 && self.fails {
+            return Err(io::Error::from(io::ErrorKind::Other));
+        }
+        let n = self.room.min(buf.len());
+        self.taken.extend_from_slice(&buf[..n])?;
+        self.room -= n;
+        Ok(n)
+    }
+
+    fn flush(&mut self) -> io::Result<()> {
+        Ok(())
+    }
+}
+
+/// Takes so many bytes at a time, and no more.
+#[derive(Drop)]
+struct Slow {
+    taken: Vec<u8>,
+    most: usize,
+}
+
+impl Write for Slow {
+    fn write(&mut self, buf: &[u8]) -> io::Result<usize> {
+        let n = self.most.min(buf.len());
+        self.taken.extend_from_slice(&buf[..n])?;
+        Ok(n)
+    }
+
+    fn flush(&mut self) -> io::Result<()> {
+        Ok(())
+    }
+}
+
+const TWO_LINES: &[u8] =
+    b"{\"event\":\"register\",\"label\":\"gpu\",\"memory\":10000,\"node\":\"g1\",\"vcores\":10}\n{\"event\":\"heartbeat\",\"node\":\"g1\"}";
+
+const TWO_REPLIES: &[u8] = b"{\"reply\":\"done\"}\n{\"placed\":[],\"reply\":\"placed\"}\n";
+
+/// Runs the two lines with a reader and a writer that go by so many bytes at a time.
+fn run_by(alloc: Global, most: usize) -> Result<Vec<u8>, Fail> {
+    let mut reader = BufReader::with_capacity(alloc, most, TWO_LINES)?;
+    let taken = Vec::new(alloc);
+    let mut writer = Slow { taken, most };
+    run_lines(alloc, built_in(alloc)?, &mut reader, &mut writer)?;
+    Ok(writer.taken)
+}
+
+// A body that takes a short write for a fault keeps its contract.
+#[test]
+fn goes_by_few_bytes(rt: HostRuntime) -> Result<(), Fail> {
+    for most in 1..8 {
+        let taken = run_by(rt.alloc(), most)?;
+        assert!(rt; taken.as_slice() == TWO_REPLIES, "{most}");
+    }
+    Ok(())
+}
+
+#[test]
+fn answers_before_a_read_fault(rt: HostRuntime) -> Result<(), Fail> {
+    let alloc = rt.alloc();
+    let mut reader = BufReader::with_capacity(alloc, 7, Cut { left: REGISTER })?;
+    let mut out = Vec::new(alloc);
+    let ended = run_lines(alloc, built_in(alloc)?, &mut reader, &mut out);
+    assert!(rt; ended == Err(ToolFault::Read));
+    assert!(rt; out.as_slice() == DONE);
+    Ok(())
+}
+
+#[test]
+fn writes_a_front(rt: HostRuntime) -> Result<(), Fail> {
+    let alloc = rt.alloc();
+    for (room, fails) in [(7, true), (0, false)] {
+        let mut reader = REGISTER;
+        let mut writer = Narrow {
+            taken: Vec::new(alloc),
+            room,
+            fails,
+        };
+        let ended = run_lines(alloc, built_in(alloc)?, &mut reader, &mut writer);
+        assert!(rt; ended == Err(ToolFault::Write));
+        assert!(rt; writer.taken.as_slice() == &DONE[..room]);
+    }
+    Ok(())
+}
+
+fn words(alloc: Global, texts: &[&str]) -> Result<Vec<String>, AllocError> {
+    let mut words = Vec::new(alloc);
+    for text in texts {
+        words.push(String::from_str(alloc, text)?)?;
+    }
+    Ok(words)
+}
+
+#[test]
+fn reads_words(rt: HostRuntime) -> Result<(), Fail> {
+    let alloc = rt.alloc();
+    let run = words(alloc, &["ynl", "run"])?;
+    match parse_words(alloc, run.as_slice()) {
+        Ok(job) => assert!(rt;
+            job == Job {
+                kind: Kind::Run,
+                config: None
+            }
+        ),
+        Err(_) => panic!(rt; "run is a job"),
+    }
+    let tenant = words(
+        alloc,
+        &[
+            "ynl",
+            "tenant",
+            "--label",
+            "gpu",
+            "--tenant=-a",
+            "--config",
+            "c",
+        ],
+    )?;
+    let kind = Kind::Tenant(Name::parse("-a")?, Label::parse("gpu")?);
+    match parse_words(alloc, tenant.as_slice()) {
+        Ok(job) => assert!(rt;
+            job == Job {
+                kind,
+                config: Some("c")
+            }
+        ),
+        Err(_) => panic!(rt; "tenant is a job"),
+    }
+    Ok(())
+}
+
+const SCRIPT: &[u8] =
+    b"\n{\"event\":\"register\",\"label\":\"\",\"memory\":1,\"node\":\"d1\",\"vcores\":1}\n{\"event\":\"relabel\",\"label\":\"gpu\",\"node\":\"d1\"}\nx";
+
+const TOLD: &[u8] =
+    b"{\"event\":{\"event\":\"register\",\"label\":\"gpu\",\"memory\":1,\"node\":\"d1\",\"vcores\":1},\"place\":1,\"reply\":{\"reply\":\"done\"}}\n{\"fault\":\"syntax\",\"line\":4}\n";
+
+/// Tells the tenant of the built-in configuration.
+fn tell_built_in<R: std::io::BufRead, W: Write>(
+    rt: &impl Abort,
+    alloc: Global,
+    reader: &mut R,
+    writer: &mut W,
+) -> Result<Result<Summary, ToolFault>, Fail> {
+    let config = built_in(alloc)?;
+    let tenant = Name::parse("eng")?;
+    let label = Label::parse("gpu")?;
+    assert!(rt; sole(&config, &tenant, &label));
+    Ok(tenant_lines(alloc, config, &tenant, &label, reader, writer))
+}
+
+#[test]
+fn tells_a_tenant_once_all_is_read(rt: HostRuntime) -> Result<(), Fail> {
+    let alloc = rt.alloc();
+    let mut out = Vec::new(alloc);
+    let mut reader = SCRIPT;
+    let ended = tell_built_in(&rt, alloc, &mut reader, &mut out)?;
+    assert!(rt; ended.is_ok());
+    assert!(rt; out.as_slice() == TOLD);
+    Ok(())
+}
+
+#[test]
+fn tells_a_tenant_nothing_after_a_read_fault(rt: HostRuntime) -> Result<(), Fail> {
+    let alloc = rt.alloc();
+    let mut cut = BufReader::with_capacity(alloc, 7, Cut { left: REGISTER })?;
+    let mut out = Vec::new(alloc);
+    let ended = tell_built_in(&rt, alloc, &mut cut, &mut out)?;
+    assert!(rt; ended == Err(ToolFault::Read));
+    assert!(rt; out.is_empty());
+    Ok(())
+}
+
+#[test]
+fn tells_a_tenant_a_front(rt: HostRuntime) -> Result<(), Fail> {
+    let alloc = rt.alloc();
+    let mut writer = Narrow {
+        taken: Vec::new(alloc),
+        room: 7,
+        fails: true,
+    };
+    let mut reader = SCRIPT;
+    let ended = tell_built_in(&rt, alloc, &mut reader, &mut writer)?;
+    assert!(rt; ended == Err(ToolFault::Write));
+    assert!(rt; writer.taken.as_slice() == &TOLD[..7]);
+    Ok(())
+}
+
+// Run with each allocation failing in turn: where memory is refused at the first try, which a line
+// tells, the second gives the whole answer.
+#[test]
+fn answers_at_the_second_try(rt: HostRuntime) -> Result<(), Fail> {
+    let alloc = rt.alloc();
+    let line: &[u8] = b"{\"event\":\"heartbeat\",\"node\":\"g1\"}";
+    let mut first = line;
+    let mut out = Vec::with_capacity(alloc, 256)?;
+    let tried = run_lines(alloc, built_in(alloc)?, &mut first, &mut out);
+    if tried == Err(ToolFault::NoMemory) {
+        println!(rt; "refused")?;
+        assert!(rt; out.is_empty());
+        let mut second = line;
+        let ended = run_lines(alloc, built_in(alloc)?, &mut second, &mut out);
+        assert!(rt; ended.is_ok());
+    }
+    assert!(rt;
+        out.as_slice() == b"{\"refused\":\"NoSuchNode\",\"reply\":\"refused\"}\n".as_slice()
+    );
+    Ok(())
+}

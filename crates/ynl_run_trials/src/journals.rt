@@ -1,0 +1,66 @@
+//! A book that is entered at the second try, its audit and its replay.
+
+use std::alloc::Global;
+use std::test::Fail;
+use ynl_config::built_in;
+use ynl_core::NoMemory;
+use ynl_journal::{AuditFault, Book, Entry, audit, replay};
+use ynl_model::{Event, Reply};
+use ynl_resource::{Label, Name, Size};
+
+/// A node joins, and joins again, which is refused; then it is ready for more.
+fn event(number: u64) -> Result<Event, Fail> {
+    let node = Name::parse("g1")?;
+    if number == 2 {
+        return Ok(Event::Heartbeat { node });
+    }
+    let label = Label::parse("gpu")?;
+    let size = Size::new(10000, 10).ok_or("no size")?;
+    Ok(Event::Register { node, label, size })
+}
+
+// Run with each allocation failing in turn: where memory is refused at the first try, which a line
+// tells, the second enters the event.
+fn entered(rt: &HostRuntime, book: &mut Book, number: u64) -> Result<(u64, Reply), Fail> {
+    match book.enter(event(number)?) {
+        Ok(told) => Ok(told),
+        Err(NoMemory) => {
+            println!(rt; "refused")?;
+            Ok(book.enter(event(number)?)?)
+        }
+    }
+}
+
+fn audited(alloc: Global, entries: &[Entry]) -> Result<Result<(), AuditFault>, Fail> {
+    let config = built_in(alloc)?;
+    Ok(audit(alloc, config, entries))
+}
+
+/// Whether the cluster that the entries lead to would place anything on the node.
+fn places(alloc: Global, entries: &[Entry]) -> Result<bool, Fail> {
+    let core = replay(alloc, built_in(alloc)?, entries)?;
+    Ok(core.choose(&Name::parse("g1")?).is_some())
+}
+
+/// All that audits and replays say of the book's entries.
+fn is_told(alloc: Global, entries: &[Entry]) -> Result<bool, Fail> {
+    let Some((_, later)) = entries.split_first() else {
+        return Ok(false);
+    };
+    // Without the first event the second is not refused.
+    let whole = audited(alloc, entries)? == Ok(());
+    let other = audited(alloc, later)? == Err(AuditFault::Differs(1));
+    Ok(whole && other && !places(alloc, entries)?)
+}
+
+#[test]
+fn enters_at_the_second_try(rt: HostRuntime) -> Result<(), Fail> {
+    let mut book = Book::open(rt.alloc(), built_in(rt.alloc())?)?;
+    for number in 0..3 {
+        let told = entered(&rt, &mut book, number)?;
+        assert!(rt; told.0 == number);
+    }
+    assert_eq!(rt; book.entries().len(), 3);
+    assert!(rt; is_told(rt.alloc(), book.entries())?);
+    Ok(())
+}

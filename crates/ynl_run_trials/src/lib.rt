@@ -1,0 +1,12 @@
+//! Tests of what runs: a cluster that is refused memory, what a tenant sees of one, a book of its events, and
+//! jobs whose reader or writer fails. The crates themselves have none, since a crate with tests is proved twice.
+#![tactic(auto)]
+
+#[cfg(test)]
+mod cluster;
+#[cfg(test)]
+mod jobs;
+#[cfg(test)]
+mod journals;
+#[cfg(test)]
+mod views;
