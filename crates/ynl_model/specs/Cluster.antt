@@ -29,7 +29,6 @@ pub record State : Type 0 where
   pub partitions : List Partition
   pub leaves : List LeafApps
   pub stops : List StopRow
-  -- only where a maximum can change
   pub maxima : List MaximumRow
 
 -- a row for each partition, without containers, and with the clock at 0

@@ -79,7 +79,6 @@ reasons c s (Poll tenant app label) = (NoSuchApplication, not (has_app s tenant 
 reasons c s (Usage queue label) = (NoSuchQueue, not (is_queue c queue)) ∷ (NoSuchLabel, not (has_label c.labels label)) ∷ []
 reasons c s (Propose name) = placing_reasons c s name
 reasons c s (Commit proposal) = commit_reasons c s proposal
--- only where a maximum can change
 reasons c s (Maximum queue label share) =
     (NoSuchQueue, not (is_queue c queue)) ∷ (RootQueue, same_path queue root) ∷ (NoSuchLabel, not (has_label c.labels label))
     ∷ (LabelNotAccessible, not (may_use c queue label)) ∷ (BelowCapacity, nat_lt share (capacity_on c queue label)) ∷ []
@@ -142,6 +141,7 @@ commits c s proposal node app = record {
 abbrev pub served : Beat → Outcome
 served after = record { state = after.state; reply = Placed after.placed }
 
+-- what an event does that is not refused: the state after it, and the reply
 unfoldable pub accepted : Config → State → Event → Outcome
 accepted c s (Register name label size) = done (node_joins c name label size s)
 accepted c s (Lost name) = where_there (node_of s name) s (λ node. done (node_leaves node s))
@@ -160,7 +160,6 @@ accepted c s (Poll tenant app label) = answered s (held s tenant app label)
 accepted c s (Usage queue label) = answered s (usage c s queue label)
 accepted c s (Propose name) = where_there (node_of s name) s (λ node. answered s (Proposed (proposed c s node)))
 accepted c s (Commit proposal) = where_there (node_of s proposal.node) s (λ node. where_there (find_app s.leaves proposal.tenant proposal.app) s (commits c s proposal node))
--- only where a maximum can change
 accepted c s (Maximum queue label share) = done (record s { maxima = set_maximum queue label share s.maxima })
 
 -- ---- steps and runs

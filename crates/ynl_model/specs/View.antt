@@ -66,6 +66,7 @@ abbrev pub track_from : Config → List Tracked → List Event → List Tracked
 track_from c nodes [] = nodes
 track_from c nodes (event ∷ events) = track_from c (track_step c nodes event) events
 
+-- the track after all events of a cluster
 abbrev pub track : Config → List Event → List Tracked
 track c events = track_from c [] events
 
@@ -159,5 +160,6 @@ pub record Seen : Type 0 where
   pub containers : List Container
   pub clock : ℕ
 
+-- what is seen of a partition in a state
 abbrev pub seen : State → Label → Seen
 seen s p = record { nodes = nodes_of s.nodes p; containers = containers_on s p; clock = clock s p }

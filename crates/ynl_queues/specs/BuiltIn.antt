@@ -7,6 +7,7 @@ use Rattle.ynl_resource.specs.declared.paths.Path.{Path}
 use Rattle.ynl_model.specs.Nodes.{LabelRow, Labels}
 use Rattle.ynl_model.specs.Queues.{QueueRow, Config, Share, Inherited}
 
+-- the name of the label
 abbrev pub gpu : Name
 gpu = codes "gpu"
 
@@ -18,6 +19,7 @@ eng = codes "eng" ∷ []
 abbrev pub gpu_row : LabelRow
 gpu_row = record { name = gpu; exclusive = true; limit = 9007199254740991 }
 
+-- the one label, and as far a clock for DEFAULT
 abbrev pub labels : Labels
 labels = record { rows = gpu_row ∷ []; default_limit = 9007199254740991 }
 

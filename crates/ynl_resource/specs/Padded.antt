@@ -14,9 +14,11 @@ pub record IsPadded {X : Type 0} (size : ℕ) (filler : X) (place : List X) (len
   pub within : len ≤ size
   pub rest : drop len place ≡ replicate (size - len) filler
 
+-- the place gives the list back
 pub take-padded : {X : Type 0} (size : ℕ) (filler : X) (xs : List X) → take (length xs) (padded size filler xs) ≡ xs
 take-padded size filler xs = take-append_seam xs (replicate (size - length xs) filler)
 
+-- a list that is short enough stands in its place
 pub IsPadded-padded : {X : Type 0} (size : ℕ) (filler : X) (xs : List X) → length xs ≤ size → IsPadded size filler (padded size filler xs) (length xs)
 IsPadded-padded {X} size filler xs small = record {
   whole = omega (arith, length-append xs (replicate (size - length xs) filler), length-replicate {A = X} (size - length xs) filler);
@@ -24,9 +26,11 @@ IsPadded-padded {X} size filler xs small = record {
   rest = drop-append_seam xs (replicate (size - length xs) filler);
 }
 
+-- what stands in a place is as long as the given length
 pub length-kept : {X : Type 0} (size : ℕ) (filler : X) (place : List X) (len : ℕ) → IsPadded size filler place len → length (take len place) ≡ len
 length-kept size filler place len p = let h : len ≤ length place = omega (arith, p.whole, p.within) in length-take-le len place h
 
+-- what stands in a place gives the place back
 pub padded-take : {X : Type 0} (size : ℕ) (filler : X) (place : List X) (len : ℕ) → IsPadded size filler place len → padded size filler (take len place) ≡ place
 padded-take size filler place len p =
     ap (λ n. take len place ++ replicate (size - n) filler) (length-kept size filler place len p)

@@ -41,7 +41,6 @@ number PartitionBusy = 24
 number OverMaximum = 25
 number OverUserLimit = 26
 number OverMasterShare = 27
--- only where a maximum can change
 number BelowCapacity = 28
 
 -- the word of a refusal, as it is printed

@@ -15,24 +15,29 @@ bad_name = record {}
 
 -- ---- names
 
+-- the name that a text is
 unfoldable pub read_name : List ℕ → Result Name BadName
 read_name text = if is_name text then Ok text else Err bad_name
 
 -- ---- labels: the empty text is DEFAULT
 
+-- the label of that name
 abbrev pub named : Result Name BadName → Result Label BadName
 named (Ok name) = Ok (Named name)
 named (Err e) = Err e
 
+-- the label that a text is: DEFAULT if it is empty, and else that of a name
 unfoldable pub read_label : List ℕ → Result Label BadName
 read_label text = if length text == 0 then Ok Unlabelled else named (read_name text)
 
+-- the text of a label
 abbrev pub label_text : Label → List ℕ
 label_text Unlabelled = []
 label_text (Named name) = name
 
 -- ---- paths: names with dots between, the first `root`
 
+-- whether a byte is a dot
 abbrev pub is_dot : ℕ → Bool
 is_dot b = b == 46
 
@@ -45,14 +50,17 @@ abbrev pub path_of : List (List ℕ) → Result Path PathFault
 path_of [] = Err BadPath
 path_of (first ∷ names) = if same_name first (codes "root") && list_all is_name names then Ok names else Err BadPath
 
+-- the path that a text is: too many names are told before anything else
 unfoldable pub read_path : List ℕ → Result Path PathFault
 read_path text = if nat_lt most_names (length (slice_split is_dot text)) then Err TooDeep else path_of (slice_split is_dot text)
 
+-- the text of a path
 unfoldable pub path_text : Path → List ℕ
 path_text path = join_with_byte 46 (codes "root" ∷ path)
 
 -- ---- ids: the label, `#`, and the clock's number without leading zeros
 
+-- whether a byte is `#`
 abbrev pub is_mark : ℕ → Bool
 is_mark b = b == 35
 
@@ -65,6 +73,7 @@ abbrev pub is_clock : List ℕ → Bool
 is_clock digits =
     all_ascii_digits digits && nat_le 1 (digits_value 10 digits) && nat_le (digits_value 10 digits) most_clock && not (slice_index digits 0 == 48)
 
+-- the id of a label and the digits of its number
 abbrev pub id_of : Result Label BadName → List ℕ → Result Id BadName
 id_of (Ok label) digits = if is_clock digits then Ok (record { label = label; clock = digits_value 10 digits }) else Err bad_name
 id_of (Err e) digits = Err e
@@ -73,5 +82,6 @@ id_of (Err e) digits = Err e
 unfoldable pub read_id : List ℕ → Result Id BadName
 read_id text = id_of (read_label (before_first is_mark text)) (after_first is_mark text)
 
+-- the text of an id
 abbrev pub id_text : Id → List ℕ
 id_text id = label_text id.label ++ 35 ∷ decimal id.clock

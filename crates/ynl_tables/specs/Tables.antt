@@ -15,6 +15,7 @@ use Rattle.ynl_tables.specs.declared.tables.Tables.{Tables}
 abbrev pub app_of : Path → App → Application
 app_of leaf app = record { leaf = leaf; name = app.name; user = app.user; home = app.home; master = app.master; asks = app.asks.items }
 
+-- these are the leaf and the partition that a row stands for, and those of a list of rows
 abbrev pub leaf_of_row : LeafRow → LeafApps
 leaf_of_row row = record { leaf = row.path; names = row.names.items; apps = map (app_of row.path) row.apps.items }
 
