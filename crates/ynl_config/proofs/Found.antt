@@ -10,9 +10,9 @@ use Rattle.ynl_config.specs.Earliest.{ConfigFault, ◌>>=◌, both, and_one, all
 use Rattle.ynl_config.specs.Known.{known_keys}
 use Rattle.ynl_config.specs.Readings.{or_fault, or_given, text_at, flag_at, number_at, percent_at, name_of, name_at, label_at, stopped_at, version_at, size_at}
 use Rattle.ynl_config.specs.Tables.{in_table, in_tables, values_in, pairs_in, label_in, label_row, labels_at, share_in, share_row, share_of, shares_at, bounds_in, bounds_row, leaf_in, leaf_row, access_at, queue_in, queue_row, queues_at, numbers_in, numbers_row, any_version, written_in, written_of}
-use Rattle.ynl_resource.specs.Amounts.{whole, amount}
-use Rattle.ynl_model.specs.Accepted.{most_clock}
-use Rattle.ynl_config.specs.declared.keys.Place.TheVariants as place
+use Rattle.ynl_resource.specs.Amounts.{amount}
+use Rattle.ynl_resource.specs.Ranges.{whole, most_clock}
+use Rattle.ynl_config.specs.declared.keys.TableKind.TheVariants as kind
 use Rattle.ynl_config.specs.Anywhere.{first_among, fault_in, in_a_table, in_an_array, in_shares, label_faults, share_faults, bounds_faults, leaf_faults, queue_faults, size_faults, number_faults, faults_in}
 use Rattle.ynl_config.proofs.Told.{lesser, least, lesser-none, lesser-assoc, least-append, told}
 
@@ -97,7 +97,7 @@ label_found : (ms : Members) → IsEarliest (label_in ms) (label_faults ms)
 unfolding label_in label_faults
 label_found ms =
     of_made label_row
-    (with (alone (known_keys place.Label ms))
+    (with (alone (known_keys kind.Label ms))
     (with (alone (name_at (codes "name") ms))
     (with (alone (flag_at (codes "exclusive") true ms)) (last (alone (number_at (codes "clock-limit") 1 most_clock most_clock ms))))))
 
@@ -105,7 +105,7 @@ share_found : (version : Version) (name : List ℕ) (ms : Members) → IsEarlies
 unfolding share_in share_faults
 share_found version name ms =
     of_made share_row
-    (with (alone (known_keys place.Share ms))
+    (with (alone (known_keys kind.LabelCapacity ms))
     (with (alone (name_of name))
     (with (alone (percent_at (codes "capacity") version 0 0 ms)) (last (alone (percent_at (codes "maximum-capacity") version 0 whole ms))))))
 
@@ -148,7 +148,7 @@ queue_found : (version : Version) (ms : Members) → IsEarliest (queue_in versio
 unfolding queue_in queue_faults
 queue_found version ms =
     of_made queue_row
-    (with (alone (known_keys place.Queue ms))
+    (with (alone (known_keys kind.Queue ms))
     (with (alone (text_at (codes "path") ms))
     (with (bounds_found version ms) (with (leaf_found version ms) (with (alone (access_at ms)) (last (shares_found version ms)))))))
 
@@ -177,7 +177,7 @@ all_in : (ms : Members) → IsEarliest (written_in ms) (faults_in ms)
 unfolding written_in faults_in
 all_in ms =
     of_made written_of
-    (with (alone (known_keys place.Top ms))
+    (with (alone (known_keys kind.Top ms))
     (with (alone (version_at ms))
     (with (numbers_found ms) (with (labels_found ms) (last (queues_found (any_version (version_at ms)) ms))))))
 

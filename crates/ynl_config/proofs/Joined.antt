@@ -1,13 +1,13 @@
 -- Readings that are told together.
 use Rattle.std.proofs.Common.{◌≡◌, ℕ, List, Result, Ok, Err, Vec, Bor, refl, sym, ap, ◌∙◌}
 use Rattle.std.specs.declared.alloc.Global.{Global}
-use Rattle.ynl_model.specs.Nodes.{LabelRow}
-use Rattle.ynl_model.specs.Queues.{Share}
+use Rattle.ynl_model.specs.declared.labels.LabelRow.{LabelRow}
+use Rattle.ynl_model.specs.declared.queues.LabelCapacity.{LabelCapacity}
 use Rattle.ynl_queues.specs.Rows.{access_of}
 use Rattle.ynl_queues.specs.Written.{WrittenRow}
 use Rattle.ynl_queues.specs.declared.rows.Access.{Access as Kept}
 use Rattle.ynl_config.specs.declared.queues.Bounds.{Bounds}
-use Rattle.ynl_config.specs.declared.queues.LeafSettings.{LeafSettings}
+use Rattle.ynl_model.specs.declared.queues.LeafSettings.{LeafSettings}
 use Rattle.ynl_config.specs.declared.values.Version.{Version}
 use Rattle.ynl_config.specs.declared.written.Numbers.{Numbers}
 use Rattle.ynl_config.specs.Earliest.{ConfigFault, ◌>>=◌, both, made, items_in}
@@ -44,7 +44,7 @@ made_given f (Err e) read h = sym h
 -- ---- a queue
 
 pub queue_seen : (keys : Result (Unit {0}) ConfigFault) (path : Result (Bor (List ℕ)) ConfigFault) (bounds : Result Bounds ConfigFault) (leaf : Result LeafSettings ConfigFault)
-    (access : Result Kept ConfigFault) (shares : Result (Vec Share Global) ConfigFault)
+    (access : Result Kept ConfigFault) (shares : Result (Vec LabelCapacity Global) ConfigFault)
     → both keys (both (made (λ s. s.now) path) (both bounds (both leaf (both (access_in access) (items_in shares)))))
     ≡ made queue_view (both keys (both path (both bounds (both leaf (both access shares)))))
 queue_seen keys path bounds leaf access shares =

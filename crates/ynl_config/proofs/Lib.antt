@@ -1,6 +1,6 @@
-pub mod Bytes
 pub mod Found
 pub mod Joined
+pub mod Known
 pub mod Ranges
 pub mod Spaces
 pub mod Told

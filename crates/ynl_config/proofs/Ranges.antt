@@ -5,20 +5,23 @@ use Rattle.std.proofs.lemmas.List.Folds.{list_all-append, list_all-map}
 use Rattle.std.proofs.lemmas.Result.{IfOk-weaker}
 use Rattle.std.specs.List.{list_all}
 use Rattle.toml.specs.Data.{Data, Members, get_member, as_integer, as_table, as_array}
-use Rattle.ynl_resource.specs.Amounts.{whole, amount}
+use Rattle.ynl_resource.specs.Amounts.{amount}
+use Rattle.ynl_resource.specs.Ranges.{whole, most_clock}
 use Rattle.ynl_resource.specs.declared.amounts.Resource.{Resource}
 use Rattle.ynl_resource.specs.Refusals.{first_that_holds}
-use Rattle.ynl_model.specs.Nodes.{LabelRow, Labels}
-use Rattle.ynl_model.specs.Queues.{Access, Share, QueueRow, Config}
-use Rattle.ynl_model.specs.Accepted.{most_clock, label_faults, row_in_range, in_range, is_accepted}
+use Rattle.ynl_model.specs.Nodes.{Labels}
+use Rattle.ynl_model.specs.declared.labels.LabelRow.{LabelRow}
+use Rattle.ynl_model.specs.Queues.{Access, QueueRow, Config}
+use Rattle.ynl_model.specs.declared.queues.LabelCapacity.{LabelCapacity}
+use Rattle.ynl_model.specs.Accepted.{label_faults, row_in_range, in_range, is_accepted}
 use Rattle.ynl_model.specs.declared.faults.LabelFault.{LabelFault}
 use Rattle.ynl_model.specs.declared.faults.TreeFault.{TreeFault}
-use Rattle.ynl_nodes.specs.Built.{unless_fault, labels_of}
+use Rattle.ynl_labels.specs.Built.{unless_fault, labels_of}
 use Rattle.ynl_queues.specs.Written.{WrittenRow, row_of, tree_of, written_faults}
 use Rattle.ynl_queues.proofs.Faultless.{given_none, tree_faultless}
-use Rattle.ynl_config.specs.declared.keys.Place.TheVariants as place
+use Rattle.ynl_config.specs.declared.keys.TableKind.TheVariants as kind
 use Rattle.ynl_config.specs.declared.queues.Bounds.{Bounds}
-use Rattle.ynl_config.specs.declared.queues.LeafSettings.{LeafSettings}
+use Rattle.ynl_model.specs.declared.queues.LeafSettings.{LeafSettings}
 use Rattle.ynl_config.specs.declared.written.Numbers.{Numbers}
 use Rattle.ynl_config.specs.declared.faults.ConfigFault.TheVariants as fault
 use Rattle.ynl_config.specs.declared.values.Version.{Version}
@@ -138,13 +141,13 @@ capacities_if version ms = IfOk-weaker (capacities_at version ms) (λ (p : ℕ �
     (both_if (IsWithin 0 whole) (IsWithin 0 whole) (percent_at (codes "capacity") version 0 0 ms) (percent_at (codes "maximum-capacity") version 0 whole ms)
     (percent_at_if (codes "capacity") version 0 0 ms refl) (percent_at_if (codes "maximum-capacity") version 0 whole ms refl))
 
-abbrev is_share : Share → Bool
+abbrev is_share : LabelCapacity → Bool
 is_share share = nat_le share.capacity whole && nat_le share.maximum whole
 
 share_if : (version : Version) (name : List ℕ) (ms : Members) → IfOk (share_in version name ms) (λ s. is_share s ≡ true)
 unfolding share_in
 share_if version name ms = made_if (λ s. is_share s ≡ true) share_row (share_parts version name ms)
-    (second_if (λ p. is_share (share_row (tt, p)) ≡ true) (known_keys place.Share ms) (both (name_of name) (capacities_at version ms))
+    (second_if (λ p. is_share (share_row (tt, p)) ≡ true) (known_keys kind.LabelCapacity ms) (both (name_of name) (capacities_at version ms))
     (second_if (λ q. (nat_le q.0 whole && nat_le q.1 whole) ≡ true) (name_of name) (capacities_at version ms)
     (IfOk-weaker (capacities_at version ms) AreShares (λ (q : ℕ × ℕ). (nat_le q.0 whole && nat_le q.1 whole) ≡ true) (λ q h. join (nat_le q.0 whole) (nat_le q.1 whole) h.0 h.1) (capacities_if version ms))))
 
@@ -162,7 +165,7 @@ bounds_if version ms = made_if (λ b. AreShares (b.capacity, b.maximum)) bounds_
 
 -- the settings of a leaf are in range
 abbrev IsLeaf : LeafSettings → Type 0
-IsLeaf l = IsWithin 1 whole l.user_percent × (IsWithin 1 10000 l.user_factor × (IsWithin 0 whole l.master_percent × IsWithin 1 1000000 l.most_applications))
+IsLeaf l = IsWithin 1 whole l.minimum_user_limit_percent × (IsWithin 1 10000 l.user_limit_factor × (IsWithin 0 whole l.maximum_am_resource_percent × IsWithin 1 1000000 l.maximum_applications))
 
 leaf_if : (version : Version) (ms : Members) → IfOk (leaf_in version ms) IsLeaf
 unfolding leaf_in
@@ -186,13 +189,13 @@ abbrev fits : WrittenRow → Bool
 fits row = row_in_range (row_of row)
 
 -- the facts of a row's parts
-abbrev AreInRange : Bounds × (LeafSettings × (Access × List Share)) → Type 0
+abbrev AreInRange : Bounds × (LeafSettings × (Access × List LabelCapacity)) → Type 0
 AreInRange p = AreShares (p.0.capacity, p.0.maximum) × (IsLeaf p.1.0 × (list_all is_share p.1.1.1 ≡ true))
 
 row_fits : (p : QueueParts) → AreInRange p.1.1 → fits (queue_row p) ≡ true
 unfolding row_of
 row_fits p h =
-    λ i. h.0.0 i && h.0.1 i && h.1.0.0 i && h.1.0.1.0 i && (split (nat_le 0 p.1.1.1.0.master_percent) (nat_le p.1.1.1.0.master_percent whole) h.1.0.1.1.0).1 i && h.1.0.1.1.1 i && h.1.1 i
+    λ i. h.0.0 i && h.0.1 i && h.1.0.0 i && h.1.0.1.0 i && (split (nat_le 0 p.1.1.1.0.maximum_am_resource_percent) (nat_le p.1.1.1.0.maximum_am_resource_percent whole) h.1.0.1.1.0).1 i && h.1.0.1.1.1 i && h.1.1 i
 
 queue_if : (version : Version) (ms : Members) → IfOk (queue_in version ms) (λ row. fits row ≡ true)
 unfolding queue_in
@@ -202,10 +205,10 @@ queue_if version ms =
     let shares = shares_at version ms in
     made_if (λ row. fits row ≡ true) queue_row (queue_parts version ms)
     (IfOk-weaker (queue_parts version ms) (λ (p : QueueParts). AreInRange p.1.1) (λ (p : QueueParts). fits (queue_row p) ≡ true) row_fits
-    (second_if (λ (p : List ℕ × (Bounds × (LeafSettings × (Access × List Share)))). AreInRange p.1) (known_keys place.Queue ms) (both (text_at (codes "path") ms) (both bounds (both leaf (both (access_at ms) shares))))
+    (second_if (λ (p : List ℕ × (Bounds × (LeafSettings × (Access × List LabelCapacity)))). AreInRange p.1) (known_keys kind.Queue ms) (both (text_at (codes "path") ms) (both bounds (both leaf (both (access_at ms) shares))))
     (second_if AreInRange (text_at (codes "path") ms) (both bounds (both leaf (both (access_at ms) shares)))
-    (both_if (λ (b : Bounds). AreShares (b.capacity, b.maximum)) (λ (p : LeafSettings × (Access × List Share)). IsLeaf p.0 × (list_all is_share p.1.1 ≡ true)) bounds (both leaf (both (access_at ms) shares)) (bounds_if version ms)
-    (both_if IsLeaf (λ (p : Access × List Share). list_all is_share p.1 ≡ true) leaf (both (access_at ms) shares) (leaf_if version ms)
+    (both_if (λ (b : Bounds). AreShares (b.capacity, b.maximum)) (λ (p : LeafSettings × (Access × List LabelCapacity)). IsLeaf p.0 × (list_all is_share p.1.1 ≡ true)) bounds (both leaf (both (access_at ms) shares)) (bounds_if version ms)
+    (both_if IsLeaf (λ (p : Access × List LabelCapacity). list_all is_share p.1 ≡ true) leaf (both (access_at ms) shares) (leaf_if version ms)
     (second_if (λ xs. list_all is_share xs ≡ true) (access_at ms) shares (shares_if version ms)))))))
 
 queues_if : (version : Version) (ms : Members) → IfOk (queues_at version ms) (λ rows. list_all fits rows ≡ true)
@@ -231,7 +234,7 @@ size_if ms =
     (λ p h. h)
 
 abbrev AreNumbers : Numbers → Type 0
-AreNumbers n = IsWithin 1 1000 n.per_heartbeat × IsSized n.maximum_allocation
+AreNumbers n = IsWithin 1 1000 n.containers_per_heartbeat × IsSized n.maximum_allocation
 
 numbers_if : (ms : Members) → IfOk (numbers_in ms) AreNumbers
 unfolding numbers_in
@@ -252,7 +255,7 @@ unfolding written_in
 written_if ms =
     let queues = queues_at (any_version (version_at ms)) ms in
     made_if IsInRange written_of (parts_in ms)
-    (second_if (λ (p : Version × (Numbers × (List LabelRow × List WrittenRow))). AreNumbers p.1.0 × (list_all fits p.1.1.1 ≡ true)) (known_keys place.Top ms) (both (version_at ms) (both (numbers_in ms) (both (labels_at ms) queues)))
+    (second_if (λ (p : Version × (Numbers × (List LabelRow × List WrittenRow))). AreNumbers p.1.0 × (list_all fits p.1.1.1 ≡ true)) (known_keys kind.Top ms) (both (version_at ms) (both (numbers_in ms) (both (labels_at ms) queues)))
     (second_if (λ (p : Numbers × (List LabelRow × List WrittenRow)). AreNumbers p.0 × (list_all fits p.1.1 ≡ true)) (version_at ms) (both (numbers_in ms) (both (labels_at ms) queues))
     (both_if AreNumbers (λ (p : List LabelRow × List WrittenRow). list_all fits p.1 ≡ true) (numbers_in ms) (both (labels_at ms) queues) (numbers_if ms)
     (second_if (λ rows. list_all fits rows ≡ true) (labels_at ms) queues (queues_if (any_version (version_at ms)) ms)))))
@@ -263,10 +266,10 @@ labels_ok None labels made h = (refl, cc)
 labels_ok (Some fault) labels made h = absurd cc
 
 accepted_of : (w : WrittenConfig) (labels : Labels) (queues : List QueueRow) → IsInRange w → labels_of w.labels w.numbers.default_limit ≡ Ok labels → tree_of labels w.queues ≡ Ok queues
-    → is_accepted (record { labels = labels; queues = queues; per_heartbeat = w.numbers.per_heartbeat; maximum_allocation = w.numbers.maximum_allocation }) ≡ true
+    → is_accepted (record { labels = labels; queues = queues; containers_per_heartbeat = w.numbers.containers_per_heartbeat; maximum_allocation = w.numbers.maximum_allocation }) ≡ true
 unfolding is_accepted in_range labels_of tree_of
 accepted_of w labels queues h made planted =
-    let c : Config = record { labels = labels; queues = queues; per_heartbeat = w.numbers.per_heartbeat; maximum_allocation = w.numbers.maximum_allocation } in
+    let c : Config = record { labels = labels; queues = queues; containers_per_heartbeat = w.numbers.containers_per_heartbeat; maximum_allocation = w.numbers.maximum_allocation } in
     let given : Labels = record { rows = w.labels; default_limit = w.numbers.default_limit } in
     let of_labels = labels_ok (first_that_holds (label_faults given)) given labels made in
     let no_label_fault : first_that_holds (label_faults labels) ≡ None = ap (λ (l : Labels). first_that_holds (label_faults l)) (sym of_labels.1) ∙ of_labels.0 in
@@ -279,7 +282,7 @@ unfolding built
 built_if w h = with_labels (labels_of w.labels w.numbers.default_limit) refl
   where
     of : Labels → List QueueRow → Config
-    of labels queues = record { labels = labels; queues = queues; per_heartbeat = w.numbers.per_heartbeat; maximum_allocation = w.numbers.maximum_allocation }
+    of labels queues = record { labels = labels; queues = queues; containers_per_heartbeat = w.numbers.containers_per_heartbeat; maximum_allocation = w.numbers.maximum_allocation }
 
     with_queues : (labels : Labels) → labels_of w.labels w.numbers.default_limit ≡ Ok labels → (r : Result (List QueueRow) TreeFault) → tree_of labels w.queues ≡ r
         → IfOk (told_as tree_fault r >>= λ queues. Ok (of labels queues)) (λ c. is_accepted c ≡ true)

@@ -8,15 +8,15 @@ use Rattle.toml.specs.Data.{Data}
 use Rattle.toml.specs.View.{view, items_view, members_view}
 use Rattle.toml.specs.declared.value.Value.{Value}
 use Rattle.toml.proofs.Views.{Entry}
-use Rattle.ynl_config.specs.declared.keys.Place.{Place}
+use Rattle.ynl_config.specs.declared.keys.TableKind.{TableKind}
 use Rattle.ynl_config.specs.Known.{is_known, all_known}
 use Rattle.ynl_config.specs.Earliest.{ConfigFault, all_of}
 use Rattle.ynl_config.specs.Tables.{values_in, pairs_in}
 
 -- the keys of a table are those of its entries
-pub known_entries : (place : Place) (es : List Entry) → list_all (λ key. is_known place (string_bytes key)) (keys_of es) ≡ all_known place (members_view es)
-known_entries place [] = refl
-known_entries place (e ∷ es) = ap (λ b. is_known place (string_bytes e.0) && b) (known_entries place es)
+pub known_entries : (kind : TableKind) (es : List Entry) → list_all (λ key. is_known kind (string_bytes key)) (keys_of es) ≡ all_known kind (members_view es)
+known_entries kind [] = refl
+known_entries kind (e ∷ es) = ap (λ b. is_known kind (string_bytes e.0) && b) (known_entries kind es)
 
 -- the values of an array are those of its items
 pub values_read : {A : Type 0} (read : Data → A) (vs : List Value) → map (λ v. read (view v)) vs ≡ map read (values_in (items_view vs))

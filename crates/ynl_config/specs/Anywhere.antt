@@ -3,10 +3,9 @@ use Rattle.std.specs.Prelude.{ℕ, List, [], ◌∷◌, ◌++◌, map, Bool, tru
 use Rattle.std.specs.List.{list_any}
 use Rattle.std.specs.Option.{option_map_or}
 use Rattle.toml.specs.Data.{Data, Members, get_member, as_table, as_array}
-use Rattle.ynl_resource.specs.Amounts.{whole}
+use Rattle.ynl_resource.specs.Ranges.{whole, most_clock, most_memory, most_vcores}
 use Rattle.ynl_resource.specs.Refusals.{first_that_holds}
-use Rattle.ynl_model.specs.Accepted.{most_clock}
-use Rattle.ynl_config.specs.declared.keys.Place.TheVariants as place
+use Rattle.ynl_config.specs.declared.keys.TableKind.TheVariants as kind
 use Rattle.ynl_config.specs.declared.faults.ConfigFault.TheVariants.{Size, Syntax, UnknownKey, MissingKey, WrongKind, Version as WrongVersion, Range, BadLabel, TooManyLabels, DuplicateLabel, TooDeep, TooMany, BadPath, DuplicateQueue, NoParent, NoSuchLabel, NotSubset, MaximumBelowCapacity, SumNot100}
 use Rattle.ynl_config.specs.declared.values.Version.{Version}
 use Rattle.ynl_config.specs.Earliest.{ConfigFault, rank}
@@ -54,13 +53,13 @@ in_an_array faults (Some d) = option_map_or (λ ds. flat_map (in_a_table faults)
 -- the faults of a label
 unfoldable pub label_faults : Members → List ConfigFault
 label_faults ms = gathered (
-    fault_in (known_keys place.Label ms) ∷ fault_in (name_at (codes "name") ms) ∷ fault_in (flag_at (codes "exclusive") true ms)
+    fault_in (known_keys kind.Label ms) ∷ fault_in (name_at (codes "name") ms) ∷ fault_in (flag_at (codes "exclusive") true ms)
     ∷ fault_in (number_at (codes "clock-limit") 1 most_clock most_clock ms) ∷ [])
 
 -- the faults of a queue's share of the label of this name
 unfoldable pub share_faults : Version → List ℕ → Members → List ConfigFault
 share_faults version name ms = gathered (
-    fault_in (known_keys place.Share ms) ∷ fault_in (name_of name) ∷ fault_in (percent_at (codes "capacity") version 0 0 ms)
+    fault_in (known_keys kind.LabelCapacity ms) ∷ fault_in (name_of name) ∷ fault_in (percent_at (codes "capacity") version 0 0 ms)
     ∷ fault_in (percent_at (codes "maximum-capacity") version 0 whole ms) ∷ [])
 
 -- the faults of a queue's shares of labels, which may be absent
@@ -84,14 +83,14 @@ leaf_faults version ms = gathered (
 -- the faults of a queue
 unfoldable pub queue_faults : Version → Members → List ConfigFault
 queue_faults version ms = gathered (
-    fault_in (known_keys place.Queue ms) ∷ fault_in (text_at (codes "path") ms) ∷ bounds_faults version ms ∷ leaf_faults version ms
+    fault_in (known_keys kind.Queue ms) ∷ fault_in (text_at (codes "path") ms) ∷ bounds_faults version ms ∷ leaf_faults version ms
     ∷ fault_in (access_at ms) ∷ in_shares version (get_member (codes "label") ms) ∷ [])
 
 -- the faults of the largest request
 unfoldable pub size_faults : Members → List ConfigFault
 size_faults ms = gathered (
-    fault_in (number_at (codes "maximum-allocation-memory") 1 4294967295 4294967295 ms)
-    ∷ fault_in (number_at (codes "maximum-allocation-vcores") 1 65536 65536 ms) ∷ [])
+    fault_in (number_at (codes "maximum-allocation-memory") 1 most_memory most_memory ms)
+    ∷ fault_in (number_at (codes "maximum-allocation-vcores") 1 most_vcores most_vcores ms) ∷ [])
 
 -- the faults of the numbers that stand beside labels and queues
 unfoldable pub number_faults : Members → List ConfigFault
@@ -102,5 +101,5 @@ number_faults ms = gathered (
 -- the faults of all tables and values of a text
 unfoldable pub faults_in : Members → List ConfigFault
 faults_in ms = gathered (
-    fault_in (known_keys place.Top ms) ∷ fault_in (version_at ms) ∷ number_faults ms ∷ in_an_array label_faults (get_member (codes "label") ms)
+    fault_in (known_keys kind.Top ms) ∷ fault_in (version_at ms) ∷ number_faults ms ∷ in_an_array label_faults (get_member (codes "label") ms)
     ∷ in_an_array (queue_faults (any_version (version_at ms))) (get_member (codes "queue") ms) ∷ [])

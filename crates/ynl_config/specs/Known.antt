@@ -2,8 +2,8 @@
 use Rattle.std.specs.Prelude.{ℕ, List, Bool, true, ◌&&◌, ◌||◌, Result, Ok, Err, codes, if◌then◌else◌}
 use Rattle.std.specs.Str.{bytes_eq}
 use Rattle.toml.specs.Data.{Members, no_members, member}
-use Rattle.ynl_config.specs.declared.keys.Place.{Place}
-use Rattle.ynl_config.specs.declared.keys.Place.TheVariants.{Top, Label, Queue, Share}
+use Rattle.ynl_config.specs.declared.keys.TableKind.{TableKind}
+use Rattle.ynl_config.specs.declared.keys.TableKind.TheVariants.{Top, Label, Queue, LabelCapacity}
 use Rattle.ynl_config.specs.Earliest.{ConfigFault}
 use Rattle.ynl_config.specs.declared.faults.ConfigFault.TheVariants.{UnknownKey}
 
@@ -29,17 +29,17 @@ is_queue_key key =
     || bytes_eq key (codes "maximum-am-resource-percent") || bytes_eq key (codes "maximum-applications") || bytes_eq key (codes "label")
 
 -- whether a table may have the key
-unfoldable pub is_known : Place → List ℕ → Bool
+unfoldable pub is_known : TableKind → List ℕ → Bool
 is_known Top key = is_top_key key
 is_known Label key = is_label_key key
 is_known Queue key = is_queue_key key
-is_known Share key = is_share_key key
+is_known LabelCapacity key = is_share_key key
 
 -- whether a table may have all its keys
-abbrev pub all_known : Place → Members → Bool
-all_known place no_members = true
-all_known place (member key d ms) = is_known place key && all_known place ms
+abbrev pub all_known : TableKind → Members → Bool
+all_known kind no_members = true
+all_known kind (member key d ms) = is_known kind key && all_known kind ms
 
 -- the fault of a key that a table may not have
-unfoldable pub known_keys : Place → Members → Result (Unit {0}) ConfigFault
-known_keys place ms = if all_known place ms then Ok tt else Err UnknownKey
+unfoldable pub known_keys : TableKind → Members → Result (Unit {0}) ConfigFault
+known_keys kind ms = if all_known kind ms then Ok tt else Err UnknownKey

@@ -2,7 +2,8 @@
 use Rattle.std.specs.Prelude.{◌≡◌, ℕ, ◌*◌, ℤ, pos, negsuc, List, Bool, true, false, ◌&&◌, ◌==◌, nat_le, Option, Some, None, Result, Ok, Err, codes, if◌then◌else◌}
 use Rattle.std.specs.Str.{bytes_eq}
 use Rattle.toml.specs.Data.{Data, Members, get_member, as_str, as_integer, as_bool}
-use Rattle.ynl_resource.specs.Amounts.{whole, amount}
+use Rattle.ynl_resource.specs.Amounts.{amount}
+use Rattle.ynl_resource.specs.Ranges.{whole, most_memory, most_vcores}
 use Rattle.ynl_resource.specs.declared.amounts.Resource.{Resource}
 use Rattle.ynl_resource.specs.declared.names.Name.{Name}
 use Rattle.ynl_resource.specs.declared.labels.Label.{Label}
@@ -134,5 +135,5 @@ version_at ms =
 -- the largest request: memory in MB, and vcores
 unfoldable pub size_at : Members → Result Resource ConfigFault
 size_at ms =
-    both (number_at (codes "maximum-allocation-memory") 1 4294967295 4294967295 ms) (number_at (codes "maximum-allocation-vcores") 1 65536 65536 ms)
+    both (number_at (codes "maximum-allocation-memory") 1 most_memory most_memory ms) (number_at (codes "maximum-allocation-vcores") 1 most_vcores most_vcores ms)
     >>= λ p. Ok (amount p.0 p.1)

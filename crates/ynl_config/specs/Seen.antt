@@ -2,13 +2,14 @@
 use Rattle.std.specs.Prelude.{ℕ, List, Result, Vec}
 use Rattle.std.specs.Borrow.{Bor}
 use Rattle.std.specs.declared.alloc.Global.{Global}
-use Rattle.ynl_model.specs.Nodes.{LabelRow}
-use Rattle.ynl_model.specs.Queues.{Access, Share}
+use Rattle.ynl_model.specs.declared.labels.LabelRow.{LabelRow}
+use Rattle.ynl_model.specs.Queues.{Access}
+use Rattle.ynl_model.specs.declared.queues.LabelCapacity.{LabelCapacity}
 use Rattle.ynl_queues.specs.declared.rows.Access.{Access as Kept}
 use Rattle.ynl_queues.specs.Rows.{access_of}
 use Rattle.ynl_queues.specs.Written.{WrittenRow}
 use Rattle.ynl_config.specs.declared.queues.Bounds.{Bounds}
-use Rattle.ynl_config.specs.declared.queues.LeafSettings.{LeafSettings}
+use Rattle.ynl_model.specs.declared.queues.LeafSettings.{LeafSettings}
 use Rattle.ynl_config.specs.declared.values.Version.{Version}
 use Rattle.ynl_config.specs.declared.written.Numbers.{Numbers}
 use Rattle.ynl_config.specs.Earliest.{ConfigFault, made}
@@ -20,7 +21,7 @@ access_in = made access_of
 
 -- what a queue's table says, as it is kept
 abbrev pub KeptQueue : Type 0
-KeptQueue = Unit {0} × (Bor (List ℕ) × (Bounds × (LeafSettings × (Kept × Vec Share Global))))
+KeptQueue = Unit {0} × (Bor (List ℕ) × (Bounds × (LeafSettings × (Kept × Vec LabelCapacity Global))))
 
 -- a queue's parts, as the model's values
 abbrev pub queue_view : KeptQueue → QueueParts

@@ -1,20 +1,20 @@
 -- The rows of a configuration, read from its tables: all values of a row, or the earliest of their faults.
 use Rattle.std.specs.Prelude.{ℕ, List, [], ◌∷◌, map, Bool, true, Result, Ok, Err, codes}
 use Rattle.toml.specs.Data.{Data, Items, no_items, item, Members, no_members, member, get_member, as_table, as_array}
-use Rattle.ynl_resource.specs.Amounts.{whole}
+use Rattle.ynl_resource.specs.Ranges.{whole, most_clock}
 use Rattle.ynl_resource.specs.declared.amounts.Resource.{Resource}
 use Rattle.ynl_resource.specs.declared.names.Name.{Name}
 use Rattle.ynl_resource.specs.declared.labels.Label.{Label}
-use Rattle.ynl_model.specs.Nodes.{LabelRow}
-use Rattle.ynl_model.specs.Accepted.{most_clock}
-use Rattle.ynl_model.specs.Queues.{Access, Inherited, Share}
+use Rattle.ynl_model.specs.declared.labels.LabelRow.{LabelRow}
+use Rattle.ynl_model.specs.Queues.{Access, Inherited}
+use Rattle.ynl_model.specs.declared.queues.LabelCapacity.{LabelCapacity}
 use Rattle.ynl_queues.specs.Written.{WrittenRow}
-use Rattle.ynl_config.specs.declared.keys.Place.TheVariants as place
+use Rattle.ynl_config.specs.declared.keys.TableKind.TheVariants as kind
 use Rattle.ynl_config.specs.declared.faults.ConfigFault.TheVariants as fault
 use Rattle.ynl_config.specs.declared.values.Version.{Version}
 use Rattle.ynl_config.specs.declared.values.Version.TheVariants.{Whole}
 use Rattle.ynl_config.specs.declared.queues.Bounds.{Bounds}
-use Rattle.ynl_config.specs.declared.queues.LeafSettings.{LeafSettings}
+use Rattle.ynl_model.specs.declared.queues.LeafSettings.{LeafSettings}
 use Rattle.ynl_config.specs.declared.written.Numbers.{Numbers}
 use Rattle.ynl_config.specs.Earliest.{ConfigFault, ◌>>=◌, both, all_of, made}
 use Rattle.ynl_config.specs.Known.{known_keys}
@@ -44,7 +44,7 @@ in_tables read d = or_fault fault.WrongKind (as_array d) >>= λ ds. all_of (map 
 -- a label's parts: it is exclusive where the text does not say otherwise, and its clock goes as far as clocks go
 abbrev pub label_parts : Members → Result (Unit {0} × (Name × (Bool × ℕ))) ConfigFault
 label_parts ms =
-    both (known_keys place.Label ms)
+    both (known_keys kind.Label ms)
     (both (name_at (codes "name") ms) (both (flag_at (codes "exclusive") true ms) (number_at (codes "clock-limit") 1 most_clock most_clock ms)))
 
 -- the label of its parts
@@ -67,22 +67,22 @@ capacities_at version ms = both (percent_at (codes "capacity") version 0 0 ms) (
 
 -- what a table says of a queue's share of the label of this name
 abbrev pub share_parts : Version → List ℕ → Members → Result (Unit {0} × (Name × (ℕ × ℕ))) ConfigFault
-share_parts version name ms = both (known_keys place.Share ms) (both (name_of name) (capacities_at version ms))
+share_parts version name ms = both (known_keys kind.LabelCapacity ms) (both (name_of name) (capacities_at version ms))
 
 -- the share of its parts
-abbrev pub share_row : Unit {0} × (Name × (ℕ × ℕ)) → Share
+abbrev pub share_row : Unit {0} × (Name × (ℕ × ℕ)) → LabelCapacity
 share_row p = record { label = p.1.0; capacity = p.1.1.0; maximum = p.1.1.1 }
 
 -- a queue's share of the label of this name
-unfoldable pub share_in : Version → List ℕ → Members → Result Share ConfigFault
+unfoldable pub share_in : Version → List ℕ → Members → Result LabelCapacity ConfigFault
 share_in version name ms = made share_row (share_parts version name ms)
 
 -- the share that a label's name and its value say
-unfoldable pub share_of : Version → List ℕ × Data → Result Share ConfigFault
+unfoldable pub share_of : Version → List ℕ × Data → Result LabelCapacity ConfigFault
 share_of version pair = in_table (share_in version pair.0) pair.1
 
 -- a queue's shares of labels
-unfoldable pub shares_at : Version → Members → Result (List Share) ConfigFault
+unfoldable pub shares_at : Version → Members → Result (List LabelCapacity) ConfigFault
 shares_at version ms =
     or_given [] (λ d. or_fault fault.WrongKind (as_table d) >>= λ table. all_of (map (share_of version) (pairs_in table))) (get_member (codes "label") ms)
 
@@ -108,7 +108,7 @@ leaf_parts version ms =
 
 -- a leaf's settings of their parts
 abbrev pub leaf_row : Label × (ℕ × (ℕ × (ℕ × ℕ))) → LeafSettings
-leaf_row p = record { default_label = p.0; user_percent = p.1.0; user_factor = p.1.1.0; master_percent = p.1.1.1.0; most_applications = p.1.1.1.1 }
+leaf_row p = record { default_label = p.0; minimum_user_limit_percent = p.1.0; user_limit_factor = p.1.1.0; maximum_am_resource_percent = p.1.1.1.0; maximum_applications = p.1.1.1.1 }
 
 -- a leaf's settings
 unfoldable pub leaf_in : Version → Members → Result LeafSettings ConfigFault
@@ -119,29 +119,25 @@ unfoldable pub access_at : Members → Result Access ConfigFault
 access_at ms = or_given Inherited access_of (get_member (codes "accessible-node-labels") ms)
 
 -- the row of these settings
-abbrev pub row_of : List ℕ → Bounds → LeafSettings → Access → List Share → WrittenRow
-row_of path bounds leaf access shares = record {
+abbrev pub row_of : List ℕ → Bounds → LeafSettings → Access → List LabelCapacity → WrittenRow
+row_of path bounds leaf access capacities = record {
   path = path;
   stopped = bounds.stopped;
   capacity = bounds.capacity;
   maximum = bounds.maximum;
   access = access;
-  default_label = leaf.default_label;
-  user_percent = leaf.user_percent;
-  user_factor = leaf.user_factor;
-  master_percent = leaf.master_percent;
-  most_applications = leaf.most_applications;
-  shares = shares;
+  leaf = leaf;
+  capacities = capacities;
 }
 
 -- the keys of a queue, its path, its settings, the labels that it may use, and its shares of labels
 abbrev pub QueueParts : Type 0
-QueueParts = Unit {0} × (List ℕ × (Bounds × (LeafSettings × (Access × List Share))))
+QueueParts = Unit {0} × (List ℕ × (Bounds × (LeafSettings × (Access × List LabelCapacity))))
 
 -- what a queue's table says
 abbrev pub queue_parts : Version → Members → Result QueueParts ConfigFault
 queue_parts version ms =
-    both (known_keys place.Queue ms)
+    both (known_keys kind.Queue ms)
     (both (text_at (codes "path") ms) (both (bounds_in version ms) (both (leaf_in version ms) (both (access_at ms) (shares_at version ms)))))
 
 -- the queue of its parts
@@ -166,7 +162,7 @@ number_parts ms =
 
 -- these of their parts
 abbrev pub numbers_row : ℕ × (Resource × ℕ) → Numbers
-numbers_row p = record { per_heartbeat = p.0; maximum_allocation = p.1.0; default_limit = p.1.1 }
+numbers_row p = record { containers_per_heartbeat = p.0; maximum_allocation = p.1.0; default_limit = p.1.1 }
 
 -- the numbers that stand beside labels and queues
 unfoldable pub numbers_in : Members → Result Numbers ConfigFault
@@ -190,7 +186,7 @@ Parts = Unit {0} × (Version × (Numbers × (List LabelRow × List WrittenRow)))
 -- what a text says
 abbrev pub parts_in : Members → Result Parts ConfigFault
 parts_in ms =
-    both (known_keys place.Top ms)
+    both (known_keys kind.Top ms)
     (both (version_at ms) (both (numbers_in ms) (both (labels_at ms) (queues_at (any_version (version_at ms)) ms))))
 
 -- the configuration of its parts

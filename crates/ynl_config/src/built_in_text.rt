@@ -1,7 +1,7 @@
 //! The configuration where no file is named, as a text.
 
 ghost use Rattle.std.specs.Prelude.{◌≡◌, IfOk, Ok};
-ghost use Rattle.ynl_queues.specs.BuiltIn.{built_in};
+ghost use Rattle.ynl_model.specs.BuiltIn.{built_in};
 ghost use Rattle.ynl_config.specs.Meaning.{config_of};
 
 use crate::config::read_config;

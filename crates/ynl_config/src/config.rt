@@ -12,7 +12,7 @@ use crate::written::{Written, written_in};
 use std::alloc::{AllocError, Global};
 use toml::Table;
 use toml::de::Error;
-use ynl_nodes::Labels;
+use ynl_labels::Labels;
 use ynl_queues::{Config, QueueTree};
 
 /// A text has at most so many bytes.
@@ -57,7 +57,7 @@ fn build(alloc: Global, written: Written) -> Result<Result<Config, ConfigFault>,
         Ok(tree) => Ok(Ok(Config::new(
             labels,
             tree,
-            numbers.per_heartbeat,
+            numbers.containers_per_heartbeat,
             numbers.maximum_allocation,
         ))),
         Err(fault) => Ok(Err(ConfigFault::from(fault))),

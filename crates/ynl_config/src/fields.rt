@@ -13,7 +13,7 @@ use crate::values::{
     version_of,
 };
 use toml::{Table, Value};
-use ynl_resource::{Hundredths, Label, Name, Size};
+use ynl_resource::{Hundredths, Label, MOST_MEMORY, MOST_VCORES, Name, Size};
 
 /// The value at a key.
 pub(crate) fn find<'t>(table: &'t Table, key: &str) -> Option<&'t Value>
@@ -164,10 +164,16 @@ pub(crate) fn size_at(table: &Table) -> Result<Size, ConfigFault>
         table,
         "maximum-allocation-memory",
         1,
-        4294967295,
-        4294967295,
+        MOST_MEMORY,
+        MOST_MEMORY,
     );
-    let vcores = number_at(table, "maximum-allocation-vcores", 1, 65536, 65536);
+    let vcores = number_at(
+        table,
+        "maximum-allocation-vcores",
+        1,
+        MOST_VCORES,
+        MOST_VCORES,
+    );
     let (memory, vcores) = both(memory, vcores)?;
     match Size::new(memory, vcores) {
         Some(size) => Ok(size),

@@ -1,7 +1,8 @@
 //! Which keys a table of a configuration may have.
 
 ghost use Rattle.std.specs.Prelude.{◌≡◌, string_bytes};
-ghost use Rattle.std.specs.List.{list_all};
+ghost use Rattle.std.specs.List.{list_all, list_any};
+ghost use Rattle.std.specs.Str.{bytes_eq};
 ghost use Rattle.std.specs.BTreeMap.{keys};
 ghost use Rattle.toml.specs.View.{table_view};
 ghost use Rattle.ynl_config.specs.Known as spec;
@@ -11,23 +12,48 @@ use toml::Table;
 
 /// The tables of a configuration: the whole text, a label, a queue, and a queue's share of a label.
 #[derive(Clone, Copy)]
-pub(crate) enum Place {
+pub(crate) enum TableKind {
     Top,
     Label,
     Queue,
-    Share,
+    LabelCapacity,
+}
+
+const TOP_KEYS: [&str; 7] = [
+    "version",
+    "containers-per-heartbeat",
+    "maximum-allocation-memory",
+    "maximum-allocation-vcores",
+    "default-clock-limit",
+    "label",
+    "queue",
+];
+
+/// A queue's share of DEFAULT, and its own settings.
+const QUEUE_KEYS: [&str; 11] = [
+    "capacity",
+    "maximum-capacity",
+    "path",
+    "state",
+    "accessible-node-labels",
+    "default-node-label-expression",
+    "minimum-user-limit-percent",
+    "user-limit-factor",
+    "maximum-am-resource-percent",
+    "maximum-applications",
+    "label",
+];
+
+fn is_among(key: &str, keys: &[&str]) -> bool
+    ensures { result ≡ list_any (λ known. bytes_eq key.now known.now) keys.now }
+{
+    keys.iter().any(|known| key == *known)
 }
 
 fn is_top_key(key: &str) -> bool
     ensures { result ≡ spec.is_top_key key.now }
 {
-    key == "version"
-        || key == "containers-per-heartbeat"
-        || key == "maximum-allocation-memory"
-        || key == "maximum-allocation-vcores"
-        || key == "default-clock-limit"
-        || key == "label"
-        || key == "queue"
+    is_among(key, &TOP_KEYS)
 }
 
 fn is_label_key(key: &str) -> bool
@@ -39,16 +65,7 @@ fn is_label_key(key: &str) -> bool
 fn is_queue_key(key: &str) -> bool
     ensures { result ≡ spec.is_queue_key key.now }
 {
-    is_share_key(key)
-        || key == "path"
-        || key == "state"
-        || key == "accessible-node-labels"
-        || key == "default-node-label-expression"
-        || key == "minimum-user-limit-percent"
-        || key == "user-limit-factor"
-        || key == "maximum-am-resource-percent"
-        || key == "maximum-applications"
-        || key == "label"
+    is_among(key, &QUEUE_KEYS)
 }
 
 fn is_share_key(key: &str) -> bool
@@ -58,35 +75,35 @@ fn is_share_key(key: &str) -> bool
 }
 
 #[tactic(auto, unfolding(crate::specs::Known::is_known))]
-fn is_known(place: Place, key: &str) -> bool
-    ensures { result ≡ spec.is_known place key.now }
+fn is_known(kind: TableKind, key: &str) -> bool
+    ensures { result ≡ spec.is_known kind key.now }
 {
-    match place {
-        Place::Top => is_top_key(key),
-        Place::Label => is_label_key(key),
-        Place::Queue => is_queue_key(key),
-        Place::Share => is_share_key(key),
+    match kind {
+        TableKind::Top => is_top_key(key),
+        TableKind::Label => is_label_key(key),
+        TableKind::Queue => is_queue_key(key),
+        TableKind::LabelCapacity => is_share_key(key),
     }
 }
 
-fn keys_pass(place: Place, table: &Table) -> bool
-    ensures { result ≡ list_all (λ key. spec.is_known place (string_bytes key)) (keys table.now) }
+fn keys_pass(kind: TableKind, table: &Table) -> bool
+    ensures { result ≡ list_all (λ key. spec.is_known kind (string_bytes key)) (keys table.now) }
 {
-    table.keys().all(|key| is_known(place, key.as_str()))
+    table.keys().all(|key| is_known(kind, key.as_str()))
 }
 
-fn all_known(place: Place, table: &Table) -> bool
-    ensures { result ≡ spec.all_known place (table_view table.now) }
+fn all_known(kind: TableKind, table: &Table) -> bool
+    ensures { result ≡ spec.all_known kind (table_view table.now) }
 {
-    keys_pass(place, table)
+    keys_pass(kind, table)
 }
 
 /// Whether all keys are known, as a fault where they are not.
 #[tactic(auto, unfolding(crate::specs::Known::known_keys))]
-pub(crate) fn known_keys(place: Place, table: &Table) -> Result<(), ConfigFault>
-    ensures { result ≡ spec.known_keys place (table_view table.now) }
+pub(crate) fn known_keys(kind: TableKind, table: &Table) -> Result<(), ConfigFault>
+    ensures { result ≡ spec.known_keys kind (table_view table.now) }
 {
-    if all_known(place, table) {
+    if all_known(kind, table) {
         Ok(())
     } else {
         Err(ConfigFault::UnknownKey)

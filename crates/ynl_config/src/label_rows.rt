@@ -8,22 +8,20 @@ ghost use Rattle.ynl_config.specs.Tables as spec;
 
 use crate::faults::ConfigFault;
 use crate::fields::{find, flag_at, name_at, number_at};
-use crate::keys::{Place, known_keys};
+use crate::keys::{TableKind, known_keys};
 use crate::together::{and_one, both};
 use std::alloc::{AllocError, Global};
 use toml::{Table, Value};
-use ynl_nodes::LabelRow;
-
-/// How far a clock may go at most.
-pub(crate) const CLOCK_LIMIT: u64 = 9007199254740991;
+use ynl_model::LabelRow;
+use ynl_resource::MOST_CLOCK;
 
 fn label_in(table: &Table) -> Result<LabelRow, ConfigFault>
     ensures { result ≡ spec.label_in (table_view table.now) }
 {
-    let keys = known_keys(Place::Label, table);
+    let keys = known_keys(TableKind::Label, table);
     let name = name_at(table, "name");
     let exclusive = flag_at(table, "exclusive", true);
-    let limit = number_at(table, "clock-limit", 1, CLOCK_LIMIT, CLOCK_LIMIT);
+    let limit = number_at(table, "clock-limit", 1, MOST_CLOCK, MOST_CLOCK);
     match both(keys, both(name, both(exclusive, limit))) {
         Ok((_, (name, (exclusive, limit)))) => Ok(LabelRow {
             name,

@@ -9,14 +9,15 @@ ghost use Rattle.ynl_config.specs.Tables as spec;
 
 use crate::faults::ConfigFault;
 use crate::fields::{count_at, factor_at, find, label_at, percent_at, stopped_at, text_at};
-use crate::keys::{Place, known_keys};
+use crate::keys::{TableKind, known_keys};
 use crate::listed::access_of;
 use crate::together::{and_one, both};
 use crate::values::{Version, name_of};
 use std::alloc::{AllocError, Global};
 use toml::{Table, Value};
-use ynl_queues::{Access, Share, WrittenQueue};
-use ynl_resource::{Hundredths, Label};
+use ynl_model::{LabelCapacity, LeafSettings};
+use ynl_queues::{Access, WrittenQueue};
+use ynl_resource::Hundredths;
 
 /// Whether a queue is stopped, and its share of DEFAULT.
 #[derive(Clone, Copy)]
@@ -24,16 +25,6 @@ struct Bounds {
     stopped: bool,
     capacity: Hundredths,
     maximum: Hundredths,
-}
-
-/// The settings that work in leaves alone.
-#[derive(Clone, Copy)]
-struct LeafSettings {
-    default_label: Label,
-    user_percent: Hundredths,
-    user_factor: u16,
-    master_percent: Hundredths,
-    most_applications: u32,
 }
 
 fn tenth() -> Hundredths
@@ -45,15 +36,15 @@ fn tenth() -> Hundredths
     }
 }
 
-fn share_in(table: &Table, version: Version, name: &str) -> Result<Share, ConfigFault>
+fn share_in(table: &Table, version: Version, name: &str) -> Result<LabelCapacity, ConfigFault>
     ensures { result ≡ spec.share_in version name.now (table_view table.now) }
 {
-    let keys = known_keys(Place::Share, table);
+    let keys = known_keys(TableKind::LabelCapacity, table);
     let label = name_of(name);
     let capacity = percent_at(table, "capacity", version, 0, Hundredths::NOTHING);
     let maximum = percent_at(table, "maximum-capacity", version, 0, Hundredths::WHOLE);
     match both(keys, both(label, both(capacity, maximum))) {
-        Ok((_, (label, (capacity, maximum)))) => Ok(Share {
+        Ok((_, (label, (capacity, maximum)))) => Ok(LabelCapacity {
             label,
             capacity,
             maximum,
@@ -63,7 +54,7 @@ fn share_in(table: &Table, version: Version, name: &str) -> Result<Share, Config
 }
 
 #[tactic(auto, unfolding(crate::specs::Tables::share_of))]
-fn share_of(name: &String, value: &Value, version: Version) -> Result<Share, ConfigFault>
+fn share_of(name: &String, value: &Value, version: Version) -> Result<LabelCapacity, ConfigFault>
     ensures { result ≡ spec.share_of version (string_bytes name.now, view value.now) }
 {
     match value.as_table() {
@@ -76,7 +67,7 @@ fn shares_in(
     alloc: Global,
     table: &Table,
     version: Version,
-) -> Result<Result<Vec<Share>, ConfigFault>, AllocError>
+) -> Result<Result<Vec<LabelCapacity>, ConfigFault>, AllocError>
     ensures { IfOk result (λ rows. items_in rows ≡ all_of (map (share_of version) (pairs_in (table_view table.now)))) }
 {
     let mut rows = Ok(Vec::new(alloc));
@@ -91,7 +82,7 @@ fn shares_at(
     alloc: Global,
     table: &Table,
     version: Version,
-) -> Result<Result<Vec<Share>, ConfigFault>, AllocError>
+) -> Result<Result<Vec<LabelCapacity>, ConfigFault>, AllocError>
     ensures { IfOk result (λ rows. items_in rows ≡ spec.shares_at version (table_view table.now)) }
 {
     match find(table, "label") {
@@ -136,10 +127,10 @@ fn leaf_in(table: &Table, version: Version) -> Result<LeafSettings, ConfigFault>
     match both(label, both(user, both(factor, both(masters, most)))) {
         Ok((label, (user, (factor, (masters, most))))) => Ok(LeafSettings {
             default_label: label,
-            user_percent: user,
-            user_factor: factor,
-            master_percent: masters,
-            most_applications: most,
+            minimum_user_limit_percent: user,
+            user_limit_factor: factor,
+            maximum_am_resource_percent: masters,
+            maximum_applications: most,
         }),
         Err(fault) => Err(fault),
     }
@@ -158,13 +149,16 @@ fn access_at(alloc: Global, table: &Table) -> Result<Result<Access, ConfigFault>
 /// What a queue's table says: its keys, its path, and its settings.
 type QueueParts<'t> = (
     (),
-    (&'t str, (Bounds, (LeafSettings, (Access, Vec<Share>)))),
+    (
+        &'t str,
+        (Bounds, (LeafSettings, (Access, Vec<LabelCapacity>))),
+    ),
 );
 
 fn queue_of_parts(alloc: Global, parts: QueueParts<'_>) -> Result<WrittenQueue, AllocError>
     ensures { IfOk result (λ queue. queue ≡ spec.queue_row (queue_view parts.entry)) }
 {
-    let (_, (path, (bounds, (leaf, (access, shares))))) = parts;
+    let (_, (path, (bounds, (leaf, (access, capacities))))) = parts;
     let path = String::from_str(alloc, path)?;
     Ok(WrittenQueue {
         path,
@@ -172,12 +166,8 @@ fn queue_of_parts(alloc: Global, parts: QueueParts<'_>) -> Result<WrittenQueue, 
         capacity: bounds.capacity,
         maximum: bounds.maximum,
         access,
-        default_label: leaf.default_label,
-        user_percent: leaf.user_percent,
-        user_factor: leaf.user_factor,
-        master_percent: leaf.master_percent,
-        most_applications: leaf.most_applications,
-        shares,
+        leaf,
+        capacities,
     })
 }
 
@@ -188,7 +178,7 @@ fn queue_in(
 ) -> Result<Result<WrittenQueue, ConfigFault>, AllocError>
     ensures { IfOk result (λ row. row ≡ spec.queue_in version (table_view table.now)) }
 {
-    let keys = known_keys(Place::Queue, table);
+    let keys = known_keys(TableKind::Queue, table);
     let path = text_at(table, "path");
     let bounds = bounds_in(table, version);
     let leaf = leaf_in(table, version);

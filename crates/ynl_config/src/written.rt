@@ -7,23 +7,23 @@ ghost use Rattle.ynl_config.specs.Tables as spec;
 
 use crate::faults::ConfigFault;
 use crate::fields::{count_at, number_at, size_at, version_at};
-use crate::keys::{Place, known_keys};
-use crate::label_rows::{CLOCK_LIMIT, labels_at};
+use crate::keys::{TableKind, known_keys};
+use crate::label_rows::labels_at;
 use crate::queues::queues_at;
 use crate::together::both;
 use crate::values::Version;
 use std::alloc::{AllocError, Global};
 use std::marker::Model;
 use toml::Table;
-use ynl_nodes::LabelRow;
+use ynl_model::LabelRow;
 use ynl_queues::WrittenQueue;
-use ynl_resource::Size;
+use ynl_resource::{MOST_CLOCK, Size};
 
 /// The numbers that stand beside labels and queues: the most containers that a heartbeat places,
 /// the largest request, and how far the clock of DEFAULT goes.
 #[derive(Clone, Copy)]
 pub(crate) struct Numbers {
-    pub(crate) per_heartbeat: u32,
+    pub(crate) containers_per_heartbeat: u32,
     pub(crate) maximum_allocation: Size,
     pub(crate) default_limit: u64,
 }
@@ -49,10 +49,10 @@ fn numbers_in(table: &Table) -> Result<Numbers, ConfigFault>
 {
     let heartbeat = count_at(table, "containers-per-heartbeat", 1000, 1);
     let size = size_at(table);
-    let limit = number_at(table, "default-clock-limit", 1, CLOCK_LIMIT, CLOCK_LIMIT);
+    let limit = number_at(table, "default-clock-limit", 1, MOST_CLOCK, MOST_CLOCK);
     match both(heartbeat, both(size, limit)) {
-        Ok((per_heartbeat, rest)) => Ok(Numbers {
-            per_heartbeat,
+        Ok((containers_per_heartbeat, rest)) => Ok(Numbers {
+            containers_per_heartbeat,
             maximum_allocation: rest.0,
             default_limit: rest.1,
         }),
@@ -91,7 +91,7 @@ pub(crate) fn written_in(
 ) -> Result<Result<Written, ConfigFault>, AllocError>
     ensures { IfOk result (λ read. read ≡ spec.written_in (table_view table.now)) }
 {
-    let keys = known_keys(Place::Top, table);
+    let keys = known_keys(TableKind::Top, table);
     let version = version_at(table);
     let numbers = numbers_in(table);
     let labels = labels_at(alloc, table)?;

@@ -1,5 +1,6 @@
 -- What maxima are at first.
-use Rattle.ynl_model.specs.Queues.{Config, MaximumRow, configured_maximum}
+use Rattle.ynl_model.specs.Queues.{Config, configured_maximum}
+use Rattle.ynl_model.specs.declared.queues.MaximumRow.{MaximumRow}
 use Rattle.ynl_resource.specs.declared.labels.Label.{Label}
 use Rattle.ynl_resource.specs.declared.paths.Path.{Path}
 

@@ -2,8 +2,8 @@
 //! a partition. A queue is given by its names below root.
 #![tactic(auto)]
 
-pub use maxima::{Maxima, MaximumRow};
-pub use stops::{StopRow, Stops};
+pub use maxima::Maxima;
+pub use stops::Stops;
 
 mod maxima;
 mod stops;

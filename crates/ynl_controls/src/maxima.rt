@@ -8,26 +8,9 @@ ghost use Rattle.ynl_resource.specs.Amounts.{fits_in, IsSmall};
 
 use std::alloc::{AllocError, Global};
 use std::marker::Model;
-use ynl_queues::{Config, share_of, step_at};
+use ynl_model::MaximumRow;
+use ynl_queues::{Config, nested_floor};
 use ynl_resource::{Hundredths, Label, Name, Path, Resource};
-
-/// The present maximum of a queue on a partition.
-#[derive(Clone, Copy)]
-pub struct MaximumRow {
-    pub queue: Path,
-    pub label: Label,
-    pub share: Hundredths,
-}
-
-impl Model for MaximumRow {
-    ghost use Rattle.ynl_model.specs.Queues.{MaximumRow as Row};
-
-    ghost Value = { Row };
-
-    ghost view = { λ r. record { queue = r.queue; label = r.label; share = r.share } };
-
-    ghost inverse = { λ r. record { queue = r.queue; label = r.label; share = r.share } };
-}
 
 /// A maximum for each queue and each partition. A contract sees the list of rows.
 #[derive(Drop)]
@@ -37,7 +20,7 @@ pub struct Maxima {
 
 impl Model for Maxima {
     ghost use Rattle.std.specs.Prelude.{List};
-    ghost use Rattle.ynl_controls.specs.declared.maxima.MaximumRow.{MaximumRow};
+    ghost use Rattle.ynl_model.specs.declared.queues.MaximumRow.{MaximumRow};
 
     ghost Value = { List MaximumRow };
 
@@ -149,12 +132,6 @@ impl Maxima {
         ensures value { result ≡ maximum self.now queue.now label.now total.now }
         ensures within { IsTrue (fits_in result total.now) }
     {
-        let mut above = *total;
-        for depth in 0..queue.len() {
-            let step = step_at(queue, depth + 1);
-            let share = self.maximum_on(step, label);
-            above = share_of(&above, &share);
-        }
-        above
+        nested_floor(|step| self.maximum_on(step, label), queue, total)
     }
 }

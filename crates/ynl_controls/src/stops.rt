@@ -7,25 +7,9 @@ ghost use Rattle.ynl_resource.specs.Names.{is_within, same_path};
 
 use std::alloc::{AllocError, Global};
 use std::marker::Model;
+use ynl_model::StopRow;
 use ynl_queues::{Config, is_within};
 use ynl_resource::{Name, Path};
-
-/// Whether a queue is stopped.
-#[derive(Clone, Copy)]
-pub struct StopRow {
-    pub queue: Path,
-    pub stopped: bool,
-}
-
-impl Model for StopRow {
-    ghost use Rattle.ynl_model.specs.Queues.{StopRow as Row};
-
-    ghost Value = { Row };
-
-    ghost view = { λ r. record { queue = r.queue; stopped = r.stopped } };
-
-    ghost inverse = { λ r. record { queue = r.queue; stopped = r.stopped } };
-}
 
 /// A mark for each queue: whether it is stopped. A contract sees the list of marks.
 #[derive(Drop)]
@@ -35,7 +19,7 @@ pub struct Stops {
 
 impl Model for Stops {
     ghost use Rattle.std.specs.Prelude.{List};
-    ghost use Rattle.ynl_controls.specs.declared.stops.StopRow.{StopRow};
+    ghost use Rattle.ynl_model.specs.declared.queues.StopRow.{StopRow};
 
     ghost Value = { List StopRow };
 

@@ -8,7 +8,8 @@ use Rattle.ynl_resource.specs.declared.labels.Label.TheVariants.{Unlabelled, Nam
 use Rattle.ynl_resource.specs.declared.paths.Path.{Path}
 use Rattle.ynl_resource.specs.Refusals.{first_that_holds}
 use Rattle.ynl_model.specs.Nodes.{Labels, has_label, partition_labels}
-use Rattle.ynl_model.specs.Queues.{QueueRow, Config, Access, Inherited, AllLabels, Listed, is_queue, is_leaf, may_use, accessible, capacity_on, configured_maximum, whole}
+use Rattle.ynl_model.specs.Queues.{QueueRow, Config, Access, Inherited, AllLabels, Listed, is_queue, is_leaf, may_use, accessible, capacity_on, configured_maximum}
+use Rattle.ynl_resource.specs.Ranges.{whole, most_clock, most_memory, most_vcores, most_labels, most_queues, most_children}
 pub use Rattle.ynl_model.specs.declared.faults.LabelFault.{LabelFault}
 pub use Rattle.ynl_model.specs.declared.faults.LabelFault.TheVariants.{TooManyLabels, DuplicateLabel, BadLimit}
 pub use Rattle.ynl_model.specs.declared.faults.TreeFault.{TreeFault}
@@ -25,14 +26,10 @@ is_from_to low high n = nat_le low n && nat_le n high
 
 -- ---- labels
 
--- how far a clock may go at most
-abbrev pub most_clock : ℕ
-most_clock = 9007199254740991
-
 -- the faults of labels, in their order, each with whether it holds
 unfoldable pub label_faults : Labels → List (LabelFault × Bool)
 label_faults labels =
-    (TooManyLabels, nat_lt 64 (length labels.rows)) ∷ (DuplicateLabel, not (all_differ same_name (map (λ row. row.name) labels.rows)))
+    (TooManyLabels, nat_lt most_labels (length labels.rows)) ∷ (DuplicateLabel, not (all_differ same_name (map (λ row. row.name) labels.rows)))
     ∷ (BadLimit, not (is_from_to 1 most_clock labels.default_limit && list_all (λ row. is_from_to 1 most_clock row.limit) labels.rows)) ∷ []
 
 -- ---- the tree of queues
@@ -60,14 +57,14 @@ listed (Listed names) = names
 -- whether a row names only labels that are configured
 abbrev pub names_known_labels : Config → QueueRow → Bool
 names_known_labels c row =
-    list_all (λ name. has_label c.labels (Named name)) (listed row.access) && list_all (λ share. has_label c.labels (Named share.label)) row.shares
-    && has_label c.labels row.default_label
+    list_all (λ name. has_label c.labels (Named name)) (listed row.access) && list_all (λ given. has_label c.labels (Named given.label)) row.capacities
+    && has_label c.labels row.leaf.default_label
 
 -- whether a queue may use only what its parent may, and its row speaks only of labels that it may use
 abbrev pub stays_within : Config → QueueRow → Bool
 stays_within c row =
     list_all (λ name. may_use c (parent_of row.path) (Named name)) (accessible c row.path)
-    && list_all (λ share. may_use c row.path (Named share.label)) row.shares && may_use c row.path row.default_label
+    && list_all (λ given. may_use c row.path (Named given.label)) row.capacities && may_use c row.path row.leaf.default_label
 
 -- whether a queue's maximum is at least its capacity, on each partition
 abbrev pub maximum_covers : Config → QueueRow → Bool
@@ -86,7 +83,7 @@ adds_up c queue =
 -- the faults of a tree of queues, in their order, each with whether it holds; root is a parent, even where no queue is below it
 unfoldable pub tree_faults : Config → List (TreeFault × Bool)
 tree_faults c =
-    (TooMany, nat_lt 1024 (length c.queues) || list_any (λ queue. nat_lt 64 (length (children c queue))) (all_queues c))
+    (TooMany, nat_lt most_queues (length c.queues) || list_any (λ queue. nat_lt most_children (length (children c queue))) (all_queues c))
     ∷ (DuplicateQueue, not (all_differ same_path (all_queues c)))
     ∷ (NoParent, not (list_all (λ row. is_queue c (parent_of row.path)) c.queues))
     ∷ (NoSuchLabel, not (list_all (names_known_labels c) c.queues))
@@ -99,14 +96,14 @@ tree_faults c =
 -- whether the numbers of a row are in their ranges
 abbrev pub row_in_range : QueueRow → Bool
 row_in_range row =
-    nat_le row.capacity whole && nat_le row.maximum whole && is_from_to 1 whole row.user_percent && is_from_to 1 10000 row.user_factor
-    && nat_le row.master_percent whole && is_from_to 1 1000000 row.most_applications
-    && list_all (λ share. nat_le share.capacity whole && nat_le share.maximum whole) row.shares
+    nat_le row.capacity whole && nat_le row.maximum whole && is_from_to 1 whole row.leaf.minimum_user_limit_percent && is_from_to 1 10000 row.leaf.user_limit_factor
+    && nat_le row.leaf.maximum_am_resource_percent whole && is_from_to 1 1000000 row.leaf.maximum_applications
+    && list_all (λ given. nat_le given.capacity whole && nat_le given.maximum whole) row.capacities
 
 -- whether all numbers are in their ranges
 unfoldable pub in_range : Config → Bool
 in_range c =
-    is_from_to 1 1000 c.per_heartbeat && is_from_to 1 4294967295 c.maximum_allocation.memory && is_from_to 1 65536 c.maximum_allocation.vcores
+    is_from_to 1 1000 c.containers_per_heartbeat && is_from_to 1 most_memory c.maximum_allocation.memory && is_from_to 1 most_vcores c.maximum_allocation.vcores
     && list_all row_in_range c.queues
 
 -- whether a configuration is accepted: its numbers are in range, and it has no fault

@@ -9,13 +9,7 @@ use Rattle.ynl_resource.specs.declared.labels.Label.{Label}
 use Rattle.ynl_resource.specs.declared.paths.Path.{Path}
 use Rattle.ynl_resource.specs.Tables.{without, put, update}
 use Rattle.ynl_model.specs.Queues.{Config, is_leaf}
-
--- what an application asks for: how many containers of a size, for a label and at a priority
-pub record AskRow : Type 0 where
-  pub label : Label
-  pub priority : ℕ
-  pub count : ℕ
-  pub size : Resource
+pub use Rattle.ynl_model.specs.declared.applications.AskRow.{AskRow}
 
 -- a live application; its home label is also the label of its master
 pub record Application : Type 0 where
@@ -100,7 +94,3 @@ take_one label priority app = record app {
   asks =
       without (λ ask. is_ask_of label priority ask && (ask.count == 0)) (update (is_ask_of label priority) (λ ask. record ask { count = ask.count - 1 }) app.asks);
 }
-
--- an application has at most so many asks of a label
-abbrev pub most_asks : ℕ
-most_asks = 64

@@ -10,7 +10,9 @@ use Rattle.ynl_resource.specs.declared.labels.Label.{Label}
 use Rattle.ynl_resource.specs.declared.paths.Path.{Path}
 use Rattle.ynl_resource.specs.Tables.{update}
 use Rattle.ynl_model.specs.Nodes.{Node, Labels, partition_labels, clock_limit, find_node, rises, total as total_on}
-use Rattle.ynl_model.specs.Queues.{Config, StopRow, opening_stops, MaximumRow, opening_maxima, maximum as maximum_of, guaranteed as guaranteed_of}
+use Rattle.ynl_model.specs.Queues.{Config, opening_stops, opening_maxima, maximum as maximum_of, guaranteed as guaranteed_of}
+use Rattle.ynl_model.specs.declared.queues.StopRow.{StopRow}
+use Rattle.ynl_model.specs.declared.queues.MaximumRow.{MaximumRow}
 use Rattle.ynl_model.specs.Applications.{Application, LeafApps, no_apps, leaf_of, find_app}
 pub use Rattle.ynl_model.specs.declared.proposals.What.{What}
 pub use Rattle.ynl_model.specs.declared.proposals.What.TheVariants.{Master, Ask as Asked}

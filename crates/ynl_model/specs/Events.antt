@@ -12,7 +12,9 @@ use Rattle.ynl_resource.specs.Refusals.{Reasons, first_that_holds}
 use Rattle.ynl_resource.specs.declared.refusals.Refusal.TheVariants.{NoSuchLabel, NodeExists, NoSuchNode, SameLabel, PartitionFull, NoSuchQueue, NotALeaf, QueueStopped, RootQueue, LabelNotAccessible, TooLarge, NameUsed, TooManyApplications, NoSuchApplication, LabelMismatch, TooManyAsks, NoSuchContainer, IsMaster, BelowCapacity}
 use Rattle.ynl_model.specs.Nodes.{Node, has_label, is_full}
 use Rattle.ynl_model.specs.Queues.{Config, setting, is_queue, is_leaf, may_use, capacity_on, accepts, set_stop, set_maximum}
-use Rattle.ynl_model.specs.Applications.{Application, AskRow, find_app, is_used, apps_of, in_leaf, submitted, with_app, new_app, find_ask, set_ask, most_asks}
+use Rattle.ynl_model.specs.Applications.{Application, find_app, is_used, apps_of, in_leaf, submitted, with_app, new_app, find_ask, set_ask}
+use Rattle.ynl_resource.specs.Ranges.{most_asks}
+use Rattle.ynl_model.specs.declared.applications.AskRow.{AskRow}
 use Rattle.ynl_model.specs.Cluster.{State, Container, opening, node_of, maximum, guaranteed, used, masters_used, guests, is_master, containers_on}
 use Rattle.ynl_model.specs.Changes.{node_joins, node_leaves, Beat, beat, place, container_of, end, own_containers, app_finishes}
 use Rattle.ynl_model.specs.Check.{Proposal, node_that, app_that, has_node, has_app, proposed, placing_reasons, proposed_item, commit_reasons}
@@ -35,11 +37,11 @@ container_for s tenant id = find (λ container. same_id container.id id && same_
 
 -- the home label of a new application: the submitted one, or else the leaf's default
 abbrev pub home_of : Config → Path → Option Label → Label
-home_of c queue label = unwrap_or label (setting (λ row. row.default_label) Unlabelled c queue)
+home_of c queue label = unwrap_or label (setting (λ row. row.leaf.default_label) Unlabelled c queue)
 
 -- whether a leaf has as many live applications as it may have
 abbrev pub has_most_apps : Config → State → Path → Bool
-has_most_apps c s leaf = nat_le (setting (λ row. row.most_applications) 0 c leaf) (length (apps_of s.leaves leaf))
+has_most_apps c s leaf = nat_le (setting (λ row. row.leaf.maximum_applications) 0 c leaf) (length (apps_of s.leaves leaf))
 
 -- whether a label is neither DEFAULT nor the application's home
 abbrev pub is_foreign : Label → Application → Bool
@@ -50,8 +52,9 @@ abbrev pub is_one_too_many : Label → ℕ → ℕ → Application → Bool
 is_one_too_many label priority count app =
     nat_lt 0 count && not (is_some (find_ask app label priority)) && nat_le most_asks (count_by (λ other. same_label other.label label) app.asks)
 
--- ---- the reasons for which each event is refused, in their order
+-- ---- refusals
 
+-- the reasons for which an event of each kind is refused, in their order, each with whether it holds
 unfoldable pub reasons : Config → State → Event → Reasons
 reasons c s (Register name label size) =
     (NoSuchLabel, not (has_label c.labels label)) ∷ (NodeExists, has_node s name) ∷ (PartitionFull, is_full s.nodes label) ∷ []
@@ -146,7 +149,7 @@ unfoldable pub accepted : Config → State → Event → Outcome
 accepted c s (Register name label size) = done (node_joins c name label size s)
 accepted c s (Lost name) = where_there (node_of s name) s (λ node. done (node_leaves node s))
 accepted c s (Relabel name label) = where_there (node_of s name) s (λ node. done (node_joins c name label node.size (node_leaves node s)))
-accepted c s (Heartbeat name) = where_there (node_of s name) s (λ node. served (beat c node c.per_heartbeat s))
+accepted c s (Heartbeat name) = where_there (node_of s name) s (λ node. served (beat c node c.containers_per_heartbeat s))
 accepted c s (Exited name id) = where_there (container_at s name id) s (λ container. done (end c s container))
 accepted c s (Submit queue app user label master) = done (record s { leaves = in_leaf queue (submitted (new_app queue app user (home_of c queue label) master)) s.leaves })
 accepted c s (Ask tenant app label priority count size) =

@@ -1,5 +1,6 @@
 pub mod Accepted
 pub mod Applications
+pub mod BuiltIn
 pub mod Changes
 pub mod Check
 pub mod Cluster

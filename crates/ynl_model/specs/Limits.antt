@@ -7,7 +7,8 @@ use Rattle.ynl_resource.specs.Names.{same_name, same_label, is_default}
 use Rattle.ynl_resource.specs.declared.names.Name.{Name}
 use Rattle.ynl_resource.specs.declared.labels.Label.{Label}
 use Rattle.ynl_resource.specs.declared.paths.Path.{Path}
-use Rattle.ynl_model.specs.Queues.{Config, setting, whole}
+use Rattle.ynl_model.specs.Queues.{Config, setting}
+use Rattle.ynl_resource.specs.Ranges.{whole}
 use Rattle.ynl_model.specs.Applications.{Application, apps_of}
 use Rattle.ynl_model.specs.Cluster.{State, used, maximum, guaranteed}
 
@@ -32,11 +33,11 @@ base c s leaf label size = greater_of (guaranteed c s leaf label) (plus (used s 
 abbrev pub user_share : Config → State → Path → Label → Resource → Resource
 user_share c s leaf label size =
     greater_of (scale_ceil (base c s leaf label size) 1 (users s leaf label))
-    (scale_ceil (base c s leaf label size) (setting (λ row. row.user_percent) 0 c leaf) whole)
+    (scale_ceil (base c s leaf label size) (setting (λ row. row.leaf.minimum_user_limit_percent) 0 c leaf) whole)
 
 -- the most that one user may take, as a multiple of what the leaf is guaranteed; the factor is in hundredths
 abbrev pub user_cap : Config → State → Path → Label → Resource
-user_cap c s leaf label = scale_floor (guaranteed c s leaf label) (setting (λ row. row.user_factor) 0 c leaf) 100
+user_cap c s leaf label = scale_floor (guaranteed c s leaf label) (setting (λ row. row.leaf.user_limit_factor) 0 c leaf) 100
 
 -- the user limit: the share, and no more than the cap
 unfoldable pub user_limit : Config → State → Path → Label → Resource → Resource
@@ -44,4 +45,4 @@ user_limit c s leaf label size = smaller_of (user_share c s leaf label size) (us
 
 -- the master limit: what masters may use together, a share of the leaf's maximum
 unfoldable pub master_limit : Config → State → Path → Label → Resource
-master_limit c s leaf label = scale_floor (maximum s leaf label) (setting (λ row. row.master_percent) 0 c leaf) whole
+master_limit c s leaf label = scale_floor (maximum s leaf label) (setting (λ row. row.leaf.maximum_am_resource_percent) 0 c leaf) whole

@@ -8,13 +8,9 @@ use Rattle.ynl_resource.specs.declared.names.Name.{Name}
 use Rattle.ynl_resource.specs.declared.labels.Label.{Label}
 use Rattle.ynl_resource.specs.declared.labels.Label.TheVariants.{Unlabelled, Named}
 use Rattle.ynl_resource.specs.Tables.{without, update}
+pub use Rattle.ynl_model.specs.declared.labels.LabelRow.{LabelRow}
 pub use Rattle.ynl_model.specs.declared.nodes.Node.{Node}
-
--- a label: its name, whether its partition is exclusive, and how far the partition's clock goes
-pub record LabelRow : Type 0 where
-  pub name : Name
-  pub exclusive : Bool
-  pub limit : ℕ
+use Rattle.ynl_resource.specs.Ranges.{most_nodes}
 
 -- the configured labels, and how far the clock of the DEFAULT partition goes
 pub record Labels : Type 0 where
@@ -75,10 +71,6 @@ joined node nodes = nodes ++ node ∷ []
 -- a node leaves its partition
 unfoldable pub left : Node → List Node → List Node
 left node nodes = without (is_at node.name node.label) nodes
-
--- a partition has at most so many nodes
-abbrev pub most_nodes : ℕ
-most_nodes = 65536
 
 -- whether a partition has no place for one more node
 unfoldable pub is_full : List Node → Label → Bool

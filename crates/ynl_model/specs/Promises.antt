@@ -11,7 +11,8 @@ use Rattle.ynl_model.specs.Queues.{Config, maximum_on}
 use Rattle.ynl_model.specs.Accepted.{is_accepted}
 use Rattle.ynl_model.specs.Cluster.{State, is_master, of_app_that, Container, containers_on, node_of, clock, sizes, used, maximum}
 use Rattle.ynl_model.specs.Events.{Event, Lost, Relabel, Maximum, reasons, state_after, replies_to}
-use Rattle.ynl_model.specs.View.{Tracked, track, view, events_of, places_of, at_places, is_sole, restrict, seen}
+use Rattle.ynl_model.specs.View.{track, view, events_of, places_of, at_places, is_sole, restrict, seen}
+use Rattle.ynl_model.specs.declared.nodes.Tracked.{Tracked}
 
 -- the replies at the places of the view are, one by one, those of the cluster that holds the tenant alone and is given only the view
 abbrev pub HasSameReplies : Config → List Event → Name → Label → Type 0

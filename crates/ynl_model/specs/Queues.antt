@@ -4,7 +4,10 @@ use Rattle.std.specs.List.{list_any}
 use Rattle.std.specs.Option.{option_map_or}
 use Rattle.ynl_resource.specs.Amounts.{scale_floor}
 use Rattle.ynl_resource.specs.declared.amounts.Resource.{Resource}
-pub use Rattle.ynl_resource.specs.Amounts.{whole}
+pub use Rattle.ynl_model.specs.declared.queues.LabelCapacity.{LabelCapacity}
+pub use Rattle.ynl_model.specs.declared.queues.LeafSettings.{LeafSettings}
+pub use Rattle.ynl_model.specs.declared.queues.MaximumRow.{MaximumRow}
+pub use Rattle.ynl_model.specs.declared.queues.StopRow.{StopRow}
 use Rattle.ynl_resource.specs.Names.{same_name, same_label, root, same_path, is_within, way_to}
 use Rattle.ynl_resource.specs.declared.names.Name.{Name}
 use Rattle.ynl_resource.specs.declared.labels.Label.{Label}
@@ -12,6 +15,7 @@ use Rattle.ynl_resource.specs.declared.labels.Label.TheVariants.{Unlabelled, Nam
 use Rattle.ynl_resource.specs.declared.paths.Path.{Path}
 use Rattle.ynl_model.specs.Nodes.{Labels, partition_labels}
 use Rattle.ynl_resource.specs.Tables.{update}
+use Rattle.ynl_resource.specs.Ranges.{whole}
 
 -- the labels that a row lets its queue use: those of the parent, all, or those listed; every queue may use DEFAULT
 pub data Access : Type 0 where
@@ -19,31 +23,21 @@ pub data Access : Type 0 where
   AllLabels : Access
   Listed : List Name → Access
 
--- what a row gives its queue on a label: the capacity and the maximum, in hundredths of a percent of the parent's
-pub record Share : Type 0 where
-  pub label : Name
-  pub capacity : ℕ
-  pub maximum : ℕ
-
--- a configured queue. Shares and percents are in hundredths of a percent, the user limit factor in hundredths
+-- a configured queue. Capacities and maxima are in hundredths of a percent of the parent's; what is set of leaves works in leaves alone
 pub record QueueRow : Type 0 where
   pub path : Path
   pub stopped : Bool
   pub capacity : ℕ
   pub maximum : ℕ
   pub access : Access
-  pub default_label : Label
-  pub user_percent : ℕ
-  pub user_factor : ℕ
-  pub master_percent : ℕ
-  pub most_applications : ℕ
-  pub shares : List Share
+  pub leaf : LeafSettings
+  pub capacities : List LabelCapacity
 
 -- the configuration: labels, queues below root, the most containers that a heartbeat places, and the largest request
 pub record Config : Type 0 where
   pub labels : Labels
   pub queues : List QueueRow
-  pub per_heartbeat : ℕ
+  pub containers_per_heartbeat : ℕ
   pub maximum_allocation : Resource
 
 -- the row of a queue
@@ -78,18 +72,18 @@ may_use c queue Unlabelled = true
 may_use c queue (Named name) = list_any (same_name name) (accessible c queue)
 
 -- what a row says of a label; where it says nothing, the capacity is 0 and the maximum is all
-abbrev pub share_on : QueueRow → Name → Share
-share_on row name = option_map_or (λ share. share) (find (λ share. same_name share.label name) row.shares) (record { label = name; capacity = 0; maximum = whole })
+abbrev pub capacity_row : QueueRow → Name → LabelCapacity
+capacity_row row name = option_map_or (λ given. given) (find (λ given. same_name given.label name) row.capacities) (record { label = name; capacity = 0; maximum = whole })
 
 -- the capacity that a row writes for a partition
 abbrev pub written_capacity : Label → QueueRow → ℕ
 written_capacity Unlabelled row = row.capacity
-written_capacity (Named name) row = (share_on row name).capacity
+written_capacity (Named name) row = (capacity_row row name).capacity
 
 -- the maximum that a row writes for a partition
 abbrev pub written_maximum : Label → QueueRow → ℕ
 written_maximum Unlabelled row = row.maximum
-written_maximum (Named name) row = (share_on row name).maximum
+written_maximum (Named name) row = (capacity_row row name).maximum
 
 -- a queue's capacity on a partition, and 0 on a label that it may not use
 unfoldable pub capacity_on : Config → Path → Label → ℕ
@@ -98,12 +92,6 @@ capacity_on c queue label = if may_use c queue label then setting (written_capac
 -- a queue's configured maximum on a partition, and 0 on a label that it may not use
 unfoldable pub configured_maximum : Config → Path → Label → ℕ
 configured_maximum c queue label = if may_use c queue label then setting (written_maximum label) 0 c queue else 0
-
--- the present maximum of a queue on a partition
-pub record MaximumRow : Type 0 where
-  pub queue : Path
-  pub label : Label
-  pub share : ℕ
 
 -- a maximum for each queue and each partition, at first the configured one
 unfoldable pub opening_maxima : Config → List MaximumRow
@@ -132,11 +120,6 @@ maximum maxima queue label total = nested_floor (λ step. maximum_on maxima step
 -- what a queue is guaranteed of a partition's total
 unfoldable pub guaranteed : Config → Path → Label → Resource → Resource
 guaranteed c queue label total = nested_floor (λ step. capacity_on c step label) queue total
-
--- whether a queue is stopped
-pub record StopRow : Type 0 where
-  pub queue : Path
-  pub stopped : Bool
 
 -- a mark for each queue, at first the configured one
 abbrev pub opening_stops : Config → List StopRow

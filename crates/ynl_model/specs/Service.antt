@@ -15,7 +15,8 @@ use Rattle.ynl_resource.specs.declared.labels.Label.TheVariants.{Unlabelled}
 use Rattle.ynl_resource.specs.declared.paths.Path.{Path}
 use Rattle.ynl_model.specs.Nodes.{Node, is_exclusive}
 use Rattle.ynl_model.specs.Queues.{Config}
-use Rattle.ynl_model.specs.Applications.{Application, AskRow, apps_of, all_apps}
+use Rattle.ynl_model.specs.Applications.{Application, apps_of, all_apps}
+use Rattle.ynl_model.specs.declared.applications.AskRow.{AskRow}
 use Rattle.ynl_model.specs.Cluster.{State, What, Master, Asked, free, waits, runs, used, user_used, masters_used, maximum, guaranteed, is_master, counted}
 use Rattle.ynl_model.specs.Limits.{user_limit, master_limit}
 

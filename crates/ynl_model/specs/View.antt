@@ -8,18 +8,14 @@ use Rattle.ynl_resource.specs.declared.names.Name.{Name}
 use Rattle.ynl_resource.specs.declared.labels.Label.{Label}
 use Rattle.ynl_resource.specs.declared.paths.Path.{Path}
 use Rattle.ynl_resource.specs.Tables.{without}
-use Rattle.ynl_model.specs.Nodes.{Node, has_label, is_exclusive, nodes_of, most_nodes}
+pub use Rattle.ynl_model.specs.declared.nodes.Tracked.{Tracked}
+use Rattle.ynl_model.specs.Nodes.{Node, has_label, is_exclusive, nodes_of}
+use Rattle.ynl_resource.specs.Ranges.{most_nodes}
 use Rattle.ynl_model.specs.Queues.{Config, may_use}
 use Rattle.ynl_model.specs.Cluster.{State, Container, containers_on, clock}
 use Rattle.ynl_model.specs.Events.{Event, Register, Lost, Relabel, Heartbeat, Exited, Submit, Ask, Release, Finish, Stop, Start, Poll, Usage, Propose, Commit, Maximum}
 
 -- ---- the track: where the nodes are, told from node events alone
-
--- a node without its stamp
-pub record Tracked : Type 0 where
-  pub name : Name
-  pub label : Label
-  pub size : Resource
 
 -- the tracked node of a name
 abbrev pub tracked : List Tracked → Name → Option Tracked

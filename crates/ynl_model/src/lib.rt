@@ -2,18 +2,26 @@
 //! every definition of what the scheduler does.
 #![tactic(auto)]
 
-pub use containers::{Placed, PlacedList};
+pub use applications::AskRow;
+pub use containers::Placed;
 pub use entries::Entry;
 pub use events::Event;
 pub use faults::{LabelFault, TreeFault};
-pub use nodes::Node;
+pub use items::Items;
+pub use labels::LabelRow;
+pub use nodes::{Node, Tracked};
 pub use proposals::{Proposal, What};
-pub use replies::{Pending, PendingList, Reply};
+pub use queues::{LabelCapacity, LeafSettings, MaximumRow, StopRow};
+pub use replies::{Pending, Reply};
 
+mod applications;
 mod containers;
 mod entries;
 mod events;
 mod faults;
+mod items;
+mod labels;
 mod nodes;
 mod proposals;
+mod queues;
 mod replies;

@@ -11,3 +11,11 @@ pub struct Node {
     pub size: Size,
     pub stamp: u64,
 }
+
+/// A node without its stamp: its name, its partition and its size.
+#[derive(Clone, Copy)]
+pub struct Tracked {
+    pub name: Name,
+    pub label: Label,
+    pub size: Size,
+}

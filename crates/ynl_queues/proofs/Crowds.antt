@@ -9,7 +9,8 @@ use Rattle.std.proofs.lemmas.List.Splits.{join_with_byte-slice_split}
 use Rattle.std.proofs.lemmas.Slice.Eq.{bytes_eq-Decides}
 use Rattle.ynl_resource.specs.NameText.{is_name}
 use Rattle.ynl_resource.specs.Names.{same_name, same_path}
-use Rattle.ynl_resource.specs.Texts.{is_dot, most_names, read_path, path_of}
+use Rattle.ynl_resource.specs.Texts.{is_dot, read_path, path_of}
+use Rattle.ynl_resource.specs.Ranges.{most_names}
 use Rattle.ynl_resource.specs.declared.names.Name.{Name}
 use Rattle.ynl_resource.specs.declared.paths.Path.{Path}
 use Rattle.ynl_resource.specs.declared.paths.PathFault.{PathFault}

@@ -3,13 +3,15 @@ use Rattle.std.specs.Prelude.{◌≡◌, ℕ, Bool, true, false, not, ◌||◌, 
 use Rattle.std.specs.List.{list_any, list_all, slice_split}
 use Rattle.ynl_resource.specs.Amounts.{amount}
 use Rattle.ynl_resource.specs.Names.{root}
-use Rattle.ynl_resource.specs.declared.labels.Label.{Label}
 use Rattle.ynl_resource.specs.declared.paths.Path.{Path}
 use Rattle.ynl_resource.specs.Refusals.{first_that_holds}
-use Rattle.ynl_resource.specs.Texts.{is_dot, most_names, read_path}
+use Rattle.ynl_resource.specs.Texts.{is_dot, read_path}
+use Rattle.ynl_resource.specs.Ranges.{most_names, most_queues, most_children}
 use Rattle.ynl_resource.specs.declared.paths.PathFault.{PathFault}
 use Rattle.ynl_model.specs.Nodes.{Labels}
-use Rattle.ynl_model.specs.Queues.{Access, Share, QueueRow, Config}
+use Rattle.ynl_model.specs.Queues.{Access, QueueRow, Config}
+use Rattle.ynl_model.specs.declared.queues.LabelCapacity.{LabelCapacity}
+use Rattle.ynl_model.specs.declared.queues.LeafSettings.{LeafSettings}
 use Rattle.ynl_model.specs.Accepted.{tree_faults, children, all_queues}
 use Rattle.ynl_model.specs.declared.faults.TreeFault.{TreeFault}
 use Rattle.ynl_model.specs.declared.faults.TreeFault.TheVariants.{TooDeep, TooMany, BadPath}
@@ -21,12 +23,8 @@ pub record WrittenRow : Type 0 where
   pub capacity : ℕ
   pub maximum : ℕ
   pub access : Access
-  pub default_label : Label
-  pub user_percent : ℕ
-  pub user_factor : ℕ
-  pub master_percent : ℕ
-  pub most_applications : ℕ
-  pub shares : List Share
+  pub leaf : LeafSettings
+  pub capacities : List LabelCapacity
 
 -- ---- paths as texts
 
@@ -45,7 +43,7 @@ stand_together a b = bytes_eq (above a) (above b)
 
 -- whether there are more than 1,024 rows, or more than 64 whose texts are the same but for their last parts
 abbrev pub are_too_many : List WrittenRow → Bool
-are_too_many rows = nat_lt 1024 (length rows) || list_any (λ row. nat_lt 64 (length (filter (λ other. stand_together row.path other.path) rows))) rows
+are_too_many rows = nat_lt most_queues (length rows) || list_any (λ row. nat_lt most_children (length (filter (λ other. stand_together row.path other.path) rows))) rows
 
 -- whether what is read of a text is a queue below root
 abbrev pub is_below_root : Result Path PathFault → Bool
@@ -68,17 +66,13 @@ row_of row = record {
   capacity = row.capacity;
   maximum = row.maximum;
   access = row.access;
-  default_label = row.default_label;
-  user_percent = row.user_percent;
-  user_factor = row.user_factor;
-  master_percent = row.master_percent;
-  most_applications = row.most_applications;
-  shares = row.shares;
+  leaf = row.leaf;
+  capacities = row.capacities;
 }
 
 -- a configuration of these labels and queues; the faults of a tree do not look at its other numbers
 unfoldable pub configured : Labels → List QueueRow → Config
-configured labels queues = record { labels = labels; queues = queues; per_heartbeat = 1; maximum_allocation = amount 1 1 }
+configured labels queues = record { labels = labels; queues = queues; containers_per_heartbeat = 1; maximum_allocation = amount 1 1 }
 
 -- the faults of queues that are written, in their order, each with whether it holds: first those of the paths' texts, then those of the tree
 unfoldable pub written_faults : Labels → List WrittenRow → List (TreeFault × Bool)
@@ -94,7 +88,7 @@ IsFaultless labels queues = (c : Config) → c.labels ≡ labels → c.queues �
 
 -- whether there are more than 1,024 queues, or more than 64 just below one
 abbrev pub is_crowded : Config → Bool
-is_crowded c = nat_lt 1024 (length c.queues) || list_any (λ queue. nat_lt 64 (length (children c queue))) (all_queues c)
+is_crowded c = nat_lt most_queues (length c.queues) || list_any (λ queue. nat_lt most_children (length (children c queue))) (all_queues c)
 
 -- what is given where no fault holds, and the fault where one does
 abbrev pub unless_fault : {X : Type 0} → Option TreeFault → X → Result X TreeFault

@@ -9,7 +9,7 @@ ghost use Rattle.ynl_queues.specs.Reach.{reached, is_among};
 use crate::config::Config;
 use crate::rows::Access;
 use crate::ways::step_at;
-use ynl_nodes::Labels;
+use ynl_labels::Labels;
 use ynl_resource::{Label, Name};
 
 fn lists(names: &[Name], name: &Name) -> bool

@@ -1,12 +1,15 @@
-//! What of a partition's total a queue is guaranteed.
+//! What a queue gets of a partition's total.
 
-ghost use Rattle.std.specs.Prelude.{◌≡◌, IsTrue};
-ghost use Rattle.ynl_model.specs.Queues.{setting, written_capacity, written_maximum, capacity_on, configured_maximum, guaranteed};
-ghost use Rattle.ynl_resource.specs.Amounts.{whole, scale_floor, fits_in, IsSmall};
+ghost use Rattle.std.specs.Prelude.{◌≡◌, ℕ, IsTrue};
+ghost use Rattle.ynl_queues.specs.Shares.{IsShareOf};
+ghost use Rattle.ynl_resource.specs.declared.paths.Path.{Path};
+ghost use Rattle.ynl_model.specs.Queues.{setting, written_capacity, written_maximum, capacity_on, configured_maximum, nested_floor, guaranteed};
+ghost use Rattle.ynl_resource.specs.Amounts.{scale_floor, fits_in, IsSmall};
+ghost use Rattle.ynl_resource.specs.Ranges.{whole};
 
 use crate::config::Config;
 use crate::ways::step_at;
-use ynl_resource::{Hundredths, Label, Name, Resource};
+use ynl_resource::{Hundredths, Label, Name, Resource, WHOLE};
 
 /// A share of an amount, each part rounded down.
 #[tactic(auto, using(crate::proofs::Shares::share_small))]
@@ -19,9 +22,29 @@ pub fn share_of(amount: &Resource, share: &Hundredths) -> Resource
     let memory = amount.memory;
     let vcores = amount.vcores;
     Resource {
-        memory: memory * n / 10000,
-        vcores: vcores * n / 10000,
+        memory: memory * n / WHOLE,
+        vcores: vcores * n / WHOLE,
     }
+}
+
+/// What reaches a queue of an amount at root, where each queue on the way gets its share of what its
+/// parent has.
+pub fn nested_floor<F: Fn(&[Name]) -> Hundredths>(
+    share: F,
+    queue: &[Name],
+    amount: &Resource,
+) -> Resource
+    requires small { IsSmall amount.now }
+    requires callable { F.IsAlwaysCallable share }
+    ensures value { (f : Path → ℕ) → IsShareOf (F.post share) f → result ≡ nested_floor f queue.now amount.now }
+    ensures within { IsTrue (fits_in result amount.now) }
+{
+    let mut above = *amount;
+    for depth in 0..queue.len() {
+        let part = share(step_at(queue, depth + 1));
+        above = share_of(&above, &part);
+    }
+    above
 }
 
 impl Config {
@@ -74,12 +97,6 @@ impl Config {
         ensures value { result ≡ guaranteed self.now queue.now label.now total.now }
         ensures within { IsTrue (fits_in result total.now) }
     {
-        let mut above = *total;
-        for depth in 0..queue.len() {
-            let step = step_at(queue, depth + 1);
-            let share = self.capacity_on(step, label);
-            above = share_of(&above, &share);
-        }
-        above
+        nested_floor(|step| self.capacity_on(step, label), queue, total)
     }
 }

@@ -8,6 +8,7 @@ ghost use Rattle.ynl_resource.specs.Texts.{read_path};
 ghost use Rattle.ynl_resource.specs.Refusals.{first_that_holds};
 ghost use Rattle.ynl_model.specs.Accepted.{tree_faults};
 ghost use Rattle.ynl_queues.specs.Written.{is_too_deep, are_too_many, is_below_root, row_of, is_crowded, configured, unless_fault, tree_of, IsFaultless};
+ghost use Rattle.ynl_resource.specs.Ranges.{most_queues};
 
 use crate::config::Config;
 use crate::rows::QueueRow;
@@ -15,8 +16,8 @@ use crate::texts::{any_too_deep, are_too_many};
 use crate::tree::QueueTree;
 use crate::written::WrittenQueue;
 use std::alloc::{AllocError, Global};
+use ynl_labels::Labels;
 use ynl_model::TreeFault;
-use ynl_nodes::Labels;
 use ynl_resource::Size;
 
 fn smallest() -> Size
@@ -46,7 +47,7 @@ impl Config {
     /// The first fault of the tree, but for too many queues.
     #[tactic(auto, unfolding(ynl_model::specs::Accepted::tree_faults))]
     fn tree_fault(&self, alloc: Global) -> Result<Option<TreeFault>, AllocError>
-        requires few { length self.now.queues ≤ 1024 }
+        requires few { length self.now.queues ≤ most_queues }
         requires apart { is_crowded self.now ≡ false }
         ensures { IfOk result (λ fault. fault ≡ first_that_holds (tree_faults self.now)) }
     {
@@ -75,7 +76,7 @@ fn accept(
     labels: &Labels,
     rows: Vec<QueueRow>,
 ) -> Result<Result<QueueTree, TreeFault>, AllocError>
-    requires few { length rows.items ≤ 1024 }
+    requires few { length rows.items ≤ most_queues }
     requires apart { is_crowded (configured labels.now rows.items) ≡ false }
     ensures { IfOk result (λ built. built ≡ unless_fault (first_that_holds (tree_faults (configured labels.now rows.items))) rows.items) }
 {

@@ -12,9 +12,10 @@ ghost use Rattle.ynl_queues.specs.Reach.{reached, is_among};
 
 use crate::access::reaches;
 use crate::config::Config;
-use crate::rows::{QueueRow, Share};
+use crate::rows::QueueRow;
 use crate::ways::parent_of;
-use ynl_nodes::Labels;
+use ynl_labels::Labels;
+use ynl_model::LabelCapacity;
 use ynl_resource::{Label, Name, Path};
 
 fn has_path(rows: &[QueueRow], path: &Path) -> bool
@@ -74,13 +75,17 @@ fn stay_within(labels: &Labels, above: Option<&[Name]>, reach: Option<&[Name]>) 
     }
 }
 
-/// Whether all of the shares are of labels that are reached.
-fn shares_stay_within(labels: &Labels, reach: Option<&[Name]>, shares: &[Share]) -> bool
-    ensures { result ≡ list_all (λ share. is_among (reached labels.now (option_copied reach.entry)) (Named share.label)) shares.now }
+/// Whether all that is given is on labels that are reached.
+fn capacities_stay_within(
+    labels: &Labels,
+    reach: Option<&[Name]>,
+    capacities: &[LabelCapacity],
+) -> bool
+    ensures { result ≡ list_all (λ given. is_among (reached labels.now (option_copied reach.entry)) (Named given.label)) capacities.now }
 {
-    shares
+    capacities
         .iter()
-        .all(|share| reaches(labels, reach, &Label::Named(share.label)))
+        .all(|given| reaches(labels, reach, &Label::Named(given.label)))
 }
 
 /// Whether all of the names are those of labels.
@@ -90,13 +95,13 @@ fn know_names(labels: &Labels, names: &[Name]) -> bool
     names.iter().all(|name| labels.has(&Label::Named(*name)))
 }
 
-/// Whether all of the shares are of labels.
-fn know_shares(labels: &Labels, shares: &[Share]) -> bool
-    ensures { result ≡ list_all (λ share. has_label labels.now (Named share.label)) shares.now }
+/// Whether all that is given is on labels that are configured.
+fn know_labels(labels: &Labels, capacities: &[LabelCapacity]) -> bool
+    ensures { result ≡ list_all (λ given. has_label labels.now (Named given.label)) capacities.now }
 {
-    shares
+    capacities
         .iter()
-        .all(|share| labels.has(&Label::Named(share.label)))
+        .all(|given| labels.has(&Label::Named(given.label)))
 }
 
 impl Config {
@@ -121,8 +126,8 @@ impl Config {
     {
         let labels = self.labels();
         know_names(labels, row.access.listed())
-            && know_shares(labels, &row.shares)
-            && labels.has(&row.default_label)
+            && know_labels(labels, &row.capacities)
+            && labels.has(&row.leaf.default_label)
     }
 
     /// Whether each row names only labels that are configured.
@@ -140,8 +145,8 @@ impl Config {
         let reach = self.reach(row.path.names());
         let above = self.reach(parent_of(row.path.names()));
         stay_within(labels, above, reach)
-            && shares_stay_within(labels, reach, &row.shares)
-            && reaches(labels, reach, &row.default_label)
+            && capacities_stay_within(labels, reach, &row.capacities)
+            && reaches(labels, reach, &row.leaf.default_label)
     }
 
     /// Whether each queue may use only what its parent may, and each row speaks only of labels that

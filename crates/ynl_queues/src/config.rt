@@ -11,7 +11,7 @@ use crate::tree::QueueTree;
 use crate::ways::is_within;
 use std::alloc::{AllocError, Global};
 use std::marker::Model;
-use ynl_nodes::Labels;
+use ynl_labels::Labels;
 use ynl_resource::{Hundredths, Label, Name, Size};
 
 /// What does not change while a cluster runs: the labels, the queues below root, the most containers
@@ -20,7 +20,7 @@ use ynl_resource::{Hundredths, Label, Name, Size};
 pub struct Config {
     labels: Labels,
     tree: QueueTree,
-    per_heartbeat: u32,
+    containers_per_heartbeat: u32,
     maximum_allocation: Size,
 }
 
@@ -29,7 +29,7 @@ impl Model for Config {
 
     ghost Value = { Configured };
 
-    ghost view = { λ c. record { labels = c.labels; queues = c.tree; per_heartbeat = c.per_heartbeat; maximum_allocation = c.maximum_allocation } };
+    ghost view = { λ c. record { labels = c.labels; queues = c.tree; containers_per_heartbeat = c.containers_per_heartbeat; maximum_allocation = c.maximum_allocation } };
 }
 
 impl Config {
@@ -37,15 +37,15 @@ impl Config {
     pub fn new(
         labels: Labels,
         tree: QueueTree,
-        per_heartbeat: u32,
+        containers_per_heartbeat: u32,
         maximum_allocation: Size,
     ) -> Config
-        ensures { result ≡ record { labels = labels; queues = tree; per_heartbeat = per_heartbeat; maximum_allocation = maximum_allocation } }
+        ensures { result ≡ record { labels = labels; queues = tree; containers_per_heartbeat = containers_per_heartbeat; maximum_allocation = maximum_allocation } }
     {
         Config {
             labels,
             tree,
-            per_heartbeat,
+            containers_per_heartbeat,
             maximum_allocation,
         }
     }
@@ -85,16 +85,16 @@ impl Config {
         Ok(Config {
             labels: self.labels.copy(alloc)?,
             tree: self.tree.copy(alloc)?,
-            per_heartbeat: self.per_heartbeat,
+            containers_per_heartbeat: self.containers_per_heartbeat,
             maximum_allocation: self.maximum_allocation,
         })
     }
 
     /// The most containers that a heartbeat places.
-    pub fn per_heartbeat(&self) -> u32
-        ensures { result ≡ self.now.per_heartbeat }
+    pub fn containers_per_heartbeat(&self) -> u32
+        ensures { result ≡ self.now.containers_per_heartbeat }
     {
-        self.per_heartbeat
+        self.containers_per_heartbeat
     }
 
     /// The largest request.
@@ -146,50 +146,50 @@ impl Config {
 
     /// The leaf's label for applications that name none.
     pub fn default_label(&self, leaf: &[Name]) -> Label
-        ensures { result ≡ setting (λ row. row.default_label) Unlabelled self.now leaf.now }
+        ensures { result ≡ setting (λ row. row.leaf.default_label) Unlabelled self.now leaf.now }
     {
         match self.row(leaf) {
-            Some(row) => row.default_label,
+            Some(row) => row.leaf.default_label,
             None => Label::Unlabelled,
         }
     }
 
     /// The least percentage of the leaf's share that a user may take.
-    pub fn user_percent(&self, leaf: &[Name]) -> Hundredths
-        ensures { result ≡ setting (λ row. row.user_percent) 0 self.now leaf.now }
+    pub fn minimum_user_limit_percent(&self, leaf: &[Name]) -> Hundredths
+        ensures { result ≡ setting (λ row. row.leaf.minimum_user_limit_percent) 0 self.now leaf.now }
     {
         match self.row(leaf) {
-            Some(row) => row.user_percent,
+            Some(row) => row.leaf.minimum_user_limit_percent,
             None => Hundredths::NOTHING,
         }
     }
 
     /// The multiple of the leaf's guarantee that a user may take, in hundredths.
-    pub fn user_factor(&self, leaf: &[Name]) -> u16
-        ensures { result ≡ setting (λ row. row.user_factor) 0 self.now leaf.now }
+    pub fn user_limit_factor(&self, leaf: &[Name]) -> u16
+        ensures { result ≡ setting (λ row. row.leaf.user_limit_factor) 0 self.now leaf.now }
     {
         match self.row(leaf) {
-            Some(row) => row.user_factor,
+            Some(row) => row.leaf.user_limit_factor,
             None => 0,
         }
     }
 
     /// The share of the leaf's maximum that masters may take together.
-    pub fn master_percent(&self, leaf: &[Name]) -> Hundredths
-        ensures { result ≡ setting (λ row. row.master_percent) 0 self.now leaf.now }
+    pub fn maximum_am_resource_percent(&self, leaf: &[Name]) -> Hundredths
+        ensures { result ≡ setting (λ row. row.leaf.maximum_am_resource_percent) 0 self.now leaf.now }
     {
         match self.row(leaf) {
-            Some(row) => row.master_percent,
+            Some(row) => row.leaf.maximum_am_resource_percent,
             None => Hundredths::NOTHING,
         }
     }
 
     /// The most live applications of the leaf.
-    pub fn most_applications(&self, leaf: &[Name]) -> u32
-        ensures { result ≡ setting (λ row. row.most_applications) 0 self.now leaf.now }
+    pub fn maximum_applications(&self, leaf: &[Name]) -> u32
+        ensures { result ≡ setting (λ row. row.leaf.maximum_applications) 0 self.now leaf.now }
     {
         match self.row(leaf) {
-            Some(row) => row.most_applications,
+            Some(row) => row.leaf.maximum_applications,
             None => 0,
         }
     }

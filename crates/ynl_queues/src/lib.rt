@@ -2,10 +2,10 @@
 //! is given by its names below root.
 #![tactic(auto)]
 
-pub use amounts::share_of;
+pub use amounts::{nested_floor, share_of};
 pub use children::Children;
 pub use config::Config;
-pub use rows::{Access, QueueRow, Share};
+pub use rows::{Access, QueueRow};
 pub use tree::QueueTree;
 pub use ways::{is_within, parent_of, step_at};
 pub use written::WrittenQueue;
@@ -16,8 +16,8 @@ mod building;
 mod checks;
 mod children;
 mod config;
+mod grants;
 mod rows;
-mod standings;
 mod sums;
 mod texts;
 mod tree;

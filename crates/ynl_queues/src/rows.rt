@@ -2,12 +2,13 @@
 
 ghost use Rattle.std.specs.Prelude.{◌≡◌, find, IfOk};
 ghost use Rattle.ynl_resource.specs.Names.{same_name, tenant_of};
-ghost use Rattle.ynl_model.specs.Queues.{share_on, written_capacity, written_maximum};
+ghost use Rattle.ynl_model.specs.Queues.{capacity_row, written_capacity, written_maximum};
 ghost use Rattle.ynl_model.specs.Accepted.{listed};
 ghost use Rattle.ynl_queues.specs.Rows.{access_of};
 
 use std::alloc::{AllocError, Global};
 use std::marker::Model;
+use ynl_model::{LabelCapacity, LeafSettings};
 use ynl_resource::{Hundredths, Label, Name, Path};
 
 /// The labels that a row lets its queue use; every queue may use DEFAULT.
@@ -45,26 +46,7 @@ impl Access {
     }
 }
 
-/// What a row gives its queue on a label, as shares of the parent's: the capacity and the maximum.
-#[derive(Clone, Copy)]
-pub struct Share {
-    pub label: Name,
-    pub capacity: Hundredths,
-    pub maximum: Hundredths,
-}
-
-impl Model for Share {
-    ghost use Rattle.ynl_model.specs.Queues.{Share as Row};
-
-    ghost Value = { Row };
-
-    ghost view = { λ s. record { label = s.label; capacity = s.capacity; maximum = s.maximum } };
-
-    ghost inverse = { λ s. record { label = s.label; capacity = s.capacity; maximum = s.maximum } };
-}
-
-/// A configured queue, below root. The last four settings before the shares work in leaves alone; the user limit
-/// factor is in hundredths.
+/// A configured queue, below root. What is set of leaves works in leaves alone.
 #[derive(Drop)]
 pub struct QueueRow {
     pub path: Path,
@@ -72,12 +54,8 @@ pub struct QueueRow {
     pub capacity: Hundredths,
     pub maximum: Hundredths,
     pub access: Access,
-    pub default_label: Label,
-    pub user_percent: Hundredths,
-    pub user_factor: u16,
-    pub master_percent: Hundredths,
-    pub most_applications: u32,
-    pub shares: Vec<Share>,
+    pub leaf: LeafSettings,
+    pub capacities: Vec<LabelCapacity>,
 }
 
 impl Model for QueueRow {
@@ -93,12 +71,8 @@ impl Model for QueueRow {
       capacity = r.capacity;
       maximum = r.maximum;
       access = access_of r.access;
-      default_label = r.default_label;
-      user_percent = r.user_percent;
-      user_factor = r.user_factor;
-      master_percent = r.master_percent;
-      most_applications = r.most_applications;
-      shares = r.shares.items;
+      leaf = r.leaf;
+      capacities = r.capacities.items;
     } };
 
     ghost use Rattle.std.specs.Prelude.{◌<◌, length};
@@ -127,30 +101,26 @@ impl QueueRow {
             capacity: self.capacity,
             maximum: self.maximum,
             access: self.access.copy(alloc)?,
-            default_label: self.default_label,
-            user_percent: self.user_percent,
-            user_factor: self.user_factor,
-            master_percent: self.master_percent,
-            most_applications: self.most_applications,
-            shares: Vec::from_slice(alloc, &self.shares)?,
+            leaf: self.leaf,
+            capacities: Vec::from_slice(alloc, &self.capacities)?,
         })
     }
 
-    fn written_share(&self, name: &Name) -> Option<Share>
-        ensures { result ≡ find (λ share. same_name share.label name.now) self.now.shares }
+    fn written_row(&self, name: &Name) -> Option<LabelCapacity>
+        ensures { result ≡ find (λ given. same_name given.label name.now) self.now.capacities }
     {
-        self.shares
+        self.capacities
             .iter()
             .copied()
-            .find(|share| share.label == *name)
+            .find(|given| given.label == *name)
     }
 
-    fn share_on(&self, name: &Name) -> Share
-        ensures { result ≡ share_on self.now name.now }
+    fn capacity_row(&self, name: &Name) -> LabelCapacity
+        ensures { result ≡ capacity_row self.now name.now }
     {
-        match self.written_share(name) {
-            Some(share) => share,
-            None => Share {
+        match self.written_row(name) {
+            Some(given) => given,
+            None => LabelCapacity {
                 label: *name,
                 capacity: Hundredths::NOTHING,
                 maximum: Hundredths::WHOLE,
@@ -164,7 +134,7 @@ impl QueueRow {
     {
         match label {
             Label::Unlabelled => self.capacity,
-            Label::Named(name) => self.share_on(name).capacity,
+            Label::Named(name) => self.capacity_row(name).capacity,
         }
     }
 
@@ -174,7 +144,7 @@ impl QueueRow {
     {
         match label {
             Label::Unlabelled => self.maximum,
-            Label::Named(name) => self.share_on(name).maximum,
+            Label::Named(name) => self.capacity_row(name).maximum,
         }
     }
 }

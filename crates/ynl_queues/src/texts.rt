@@ -4,14 +4,10 @@ ghost use Rattle.std.specs.Prelude.{◌≡◌, nat_lt, length, filter, count_by}
 ghost use Rattle.std.specs.List.{list_any};
 ghost use Rattle.ynl_resource.specs.Texts.{is_dot};
 ghost use Rattle.ynl_queues.specs.Written.{is_too_deep, above, stand_together, are_too_many};
+ghost use Rattle.ynl_resource.specs.Ranges.{most_children};
 
 use crate::written::WrittenQueue;
-
-/// How many queues there are at most.
-const MOST_QUEUES: usize = 1024;
-
-/// How many queues are at most just below one.
-const MOST_CHILDREN: usize = 64;
+use ynl_resource::{MOST_CHILDREN, MOST_NAMES, MOST_QUEUES};
 
 fn dots(text: &[u8]) -> usize
     ensures { result ≡ count_by is_dot text.now }
@@ -23,7 +19,7 @@ fn dots(text: &[u8]) -> usize
 fn is_too_deep(text: &[u8]) -> bool
     ensures { result ≡ is_too_deep text.now }
 {
-    dots(text) > 7
+    dots(text) >= MOST_NAMES
 }
 
 /// Whether a path has more than eight names.
@@ -63,7 +59,7 @@ fn count_together(rows: &[WrittenQueue], row: &WrittenQueue) -> usize
 
 /// Whether more than 64 rows' texts are the same but for their last parts.
 fn are_crowded(rows: &[WrittenQueue]) -> bool
-    ensures { result ≡ list_any (λ row. nat_lt 64 (length (filter (λ other. stand_together row.path other.path) rows.now))) rows.now }
+    ensures { result ≡ list_any (λ row. nat_lt most_children (length (filter (λ other. stand_together row.path other.path) rows.now))) rows.now }
 {
     rows.iter()
         .any(|row| count_together(rows, row) > MOST_CHILDREN)

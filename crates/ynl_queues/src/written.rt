@@ -4,9 +4,10 @@ ghost use Rattle.std.specs.Prelude.{◌≡◌, true, false, MatchOption};
 ghost use Rattle.ynl_resource.specs.Texts.{read_path};
 ghost use Rattle.ynl_queues.specs.Written.{is_below_root, row_of};
 
-use crate::rows::{Access, QueueRow, Share};
+use crate::rows::{Access, QueueRow};
 use std::marker::Model;
-use ynl_resource::{Hundredths, Label, Path};
+use ynl_model::{LabelCapacity, LeafSettings};
+use ynl_resource::{Hundredths, Path};
 
 /// A queue as a configuration writes it: its path is still text; its numbers are in their ranges.
 #[derive(Drop)]
@@ -16,12 +17,8 @@ pub struct WrittenQueue {
     pub capacity: Hundredths,
     pub maximum: Hundredths,
     pub access: Access,
-    pub default_label: Label,
-    pub user_percent: Hundredths,
-    pub user_factor: u16,
-    pub master_percent: Hundredths,
-    pub most_applications: u32,
-    pub shares: Vec<Share>,
+    pub leaf: LeafSettings,
+    pub capacities: Vec<LabelCapacity>,
 }
 
 impl Model for WrittenQueue {
@@ -38,12 +35,8 @@ impl Model for WrittenQueue {
       capacity = r.capacity;
       maximum = r.maximum;
       access = access_of r.access;
-      default_label = r.default_label;
-      user_percent = r.user_percent;
-      user_factor = r.user_factor;
-      master_percent = r.master_percent;
-      most_applications = r.most_applications;
-      shares = r.shares.items;
+      leaf = r.leaf;
+      capacities = r.capacities.items;
     } };
 }
 
@@ -65,12 +58,8 @@ impl WrittenQueue {
             capacity: self.capacity,
             maximum: self.maximum,
             access: self.access,
-            default_label: self.default_label,
-            user_percent: self.user_percent,
-            user_factor: self.user_factor,
-            master_percent: self.master_percent,
-            most_applications: self.most_applications,
-            shares: self.shares,
+            leaf: self.leaf,
+            capacities: self.capacities,
         })
     }
 }

@@ -13,7 +13,8 @@ use Rattle.std.specs.Str.Parse.{digits_value, ParsesUnsigned}
 use Rattle.ynl_resource.specs.NameText.{is_name, is_name_byte}
 use Rattle.ynl_resource.specs.Names.{Name, Label, Id}
 use Rattle.ynl_resource.specs.declared.names.BadName.{BadName}
-use Rattle.ynl_resource.specs.Texts.{is_clock, most_clock, read_name, read_label, read_id, label_text, bad_name, named}
+use Rattle.ynl_resource.specs.Texts.{is_clock, read_name, read_label, read_id, label_text, bad_name, named}
+use Rattle.ynl_resource.specs.Ranges.{most_clock}
 use Rattle.ynl_resource.proofs.Bytes.{Lacks, before_first-at, after_first-at}
 
 pub all_digits : (xs : List ℕ) → list_all is_ascii_digit xs ≡ all_ascii_digits xs

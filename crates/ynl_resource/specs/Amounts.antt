@@ -47,10 +47,6 @@ abbrev pub total_of : {X : Type 0} → (X → Resource) → List X → Resource
 total_of size [] = nothing
 total_of size (x ∷ xs) = plus (size x) (total_of size xs)
 
--- all of an amount, in hundredths of a percent
-abbrev pub whole : ℕ
-whole = 10000
-
 -- at most 2^49 in each part
 abbrev pub IsSmall : Resource → Type 0
 IsSmall a = (a.memory ≤ 2 ^ 49) × (a.vcores ≤ 2 ^ 49)

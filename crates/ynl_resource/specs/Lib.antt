@@ -4,6 +4,8 @@ pub mod NameText
 pub mod Names
 pub mod Padded
 pub mod PathFields
+pub mod Ranges
+pub mod RefusalWords
 pub mod Refusals
 pub mod Tables
 pub mod Texts

@@ -8,6 +8,7 @@ use Rattle.ynl_resource.specs.declared.paths.PathFault.{PathFault}
 use Rattle.ynl_resource.specs.declared.paths.PathFault.TheVariants.{TooDeep, BadPath}
 use Rattle.ynl_resource.specs.NameText.{is_name}
 use Rattle.ynl_resource.specs.Names.{Name, same_name, Label, Unlabelled, Named, Path, Id}
+use Rattle.ynl_resource.specs.Ranges.{most_clock, most_names}
 
 -- the text is no name
 abbrev pub bad_name : BadName
@@ -41,10 +42,6 @@ label_text (Named name) = name
 abbrev pub is_dot : ℕ → Bool
 is_dot b = b == 46
 
--- a path has at most so many names, `root` included
-abbrev pub most_names : ℕ
-most_names = 8
-
 -- the path that these parts of a text are
 abbrev pub path_of : List (List ℕ) → Result Path PathFault
 path_of [] = Err BadPath
@@ -63,10 +60,6 @@ path_text path = join_with_byte 46 (codes "root" ∷ path)
 -- whether a byte is `#`
 abbrev pub is_mark : ℕ → Bool
 is_mark b = b == 35
-
--- the largest number of a clock
-abbrev pub most_clock : ℕ
-most_clock = 9007199254740991
 
 -- whether digits are the number of a clock after a placement
 abbrev pub is_clock : List ℕ → Bool

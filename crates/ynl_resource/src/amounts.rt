@@ -2,8 +2,10 @@
 
 ghost use Rattle.std.specs.Prelude.{◌≡◌, ◌+◌, ◌≤◌, ◌<◌, ◌^◌, IsTrue};
 ghost use Rattle.std.specs.Option.{SomeIff};
-ghost use Rattle.ynl_resource.specs.Amounts.{amount, plus, less, fits_in, scale_floor, scale_ceil, IsSmall, IsSize, whole};
+ghost use Rattle.ynl_resource.specs.Amounts.{amount, plus, less, fits_in, scale_floor, scale_ceil, IsSmall, IsSize};
+ghost use Rattle.ynl_resource.specs.Ranges.{whole};
 
+use crate::ranges::{MOST_MEMORY, MOST_VCORES};
 use std::marker::Model;
 
 /// An amount: MB of memory, and virtual cores. What is added or scaled stays at most 2^49 in each.
@@ -99,7 +101,7 @@ impl Size {
     pub fn new(memory: u64, vcores: u64) -> Option<Size>
         ensures { SomeIff result (IsSize (amount memory vcores)) (amount memory vcores) }
     {
-        if memory >= 1 && memory < 4294967296 && vcores >= 1 && vcores <= 65536 {
+        if memory >= 1 && memory <= MOST_MEMORY && vcores >= 1 && vcores <= MOST_VCORES {
             return Some(Size {
                 memory: memory as u32,
                 vcores: vcores as u32,

@@ -7,11 +7,13 @@ ghost use Rattle.std.specs.Str.{all_ascii_digits};
 ghost use Rattle.std.specs.Option.{SomeIff};
 ghost use Rattle.std.specs.String.{string_bytes};
 ghost use Rattle.std.specs.Str.Parse.{digits_value};
-ghost use Rattle.ynl_resource.specs.Texts.{read_id, id_text, is_clock, most_clock};
+ghost use Rattle.ynl_resource.specs.Texts.{read_id, id_text, is_clock};
+ghost use Rattle.ynl_resource.specs.Ranges.{most_clock};
 
 use crate::cuts::cut;
 use crate::labels::Label;
 use crate::names::BadName;
+use crate::ranges::MOST_CLOCK;
 use std::alloc::{AllocError, Global};
 use std::fmt;
 
@@ -55,7 +57,7 @@ fn read_clock(digits: &str) -> Option<u64>
         return None;
     }
     match digits.parse::<u64>() {
-        Ok(clock) if clock >= 1 && clock <= 9007199254740991 => Some(clock),
+        Ok(clock) if clock >= 1 && clock <= MOST_CLOCK => Some(clock),
         _ => None,
     }
 }

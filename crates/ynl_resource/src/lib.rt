@@ -7,6 +7,10 @@ pub use ids::Id;
 pub use labels::Label;
 pub use names::{BadName, Name};
 pub use paths::{Path, PathFault};
+pub use ranges::{
+    MOST_ASKS, MOST_CHILDREN, MOST_CLOCK, MOST_COUNT, MOST_LABELS, MOST_MEMORY, MOST_NAMES,
+    MOST_NODES, MOST_QUEUES, MOST_VCORES, WHOLE,
+};
 pub use refusals::Refusal;
 
 mod amounts;
@@ -15,4 +19,6 @@ mod ids;
 mod labels;
 mod names;
 mod paths;
+mod ranges;
+mod refusal_words;
 mod refusals;

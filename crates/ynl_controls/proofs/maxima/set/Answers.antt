@@ -1,6 +1,6 @@
 use Rattle.std.proofs.Common.{cond}
 use Rattle.ynl_model.specs.Queues.{is_maximum_of}
-use Rattle.ynl_controls.specs.declared.maxima.MaximumRow.{MaximumRow}
+use Rattle.ynl_model.specs.declared.queues.MaximumRow.{MaximumRow}
 use Rattle.ynl_controls.proofs.InPlace.{map_step}
 use Rattle.ynl_controls.proofs.maxima.set.Goals as goal
 

@@ -1,6 +1,6 @@
 use Rattle.std.proofs.Common.{cond}
 use Rattle.ynl_resource.specs.Names.{same_path}
-use Rattle.ynl_controls.specs.declared.stops.StopRow.{StopRow}
+use Rattle.ynl_model.specs.declared.queues.StopRow.{StopRow}
 use Rattle.ynl_controls.proofs.InPlace.{map_step}
 use Rattle.ynl_controls.proofs.stops.mark.Goals as goal
 

@@ -6,5 +6,5 @@ pub tree_fault-requires-clause-apart : goal.tree_fault-requires-clause-apart
 unfolding configured
 tree_fault-requires-clause-apart c =
     let made : c.new-config.result ≡ configured c.args.labels.now c.args.rows.items =
-    c.new-config.ensures ∙ (λ i. record { labels = c.in_ok-copy.ensures i; queues = c.new.ensures i; per_heartbeat = 1; maximum_allocation = c.smallest.ensures i }) in
+    c.new-config.ensures ∙ (λ i. record { labels = c.in_ok-copy.ensures i; queues = c.new.ensures i; containers_per_heartbeat = 1; maximum_allocation = c.smallest.ensures i }) in
     ap is_crowded made ∙ c.requires.apart
