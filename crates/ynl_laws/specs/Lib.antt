@@ -10,3 +10,8 @@ pub mod Finishing
 pub mod Proposed
 pub mod Replies
 pub mod Untied
+pub mod First
+pub mod Classes
+pub mod Decided
+pub mod Numbers
+pub mod Descent

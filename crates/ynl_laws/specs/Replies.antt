@@ -15,7 +15,7 @@ use Rattle.ynl_model.specs.declared.replies.Reply.TheVariants.{Refused, Placed, 
 -- a heartbeat places so many containers at most as the configuration says
 abbrev pub AreHeartbeatsBounded : Type 0
 AreHeartbeatsBounded =
-    (c : Config) (s : State) (name : Name) (placed : List Container) → (step c s (Heartbeat name)).reply ≡ Placed placed → length placed ≤ c.per_heartbeat
+    (c : Config) (s : State) (name : Name) (placed : List Container) → (step c s (Heartbeat name)).reply ≡ Placed placed → length placed ≤ c.containers_per_heartbeat
 
 -- what is answered where a proposal is wanted: the first reason against one, or what is proposed for the node
 abbrev pub proposal_for : Config → State → Name → Reply

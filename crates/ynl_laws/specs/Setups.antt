@@ -6,8 +6,11 @@ use Rattle.ynl_resource.specs.declared.names.Name.{Name}
 use Rattle.ynl_resource.specs.declared.labels.Label.{Label}
 use Rattle.ynl_resource.specs.declared.labels.Label.TheVariants.{Unlabelled, Named}
 use Rattle.ynl_resource.specs.declared.paths.Path.{Path}
-use Rattle.ynl_model.specs.Nodes.{LabelRow}
-use Rattle.ynl_model.specs.Queues.{QueueRow, Config, Share, Access, Inherited, Listed}
+use Rattle.ynl_model.specs.declared.labels.LabelRow.{LabelRow}
+use Rattle.ynl_model.specs.BuiltIn.{built_in}
+use Rattle.ynl_model.specs.Queues.{QueueRow, Config, Access, Inherited, Listed}
+use Rattle.ynl_model.specs.declared.queues.LeafSettings.{LeafSettings}
+use Rattle.ynl_model.specs.declared.queues.LabelCapacity.{LabelCapacity}
 use Rattle.ynl_model.specs.declared.proposals.What.{What}
 use Rattle.ynl_model.specs.declared.containers.Placed.{Placed as Container}
 use Rattle.ynl_model.specs.declared.proposals.Proposal.{Proposal}
@@ -54,24 +57,30 @@ nope = name "nope" ∷ []
 abbrev pub label_row : String → Bool → LabelRow
 label_row text exclusive = record { name = name text; exclusive = exclusive; limit = 9007199254740991 }
 
+-- what is set of a leaf where the text says nothing else
+abbrev pub usual_leaf : LeafSettings
+usual_leaf = record {
+  default_label = none;
+  minimum_user_limit_percent = 10000;
+  user_limit_factor = 100;
+  maximum_am_resource_percent = 1000;
+  maximum_applications = 10000;
+}
+
 -- a queue's row, with what holds where the text says nothing else
-abbrev pub queue_row : Path → ℕ → Access → List Share → QueueRow
-queue_row path capacity access shares = record {
+abbrev pub queue_row : Path → ℕ → Access → List LabelCapacity → QueueRow
+queue_row path capacity access capacities = record {
   path = path;
   stopped = false;
   capacity = capacity;
   maximum = 10000;
   access = access;
-  default_label = none;
-  user_percent = 10000;
-  user_factor = 100;
-  master_percent = 1000;
-  most_applications = 10000;
-  shares = shares;
+  leaf = usual_leaf;
+  capacities = capacities;
 }
 
 -- a share of a partition: the capacity and the maximum, in hundredths of a percent
-abbrev pub share : String → ℕ → ℕ → Share
+abbrev pub share : String → ℕ → ℕ → LabelCapacity
 share text capacity maximum = record { label = name text; capacity = capacity; maximum = maximum }
 
 -- a configuration with these labels and queues, where a heartbeat places at most one container
@@ -79,13 +88,13 @@ abbrev pub config_of : List LabelRow → List QueueRow → Config
 config_of labels queues = record {
   labels = record { rows = labels; default_limit = 9007199254740991 };
   queues = queues;
-  per_heartbeat = 1;
+  containers_per_heartbeat = 1;
   maximum_allocation = amount 4294967295 65536;
 }
 
--- one queue with one label
+-- one queue with one label: what a cluster has where no other is given
 abbrev pub c0 : Config
-c0 = config_of (label_row "gpu" true ∷ []) (queue_row eng 10000 Inherited (share "gpu" 10000 10000 ∷ []) ∷ [])
+c0 = built_in
 
 -- these are the rows of the queues that the second configuration has
 abbrev pub eng_row : QueueRow
@@ -95,7 +104,7 @@ abbrev pub ml_row : QueueRow
 ml_row = queue_row ml 5000 Inherited (share "gpu" 7000 10000 ∷ [])
 
 abbrev pub etl_row : QueueRow
-etl_row = record (queue_row etl 5000 Inherited (share "gpu" 3000 5000 ∷ [])) { user_factor = 200 }
+etl_row = record (queue_row etl 5000 Inherited (share "gpu" 3000 5000 ∷ [])) { leaf = record usual_leaf { user_limit_factor = 200 } }
 
 abbrev pub mkt_row : QueueRow
 mkt_row = record (queue_row mkt 4000 (Listed (name "ssd" ∷ [])) (share "ssd" 10000 10000 ∷ [])) { maximum = 5000 }

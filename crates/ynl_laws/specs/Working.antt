@@ -3,20 +3,23 @@ use Rattle.std.specs.Prelude.{◌≡◌, ℕ, ◌≤◌, ◌<◌, Bool, true, fa
 use Rattle.std.specs.List.{AllByRecursion}
 use Rattle.std.specs.Option.{option_map_or}
 use Rattle.ynl_resource.specs.declared.amounts.Resource.{Resource}
-use Rattle.ynl_resource.specs.Amounts.{fits_in, IsSize, whole}
+use Rattle.ynl_resource.specs.Amounts.{fits_in, IsSize}
+use Rattle.ynl_resource.specs.Ranges.{whole, most_nodes}
 use Rattle.ynl_resource.specs.Names.{same_name, same_label, tenant_of}
 use Rattle.ynl_resource.specs.declared.names.Name.{Name}
 use Rattle.ynl_resource.specs.declared.labels.Label.{Label}
 use Rattle.ynl_resource.specs.declared.paths.Path.{Path}
 use Rattle.ynl_model.specs.declared.nodes.Node.{Node}
-use Rattle.ynl_model.specs.Nodes.{nodes_of, most_nodes, has_label, clock_limit}
-use Rattle.ynl_model.specs.Queues.{Config, MaximumRow}
+use Rattle.ynl_model.specs.Nodes.{nodes_of, has_label, clock_limit}
+use Rattle.ynl_model.specs.Queues.{Config}
+use Rattle.ynl_model.specs.declared.queues.MaximumRow.{MaximumRow}
 use Rattle.ynl_model.specs.Applications.{LeafApps, leaf_of}
 use Rattle.ynl_model.specs.declared.containers.Placed.{Placed as Container}
 use Rattle.ynl_model.specs.Cluster.{State, Partition, is_partition, sizes}
 use Rattle.ynl_model.specs.declared.events.Event.{Event}
 use Rattle.ynl_model.specs.declared.events.Event.TheVariants.{Register, Submit, Ask, Commit, Maximum}
-use Rattle.ynl_model.specs.View.{Tracked, tracked}
+use Rattle.ynl_model.specs.View.{tracked}
+use Rattle.ynl_model.specs.declared.nodes.Tracked.{Tracked}
 use Rattle.ynl_model.specs.Promises.{without_stamp}
 
 -- ---- applications and containers

@@ -1,6 +1,7 @@
 //! Laws of the model: theorems over the definitions alone, each the contract of a public function.
 #![tactic(auto)]
 
+pub mod classes;
 pub mod entitlement;
 pub mod isolation;
 pub mod maxima;

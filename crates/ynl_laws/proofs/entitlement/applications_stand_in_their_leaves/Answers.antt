@@ -1,4 +1,4 @@
-use Rattle.ynl_laws.proofs.Entitled.{are_apps_in_their_leaves}
+use Rattle.ynl_laws.proofs.Lives.Entitled.{are_apps_in_their_leaves}
 use Rattle.ynl_laws.proofs.entitlement.applications_stand_in_their_leaves.Goals as goal
 
 pub returns : goal.returns

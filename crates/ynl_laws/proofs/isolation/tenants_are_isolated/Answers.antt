@@ -1,4 +1,4 @@
-use Rattle.ynl_laws.proofs.Isolated.{is_isolated}
+use Rattle.ynl_laws.proofs.Isolating.Isolated.{is_isolated}
 use Rattle.ynl_laws.proofs.isolation.tenants_are_isolated.Goals as goal
 
 pub returns : goal.returns

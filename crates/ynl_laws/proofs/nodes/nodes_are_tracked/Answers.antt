@@ -1,4 +1,4 @@
-use Rattle.ynl_laws.proofs.Tracked.{is_tracked}
+use Rattle.ynl_laws.proofs.Soundness.Tracked.{is_tracked}
 use Rattle.ynl_laws.proofs.nodes.nodes_are_tracked.Goals as goal
 
 pub returns : goal.returns

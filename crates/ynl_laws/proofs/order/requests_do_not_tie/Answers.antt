@@ -1,4 +1,4 @@
-use Rattle.ynl_laws.proofs.Untied.{do_requests_not_tie, do_guests_not_tie}
+use Rattle.ynl_laws.proofs.Service.Untied.{do_requests_not_tie, do_guests_not_tie}
 use Rattle.ynl_laws.proofs.order.requests_do_not_tie.Goals as goal
 
 pub returns-clause-requests : goal.returns-clause-requests

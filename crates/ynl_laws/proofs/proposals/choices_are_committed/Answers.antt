@@ -1,4 +1,4 @@
-use Rattle.ynl_laws.proofs.Proposed.{are_choices_committed}
+use Rattle.ynl_laws.proofs.Service.Proposed.{are_choices_committed}
 use Rattle.ynl_laws.proofs.proposals.choices_are_committed.Goals as goal
 
 pub returns : goal.returns

@@ -1,4 +1,4 @@
-use Rattle.ynl_laws.proofs.Proposed.{are_proposals_committed}
+use Rattle.ynl_laws.proofs.Service.Proposed.{are_proposals_committed}
 use Rattle.ynl_laws.proofs.proposals.proposals_are_committed.Goals as goal
 
 pub returns : goal.returns

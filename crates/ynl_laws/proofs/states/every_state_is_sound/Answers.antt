@@ -1,4 +1,4 @@
-use Rattle.ynl_laws.proofs.Sound.{is_always_sound}
+use Rattle.ynl_laws.proofs.Soundness.Sound.{is_always_sound}
 use Rattle.ynl_laws.proofs.states.every_state_is_sound.Goals as goal
 
 pub returns : goal.returns

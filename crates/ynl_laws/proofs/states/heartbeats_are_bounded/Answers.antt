@@ -1,4 +1,4 @@
-use Rattle.ynl_laws.proofs.Replies.{are_heartbeats_bounded}
+use Rattle.ynl_laws.proofs.Events.Replies.{are_heartbeats_bounded}
 use Rattle.ynl_laws.proofs.states.heartbeats_are_bounded.Goals as goal
 
 pub returns : goal.returns

@@ -1,4 +1,4 @@
-use Rattle.ynl_laws.proofs.Examples.{both_are_placed}
+use Rattle.ynl_laws.proofs.Computed.Examples.{both_are_placed}
 use Rattle.ynl_laws.proofs.worked.both_are_placed.Goals as goal
 
 pub returns : goal.returns

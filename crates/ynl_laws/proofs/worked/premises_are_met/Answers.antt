@@ -1,4 +1,4 @@
-use Rattle.ynl_laws.proofs.Examples.{premises_are_met}
+use Rattle.ynl_laws.proofs.Computed.Examples.{premises_are_met}
 use Rattle.ynl_laws.proofs.worked.premises_are_met.Goals as goal
 
 pub returns : goal.returns

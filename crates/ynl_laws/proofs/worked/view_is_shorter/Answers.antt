@@ -1,4 +1,4 @@
-use Rattle.ynl_laws.proofs.Examples.{view_is_shorter}
+use Rattle.ynl_laws.proofs.Computed.Examples.{view_is_shorter}
 use Rattle.ynl_laws.proofs.worked.view_is_shorter.Goals as goal
 
 pub returns : goal.returns

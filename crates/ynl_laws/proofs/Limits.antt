@@ -1,0 +1,4 @@
+-- Maxima and shares.
+pub mod Within
+pub mod Floors
+pub mod Shares

@@ -1,0 +1,11 @@
+-- The order of service, the choice, and proposals of it.
+pub mod OrderTotal
+pub mod Least
+pub mod Untied
+pub mod First
+pub mod Classes
+pub mod Decided
+pub mod Descent
+pub mod Numbers
+pub mod Turns
+pub mod Proposed
