@@ -3,7 +3,7 @@ use Rattle.std.proofs.Common.{◌≡◌, ℕ, zero, suc, ◌+◌, ◌<◌, ◌�
 use Rattle.ynl_resource.specs.Tables.{update}
 use Rattle.ynl_resource.specs.declared.labels.Label.{Label}
 use Rattle.ynl_tables.specs.declared.rows.PartitionRow.{PartitionRow}
-use Rattle.ynl_tables.specs.Tables.{HasRoom}
+use Rattle.ynl_tables.specs.Tables.{HasCapacity}
 use Rattle.std.specs.List.{AllByRecursion}
 use Rattle.std.proofs.Math.ListN.{set, drop_of_length-le}
 use Rattle.std.proofs.lemmas.List.{take_more, take_more_set, take_all, map_push, length-set}
@@ -105,7 +105,7 @@ update_same {X = X} test change same (x ∷ xs) = (λ i. go (test x) i ∷ updat
     go true = same x
     go false = refl
 
--- room for more is room for less
-pub less_room : (label : Label) (n m : ℕ) → n ≤ m → (rows : List PartitionRow) → HasRoom label m rows → HasRoom label n rows
-less_room label n m h [] k = tt
-less_room label n m h (row ∷ rows) k = ((λ same. let room = k.0 same in omega arith), less_room label n m h rows k.1)
+-- capacity for more is capacity for less
+pub less_capacity : (label : Label) (n m : ℕ) → n ≤ m → (rows : List PartitionRow) → HasCapacity label m rows → HasCapacity label n rows
+less_capacity label n m h [] k = tt
+less_capacity label n m h (row ∷ rows) k = ((λ same. let capacity = k.0 same in omega arith), less_capacity label n m h rows k.1)

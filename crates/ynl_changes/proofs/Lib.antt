@@ -2,4 +2,3 @@ pub mod InPlace
 pub mod Serves
 pub mod Own
 pub mod Put
-pub mod Sorted

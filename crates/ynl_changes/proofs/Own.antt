@@ -1,9 +1,7 @@
 -- What an application holds, one container after another.
-use Rattle.std.proofs.Common.{◌≡◌, ℕ, zero, suc, ◌+◌, ◌<◌, Bool, true, false, cond, List, [], ◌∷◌, ◌++◌, length, take, get_or, filter, flat_map, refl, sym, ap, ◌∙◌, append_assoc, append-nil, add-one}
+use Rattle.std.proofs.Common.{◌≡◌, ℕ, zero, suc, ◌+◌, Bool, true, false, cond, List, [], ◌∷◌, ◌++◌, take, filter, flat_map, refl, sym, ap, ◌∙◌, append_assoc, append-nil, add-one}
 use Rattle.std.specs.Prelude.{slice_get, fold}
 use Rattle.std.specs.Option.{option_map_or}
-use Rattle.std.proofs.lemmas.List.{take_more}
-use Rattle.std.proofs.lemmas.List.Elements.{filter-append}
 use Rattle.ynl_resource.specs.declared.labels.Label.{Label}
 use Rattle.ynl_resource.specs.Names.{same_label}
 use Rattle.ynl_model.specs.declared.containers.Placed.{Placed}
@@ -12,10 +10,6 @@ use Rattle.ynl_model.specs.Cluster.{State, Partition, in_partition}
 use Rattle.ynl_model.specs.Changes.{changed_at}
 use Rattle.ynl_laws.specs.Finishing.{clock_rises, clocks_rise}
 use Rattle.ynl_changes.specs.Rows.{containers_at_place}
-
--- one more thing is filtered
-pub filter_more : {X : Type 0} (p : X → Bool) (xs : List X) (i : ℕ) (x : X) → i < length xs → x ≡ get_or xs i x → filter p (take i xs) ++ filter p (x ∷ []) ≡ filter p (take (i + 1) xs)
-filter_more p xs i x inside e = sym (filter-append p (take i xs) (x ∷ [])) ∙ ap (filter p) (ap (λ z. take i xs ++ z ∷ []) e ∙ sym (take_more xs i x inside))
 
 -- one more thing that passes is counted in
 fold_next : {X S : Type 0} (f : S → X → S) (p : X → Bool) (xs : List X) (i : ℕ) (s : S) →

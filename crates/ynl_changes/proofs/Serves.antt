@@ -7,8 +7,8 @@ use Rattle.ynl_model.specs.Cluster.{State, is_spent}
 use Rattle.ynl_model.specs.Service.{Item, choice}
 use Rattle.ynl_model.specs.Changes.{Beat, beat, next_item, place, container_of}
 use Rattle.ynl_laws.specs.Working.{IsWorking, Stands}
-use Rattle.ynl_laws.proofs.Working.{working-place, stands-place}
-use Rattle.ynl_laws.proofs.Bounds.{total-small, on-within, small-within}
+use Rattle.ynl_laws.proofs.Soundness.Working.{working-place, stands-place}
+use Rattle.ynl_laws.proofs.Soundness.Bounds.{total-small, on-within, small-within}
 use Rattle.ynl_tables.specs.Bounds.{IsBounded}
 
 -- sums and totals of a state are small

@@ -1,4 +1,4 @@
--- What a submission makes, and room for it.
+-- What a submission makes, and capacity for it.
 use Rattle.std.specs.Prelude.{◌≡◌, ◌+◌, ◌≤◌, true, vec_len, vec_capacity}
 use Rattle.ynl_resource.specs.Names.{same_path}
 use Rattle.ynl_resource.specs.declared.paths.Path.{Path}
@@ -10,6 +10,6 @@ use Rattle.ynl_changes.specs.declared.submitting.Submission.{Submission}
 abbrev pub application : Submission → Application
 application new = new_app new.leaf new.name new.user new.home new.master
 
--- if the row is that of the leaf, it has a place for one more name and one more application
-abbrev pub HasPlace : Path → LeafRow → Type 0
-HasPlace leaf row = same_path row.path leaf ≡ true → (vec_len row.names + 1 ≤ vec_capacity row.names) × (vec_len row.apps + 1 ≤ vec_capacity row.apps)
+-- if the row is that of the leaf, it has capacity for one more name and one more application
+abbrev pub HasAppCapacity : Path → LeafRow → Type 0
+HasAppCapacity leaf row = same_path row.path leaf ≡ true → (vec_len row.names + 1 ≤ vec_capacity row.names) × (vec_len row.apps + 1 ≤ vec_capacity row.apps)

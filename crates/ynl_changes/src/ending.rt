@@ -1,48 +1,24 @@
 //! Containers that end.
 
-ghost use Rattle.std.specs.Prelude.{◌≡◌, ◌&&◌, find};
-ghost use Rattle.ynl_resource.specs.Names.{same_id, same_name};
+ghost use Rattle.std.specs.Prelude.{◌≡◌};
+ghost use Rattle.ynl_resource.specs.Names.{same_id};
 ghost use Rattle.ynl_resource.specs.Tables.{without};
 ghost use Rattle.ynl_model.specs.Cluster.{in_partition};
 ghost use Rattle.ynl_model.specs.Changes.{end};
-ghost use Rattle.ynl_model.specs.Events.{container_for};
 ghost use Rattle.ynl_tables.specs.Tables.{state_of, partition_of, partitions_of};
 ghost use Rattle.ynl_changes.specs.Rows.{in_row, without_id};
 
-use crate::placing::{next_clock, stamp};
+use crate::placing::stamp;
 use ynl_model::Placed;
 use ynl_queues::Config;
-use ynl_resource::{Id, Label, Name};
-use ynl_tables::{PartitionRow, Tables, containers_at, is_same};
-
-fn is_id(id: &Id, other: &Id) -> bool
-    ensures { result ≡ same_id id.now other.now }
-{
-    is_same(&id.label, &other.label) && id.clock == other.clock
-}
-
-/// The container of an id on a node, of those on the node's partition.
-pub fn container_on(containers: &[Placed], node: &Name, id: &Id) -> Option<Placed>
-    ensures { result ≡ find (λ container. same_id container.id id.now && same_name container.node node.now) containers.now }
-{
-    containers.iter().copied().find(|container| is_id(&container.id, id) && container.node == *node)
-}
-
-/// The container of an id, of a tenant.
-pub fn container_of_tenant(tables: &Tables, tenant: &Name, id: &Id) -> Option<Placed>
-    ensures { result ≡ container_for (state_of tables.now) tenant.now id.now }
-{
-    containers_at(&tables.partitions, &id.label)
-        .iter()
-        .copied()
-        .find(|container| is_id(&container.id, id) && container.tenant == *tenant)
-}
+use ynl_resource::{Id, Label};
+use ynl_tables::{PartitionRow, Tables, is_same, is_same_id, next_clock};
 
 /// The container of an id goes.
 fn drop_id(containers: &mut Vec<Placed>, id: &Id)
     ensures { containers.new.items ≡ without (λ other. same_id other.id id.now) containers.old.items }
 {
-    containers.retain(|other| !is_id(&other.id, id));
+    containers.retain(|other| !is_same_id(&other.id, id));
 }
 
 /// The container of an id goes from a row whose clock is set, if it is that of the partition.

@@ -14,18 +14,11 @@ ghost use Rattle.ynl_laws.specs.Finishing.{clock_rises, clocks_rise, without_own
 ghost use Rattle.ynl_tables.specs.Tables.{state_of, app_of, leaf_of_row, leaves_of, partition_of, partitions_of};
 ghost use Rattle.ynl_changes.specs.Rows.{containers_at_place};
 
-use crate::placing::{next_clock, set_clock, stamp};
+use crate::placing::{set_clock, stamp};
 use ynl_model::Placed;
 use ynl_queues::Config;
 use ynl_resource::{Name, Path};
-use ynl_tables::{App, LeafRow, PartitionRow, Tables, tenant_bytes};
-
-/// Whether a container is an application's; its tenant is given by the bytes of its name.
-pub fn is_own(container: &Placed, tenant: &[u8], app: &Name) -> bool
-    ensures { result ≡ is_of tenant.now app.now container.now }
-{
-    container.tenant.as_bytes() == tenant && container.app == *app
-}
+use ynl_tables::{App, LeafRow, PartitionRow, Tables, is_own, next_clock, tenant_bytes};
 
 /// The clock of a container's partition rises, and is the stamp of its node.
 #[tactic(auto, unfolding(ynl_model::specs::Changes::changed_at))]
@@ -130,7 +123,7 @@ fn finish_in(rows: &mut Vec<LeafRow>, leaf: &Path, name: &Name)
 /// An application finishes: its containers end in the order of their ids, and of it only the name
 /// stays.
 #[tactic(auto, unfolding(ynl_model::specs::Changes::app_finishes))]
-pub fn finish(config: &Config, tables: &mut Tables, leaf: &Path, name: &Name)
+pub fn finish_application(config: &Config, tables: &mut Tables, leaf: &Path, name: &Name)
     requires { IsOrdered config.now (state_of tables.old) }
     ensures { (app : Application) → app.leaf ≡ leaf.now → app.name ≡ name.now → state_of tables.new ≡ app_finishes config.now app (state_of tables.old) }
 {

@@ -9,11 +9,11 @@ ghost use Rattle.ynl_model.specs.Changes.{node_joins, node_leaves};
 ghost use Rattle.ynl_tables.specs.Tables.{state_of, partition_of, partitions_of};
 ghost use Rattle.ynl_changes.specs.Rows.{in_row, emptied};
 
-use crate::placing::{next_clock, set_clock};
+use crate::placing::set_clock;
 use ynl_model::{Node, Placed};
 use ynl_queues::Config;
 use ynl_resource::{Label, Name, Size};
-use ynl_tables::{PartitionRow, Tables, is_same};
+use ynl_tables::{PartitionRow, Tables, is_same, next_clock};
 
 /// Whether the node has this name and stands on this partition.
 fn is_at(node: &Node, name: &Name, label: &Label) -> bool
@@ -22,7 +22,7 @@ fn is_at(node: &Node, name: &Name, label: &Label) -> bool
     node.name == *name && is_same(&node.label, label)
 }
 
-/// A node joins a partition: the clock rises, and is the node's stamp. There is room for its row.
+/// A node joins a partition: the clock rises, and is the node's stamp. There is capacity for its row.
 #[tactic(auto, unfolding(ynl_model::specs::Changes::node_joins, ynl_model::specs::Nodes::joined))]
 pub fn join(config: &Config, tables: &mut Tables, name: &Name, label: &Label, size: &Size)
     requires { vec_len tables.old.nodes + 1 ≤ vec_capacity tables.old.nodes }

@@ -7,7 +7,7 @@ ghost use Rattle.ynl_tables.specs.Tables.{state_of, leaves_of, partitions_of};
 
 use std::alloc::{AllocError, Global};
 use ynl_controls::{Maxima, Stops};
-use ynl_nodes::Labels;
+use ynl_labels::Labels;
 use ynl_queues::Config;
 use ynl_resource::Label;
 use ynl_tables::{LeafRow, PartitionRow, Tables};

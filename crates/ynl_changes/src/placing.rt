@@ -6,28 +6,17 @@ ghost use Rattle.ynl_resource.specs.declared.paths.Path.{Path};
 ghost use Rattle.ynl_resource.specs.Tables.{update, without};
 ghost use Rattle.ynl_model.specs.Nodes.{stamped, is_at};
 ghost use Rattle.ynl_model.specs.Applications.{in_leaf, with_app, is_ask_of, take_one};
-ghost use Rattle.ynl_model.specs.Cluster.{in_partition, next_clock};
+ghost use Rattle.ynl_model.specs.Cluster.{in_partition};
 ghost use Rattle.ynl_model.specs.Changes.{place, container_of, taken};
-ghost use Rattle.ynl_tables.specs.Tables.{state_of, app_of, leaf_of_row, leaves_of, partition_of, partitions_of, HasRoom};
+ghost use Rattle.ynl_tables.specs.Tables.{state_of, app_of, leaf_of_row, leaves_of, partition_of, partitions_of, HasCapacity};
 ghost use Rattle.ynl_changes.specs.Placing.{put_on, taken_from, taken_at};
 
 use std::alloc::AllocError;
 use ynl_choice::Request;
-use ynl_model::{Node, Placed, What};
+use ynl_model::{AskRow, Node, Placed, What};
 use ynl_queues::Config;
 use ynl_resource::{Id, Label, Name, Path};
-use ynl_tables::{App, Ask, LeafRow, PartitionRow, Tables, clock_at, is_ask_of, is_same, risen};
-
-/// What a partition's clock shows after one more change there.
-#[tactic(auto, unfolding(ynl_model::specs::Cluster::next_clock, ynl_model::specs::Cluster::clock))]
-pub fn next_clock(config: &Config, tables: &Tables, label: &Label) -> u64
-    ensures { result ≡ next_clock config.now.labels (state_of tables.now) label.now }
-{
-    risen(
-        config.labels().limit(label),
-        clock_at(&tables.partitions, label),
-    )
-}
+use ynl_tables::{App, LeafRow, PartitionRow, Tables, is_ask_of, is_same, next_clock, push_copy};
 
 fn restamped(node: &Node, name: &Name, label: &Label, stamp: u64) -> Node
     ensures { result ≡ (if is_at name.now label.now node.now then record node.now { stamp = stamp } else node.now) }
@@ -53,31 +42,11 @@ pub fn stamp(nodes: &mut Vec<Node>, name: &Name, label: &Label, stamp: u64)
     }
 }
 
-/// A container comes last.
-pub fn push_copy(containers: &mut Vec<Placed>, container: &Placed)
-    requires { vec_len containers.old + 1 ≤ vec_capacity containers.old }
-    ensures items { containers.new.items ≡ containers.old.items ++ container.now ∷ [] }
-    ensures len { vec_len containers.new ≡ vec_len containers.old + 1 }
-    ensures capacity { vec_capacity containers.new ≡ vec_capacity containers.old }
-{
-    containers.push_reserved(Placed {
-        id: Id {
-            label: container.id.label,
-            clock: container.id.clock,
-        },
-        node: container.node,
-        tenant: container.tenant,
-        app: container.app,
-        what: container.what,
-        size: container.size,
-    });
-}
-
 /// A container comes last on the row of its partition, whose clock is set.
 fn put(row: &mut PartitionRow, label: &Label, clock: u64, container: &Placed)
     requires { same_label row.old.label label.now ≡ true → vec_len row.old.containers + 1 ≤ vec_capacity row.old.containers }
     ensures meaning { partition_of row.new ≡ put_on label.now clock container.now (partition_of row.old) }
-    ensures room { (n : ℕ) → (same_label row.old.label label.now ≡ true → vec_len row.old.containers + (n + 1) ≤ vec_capacity row.old.containers) → (same_label row.new.label label.now ≡ true → vec_len row.new.containers + n ≤ vec_capacity row.new.containers) }
+    ensures capacity { (n : ℕ) → (same_label row.old.label label.now ≡ true → vec_len row.old.containers + (n + 1) ≤ vec_capacity row.old.containers) → (same_label row.new.label label.now ≡ true → vec_len row.new.containers + n ≤ vec_capacity row.new.containers) }
 {
     if is_same(&row.label, label) {
         row.clock = clock;
@@ -87,19 +56,23 @@ fn put(row: &mut PartitionRow, label: &Label, clock: u64, container: &Placed)
 
 /// A container comes last on its partition, whose clock is set.
 fn put_container(rows: &mut Vec<PartitionRow>, label: &Label, clock: u64, container: &Placed)
-    requires { HasRoom label.now 1 rows.old.items }
+    requires { HasCapacity label.now 1 rows.old.items }
     ensures meaning { partitions_of rows.new.items ≡ in_partition label.now (λ row. record row { clock = clock; containers = row.containers ++ container.now ∷ [] }) (partitions_of rows.old.items) }
-    ensures room { (n : ℕ) → HasRoom label.now (n + 1) rows.old.items → HasRoom label.now n rows.new.items }
+    ensures capacity { (n : ℕ) → HasCapacity label.now (n + 1) rows.old.items → HasCapacity label.now n rows.new.items }
 {
     for row in rows.iter_mut() {
         put(row, label, clock, container);
     }
 }
 
-/// Room for so many more containers on a row, if it is that of the partition.
-fn reserve_on(row: &mut PartitionRow, label: &Label, count: usize) -> Result<(), AllocError>
+/// Capacity for so many more containers on a row, if it is that of the partition.
+fn reserve_containers_on(
+    row: &mut PartitionRow,
+    label: &Label,
+    count: usize,
+) -> Result<(), AllocError>
     ensures meaning { partition_of row.new ≡ partition_of row.old }
-    ensures room { OnOk result (same_label row.new.label label.now ≡ true → vec_len row.new.containers + count ≤ vec_capacity row.new.containers) }
+    ensures capacity { OnOk result (same_label row.new.label label.now ≡ true → vec_len row.new.containers + count ≤ vec_capacity row.new.containers) }
 {
     if is_same(&row.label, label) {
         row.containers.reserve(count)?;
@@ -107,22 +80,26 @@ fn reserve_on(row: &mut PartitionRow, label: &Label, count: usize) -> Result<(),
     Ok(())
 }
 
-/// Room for so many more containers on a partition.
-pub fn reserve(rows: &mut Vec<PartitionRow>, label: &Label, count: usize) -> Result<(), AllocError>
+/// Capacity for so many more containers on a partition.
+pub fn reserve_containers(
+    rows: &mut Vec<PartitionRow>,
+    label: &Label,
+    count: usize,
+) -> Result<(), AllocError>
     ensures meaning { partitions_of rows.new.items ≡ partitions_of rows.old.items }
-    ensures room { OnOk result (HasRoom label.now count rows.new.items) }
+    ensures capacity { OnOk result (HasCapacity label.now count rows.new.items) }
 {
     for row in rows.iter_mut() {
-        reserve_on(row, label, count)?;
+        reserve_containers_on(row, label, count)?;
     }
     Ok(())
 }
 
-fn lowered(ask: &Ask, label: &Label, priority: u32) -> Ask
+fn lowered(ask: &AskRow, label: &Label, priority: u32) -> AskRow
     ensures { result ≡ (if is_ask_of label.now priority ask.now then record ask.now { count = ask.now.count - 1 } else ask.now) }
 {
     if is_ask_of(ask, label, priority) {
-        return Ask {
+        return AskRow {
             label: ask.label,
             priority: ask.priority,
             count: ask.count.saturating_sub(1),
@@ -132,7 +109,7 @@ fn lowered(ask: &Ask, label: &Label, priority: u32) -> Ask
     *ask
 }
 
-fn lower(asks: &mut Vec<Ask>, label: &Label, priority: u32)
+fn lower(asks: &mut Vec<AskRow>, label: &Label, priority: u32)
     ensures { asks.new.items ≡ update (is_ask_of label.now priority) (λ ask. record ask { count = ask.count - 1 }) asks.old.items }
 {
     for ask in asks.iter_mut() {
@@ -140,13 +117,13 @@ fn lower(asks: &mut Vec<Ask>, label: &Label, priority: u32)
     }
 }
 
-fn is_kept(ask: &Ask, label: &Label, priority: u32) -> bool
+fn is_kept(ask: &AskRow, label: &Label, priority: u32) -> bool
     ensures { result ≡ not (is_ask_of label.now priority ask.now && (ask.now.count == 0)) }
 {
     !(is_ask_of(ask, label, priority) && ask.count == 0)
 }
 
-fn drop_spent(asks: &mut Vec<Ask>, label: &Label, priority: u32)
+fn drop_spent(asks: &mut Vec<AskRow>, label: &Label, priority: u32)
     ensures { asks.new.items ≡ without (λ ask. is_ask_of label.now priority ask && (ask.count == 0)) asks.old.items }
 {
     asks.retain(|ask| is_kept(ask, label, priority));
@@ -207,10 +184,10 @@ fn take_request(rows: &mut Vec<LeafRow>, request: &Request)
 /// Places a request on a node, and gives the container.
 #[tactic(auto, unfolding(ynl_model::specs::Changes::place, ynl_model::specs::Changes::changed_at, ynl_model::specs::Changes::container_of))]
 pub fn place(config: &Config, tables: &mut Tables, node: &Node, request: &Request) -> Placed
-    requires { HasRoom node.now.label 1 tables.old.partitions.items }
+    requires { HasCapacity node.now.label 1 tables.old.partitions.items }
     ensures container { result ≡ container_of config.now (state_of tables.old) node.now request.now }
     ensures state { state_of tables.new ≡ place config.now node.now request.now (state_of tables.old) }
-    ensures room { (n : ℕ) → HasRoom node.now.label (n + 1) tables.old.partitions.items → HasRoom node.now.label n tables.new.partitions.items }
+    ensures capacity { (n : ℕ) → HasCapacity node.now.label (n + 1) tables.old.partitions.items → HasCapacity node.now.label n tables.new.partitions.items }
 {
     let clock = next_clock(config, tables, &node.label);
     let container = Placed {

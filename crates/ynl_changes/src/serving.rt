@@ -3,13 +3,13 @@
 ghost use Rattle.std.specs.Prelude.{◌≡◌, ◌≤◌, ◌+◌, ◌++◌, vec_len, vec_capacity};
 ghost use Rattle.ynl_model.specs.Changes.{next_item, beat};
 ghost use Rattle.ynl_laws.specs.Working.{IsWorking, Stands};
-ghost use Rattle.ynl_tables.specs.Tables.{state_of, HasRoom};
+ghost use Rattle.ynl_tables.specs.Tables.{state_of, HasCapacity};
 
-use crate::placing::{place, push_copy};
-use ynl_choice::{Request, choose, is_spent};
+use crate::placing::place;
+use ynl_choice::{Request, choose};
 use ynl_model::{Node, Placed};
 use ynl_queues::Config;
-use ynl_tables::Tables;
+use ynl_tables::{Tables, is_spent, push_copy};
 
 /// The request that is placed next on a node: none where the clock is spent.
 fn next_request(config: &Config, tables: &Tables, node: &Node) -> Option<Request>
@@ -32,8 +32,8 @@ pub fn serve(
 )
     requires working { IsWorking config.now (state_of tables.old) }
     requires stands { Stands (state_of tables.old) node.now }
-    requires room { HasRoom node.now.label times tables.old.partitions.items }
-    requires reply_room { vec_len placed.old + times ≤ vec_capacity placed.old }
+    requires capacity { HasCapacity node.now.label times tables.old.partitions.items }
+    requires reply_capacity { vec_len placed.old + times ≤ vec_capacity placed.old }
     ensures state { state_of tables.new ≡ (beat config.now node.now times (state_of tables.old)).state }
     ensures placed { placed.new.items ≡ placed.old.items ++ (beat config.now node.now times (state_of tables.old)).placed }
 {

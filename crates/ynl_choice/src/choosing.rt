@@ -9,7 +9,7 @@ ghost use Rattle.ynl_model.specs.Cluster.{free as free_on};
 ghost use Rattle.ynl_model.specs.Service.{place_in_leaf, first_of, key, eligible, has_room, asks_for, some_eligible, takes_guests, choice};
 ghost use Rattle.ynl_tables.specs.Bounds.{IsBounded};
 ghost use Rattle.ynl_tables.specs.Tables.{state_of, app_of};
-ghost use Rattle.ynl_choice.specs.Choosing.{state_in, key_in, item_of, passes, overtakes, IsScene, IsDesk, IsKeyed, Considers, masters_of as masters_in, wanted, asks_in, all_masters, all_asks};
+ghost use Rattle.ynl_choice.specs.Choosing.{state_in, key_in, item_of, passes, overtakes, IsScene, IsDesk, IsKeyed, HoldsBest, masters_of as masters_in, wanted, asks_in, all_masters, all_asks};
 ghost use Rattle.ynl_choice.specs.declared.scenes.Scene.{Scene};
 
 use crate::eligible::is_eligible;
@@ -19,10 +19,10 @@ use crate::ranking::standings_on;
 use crate::requests::{Request, master_of, request_of};
 use crate::scenes::{Desk, Scene};
 use crate::standings::Candidate;
-use ynl_model::Node;
+use ynl_model::{AskRow, Node};
 use ynl_queues::Config;
 use ynl_resource::{Label, Name, Path, Resource};
-use ynl_tables::{App, Ask, LeafRow, Tables, apps_at, free, is_same, runs, total_of};
+use ynl_tables::{App, LeafRow, Tables, apps_at, free, is_same, runs, total_of};
 
 /// What is worked out of a leaf for all its requests.
 fn desk_of(scene: &Scene<'_>, row: &LeafRow) -> Desk
@@ -90,7 +90,7 @@ fn with_request(
     requires scene { IsScene scene.now }
     requires desk { IsDesk scene.now request.now.leaf desk.now }
     requires place { place ≡ place_in_leaf (state_in scene.now) request.now.leaf request.now.app }
-    ensures { Considers scene.now held (request.now ∷ []) result }
+    ensures { HoldsBest scene.now held (request.now ∷ []) result }
 {
     let next = Candidate {
         request: *request,
@@ -103,7 +103,7 @@ fn with_request(
     held
 }
 
-fn place_among(apps: &[App], name: &Name) -> u64
+fn index_among(apps: &[App], name: &Name) -> u64
     ensures { result ≡ position_or_len (λ app. same_name app.name name.now) apps.now }
 {
     for i in 0..apps.len() {
@@ -115,10 +115,10 @@ fn place_among(apps: &[App], name: &Name) -> u64
 }
 
 /// An application's place among the live ones of its leaf.
-fn place_of(tables: &Tables, leaf: &Path, name: &Name) -> u64
+fn index_of(tables: &Tables, leaf: &Path, name: &Name) -> u64
     ensures { result ≡ place_in_leaf (state_of tables.now) leaf.now name.now }
 {
-    place_among(apps_at(&tables.leaves, leaf), name)
+    index_among(apps_at(&tables.leaves, leaf), name)
 }
 
 /// An application's master, if it is wanted on the partition.
@@ -131,19 +131,19 @@ fn with_master(
 ) -> Option<Candidate>
     requires scene { IsScene scene.now }
     requires desk { IsDesk scene.now row.now.path desk.now }
-    ensures { Considers scene.now held (masters_in scene.now row.now.path (app.now ∷ [])) result }
+    ensures { HoldsBest scene.now held (masters_in scene.now row.now.path (app.now ∷ [])) result }
 {
     if !is_same(&app.home, &scene.label) || runs(scene.tables, &row.path, app) {
         return held;
     }
-    let place = place_of(scene.tables, &row.path, &app.name);
+    let place = index_of(scene.tables, &row.path, &app.name);
     with_request(scene, desk, &master_of(row, app), place, held)
 }
 
 /// The masters wanted on the partition by the applications of a leaf.
 fn with_masters(scene: &Scene<'_>, row: &LeafRow, held: Option<Candidate>) -> Option<Candidate>
     requires { IsScene scene.now }
-    ensures { Considers scene.now held (masters_in scene.now row.now.path row.now.apps.items) result }
+    ensures { HoldsBest scene.now held (masters_in scene.now row.now.path row.now.apps.items) result }
 {
     if row.apps.is_empty() {
         return held;
@@ -162,17 +162,17 @@ fn with_ask(
     desk: &Desk,
     row: &LeafRow,
     app: &App,
-    ask: &Ask,
+    ask: &AskRow,
     held: Option<Candidate>,
 ) -> Option<Candidate>
     requires scene { IsScene scene.now }
     requires desk { IsDesk scene.now row.now.path desk.now }
-    ensures { Considers scene.now held (wanted scene.now (app_of row.now.path app.now) (ask.now ∷ [])) result }
+    ensures { HoldsBest scene.now held (wanted scene.now (app_of row.now.path app.now) (ask.now ∷ [])) result }
 {
     if !is_same(&ask.label, &scene.label) || ask.count == 0 {
         return held;
     }
-    let place = place_of(scene.tables, &row.path, &app.name);
+    let place = index_of(scene.tables, &row.path, &app.name);
     with_request(scene, desk, &request_of(row, app, ask), place, held)
 }
 
@@ -186,7 +186,7 @@ fn with_asks_of(
 ) -> Option<Candidate>
     requires scene { IsScene scene.now }
     requires desk { IsDesk scene.now row.now.path desk.now }
-    ensures { Considers scene.now held (asks_in scene.now row.now.path (app.now ∷ [])) result }
+    ensures { HoldsBest scene.now held (asks_in scene.now row.now.path (app.now ∷ [])) result }
 {
     if app.asks.is_empty() || !runs(scene.tables, &row.path, app) {
         return held;
@@ -201,7 +201,7 @@ fn with_asks_of(
 /// What the running applications of a leaf ask for on the partition.
 fn with_asks(scene: &Scene<'_>, row: &LeafRow, held: Option<Candidate>) -> Option<Candidate>
     requires { IsScene scene.now }
-    ensures { Considers scene.now held (asks_in scene.now row.now.path row.now.apps.items) result }
+    ensures { HoldsBest scene.now held (asks_in scene.now row.now.path row.now.apps.items) result }
 {
     if row.apps.is_empty() {
         return held;
@@ -217,7 +217,7 @@ fn with_asks(scene: &Scene<'_>, row: &LeafRow, held: Option<Candidate>) -> Optio
 /// The masters wanted on the partition.
 fn first_master(scene: &Scene<'_>) -> Option<Candidate>
     requires { IsScene scene.now }
-    ensures { Considers scene.now None (all_masters scene.now scene.now.tables.now.leaves.items) result }
+    ensures { HoldsBest scene.now None (all_masters scene.now scene.now.tables.now.leaves.items) result }
 {
     let mut first = None;
     for row in &scene.tables.leaves {
@@ -229,7 +229,7 @@ fn first_master(scene: &Scene<'_>) -> Option<Candidate>
 /// What the running applications ask for on the partition.
 fn with_all_asks(scene: &Scene<'_>, held: Option<Candidate>) -> Option<Candidate>
     requires { IsScene scene.now }
-    ensures { Considers scene.now held (all_asks scene.now scene.now.tables.now.leaves.items) result }
+    ensures { HoldsBest scene.now held (all_asks scene.now scene.now.tables.now.leaves.items) result }
 {
     let mut first = held;
     for row in &scene.tables.leaves {

@@ -2,7 +2,7 @@
 //! master share, and which of them is first in the order of service.
 #![tactic(auto)]
 
-pub use checking::{Checked, check, is_spent};
+pub use checking::{Checked, check};
 pub use choosing::choose;
 pub use limits::{master_limit_of, user_limit_of};
 pub use proposing::propose;

@@ -12,7 +12,7 @@ use Rattle.ynl_model.specs.Queues.{Config}
 use Rattle.ynl_model.specs.Events.{replies_to, state_after}
 use Rattle.ynl_model.specs.View.{view, events_of, places_of, at_places, restrict, seen}
 use Rattle.ynl_model.specs.Promises.{Headline}
-use Rattle.ynl_laws.proofs.Isolated.{is_isolated}
+use Rattle.ynl_laws.proofs.Isolating.Isolated.{is_isolated}
 use Rattle.ynl_core.specs.declared.runs.Answer.{Answer}
 use Rattle.ynl_core.specs.declared.runs.Answer.TheVariants.{Replied, NoMemory}
 use Rattle.ynl_core.specs.World.{World}

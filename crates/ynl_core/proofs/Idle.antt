@@ -1,5 +1,5 @@
 -- Nodes that rest, and a heartbeat that places nothing.
-use Rattle.std.proofs.Common.{rules, ◌≡◌, ℕ, zero, suc, ◌<◌, Bool, true, false, ◌||◌, List, [], ◌∷◌, ◌++◌, length, Option, None, Some, refl, sym, ap, subst, ◌∙◌, arith}
+use Rattle.std.proofs.Common.{◌≡◌, ℕ, zero, suc, ◌<◌, Bool, true, false, ◌||◌, List, [], ◌∷◌, ◌++◌, length, Option, None, Some, refl, sym, ap, subst, ◌∙◌, arith}
 use Rattle.std.specs.List.{list_any}
 use Rattle.ynl_resource.specs.declared.names.Name.{Name}
 use Rattle.ynl_resource.specs.Names.{same_name}
@@ -8,14 +8,16 @@ use Rattle.ynl_model.specs.declared.containers.Placed.{Placed}
 use Rattle.ynl_model.specs.Queues.{Config}
 use Rattle.ynl_model.specs.declared.events.Event.TheVariants.{Heartbeat}
 use Rattle.ynl_model.specs.Nodes.{find_node}
-use Rattle.ynl_model.specs.Cluster.{State, is_spent}
+use Rattle.ynl_model.specs.Cluster.{State}
 use Rattle.ynl_model.specs.Service.{Item}
 use Rattle.ynl_model.specs.Changes.{Beat, beat, next_item, place, container_of}
 use Rattle.ynl_model.specs.Events.{served, step, reasons, accepted}
-use Rattle.ynl_laws.proofs.Lists.{some-same}
-use Rattle.ynl_laws.proofs.Restricted.{same-name_sym}
+use Rattle.ynl_resource.specs.Refusals.{first_that_holds}
 use Rattle.ynl_core.specs.Resting.{Rests, AreResting}
+use Rattle.ynl_core.proofs.Stepping.{taken_in}
 use Rattle.ynl_changes.proofs.Serves.{beat_next, beat_none}
+use Rattle.ynl_laws.proofs.Logic.{some-same}
+use Rattle.ynl_laws.proofs.Names.{same-name_sym}
 
 -- a node that is listed rests
 pub listed_rests : (c : Config) (s : State) (names : List Name) (name : Name) → list_any (same_name name) names ≡ true → AreResting c s names → Rests c s name
@@ -55,9 +57,7 @@ unplaced_rests c s name node times found inside e other h =
     subst (λ n. next_item c s n ≡ None) (some-same node other (find_node s.nodes name) found h) (unplaced_none c node times s inside e)
 
 -- the heartbeat of a node that rests
-pub resting_step : (c : Config) (s : State) (name : Name) (node : Node) → find_node s.nodes name ≡ Some node → is_spent c.labels s node.label ≡ false → next_item c s node ≡ None
+pub resting_step : (c : Config) (s : State) (name : Name) (node : Node) → first_that_holds (reasons c s (Heartbeat name)) ≡ None → find_node s.nodes name ≡ Some node → next_item c s node ≡ None
     → step c s (Heartbeat name) ≡ served (record { placed = []; state = s })
-unfolding step reasons accepted
-resting_step c s name node found fresh none =
-    let idle : beat c node c.per_heartbeat s ≡ record { placed = []; state = s } = beat_none c node c.per_heartbeat s none in
-    search rules
+unfolding accepted
+resting_step c s name node free found none = taken_in c s (Heartbeat name) free ∙ rw found (ap served (beat_none c node c.containers_per_heartbeat s none))

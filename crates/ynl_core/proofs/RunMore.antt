@@ -35,11 +35,12 @@ replied_same [] = refl
 replied_same (Replied q ∷ rest) = ap (λ zs. q ∷ zs) (replied_same rest)
 replied_same (NoMemory ∷ rest) = replied_same rest
 
-replies_push : (c : Config) (s : State) (es : List Event) (e : Event) → replies c s (es ++ e ∷ []) ≡ replies c s es ++ (step c (after c s es) e).reply ∷ []
+-- one event more: its reply comes last, and its state is the one that is left
+pub replies_push : (c : Config) (s : State) (es : List Event) (e : Event) → replies c s (es ++ e ∷ []) ≡ replies c s es ++ (step c (after c s es) e).reply ∷ []
 replies_push c s [] e = refl
 replies_push c s (x ∷ es) e = ap (λ zs. (step c s x).reply ∷ zs) (replies_push c (step c s x).state es e)
 
-state_push : (c : Config) (s : State) (es : List Event) (e : Event) → after c s (es ++ e ∷ []) ≡ (step c (after c s es) e).state
+pub state_push : (c : Config) (s : State) (es : List Event) (e : Event) → after c s (es ++ e ∷ []) ≡ (step c (after c s es) e).state
 state_push c s [] e = refl
 state_push c s (x ∷ es) e = state_push c (step c s x).state es e
 

@@ -12,19 +12,25 @@ ghost use Rattle.ynl_core.specs.Sure.{is_refused, takes_no_memory};
 ghost use Rattle.ynl_core.specs.World.{opened, Answers};
 
 use crate::memory::NoMemory;
+use crate::refusals::{
+    refuse_ask, refuse_commit, refuse_exited, refuse_finish, refuse_heartbeat, refuse_lost,
+    refuse_maximum, refuse_poll, refuse_propose, refuse_register, refuse_relabel, refuse_release,
+    refuse_start, refuse_stop, refuse_submit, refuse_usage,
+};
 use crate::resting::{rest, rests};
 use std::alloc::Global;
 use std::marker::Model;
 use ynl_changes::{
-    Submission, ask_for, asked_leaf, container_of_tenant, container_on, end, finish, home_of, join,
-    leave, maximum_refusal, opening_tables, own_containers, pending_on, place, push_copy,
-    refusal_of, reserve, reserve_ask, reserve_place, serve, stop_refusal, submit, usage_of,
+    Submission, ask_for, end, finish_application, join, leave, opening_tables, place,
+    reserve_application, reserve_ask, reserve_containers, serve, submit,
 };
-use ynl_choice::{check, is_spent, master_limit_of, propose, user_limit_of};
-use ynl_model::{Event, PendingList, Placed, PlacedList, Proposal, Reply};
+use ynl_choice::{master_limit_of, propose, user_limit_of};
+use ynl_model::{AskRow, Event, Items, Placed, Proposal, Reply};
 use ynl_queues::Config;
 use ynl_resource::{Hundredths, Id, Label, Name, Path, Refusal, Resource, Size};
-use ynl_tables::{Ask, Tables, containers_at, is_full, is_master, is_same, live_at, node_at};
+use ynl_tables::{
+    Tables, containers_at, find_node, own_containers, pending_on, push_copy, usage_of,
+};
 
 /// A cluster: what it is configured with, and its state. The names of nodes that rest are listed
 /// beside it, so that their heartbeats take no search; a change of the cluster strikes them all.
@@ -48,20 +54,14 @@ impl Model for Core {
 }
 
 impl Core {
-    #[tactic(auto, unfolding(ynl_model::specs::Events::step, ynl_model::specs::Events::reasons, ynl_model::specs::Events::accepted))]
+    #[tactic(auto, unfolding(ynl_model::specs::Events::step, ynl_model::specs::Events::accepted))]
     fn register(&mut self, name: Name, label: Label, size: Size) -> Result<Reply, NoMemory>
         ensures ok { IfOk result (λ reply. Answers self.old (Register name label size) self.new reply) }
         ensures err { OnErr result (self.new ≡ self.old) }
         ensures sure { IsTrue (is_refused self.old (Register name label size)) → IsOk result }
     {
-        if !self.config.labels().has(&label) {
-            return Ok(Reply::Refused(Refusal::NoSuchLabel));
-        }
-        if node_at(&self.tables.nodes, &name).is_some() {
-            return Ok(Reply::Refused(Refusal::NodeExists));
-        }
-        if is_full(&self.tables.nodes, &label) {
-            return Ok(Reply::Refused(Refusal::PartitionFull));
+        if let Some(refusal) = refuse_register(&self.config, &self.tables, &name, &label) {
+            return Ok(Reply::Refused(refusal));
         }
         let _sized = size.amount();
         self.tables.nodes.reserve(1)?;
@@ -70,36 +70,29 @@ impl Core {
         Ok(Reply::Done)
     }
 
-    #[tactic(auto, unfolding(ynl_model::specs::Events::step, ynl_model::specs::Events::reasons, ynl_model::specs::Events::accepted))]
+    #[tactic(auto, unfolding(ynl_model::specs::Events::step, ynl_model::specs::Events::accepted))]
     fn lost(&mut self, name: Name) -> Reply
         ensures { Answers self.old (Lost name) self.new result }
     {
-        let Some(node) = node_at(&self.tables.nodes, &name) else {
-            return Reply::Refused(Refusal::NoSuchNode);
+        let node = match refuse_lost(&self.tables, &name) {
+            Ok(node) => node,
+            Err(refusal) => return Reply::Refused(refusal),
         };
         leave(&mut self.tables, &node);
         self.resting.clear();
         Reply::Done
     }
 
-    #[tactic(auto, unfolding(ynl_model::specs::Events::step, ynl_model::specs::Events::reasons, ynl_model::specs::Events::accepted))]
+    #[tactic(auto, unfolding(ynl_model::specs::Events::step, ynl_model::specs::Events::accepted))]
     fn relabel(&mut self, name: Name, label: Label) -> Result<Reply, NoMemory>
         ensures ok { IfOk result (λ reply. Answers self.old (Relabel name label) self.new reply) }
         ensures err { OnErr result (self.new ≡ self.old) }
         ensures sure { IsTrue (is_refused self.old (Relabel name label)) → IsOk result }
     {
-        if !self.config.labels().has(&label) {
-            return Ok(Reply::Refused(Refusal::NoSuchLabel));
-        }
-        let Some(node) = node_at(&self.tables.nodes, &name) else {
-            return Ok(Reply::Refused(Refusal::NoSuchNode));
+        let node = match refuse_relabel(&self.config, &self.tables, &name, &label) {
+            Ok(node) => node,
+            Err(refusal) => return Ok(Reply::Refused(refusal)),
         };
-        if is_same(&node.label, &label) {
-            return Ok(Reply::Refused(Refusal::SameLabel));
-        }
-        if is_full(&self.tables.nodes, &label) {
-            return Ok(Reply::Refused(Refusal::PartitionFull));
-        }
         self.tables.nodes.reserve(1)?;
         leave(&mut self.tables, &node);
         join(&self.config, &mut self.tables, &name, &label, &node.size);
@@ -107,16 +100,13 @@ impl Core {
         Ok(Reply::Done)
     }
 
-    #[tactic(auto, unfolding(ynl_model::specs::Events::step, ynl_model::specs::Events::reasons, ynl_model::specs::Events::accepted))]
+    #[tactic(auto, unfolding(ynl_model::specs::Events::step, ynl_model::specs::Events::accepted))]
     fn exited(&mut self, name: Name, id: Id) -> Reply
         ensures { Answers self.old (Exited name id) self.new result }
     {
-        let Some(node) = node_at(&self.tables.nodes, &name) else {
-            return Reply::Refused(Refusal::NoSuchNode);
-        };
-        let containers = containers_at(&self.tables.partitions, &node.label);
-        let Some(container) = container_on(containers, &name, &id) else {
-            return Reply::Refused(Refusal::NoSuchContainer);
+        let container = match refuse_exited(&self.tables, &name, &id) {
+            Ok(container) => container,
+            Err(refusal) => return Reply::Refused(refusal),
         };
         end(&self.config, &mut self.tables, &container);
         self.resting.clear();
@@ -124,12 +114,12 @@ impl Core {
     }
 
     #[tactic(auto, unfolding(ynl_model::specs::Events::step, ynl_model::specs::Events::accepted))]
-    fn ask(&mut self, tenant: Name, name: Name, ask: Ask) -> Result<Reply, NoMemory>
+    fn ask(&mut self, tenant: Name, name: Name, ask: AskRow) -> Result<Reply, NoMemory>
         ensures ok { IfOk result (λ reply. Answers self.old (event.Ask tenant name ask.label ask.priority ask.count ask.size) self.new reply) }
         ensures err { OnErr result (self.new ≡ self.old) }
         ensures sure { IsTrue (takes_no_memory self.old (event.Ask tenant name ask.label ask.priority ask.count ask.size)) → IsOk result }
     {
-        let leaf = match asked_leaf(&self.config, &self.tables, &tenant, &name, &ask) {
+        let leaf = match refuse_ask(&self.config, &self.tables, &tenant, &name, &ask) {
             Ok(leaf) => leaf,
             Err(refusal) => return Ok(Reply::Refused(refusal)),
         };
@@ -140,22 +130,20 @@ impl Core {
         Ok(Reply::Done)
     }
 
-    #[tactic(auto, unfolding(ynl_model::specs::Events::step, ynl_model::specs::Events::reasons, ynl_model::specs::Events::accepted))]
+    #[tactic(auto, unfolding(ynl_model::specs::Events::step, ynl_model::specs::Events::accepted))]
     fn release(&mut self, tenant: Name, id: Id) -> Reply
         ensures { Answers self.old (Release tenant id) self.new result }
     {
-        let Some(container) = container_of_tenant(&self.tables, &tenant, &id) else {
-            return Reply::Refused(Refusal::NoSuchContainer);
+        let container = match refuse_release(&self.tables, &tenant, &id) {
+            Ok(container) => container,
+            Err(refusal) => return Reply::Refused(refusal),
         };
-        if is_master(&container) {
-            return Reply::Refused(Refusal::IsMaster);
-        }
         end(&self.config, &mut self.tables, &container);
         self.resting.clear();
         Reply::Done
     }
 
-    #[tactic(auto, unfolding(ynl_model::specs::Events::step, ynl_model::specs::Events::reasons, ynl_model::specs::Events::accepted))]
+    #[tactic(auto, unfolding(ynl_model::specs::Events::step, ynl_model::specs::Events::accepted))]
     fn submit(
         &mut self,
         queue: Path,
@@ -168,19 +156,12 @@ impl Core {
         ensures err { OnErr result (self.new ≡ self.old) }
         ensures sure { IsTrue (is_refused self.old (Submit queue app user label master)) → IsOk result }
     {
-        let home = home_of(&self.config, &queue, label);
-        if let Some(refusal) = refusal_of(
-            &self.config,
-            &self.tables,
-            &queue,
-            &app,
-            &home,
-            &master,
-        ) {
-            return Ok(Reply::Refused(refusal));
-        }
+        let home = match refuse_submit(&self.config, &self.tables, &queue, &app, label, &master) {
+            Ok(home) => home,
+            Err(refusal) => return Ok(Reply::Refused(refusal)),
+        };
         let _sized = master.amount();
-        reserve_place(&mut self.tables.leaves, &queue)?;
+        reserve_application(&mut self.tables.leaves, &queue)?;
         let new = Submission {
             leaf: queue,
             name: app,
@@ -194,44 +175,43 @@ impl Core {
         Ok(Reply::Done)
     }
 
-    #[tactic(auto, unfolding(ynl_model::specs::Events::step, ynl_model::specs::Events::reasons, ynl_model::specs::Events::accepted))]
+    #[tactic(auto, unfolding(ynl_model::specs::Events::step, ynl_model::specs::Events::accepted))]
     fn heartbeat(&mut self, name: Name) -> Result<Reply, NoMemory>
         ensures ok { IfOk result (λ reply. Answers self.old (Heartbeat name) self.new reply) }
         ensures err { OnErr result (self.new ≡ self.old) }
         ensures sure { IsTrue (is_refused self.old (Heartbeat name)) → IsOk result }
     {
-        let Some(node) = node_at(&self.tables.nodes, &name) else {
-            return Ok(Reply::Refused(Refusal::NoSuchNode));
+        let node = match refuse_heartbeat(&self.config, &self.tables, &name) {
+            Ok(node) => node,
+            Err(refusal) => return Ok(Reply::Refused(refusal)),
         };
-        if is_spent(&self.config, &self.tables, &node.label) {
-            return Ok(Reply::Refused(Refusal::ClockSpent));
-        }
         let alloc = *self.tables.nodes.allocator();
         if rests(&self.resting, &name) {
-            return Ok(Reply::Placed(PlacedList::new(Vec::new(alloc))));
+            return Ok(Reply::Placed(Items::new(Vec::new(alloc))));
         }
-        let count = self.config.per_heartbeat() as usize;
+        let count = self.config.containers_per_heartbeat() as usize;
         let mut placed = Vec::with_capacity(alloc, count)?;
-        reserve(&mut self.tables.partitions, &node.label, count)?;
+        reserve_containers(&mut self.tables.partitions, &node.label, count)?;
         serve(&self.config, &mut self.tables, &node, count, &mut placed);
         if placed.is_empty() && count > 0 {
             rest(&mut self.resting, &name);
         } else {
             self.resting.clear();
         }
-        Ok(Reply::Placed(PlacedList::new(placed)))
+        Ok(Reply::Placed(Items::new(placed)))
     }
 
-    #[tactic(auto, unfolding(ynl_model::specs::Events::step, ynl_model::specs::Events::reasons, ynl_model::specs::Events::accepted))]
+    #[tactic(auto, unfolding(ynl_model::specs::Events::step, ynl_model::specs::Events::accepted))]
     fn finish(&mut self, tenant: Name, name: Name) -> Reply
         ensures { Answers self.old (Finish tenant name) self.new result }
     {
-        let Some(live) = live_at(&self.tables.leaves, tenant.as_bytes(), &name) else {
-            return Reply::Refused(Refusal::NoSuchApplication);
+        let live = match refuse_finish(&self.tables, &tenant, &name) {
+            Ok(live) => live,
+            Err(refusal) => return Reply::Refused(refusal),
         };
         let leaf = *live.leaf;
         let app = live.app.name;
-        finish(&self.config, &mut self.tables, &leaf, &app);
+        finish_application(&self.config, &mut self.tables, &leaf, &app);
         self.resting.clear();
         Reply::Done
     }
@@ -240,7 +220,7 @@ impl Core {
     fn stop(&mut self, queue: Path) -> Reply
         ensures { Answers self.old (Stop queue) self.new result }
     {
-        if let Some(refusal) = stop_refusal(&self.config, &queue) {
+        if let Some(refusal) = refuse_stop(&self.config, &queue) {
             return Reply::Refused(refusal);
         }
         self.tables.stops.stop(queue.names());
@@ -252,7 +232,7 @@ impl Core {
     fn start(&mut self, queue: Path) -> Reply
         ensures { Answers self.old (Start queue) self.new result }
     {
-        if let Some(refusal) = stop_refusal(&self.config, &queue) {
+        if let Some(refusal) = refuse_start(&self.config, &queue) {
             return Reply::Refused(refusal);
         }
         self.tables.stops.start(queue.names());
@@ -264,7 +244,7 @@ impl Core {
     fn maximum(&mut self, queue: Path, label: Label, share: Hundredths) -> Reply
         ensures { Answers self.old (Maximum queue label share) self.new result }
     {
-        if let Some(refusal) = maximum_refusal(&self.config, &queue, &label, share) {
+        if let Some(refusal) = refuse_maximum(&self.config, &queue, &label, share) {
             return Reply::Refused(refusal);
         }
         self.tables.maxima.set(queue.names(), &label, share);
@@ -272,65 +252,58 @@ impl Core {
         Reply::Done
     }
 
-    #[tactic(auto, unfolding(ynl_model::specs::Events::step, ynl_model::specs::Events::reasons, ynl_model::specs::Events::accepted, ynl_model::specs::Events::held))]
+    #[tactic(auto, unfolding(ynl_model::specs::Events::step, ynl_model::specs::Events::accepted, ynl_model::specs::Events::held))]
     fn poll(&self, tenant: Name, name: Name, label: Label) -> Result<Reply, NoMemory>
         ensures ok { IfOk result (λ reply. Answers self.now (Poll tenant name label) self.now reply) }
         ensures sure { IsTrue (is_refused self.now (Poll tenant name label)) → IsOk result }
     {
-        let Some(live) = live_at(&self.tables.leaves, tenant.as_bytes(), &name) else {
-            return Ok(Reply::Refused(Refusal::NoSuchApplication));
+        let live = match refuse_poll(&self.config, &self.tables, &tenant, &name, &label) {
+            Ok(live) => live,
+            Err(refusal) => return Ok(Reply::Refused(refusal)),
         };
-        if !self.config.labels().has(&label) {
-            return Ok(Reply::Refused(Refusal::NoSuchLabel));
-        }
         let alloc = *self.tables.nodes.allocator();
         let containers = own_containers(alloc, &self.tables, &tenant, &name, &label)?;
         let asks = pending_on(alloc, live.app, &label)?;
         Ok(Reply::Held {
-            containers: PlacedList::new(containers),
-            asks: PendingList::new(asks),
+            containers: Items::new(containers),
+            asks: Items::new(asks),
         })
     }
 
-    #[tactic(auto, unfolding(ynl_model::specs::Events::step, ynl_model::specs::Events::reasons, ynl_model::specs::Events::accepted))]
+    #[tactic(auto, unfolding(ynl_model::specs::Events::step, ynl_model::specs::Events::accepted))]
     fn usage(&self, queue: Path, label: Label) -> Reply
         ensures { Answers self.now (Usage queue label) self.now result }
     {
-        if !self.config.is_queue(queue.names()) {
-            return Reply::Refused(Refusal::NoSuchQueue);
-        }
-        if !self.config.labels().has(&label) {
-            return Reply::Refused(Refusal::NoSuchLabel);
+        if let Some(refusal) = refuse_usage(&self.config, &queue, &label) {
+            return Reply::Refused(refusal);
         }
         usage_of(&self.config, &self.tables, &queue, &label)
     }
 
-    #[tactic(auto, unfolding(ynl_model::specs::Events::step, ynl_model::specs::Events::reasons, ynl_model::specs::Events::accepted))]
+    #[tactic(auto, unfolding(ynl_model::specs::Events::step, ynl_model::specs::Events::accepted))]
     fn propose(&self, name: Name) -> Reply
         ensures { Answers self.now (Propose name) self.now result }
     {
-        let Some(node) = node_at(&self.tables.nodes, &name) else {
-            return Reply::Refused(Refusal::NoSuchNode);
+        let node = match refuse_propose(&self.config, &self.tables, &name) {
+            Ok(node) => node,
+            Err(refusal) => return Reply::Refused(refusal),
         };
-        if is_spent(&self.config, &self.tables, &node.label) {
-            return Reply::Refused(Refusal::ClockSpent);
-        }
         Reply::Proposed(propose(&self.config, &self.tables, &node))
     }
 
-    #[tactic(auto, unfolding(ynl_model::specs::Events::step, ynl_model::specs::Events::reasons, ynl_model::specs::Events::accepted))]
+    #[tactic(auto, unfolding(ynl_model::specs::Events::step, ynl_model::specs::Events::accepted))]
     fn commit(&mut self, proposal: Proposal) -> Result<Reply, NoMemory>
         ensures ok { IfOk result (λ reply. Answers self.old (Commit proposal) self.new reply) }
         ensures err { OnErr result (self.new ≡ self.old) }
         ensures sure { IsTrue (is_refused self.old (Commit proposal)) → IsOk result }
     {
-        let checked = match check(&self.config, &self.tables, &proposal) {
+        let checked = match refuse_commit(&self.config, &self.tables, &proposal) {
             Ok(checked) => checked,
             Err(refusal) => return Ok(Reply::Refused(refusal)),
         };
         let _sized = proposal.size.amount();
         let node = checked.node;
-        reserve(&mut self.tables.partitions, &node.label, 1)?;
+        reserve_containers(&mut self.tables.partitions, &node.label, 1)?;
         let container = place(&self.config, &mut self.tables, &node, &checked.request);
         self.resting.clear();
         Ok(Reply::Committed(container))
@@ -382,7 +355,7 @@ impl Core {
             } => self.ask(
                 tenant,
                 app,
-                Ask {
+                AskRow {
                     label,
                     priority,
                     count,
@@ -422,18 +395,19 @@ impl Core {
     pub fn choose(&self, node: &Name) -> Option<Proposal>
         ensures { result ≡ option_and_then (proposed self.now.config self.now.state) (node_of self.now.state node.now) }
     {
-        match node_at(&self.tables.nodes, node) {
+        match find_node(&self.tables.nodes, node) {
             Some(node) => propose(&self.config, &self.tables, &node),
             None => None,
         }
     }
 
     /// The first reason for which a proposal would not be committed.
+    #[tactic(auto, unfolding(ynl_model::specs::Events::reasons))]
     pub fn check(&self, proposal: &Proposal) -> Result<(), Refusal>
         ensures refused { IfErr result (λ refusal. first_that_holds (commit_reasons self.now.config self.now.state proposal.now) ≡ Some refusal) }
         ensures free { IfOk result (λ _. first_that_holds (commit_reasons self.now.config self.now.state proposal.now) ≡ None) }
     {
-        match check(&self.config, &self.tables, proposal) {
+        match refuse_commit(&self.config, &self.tables, proposal) {
             Ok(_) => Ok(()),
             Err(refusal) => Err(refusal),
         }

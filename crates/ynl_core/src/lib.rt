@@ -4,10 +4,11 @@
 pub use cluster::Core;
 pub use memory::NoMemory;
 pub use running::run;
-pub use runs::{Answer, AnswerList, Run};
+pub use runs::{Answer, Run};
 
 mod cluster;
 mod memory;
+mod refusals;
 mod resting;
 mod running;
 mod runs;

@@ -8,9 +8,9 @@ ghost use Rattle.ynl_core.specs.World.{opened};
 
 use crate::cluster::Core;
 use crate::memory::NoMemory;
-use crate::runs::{Answer, AnswerList, Run};
+use crate::runs::{Answer, Run};
 use std::alloc::Global;
-use ynl_model::Event;
+use ynl_model::{Event, Items};
 use ynl_queues::Config;
 
 fn answer_one(core: &mut Core, event: Event) -> Answer
@@ -27,7 +27,7 @@ fn answer_one(core: &mut Core, event: Event) -> Answer
 /// nothing, and the run goes on; an event that takes no memory, as the cluster is when its turn
 /// comes, is answered whatever memory there is. Where no event was refused memory, each tenant that
 /// alone may use an exclusive partition of an accepted configuration is answered there as its own
-/// cluster would answer. Room for the cluster and for the answers is taken first, and where that is
+/// cluster would answer. Memory for the cluster and for the answers is taken first, and where that is
 /// refused there is no run.
 pub fn run(alloc: Global, config: Config, events: &[Event]) -> Result<Run, NoMemory>
     ensures run { IfOk result (λ run. IsRun config events.now run.answers run.core) }
@@ -40,7 +40,7 @@ pub fn run(alloc: Global, config: Config, events: &[Event]) -> Result<Run, NoMem
         answers.push_reserved(answer_one(&mut core, *event));
     }
     Ok(Run {
-        answers: AnswerList::new(answers),
+        answers: Items::new(answers),
         core,
     })
 }

@@ -8,21 +8,24 @@ use Rattle.ynl_model.specs.declared.replies.Reply.{Reply}
 use Rattle.ynl_model.specs.declared.entries.Entry.{Entry}
 use Rattle.ynl_model.specs.Queues.{Config}
 use Rattle.ynl_model.specs.Cluster.{State, opening}
-use Rattle.ynl_model.specs.Events.{IsHistory, step, after, replies, state_after}
+use Rattle.ynl_model.specs.Events.{IsHistory, step, after, replies, replies_to, state_after}
 use Rattle.ynl_core.specs.World.{World, Answers}
+use Rattle.ynl_core.proofs.RunMore.{replies_push, state_push}
 use Rattle.ynl_journal.specs.Journal.{entry, events_in, replayed, FitsReply, Agrees, FirstDiffers}
 
 -- the same from any state
 abbrev AgreesFrom : Config → State → List Entry → Type 0
 AgreesFrom c s es = AllZip FitsReply es (replies c s (events_in es))
 
-after_push : (c : Config) (s : State) (es : List Entry) (e : Entry) → after c s (events_in (es ++ e ∷ [])) ≡ (step c (after c s (events_in es)) e.event).state
-after_push c s [] e = refl
-after_push c s (x ∷ xs) e = after_push c (step c s x.event).state xs e
+-- the events of one entry more
+events_push : (es : List Entry) (e : Entry) → events_in (es ++ e ∷ []) ≡ events_in es ++ e.event ∷ []
+events_push es e = map-append (λ (x : Entry). x.event) es (e ∷ [])
 
 -- the cluster after one entry more
 replayed_push : (c : Config) (es : List Entry) (e : Entry) → replayed c (es ++ e ∷ []) ≡ record { config = c; state = (step c (state_after c (events_in es)) e.event).state }
-replayed_push c es e = λ i. record { config = c; state = after_push c (opening c) es e i }
+replayed_push c es e =
+    let state : state_after c (events_in (es ++ e ∷ [])) ≡ (step c (state_after c (events_in es)) e.event).state = ap (state_after c) (events_push es e) ∙ state_push c (opening c) (events_in es) e.event in
+    λ i. record { config = c; state = state i }
 
 agrees_from_push : (c : Config) (s : State) (es : List Entry) (e : Entry) → AgreesFrom c s es → FitsReply e (step c (after c s (events_in es)) e.event).reply → AgreesFrom c s (es ++ e ∷ [])
 agrees_from_push c s [] e a f = (f, tt)
@@ -98,10 +101,13 @@ kept_replay old new es others same same_entries is agrees =
     subst P (sym same) (subst Q (sym same_entries) (is, agrees))
 
 -- the replies to one entry more
-replies_push : (c : Config) (s : State) (es : List Entry) (e : Entry) →
-    map Some (replies c s (events_in (es ++ e ∷ []))) ≡ map Some (replies c s (events_in es)) ++ Some (step c (after c s (events_in es)) e.event).reply ∷ []
-replies_push c s [] e = refl
-replies_push c s (x ∷ xs) e = ap (λ rs. Some (step c s x.event).reply ∷ rs) (replies_push c (step c s x.event).state xs e)
+replies_more : (c : Config) (es : List Entry) (e : Entry) →
+    map Some (replies_to c (events_in (es ++ e ∷ []))) ≡ map Some (replies_to c (events_in es)) ++ Some (step c (state_after c (events_in es)) e.event).reply ∷ []
+replies_more c es e =
+    let reply : Reply = (step c (state_after c (events_in es)) e.event).reply in
+    ap (λ events. map Some (replies_to c events)) (events_push es e)
+    ∙ ap (map Some) (replies_push c (opening c) (events_in es) e.event)
+    ∙ map-append Some (replies_to c (events_in es)) (reply ∷ [])
 
 -- a closed history with one entry more
 pub history_push : (c : Config) (es longer : List Entry) (event : Event) (kept : Reply) → longer ≡ es ++ entry event (Some kept) ∷ [] → kept ≡ (step c (state_after c (events_in es)) event).reply → IsHistory c es → IsHistory c longer
@@ -109,5 +115,5 @@ history_push c es longer event kept more same closed =
     let e = entry event (Some kept) in
     let H : List Entry → Type 0 = λ xs. IsHistory c xs in
     subst H (sym more) (
-    map-append (λ (x : Entry). x.reply) es (e ∷ []) ∙ ap (λ rs. rs ++ Some kept ∷ []) closed ∙ ap (λ (r : Reply). map Some (replies c (opening c) (events_in es)) ++ Some r ∷ []) same ∙ sym (replies_push c (opening c) es e)
+    map-append (λ (x : Entry). x.reply) es (e ∷ []) ∙ ap (λ rs. rs ++ Some kept ∷ []) closed ∙ ap (λ (r : Reply). map Some (replies_to c (events_in es)) ++ Some r ∷ []) same ∙ sym (replies_more c es e)
     )

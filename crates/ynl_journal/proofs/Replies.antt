@@ -16,7 +16,7 @@ use Rattle.ynl_model.specs.Applications.{find_app}
 use Rattle.ynl_model.specs.Changes.{beat}
 use Rattle.ynl_model.specs.Events.{Outcome, done, answered, where_there, served, container_at, container_for, held, usage, reasons, accepted, step}
 use Rattle.ynl_core.specs.World.{World, Answers}
-use Rattle.ynl_laws.proofs.Replies.{are_heartbeats_bounded}
+use Rattle.ynl_laws.proofs.Events.Replies.{are_heartbeats_bounded}
 use Rattle.ynl_journal.specs.Copies.{placed_count, is_held, most_placed}
 
 -- the reply lists no more than it may, and where it is what an application holds nothing has changed
@@ -48,13 +48,13 @@ unfolding step accepted
 beat_stays c s name = go (first_that_holds (reasons c s (Heartbeat name))) (node_of s name)
   where
     go : (why : Option Refusal) (o : Option Node) →
-        is_held (option_map_or (λ r. answered s (Refused r)) why (where_there o s (λ node. served (beat c node c.per_heartbeat s)))).reply ≡ true
-        → (option_map_or (λ r. answered s (Refused r)) why (where_there o s (λ node. served (beat c node c.per_heartbeat s)))).state ≡ s
+        is_held (option_map_or (λ r. answered s (Refused r)) why (where_there o s (λ node. served (beat c node c.containers_per_heartbeat s)))).reply ≡ true
+        → (option_map_or (λ r. answered s (Refused r)) why (where_there o s (λ node. served (beat c node c.containers_per_heartbeat s)))).state ≡ s
     go (Some r) o h = refl
     go None None h = refl
     go None (Some node) h = absurd (cc)
 
-beat_few : (c : Config) (s : State) (name : Name) (r : Reply) → (step c s (Heartbeat name)).reply ≡ r → placed_count r ≤ c.per_heartbeat
+beat_few : (c : Config) (s : State) (name : Name) (r : Reply) → (step c s (Heartbeat name)).reply ≡ r → placed_count r ≤ c.containers_per_heartbeat
 beat_few c s name (Placed containers) e = are_heartbeats_bounded c s name containers e
 beat_few c s name Done e = omega arith
 beat_few c s name (Refused r) e = omega arith
@@ -64,7 +64,7 @@ beat_few c s name (Held containers asks) e = omega arith
 beat_few c s name (UsageOf used guaranteed most masters guests) e = omega arith
 
 -- each step can be kept
-pub keepable : (c : Config) (s : State) (e : Event) → IsKeepable s (most_placed c.per_heartbeat e) (step c s e)
+pub keepable : (c : Config) (s : State) (e : Event) → IsKeepable s (most_placed c.containers_per_heartbeat e) (step c s e)
 unfolding accepted held usage
 keepable c s (Heartbeat name) = record { few = beat_few c s name (step c s (Heartbeat name)).reply refl; stays = beat_stays c s name }
 keepable c s (Register name label size) = taken c s 0 _ (done_keepable s _ 0)
@@ -84,12 +84,12 @@ keepable c s (Commit proposal) =
     taken c s 0 _ (there_keepable (node_of s proposal.node) s 0 _ (λ node. there_keepable (find_app s.leaves proposal.tenant proposal.app) s 0 _ (λ app. record { few = omega arith; stays = λ h. absurd (cc) })))
 keepable c s (Maximum queue label share) = taken c s 0 _ (done_keepable s _ 0)
 
--- the room that an event is given is enough for what it is answered
-pub fits_room : (old new : World) (e : Event) (r : Reply) (given room : ℕ) → Answers old e new r → given ≡ old.config.per_heartbeat → most_placed given e ≤ room → placed_count r ≤ room
-fits_room old new e r given room step_is most enough =
+-- what is reserved for an event is enough for what it is answered
+pub fits_reserved : (old new : World) (e : Event) (r : Reply) (given reserved : ℕ) → Answers old e new r → given ≡ old.config.containers_per_heartbeat → most_placed given e ≤ reserved → placed_count r ≤ reserved
+fits_reserved old new e r given reserved step_is most enough =
     let told : placed_count r ≡ placed_count (step old.config old.state e).reply = ap placed_count step_is.told in
-    let same : most_placed given e ≡ most_placed old.config.per_heartbeat e = ap (λ (n : ℕ). most_placed n e) most in
-    let few : placed_count (step old.config old.state e).reply ≤ most_placed old.config.per_heartbeat e = (keepable old.config old.state e).few in
+    let same : most_placed given e ≡ most_placed old.config.containers_per_heartbeat e = ap (λ (n : ℕ). most_placed n e) most in
+    let few : placed_count (step old.config old.state e).reply ≤ most_placed old.config.containers_per_heartbeat e = (keepable old.config old.state e).few in
     omega (arith, told, same, few, enough)
 
 -- what lists an application's containers leaves the cluster

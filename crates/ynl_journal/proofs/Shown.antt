@@ -5,7 +5,7 @@ use Rattle.std.proofs.lemmas.Option.{slice_get-map}
 use Rattle.ynl_model.specs.declared.replies.Reply.{Reply}
 use Rattle.ynl_model.specs.Events.{replies_to}
 use Rattle.ynl_model.specs.View.{view, events_of, places_of, at_places, restrict}
-use Rattle.ynl_laws.proofs.Isolated.{is_isolated}
+use Rattle.ynl_laws.proofs.Isolating.Isolated.{is_isolated}
 use Rattle.ynl_journal.specs.Journal.{events_in}
 use Rattle.ynl_journal.specs.Promises.{HistoriesShowAlone}
 

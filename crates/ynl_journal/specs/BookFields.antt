@@ -11,4 +11,4 @@ journal_of b = record { config = b.core.config; entries = b.entries.items }
 pub record IsReplay (b : Inside) : Type 0 where
   pub state : b.core ≡ replayed b.core.config b.entries.items
   pub agrees : Agrees b.core.config b.entries.items
-  pub most : b.per_heartbeat ≡ b.core.config.per_heartbeat
+  pub most : b.containers_per_heartbeat ≡ b.core.config.containers_per_heartbeat

@@ -17,5 +17,5 @@ is_held _ = false
 
 -- the most containers that the reply to an event says were placed
 abbrev pub most_placed : ℕ → Event → ℕ
-most_placed per_heartbeat (Heartbeat node) = per_heartbeat
-most_placed per_heartbeat _ = 0
+most_placed containers_per_heartbeat (Heartbeat node) = containers_per_heartbeat
+most_placed containers_per_heartbeat _ = 0

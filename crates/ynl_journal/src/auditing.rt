@@ -1,7 +1,7 @@
 //! The audit of a journal.
 
-ghost use Rattle.std.specs.Prelude.{◌≡◌, ◌↔◌, IsTrue, OnOk, IfErr};
-ghost use Rattle.ynl_journal.specs.Journal.{Agrees, FitsReply};
+ghost use Rattle.std.specs.Prelude.{◌≡◌, ◌↔◌, [], IsTrue, OnOk, IfErr};
+ghost use Rattle.ynl_journal.specs.Journal.{Agrees, FitsReply, replayed};
 ghost use Rattle.ynl_journal.specs.Audits.{IsFault};
 
 use crate::comparing::is_same_reply;
@@ -31,15 +31,12 @@ fn fits(entry: &Entry, reply: &Reply) -> bool
     }
 }
 
-/// Applies the events in order to a cluster of this configuration, and compares each reply that is
-/// there. An entry without a reply is applied all the same.
-pub fn audit(alloc: Global, config: Config, entries: &[Entry]) -> Result<(), AuditFault>
-    ensures ok { OnOk result (Agrees config entries.now) }
-    ensures err { IfErr result (IsFault config entries.now) }
+/// Compares the replies that are there with those of a cluster that was just opened.
+fn audit_on(core: &mut Core, entries: &[Entry]) -> Result<(), AuditFault>
+    requires { core.old ≡ replayed core.old.config [] }
+    ensures ok { OnOk result (Agrees core.old.config entries.now) }
+    ensures err { IfErr result (IsFault core.old.config entries.now) }
 {
-    let Ok(mut core) = Core::open(alloc, config) else {
-        return Err(AuditFault::NoMemory);
-    };
     for (i, entry) in entries.iter().enumerate() {
         let Ok(reply) = core.apply(entry.event) else {
             return Err(AuditFault::NoMemory);
@@ -49,4 +46,16 @@ pub fn audit(alloc: Global, config: Config, entries: &[Entry]) -> Result<(), Aud
         }
     }
     Ok(())
+}
+
+/// Applies the events in order to a cluster of this configuration, and compares each reply that is
+/// there. An entry without a reply is applied all the same.
+pub fn audit(alloc: Global, config: Config, entries: &[Entry]) -> Result<(), AuditFault>
+    ensures ok { OnOk result (Agrees config entries.now) }
+    ensures err { IfErr result (IsFault config entries.now) }
+{
+    match Core::open(alloc, config) {
+        Ok(mut core) => audit_on(&mut core, entries),
+        Err(_) => Err(AuditFault::NoMemory),
+    }
 }

@@ -2,7 +2,7 @@
 
 ghost use Rattle.std.specs.Prelude.{◌≡◌, ◌↔◌, IsTrue};
 
-use ynl_model::{Pending, PendingList, Placed, PlacedList, Reply};
+use ynl_model::{Items, Pending, Placed, Reply};
 
 fn is_same_container(a: &Placed, b: &Placed) -> bool
     ensures { IsTrue result ↔ (a.now ≡ b.now) }
@@ -21,7 +21,7 @@ fn is_same_ask(a: &Pending, b: &Pending) -> bool
     *a == *b
 }
 
-fn is_same_placed(given: &PlacedList, list: &PlacedList) -> bool
+fn is_same_placed(given: &Items<Placed>, list: &Items<Placed>) -> bool
     ensures { IsTrue result ↔ (given.now ≡ list.now) }
 {
     let given = given.as_slice();
@@ -37,7 +37,7 @@ fn is_same_placed(given: &PlacedList, list: &PlacedList) -> bool
     true
 }
 
-fn is_same_pending(given: &PendingList, list: &PendingList) -> bool
+fn is_same_pending(given: &Items<Pending>, list: &Items<Pending>) -> bool
     ensures { IsTrue result ↔ (given.now ≡ list.now) }
 {
     let given = given.as_slice();

@@ -4,7 +4,7 @@ ghost use Rattle.std.specs.Prelude.{◌≡◌, [], ◌∷◌, ◌++◌, length, 
 ghost use Rattle.ynl_model.specs.Events.{IsHistory, state_after, step};
 ghost use Rattle.ynl_journal.specs.Journal.{Agrees, Journal, entry, events_in};
 
-use crate::copying::{copy_into, room_for};
+use crate::copying::{copy_into, reserve_for};
 use std::alloc::Global;
 use std::marker::Model;
 use ynl_core::{Core, NoMemory};
@@ -18,7 +18,7 @@ pub struct Book {
     alloc: Global,
     core: Core,
     entries: Vec<Entry>,
-    per_heartbeat: usize,
+    containers_per_heartbeat: usize,
 }
 
 impl Model for Book {
@@ -37,13 +37,13 @@ impl Book {
     pub fn open(alloc: Global, config: Config) -> Result<Book, NoMemory>
         ensures { IfOk result (λ book. book ≡ record { config = config; entries = [] }) }
     {
-        let per_heartbeat = config.per_heartbeat() as usize;
+        let containers_per_heartbeat = config.containers_per_heartbeat() as usize;
         let core = Core::open(alloc, config)?;
         Ok(Book {
             alloc,
             core,
             entries: Vec::new(alloc),
-            per_heartbeat,
+            containers_per_heartbeat,
         })
     }
 
@@ -56,7 +56,7 @@ impl Book {
     }
 
     /// Takes an event, and answers its place, counted from 0, and the cluster's reply. Where memory is
-    /// refused nothing has changed: room for the entry and for the second copy of the reply is made
+    /// refused nothing has changed: memory for the entry and for the second copy of the reply is reserved
     /// before the event is applied, and what a poll lists is copied after it, since a poll changes nothing.
     pub fn enter(&mut self, event: Event) -> Result<(u64, Reply), NoMemory>
         ensures place { IfOk result (λ told. told.0 ≡ length self.old.entries) }
@@ -67,9 +67,9 @@ impl Book {
     {
         let place = self.entries.len() as u64;
         self.entries.reserve(1)?;
-        let room = room_for(self.alloc, &event, self.per_heartbeat)?;
+        let reserved = reserve_for(self.alloc, &event, self.containers_per_heartbeat)?;
         let reply = self.core.apply(event)?;
-        let kept = copy_into(self.alloc, room, &reply)?;
+        let kept = copy_into(self.alloc, reserved, &reply)?;
         self.entries.push_reserved(Entry {
             event,
             reply: Some(kept),

@@ -6,8 +6,7 @@ use Rattle.std.proofs.lemmas.Bool.Decides.{nat_tests}
 use Rattle.ynl_resource.specs.Amounts.{plus, fits_in, total_of}
 use Rattle.ynl_resource.specs.declared.amounts.Resource.{Resource}
 use Rattle.ynl_tables.specs.Bounds.{IsTotal}
-use Rattle.ynl_laws.proofs.Lists.{filter-last}
-use Rattle.ynl_laws.proofs.Sums.{total-append, fits-filter, fits-trans}
+use Rattle.ynl_laws.proofs.Amounts.{total-append, fits-filter, fits-trans}
 
 module _ {X : Type 0} (size : X → Resource) (p : X → Bool) (xs : List X) (k : ℕ) where
   -- the sum over the things so far that pass
@@ -25,7 +24,7 @@ module _ {X : Type 0} (size : X → Resource) (p : X → Bool) (xs : List X) (k 
   pub sum_more : (x : X) → k < length xs → x ≡ get_or xs k x → total_of size (filter p (take (k + 1) xs)) ≡ cond (p x) (plus so_far (size x)) so_far
   sum_more x h e =
       ap (λ ys. total_of size (filter p ys)) (take_more xs k x h ∙ ap (λ y. take k xs ++ y ∷ []) (sym e))
-      ∙ ap (total_of size) (filter-last p (take k xs) x)
+      ∙ ap (total_of size) (filter-append p (take k xs) (x ∷ []))
       ∙ step x (p x)
 
 fits_append : {X : Type 0} (size : X → Resource) (xs ys : List X) → fits_in (total_of size xs) (total_of size (xs ++ ys)) ≡ true

@@ -1,5 +1,7 @@
 -- Filters one after another.
-use Rattle.std.proofs.Common.{◌≡◌, Bool, true, false, cond, List, [], ◌∷◌, ◌++◌, filter, refl, sym, ◌∙◌}
+use Rattle.std.proofs.Common.{◌≡◌, ℕ, ◌+◌, ◌<◌, Bool, true, false, cond, List, [], ◌∷◌, ◌++◌, length, take, get_or, filter, refl, sym, ap, ◌∙◌}
+use Rattle.std.proofs.lemmas.List.{take_more}
+use Rattle.std.proofs.lemmas.List.Elements.{filter-append}
 use Rattle.std.specs.List.{list_all}
 use Rattle.std.specs.Prelude.{◌&&◌}
 
@@ -23,3 +25,7 @@ all_last {X = X} f (y ∷ xs) x = go (f y) (all_last f xs x)
     go : (b : Bool) → list_all f (xs ++ x ∷ []) ≡ (list_all f xs && f x) → (b && list_all f (xs ++ x ∷ [])) ≡ (b && list_all f xs && f x)
     go true h = h
     go false h = refl
+
+-- one more thing is filtered
+pub filter_more : {X : Type 0} (p : X → Bool) (xs : List X) (i : ℕ) (x : X) → i < length xs → x ≡ get_or xs i x → filter p (take i xs) ++ filter p (x ∷ []) ≡ filter p (take (i + 1) xs)
+filter_more p xs i x inside e = sym (filter-append p (take i xs) (x ∷ [])) ∙ ap (filter p) (ap (λ z. take i xs ++ z ∷ []) e ∙ sym (take_more xs i x inside))

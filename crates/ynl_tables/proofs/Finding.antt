@@ -3,8 +3,6 @@ use Rattle.std.proofs.Common.{◌≡◌, Bool, true, false, List, [], ◌∷◌,
 use Rattle.std.specs.Prelude.{IfSome}
 use Rattle.ynl_resource.specs.declared.paths.Path.{Path}
 use Rattle.ynl_resource.specs.Names.{same_path}
-use Rattle.ynl_laws.proofs.Restricted.{same-path}
-use Rattle.ynl_laws.proofs.Lists.{found-passes}
 use Rattle.std.specs.Option.{option_map_or, option_and_then}
 use Rattle.std.specs.List.{position_or_len}
 use Rattle.ynl_resource.specs.declared.names.Name.{Name}
@@ -13,6 +11,8 @@ use Rattle.ynl_model.specs.Applications.{Application, LeafApps, row_of, find_app
 use Rattle.ynl_tables.specs.declared.rows.App.{App}
 use Rattle.ynl_tables.specs.declared.rows.LeafRow.{LeafRow}
 use Rattle.ynl_tables.specs.Tables.{app_of, leaf_of_row}
+use Rattle.ynl_laws.proofs.Lists.{found-passes}
+use Rattle.ynl_laws.proofs.Names.{same-path}
 
 -- what is found among meanings is the meaning of what is found
 pub find_map : {X Y : Type 0} (f : X → Y) (q : Y → Bool) (xs : List X) → find q (map f xs) ≡ option_map f (find (λ x. q (f x)) xs)

@@ -2,3 +2,4 @@ pub mod Finding
 pub mod Adding
 pub mod Filters
 pub mod Shared
+pub mod Sorted

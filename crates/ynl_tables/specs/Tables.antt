@@ -32,6 +32,6 @@ partitions_of rows = map partition_of rows
 abbrev pub state_of : Tables → State
 state_of t = record { nodes = t.nodes.items; partitions = partitions_of t.partitions.items; leaves = leaves_of t.leaves.items; stops = t.stops; maxima = t.maxima }
 
--- there is room for so many more containers on a partition
-abbrev pub HasRoom : Label → ℕ → List PartitionRow → Type 0
-HasRoom label count rows = AllByRecursion (λ row. same_label row.label label ≡ true → vec_len row.containers + count ≤ vec_capacity row.containers) rows
+-- there is capacity for so many more containers on a partition
+abbrev pub HasCapacity : Label → ℕ → List PartitionRow → Type 0
+HasCapacity label count rows = AllByRecursion (λ row. same_label row.label label ≡ true → vec_len row.containers + count ≤ vec_capacity row.containers) rows

@@ -6,8 +6,8 @@ use Rattle.ynl_resource.specs.declared.paths.Path.{Path}
 use Rattle.ynl_model.specs.declared.containers.Placed.{Placed as Container}
 use Rattle.ynl_model.specs.Applications.{LeafApps}
 use Rattle.ynl_model.specs.Cluster.{is_master, is_guest, is_below, of_app_that}
-use Rattle.ynl_tables.specs.declared.uses.Whose.{Whose}
-use Rattle.ynl_tables.specs.declared.uses.Whose.TheVariants.{Everyone, User, Masters, Guests}
+use Rattle.ynl_tables.specs.declared.uses.Counted.{Counted}
+use Rattle.ynl_tables.specs.declared.uses.Counted.TheVariants.{Everyone, User, Masters, Guests}
 
 -- whether a container counts in the use of a queue: it is no guest, and its leaf is the queue or below
 abbrev pub counts : List LeafApps → Path → Container → Bool
@@ -18,7 +18,7 @@ abbrev pub of_user : Name → List LeafApps → Container → Bool
 of_user user leaves = of_app_that (λ app. same_name app.user user) leaves
 
 -- whether a container counts in a sum over a queue: guests in a sum of their own, and all others in the queue's use
-abbrev pub is_counted : List LeafApps → Path → Whose → Container → Bool
+abbrev pub is_counted : List LeafApps → Path → Counted → Container → Bool
 is_counted leaves queue Everyone container = counts leaves queue container
 is_counted leaves queue (User user) container = counts leaves queue container && of_user user.now leaves container
 is_counted leaves queue Masters container = counts leaves queue container && is_master container

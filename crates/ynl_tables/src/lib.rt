@@ -1,22 +1,33 @@
 //! The tables of a cluster: nodes, partitions with their containers, leaves with their applications;
-//! and what is read of them: sums of use, totals, who shares a leaf.
+//! and all that only reads them: what is found there, sums of use, totals, who shares a leaf, the tests
+//! for which events are refused, and what is told of the tables in a reply.
 #![tactic(auto)]
 
-pub use asks::{ask_of, is_ask_of};
+pub use applications::{has_most_apps, home_of, is_used};
+pub use asks::{ask_of, is_ask_of, is_foreign, is_one_too_many};
+pub use clocks::{is_spent, next_clock};
+pub use containers::{container_of_tenant, container_on, is_own, is_same_id, push_copy};
 pub use live::{Live, live_at};
+pub use polling::{own_containers, pending_on};
 pub use queue_use::{free, guests, masters_used, no_master_in, runs, used, user_used};
-pub use rows::{App, Ask, LeafRow, PartitionRow};
+pub use rows::{App, LeafRow, PartitionRow};
 pub use sharing::users;
 pub use tables::{
-    Tables, apps_at, clock_at, containers_at, is_full, is_same, leaf_row_of, lists_name, node_at,
+    Tables, apps_at, clock_at, containers_at, find_node, is_full, is_same, leaf_row_of, lists_name,
     risen, tenant_bytes,
 };
+pub use usage::usage_of;
 pub use uses::{is_master, total_of};
 
+mod applications;
 mod asks;
+mod clocks;
+mod containers;
 mod live;
+mod polling;
 mod queue_use;
 mod rows;
 mod sharing;
 mod tables;
+mod usage;
 mod uses;

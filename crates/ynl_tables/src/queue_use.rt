@@ -9,7 +9,7 @@ ghost use Rattle.ynl_tables.specs.Bounds.{IsBounded, IsTotal};
 
 use crate::rows::App;
 use crate::tables::{Tables, containers_at, tenant_bytes};
-use crate::uses::{Whose, counts, is_master, used_by, used_on};
+use crate::uses::{Counted, counts, is_master, used_by, used_on};
 use ynl_model::{Node, Placed};
 use ynl_resource::{Label, Name, Path, Resource};
 
@@ -21,7 +21,7 @@ pub fn used(tables: &Tables, queue: &[Name], label: &Label) -> Resource
     ensures small { IsTotal result }
 {
     let containers = containers_at(&tables.partitions, label);
-    used_by(&tables.leaves, queue, Whose::Everyone, containers)
+    used_by(&tables.leaves, queue, Counted::Everyone, containers)
 }
 
 /// What a user uses of a partition in a queue.
@@ -32,7 +32,7 @@ pub fn user_used(tables: &Tables, queue: &[Name], user: &Name, label: &Label) ->
     ensures small { IsTotal result }
 {
     let containers = containers_at(&tables.partitions, label);
-    used_by(&tables.leaves, queue, Whose::User(user), containers)
+    used_by(&tables.leaves, queue, Counted::User(user), containers)
 }
 
 /// What the masters of a queue use of a partition.
@@ -43,7 +43,7 @@ pub fn masters_used(tables: &Tables, queue: &[Name], label: &Label) -> Resource
     ensures small { IsTotal result }
 {
     let containers = containers_at(&tables.partitions, label);
-    used_by(&tables.leaves, queue, Whose::Masters, containers)
+    used_by(&tables.leaves, queue, Counted::Masters, containers)
 }
 
 /// What the guests of a queue use of a partition.
@@ -53,7 +53,7 @@ pub fn guests(tables: &Tables, queue: &[Name], label: &Label) -> Resource
     ensures { result ≡ guests (state_of tables.now) queue.now label.now }
 {
     let containers = containers_at(&tables.partitions, label);
-    used_by(&tables.leaves, queue, Whose::Guests, containers)
+    used_by(&tables.leaves, queue, Counted::Guests, containers)
 }
 
 fn has_counted_master(tables: &Tables, leaf: &[Name], label: &Label) -> bool

@@ -4,27 +4,8 @@ ghost use Rattle.std.specs.Prelude.{◌≡◌, IsTrue};
 ghost use Rattle.ynl_resource.specs.Names.{same_name, tenant_of};
 
 use std::marker::Model;
-use ynl_model::Placed;
+use ynl_model::{AskRow, Placed};
 use ynl_resource::{Label, Name, Path, Size};
-
-/// What an application asks for: how many containers of a size, under a label and at a priority.
-#[derive(Clone, Copy)]
-pub struct Ask {
-    pub label: Label,
-    pub priority: u32,
-    pub count: u32,
-    pub size: Size,
-}
-
-impl Model for Ask {
-    ghost use Rattle.ynl_model.specs.Applications.{AskRow};
-
-    ghost Value = { AskRow };
-
-    ghost view = { λ a. record { label = a.label; priority = a.priority; count = a.count; size = a.size } };
-
-    ghost inverse = { λ a. record { label = a.label; priority = a.priority; count = a.count; size = a.size } };
-}
 
 /// A live application of a leaf; the leaf's path stands in the leaf's row.
 #[derive(Drop)]
@@ -33,7 +14,7 @@ pub struct App {
     pub user: Name,
     pub home: Label,
     pub master: Size,
-    pub asks: Vec<Ask>,
+    pub asks: Vec<AskRow>,
 }
 
 /// A leaf: its path, its tenant, the names of all applications that were ever submitted there, and those of them that are

@@ -12,7 +12,7 @@ ghost use Rattle.ynl_tables.specs.Tables.{leaf_of_row, leaves_of, partition_of, 
 use crate::rows::{App, LeafRow, PartitionRow};
 use ynl_controls::{Maxima, Stops};
 use ynl_model::{Node, Placed};
-use ynl_resource::{Label, Name, Path};
+use ynl_resource::{Label, MOST_NODES, Name, Path};
 
 /// The tables of a cluster.
 #[derive(Drop)]
@@ -34,7 +34,7 @@ pub fn is_same(a: &Label, b: &Label) -> bool
 // ---- nodes
 
 /// The node of a name.
-pub fn node_at(nodes: &[Node], name: &Name) -> Option<Node>
+pub fn find_node(nodes: &[Node], name: &Name) -> Option<Node>
     ensures { result ≡ find_node nodes.now name.now }
 {
     nodes.iter().copied().find(|node| node.name == *name)
@@ -51,7 +51,7 @@ fn count_on(nodes: &[Node], label: &Label) -> usize
 pub fn is_full(nodes: &[Node], label: &Label) -> bool
     ensures { result ≡ is_full nodes.now label.now }
 {
-    count_on(nodes, label) >= 65536
+    count_on(nodes, label) >= MOST_NODES
 }
 
 // ---- partitions

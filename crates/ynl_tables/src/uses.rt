@@ -15,9 +15,9 @@ use ynl_model::{Node, Placed, What};
 use ynl_queues::is_within;
 use ynl_resource::{Label, Name, Resource, Size};
 
-/// Whose use is summed.
+/// Which containers count in a sum of use.
 #[derive(Clone, Copy)]
-pub enum Whose<'a> {
+pub enum Counted<'a> {
     Everyone,
     User(&'a Name),
     Masters,
@@ -88,16 +88,16 @@ fn is_of_user(leaves: &[LeafRow], user: &Name, container: &Placed) -> bool
     }
 }
 
-fn is_counted(leaves: &[LeafRow], queue: &[Name], whose: Whose<'_>, container: &Placed) -> bool
-    ensures { result ≡ is_counted (leaves_of leaves.now) queue.now whose.entry container.now }
+fn is_counted(leaves: &[LeafRow], queue: &[Name], counted: Counted<'_>, container: &Placed) -> bool
+    ensures { result ≡ is_counted (leaves_of leaves.now) queue.now counted.entry container.now }
 {
-    match whose {
-        Whose::Everyone => counts(leaves, queue, container),
-        Whose::User(user) => {
+    match counted {
+        Counted::Everyone => counts(leaves, queue, container),
+        Counted::User(user) => {
             counts(leaves, queue, container) && is_of_user(leaves, user, container)
         }
-        Whose::Masters => counts(leaves, queue, container) && is_master(container),
-        Whose::Guests => {
+        Counted::Masters => counts(leaves, queue, container) && is_master(container),
+        Counted::Guests => {
             is_guest_on(&container.id.label, &container.what) && is_below(leaves, queue, container)
         }
     }
@@ -116,16 +116,16 @@ fn added(sum: &Resource, size: &Size, counts: bool) -> Resource
 pub fn used_by(
     leaves: &[LeafRow],
     queue: &[Name],
-    whose: Whose<'_>,
+    counted: Counted<'_>,
     containers: &[Placed],
 ) -> Resource
     requires { IsTotal (sizes containers.now) }
-    ensures value { result ≡ sizes (filter (is_counted (leaves_of leaves.now) queue.now whose.entry) containers.now) }
+    ensures value { result ≡ sizes (filter (is_counted (leaves_of leaves.now) queue.now counted.entry) containers.now) }
     ensures within { IsTrue (fits_in result (sizes containers.now)) }
 {
     let mut sum = NOTHING;
     for container in containers {
-        let is_counted = is_counted(leaves, queue, whose, container);
+        let is_counted = is_counted(leaves, queue, counted, container);
         sum = added(&sum, &container.size, is_counted);
     }
     sum

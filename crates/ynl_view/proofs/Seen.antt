@@ -4,7 +4,8 @@ use Rattle.ynl_resource.specs.declared.names.Name.{Name}
 use Rattle.ynl_resource.specs.declared.labels.Label.{Label}
 use Rattle.ynl_model.specs.Queues.{Config}
 use Rattle.ynl_model.specs.declared.events.Event.{Event}
-use Rattle.ynl_model.specs.View.{Tracked, Viewed, seen_of, track_step, with_seen, view_from}
+use Rattle.ynl_model.specs.View.{Viewed, seen_of, track_step, with_seen, view_from}
+use Rattle.ynl_model.specs.declared.nodes.Tracked.{Tracked}
 
 abbrev viewed : ℕ → Event → Viewed
 viewed place event = record { place = place; event = event }

@@ -7,7 +7,7 @@ ghost use Rattle.ynl_model.specs.Nodes.{has_label, is_exclusive};
 ghost use Rattle.ynl_model.specs.Queues.{may_use};
 ghost use Rattle.ynl_model.specs.View.{is_sole, top_levels};
 
-use ynl_nodes::Labels;
+use ynl_labels::Labels;
 use ynl_queues::Config;
 use ynl_resource::{Label, Name};
 

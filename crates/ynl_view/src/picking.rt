@@ -5,21 +5,7 @@ ghost use Rattle.ynl_model.specs.View.{at_places};
 
 use std::alloc::{AllocError, Global};
 use ynl_core::{Answer, NoMemory};
-use ynl_model::{PendingList, PlacedList, Reply};
-
-fn placed_copy(alloc: Global, list: &PlacedList) -> Result<PlacedList, AllocError>
-    ensures { IfOk result (λ copy. copy ≡ list.now) }
-{
-    let items = Vec::from_slice(alloc, list.as_slice())?;
-    Ok(PlacedList::new(items))
-}
-
-fn pending_copy(alloc: Global, list: &PendingList) -> Result<PendingList, AllocError>
-    ensures { IfOk result (λ copy. copy ≡ list.now) }
-{
-    let items = Vec::from_slice(alloc, list.as_slice())?;
-    Ok(PendingList::new(items))
-}
+use ynl_model::Reply;
 
 fn reply_copy(alloc: Global, reply: &Reply) -> Result<Reply, AllocError>
     ensures { IfOk result (λ copy. copy ≡ reply.now) }
@@ -27,12 +13,12 @@ fn reply_copy(alloc: Global, reply: &Reply) -> Result<Reply, AllocError>
     match reply {
         Reply::Done => Ok(Reply::Done),
         Reply::Refused(refusal) => Ok(Reply::Refused(*refusal)),
-        Reply::Placed(list) => Ok(Reply::Placed(placed_copy(alloc, list)?)),
+        Reply::Placed(list) => Ok(Reply::Placed(list.copy(alloc)?)),
         Reply::Proposed(proposal) => Ok(Reply::Proposed(*proposal)),
         Reply::Committed(container) => Ok(Reply::Committed(*container)),
         Reply::Held { containers, asks } => Ok(Reply::Held {
-            containers: placed_copy(alloc, containers)?,
-            asks: pending_copy(alloc, asks)?,
+            containers: containers.copy(alloc)?,
+            asks: asks.copy(alloc)?,
         }),
         Reply::Usage {
             used,

@@ -18,7 +18,7 @@ pub fn restrict(alloc: Global, config: &Config, tenant: &Name) -> Result<Config,
     Ok(Config::new(
         labels,
         tree,
-        config.per_heartbeat(),
+        config.containers_per_heartbeat(),
         config.maximum_allocation(),
     ))
 }

@@ -8,27 +8,9 @@ ghost use Rattle.ynl_model.specs.declared.events.Event.TheVariants.{Register, Re
 
 use std::alloc::{AllocError, Global};
 use std::marker::Model;
-use ynl_model::Event;
+use ynl_model::{Event, Tracked};
 use ynl_queues::Config;
-use ynl_resource::{Label, Name, Size};
-
-/// A node of the track: its name, its partition and its size.
-#[derive(Clone, Copy)]
-pub struct Tracked {
-    pub name: Name,
-    pub label: Label,
-    pub size: Size,
-}
-
-impl Model for Tracked {
-    ghost use Rattle.ynl_model.specs.View.{Tracked as Row};
-
-    ghost Value = { Row };
-
-    ghost view = { λ t. record { name = t.name; label = t.label; size = t.size } };
-
-    ghost inverse = { λ t. record { name = t.name; label = t.label; size = t.size } };
-}
+use ynl_resource::{Label, MOST_NODES, Name, Size};
 
 /// The nodes, in the order of joining. A contract sees their list.
 #[derive(Drop)]
@@ -38,9 +20,9 @@ pub struct Track {
 
 impl Model for Track {
     ghost use Rattle.std.specs.Prelude.{List};
-    ghost use Rattle.ynl_model.specs.View.{Tracked as Row};
+    ghost use Rattle.ynl_model.specs.declared.nodes.Tracked.{Tracked};
 
-    ghost Value = { List Row };
+    ghost Value = { List Tracked };
 
     ghost view = { λ t. t.nodes.items };
 }
@@ -84,7 +66,7 @@ impl Track {
     fn has_place(&self, label: &Label) -> bool
         ensures { result ≡ has_place self.now label.now }
     {
-        let is_full = self.count_on(label) >= 65536;
+        let is_full = self.count_on(label) >= MOST_NODES;
         !is_full
     }
 

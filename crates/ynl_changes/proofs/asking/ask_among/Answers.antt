@@ -3,13 +3,13 @@ use Rattle.std.specs.List.{AllByRecursion}
 use Rattle.ynl_resource.specs.declared.paths.Path.{Path}
 use Rattle.ynl_tables.specs.declared.rows.App.{App}
 use Rattle.ynl_tables.specs.Tables.{app_of}
-use Rattle.ynl_changes.specs.Asking.{asked_at, HasAskRoom}
+use Rattle.ynl_changes.specs.Asking.{asked_at, HasAskCapacity}
 use Rattle.ynl_changes.proofs.InPlace.{changed_step, next_is, each_at}
 use Rattle.ynl_changes.proofs.asking.ask_among.Goals as goal
 
 pub ask_at-requires : goal.ask_at-requires
 ask_at-requires c =
-    let P : App → Type 0 = HasAskRoom c.args.name.now c.args.ask.now.count in
+    let P : App → Type 0 = HasAskCapacity c.args.name.now c.args.ask.now.count in
     let x : App = c.app-item.result in
     let first = c.deref_mut-app-items.result.now in
     let h = c.loop-app.invariant [] in

@@ -1,6 +1,7 @@
 use Rattle.std.proofs.Common.{rules, Bool, not}
 use Rattle.std.proofs.lemmas.Fn.{filter_same}
-use Rattle.ynl_model.specs.Applications.{AskRow, is_ask_of}
+use Rattle.ynl_model.specs.Applications.{is_ask_of}
+use Rattle.ynl_model.specs.declared.applications.AskRow.{AskRow}
 use Rattle.ynl_changes.proofs.asking.drop_ask.Goals as goal
 
 pub returns : goal.returns

@@ -3,7 +3,7 @@ use Rattle.std.proofs.Math.ListN.{set}
 use Rattle.std.proofs.lemmas.List.{length-set}
 use Rattle.ynl_resource.specs.declared.paths.Path.{Path}
 use Rattle.ynl_tables.specs.Tables.{app_of}
-use Rattle.ynl_changes.specs.Asking.{HasAskRoom}
+use Rattle.ynl_changes.specs.Asking.{HasAskCapacity}
 use Rattle.ynl_changes.proofs.InPlace.{each_step, same_set, whole_again}
 use Rattle.ynl_changes.proofs.asking.reserve_among.Goals as goal
 
@@ -12,7 +12,7 @@ loop-app-preserved c =
     let inside : c.loop-app.app-index < length c.loop-app.app-items = omega arith in
     record {
       meaning = λ (leaf : Path). same_set (app_of leaf) c.loop-app.app-items c.loop-app.app-index c.app-item.result c.reserve_at.new.app inside (c.reserve_at.ensures.meaning leaf) ∙ c.loop-app.invariant.meaning leaf;
-      room = each_step (HasAskRoom c.args.name.now c.args.count) c.loop-app.app-items c.loop-app.app-index c.reserve_at.new.app inside c.loop-app.invariant.room c.in_ok-reserve_at.ensures.room;
+      capacity = each_step (HasAskCapacity c.args.name.now c.args.count) c.loop-app.app-items c.loop-app.app-index c.reserve_at.new.app inside c.loop-app.invariant.capacity c.in_ok-reserve_at.ensures.capacity;
     }
 
 pub returns-in_err-reserve_at-clause-meaning : goal.returns-in_err-reserve_at-clause-meaning

@@ -2,7 +2,7 @@ use Rattle.std.proofs.Common.{◌<◌, length, ap, ◌∙◌, arith}
 use Rattle.std.proofs.Math.ListN.{set}
 use Rattle.std.proofs.lemmas.List.{length-set}
 use Rattle.ynl_tables.specs.Tables.{leaf_of_row, leaves_of}
-use Rattle.ynl_changes.specs.Asking.{HasAskPlace}
+use Rattle.ynl_changes.specs.Asking.{HasAskCapacityIn}
 use Rattle.ynl_changes.proofs.InPlace.{each_step, same_set, whole_again}
 use Rattle.ynl_changes.proofs.asking.reserve_ask.Goals as goal
 
@@ -11,7 +11,7 @@ loop-row-preserved c =
     let inside : c.loop-row.row-index < length c.loop-row.row-items = omega arith in
     record {
       meaning = same_set leaf_of_row c.loop-row.row-items c.loop-row.row-index c.row-item.result c.reserve_in.new.row inside c.reserve_in.ensures.meaning ∙ c.loop-row.invariant.meaning;
-      place = each_step (HasAskPlace c.args.leaf.now c.args.name.now c.args.count) c.loop-row.row-items c.loop-row.row-index c.reserve_in.new.row inside c.loop-row.invariant.place c.in_ok-reserve_in.ensures.place;
+      capacity = each_step (HasAskCapacityIn c.args.leaf.now c.args.name.now c.args.count) c.loop-row.row-items c.loop-row.row-index c.reserve_in.new.row inside c.loop-row.invariant.capacity c.in_ok-reserve_in.ensures.capacity;
     }
 
 pub returns-in_err-reserve_in-clause-meaning : goal.returns-in_err-reserve_in-clause-meaning

@@ -3,10 +3,10 @@ use Rattle.std.proofs.lemmas.Fn.{filter_same}
 use Rattle.ynl_resource.specs.declared.paths.Path.{Path}
 use Rattle.ynl_resource.specs.Names.{same_name}
 use Rattle.ynl_model.specs.Applications.{Application}
-use Rattle.ynl_laws.proofs.Tracked.{filter-map}
 use Rattle.ynl_tables.specs.declared.rows.App.{App}
 use Rattle.ynl_tables.specs.Tables.{app_of}
 use Rattle.ynl_changes.proofs.finishing.drop_app.Goals as goal
+use Rattle.ynl_laws.proofs.Lists.{filter-map}
 
 pub returns : goal.returns
 returns c = λ (leaf : Path).

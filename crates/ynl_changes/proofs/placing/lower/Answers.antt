@@ -1,5 +1,6 @@
 use Rattle.std.proofs.Common.{◌-◌, cond}
-use Rattle.ynl_model.specs.Applications.{AskRow, is_ask_of}
+use Rattle.ynl_model.specs.Applications.{is_ask_of}
+use Rattle.ynl_model.specs.declared.applications.AskRow.{AskRow}
 use Rattle.ynl_controls.proofs.InPlace.{map_step}
 use Rattle.ynl_changes.proofs.placing.lower.Goals as goal
 

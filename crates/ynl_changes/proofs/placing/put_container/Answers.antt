@@ -2,7 +2,7 @@ use Rattle.std.proofs.Common.{◌≡◌, ℕ, ◌+◌, ◌<◌, ◌≤◌, lengt
 use Rattle.std.proofs.lemmas.List.{take_all}
 use Rattle.ynl_resource.specs.Names.{same_label}
 use Rattle.ynl_tables.specs.declared.rows.PartitionRow.{PartitionRow}
-use Rattle.ynl_tables.specs.Tables.{partition_of, HasRoom}
+use Rattle.ynl_tables.specs.Tables.{partition_of, HasCapacity}
 use Rattle.ynl_changes.specs.Placing.{put_on}
 use Rattle.ynl_changes.proofs.InPlace.{changed_step, next_is, each_changed, each_front, whole_again}
 use Rattle.ynl_changes.proofs.placing.put_container.Goals as goal
@@ -16,19 +16,19 @@ loop-row-preserved c =
     let inside' : c.loop-row.row-index < length c.loop-row.row-items = omega (arith, h.len) in
     record {
       changed = changed_step partition_of (put_on label c.args.clock c.args.container.now) _ _ _ h x c.put.new.row inside c.row-item.is c.put.ensures.meaning;
-      room = λ (n : ℕ).
+      capacity = λ (n : ℕ).
           let P : ℕ → PartitionRow → Type 0 = λ k row. same_label row.label label ≡ true → vec_len row.containers + k ≤ vec_capacity row.containers in
           each_changed (P (n + 1)) (P n) c.deref_mut-row-items.result.now c.loop-row.row-items c.loop-row.row-index x c.put.new.row inside inside'
-          (next_is partition_of (put_on label c.args.clock c.args.container.now) _ _ _ h x c.row-item.is) c.row-item.is (c.put.ensures.room n) (c.loop-row.invariant.room n);
+          (next_is partition_of (put_on label c.args.clock c.args.container.now) _ _ _ h x c.row-item.is) c.row-item.is (c.put.ensures.capacity n) (c.loop-row.invariant.capacity n);
     }
 
-pub returns-clause-room : goal.returns-clause-room
-returns-clause-room c = λ (n : ℕ) (h : HasRoom c.args.label.now (n + 1) c.args.rows.now.items).
+pub returns-clause-capacity : goal.returns-clause-capacity
+returns-clause-capacity c = λ (n : ℕ) (h : HasCapacity c.args.label.now (n + 1) c.args.rows.now.items).
     let label = c.args.label.now in
     let items = c.loop-row.row-items in
     let value = c.deref_mut-row-items.ensures.value in
-    let before : HasRoom label (n + 1) c.deref_mut-row-items.result.now = subst (HasRoom label (n + 1)) (sym value) h in
-    let all : HasRoom label n (take c.loop-row.row-index items) = c.loop-row.invariant.room n (each_front _ c.loop-row.row-index c.deref_mut-row-items.result.now before) in
+    let before : HasCapacity label (n + 1) c.deref_mut-row-items.result.now = subst (HasCapacity label (n + 1)) (sym value) h in
+    let all : HasCapacity label n (take c.loop-row.row-index items) = c.loop-row.invariant.capacity n (each_front _ c.loop-row.row-index c.deref_mut-row-items.result.now before) in
     let past : length items ≤ c.loop-row.row-index = omega arith in
     let same : length items ≡ length c.args.rows.now.items = c.loop-row.auto.row-items ∙ ap length value in
-    subst (HasRoom label n) (take_all c.loop-row.row-index items past ∙ sym (whole_again c.args.rows.now.len items c.args.rows.now.items same c.args.rows.now.ok.0)) all
+    subst (HasCapacity label n) (take_all c.loop-row.row-index items past ∙ sym (whole_again c.args.rows.now.len items c.args.rows.now.items same c.args.rows.now.ok.0)) all

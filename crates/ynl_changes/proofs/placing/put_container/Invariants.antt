@@ -1,5 +1,5 @@
 use Rattle.std.proofs.Common.{ℕ, ◌+◌, take}
-use Rattle.ynl_tables.specs.Tables.{partition_of, HasRoom}
+use Rattle.ynl_tables.specs.Tables.{partition_of, HasCapacity}
 use Rattle.ynl_changes.specs.Placing.{put_on}
 use Rattle.ynl_changes.proofs.InPlace.{IsChanged}
 use Rattle.ynl_changes.proofs.placing.put_container.Given as goal
@@ -7,5 +7,5 @@ use Rattle.ynl_changes.proofs.placing.put_container.Given as goal
 abbrev pub invariant-loop-row : goal.invariant-loop-row
 invariant-loop-row l = record {
   changed : IsChanged partition_of (put_on l.label l.clock l.container) l.initial.row-items l.row-items l.row-index;
-  room : (n : ℕ) → HasRoom l.label (n + 1) (take l.row-index l.initial.row-items) → HasRoom l.label n (take l.row-index l.row-items);
+  capacity : (n : ℕ) → HasCapacity l.label (n + 1) (take l.row-index l.initial.row-items) → HasCapacity l.label n (take l.row-index l.row-items);
 }

@@ -1,8 +1,8 @@
 use Rattle.std.proofs.Common.{◌≡◌, ℕ, suc, ◌+◌, ◌-◌, ◌≤◌, [], ◌∷◌, ◌++◌, Some, sym, ap, subst, ◌∙◌, arith}
 use Rattle.ynl_model.specs.declared.containers.Placed.{Placed}
 use Rattle.ynl_model.specs.Changes.{next_item}
-use Rattle.ynl_tables.specs.Tables.{state_of, HasRoom}
-use Rattle.ynl_changes.proofs.InPlace.{less_room}
+use Rattle.ynl_tables.specs.Tables.{state_of, HasCapacity}
+use Rattle.ynl_changes.proofs.InPlace.{less_capacity}
 use Rattle.ynl_changes.proofs.Serves.{beat_none, beat_zero, state_done, placed_done, state_next, placed_next, working_next, stands_next}
 use Rattle.ynl_changes.proofs.serving.serve.Goals as goal
 
@@ -19,7 +19,7 @@ returns-in_default-clause-placed c =
 pub place-container-requires : goal.place-container-requires
 place-container-requires c =
     let some : 1 ≤ c.args.times - c.loop-i._i = omega arith in
-    less_room c.args.node.now.label 1 (c.args.times - c.loop-i._i) some c.loop-i.tables.partitions.items c.loop-i.invariant.room
+    less_capacity c.args.node.now.label 1 (c.args.times - c.loop-i._i) some c.loop-i.tables.partitions.items c.loop-i.invariant.capacity
 
 pub loop-i-preserved : goal.loop-i-preserved
 loop-i-preserved c =
@@ -35,8 +35,8 @@ loop-i-preserved c =
     record {
       working = working_next config s new node c.in-Some.request c.loop-i.invariant.working c.loop-i.invariant.stands f moved;
       stands = stands_next config s new node c.in-Some.request c.loop-i.invariant.stands moved;
-      room = c.place-container.ensures.room k (subst (λ (n : ℕ). HasRoom node.label n c.loop-i.tables.partitions.items) (let g : m ≡ k + 1 = omega arith in g) c.loop-i.invariant.room);
-      reply_room = omega arith;
+      capacity = c.place-container.ensures.capacity k (subst (λ (n : ℕ). HasCapacity node.label n c.loop-i.tables.partitions.items) (let g : m ≡ k + 1 = omega arith in g) c.loop-i.invariant.capacity);
+      reply_capacity = omega arith;
       state = state_next config node m k s new c.in-Some.request e f moved _ c.loop-i.invariant.state;
       placed = placed_next config node m k s new c.in-Some.request e f moved c.loop-i.placed.items _ _ (c.push_copy.ensures.items ∙ ap (λ (k : Placed). c.loop-i.placed.items ++ k ∷ []) c.place-container.ensures.container) c.loop-i.invariant.placed;
     }

@@ -1,15 +1,15 @@
 use Rattle.std.proofs.Common.{◌≡◌, ◌+◌, ◌-◌, ◌≤◌, ◌++◌, vec_len, vec_capacity}
 use Rattle.ynl_model.specs.Changes.{beat}
 use Rattle.ynl_laws.specs.Working.{IsWorking, Stands}
-use Rattle.ynl_tables.specs.Tables.{state_of, HasRoom}
+use Rattle.ynl_tables.specs.Tables.{state_of, HasCapacity}
 use Rattle.ynl_changes.proofs.serving.serve.Given as goal
 
 abbrev pub invariant-loop-i : goal.invariant-loop-i
 invariant-loop-i l = record {
   working : IsWorking l.config (state_of l.tables);
   stands : Stands (state_of l.tables) l.node;
-  room : HasRoom l.node.label (l.times - l._i) l.tables.partitions.items;
-  reply_room : vec_len l.placed + (l.times - l._i) ≤ vec_capacity l.placed;
+  capacity : HasCapacity l.node.label (l.times - l._i) l.tables.partitions.items;
+  reply_capacity : vec_len l.placed + (l.times - l._i) ≤ vec_capacity l.placed;
   state : (beat l.config l.node (l.times - l._i) (state_of l.tables)).state ≡ (beat l.config l.node l.times (state_of l.initial.tables)).state;
   placed : l.placed.items ++ (beat l.config l.node (l.times - l._i) (state_of l.tables)).placed ≡ l.initial.placed.items ++ (beat l.config l.node l.times (state_of l.initial.tables)).placed;
 }

@@ -2,11 +2,11 @@ use Rattle.std.proofs.Common.{◌≡◌, Bool, true, cond, [], ◌∷◌, ◌++�
 use Rattle.std.proofs.lemmas.List.{map_push}
 use Rattle.ynl_resource.specs.Names.{same_path}
 use Rattle.ynl_model.specs.Applications.{submitted}
-use Rattle.ynl_laws.proofs.Restricted.{same-path}
 use Rattle.ynl_tables.specs.declared.rows.App.{App}
 use Rattle.ynl_tables.specs.Tables.{app_of, leaf_of_row}
 use Rattle.ynl_changes.specs.Submitting.{application}
 use Rattle.ynl_changes.proofs.submitting.submit_on.Goals as goal
+use Rattle.ynl_laws.proofs.Names.{same-path}
 
 pub returns-then-eq : goal.returns-then-eq
 returns-then-eq c =

@@ -1,7 +1,7 @@
 use Rattle.std.proofs.Common.{[], ◌∷◌, sym, subst}
-use Rattle.ynl_laws.proofs.Lists.{Each-append}
 use Rattle.ynl_core.specs.Resting.{Rests, AreResting}
 use Rattle.ynl_core.proofs.resting.rest.Goals as goal
+use Rattle.ynl_laws.proofs.Lists.{Each-append}
 
 pub returns-then-is_ok : goal.returns-then-is_ok
 returns-then-is_ok c config s p each =

@@ -23,7 +23,7 @@ loop-event-preserved c =
       sure =
           subst (λ es. AreSure (opened c.args.config) es c.push_reserved.new.self.items) (sym more)
           (subst (AreSure (opened c.args.config) (events ++ c.event-item.result ∷ [])) (sym c.push_reserved.ensures.items) sure);
-      room = omega arith;
+      capacity = omega arith;
     }
 
 pub returns-clause-isolated : goal.returns-clause-isolated

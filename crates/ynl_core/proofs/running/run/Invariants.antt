@@ -7,5 +7,5 @@ abbrev pub invariant-loop-event : goal.invariant-loop-event
 invariant-loop-event l = record {
   so_far : IsRun l.fn.config (take l.event-index l.events) l.answers.items l.core;
   sure : AreSure (opened l.fn.config) (take l.event-index l.events) l.answers.items;
-  room : vec_len l.answers + (length l.events - l.event-index) ≤ vec_capacity l.answers;
+  capacity : vec_len l.answers + (length l.events - l.event-index) ≤ vec_capacity l.answers;
 }

@@ -4,5 +4,5 @@ use Rattle.ynl_journal.proofs.copying.placed_into.Given as goal
 abbrev pub invariant-loop-container : goal.invariant-loop-container
 invariant-loop-container l = record {
   so_far : l.items.items ≡ take l.container-index l.containers;
-  room : vec_len l.items + (length l.containers - l.container-index) ≤ vec_capacity l.items;
+  reserved : vec_len l.items + (length l.containers - l.container-index) ≤ vec_capacity l.items;
 }

@@ -2,7 +2,7 @@ use Rattle.std.proofs.Common.{◌≡◌, List, [], filter, find, ap, ◌∙◌}
 use Rattle.std.specs.Option.{option_map_or}
 use Rattle.ynl_model.specs.Cluster.{sizes, containers_on, is_partition, user_used}
 use Rattle.ynl_tables.specs.declared.rows.PartitionRow.{PartitionRow}
-use Rattle.ynl_tables.specs.declared.uses.Whose.TheVariants.{User}
+use Rattle.ynl_tables.specs.declared.uses.Counted.TheVariants.{User}
 use Rattle.ynl_tables.specs.Tables.{state_of, leaves_of, partitions_of}
 use Rattle.ynl_tables.specs.Uses.{counts, is_counted, of_user}
 use Rattle.ynl_tables.proofs.Filters.{filter_and}

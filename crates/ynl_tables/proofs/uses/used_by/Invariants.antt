@@ -5,4 +5,4 @@ use Rattle.ynl_tables.specs.Uses.{is_counted}
 use Rattle.ynl_tables.proofs.uses.used_by.Given as goal
 
 abbrev pub invariant-loop-container : goal.invariant-loop-container
-invariant-loop-container l = l.sum ≡ sizes (filter (is_counted (leaves_of l.leaves) l.queue l.whose) (take l.container-index l.containers))
+invariant-loop-container l = l.sum ≡ sizes (filter (is_counted (leaves_of l.leaves) l.queue l.counted) (take l.container-index l.containers))

@@ -6,11 +6,12 @@ use Rattle.ynl_resource.specs.declared.paths.Path.{Path}
 use Rattle.ynl_model.specs.declared.events.Event.{Event}
 use Rattle.ynl_model.specs.declared.events.Event.TheVariants.{Ask}
 use Rattle.ynl_model.specs.declared.replies.Reply.TheVariants.{Done}
-use Rattle.ynl_model.specs.Applications.{Application, AskRow, LeafApps, find_app, in_leaf, with_app, set_ask}
+use Rattle.ynl_model.specs.Applications.{Application, LeafApps, find_app, in_leaf, with_app, set_ask}
+use Rattle.ynl_model.specs.declared.applications.AskRow.{AskRow}
 use Rattle.ynl_model.specs.Cluster.{State}
 use Rattle.ynl_model.specs.Events.{Outcome, done, step, accepted}
 use Rattle.ynl_laws.specs.Working.{IsWorking}
-use Rattle.ynl_laws.proofs.Working.{working-step}
+use Rattle.ynl_laws.proofs.Soundness.Working.{working-step}
 use Rattle.ynl_tables.specs.Tables.{state_of, leaves_of, partitions_of}
 use Rattle.ynl_core.specs.World.{World, Answers}
 use Rattle.ynl_core.proofs.Stepping.{taken_in, none_rests}
@@ -30,7 +31,7 @@ stepped c =
     let event : Event = Ask c.args.tenant c.args.name c.args.ask.label c.args.ask.priority c.args.ask.count c.args.ask.size in
     let change : LeafApps → LeafApps = with_app c.args.name (set_ask c.args.ask) in
     let leaves : leaves_of c.ask_for.new.rows.items ≡ in_leaf c.in-Ok.leaf change s.leaves = c.ask_for.ensures ∙ ap (in_leaf c.in-Ok.leaf change) c.reserve_ask.ensures.meaning in
-    taken_in config s event c.in-Ok.ensures.taken
+    taken_in config s event c.in-Ok.ensures.free
     ∙ by_leaf (find_app s.leaves c.args.tenant c.args.name) c.in-Ok.leaf s (λ (leaf : Path). done (record s { leaves = in_leaf leaf change s.leaves })) c.in-Ok.ensures.leaf
     ∙ (λ i. done (record s { leaves = sym leaves i }))
 
@@ -38,7 +39,7 @@ pub invariant_of-self-2 : goal.invariant_of-self-2
 invariant_of-self-2 c =
     let config = c.self.inside.config in
     let event : Event = Ask c.args.tenant c.args.name c.args.ask.label c.args.ask.priority c.args.ask.count c.args.ask.size in
-    none_rests config _ _ (search rules) (subst (IsWorking config) (ap (λ (o : Outcome). o.state) (stepped c)) (working-step config (state_of c.self.inside.tables) event (subst IsSize (ap (λ (ask : AskRow). ask.size) c.ask.view_is) c.amount-sized.ensures.range) c.self.invariant.working))
+    none_rests config _ _ (search rules) (subst (IsWorking config) (ap (λ (o : Outcome). o.state) (stepped c)) (working-step config (state_of c.self.inside.tables) event c.amount-sized.ensures.range c.self.invariant.working))
 
 pub returns-clause-ok : goal.returns-clause-ok
 returns-clause-ok c =

@@ -1,26 +1,26 @@
-use Rattle.std.proofs.Common.{◌≡◌, Some, rules, refl, sym, ap, subst}
+use Rattle.std.proofs.Common.{◌≡◌, Some, rules, refl, sym, ap, subst, ◌∙◌}
 use Rattle.ynl_model.specs.declared.events.Event.{Event}
 use Rattle.ynl_model.specs.declared.events.Event.TheVariants.{Finish}
 use Rattle.ynl_model.specs.declared.replies.Reply.TheVariants.{Done}
 use Rattle.ynl_model.specs.Applications.{Application, find_app}
 use Rattle.ynl_model.specs.Cluster.{State}
-use Rattle.ynl_model.specs.Events.{Outcome, done, step, reasons, accepted}
+use Rattle.ynl_model.specs.Events.{Outcome, done, step, accepted}
 use Rattle.ynl_laws.specs.Working.{IsWorking}
-use Rattle.ynl_laws.proofs.Working.{working-step}
-use Rattle.ynl_core.proofs.Stepping.{none_rests}
+use Rattle.ynl_laws.proofs.Soundness.Working.{working-step}
+use Rattle.ynl_core.proofs.Stepping.{taken_in, none_rests}
 use Rattle.ynl_tables.specs.Tables.{state_of, app_of}
 use Rattle.ynl_core.specs.World.{World, Answers}
 use Rattle.ynl_core.proofs.cluster.Core.finish.Goals as goal
 
 -- the step is that the application finishes
-stepped : (c : goal.After-clear) → step c.self.inside.config (state_of c.self.inside.tables) (Finish c.args.tenant c.args.name) ≡ done (state_of c.finish.new.tables)
-unfolding step reasons accepted
+stepped : (c : goal.After-clear) → step c.self.inside.config (state_of c.self.inside.tables) (Finish c.args.tenant c.args.name) ≡ done (state_of c.finish_application.new.tables)
+unfolding accepted
 stepped c =
     let s : State = state_of c.self.inside.tables in
-    let app : Application = app_of c.in-Some.live.leaf.now c.in-Some.live.app.now in
-    let found : find_app s.leaves c.args.tenant c.args.name ≡ Some app = search rules in
-    let moved = c.finish.ensures app refl refl in
-    rw found (ap done (sym moved))
+    let app : Application = app_of c.in-Ok.live.leaf.now c.in-Ok.live.app.now in
+    let found : find_app s.leaves c.args.tenant c.args.name ≡ Some app = c.in-Ok.ensures.live in
+    let moved = c.finish_application.ensures app refl refl in
+    taken_in c.self.inside.config s (Finish c.args.tenant c.args.name) (c.in-Ok.ensures.free c.self.inside.config) ∙ rw found (ap done (sym moved))
 
 pub invariant_of-self : goal.invariant_of-self
 invariant_of-self c =
@@ -31,7 +31,7 @@ invariant_of-self c =
 pub returns : goal.returns
 returns c =
     let event : Event = Finish c.args.tenant c.args.name in
-    let new : World = record { config = c.self.inside.config; state = state_of c.finish.new.tables } in
+    let new : World = record { config = c.self.inside.config; state = state_of c.finish_application.new.tables } in
     let P : World → Type 0 = λ w. Answers w event new Done in
     subst P c.self.view_is (record {
       told = sym (ap (λ (o : Outcome). o.reply) (stepped c));

@@ -1,14 +1,14 @@
-use Rattle.std.proofs.Common.{◌≡◌, ◌<◌, [], Some, false, rules, sym, ap, subst, ◌∙◌}
+use Rattle.std.proofs.Common.{◌≡◌, ◌<◌, [], Some, rules, sym, ap, subst, ◌∙◌}
 use Rattle.ynl_model.specs.declared.events.Event.{Event}
 use Rattle.ynl_model.specs.declared.events.Event.TheVariants.{Heartbeat}
 use Rattle.ynl_model.specs.declared.replies.Reply.TheVariants.{Placed}
 use Rattle.ynl_model.specs.Nodes.{find_node}
-use Rattle.ynl_model.specs.Cluster.{State, is_spent}
+use Rattle.ynl_model.specs.Cluster.{State}
 use Rattle.ynl_model.specs.Changes.{beat}
-use Rattle.ynl_model.specs.Events.{Outcome, step, reasons, accepted}
+use Rattle.ynl_model.specs.Events.{Outcome, step, accepted}
 use Rattle.ynl_laws.specs.Working.{IsWorking}
-use Rattle.ynl_laws.proofs.Working.{working-step}
-use Rattle.ynl_laws.proofs.Steps.{stands-found}
+use Rattle.ynl_laws.proofs.Soundness.Working.{working-step}
+use Rattle.ynl_laws.proofs.Soundness.Steps.{stands-found}
 use Rattle.ynl_core.specs.CoreFields.{world_of, IsSound}
 use Rattle.ynl_core.specs.Resting.{AreResting}
 use Rattle.ynl_tables.specs.Tables.{state_of, leaves_of, partitions_of}
@@ -18,10 +18,10 @@ use Rattle.ynl_core.proofs.Stepping.{none_rests}
 use Rattle.ynl_core.proofs.cluster.Core.heartbeat.Goals as goal
 
 pub serve-requires-clause-stands : goal.serve-requires-clause-stands
-serve-requires-clause-stands c = stands-found (state_of c.self.inside.tables) c.args.name c.in-Some.node (search rules)
+serve-requires-clause-stands c = stands-found (state_of c.self.inside.tables) c.args.name c.in-Ok.node (search rules)
 
 pub invariant_of-self-else-is_empty : goal.invariant_of-self-else-is_empty
-unfolding step reasons accepted
+unfolding step accepted
 invariant_of-self-else-is_empty c =
     let old : State = state_of c.self.inside.tables in
     let config = c.self.inside.config in
@@ -33,10 +33,10 @@ pub invariant_of-self-then-count-gt0 : goal.invariant_of-self-then-count-gt0
 invariant_of-self-then-count-gt0 c =
     let tables = c.self.inside.tables in
     let config = c.self.inside.config in
-    let node = c.in-Some.node in
-    let times = c.per_heartbeat-count.result in
-    let reserved : State = record { nodes = tables.nodes.items; partitions = partitions_of c.reserve.new.rows.items; leaves = leaves_of tables.leaves.items; stops = tables.stops; maxima = tables.maxima } in
-    let as_before : state_of tables ≡ reserved = λ i. record { nodes = tables.nodes.items; partitions = sym c.reserve.ensures.meaning i; leaves = leaves_of tables.leaves.items; stops = tables.stops; maxima = tables.maxima } in
+    let node = c.in-Ok.node in
+    let times = c.containers_per_heartbeat-count.result in
+    let reserved : State = record { nodes = tables.nodes.items; partitions = partitions_of c.reserve_containers.new.rows.items; leaves = leaves_of tables.leaves.items; stops = tables.stops; maxima = tables.maxima } in
+    let as_before : state_of tables ≡ reserved = λ i. record { nodes = tables.nodes.items; partitions = sym c.reserve_containers.ensures.meaning i; leaves = leaves_of tables.leaves.items; stops = tables.stops; maxima = tables.maxima } in
     let found : find_node reserved.nodes c.args.name ≡ Some node = search rules in
     let nothing : c.serve.new.placed.items ≡ [] = empty_items c.serve.new.placed.items (search rules) in
     let unplaced : (beat config node times reserved).placed ≡ [] = unplaced_more (beat config node times reserved) c.in_ok-placed.placed.items c.serve.new.placed.items c.in_ok-placed.ensures.items c.serve.ensures.placed nothing in
@@ -51,12 +51,11 @@ invariant_of-self-then-count-gt0 c =
 pub returns-then-rests-clause-ok : goal.returns-then-rests-clause-ok
 returns-then-rests-clause-ok c =
     let old = world_of c.self.inside in
-    let node = c.in-Some.node in
+    let node = c.in-Ok.node in
     let event : Event = Heartbeat c.args.name in
     let found : find_node old.state.nodes c.args.name ≡ Some node = search rules in
-    let fresh : is_spent old.config.labels old.state node.label ≡ false = search rules in
-    let none = c.rests.ensures (search rules) old.config old.state (subst (AreResting old.config old.state) (sym c.deref-2.ensures.value) c.self.invariant.resting) node found in
-    let same = resting_step old.config old.state c.args.name node found fresh none in
+    let none = c.rests.ensures (search rules) old.config old.state (subst (AreResting old.config old.state) (sym c.deref.ensures.value) c.self.invariant.resting) node found in
+    let same = resting_step old.config old.state c.args.name node c.in-Ok.ensures.free found none in
     let P : World → Type 0 = λ w. Answers w event w (Placed c.new-then-rests.result) in
     subst P c.self.view_is (record {
       told = ap Placed (c.new-then-rests.ensures ∙ c.new.ensures.items) ∙ sym (ap (λ (o : Outcome). o.reply) same);

@@ -1,6 +1,6 @@
 use Rattle.std.proofs.Common.{rules, sym, subst}
 use Rattle.ynl_laws.specs.Working.{IsWorking}
-use Rattle.ynl_laws.proofs.Working.{working-opening}
+use Rattle.ynl_laws.proofs.Soundness.Working.{working-opening}
 use Rattle.ynl_core.proofs.Stepping.{none_rests}
 use Rattle.ynl_core.proofs.cluster.Core.open.Goals as goal
 

@@ -1,15 +1,15 @@
 use Rattle.std.proofs.Common.{◌≡◌, rules, subst}
 use Rattle.ynl_model.specs.declared.events.Event.{Event}
 use Rattle.ynl_model.specs.declared.events.Event.TheVariants.{Register}
-use Rattle.ynl_model.specs.Events.{step, reasons, accepted}
+use Rattle.ynl_model.specs.Events.{step, accepted}
 use Rattle.ynl_laws.specs.Working.{IsWorking}
-use Rattle.ynl_laws.proofs.Working.{working-step}
+use Rattle.ynl_laws.proofs.Soundness.Working.{working-step}
 use Rattle.ynl_core.proofs.Stepping.{none_rests}
 use Rattle.ynl_tables.specs.Tables.{state_of}
 use Rattle.ynl_core.proofs.cluster.Core.register.Goals as goal
 
 pub invariant_of-self-2 : goal.invariant_of-self-2
-unfolding step reasons accepted
+unfolding step accepted
 invariant_of-self-2 c =
     let tables = c.self.inside.tables in
     let config = c.self.inside.config in

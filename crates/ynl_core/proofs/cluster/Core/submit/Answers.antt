@@ -1,26 +1,15 @@
-use Rattle.std.proofs.Common.{◌≡◌, None, rules, sym, ap, subst, ◌∙◌}
-use Rattle.std.specs.Prelude.{IsOk, IsTrue, is_some}
-use mathlib.Core.Bool.{true≢false}
-use Rattle.ynl_resource.specs.Refusals.{first_that_holds}
+use Rattle.std.proofs.Common.{◌≡◌, rules, sym, ap, subst, ◌∙◌}
 use Rattle.ynl_model.specs.declared.events.Event.{Event}
 use Rattle.ynl_model.specs.declared.events.Event.TheVariants.{Submit}
-use Rattle.ynl_model.specs.declared.replies.Reply.TheVariants.{Refused, Done}
+use Rattle.ynl_model.specs.declared.replies.Reply.TheVariants.{Done}
 use Rattle.ynl_model.specs.Applications.{in_leaf, submitted, new_app}
-use Rattle.ynl_model.specs.Events.{Outcome, done, step, reasons, accepted}
+use Rattle.ynl_model.specs.Events.{Outcome, done, step, accepted}
 use Rattle.ynl_laws.specs.Working.{IsWorking}
-use Rattle.ynl_laws.proofs.Working.{working-step}
+use Rattle.ynl_laws.proofs.Soundness.Working.{working-step}
 use Rattle.ynl_tables.specs.Tables.{state_of, leaves_of, partitions_of}
-use Rattle.ynl_core.specs.Sure.{is_refused}
 use Rattle.ynl_core.specs.World.{World, Answers}
-use Rattle.ynl_core.specs.CoreFields.{world_of}
-use Rattle.ynl_core.proofs.Stepping.{taken_in, answers_refused, none_rests}
+use Rattle.ynl_core.proofs.Stepping.{taken_in, none_rests}
 use Rattle.ynl_core.proofs.cluster.Core.submit.Goals as goal
-
-pub returns-in-Some-clause-ok : goal.returns-in-Some-clause-ok
-returns-in-Some-clause-ok c =
-    let event : Event = Submit c.args.queue c.args.app c.args.user c.args.label c.args.master in
-    let P : World → Type 0 = λ w. Answers w event w (Refused c.in-Some.refusal) in
-    subst P c.self.view_is (answers_refused (world_of c.self.inside) event c.in-Some.refusal (sym c.in-Some.is ∙ c.refusal_of.ensures c.args.user c.args.label c.home_of-home.ensures))
 
 -- the step is the submission
 stepped : (c : goal.After-clear) → (step c.self.inside.config (state_of c.self.inside.tables) (Submit c.args.queue c.args.app c.args.user c.args.label c.args.master))
@@ -30,9 +19,8 @@ stepped c =
     let config = c.self.inside.config in
     let tables = c.self.inside.tables in
     let event : Event = Submit c.args.queue c.args.app c.args.user c.args.label c.args.master in
-    let none : first_that_holds (reasons config (state_of tables) event) ≡ None = sym (c.refusal_of.ensures c.args.user c.args.label c.home_of-home.ensures) ∙ c.in_default.is in
-    let leaves = c.submit.ensures ∙ (λ i. in_leaf c.args.queue (submitted (new_app c.args.queue c.args.app c.args.user (c.home_of-home.ensures i) c.args.master)) (c.reserve_place.ensures.meaning i)) in
-    taken_in config (state_of tables) event none
+    let leaves = c.submit.ensures ∙ (λ i. in_leaf c.args.queue (submitted (new_app c.args.queue c.args.app c.args.user (c.in-Ok.ensures.home i) c.args.master)) (c.reserve_application.ensures.meaning i)) in
+    taken_in config (state_of tables) event (c.in-Ok.ensures.free c.args.user)
     ∙ (λ i. done (record { nodes = tables.nodes.items; partitions = partitions_of tables.partitions.items; leaves = sym leaves i; stops = tables.stops; maxima = tables.maxima }))
 
 pub invariant_of-self-2 : goal.invariant_of-self-2
@@ -50,10 +38,3 @@ returns-clause-ok c =
       told = sym (ap (λ (o : Outcome). o.reply) (stepped c));
       left = λ i. record { config = c.self.inside.config; state = sym (ap (λ (o : Outcome). o.state) (stepped c)) i };
     })
-
-pub returns-in_err-reserve_place-clause-sure : goal.returns-in_err-reserve_place-clause-sure
-returns-in_err-reserve_place-clause-sure c =
-    let event : Event = Submit c.args.queue c.args.app c.args.user c.args.label c.args.master in
-    let none : first_that_holds (reasons c.self.inside.config (state_of c.self.inside.tables) event) ≡ None = sym (c.refusal_of.ensures c.args.user c.args.label c.home_of-home.ensures) ∙ c.in_default.is in
-    let P : World → Type 0 = λ w. IsTrue (is_refused w event) → IsOk c.from_residual.result in
-    subst P c.self.view_is (λ h. absurd (true≢false (sym h ∙ ap is_some none)))

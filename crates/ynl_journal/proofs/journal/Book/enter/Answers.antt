@@ -5,19 +5,19 @@ use Rattle.ynl_core.specs.World.{World}
 use Rattle.ynl_model.specs.declared.entries.Entry.{Entry}
 use Rattle.ynl_journal.specs.Journal.{Journal, entry}
 use Rattle.ynl_journal.proofs.Longer.{known_reply, kept_replay, grown_core, grown_agrees, history_push}
-use Rattle.ynl_journal.proofs.Replies.{fits_room, held_stays}
+use Rattle.ynl_journal.proofs.Replies.{fits_reserved, held_stays}
 use Rattle.ynl_journal.proofs.journal.Book.enter.Goals as goal
 
-pub copy_into-requires-clause-room : goal.copy_into-requires-clause-room
-copy_into-requires-clause-room c =
-    fits_room c.self.inside.core c.apply.new.self c.args.event c.in_ok-reply.reply c.self.inside.per_heartbeat _ c.in_ok-reply.ensures.ok c.self.invariant.most c.in_ok-room.ensures.room
+pub copy_into-requires-clause-reserved : goal.copy_into-requires-clause-reserved
+copy_into-requires-clause-reserved c =
+    fits_reserved c.self.inside.core c.apply.new.self c.args.event c.in_ok-reply.reply c.self.inside.containers_per_heartbeat _ c.in_ok-reply.ensures.ok c.self.invariant.most c.in_ok-reserved.ensures.reserved
 
 pub invariant_of-self-in_err-kept : goal.invariant_of-self-in_err-kept
 invariant_of-self-in_err-kept c =
     let old = c.self.inside.core in
     let same : c.apply.new.self ≡ old = held_stays old c.apply.new.self c.args.event c.in_ok-reply.reply c.in_ok-reply.ensures.ok c.in_err-kept.ensures.err in
     let kept = kept_replay old c.apply.new.self c.self.inside.entries.items c.reserve.new.self.items same c.in_ok-reserve.ensures.items c.self.invariant.state c.self.invariant.agrees in
-    record { state = kept.0; agrees = kept.1; most = c.self.invariant.most ∙ sym (ap (λ (w : World). w.config.per_heartbeat) same) }
+    record { state = kept.0; agrees = kept.1; most = c.self.invariant.most ∙ sym (ap (λ (w : World). w.config.containers_per_heartbeat) same) }
 
 pub invariant_of-self-2 : goal.invariant_of-self-2
 invariant_of-self-2 c =
@@ -29,7 +29,7 @@ invariant_of-self-2 c =
     record {
       state = grown_core old c.apply.new.self es c.push_reserved.new.self.items c.args.event (Some c.in_ok-kept.kept) c.in_ok-reply.reply c.self.invariant.state step_is longer;
       agrees = grown_agrees old c.apply.new.self es c.push_reserved.new.self.items c.args.event c.in_ok-kept.kept c.in_ok-reply.reply c.self.invariant.state c.self.invariant.agrees step_is c.in_ok-kept.ensures.ok longer;
-      most = c.self.invariant.most ∙ sym (ap (λ (w : World). w.config.per_heartbeat) step_is.left);
+      most = c.self.invariant.most ∙ sym (ap (λ (w : World). w.config.containers_per_heartbeat) step_is.left);
     }
 
 pub returns-clause-closed : goal.returns-clause-closed

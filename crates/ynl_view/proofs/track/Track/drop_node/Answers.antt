@@ -1,7 +1,8 @@
 use Rattle.std.proofs.Common.{rules, Bool, not, ◌&&◌, ap, ◌∙◌}
 use Rattle.std.proofs.lemmas.Fn.{filter_same}
 use Rattle.ynl_resource.specs.Names.{same_name, same_label}
-use Rattle.ynl_model.specs.View.{Tracked, dropped}
+use Rattle.ynl_model.specs.View.{dropped}
+use Rattle.ynl_model.specs.declared.nodes.Tracked.{Tracked}
 use Rattle.ynl_view.proofs.track.Track.drop_node.Goals as goal
 
 pub returns : goal.returns

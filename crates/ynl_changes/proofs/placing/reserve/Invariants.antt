@@ -1,9 +1,0 @@
-use Rattle.std.proofs.Common.{◌≡◌, take}
-use Rattle.ynl_tables.specs.Tables.{partitions_of, HasRoom}
-use Rattle.ynl_changes.proofs.placing.reserve.Given as goal
-
-abbrev pub invariant-loop-row : goal.invariant-loop-row
-invariant-loop-row l = record {
-  meaning : partitions_of l.row-items ≡ partitions_of l.initial.row-items;
-  room : HasRoom l.label l.count (take l.row-index l.row-items);
-}

@@ -1,0 +1,117 @@
+//! Refusals of what happens to a node, and of what is to be placed on one.
+
+ghost use Rattle.std.specs.Prelude.{◌≡◌, Some, None, IfOk, IfErr};
+ghost use Rattle.ynl_resource.specs.Refusals.{first_that_holds};
+ghost use Rattle.ynl_resource.specs.declared.amounts.Resource.{Resource};
+ghost use Rattle.ynl_model.specs.Queues.{Config};
+ghost use Rattle.ynl_model.specs.Cluster.{node_of};
+ghost use Rattle.ynl_model.specs.Check.{placing_reasons};
+ghost use Rattle.ynl_model.specs.Events.{reasons};
+ghost use Rattle.ynl_model.specs.declared.events.Event.TheVariants.{Register, Lost, Relabel, Heartbeat, Propose};
+ghost use Rattle.ynl_tables.specs.Tables.{state_of};
+
+use ynl_model::Node;
+use ynl_queues::Config;
+use ynl_resource::{Label, Name, Refusal};
+use ynl_tables::{Tables, find_node, is_full, is_same, is_spent};
+
+/// The first reason for which a node does not join, if there is one.
+#[tactic(auto, unfolding(ynl_model::specs::Events::reasons))]
+pub(crate) fn refuse_register(
+    config: &Config,
+    tables: &Tables,
+    name: &Name,
+    label: &Label,
+) -> Option<Refusal>
+    ensures { (size : Resource) → result ≡ first_that_holds (reasons config.now (state_of tables.now) (Register name.now label.now size)) }
+{
+    if !config.labels().has(label) {
+        return Some(Refusal::NoSuchLabel);
+    }
+    if find_node(&tables.nodes, name).is_some() {
+        return Some(Refusal::NodeExists);
+    }
+    if is_full(&tables.nodes, label) {
+        return Some(Refusal::PartitionFull);
+    }
+    None
+}
+
+/// The node that is lost, or the first reason for which none is.
+#[tactic(auto, unfolding(ynl_model::specs::Events::reasons))]
+pub(crate) fn refuse_lost(tables: &Tables, name: &Name) -> Result<Node, Refusal>
+    ensures refused { IfErr result (λ refusal. (c : Config) → first_that_holds (reasons c (state_of tables.now) (Lost name.now)) ≡ Some refusal) }
+    ensures free { IfOk result (λ _. (c : Config) → first_that_holds (reasons c (state_of tables.now) (Lost name.now)) ≡ None) }
+    ensures node { IfOk result (λ node. node_of (state_of tables.now) name.now ≡ Some node) }
+{
+    match find_node(&tables.nodes, name) {
+        Some(node) => Ok(node),
+        None => Err(Refusal::NoSuchNode),
+    }
+}
+
+/// The node that goes to another partition, or the first reason for which it does not.
+#[tactic(auto, unfolding(ynl_model::specs::Events::reasons))]
+pub(crate) fn refuse_relabel(
+    config: &Config,
+    tables: &Tables,
+    name: &Name,
+    label: &Label,
+) -> Result<Node, Refusal>
+    ensures refused { IfErr result (λ refusal. first_that_holds (reasons config.now (state_of tables.now) (Relabel name.now label.now)) ≡ Some refusal) }
+    ensures free { IfOk result (λ _. first_that_holds (reasons config.now (state_of tables.now) (Relabel name.now label.now)) ≡ None) }
+    ensures node { IfOk result (λ node. node_of (state_of tables.now) name.now ≡ Some node) }
+{
+    if !config.labels().has(label) {
+        return Err(Refusal::NoSuchLabel);
+    }
+    let Some(node) = find_node(&tables.nodes, name) else {
+        return Err(Refusal::NoSuchNode);
+    };
+    if is_same(&node.label, label) {
+        return Err(Refusal::SameLabel);
+    }
+    if is_full(&tables.nodes, label) {
+        return Err(Refusal::PartitionFull);
+    }
+    Ok(node)
+}
+
+/// The node on which something is to be placed, or the first reason for which nothing is.
+fn refuse_placing(config: &Config, tables: &Tables, name: &Name) -> Result<Node, Refusal>
+    ensures refused { IfErr result (λ refusal. first_that_holds (placing_reasons config.now (state_of tables.now) name.now) ≡ Some refusal) }
+    ensures free { IfOk result (λ _. first_that_holds (placing_reasons config.now (state_of tables.now) name.now) ≡ None) }
+    ensures node { IfOk result (λ node. node_of (state_of tables.now) name.now ≡ Some node) }
+{
+    let Some(node) = find_node(&tables.nodes, name) else {
+        return Err(Refusal::NoSuchNode);
+    };
+    if is_spent(config, tables, &node.label) {
+        return Err(Refusal::ClockSpent);
+    }
+    Ok(node)
+}
+
+/// The node that is ready for more, or the first reason for which it gets nothing.
+#[tactic(auto, unfolding(ynl_model::specs::Events::reasons))]
+pub(crate) fn refuse_heartbeat(
+    config: &Config,
+    tables: &Tables,
+    name: &Name,
+) -> Result<Node, Refusal>
+    ensures refused { IfErr result (λ refusal. first_that_holds (reasons config.now (state_of tables.now) (Heartbeat name.now)) ≡ Some refusal) }
+    ensures free { IfOk result (λ _. first_that_holds (reasons config.now (state_of tables.now) (Heartbeat name.now)) ≡ None) }
+    ensures node { IfOk result (λ node. node_of (state_of tables.now) name.now ≡ Some node) }
+{
+    refuse_placing(config, tables, name)
+}
+
+/// The node for which something is proposed, or the first reason for which nothing is.
+#[tactic(auto, unfolding(ynl_model::specs::Events::reasons))]
+pub(crate) fn refuse_propose(config: &Config, tables: &Tables, name: &Name) -> Result<Node, Refusal>
+    ensures refused { IfErr result (λ refusal. first_that_holds (reasons config.now (state_of tables.now) (Propose name.now)) ≡ Some refusal) }
+    ensures free { IfOk result (λ _. first_that_holds (reasons config.now (state_of tables.now) (Propose name.now)) ≡ None) }
+    ensures node { IfOk result (λ node. node_of (state_of tables.now) name.now ≡ Some node) }
+{
+    refuse_placing(config, tables, name)
+}
