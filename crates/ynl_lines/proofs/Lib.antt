@@ -3,4 +3,7 @@ pub mod Readings
 pub mod Sizes
 pub mod Texts
 pub mod Ids
+pub mod Rows
 pub mod ProposalTrip
+pub mod Lists
+pub mod ReplyTrip

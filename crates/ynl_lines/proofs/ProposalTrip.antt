@@ -3,12 +3,13 @@ use Rattle.std.proofs.Common.{◌≡◌, ◌≤◌, ◌∙◌, ℕ, List, Some, 
 use Rattle.ynl_resource.specs.declared.amounts.Resource.{Resource}
 use Rattle.ynl_resource.specs.declared.labels.Label.{Label}
 use Rattle.ynl_resource.specs.Amounts.{IsSize}
-use Rattle.ynl_resource.specs.Texts.{read_name, read_label, label_text, most_clock}
+use Rattle.ynl_resource.specs.Texts.{read_name, read_label, label_text}
+use Rattle.ynl_resource.specs.Ranges.{most_clock, most_priority}
 use Rattle.ynl_model.specs.declared.proposals.What.{What}
 use Rattle.ynl_model.specs.declared.proposals.What.TheVariants.{Master, Ask as Asked}
 use Rattle.ynl_model.specs.declared.proposals.Proposal.{Proposal}
 use Rattle.ynl_lines.specs.declared.faults.LineFault.{LineFault}
-use Rattle.ynl_lines.specs.Reading.{or_name, ◌>>=◌, text_at, number_at, keys_are, name_at, label_at, within, size_at, most_priority, wanted_at, wanted_label_at, what_at, proposal_at}
+use Rattle.ynl_lines.specs.Reading.{or_name, ◌>>=◌, text_at, number_at, keys_are, name_at, label_at, within, size_at, wanted_at, wanted_label_at, what_at, proposal_at}
 use Rattle.ynl_lines.specs.Writing.{master_proposal, asked_proposal}
 use Rattle.ynl_lines.proofs.Sizes.{size_back, within_back}
 

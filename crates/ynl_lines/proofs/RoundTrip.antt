@@ -5,11 +5,12 @@ use Rattle.ynl_resource.specs.declared.names.Name.{Name}
 use Rattle.ynl_resource.specs.declared.labels.Label.{Label}
 use Rattle.ynl_resource.specs.declared.paths.Path.{Path}
 use Rattle.ynl_resource.specs.declared.ids.Id.{Id}
-use Rattle.ynl_resource.specs.Amounts.{IsSize, whole}
+use Rattle.ynl_resource.specs.Amounts.{IsSize}
+use Rattle.ynl_resource.specs.Ranges.{whole, most_count, most_priority}
 use Rattle.ynl_resource.specs.Texts.{read_name, read_label, read_path, read_id, label_text, path_text, id_text}
 use Rattle.ynl_model.specs.declared.events.Event.TheVariants.{Register, Lost, Relabel, Heartbeat, Exited, Submit, Ask, Release, Finish, Stop, Start, Poll, Usage, Propose, Commit, Maximum}
 use Rattle.ynl_model.specs.declared.proposals.Proposal.{Proposal}
-use Rattle.ynl_lines.specs.Reading.{or_name, ◌>>=◌, text_at, number_at, keys_are, name_at, label_at, path_at, id_at, node_at, queue_at, register_at, lost_at, relabel_at, heartbeat_at, exited_at, label_text_at, optional_label_at, submit_at, most_count, most_priority, HasAskNumbers, ask_at, release_at, finish_at, stop_at, start_at, poll_at, usage_at, propose_at, proposal_at, commit_at, maximum_at, event_at}
+use Rattle.ynl_lines.specs.Reading.{or_name, ◌>>=◌, text_at, number_at, keys_are, name_at, label_at, path_at, id_at, node_at, queue_at, register_at, lost_at, relabel_at, heartbeat_at, exited_at, label_text_at, optional_label_at, submit_at, HasAskNumbers, ask_at, release_at, finish_at, stop_at, start_at, poll_at, usage_at, propose_at, proposal_at, commit_at, maximum_at, event_at}
 use Rattle.ynl_lines.specs.Writing.{register_data, lost_data, relabel_data, heartbeat_data, exited_data, submit_data, ask_data, release_data, finish_data, stop_data, start_data, poll_data, usage_event_data, propose_data, proposal_data, commit_data, maximum_data}
 use Rattle.ynl_lines.proofs.Sizes.{size_back, within_back}
 

@@ -1,3 +1,4 @@
 pub mod Fields
 pub mod Reading
+pub mod ReadingReplies
 pub mod Writing

@@ -6,12 +6,13 @@ use Rattle.serde_json.specs.Read.{read}
 use Rattle.serde_json.specs.Find.{get, as_str, as_number, as_u64, as_object}
 use Rattle.serde_json.specs.Events.{members_len}
 use Rattle.ynl_resource.specs.declared.amounts.Resource.{Resource}
-use Rattle.ynl_resource.specs.Amounts.{amount, whole, IsSize}
+use Rattle.ynl_resource.specs.Amounts.{amount, IsSize}
+use Rattle.ynl_resource.specs.Ranges.{whole, most_clock, most_memory, most_vcores, most_count, most_priority}
 use Rattle.ynl_resource.specs.declared.names.Name.{Name}
 use Rattle.ynl_resource.specs.declared.labels.Label.{Label}
 use Rattle.ynl_resource.specs.declared.paths.Path.{Path}
 use Rattle.ynl_resource.specs.declared.ids.Id.{Id}
-use Rattle.ynl_resource.specs.Texts.{read_name, read_label, read_path, read_id, most_clock}
+use Rattle.ynl_resource.specs.Texts.{read_name, read_label, read_path, read_id}
 use Rattle.ynl_model.specs.declared.events.Event.{Event}
 use Rattle.ynl_model.specs.declared.events.Event.TheVariants.{Register, Lost, Relabel, Heartbeat, Exited, Submit, Ask, Release, Finish, Stop, Start, Poll, Usage, Propose, Commit, Maximum}
 use Rattle.ynl_model.specs.declared.proposals.What.{What}
@@ -76,19 +77,11 @@ id_at text = or_name (read_id text)
 
 -- whether a size is in range
 abbrev pub is_size : ℕ → ℕ → Bool
-is_size memory vcores = nat_le 1 memory && nat_le memory 4294967295 && nat_le 1 vcores && nat_le vcores 65536
+is_size memory vcores = nat_le 1 memory && nat_le memory most_memory && nat_le 1 vcores && nat_le vcores most_vcores
 
 -- a size of so many MB and virtual cores, or else the fault `range`
 unfoldable pub size_at : ℕ → ℕ → Result Resource LineFault
 size_at memory vcores = if is_size memory vcores then Ok (amount memory vcores) else Err fault.Range
-
--- the largest count of an ask
-abbrev pub most_count : ℕ
-most_count = 1000000
-
--- the largest number of a priority
-abbrev pub most_priority : ℕ
-most_priority = 4294967295
 
 -- a number that is at most so large
 unfoldable pub within : ℕ → ℕ → Result ℕ LineFault

@@ -1,4 +1,4 @@
-//! Why a line is no event.
+//! Why a line is no event, or no line of a journal.
 
 ghost use Rattle.std.specs.Prelude.{◌≡◌};
 ghost use Rattle.ynl_lines.specs.Writing.{fault_word};
@@ -44,3 +44,8 @@ impl LineFault {
         }
     }
 }
+
+/// The text is no line of a journal.
+#[derive(Clone, Copy, Debug, PartialEq, Eq, Error)]
+#[error("not a line of a journal")]
+pub struct BadLine;

@@ -2,7 +2,8 @@
 
 ghost use Rattle.std.specs.Prelude.{◌≡◌, ◌≤◌, IfOk};
 ghost use Rattle.serde_json.specs.View.{view};
-ghost use Rattle.ynl_resource.specs.Amounts.{IsSize, whole};
+ghost use Rattle.ynl_resource.specs.Amounts.{IsSize};
+ghost use Rattle.ynl_resource.specs.Ranges.{whole};
 ghost use Rattle.ynl_lines.specs.Reading.{Gives, HasClock};
 ghost use Rattle.ynl_lines.specs.Reading as spec;
 

@@ -1,10 +1,11 @@
-//! Lines of text: events are read from them, and replies, faults, events, and events with their
-//! replies are written to them.
+//! Lines of text: events, and events with their replies, are read from them, and replies, faults,
+//! events, and events with their replies are written to them.
 //! Each is a JSON object. A text here is without the newline that ends its line.
 #![tactic(auto)]
 
-pub use faults::LineFault;
+pub use faults::{BadLine, LineFault};
 pub use read::read_event;
+pub use read_lines::read_line;
 pub use write::{write_event, write_fault, write_line, write_reply};
 
 mod events;
@@ -14,8 +15,11 @@ mod object;
 mod proposals;
 mod read;
 mod read_applications;
+mod read_containers;
+mod read_lines;
 mod read_nodes;
 mod read_proposals;
 mod read_queues;
+mod read_replies;
 mod replies;
 mod write;

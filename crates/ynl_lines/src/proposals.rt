@@ -3,8 +3,9 @@
 ghost use Rattle.std.specs.Prelude.{◌≡◌, ◌≤◌, IfOk};
 ghost use Rattle.serde_json.specs.View.{view};
 ghost use Rattle.ynl_model.specs.declared.proposals.What.TheVariants.{Master, Ask as Asked};
-ghost use Rattle.ynl_resource.specs.Texts.{most_clock};
-ghost use Rattle.ynl_lines.specs.Reading.{proposal_at, most_priority, HasProposalNumbers};
+ghost use Rattle.ynl_resource.specs.Ranges.{most_clock};
+ghost use Rattle.ynl_lines.specs.Reading.{proposal_at, HasProposalNumbers};
+ghost use Rattle.ynl_resource.specs.Ranges.{most_priority};
 ghost use Rattle.ynl_lines.specs.Writing as spec;
 
 use crate::object::{Field, object};

@@ -1,6 +1,8 @@
 //! From lines to events.
 
 ghost use Rattle.std.specs.Prelude.{◌≡◌, option_map, IfOk, IfErr, IsErr, IsTrue, Ok, Some, None};
+ghost use Rattle.std.specs.List.{find};
+ghost use Rattle.std.specs.Str.{bytes_eq};
 ghost use Rattle.serde_json.specs.Errors.{IsMemory};
 ghost use Rattle.serde_json.specs.View.{view};
 ghost use Rattle.ynl_lines.specs.Reading.{reading, IsRanged};
@@ -55,54 +57,49 @@ fn found(read: Result<Value, Error>) -> Result<Option<Value>, AllocError>
 }
 
 /// The value that the bytes are, if they are the text of one.
-fn parse(alloc: Global, bytes: &[u8]) -> Result<Option<Value>, AllocError>
+pub fn parse(alloc: Global, bytes: &[u8]) -> Result<Option<Value>, AllocError>
     ensures { IfOk result (λ found. option_map view found ≡ reading bytes.now) }
 {
     found(Value::from_slice(alloc, bytes))
 }
 
+/// The word of each kind.
+const KINDS: [(&str, Kind); 16] = [
+    ("register", Kind::Register),
+    ("lost", Kind::Lost),
+    ("relabel", Kind::Relabel),
+    ("heartbeat", Kind::Heartbeat),
+    ("exited", Kind::Exited),
+    ("submit", Kind::Submit),
+    ("ask", Kind::Ask),
+    ("release", Kind::Release),
+    ("finish", Kind::Finish),
+    ("stop", Kind::Stop),
+    ("start", Kind::Start),
+    ("poll", Kind::Poll),
+    ("usage", Kind::Usage),
+    ("propose", Kind::Propose),
+    ("commit", Kind::Commit),
+    ("maximum", Kind::Maximum),
+];
+
+/// The kind in the first row with this word.
+fn kind_in(rows: &[(&str, Kind)], word: &str) -> Option<Kind>
+    ensures { result ≡ option_map (λ row. row.1) (find (λ row. bytes_eq word.now row.0.now) rows.now) }
+{
+    let row = rows.iter().find(|row| word == row.0)?;
+    Some(row.1)
+}
+
 fn kind_of(word: &str) -> Option<Kind>
     ensures { result ≡ spec.kind_of word.now }
 {
-    if word == "register" {
-        Some(Kind::Register)
-    } else if word == "lost" {
-        Some(Kind::Lost)
-    } else if word == "relabel" {
-        Some(Kind::Relabel)
-    } else if word == "heartbeat" {
-        Some(Kind::Heartbeat)
-    } else if word == "exited" {
-        Some(Kind::Exited)
-    } else if word == "submit" {
-        Some(Kind::Submit)
-    } else if word == "ask" {
-        Some(Kind::Ask)
-    } else if word == "release" {
-        Some(Kind::Release)
-    } else if word == "finish" {
-        Some(Kind::Finish)
-    } else if word == "stop" {
-        Some(Kind::Stop)
-    } else if word == "start" {
-        Some(Kind::Start)
-    } else if word == "poll" {
-        Some(Kind::Poll)
-    } else if word == "usage" {
-        Some(Kind::Usage)
-    } else if word == "propose" {
-        Some(Kind::Propose)
-    } else if word == "commit" {
-        Some(Kind::Commit)
-    } else if word == "maximum" {
-        Some(Kind::Maximum)
-    } else {
-        None
-    }
+    kind_in(&KINDS, word)
 }
 
+/// The event of an object.
 #[tactic(auto, unfolding(crate::specs::Reading::event_at))]
-fn event_at(event: &Value) -> Result<Event, LineFault>
+pub fn event_at(event: &Value) -> Result<Event, LineFault>
     ensures event { result ≡ spec.event_at (view event.now) }
     ensures ranged { IfOk result (λ event. IsRanged event) }
 {

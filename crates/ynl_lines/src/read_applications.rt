@@ -11,10 +11,7 @@ use crate::keys::{
 };
 use serde_json::Value;
 use ynl_model::Event;
-use ynl_resource::Label;
-
-/// The largest count of an ask.
-const MOST_COUNT: u32 = 1000000;
+use ynl_resource::{Label, MOST_COUNT};
 
 /// The text of a submit's label, which may be absent.
 #[tactic(auto, unfolding(crate::specs::Reading::label_text_at))]

@@ -11,10 +11,7 @@ use crate::keys::{keys_are, label_at, name_at, number_at, size_at, text_at, with
 use crate::read_nodes::node_at;
 use serde_json::Value;
 use ynl_model::{Event, Proposal, What};
-use ynl_resource::Label;
-
-/// The largest stamp.
-const MOST_STAMP: u64 = 9007199254740991;
+use ynl_resource::{Label, MOST_CLOCK};
 
 /// `propose`: what would be placed on a node?
 #[tactic(auto, unfolding(crate::specs::Reading::propose_at))]
@@ -28,7 +25,7 @@ pub fn propose_at(event: &Value) -> Result<Event, LineFault>
 
 /// The label's text and the priority of a container that was asked for; nothing of a master.
 #[tactic(auto, unfolding(crate::specs::Reading::wanted_at))]
-fn wanted_at(proposal: &Value) -> Result<Option<(&str, u64)>, LineFault>
+pub fn wanted_at(proposal: &Value) -> Result<Option<(&str, u64)>, LineFault>
     ensures { Gives (λ o. option_map (λ wanted. (wanted.0.now, wanted.1)) o) result (spec.wanted_at (view proposal.now)) }
 {
     let what = text_at(proposal, "what")?;
@@ -47,7 +44,7 @@ fn wanted_at(proposal: &Value) -> Result<Option<(&str, u64)>, LineFault>
 
 /// The same, with the label read.
 #[tactic(auto, unfolding(crate::specs::Reading::wanted_label_at))]
-fn wanted_label_at(wanted: Option<(&str, u64)>) -> Result<Option<(Label, u64)>, LineFault>
+pub fn wanted_label_at(wanted: Option<(&str, u64)>) -> Result<Option<(Label, u64)>, LineFault>
     ensures { result ≡ spec.wanted_label_at (option_map (λ wanted. (wanted.0.now, wanted.1)) wanted.entry) }
 {
     match wanted {
@@ -61,7 +58,7 @@ fn wanted_label_at(wanted: Option<(&str, u64)>) -> Result<Option<(Label, u64)>, 
 
 /// What is wanted.
 #[tactic(auto, unfolding(crate::specs::Reading::what_at))]
-fn what_at(wanted: Option<(Label, u64)>) -> Result<What, LineFault>
+pub fn what_at(wanted: Option<(Label, u64)>) -> Result<What, LineFault>
     ensures what { result ≡ spec.what_at wanted }
     ensures ranged { IfOk result (λ what. HasPriority what) }
 {
@@ -76,7 +73,7 @@ fn what_at(wanted: Option<(Label, u64)>) -> Result<What, LineFault>
 
 /// A proposal; its `label` and `priority` are there just where it is for an ask.
 #[tactic(auto, unfolding(crate::specs::Reading::proposal_at))]
-fn proposal_at(proposal: &Value) -> Result<Proposal, LineFault>
+pub fn proposal_at(proposal: &Value) -> Result<Proposal, LineFault>
     ensures proposal { result ≡ spec.proposal_at (view proposal.now) }
     ensures ranged { IfOk result (λ proposal. IsSize proposal.size × HasProposalNumbers proposal) }
 {
@@ -92,7 +89,7 @@ fn proposal_at(proposal: &Value) -> Result<Proposal, LineFault>
     let node = name_at(node)?;
     let tenant = name_at(tenant)?;
     let what = what_at(wanted)?;
-    let stamp = within(MOST_STAMP, stamp)?;
+    let stamp = within(MOST_CLOCK, stamp)?;
     let size = size_at(memory, vcores)?;
     Ok(Proposal {
         node,

@@ -1,18 +1,25 @@
 //! JSON values of replies.
 
-ghost use Rattle.std.specs.Prelude.{◌≡◌, IfOk, map};
-ghost use Rattle.serde_json.specs.View.{view};
+ghost use Rattle.std.specs.Prelude.{◌≡◌, All, IfOk, fold, map};
+ghost use Rattle.serde_json.specs.Data.{put};
+ghost use Rattle.serde_json.specs.View.{view, members_view};
+ghost use Rattle.ynl_resource.specs.Texts.{read_id, id_text};
+ghost use Rattle.ynl_model.specs.declared.proposals.What.TheVariants.{Master, Ask as Asked};
+ghost use Rattle.ynl_lines.specs.Reading.{HasClock};
+ghost use Rattle.ynl_lines.specs.ReadingReplies.{ReadsPlaced, ReadsPending, ReadsProposed, PartsRead};
 ghost use Rattle.ynl_lines.specs.Writing as spec;
 
 use crate::object::{Field, members, object, with};
 use crate::proposals::proposal_value;
-use serde_json::Value;
+use serde_json::{Map, Value};
 use std::alloc::{AllocError, Global};
 use ynl_model::{Pending, Placed, Proposal, Reply, What};
 use ynl_resource::{Label, Refusal, Resource};
 
 fn master_value<'a>(alloc: Global, placed: &'a Placed, id: &'a str) -> Result<Value, AllocError>
-    ensures { IfOk result (λ v. view v ≡ spec.master_data id.now placed.now) }
+    ensures value { IfOk result (λ v. view v ≡ spec.master_data id.now placed.now) }
+    ensures reads { placed.now.what ≡ Master → id.now ≡ id_text placed.now.id → (HasClock placed.now.id → read_id id.now ≡ Ok placed.now.id)
+        → IfOk result (λ _. ReadsPlaced placed.now) }
 {
     let size = placed.size.amount();
     object(
@@ -36,7 +43,9 @@ fn asked_value<'a>(
     label: &'a Label,
     priority: u32,
 ) -> Result<Value, AllocError>
-    ensures { IfOk result (λ v. view v ≡ spec.asked_data id.now placed.now label.now priority) }
+    ensures value { IfOk result (λ v. view v ≡ spec.asked_data id.now placed.now label.now priority) }
+    ensures reads { placed.now.what ≡ Asked label.now priority → id.now ≡ id_text placed.now.id
+        → (HasClock placed.now.id → read_id id.now ≡ Ok placed.now.id) → IfOk result (λ _. ReadsPlaced placed.now) }
 {
     let size = placed.size.amount();
     object(
@@ -57,7 +66,8 @@ fn asked_value<'a>(
 
 /// The object of a container.
 fn placed_value(alloc: Global, placed: &Placed) -> Result<Value, AllocError>
-    ensures { IfOk result (λ v. view v ≡ spec.placed_data placed.now) }
+    ensures value { IfOk result (λ v. view v ≡ spec.placed_data placed.now) }
+    ensures reads { IfOk result (λ _. ReadsPlaced placed.now) }
 {
     let id = placed.id.text(alloc)?;
     match &placed.what {
@@ -67,7 +77,8 @@ fn placed_value(alloc: Global, placed: &Placed) -> Result<Value, AllocError>
 }
 
 fn placed_list(alloc: Global, placed: &[Placed]) -> Result<Vec<Value>, AllocError>
-    ensures { IfOk result (λ v. map view v.items ≡ map spec.placed_data placed.now) }
+    ensures values { IfOk result (λ v. map view v.items ≡ map spec.placed_data placed.now) }
+    ensures read { IfOk result (λ _. All ReadsPlaced placed.now) }
 {
     let mut values = Vec::new(alloc);
     for one in placed {
@@ -78,7 +89,8 @@ fn placed_list(alloc: Global, placed: &[Placed]) -> Result<Vec<Value>, AllocErro
 
 /// The object of what is still asked for.
 fn pending_value(alloc: Global, pending: &Pending) -> Result<Value, AllocError>
-    ensures { IfOk result (λ v. view v ≡ spec.pending_data pending.now) }
+    ensures value { IfOk result (λ v. view v ≡ spec.pending_data pending.now) }
+    ensures reads { IfOk result (λ _. ReadsPending pending.now) }
 {
     let size = pending.size.amount();
     object(
@@ -93,7 +105,8 @@ fn pending_value(alloc: Global, pending: &Pending) -> Result<Value, AllocError>
 }
 
 fn pending_list(alloc: Global, pendings: &[Pending]) -> Result<Vec<Value>, AllocError>
-    ensures { IfOk result (λ v. map view v.items ≡ map spec.pending_data pendings.now) }
+    ensures values { IfOk result (λ v. map view v.items ≡ map spec.pending_data pendings.now) }
+    ensures read { IfOk result (λ _. All ReadsPending pendings.now) }
 {
     let mut values = Vec::new(alloc);
     for one in pendings {
@@ -148,7 +161,9 @@ fn keyed_value(
 }
 
 fn held_value(alloc: Global, containers: &[Placed], asks: &[Pending]) -> Result<Value, AllocError>
-    ensures { IfOk result (λ v. view v ≡ spec.held_data containers.now asks.now) }
+    ensures value { IfOk result (λ v. view v ≡ spec.held_data containers.now asks.now) }
+    ensures containers { IfOk result (λ _. All ReadsPlaced containers.now) }
+    ensures asks { IfOk result (λ _. All ReadsPending asks.now) }
 {
     let asks = pending_list(alloc, asks)?;
     let containers = placed_list(alloc, containers)?;
@@ -156,6 +171,22 @@ fn held_value(alloc: Global, containers: &[Placed], asks: &[Pending]) -> Result<
     let map = with(alloc, map, "asks", Value::Array(asks))?;
     let map = with(alloc, map, "containers", Value::Array(containers))?;
     Ok(Value::Object(map))
+}
+
+/// The members with one more for each amount.
+fn with_amounts(
+    alloc: Global,
+    map: Map<String, Value>,
+    amounts: &[(&'static str, Resource)],
+) -> Result<Map<String, Value>, AllocError>
+    ensures { IfOk result (λ m. members_view m.entries ≡ fold (λ ms row. put row.0.now (spec.amount_data row.1) ms) (members_view map.entries) amounts.now) }
+{
+    let mut map = map;
+    for (key, amount) in amounts {
+        let value = amount_value(alloc, *amount)?;
+        map = with(alloc, map, key, value)?;
+    }
+    Ok(map)
 }
 
 fn usage_value(
@@ -169,16 +200,20 @@ fn usage_value(
     ensures { IfOk result (λ v. view v ≡ spec.usage_data used guaranteed maximum masters guests) }
 {
     let map = members(alloc, &[("reply", Field::Word("usage"))])?;
-    let map = with(alloc, map, "guaranteed", amount_value(alloc, guaranteed)?)?;
-    let map = with(alloc, map, "guests", amount_value(alloc, guests)?)?;
-    let map = with(alloc, map, "masters", amount_value(alloc, masters)?)?;
-    let map = with(alloc, map, "maximum", amount_value(alloc, maximum)?)?;
-    let map = with(alloc, map, "used", amount_value(alloc, used)?)?;
+    let amounts = [
+        ("guaranteed", guaranteed),
+        ("guests", guests),
+        ("masters", masters),
+        ("maximum", maximum),
+        ("used", used),
+    ];
+    let map = with_amounts(alloc, map, &amounts)?;
     Ok(Value::Object(map))
 }
 
 fn proposed_value(alloc: Global, proposed: &Option<Proposal>) -> Result<Value, AllocError>
-    ensures { IfOk result (λ v. view v ≡ spec.proposed_data proposed.now) }
+    ensures value { IfOk result (λ v. view v ≡ spec.proposed_data proposed.now) }
+    ensures reads { IfOk result (λ _. ReadsProposed proposed.now) }
 {
     match proposed {
         None => word_value(alloc, "nothing"),
@@ -191,7 +226,8 @@ fn proposed_value(alloc: Global, proposed: &Option<Proposal>) -> Result<Value, A
 
 /// The object of a reply.
 pub fn reply_value(alloc: Global, reply: &Reply) -> Result<Value, AllocError>
-    ensures { IfOk result (λ v. view v ≡ spec.reply_data reply.now) }
+    ensures value { IfOk result (λ v. view v ≡ spec.reply_data reply.now) }
+    ensures parts { IfOk result (λ _. PartsRead reply.now) }
 {
     match reply {
         Reply::Done => word_value(alloc, "done"),

@@ -5,6 +5,7 @@ ghost use Rattle.serde_json.specs.Data.{depth};
 ghost use Rattle.serde_json.specs.View.{view};
 ghost use Rattle.serde_json.specs.Written.{has_float, compact_text};
 ghost use Rattle.ynl_lines.specs.Reading.{reading, event_of_line, IsInRange};
+ghost use Rattle.ynl_lines.specs.ReadingReplies.{line_of_text, answered_entry, IsReplyInRange};
 ghost use Rattle.ynl_lines.specs.Writing as spec;
 
 use crate::events::event_value;
@@ -78,7 +79,7 @@ fn line_value(alloc: Global, place: u64, event: Value, reply: Value) -> Result<V
 }
 
 /// The text of an event, its place in a list, counted from 0, and the reply to it, without the newline
-/// of its line.
+/// of its line; where the numbers that event and reply name are in range, it reads as these.
 pub fn write_line(
     alloc: Global,
     place: u64,
@@ -86,6 +87,8 @@ pub fn write_line(
     reply: &Reply,
 ) -> Result<Vec<u8>, AllocError>
     ensures text { IfOk result (λ text. text.items ≡ spec.line_text place event.now reply.now) }
+    ensures reads { IsInRange event.now → IsReplyInRange reply.now
+        → IfOk result (λ text. line_of_text text.items ≡ Ok (answered_entry place event.now reply.now)) }
 {
     let event = event_value(alloc, event)?;
     let reply = reply_value(alloc, reply)?;

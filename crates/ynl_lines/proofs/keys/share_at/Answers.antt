@@ -1,5 +1,5 @@
 use Rattle.std.proofs.Common.{◌≡◌, ◌∙◌, rules}
-use Rattle.ynl_resource.specs.Amounts.{whole}
+use Rattle.ynl_resource.specs.Ranges.{whole}
 use Rattle.ynl_lines.specs.declared.faults.LineFault.TheVariants as fault
 use Rattle.ynl_lines.specs.Reading.{or_fault}
 use Rattle.ynl_lines.proofs.Sizes.{within-from_new}

@@ -1,5 +1,6 @@
 use Rattle.std.proofs.Common.{◌≡◌, ◌≤◌, IfOk, Ok, subst, sym}
-use Rattle.ynl_lines.specs.Reading.{proposal_at, most_priority, HasPriority}
+use Rattle.ynl_lines.specs.Reading.{proposal_at, HasPriority}
+use Rattle.ynl_resource.specs.Ranges.{most_priority}
 use Rattle.ynl_lines.specs.Writing.{proposal_by}
 use Rattle.ynl_lines.proofs.proposals.proposal_value.Goals as goal
 

@@ -1,0 +1,142 @@
+//! From objects to containers, and to what is still asked for.
+
+ghost use Rattle.std.specs.Prelude.{◌≡◌, [], ◌∷◌, ◌++◌, IfOk, OnOk};
+ghost use Rattle.serde_json.specs.View.{view, items_view};
+ghost use Rattle.ynl_lines.specs.ReadingReplies as spec;
+
+use crate::faults::LineFault;
+use crate::keys::{id_at, keys_are, name_at, number_at, size_at, text_at, within_small};
+use crate::read_proposals::{wanted_at, wanted_label_at, what_at};
+use serde_json::Value;
+use std::alloc::{AllocError, Global};
+use ynl_model::{Items, Pending, Placed, What};
+use ynl_resource::{Id, MOST_COUNT, Name, Size};
+
+/// The name that is under a key.
+#[tactic(auto, unfolding(crate::specs::ReadingReplies::name_under))]
+fn name_under(object: &Value, key: &str) -> Result<Name, LineFault>
+    ensures { result ≡ spec.name_under key.now (view object.now) }
+{
+    let text = text_at(object, key)?;
+    name_at(text)
+}
+
+/// The id that is under a key.
+#[tactic(auto, unfolding(crate::specs::ReadingReplies::id_under))]
+fn id_under(object: &Value, key: &str) -> Result<Id, LineFault>
+    ensures { result ≡ spec.id_under key.now (view object.now) }
+{
+    let text = text_at(object, key)?;
+    id_at(text)
+}
+
+/// The size whose memory (in MB) and virtual cores an object tells.
+#[tactic(auto, unfolding(crate::specs::ReadingReplies::size_in))]
+fn size_in(object: &Value) -> Result<Size, LineFault>
+    ensures { result ≡ spec.size_in (view object.now) }
+{
+    let memory = number_at(object, "memory")?;
+    let vcores = number_at(object, "vcores")?;
+    size_at(memory, vcores)
+}
+
+/// What a container is for.
+#[tactic(auto, unfolding(crate::specs::ReadingReplies::what_in))]
+fn what_in(object: &Value) -> Result<What, LineFault>
+    ensures { result ≡ spec.what_in (view object.now) }
+{
+    let wanted = wanted_at(object)?;
+    let wanted = wanted_label_at(wanted)?;
+    what_at(wanted)
+}
+
+/// A container; its `label` and `priority` are there just where it was asked for.
+#[tactic(auto, unfolding(crate::specs::ReadingReplies::placed_at))]
+pub fn placed_at(object: &Value) -> Result<Placed, LineFault>
+    ensures { result ≡ spec.placed_at (view object.now) }
+{
+    let what = what_in(object)?;
+    let app = name_under(object, "app")?;
+    let id = id_under(object, "id")?;
+    let node = name_under(object, "node")?;
+    let tenant = name_under(object, "tenant")?;
+    let size = size_in(object)?;
+    Ok(Placed {
+        id,
+        node,
+        tenant,
+        app,
+        what,
+        size,
+    })
+}
+
+/// What is still asked for at one priority.
+#[tactic(auto, unfolding(crate::specs::ReadingReplies::pending_at))]
+fn pending_at(object: &Value) -> Result<Pending, LineFault>
+    ensures { result ≡ spec.pending_at (view object.now) }
+{
+    keys_are(object, 4)?;
+    let count = number_at(object, "count")?;
+    let priority = number_at(object, "priority")?;
+    let count = within_small(MOST_COUNT, count)?;
+    let priority = within_small(u32::MAX, priority)?;
+    let size = size_in(object)?;
+    Ok(Pending {
+        priority,
+        count,
+        size,
+    })
+}
+
+/// A copy of a container comes last, put together from its parts, as the prover needs it.
+fn push_copy(list: &mut Vec<Placed>, container: &Placed) -> Result<(), AllocError>
+    ensures { OnOk result (list.new.items ≡ list.old.items ++ container.now ∷ []) }
+{
+    list.push(Placed {
+        id: Id {
+            label: container.id.label,
+            clock: container.id.clock,
+        },
+        node: container.node,
+        tenant: container.tenant,
+        app: container.app,
+        what: container.what,
+        size: container.size,
+    })?;
+    Ok(())
+}
+
+/// The containers that the values of a list are.
+pub fn each_placed(
+    alloc: Global,
+    values: &[Value],
+) -> Result<Result<Items<Placed>, LineFault>, AllocError>
+    ensures { IfOk result (λ read. read ≡ spec.each spec.placed_at (items_view values.now)) }
+{
+    let mut list = Vec::new(alloc);
+    for value in values {
+        match placed_at(value) {
+            Ok(one) => push_copy(&mut list, &one)?,
+            Err(fault) => return Ok(Err(fault)),
+        }
+    }
+    Ok(Ok(Items::new(list)))
+}
+
+/// What is still asked for, by the values of a list.
+pub fn each_pending(
+    alloc: Global,
+    values: &[Value],
+) -> Result<Result<Items<Pending>, LineFault>, AllocError>
+    ensures { IfOk result (λ read. read ≡ spec.each spec.pending_at (items_view values.now)) }
+{
+    let mut list = Vec::new(alloc);
+    for value in values {
+        match pending_at(value) {
+            Ok(one) => list.push(one)?,
+            Err(fault) => return Ok(Err(fault)),
+        }
+    }
+    Ok(Ok(Items::new(list)))
+}

@@ -1,0 +1,101 @@
+//! From the lines of a journal to its entries.
+
+ghost use Rattle.std.specs.Prelude.{◌≡◌, IfOk};
+ghost use Rattle.serde_json.specs.View.{view};
+ghost use Rattle.ynl_lines.specs.Reading.{IsRanged};
+ghost use Rattle.ynl_lines.specs.ReadingReplies as spec;
+
+use crate::faults::{BadLine, LineFault};
+use crate::keys::{keys_are, number_at};
+use crate::read::{event_at, parse};
+use crate::read_replies::{reply_at, value_under};
+use serde_json::Value;
+use std::alloc::{AllocError, Global};
+use ynl_model::{Entry, Event, Reply};
+
+/// The place of a line, and its event.
+#[tactic(auto, unfolding(crate::specs::ReadingReplies::placed_event_at))]
+fn placed_event_at(line: &Value) -> Result<(u64, Event), LineFault>
+    ensures event { result ≡ spec.placed_event_at (view line.now) }
+    ensures ranged { IfOk result (λ read. IsRanged read.1) }
+{
+    let place = number_at(line, "place")?;
+    let value = value_under(line, "event")?;
+    let event = event_at(value)?;
+    Ok((place, event))
+}
+
+/// The reply of a line that has none: that of a propose alone may have none.
+fn unanswered(line: &Value, event: &Event) -> Result<Option<Reply>, LineFault>
+    ensures { result ≡ spec.unanswered event.now (view line.now) }
+{
+    match event {
+        Event::Propose { .. } => {
+            keys_are(line, 2)?;
+            Ok(None)
+        }
+        _ => Err(LineFault::Field),
+    }
+}
+
+/// The reply of a line, from the value that stands under its key.
+fn answered(
+    alloc: Global,
+    line: &Value,
+    reply: &Value,
+) -> Result<Result<Option<Reply>, LineFault>, AllocError>
+    ensures { IfOk result (λ read. read ≡ spec.answered (view reply.now) (view line.now)) }
+{
+    if let Err(fault) = keys_are(line, 3) {
+        return Ok(Err(fault));
+    }
+    match reply_at(alloc, reply)? {
+        Ok(reply) => Ok(Ok(Some(reply))),
+        Err(fault) => Ok(Err(fault)),
+    }
+}
+
+/// The reply of a line with this event, if it may be without one.
+#[tactic(auto, unfolding(crate::specs::ReadingReplies::answer_at))]
+fn answer_at(
+    alloc: Global,
+    line: &Value,
+    event: &Event,
+) -> Result<Result<Option<Reply>, LineFault>, AllocError>
+    ensures { IfOk result (λ read. read ≡ spec.answer_at event.now (view line.now)) }
+{
+    match line.get("reply") {
+        Some(value) => answered(alloc, line, value),
+        None => Ok(unanswered(line, event)),
+    }
+}
+
+/// The place and the entry of an object.
+#[tactic(auto, unfolding(crate::specs::ReadingReplies::line_at))]
+fn line_at(alloc: Global, line: &Value) -> Result<Result<(u64, Entry), BadLine>, AllocError>
+    ensures entry { IfOk result (λ read. read ≡ spec.or_bad (spec.line_at (view line.now))) }
+    ensures ranged { IfOk result (λ read. IfOk read (λ line. IsRanged line.1.event)) }
+{
+    let Ok((place, event)) = placed_event_at(line) else {
+        return Ok(Err(BadLine));
+    };
+    match answer_at(alloc, line, &event)? {
+        Ok(reply) => Ok(Ok((place, Entry { event, reply }))),
+        Err(_) => Ok(Err(BadLine)),
+    }
+}
+
+/// The place of a line of a journal, counted from 0, and its entry; the line is without its newline.
+///
+/// The line is a JSON object with just `event`, an event as a script's line has it, `place`, a whole
+/// number below 2^64, and `reply`, the object that [`write_reply`](crate::write_reply) writes; where the
+/// event is `propose` the line may be without `reply`. Anything else is a bad line.
+pub fn read_line(alloc: Global, line: &[u8]) -> Result<Result<(u64, Entry), BadLine>, AllocError>
+    ensures entry { IfOk result (λ read. read ≡ spec.line_of_text line.now) }
+    ensures ranged { IfOk result (λ read. IfOk read (λ line. IsRanged line.1.event)) }
+{
+    match parse(alloc, line)? {
+        Some(value) => line_at(alloc, &value),
+        None => Ok(Err(BadLine)),
+    }
+}
