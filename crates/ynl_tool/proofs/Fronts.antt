@@ -1,5 +1,5 @@
 -- Fronts of texts that are written one after another.
-use Rattle.std.proofs.Common.{◌≡◌, ℕ, ◌+◌, ◌<◌, List, ◌++◌, length, take, Option, Some, None, Result, Ok, Err, refl, sym, ap, subst, ◌∙◌, arith, length-append}
+use Rattle.std.proofs.Common.{◌≡◌, ℕ, ◌+◌, ◌<◌, ◌≤◌, List, ◌++◌, length, take, Option, Some, None, Result, Ok, Err, refl, sym, ap, subst, ◌∙◌, arith, length-append}
 use Rattle.std.specs.Prelude.{OnOk, OnErr, IfSome, option_map}
 use Rattle.std.proofs.Math.Seq.{take-append-add, take-length}
 use Rattle.std.proofs.lemmas.List.{take-append-le}
@@ -38,9 +38,14 @@ part_after a b c xs ys first h =
     let same : front.count ≡ length xs + h.front.count = refl in
     record { front = front; missing = omega (arith, same, h.missing, length-append xs ys) }
 
+-- So many bytes of a text were written.
+pub record WrittenSoFar (old new : Option (List ℕ)) (text : List ℕ) (n : ℕ) : Type 0 where
+  pub bound : n ≤ length text
+  pub appended : Appends old new (take n text)
+
 -- so many bytes of a text, where it has more
-pub part_so_far : (a b : Option (List ℕ)) (text : List ℕ) (n : ℕ) → n < length text → Appends a b (take n text) → AppendsPart a b text
-part_so_far a b text n more h = record { front = record { count = n; bound = omega (arith, more); appended = h }; missing = more }
+pub part_so_far : (a b : Option (List ℕ)) (text : List ℕ) (n : ℕ) → n < length text → WrittenSoFar a b text n → AppendsPart a b text
+part_so_far a b text n more so = record { front = record { count = n; bound = so.bound; appended = so.appended }; missing = more }
 
 -- what holds anyhow holds after an error
 pub on_err : {T E P : Type 0} (r : Result T E) → P → OnErr r P

@@ -1,6 +1,5 @@
 -- Jobs in which memory is refused before anything is read.
-use Rattle.std.proofs.Common.{◌≢◌, ℕ, List, [], Bool, true, false, Option, Result, Ok, Err, refl, ap, inl, arith}
-use Rattle.std.proofs.lemmas.List.Elements.{All-nil}
+use Rattle.std.proofs.Common.{ℕ, List, Bool, true, false, Option, Result, Ok, Err, refl, inl}
 use Rattle.std.proofs.KnownBytes.{Appends-nil, Consumes-nil}
 use Rattle.ynl_resource.specs.declared.names.Name.{Name}
 use Rattle.ynl_resource.specs.declared.labels.Label.{Label}
@@ -8,40 +7,26 @@ use Rattle.ynl_model.specs.Queues.{Config}
 use Rattle.ynl_model.specs.Cluster.{opening}
 use Rattle.ynl_model.specs.View.{is_sole}
 use Rattle.ynl_config.specs.declared.faults.ConfigFault.{ConfigFault}
-use Rattle.ynl_tool.specs.declared.lines_in.ReadFault.TheVariants as reading
 use Rattle.ynl_tool.specs.declared.run.ToolFault.TheVariants.{NoMemory}
 use Rattle.ynl_tool.specs.declared.words.Kind.{Kind}
 use Rattle.ynl_tool.specs.declared.words.Kind.TheVariants.{Run, Tenant}
 use Rattle.ynl_tool.specs.Jobs.{IsIdle, DoesJob, DoesWith, TellsJob}
-use Rattle.ynl_tool.specs.Run.{limit}
-use Rattle.ynl_tool.specs.Script.{Script, ReadsSome}
-use Rattle.ynl_tool.proofs.Closings.{stops_at_once}
-use Rattle.ynl_tool.proofs.Scripts.{at_start, here}
+use Rattle.ynl_tool.specs.Input.{between}
+use Rattle.ynl_tool.proofs.Runs.{stops_at_once}
+use Rattle.ynl_tool.proofs.Scripts.{nothing_read}
 
 module _ (old wold : Option (List ℕ)) where
-  idle : IsIdle old old wold wold
+  idle : IsIdle (between old old) (between wold wold)
   idle = record { unread = Consumes-nil old; unwritten = Appends-nil wold }
 
-  unread : ReadsSome old old reading.NoMemory
-  unread = record {
-    bytes = [];
-    last = [];
-    whole = inl refl;
-    one_line = All-nil (λ x. x ≢ 10);
-    read = Consumes-nil old;
-    good = ap (λ (s : Script). s.fault) (here 0 limit [] [] at_start);
-    bound = omega arith;
-    reading = λ _. (All-nil (λ x. x ≢ 10), omega arith);
-  }
-
-  idle_by : (c : Config) (t : Name) (p : Label) (sole : Bool) → TellsJob old old wold wold true c t p sole (Err NoMemory)
-  idle_by c t p true = inl (record { read = unread; unwritten = Appends-nil wold })
+  idle_by : (c : Config) (t : Name) (p : Label) (sole : Bool) → TellsJob (between old old) (between wold wold) true c t p sole (Err NoMemory)
+  idle_by c t p true = inl (record { read = nothing_read old NoMemory; unwritten = Appends-nil wold })
   idle_by c t p false = (refl, idle)
 
-  idle_job : (kind : Kind) (c : Config) → DoesJob old old wold wold true kind c (Err NoMemory)
+  idle_job : (kind : Kind) (c : Config) → DoesJob (between old old) (between wold wold) true kind c (Err NoMemory)
   idle_job Run c = stops_at_once old wold c (opening c)
   idle_job (Tenant t p) c = idle_by c t p (is_sole c t p)
 
-  pub idle_with : (kind : Kind) (read : Result Config ConfigFault) → DoesWith old old wold wold kind read (Err NoMemory)
+  pub idle_with : (kind : Kind) (read : Result Config ConfigFault) → DoesWith (between old old) (between wold wold) kind read (Err NoMemory)
   idle_with kind (Ok c) = idle_job kind c
   idle_with kind (Err fault) = (refl, idle)

@@ -1,8 +1,8 @@
-pub mod Closings
 pub mod Commands
+pub mod Fronts
+pub mod Idle
+pub mod Inputs
 pub mod Pieces
 pub mod Runs
-pub mod Fronts
 pub mod Scripts
 pub mod Tellings
-pub mod Idle

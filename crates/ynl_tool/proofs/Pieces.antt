@@ -24,7 +24,7 @@ end_here (Some x) (Some y) shown kept end none = kept ∙ end none
 pub first_shown : (shown : List ℕ) → 0 < length shown → take 1 shown ≡ get_or shown 0 0 ∷ []
 first_shown shown h = take_more shown 0 0 h
 
--- what stands before the newline, or within the room
+-- what is before the newline, or within the room
 pub record Cut (before shown after : List ℕ) (end within budget : ℕ) : Type 0 where
   pub bound : end ≤ length shown
   pub plain : IsPlain (take end shown)
@@ -75,18 +75,25 @@ piece_given kind a b c room (Ok s) before after budget taken front end kept drop
       ended = taken_ends a c s.now adds.bytes (length after) budget taken.count moved taken.end adds.ended.1;
     }
 
-module _ (a b c : Option (List ℕ)) (line after : List ℕ) (budget : ℕ) (plain : IsPlain line) (had : Consumes a b line) where
-  pub line_more : GivesPiece b c line after budget (Ok None) → IsPlain after × Consumes a c after
-  line_more p = (
-    subst IsPlain (sym p.grown) (All-append (λ x. x ≢ 10) line p.bytes plain p.plain),
-    subst (Consumes a c) (sym p.grown) (Consumes-trans a b c line p.bytes had p.ended.1),
-  )
+-- The line so far is what the reader gave.
+pub record LineSoFar (old new : Option (List ℕ)) (line : List ℕ) (budget : ℕ) : Type 0 where
+  pub plain : IsPlain line
+  pub within : length line ≤ budget
+  pub read : Consumes old new line
+
+module _ (a b c : Option (List ℕ)) (line after : List ℕ) (budget : ℕ) (so : LineSoFar a b line budget) where
+  pub line_more : GivesPiece b c line after budget (Ok None) → LineSoFar a c after budget
+  line_more p = record {
+    plain = subst IsPlain (sym p.grown) (All-append (λ x. x ≢ 10) line p.bytes so.plain p.plain);
+    within = p.within;
+    read = subst (Consumes a c) (sym p.grown) (Consumes-trans a b c line p.bytes so.read p.ended.1);
+  }
 
   pub line_failed : (e : ReadFault) → GivesPiece b c line after budget (Err e) → GivesLine a c after budget (Err e)
   line_failed e p = record {
-    plain = subst IsPlain (sym p.grown) (All-append (λ x. x ≢ 10) line p.bytes plain p.plain);
+    plain = subst IsPlain (sym p.grown) (All-append (λ x. x ≢ 10) line p.bytes so.plain p.plain);
     within = p.within;
-    ended = subst (Consumes a c) (sym p.grown) (Consumes-trans a b c line p.bytes had p.ended);
+    ended = subst (Consumes a c) (sym p.grown) (Consumes-trans a b c line p.bytes so.read p.ended);
   }
 
   still_end : (x : Option (List ℕ)) → Consumes x b line → OnSome b (IsAtEnd c) → OnSome x (IsAtEnd c)
@@ -98,13 +105,13 @@ module _ (a b c : Option (List ℕ)) (line after : List ℕ) (budget : ℕ) (pla
       at (Some y) h e = e
 
   ends : (end : LineEnd) → GivesPiece b c line after budget (Ok (Some end)) → LineEnds a c after budget (Ok end)
-  ends Newline p = (p.ended.0, subst (Consumes a c) (sym (append_assoc line p.bytes (10 ∷ [])) ∙ ap (λ l. l ++ 10 ∷ []) (sym p.grown)) (Consumes-trans a b c line (p.bytes ++ 10 ∷ []) had p.ended.1))
-  ends Input p = (still_end a had p.ended.0, subst (Consumes a c) (sym p.grown) (Consumes-trans a b c line p.bytes had p.ended.1))
-  ends Budget p = (p.ended.0, (p.ended.1.0, subst (Consumes a c) (sym (append_assoc line p.bytes (p.ended.1.0 ∷ [])) ∙ ap (λ l. l ++ p.ended.1.0 ∷ []) (sym p.grown)) (Consumes-trans a b c line (p.bytes ++ p.ended.1.0 ∷ []) had p.ended.1.1)))
+  ends Newline p = (p.ended.0, subst (Consumes a c) (sym (append_assoc line p.bytes (10 ∷ [])) ∙ ap (λ l. l ++ 10 ∷ []) (sym p.grown)) (Consumes-trans a b c line (p.bytes ++ 10 ∷ []) so.read p.ended.1))
+  ends Input p = (still_end a so.read p.ended.0, subst (Consumes a c) (sym p.grown) (Consumes-trans a b c line p.bytes so.read p.ended.1))
+  ends Budget p = (p.ended.0, (p.ended.1.0, subst (Consumes a c) (sym (append_assoc line p.bytes (p.ended.1.0 ∷ [])) ∙ ap (λ l. l ++ p.ended.1.0 ∷ []) (sym p.grown)) (Consumes-trans a b c line (p.bytes ++ p.ended.1.0 ∷ []) so.read p.ended.1.1)))
 
   pub line_ended : (end : LineEnd) → GivesPiece b c line after budget (Ok (Some end)) → GivesLine a c after budget (Ok end)
   line_ended end p = record {
-    plain = subst IsPlain (sym p.grown) (All-append (λ x. x ≢ 10) line p.bytes plain p.plain);
+    plain = subst IsPlain (sym p.grown) (All-append (λ x. x ≢ 10) line p.bytes so.plain p.plain);
     within = p.within;
     ended = ends end p;
   }

@@ -1,158 +1,255 @@
--- The run of an input, a line after another.
-use Rattle.std.proofs.Common.{◌≡◌, ◌≢◌, ℕ, suc, ◌+◌, ◌-◌, ◌<◌, ◌≤◌, List, [], ◌∷◌, ◌++◌, length, Bool, true, false, cond, subst, Some, None, Result, Ok, Err, refl, sym, ap, ◌∙◌, arith, append_assoc, append-nil, length-append, eqb, eq-eqb, ne_eqb}
-use Rattle.std.proofs.lemmas.List.Elements.{All-head, All-tail}
-use Rattle.ynl_tool.specs.Lines.{IsPlain}
+-- The run of an input, a line after another, and what it writes.
+use Rattle.std.proofs.Common.{◌≡◌, ◌≢◌, ℕ, List, [], ◌∷◌, ◌++◌, length, Bool, true, false, Option, Some, None, IfSome, Result, Ok, Err, subst, refl, sym, ap, ◌∙◌, arith, append_assoc, append-nil}
+use Rattle.std.specs.Prelude.{IfErr}
+use Rattle.std.specs.List.{concat}
+use Rattle.std.proofs.Math.Seq.{take-length}
+use Rattle.std.proofs.lemmas.List.Folds.{concat-append}
+use Rattle.std.specs.Io.KnownBytes.{Appends, Consumes}
+use Rattle.std.proofs.KnownBytes.{Appends-nil, Appends-trans}
 use Rattle.ynl_model.specs.declared.events.Event.{Event}
 use Rattle.ynl_model.specs.Queues.{Config}
 use Rattle.ynl_model.specs.Cluster.{State}
+use Rattle.ynl_model.specs.Events.{step, replies, after}
+use Rattle.ynl_core.specs.World.{World}
 use Rattle.ynl_lines.specs.declared.faults.LineFault.{LineFault}
-use Rattle.ynl_lines.specs.Reading.{event_of_line}
 use Rattle.ynl_lines.specs.declared.faults.LineFault.TheVariants as fault
-use Rattle.ynl_tool.specs.Run.{Line, whole, too_long, onto, lines_within, limit, is_blank, still, turn_of, turn, Outcome, faulty, ending, unless_fault, said, run, run_of}
+use Rattle.ynl_lines.specs.Writing.{reply_text, fault_text}
+use Rattle.ynl_tool.specs.declared.lines_in.Lines.{Lines}
+use Rattle.ynl_tool.specs.declared.run.ToolFault.{ToolFault}
+use Rattle.ynl_tool.specs.declared.run.ToolFault.TheVariants.{Read, Write, NoMemory}
+use Rattle.ynl_tool.specs.declared.run.Summary.{Summary}
+use Rattle.ynl_tool.specs.Input.{Stream, between, limit, MetEnd, lines_left, MayFollow, TakesLine, TakesTooLong, TakesNone, BreaksOff}
+use Rattle.ynl_tool.specs.Lines.{AppendsFront, AppendsPart}
+use Rattle.ynl_tool.specs.Script.{part, Script, after_events, script, script_of, ReadsTo}
+use Rattle.ynl_tool.specs.Run.{line_of, reply_lines, replies_text, fault_lines, faulty, Outcome, answers_to, run_of}
+use Rattle.ynl_tool.specs.Running.{LeavesMore, Answers, Writes, IsRunOf, RunsTo, RunsWhole, Stops, Runs}
+use Rattle.ynl_tool.proofs.Fronts.{front_of_more, part_after, part_of_more}
+use Rattle.ynl_tool.proofs.Inputs.{of_input, line_met_end, both}
+use Rattle.ynl_tool.proofs.Scripts.{ScriptSoFar, script_at_start, empty, nothing_read, script_follows, here, then_long, then_line, then_fault, reading_failed, long_reads, long_failed, line_reads, line_failed, ends_too_long, ends_faulty, ends_well, took}
 
-abbrev IsNoNewline : ℕ → Type 0
-IsNoNewline x = x ≢ 10
+-- ---- the text of a run
 
--- one byte more before the newline
-byte_before : (b : ℕ) (bs : List ℕ) (budget : ℕ) → b ≢ 10 → 0 < budget → lines_within (b ∷ bs) budget ≡ onto b (lines_within bs (budget - 1))
-unfolding lines_within
-byte_before b bs budget other some =
-    ap (λ t. cond t (too_long ∷ []) (cond (eqb b 10) (whole [] ∷ lines_within bs (budget - 1)) (onto b (lines_within bs (budget - 1))))) (ne_eqb budget 0 (λ e. absurd (omega arith)))
-    ∙ ap (λ t. cond t (whole [] ∷ lines_within bs (budget - 1)) (onto b (lines_within bs (budget - 1)))) (ne_eqb b 10 other)
+replies_of_more : (c : Config) (s : State) (es fs : List Event) → reply_lines (replies c s (es ++ fs)) ≡ reply_lines (replies c s es) ++ reply_lines (replies c (after c s es) fs)
+replies_of_more c s [] fs = refl
+replies_of_more c s (e ∷ es) fs = ap (λ ls. line_of (reply_text (step c s e).reply) ∷ ls) (replies_of_more c (step c s e).state es fs)
 
-newline_next : (bs : List ℕ) (budget : ℕ) → 0 < budget → lines_within (10 ∷ bs) budget ≡ whole [] ∷ lines_within bs (budget - 1)
-unfolding lines_within
-newline_next bs budget some =
-    ap (λ t. cond t (too_long ∷ []) (whole [] ∷ lines_within bs (budget - 1))) (ne_eqb budget 0 (λ e. absurd (omega arith)))
+-- the text of the replies to some events, and then to more
+pub text_of_more : (c : Config) (s : State) (es fs : List Event) → replies_text c s (es ++ fs) ≡ replies_text c s es ++ replies_text c (after c s es) fs
+text_of_more c s es fs = ap concat (replies_of_more c s es fs) ∙ concat-append (reply_lines (replies c s es)) (reply_lines (replies c (after c s es) fs))
 
-none_left : (b : ℕ) (bs : List ℕ) (budget : ℕ) → budget ≡ 0 → lines_within (b ∷ bs) budget ≡ too_long ∷ []
-unfolding lines_within
-none_left b bs budget e = ap (λ t. cond t (too_long ∷ []) (cond (eqb b 10) (whole [] ∷ lines_within bs (budget - 1)) (onto b (lines_within bs (budget - 1))))) (eq-eqb budget 0 e)
+pub after_more : (c : Config) (s : State) (es fs : List Event) → after c s (es ++ fs) ≡ after c (after c s es) fs
+after_more c s [] fs = refl
+after_more c s (e ∷ es) fs = after_more c (step c s e).state es fs
 
-pub no_bytes : (budget : ℕ) → lines_within [] budget ≡ []
-unfolding lines_within
-no_bytes budget = refl
+-- what is answered to a script that goes on
+answers_after : (c : Config) (s : State) (es : List Event) (rest : Script) → (answers_to c s (after_events es rest)).text ≡ replies_text c s es ++ (answers_to c (after c s es) rest).text
+answers_after c s es rest =
+    let more = reply_lines (replies c (after c s es) rest.events) in
+    ap (λ ls. concat (ls ++ fault_lines rest)) (replies_of_more c s es rest.events)
+    ∙ ap concat (append_assoc (reply_lines (replies c s es)) more (fault_lines rest))
+    ∙ concat-append (reply_lines (replies c s es)) (more ++ fault_lines rest)
 
-pub one_line : (line rest : List ℕ) (budget : ℕ) → IsPlain line → length line < budget → lines_within (line ++ 10 ∷ rest) budget ≡ whole line ∷ lines_within rest (budget - (length line + 1))
-one_line [] rest budget plain fits = newline_next rest budget fits
-one_line (x ∷ xs) rest budget plain fits =
-    let left : (budget - 1) - (length xs + 1) ≡ budget - (suc (length xs) + 1) = omega arith in
-    byte_before x (xs ++ 10 ∷ rest) budget (All-head IsNoNewline x xs plain) (omega arith)
-    ∙ ap (onto x) (one_line xs rest (budget - 1) (All-tail IsNoNewline x xs plain) (omega arith))
-    ∙ ap (λ n. whole (x ∷ xs) ∷ lines_within rest n) left
+-- of a script without a fault, the text of the replies
+pub text_of_good : (c : Config) (s : State) (es : List Event) (n : ℕ) → (answers_to c s (record { events = es; lines = n; fault = None })).text ≡ replies_text c s es
+text_of_good c s es n = ap concat (append-nil (reply_lines (replies c s es)))
 
-pub last_line : (line : List ℕ) (budget : ℕ) → IsPlain line → length line ≤ budget → 0 < length line → lines_within line budget ≡ whole line ∷ []
-last_line [] budget plain fits some = absurd (omega arith)
-last_line (x ∷ []) budget plain fits some = byte_before x [] budget (All-head IsNoNewline x [] plain) (omega arith) ∙ ap (onto x) (no_bytes (budget - 1))
-last_line (x ∷ y ∷ ys) budget plain fits some =
-    byte_before x (y ∷ ys) budget (All-head IsNoNewline x (y ∷ ys) plain) (omega arith)
-    ∙ ap (onto x) (last_line (y ∷ ys) (budget - 1) (All-tail IsNoNewline x (y ∷ ys) plain) (omega arith) (omega arith))
+-- and else the line of the fault after it
+pub text_of_faulty : (c : Config) (s : State) (es : List Event) (n : ℕ) (f : LineFault) → (answers_to c s (record { events = es; lines = n; fault = Some f })).text ≡ replies_text c s es ++ (faulty f n).text
+text_of_faulty c s es n f =
+    concat-append (reply_lines (replies c s es)) (line_of (fault_text f n) ∷ []) ∙ ap (λ l. replies_text c s es ++ l) (append-nil (line_of (fault_text f n)))
 
--- the byte past the limit, whatever follows
-pub long_line : (line : List ℕ) (b : ℕ) (rest : List ℕ) (budget : ℕ) → IsPlain line → length line ≡ budget → lines_within ((line ++ b ∷ []) ++ rest) budget ≡ too_long ∷ []
-long_line [] b rest budget plain e = none_left b rest budget (sym e)
-long_line (x ∷ xs) b rest budget plain e =
-    byte_before x ((xs ++ b ∷ []) ++ rest) budget (All-head IsNoNewline x xs plain) (omega arith)
-    ∙ ap (onto x) (long_line xs b rest (budget - 1) (All-tail IsNoNewline x xs plain) (omega arith))
+-- ---- what was written
 
--- a line with its newline, whatever follows
-pub line_first : (line rest : List ℕ) (budget : ℕ) → IsPlain line → length line < budget → lines_within ((line ++ 10 ∷ []) ++ rest) budget ≡ whole line ∷ lines_within rest (budget - (length line + 1))
-line_first line rest budget plain fits = ap (λ l. lines_within l budget) (append_assoc line (10 ∷ []) rest) ∙ one_line line rest budget plain fits
+-- what holds of an input, and what follows from it
+pub of_some : (a : Option (List ℕ)) (P Q : List ℕ → Type 0) → ((x : List ℕ) → P x → Q x) → IfSome a P → IfSome a Q
+of_some None P Q f h = tt
+of_some (Some x) P Q f h = f x h
 
--- ---- the run
+-- nothing was written before
+after_nothing : (a b c : Option (List ℕ)) (o : Outcome) (r : Result Summary ToolFault) → Appends a b [] → Writes b c o r → Writes a c o r
+after_nothing a b c o (Ok summary) nothing w = (w.0, w.1, Appends-trans a b c [] o.text nothing w.2)
+after_nothing a b c o (Err Read) nothing w = Appends-trans a b c [] [] nothing w
+after_nothing a b c o (Err Write) nothing w = part_after a b c [] o.text nothing w
+after_nothing a b c o (Err NoMemory) nothing w = Appends-trans a b c [] [] nothing w
 
-said_twice : (a b : List ℕ) (o : Outcome) → said a (said b o) ≡ said (a ++ b) o
-said_twice a b o = ap (λ t. record { text = t; lines = o.lines; fault = o.fault }) (sym (append_assoc a b o.text))
+-- what was written is a front
+front_of_text : (w v : Option (List ℕ)) (text front rest : List ℕ) → Appends w v front → text ≡ front ++ rest → AppendsFront w v text
+front_of_text w v text front rest written is =
+    subst (AppendsFront w v) (sym is)
+    (front_of_more w v front rest (record { count = length front; bound = omega arith; appended = subst (Appends w v) (sym (take-length front)) written }))
 
--- a line with a fault has no text
-silent_of : (c : Config) (s : State) (r : Result Event LineFault) (f : LineFault) → (turn_of c s r).fault ≡ Some f → (turn_of c s r).text ≡ []
-silent_of c s (Ok event) f bad = cc
-silent_of c s (Err g) f bad = refl
+-- ---- a run that came to an end
 
-silent_by : (c : Config) (s : State) (line : List ℕ) (b : Bool) (f : LineFault) → (cond b (still s) (turn_of c s (event_of_line line))).fault ≡ Some f
-    → (cond b (still s) (turn_of c s (event_of_line line))).text ≡ []
-silent_by c s line true f bad = refl
-silent_by c s line false f bad = silent_of c s (event_of_line line) f bad
+-- the text of a script was written, and its lines and its fault are told
+pub runs_to : (reader writer : Stream) (c : Config) (s : State) (summary : Summary) (o : Script) → ReadsTo reader o → Appends writer.before writer.after (answers_to c s o).text → summary.lines ≡ o.lines → summary.fault ≡ o.fault
+    → RunsTo reader writer c s summary
+runs_to reader writer c s summary o read written lines fault =
+    let ran : (input : List ℕ) → o ≡ script_of input → IsRunOf writer c s summary input = λ input is. record {
+      written = subst (λ k. Appends writer.before writer.after (answers_to c s k).text) is written;
+      lines = lines ∙ ap (λ (k : Script). k.lines) is;
+      fault = fault ∙ ap (λ (k : Script). k.fault) is;
+    } in
+    record { script = o; read = read; ran = ran (read.lines.bytes ++ read.lines.last) read.is; input = of_some reader.before (λ input. o ≡ script_of input) (IsRunOf writer c s summary) ran read.input }
 
-pub silent : (c : Config) (s : State) (line : List ℕ) (f : LineFault) → (turn c s line).fault ≡ Some f → (turn c s line).text ≡ []
-silent c s line f bad = silent_by c s line (is_blank line) f bad
+-- ---- a run so far
 
--- a last line with a fault ends the run
-pub ending_faulty : (c : Config) (s : State) (line : List ℕ) (n : ℕ) (f : LineFault) → 0 < length line → (turn c s line).fault ≡ Some f → ending c s line n ≡ faulty f (n + 1)
-ending_faulty c s [] n f some bad = absurd (omega (arith, some))
-ending_faulty c s (b ∷ bs) n f some bad =
-    ap (λ g. said (turn c s (b ∷ bs)).text (unless_fault g (n + 1) (record { text = []; lines = n + 1; fault = None }))) bad
-    ∙ ap (λ t. said t (faulty f (n + 1))) (silent c s (b ∷ bs) f bad)
+-- The lines that were read were answered, and the cluster is as they left it.
+pub record RunSoFar (reader writer : Stream) (c : Config) (s : State) (l : Lines) (core : World) : Type 0 where
+  pub events : List Event
+  pub read : ScriptSoFar reader l events
+  pub written : Appends writer.before writer.after (replies_text c s events)
+  pub now : core ≡ record { config = c; state = after c s events }
 
--- These bytes were read and their text written; the run goes on with what is left.
-pub record SoFar (c : Config) (start s : State) (lines budget : ℕ) (bytes text : List ℕ) : Type 0 where
-  pub goes_on : (rest : List ℕ) → run_of c start (bytes ++ rest) ≡ said text (run c (lines_within rest budget) s lines)
-  pub within : length bytes + budget ≡ limit
+pub run_at_start : (a w : Option (List ℕ)) (core : World) (l : Lines) → l.count ≡ 0 → l.budget ≡ limit → l.at_end ≡ false → RunSoFar (between a a) (between w w) core.config core.state l core
+run_at_start a w core l count budget ongoing = record {
+  events = [];
+  read = script_at_start a l count budget ongoing;
+  written = Appends-nil w;
+  now = refl;
+}
 
-pub at_start : (c : Config) (start : State) → SoFar c start start 0 limit [] []
-at_start c start = record { goes_on = λ rest. refl; within = refl }
+module _ (a b d w v u : Option (List ℕ)) (c : Config) (s : State) (l l' : Lines) (core : World) (so : RunSoFar (between a b) (between w v) c s l core) where
+  -- the text of what was read before
+  text_here : l.at_end ≡ false → (run_of c s so.read.far.bytes).text ≡ replies_text c s so.events
+  text_here ongoing = ap (λ k. (answers_to c s k).text) (here a b d l l' so.events so.read ongoing) ∙ text_of_good c s so.events l.count
 
-module _ (c : Config) (start s : State) (lines budget : ℕ) (bytes text : List ℕ) (far : SoFar c start s lines budget bytes text) where
-  -- the run of what was read
-  pub here : run_of c start bytes ≡ record { text = text; lines = lines; fault = None }
-  unfolding run
-  here = ap (run_of c start) (sym (append-nil bytes)) ∙ far.goes_on [] ∙ ap (λ ls. said text (run c ls s lines)) (no_bytes budget)
-      ∙ ap (λ t. record { text = t; lines = lines; fault = None }) (append-nil text)
+  -- and of what may follow
+  text_follows : (more rest : List ℕ) → l.at_end ≡ false → (run_of c s ((so.read.far.bytes ++ more) ++ rest)).text ≡ replies_text c s so.events ++ (answers_to c (after c s so.events) (script (lines_left l (more ++ rest)) l.count)).text
+  text_follows more rest ongoing =
+      ap (λ k. (answers_to c s k).text) (script_follows a b d l l' so.events so.read more rest ongoing) ∙ answers_after c s so.events (script (lines_left l (more ++ rest)) l.count)
 
-  pub then_lines : (more : List ℕ) (ls : List Line) → lines_within more budget ≡ ls → run_of c start (bytes ++ more) ≡ said text (run c ls s lines)
-  then_lines more ls e = far.goes_on more ∙ ap (λ ls. said text (run c ls s lines)) e
+  -- nothing more was written
+  still_written : Appends v u [] → Appends w u (replies_text c s so.events)
+  still_written nothing = subst (Appends w u) (append-nil (replies_text c s so.events)) (Appends-trans w v u (replies_text c s so.events) [] so.written nothing)
 
-  -- the byte past the limit, whatever follows
-  pub then_long : (line : List ℕ) (b : ℕ) → IsPlain line → length line ≡ budget → (rest : List ℕ)
-      → run_of c start (bytes ++ ((line ++ b ∷ []) ++ rest)) ≡ said text (faulty fault.Size (lines + 1))
-  unfolding run
-  then_long line b plain full rest = then_lines ((line ++ b ∷ []) ++ rest) (too_long ∷ []) (long_line line b rest budget plain full)
+  -- an error after which nothing was written of the line
+  stops_before : (more : List ℕ) (e : ToolFault) → l.at_end ≡ false → e ≢ Write → Consumes a d (so.read.far.bytes ++ more) → Appends v u []
+      → LeavesMore (between w u) (run_of c s so.read.far.bytes).text (run_of c s (so.read.far.bytes ++ more)).text e × IfSome a (λ input. AppendsFront w u (run_of c s input).text)
+  stops_before more e ongoing other read nothing = (
+    left e other,
+    of_input a d (so.read.far.bytes ++ more) false (λ input. AppendsFront w u (run_of c s input).text) read (λ no. both false no refl)
+        (λ rest _. front_of_text w u _ (replies_text c s so.events) _ (still_written nothing) (text_follows more rest ongoing)),
+  )
+    where
+      left : (e : ToolFault) → e ≢ Write → LeavesMore (between w u) (run_of c s so.read.far.bytes).text (run_of c s (so.read.far.bytes ++ more)).text e
+      left Read other = subst (Appends w u) (sym (text_here ongoing)) (still_written nothing)
+      left NoMemory other = subst (Appends w u) (sym (text_here ongoing)) (still_written nothing)
+      left Write other = absurd (other refl)
 
-  pub then_last : (more line : List ℕ) → lines_within more budget ≡ whole line ∷ []
-      → run_of c start (bytes ++ more) ≡ said (text ++ (turn c s line).text) (unless_fault (turn c s line).fault (lines + 1) (record { text = []; lines = lines + 1; fault = None }))
-  unfolding run
-  then_last more line e = then_lines more (whole line ∷ []) e ∙ said_twice text (turn c s line).text _
-
-  pub then_line : (line : List ℕ) → IsPlain line → length line < budget → (turn c s line).fault ≡ None
-      → SoFar c start (turn c s line).state (lines + 1) (budget - (length line + 1)) (bytes ++ (line ++ 10 ∷ [])) (text ++ (turn c s line).text)
-  unfolding run
-  then_line line plain fits good = record {
-    goes_on = λ rest.
-        let left = lines_within rest (budget - (length line + 1)) in
-        ap (run_of c start) (append_assoc bytes (line ++ 10 ∷ []) rest ∙ ap (λ l. bytes ++ l) (append_assoc line (10 ∷ []) rest))
-        ∙ then_lines (line ++ 10 ∷ rest) (whole line ∷ left) (one_line line rest budget plain fits)
-        ∙ ap (λ f. said text (said (turn c s line).text (unless_fault f (lines + 1) (run c left (turn c s line).state (lines + 1))))) good
-        ∙ said_twice text (turn c s line).text (run c left (turn c s line).state (lines + 1));
-    within = omega (arith, far.within, length-append bytes (line ++ 10 ∷ []), length-append line (10 ∷ []));
-  }
-
-  -- the last line, which lacks its newline
-  pub then_input : (line : List ℕ) → IsPlain line → length line ≤ budget → run_of c start (bytes ++ line) ≡ said text (ending c s line lines)
-  unfolding run
-  then_input [] plain fits = then_lines [] [] (no_bytes budget)
-  then_input (x ∷ xs) plain fits = then_lines (x ∷ xs) (whole (x ∷ xs) ∷ []) (last_line (x ∷ xs) budget plain fits (omega arith))
-
-  -- a line with a fault, of which nothing is written, whatever follows
-  pub then_fault : (line : List ℕ) (f : LineFault) → IsPlain line → length line < budget → (turn c s line).fault ≡ Some f → (rest : List ℕ)
-      → run_of c start (bytes ++ ((line ++ 10 ∷ []) ++ rest)) ≡ said text (faulty f (lines + 1))
-  unfolding run
-  then_fault line f plain fits bad rest =
-      let left = lines_within rest (budget - (length line + 1)) in
-      let after = run c left (turn c s line).state (lines + 1) in
-      then_lines ((line ++ 10 ∷ []) ++ rest) (whole line ∷ left) (line_first line rest budget plain fits)
-      ∙ ap (λ g. said text (said (turn c s line).text (unless_fault g (lines + 1) after))) bad
-      ∙ ap (λ t. said text (said t (faulty f (lines + 1)))) (silent c s line f bad)
-
-  -- a line, whatever becomes of it, and whatever follows
-  pub then_whole : (line : List ℕ) → IsPlain line → length line < budget → (rest : List ℕ)
-      → (o : Outcome) × (run_of c start (bytes ++ ((line ++ 10 ∷ []) ++ rest)) ≡ said text (said (turn c s line).text o))
-  unfolding run
-  then_whole line plain fits rest =
-      let left = lines_within rest (budget - (length line + 1)) in (
-        unless_fault (turn c s line).fault (lines + 1) (run c left (turn c s line).state (lines + 1)),
-        then_lines ((line ++ 10 ∷ []) ++ rest) (whole line ∷ left) (line_first line rest budget plain fits),
+  -- a fault of the writer, in a text that is written next, whatever may follow
+  stops_writing : (more told : List ℕ) (closed : Bool) → Consumes a d (so.read.far.bytes ++ more) → (closed ≡ true → MetEnd (between a d)) → AppendsPart v u told
+      → ((rest : List ℕ) → (closed ≡ true → rest ≡ []) → (x : List ℕ) × ((run_of c s ((so.read.far.bytes ++ more) ++ rest)).text ≡ replies_text c s so.events ++ (told ++ x)))
+      → AppendsPart w u (run_of c s (so.read.far.bytes ++ more)).text × IfSome a (λ input. AppendsFront w u (run_of c s input).text)
+  stops_writing more told closed read met part follows =
+      let written : (input x : List ℕ) → (run_of c s input).text ≡ replies_text c s so.events ++ (told ++ x) → AppendsPart w u (run_of c s input).text =
+      λ input x is. subst (AppendsPart w u) (sym is) (part_after w v u (replies_text c s so.events) (told ++ x) so.written (part_of_more v u told x part)) in
+      let all = follows [] (λ _. refl) in (
+        written (so.read.far.bytes ++ more) all.0 (ap (λ k. (run_of c s k).text) (sym (append-nil (so.read.far.bytes ++ more))) ∙ all.1),
+        of_input a d (so.read.far.bytes ++ more) closed (λ input. AppendsFront w u (run_of c s input).text) read met (λ rest may. let o = follows rest may in (written _ o.0 o.1).front),
       )
 
-pub far_at : {c : Config} {start s s' : State} {lines budget budget' : ℕ} {bytes text : List ℕ} → SoFar c start s lines budget bytes text → s' ≡ s → budget' ≡ budget → SoFar c start s' lines budget' bytes text
-far_at {c} {start} {s} {s'} {lines} {budget} {budget'} {bytes} {text} far p q =
-    subst (λ b. SoFar c start s' lines b bytes text) (sym q) (subst (λ k. SoFar c start k lines budget bytes text) (sym p) far)
+  -- the reader failed in a line
+  pub reading_stops : (e : ToolFault) → e ≢ Write → BreaksOff (between b d) l → Appends v u [] → Stops (between a d) (between w u) c s e
+  reading_stops e other t nothing =
+      let read = reading_failed a b d l l' so.events so.read e other t in
+      let left = stops_before t.bytes e t.ongoing other read.lines.read nothing in
+      record { read = reading_failed a b d l l' so.events so.read e other t; written = left.0; front = left.1 }
+
+  -- the fault of a line is reported, whatever may follow
+  reported : (more : List ℕ) (f : LineFault) (closed : Bool) → l.at_end ≡ false → Consumes a d (so.read.far.bytes ++ more) → (closed ≡ true → MetEnd (between a d))
+      → ((rest : List ℕ) → (closed ≡ true → rest ≡ []) → script_of ((so.read.far.bytes ++ more) ++ rest) ≡ record { events = so.events; lines = l'.count; fault = Some f })
+      → ReadsTo (between a d) (record { events = so.events; lines = l'.count; fault = Some f })
+      → ((e : ToolFault) → e ≢ Read → LeavesMore (between w u) (run_of c s so.read.far.bytes).text (run_of c s (so.read.far.bytes ++ more)).text e × IfSome a (λ input. AppendsFront w u (run_of c s input).text) → Stops (between a d) (between w u) c s e)
+      → (r : Result Summary ToolFault) → Writes v u (faulty f l'.count) r → IfErr r (λ e. e ≢ Read) → Runs (between a d) (between w u) c s r
+  reported more f closed ongoing read met follows whole stops (Ok summary) wrote other =
+      runs_to (between a d) (between w u) c s summary _ whole
+      (subst (Appends w u) (sym (text_of_faulty c s so.events l'.count f)) (Appends-trans w v u (replies_text c s so.events) (faulty f l'.count).text so.written wrote.2)) wrote.0 wrote.1
+  reported more f closed ongoing read met follows whole stops (Err Read) wrote other = absurd (other refl)
+  reported more f closed ongoing read met follows whole stops (Err NoMemory) wrote other = stops NoMemory other (stops_before more NoMemory ongoing (λ e. cc) read wrote)
+  reported more f closed ongoing read met follows whole stops (Err Write) wrote other =
+      stops Write other
+      (stops_writing more (faulty f l'.count).text closed read met wrote
+      (λ rest may. ([], ap (λ k. (answers_to c s k).text) (follows rest may) ∙ text_of_faulty c s so.events l'.count f ∙ ap (λ k. replies_text c s so.events ++ k) (sym (append-nil (faulty f l'.count).text)))))
+
+  -- of a line with the byte past the limit
+  pub long_reported : TakesTooLong (between b d) l l' → (r : Result Summary ToolFault) → Writes v u (faulty fault.Size l'.count) r → IfErr r (λ e. e ≢ Read) → Runs (between a d) (between w u) c s r
+  long_reported t =
+      reported t.bytes fault.Size false t.ongoing (long_reads a b d l l' so.events so.read t).read (λ no. both false no refl) (λ rest _. then_long a b d l l' so.events so.read t rest) (ends_too_long a b d l l' so.events so.read t)
+      (λ e other left. record { read = long_failed a b d l l' so.events so.read t e other; written = left.0; front = left.1 })
+
+  -- the input is at its end
+  pub ends : TakesNone (between b d) l l' → (summary : Summary) → summary.lines ≡ l'.count → summary.fault ≡ None → RunsTo (between a d) (between w v) c s summary
+  ends t summary lines fault =
+      runs_to (between a d) (between w v) c s summary _ (ends_well a b d l l' so.events so.read t) (subst (Appends w v) (sym (text_of_good c s so.events l'.count)) so.written) lines fault
+
+  module _ (t : TakesLine (between b d) l l') (next : World) (text : List ℕ) (answer : Result (Option LineFault) ToolFault) (same : text ≡ l'.line.items) where
+    -- what was answered to the line, from the state that the lines before left
+    answer_is : (now : Option (List ℕ)) (r : Result (Option LineFault) ToolFault) → answer ≡ r → Answers v now core.config core.state next text answer → Answers v now c (after c s so.events) next l'.line.items r
+    answer_is now r is h =
+        subst (Answers v now c (after c s so.events) next l'.line.items) is
+        (subst (λ k. Answers v now c (after c s so.events) next k answer) same (subst (λ (k : World). Answers v now k.config k.state next text answer) so.now h))
+
+    -- a line with a fault
+    pub fault_reported : (now : Option (List ℕ)) (f : LineFault) → answer ≡ Ok (Some f) → Answers v now core.config core.state next text answer → (r : Result Summary ToolFault) → Writes now u (faulty f l'.count) r → IfErr r (λ e. e ≢ Read)
+        → Runs (between a d) (between w u) c s r
+    fault_reported now f is h r wrote =
+        let bad = answer_is now (Ok (Some f)) is h in
+        reported t.bytes f l'.at_end t.ongoing (line_reads a b d l l' so.events so.read t).read (line_met_end a b d l l' so.read.done so.read.far t) (then_fault a b d l l' so.events so.read t f bad.0) (ends_faulty a b d l l' so.events so.read t f bad.0)
+        (λ e other left. record { read = line_failed a b d l l' so.events so.read t e other; written = left.0; front = left.1 }) r (after_nothing v now u (faulty f l'.count) r bad.1 wrote)
+
+    line_text : (part l'.line.items).fault ≡ None → (rest : List ℕ) → MayFollow l' rest
+        → (x : List ℕ) × ((run_of c s ((so.read.far.bytes ++ t.bytes) ++ rest)).text ≡ replies_text c s so.events ++ (replies_text c (after c s so.events) (part l'.line.items).events ++ x))
+    line_text fine rest may =
+        let es = so.events in
+        let fs = (part l'.line.items).events in
+        let left = script (lines_left l' rest) l'.count in
+        let x = (answers_to c (after c s (es ++ fs)) left).text in (
+          x,
+          ap (λ k. (answers_to c s k).text) (then_line a b d l l' es so.read t fine rest may)
+              ∙ answers_after c s (es ++ fs) left
+              ∙ ap (λ k. k ++ x) (text_of_more c s es fs)
+              ∙ append_assoc (replies_text c s es) (replies_text c (after c s es) fs) x,
+        )
+
+    -- a line was read, but not answered, or not to its end
+    answer_left : (e : ToolFault) → Answers v u c (after c s so.events) next l'.line.items (Err e) → Stops (between a d) (between w u) c s e
+    answer_left Read h = absurd h
+    answer_left NoMemory h =
+        let left = stops_before t.bytes NoMemory t.ongoing (λ e. cc) (line_reads a b d l l' so.events so.read t).read h in
+        record { read = line_failed a b d l l' so.events so.read t NoMemory (λ e. cc); written = left.0; front = left.1 }
+    answer_left Write h =
+        let left = stops_writing t.bytes (replies_text c (after c s so.events) (part l'.line.items).events) l'.at_end (line_reads a b d l l' so.events so.read t).read (line_met_end a b d l l' so.read.done so.read.far t) h.2 (line_text h.0) in
+        record { read = line_failed a b d l l' so.events so.read t Write (λ e. cc); written = left.0; front = left.1 }
+
+    pub answer_stops : (e : ToolFault) → answer ≡ Err e → Answers v u core.config core.state next text answer → Stops (between a d) (between w u) c s e
+    answer_stops e is h = answer_left e (answer_is u (Err e) is h)
+
+    -- a line was answered
+    pub answered : answer ≡ Ok None → Answers v u core.config core.state next text answer → RunSoFar (between a d) (between w u) c s l' next
+    answered is h =
+        let done = answer_is u (Ok None) is h in
+        record {
+          events = so.events ++ (part l'.line.items).events;
+          read = took a b d l l' so.events so.read t done.0;
+          written = subst (Appends w u) (sym (text_of_more c s so.events (part l'.line.items).events)) (Appends-trans w v u (replies_text c s so.events) _ so.written done.2);
+          now = done.1 ∙ ap (λ k. record { config = c; state = k }) (sym (after_more c s so.events (part l'.line.items).events));
+        }
+
+-- ---- a run that stops before it reads anything
+
+-- what holds of any input
+for_any : (a : Option (List ℕ)) (P : List ℕ → Type 0) → ((x : List ℕ) → P x) → IfSome a P
+for_any None P h = tt
+for_any (Some x) P h = h x
+
+pub stops_at_once : (a w : Option (List ℕ)) (c : Config) (s : State) → Stops (between a a) (between w w) c s NoMemory
+stops_at_once a w c s = record {
+  read = nothing_read a NoMemory;
+  written = subst (Appends w w) (sym (ap (λ k. (answers_to c s k).text) empty)) (Appends-nil w);
+  front = for_any a (λ input. AppendsFront w w (run_of c s input).text) (λ input. record { count = 0; bound = omega arith; appended = Appends-nil w });
+}
+
+-- the run of the whole input
+pub runs_whole : (reader writer : Stream) (c : Config) (s : State) (r : Result Summary ToolFault) → Runs reader writer c s r → RunsWhole reader writer c s r
+runs_whole reader writer c s (Ok summary) h = h.input
+runs_whole reader writer c s (Err e) h = tt

@@ -1,24 +1,22 @@
 -- The script of an input, a line after another.
-use Rattle.std.proofs.Common.{◌≡◌, ◌⊎◌, inl, inr, ℕ, ◌+◌, ◌-◌, ◌<◌, ◌≤◌, List, [], ◌∷◌, ◌++◌, length, Bool, true, false, cond, subst, Option, Some, None, IfSome, OnSome, IfNone, Result, Ok, Err, refl, sym, ap, ◌∙◌, arith, append_assoc, append-nil, length-append}
-use Rattle.std.specs.List.{concat}
-use Rattle.std.specs.Io.KnownBytes.{Consumes, IsAtEnd}
-use Rattle.std.proofs.KnownBytes.{Consumes-trans}
+use Rattle.std.proofs.Common.{◌≡◌, ◌≢◌, inl, inr, ℕ, ◌+◌, List, [], ◌∷◌, ◌++◌, Bool, true, false, cond, subst, Option, Some, None, IfNone, Result, Ok, Err, refl, sym, ap, ◌∙◌, arith, append_assoc, append-nil, length-append}
+use Rattle.std.proofs.lemmas.List.Elements.{All-nil}
+use Rattle.std.specs.Io.KnownBytes.{Consumes}
+use Rattle.std.proofs.KnownBytes.{Consumes-nil, Consumes-trans}
 use Rattle.ynl_model.specs.declared.events.Event.{Event}
-use Rattle.ynl_model.specs.Queues.{Config}
-use Rattle.ynl_model.specs.Cluster.{State, opening}
-use Rattle.ynl_model.specs.Events.{step, replies}
 use Rattle.ynl_lines.specs.declared.faults.LineFault.{LineFault}
 use Rattle.ynl_lines.specs.declared.faults.LineFault.TheVariants as fault
 use Rattle.ynl_lines.specs.Reading.{event_of_line}
-use Rattle.ynl_lines.specs.Writing.{reply_text}
+use Rattle.ynl_tool.specs.declared.lines_in.Lines.{Lines}
 use Rattle.ynl_tool.specs.declared.lines_in.ReadFault.{ReadFault}
-use Rattle.ynl_tool.specs.declared.lines_in.ReadFault.TheVariants.{Read, NoMemory}
+use Rattle.ynl_tool.specs.declared.lines_in.ReadFault.TheVariants as reading
+use Rattle.ynl_tool.specs.declared.run.ToolFault.{ToolFault}
+use Rattle.ynl_tool.specs.declared.run.ToolFault.TheVariants.{Read, Write}
 use Rattle.ynl_tool.specs.declared.script_in.Script.{Script as Kept}
-use Rattle.ynl_tool.specs.Lines.{IsPlain, IsBrokenOff, EndsLine, IsComplete, IsOneLine}
-use Rattle.ynl_tool.specs.Run.{Line, whole, too_long, lines_within, limit, is_blank, still, turn_of, turn, line_of, Outcome, faulty, unless_fault, said, run}
-use Rattle.ynl_tool.specs.Script.{part_of, no_part, part, Script, no_script, unless_broken, after_events, last_part, script, script_of, ReadsTo, ReadsSome, ReadsScript, ReadsWhole, fault_lines, reply_lines, DoRunsAnswerScripts}
-use Rattle.ynl_tool.proofs.Runs.{no_bytes, one_line, last_line, long_line, line_first}
-use Rattle.ynl_tool.proofs.Closings.{of_input, at_input_end, bounded, line_complete}
+use Rattle.ynl_tool.specs.Input.{Line, whole, lines_within, limit, Stream, between, MetEnd, EndsBy, ReadsLines, IsComplete, lines_left, MayFollow, TakesLine, TakesTooLong, TakesNone, BreaksOff}
+use Rattle.ynl_tool.specs.Lines.{tool_fault}
+use Rattle.ynl_tool.specs.Script.{is_blank, part_of, no_part, part, Script, no_script, unless_broken, after_events, script, script_of, ReadsTo, ReadsSome, ReadsScript, ReadsWhole}
+use Rattle.ynl_tool.proofs.Inputs.{SoFar, at_start, follows, reads, used_before, took_whole, took_last, line_met_end, line_complete, none_met_end, left_none, of_input, one_part, both}
 
 after_twice : (a b : List Event) (s : Script) → after_events a (after_events b s) ≡ after_events (a ++ b) s
 after_twice a b s = ap (λ es. record { events = es; lines = s.lines; fault = s.fault }) (sym (append_assoc a b s.events))
@@ -38,146 +36,197 @@ barren_by line false f bad = barren_of (event_of_line line) f bad
 barren : (line : List ℕ) (f : LineFault) → (part line).fault ≡ Some f → (part line).events ≡ []
 barren line f bad = barren_by line (is_blank line) f bad
 
--- These bytes were read, and gave these events; the script goes on with what is left.
-pub record SoFar (lines budget : ℕ) (bytes : List ℕ) (events : List Event) : Type 0 where
-  pub goes_on : (rest : List ℕ) → script_of (bytes ++ rest) ≡ after_events events (script (lines_within rest budget) lines)
-  pub within : length bytes + budget ≡ limit
+-- These lines were read, and gave these events; no line before the last one has a fault.
+pub record ScriptSoFar (reader : Stream) (l : Lines) (events : List Event) : Type 0 where
+  pub done : List Line
+  pub far : SoFar reader l done
+  pub good : (script_of far.bytes).fault ≡ None
+  pub made : (more : List Line) → script (done ++ more) 0 ≡ after_events events (script more l.count)
 
-pub at_start : SoFar 0 limit [] []
-at_start = record { goes_on = λ rest. refl; within = refl }
+-- no byte is a script without events
+pub empty : script_of [] ≡ no_script None 0
+unfolding script lines_within
+empty = refl
 
-module _ (lines budget : ℕ) (bytes : List ℕ) (events : List Event) (far : SoFar lines budget bytes events) where
+-- before the first line
+pub script_at_start : (a : Option (List ℕ)) (l : Lines) → l.count ≡ 0 → l.budget ≡ limit → l.at_end ≡ false → ScriptSoFar (between a a) l []
+script_at_start a l count budget ongoing = record {
+  done = [];
+  far = at_start a l count budget ongoing (Consumes-nil a);
+  good = ap (λ (s : Script). s.fault) empty;
+  made = λ more. ap (script more) (sym count);
+}
+
+-- the script is this, whatever may follow
+read_to : (a d : Option (List ℕ)) (s : Script) (lines : ReadsLines (between a d)) (closed : Bool) → (script_of lines.bytes).fault ≡ None → IsComplete lines → IfNone s.fault (MetEnd (between a d))
+    → (closed ≡ true → MetEnd (between a d)) → ((rest : List ℕ) → (closed ≡ true → rest ≡ []) → s ≡ script_of ((lines.bytes ++ lines.last) ++ rest)) → ReadsTo (between a d) s
+read_to a d s lines closed good complete ended met all = record {
+  lines = lines;
+  good = good;
+  complete = complete;
+  ended = ended;
+  is = all [] (λ _. refl) ∙ ap script_of (append-nil (lines.bytes ++ lines.last));
+  input = of_input a d (lines.bytes ++ lines.last) closed (λ input. s ≡ script_of input) lines.read met all;
+}
+
+module _ (a b d : Option (List ℕ)) (l l' : Lines) (events : List Event) (so : ScriptSoFar (between a b) l events) where
+  pub script_follows : (more rest : List ℕ) → l.at_end ≡ false → script_of ((so.far.bytes ++ more) ++ rest) ≡ after_events events (script (lines_left l (more ++ rest)) l.count)
+  script_follows more rest ongoing = ap (λ ls. script ls 0) (follows a b d l l' so.done so.far more rest ongoing) ∙ so.made (lines_left l (more ++ rest))
+
   -- the script of what was read
-  pub here : script_of bytes ≡ record { events = events; lines = lines; fault = None }
+  pub here : l.at_end ≡ false → script_of so.far.bytes ≡ record { events = events; lines = l.count; fault = None }
   unfolding script
-  here = ap script_of (sym (append-nil bytes)) ∙ far.goes_on [] ∙ ap (λ ls. after_events events (script ls lines)) (no_bytes budget) ∙ after_none events None lines
+  here ongoing =
+      ap script_of (sym (append-nil (so.far.bytes ++ []) ∙ append-nil so.far.bytes))
+      ∙ script_follows [] [] ongoing
+      ∙ ap (λ ls. after_events events (script ls l.count)) (left_none l)
+      ∙ after_none events None l.count
 
-  then_lines : (more : List ℕ) (ls : List Line) → lines_within more budget ≡ ls → script_of (bytes ++ more) ≡ after_events events (script ls lines)
-  then_lines more ls e = far.goes_on more ∙ ap (λ ls. after_events events (script ls lines)) e
-
-  -- the byte past the limit, whatever follows
-  pub then_long : (line : List ℕ) (b : ℕ) → IsPlain line → length line ≡ budget → (rest : List ℕ)
-      → script_of (bytes ++ ((line ++ b ∷ []) ++ rest)) ≡ record { events = events; lines = lines + 1; fault = Some fault.Size }
-  unfolding script
-  then_long line b plain full rest = then_lines ((line ++ b ∷ []) ++ rest) (too_long ∷ []) (long_line line b rest budget plain full) ∙ after_none events (Some fault.Size) (lines + 1)
-
-  pub then_line : (line : List ℕ) → IsPlain line → length line < budget → (part line).fault ≡ None
-      → SoFar (lines + 1) (budget - (length line + 1)) (bytes ++ (line ++ 10 ∷ [])) (events ++ (part line).events)
-  unfolding script
-  then_line line plain fits good = record {
-    goes_on = λ rest.
-        let left = lines_within rest (budget - (length line + 1)) in
-        ap script_of (append_assoc bytes (line ++ 10 ∷ []) rest ∙ ap (λ l. bytes ++ l) (append_assoc line (10 ∷ []) rest))
-        ∙ then_lines (line ++ 10 ∷ rest) (whole line ∷ left) (one_line line rest budget plain fits)
-        ∙ ap (λ f. after_events events (after_events (part line).events (unless_broken f (lines + 1) (script left (lines + 1))))) good
-        ∙ after_twice events (part line).events (script left (lines + 1));
-    within = omega (arith, far.within, length-append bytes (line ++ 10 ∷ []), length-append line (10 ∷ []));
+  -- the reader failed in a line
+  abbrev pub reading_failed : (e : ToolFault) → e ≢ Write → BreaksOff (between b d) l → ReadsSome (between a d) e
+  reading_failed e other t = record {
+    lines = reads a b d l l' so.done so.far t.bytes t.ongoing t.read (one_part t.bytes t.plain) (let fits = t.fits in omega (arith, fits));
+    good = so.good;
+    reading = λ _. (t.plain, let fits = t.fits in let used = used_before a b d l l' so.done so.far t.ongoing in omega (arith, fits, used, length-append so.far.bytes t.bytes));
+    writing = λ wrote. absurd (other wrote);
   }
 
-  -- the last line, which lacks its newline
-  pub then_input : (line : List ℕ) → IsPlain line → length line ≤ budget → script_of (bytes ++ line) ≡ after_events events (last_part line lines)
-  unfolding script
-  then_input [] plain fits = then_lines [] [] (no_bytes budget)
-  then_input (x ∷ xs) plain fits = then_lines (x ∷ xs) (whole (x ∷ xs) ∷ []) (last_line (x ∷ xs) budget plain fits (omega arith))
+  -- the byte past the limit
+  module _ (t : TakesTooLong (between b d) l l') where
+    abbrev pub long_reads : ReadsLines (between a d)
+    long_reads = reads a b d l l' so.done so.far t.bytes t.ongoing t.read t.one_line (let full = t.full in omega (arith, full))
 
-  -- a line with a fault, whatever follows
-  pub then_fault : (line : List ℕ) (f : LineFault) → IsPlain line → length line < budget → (part line).fault ≡ Some f → (rest : List ℕ)
-      → script_of (bytes ++ ((line ++ 10 ∷ []) ++ rest)) ≡ record { events = events; lines = lines + 1; fault = Some f }
-  unfolding script
-  then_fault line f plain fits bad rest =
-      let left = lines_within rest (budget - (length line + 1)) in
-      then_lines ((line ++ 10 ∷ []) ++ rest) (whole line ∷ left) (line_first line rest budget plain fits)
-      ∙ ap (λ g. after_events events (after_events (part line).events (unless_broken g (lines + 1) (script left (lines + 1))))) bad
-      ∙ ap (λ es. after_events events (after_events es (no_script (Some f) (lines + 1)))) (barren line f bad)
-      ∙ after_none events (Some f) (lines + 1)
+    pub long_complete : IsComplete long_reads
+    long_complete = inl (let full = t.full in let used = used_before a b d l l' so.done so.far t.ongoing in omega (arith, full, used, length-append so.far.bytes t.bytes))
 
-  module _ (r0 r1 r2 : Option (List ℕ)) (more : List ℕ) (read : Consumes r0 r1 bytes) (last : Consumes r1 r2 more) (ends : EndsLine bytes) (once : IsOneLine more) where
-    taken : Consumes r0 r2 (bytes ++ more)
-    taken = Consumes-trans r0 r1 r2 bytes more read last
+    abbrev pub long_failed : (e : ToolFault) → e ≢ Read → ReadsSome (between a d) e
+    long_failed e other = record { lines = long_reads; good = so.good; reading = λ bad. absurd (other bad); writing = λ _. long_complete }
 
-    pub stopped : (e : ReadFault) → length more ≤ budget + 1 → (e ≡ Read → IsBrokenOff bytes more) → ReadsSome r0 r2 e
-    stopped e fits reading = record {
-      bytes = bytes;
-      last = more;
-      whole = ends;
-      one_line = once;
-      read = taken;
-      good = ap (λ (s : Script). s.fault) here;
-      bound = bounded bytes more budget far.within fits;
-      reading = reading;
+    pub then_long : (rest : List ℕ) → script_of ((so.far.bytes ++ t.bytes) ++ rest) ≡ record { events = events; lines = l'.count; fault = Some fault.Size }
+    unfolding script
+    then_long rest =
+        script_follows t.bytes rest t.ongoing
+        ∙ ap (λ ls. after_events events (script ls l.count)) (t.first rest)
+        ∙ after_none events (Some fault.Size) (l.count + 1)
+        ∙ ap (λ n. record { events = events; lines = n; fault = Some fault.Size }) (sym t.count)
+
+    pub ends_too_long : ReadsTo (between a d) (record { events = events; lines = l'.count; fault = Some fault.Size })
+    ends_too_long = read_to a d _ long_reads false so.good long_complete tt (λ no. both false no refl) (λ rest _. sym (then_long rest))
+
+  -- a line
+  module _ (t : TakesLine (between b d) l l') where
+    abbrev pub line_reads : ReadsLines (between a d)
+    line_reads = reads a b d l l' so.done so.far t.bytes t.ongoing t.read t.one_line (let used = t.used in omega (arith, used))
+
+    -- of which nothing came, or not all
+    abbrev pub line_failed : (e : ToolFault) → e ≢ Read → ReadsSome (between a d) e
+    line_failed e other = record { lines = line_reads; good = so.good; reading = λ bad. absurd (other bad); writing = λ _. line_complete a b d l l' so.done so.far t }
+
+    added : (more : List Line)
+        → script (whole l'.line.items ∷ more) l.count ≡ after_events (part l'.line.items).events (unless_broken (part l'.line.items).fault l'.count (script more l'.count))
+    unfolding script
+    added more = ap (λ n. after_events (part l'.line.items).events (unless_broken (part l'.line.items).fault n (script more n))) (sym t.count)
+
+    module _ (fine : (part l'.line.items).fault ≡ None) where
+      added_events : (more : List Line) → after_events events (script (whole l'.line.items ∷ more) l.count) ≡ after_events (events ++ (part l'.line.items).events) (script more l'.count)
+      added_events more =
+          ap (after_events events) (added more ∙ ap (λ f. after_events (part l'.line.items).events (unless_broken f l'.count (script more l'.count))) fine)
+          ∙ after_twice events (part l'.line.items).events (script more l'.count)
+
+      pub then_line : (rest : List ℕ) → MayFollow l' rest → script_of ((so.far.bytes ++ t.bytes) ++ rest) ≡ after_events (events ++ (part l'.line.items).events) (script (lines_left l' rest) l'.count)
+      then_line rest may =
+          script_follows t.bytes rest t.ongoing ∙ ap (λ ls. after_events events (script ls l.count)) (t.first rest may) ∙ added_events (lines_left l' rest)
+
+      good_here : (script_of (so.far.bytes ++ t.bytes)).fault ≡ None
+      unfolding script
+      good_here =
+          ap (λ k. (script_of k).fault) (sym (append-nil (so.far.bytes ++ t.bytes)))
+          ∙ ap (λ (s : Script). s.fault) (then_line [] (λ _. refl))
+          ∙ ap (λ ls. (script ls l'.count).fault) (left_none l')
+
+      made_more : (more : List Line) → script ((so.done ++ whole l'.line.items ∷ []) ++ more) 0 ≡ after_events (events ++ (part l'.line.items).events) (script more l'.count)
+      made_more more = ap (λ ls. script ls 0) (append_assoc so.done (whole l'.line.items ∷ []) more) ∙ so.made (whole l'.line.items ∷ more) ∙ added_events more
+
+      took_by : EndsBy (between b d) t.bytes l' → ScriptSoFar (between a d) l' (events ++ (part l'.line.items).events)
+      took_by (inl h) = record {
+        done = so.done ++ whole l'.line.items ∷ [];
+        far = took_whole a b d l l' so.done so.far t h.0 h.1;
+        good = good_here;
+        made = made_more;
+      }
+      took_by (inr h) = record {
+        done = so.done ++ whole l'.line.items ∷ [];
+        far = took_last a b d l l' so.done so.far t h.0 h.1;
+        good = so.good;
+        made = made_more;
+      }
+
+      pub took : ScriptSoFar (between a d) l' (events ++ (part l'.line.items).events)
+      took = took_by t.ended
+
+    module _ (f : LineFault) (bad : (part l'.line.items).fault ≡ Some f) where
+      -- a line with a fault, whatever may follow
+      pub then_fault : (rest : List ℕ) → MayFollow l' rest → script_of ((so.far.bytes ++ t.bytes) ++ rest) ≡ record { events = events; lines = l'.count; fault = Some f }
+      then_fault rest may =
+          script_follows t.bytes rest t.ongoing
+          ∙ ap (λ ls. after_events events (script ls l.count)) (t.first rest may)
+          ∙ ap (after_events events) (added (lines_left l' rest) ∙ ap (λ g. after_events (part l'.line.items).events (unless_broken g l'.count (script (lines_left l' rest) l'.count))) bad)
+          ∙ ap (λ es. after_events events (after_events es (no_script (Some f) l'.count))) (barren l'.line.items f bad)
+          ∙ after_none events (Some f) l'.count
+
+      pub ends_faulty : ReadsTo (between a d) (record { events = events; lines = l'.count; fault = Some f })
+      ends_faulty = read_to a d _ line_reads l'.at_end so.good (line_complete a b d l l' so.done so.far t) tt (line_met_end a b d l l' so.done so.far t) (λ rest may. sym (then_fault rest may))
+
+  -- the end
+  module _ (t : TakesNone (between b d) l l') where
+    all_read : Consumes a d (so.far.bytes ++ so.far.last)
+    all_read = subst (Consumes a d) (append-nil (so.far.bytes ++ so.far.last)) (Consumes-trans a b d (so.far.bytes ++ so.far.last) [] so.far.read t.read)
+
+    abbrev none_reads : ReadsLines (between a d)
+    none_reads = record {
+      bytes = so.far.bytes;
+      last = so.far.last;
+      whole = so.far.whole;
+      one_line = so.far.one_line;
+      read = all_read;
+      bound = let used = so.far.used in omega (arith, used);
     }
 
-    -- The script ends with this, whatever follows what was read; or it ends with the input.
-    abbrev pub Closes : Script → Type 0
-    Closes o =
-        (((rest : List ℕ) → script_of (bytes ++ (more ++ rest)) ≡ o) × ((length more ≡ budget + 1) ⊎ EndsLine more))
-        ⊎ ((script_of (bytes ++ more) ≡ o) × OnSome r0 (IsAtEnd r2))
+    then_none : (rest : List ℕ) → (true ≡ true → rest ≡ []) → script_of ((so.far.bytes ++ so.far.last) ++ rest) ≡ record { events = events; lines = l'.count; fault = None }
+    unfolding script
+    then_none rest may =
+        ap (λ k. script_of ((so.far.bytes ++ so.far.last) ++ k)) (may refl)
+        ∙ ap (λ ls. script ls 0) (so.far.goes_on [] (λ _. refl))
+        ∙ so.made (lines_left l [])
+        ∙ ap (λ ls. after_events events (script ls l.count)) (left_none l)
+        ∙ after_none events None l.count
+        ∙ ap (λ n. record { events = events; lines = n; fault = None }) (sym t.count)
 
-    so_far : (o : Script) → Closes o → script_of (bytes ++ more) ≡ o
-    so_far o (inl h) = ap (λ l. script_of (bytes ++ l)) (sym (append-nil more)) ∙ h.0 []
-    so_far o (inr h) = h.0
-
-    complete : (o : Script) → Closes o → IsComplete r0 r2 bytes more
-    complete o (inl h) = line_complete r0 r2 bytes more budget far.within h.1
-    complete o (inr h) = inr (inr h.1)
-
-    of_whole : (s o : Script) → s ≡ o → Closes o → IfSome r0 (λ input. s ≡ script_of input)
-    of_whole s o made (inl h) = of_input r0 r2 (bytes ++ more) (λ input. s ≡ script_of input) taken (λ rest. made ∙ sym (ap script_of (append_assoc bytes more rest) ∙ h.0 rest))
-    of_whole s o made (inr h) = at_input_end r0 r2 (bytes ++ more) (λ input. s ≡ script_of input) taken h.1 (made ∙ sym h.0)
-
-    pub closed : (s o : Script) → s ≡ o → length more ≤ budget + 1 → Closes o → IfNone o.fault (OnSome r0 (IsAtEnd r2)) → ReadsTo r0 r2 s
-    closed s o made fits end ended = record {
-      bytes = bytes;
-      last = more;
-      whole = ends;
-      one_line = once;
-      read = taken;
-      good = ap (λ (s : Script). s.fault) here;
-      bound = bounded bytes more budget far.within fits;
-      complete = complete o end;
-      ended = subst (λ f. IfNone f (OnSome r0 (IsAtEnd r2))) (sym (ap (λ (s : Script). s.fault) made)) ended;
-      is = made ∙ sym (so_far o end);
-      input = of_whole s o made end;
-    }
-
-pub far_at : {lines budget budget' : ℕ} {bytes : List ℕ} {events events' : List Event} → SoFar lines budget bytes events → events' ≡ events → budget' ≡ budget → SoFar lines budget' bytes events'
-far_at {lines} {budget} {budget'} {bytes} {events} {events'} far p q = subst (λ b. SoFar lines b bytes events') (sym q) (subst (λ es. SoFar lines budget bytes es) (sym p) far)
+    pub ends_well : ReadsTo (between a d) (record { events = events; lines = l'.count; fault = None })
+    ends_well =
+        let met = none_met_end a b d l l' so.done so.far t in
+        read_to a d _ none_reads true so.good (inr (inr met)) met (λ _. met) (λ rest may. sym (then_none rest may))
 
 -- the script of the whole input
-pub reads_whole : (old new : Option (List ℕ)) (r : Result Kept ReadFault) → ReadsScript old new r → ReadsWhole old r
-reads_whole old new (Ok s) h = h.input
-reads_whole old new (Err e) h = tt
+pub reads_whole : (a d : Option (List ℕ)) (r : Result Kept ReadFault) → ReadsScript (between a d) r → ReadsWhole (between a d) r
+reads_whole a d (Ok s) h = h.input
+reads_whole a d (Err e) h = tt
 
-pub no_memory : (e : ReadFault) (P : Type 0) → e ≡ NoMemory → e ≡ Read → P
-no_memory Read P h bad = cc
-no_memory NoMemory P h bad = cc
+-- ---- faults of reading
 
--- ---- what a run writes for a script
+-- nothing was read
+abbrev pub nothing_read : (a : Option (List ℕ)) (e : ToolFault) → ReadsSome (between a a) e
+nothing_read a e = record {
+  lines = record { bytes = []; last = []; whole = inl refl; one_line = one_part [] (All-nil (λ x. x ≢ 10)); read = Consumes-nil a; bound = omega arith };
+  good = ap (λ (s : Script). s.fault) empty;
+  reading = λ _. (All-nil (λ x. x ≢ 10), omega arith);
+  writing = λ _. inr (inl (inl refl));
+}
 
--- a run from a state: the replies to the events, and then the fault
-abbrev answers_from : Config → State → Script → Outcome
-answers_from c s o = record { text = concat (reply_lines (replies c s o.events) ++ fault_lines o); lines = o.lines; fault = o.fault }
+pub no_write : (r : ReadFault) → tool_fault r ≢ Write
+no_write reading.Read e = cc
+no_write reading.NoMemory e = cc
 
-broken_said : (c : Config) (s : State) (f : LineFault) (n : ℕ) → answers_from c s (no_script (Some f) n) ≡ faulty f n
-broken_said c s f n = ap (λ t. record { text = t; lines = n; fault = Some f }) (append-nil _)
-
--- what one line does, by what it adds
-added_of : (c : Config) (s : State) (r : Result Event LineFault) (n : ℕ) (rest : Script) (after : Outcome) → after ≡ answers_from c (turn_of c s r).state rest
-    → said (turn_of c s r).text (unless_fault (turn_of c s r).fault n after) ≡ answers_from c s (after_events (part_of r).events (unless_broken (part_of r).fault n rest))
-added_of c s (Ok event) n rest after e = ap (said (line_of (reply_text (step c s event).reply))) e
-added_of c s (Err f) n rest after e = sym (broken_said c s f n)
-
-added_by : (c : Config) (s : State) (line : List ℕ) (b : Bool) (n : ℕ) (rest : Script) (after : Outcome) → after ≡ answers_from c (cond b (still s) (turn_of c s (event_of_line line))).state rest
-    → said (cond b (still s) (turn_of c s (event_of_line line))).text (unless_fault (cond b (still s) (turn_of c s (event_of_line line))).fault n after)
-    ≡ answers_from c s (after_events (cond b no_part (part_of (event_of_line line))).events (unless_broken (cond b no_part (part_of (event_of_line line))).fault n rest))
-added_by c s line true n rest after e = e
-added_by c s line false n rest after e = added_of c s (event_of_line line) n rest after e
-
-run_answers : (c : Config) (ls : List Line) (s : State) (n : ℕ) → run c ls s n ≡ answers_from c s (script ls n)
-unfolding run script
-run_answers c [] s n = refl
-run_answers c (too_long ∷ ls) s n = sym (broken_said c s fault.Size (n + 1))
-run_answers c (whole l ∷ ls) s n = added_by c s l (is_blank l) (n + 1) (script ls (n + 1)) (run c ls (turn c s l).state (n + 1)) (run_answers c ls (turn c s l).state (n + 1))
-
-pub runs_answer : DoRunsAnswerScripts
-runs_answer c bytes = run_answers c (lines_within bytes limit) (opening c) 0
+pub no_read : (r : ReadFault) → r ≡ reading.NoMemory → tool_fault r ≢ Read
+no_read reading.Read is e = cc
+no_read reading.NoMemory is e = cc

@@ -14,7 +14,7 @@ use Rattle.ynl_model.specs.Queues.{Config}
 use Rattle.ynl_model.specs.Events.{step, replies}
 use Rattle.ynl_model.specs.Accepted.{is_accepted}
 use Rattle.ynl_model.specs.View.{is_sole}
-use Rattle.ynl_laws.proofs.Isolated.{is_isolated}
+use Rattle.ynl_laws.proofs.Isolating.Isolated.{is_isolated}
 use Rattle.ynl_core.specs.World.{World, stepped}
 use Rattle.ynl_tool.specs.declared.run.ToolFault.{ToolFault}
 use Rattle.ynl_tool.specs.declared.run.ToolFault.TheVariants.{Read, Write, NoMemory}
@@ -22,12 +22,13 @@ use Rattle.ynl_lines.specs.declared.faults.LineFault.{LineFault}
 use Rattle.ynl_lines.specs.Writing.{fault_text}
 use Rattle.ynl_tool.specs.declared.run.Summary.{Summary}
 use Rattle.ynl_tool.specs.Lines.{AppendsPart}
-use Rattle.ynl_tool.specs.Run.{line_of, faulty}
+use Rattle.ynl_tool.specs.Input.{Stream, between}
+use Rattle.ynl_tool.specs.Run.{line_of, faulty, fault_lines_of, fault_lines}
 use Rattle.ynl_tool.specs.Running.{Writes}
-use Rattle.ynl_tool.specs.Script.{Script, script_of, ReadsTo, fault_lines_of, fault_lines}
-use Rattle.ynl_tool.specs.Telling.{entry_lines, entry_line, view_lines, tenant_lines, AppendsLines, LeavesLine, LeavesLines, TellsEvent, IsToldOf, TellsAll, TellsWhole, TellsTenant}
-use Rattle.ynl_tool.proofs.Closings.{of_some}
+use Rattle.ynl_tool.specs.Script.{Script, script_of, ReadsTo}
+use Rattle.ynl_tool.specs.Telling.{entry_lines, entry_line, view_lines, tenant_lines, AppendsLines, LeavesLine, LeavesLines, SaysLines, TellsEvent, IsToldOf, TellsAll, TellsWhole, TellsTenant}
 use Rattle.ynl_tool.proofs.Fronts.{part_of_more, part_after}
+use Rattle.ynl_tool.proofs.Runs.{of_some}
 
 -- ---- lines, and more lines
 
@@ -107,6 +108,12 @@ module _ (core : World) (places : List ℕ) (events : List Event) (now : World) 
   failed a b c n e f p q before h =
       subst (λ ls. LeavesLines a c ls f) (sym (next n e p q)) (leaves_after a b c done (entry_line now n e) _ f before h)
 
+-- The lines of the events so far were written.
+pub record ToldSoFar (old new : Option (List ℕ)) (core : World) (places : List ℕ) (events : List Event) (now : World) (i : ℕ) : Type 0 where
+  pub done : List (List ℕ)
+  pub far : SoFar core places events now i done
+  pub written : Appends old new (concat done)
+
 -- what an error leaves of an event's line
 pub event_left : (a b : Option (List ℕ)) (core next : World) (n : ℕ) (e : Event) (f : ToolFault) → TellsEvent {A = Unit {0}} a b core next n e (Err f) → LeavesLine a b (entry_line core n e) f
 event_left a b core next n e Read h = absurd h
@@ -120,23 +127,28 @@ next_number xs i h = let e : suc i ≡ i + 1 = omega arith in drop-cons xs i 0 h
 pub next_event : (xs : List Event) (i : ℕ) (x : Event) → i < length xs → x ≡ get_or xs i x → drop i xs ≡ x ∷ drop (i + 1) xs
 next_event xs i x h is = let e : suc i ≡ i + 1 = omega arith in drop-cons xs i x h ∙ ap (λ k. get_or xs i x ∷ drop k xs) e ∙ ap (λ y. y ∷ drop (i + 1) xs) (sym is)
 
+-- what was said of these events
+pub said_of : {A : Type 0} (a b : Option (List ℕ)) (c : Config) (t : Name) (p : Label) (events those : List Event) (r is : Result A ToolFault) → events ≡ those → r ≡ is → SaysLines a b (view_lines c t p events) r
+    → SaysLines a b (view_lines c t p those) is
+said_of a b c t p events those r is same e said = subst (SaysLines a b (view_lines c t p those)) e (subst (λ es. SaysLines a b (view_lines c t p es) r) same said)
+
 -- ---- a script that was read, and what the tenant is told of it
 
-module _ (old new w0 w1 : Option (List ℕ)) (c : Config) (t : Name) (p : Label) (accepted : Bool) (s : Script) (read : ReadsTo old new s) where
+module _ (reader : Stream) (w0 w1 : Option (List ℕ)) (c : Config) (t : Name) (p : Label) (accepted : Bool) (s : Script) (read : ReadsTo reader s) where
   abbrev seen : List (List ℕ)
   seen = view_lines c t p s.events
 
-  pub fails : (e : ToolFault) → LeavesLines w0 w1 (tenant_lines c t p s) e → TellsTenant old new w0 w1 accepted c t p (Err e)
+  pub fails : (e : ToolFault) → LeavesLines w0 w1 (tenant_lines c t p s) e → TellsTenant reader (between w0 w1) accepted c t p (Err e)
   fails Read left = absurd left
   fails NoMemory left = inr (record { script = s; read = read; written = left })
   fails Write left = record { script = s; read = read; written = left }
 
   -- an error in what is seen
-  pub fails_early : (e : ToolFault) → LeavesLines w0 w1 seen e → TellsTenant old new w0 w1 accepted c t p (Err e)
+  pub fails_early : (e : ToolFault) → LeavesLines w0 w1 seen e → TellsTenant reader (between w0 w1) accepted c t p (Err e)
   fails_early e left = fails e (leaves_more w0 w1 seen (fault_lines s) e left)
 
   module _ (sole : IsTrue (is_sole c t p)) (known : IsTrue accepted → IsTrue (is_accepted c)) where
-    ends_well : (summary : Summary) → summary.lines ≡ s.lines → summary.fault ≡ s.fault → Appends w0 w1 (concat (tenant_lines c t p s)) → TellsAll old new w0 w1 accepted c t p summary
+    ends_well : (summary : Summary) → summary.lines ≡ s.lines → summary.fault ≡ s.fault → Appends w0 w1 (concat (tenant_lines c t p s)) → TellsAll reader (between w0 w1) accepted c t p summary
     ends_well summary lines fault written = record {
       script = s;
       read = read;
@@ -144,7 +156,7 @@ module _ (old new w0 w1 : Option (List ℕ)) (c : Config) (t : Name) (p : Label)
       lines = lines;
       fault = fault;
       same = λ is. (is_isolated c s.events t p (known is) sole).replies;
-      input = of_some old (λ input. s ≡ script_of input) (IsToldOf w0 w1 accepted c t p summary)
+      input = of_some reader.before (λ input. s ≡ script_of input) (IsToldOf (between w0 w1) accepted c t p summary)
           (λ input is. record {
             written = subst (λ (k : Script). Appends w0 w1 (concat (tenant_lines c t p k))) is written;
             lines = lines ∙ ap (λ (k : Script). k.lines) is;
@@ -155,14 +167,14 @@ module _ (old new w0 w1 : Option (List ℕ)) (c : Config) (t : Name) (p : Label)
     }
 
     -- no line has a fault
-    pub ends_whole : (summary : Summary) → summary.lines ≡ s.lines → summary.fault ≡ s.fault → s.fault ≡ None → Appends w0 w1 (concat seen) → TellsAll old new w0 w1 accepted c t p summary
+    pub ends_whole : (summary : Summary) → summary.lines ≡ s.lines → summary.fault ≡ s.fault → s.fault ≡ None → Appends w0 w1 (concat seen) → TellsAll reader (between w0 w1) accepted c t p summary
     ends_whole summary lines fault none h =
         ends_well summary lines fault
         (subst (λ ls. Appends w0 w1 (concat ls)) (sym (ap (λ f. seen ++ fault_lines_of s.lines f) none ∙ append-nil seen)) h)
 
     -- what was seen is written, and then the line of the fault
     pub ends_broken : (wm : Option (List ℕ)) (f : LineFault) (r : Result Summary ToolFault) → s.fault ≡ Some f → Appends w0 wm (concat seen) → Writes wm w1 (faulty f s.lines) r → IfErr r (λ e. e ≢ Read)
-        → TellsTenant old new w0 w1 accepted c t p r
+        → TellsTenant reader (between w0 w1) accepted c t p r
     ends_broken wm f (Ok summary) some h w other =
         ends_well summary w.0 (w.1 ∙ sym some)
         (subst (λ ls. Appends w0 w1 (concat ls)) (sym (ap (λ f. seen ++ fault_lines_of s.lines f) some)) (one_more w0 wm w1 seen (line_of (fault_text f s.lines)) h w.2))
@@ -173,6 +185,6 @@ module _ (old new w0 w1 : Option (List ℕ)) (c : Config) (t : Name) (p : Label)
         fails Write (subst (λ ls. LeavesLines w0 w1 ls Write) (sym (ap (λ f. seen ++ fault_lines_of s.lines f) some)) (leaves_after w0 wm w1 seen (line_of (fault_text f s.lines)) [] Write h w))
 
 -- what the tenant is told of the whole input
-pub tells_whole : (old new w0 w1 : Option (List ℕ)) (accepted : Bool) (c : Config) (t : Name) (p : Label) (r : Result Summary ToolFault) → TellsTenant old new w0 w1 accepted c t p r → TellsWhole old w0 w1 accepted c t p r
-tells_whole old new w0 w1 accepted c t p (Ok summary) h = h.input
-tells_whole old new w0 w1 accepted c t p (Err e) h = tt
+pub tells_whole : (reader writer : Stream) (accepted : Bool) (c : Config) (t : Name) (p : Label) (r : Result Summary ToolFault) → TellsTenant reader writer accepted c t p r → TellsWhole reader writer accepted c t p r
+tells_whole reader writer accepted c t p (Ok summary) h = h.input
+tells_whole reader writer accepted c t p (Err e) h = tt

@@ -13,6 +13,7 @@ use Rattle.ynl_config.specs.Meaning.{config_of}
 use Rattle.ynl_tool.specs.declared.run.ToolFault.{ToolFault}
 use Rattle.ynl_tool.specs.declared.run.ToolFault.TheVariants.{Read, Write, NoMemory}
 use Rattle.ynl_tool.specs.declared.run.Summary.{Summary}
+use Rattle.ynl_tool.specs.Input.{Stream}
 use Rattle.ynl_tool.specs.Lines.{AppendsFront}
 use Rattle.ynl_tool.specs.Run.{line_of}
 use Rattle.ynl_tool.specs.Running.{Runs}
@@ -63,46 +64,46 @@ Tells old new (Ok (Err refusal)) = AppendsFront old new (refusal_line refusal)
 Tells old new (Err e) = AppendsFront old new (error_line e)
 
 -- nothing was read or written
-pub record IsIdle (old new wold wnew : Option (List ℕ)) : Type 0 where
-  pub unread : Consumes old new []
-  pub unwritten : Appends wold wnew []
+pub record IsIdle (reader writer : Stream) : Type 0 where
+  pub unread : Consumes reader.before reader.after []
+  pub unwritten : Appends writer.before writer.after []
 
 -- the job is not begun: for this reason, or memory was refused
-abbrev pub NotBegun : Option (List ℕ) → Option (List ℕ) → Option (List ℕ) → Option (List ℕ) → JobRefusal → Ending → Type 0
-NotBegun old new wold wnew refusal (Ok (Ok summary)) = ⊥
-NotBegun old new wold wnew refusal (Ok (Err told)) = (told ≡ refusal) × IsIdle old new wold wnew
-NotBegun old new wold wnew refusal (Err e) = (e ≡ NoMemory) × IsIdle old new wold wnew
+abbrev pub NotBegun : Stream → Stream → JobRefusal → Ending → Type 0
+NotBegun reader writer refusal (Ok (Ok summary)) = ⊥
+NotBegun reader writer refusal (Ok (Err told)) = (told ≡ refusal) × IsIdle reader writer
+NotBegun reader writer refusal (Err e) = (e ≡ NoMemory) × IsIdle reader writer
 
 -- a run of this configuration, from its opening state
-abbrev pub RunsJob : Option (List ℕ) → Option (List ℕ) → Option (List ℕ) → Option (List ℕ) → Configured → Ending → Type 0
-RunsJob old new wold wnew c (Ok (Ok summary)) = Runs old new wold wnew c (opening c) (Ok summary)
-RunsJob old new wold wnew c (Ok (Err refusal)) = ⊥
-RunsJob old new wold wnew c (Err e) = Runs old new wold wnew c (opening c) (Err e)
+abbrev pub RunsJob : Stream → Stream → Configured → Ending → Type 0
+RunsJob reader writer c (Ok (Ok summary)) = Runs reader writer c (opening c) (Ok summary)
+RunsJob reader writer c (Ok (Err refusal)) = ⊥
+RunsJob reader writer c (Err e) = Runs reader writer c (opening c) (Err e)
 
 -- what a tenant's partition sees is told, where the tenant is alone there
-abbrev pub TellsJob : Option (List ℕ) → Option (List ℕ) → Option (List ℕ) → Option (List ℕ) → Bool → Configured → Name → Label → Bool → Ending → Type 0
-TellsJob old new wold wnew accepted c t p true (Ok (Ok summary)) = TellsTenant old new wold wnew accepted c t p (Ok summary)
-TellsJob old new wold wnew accepted c t p true (Ok (Err refusal)) = ⊥
-TellsJob old new wold wnew accepted c t p true (Err e) = TellsTenant old new wold wnew accepted c t p (Err e)
-TellsJob old new wold wnew accepted c t p false ended = NotBegun old new wold wnew NotSole ended
+abbrev pub TellsJob : Stream → Stream → Bool → Configured → Name → Label → Bool → Ending → Type 0
+TellsJob reader writer accepted c t p true (Ok (Ok summary)) = TellsTenant reader writer accepted c t p (Ok summary)
+TellsJob reader writer accepted c t p true (Ok (Err refusal)) = ⊥
+TellsJob reader writer accepted c t p true (Err e) = TellsTenant reader writer accepted c t p (Err e)
+TellsJob reader writer accepted c t p false ended = NotBegun reader writer NotSole ended
 
 -- the job of a kind, with a cluster of this configuration, where that may be known to be accepted
-abbrev pub DoesJob : Option (List ℕ) → Option (List ℕ) → Option (List ℕ) → Option (List ℕ) → Bool → Kind → Configured → Ending → Type 0
-DoesJob old new wold wnew accepted Run c ended = RunsJob old new wold wnew c ended
-DoesJob old new wold wnew accepted (Tenant t p) c ended = TellsJob old new wold wnew accepted c t p (is_sole c t p) ended
+abbrev pub DoesJob : Stream → Stream → Bool → Kind → Configured → Ending → Type 0
+DoesJob reader writer accepted Run c ended = RunsJob reader writer c ended
+DoesJob reader writer accepted (Tenant t p) c ended = TellsJob reader writer accepted c t p (is_sole c t p) ended
 
 -- the job with this configuration, which is accepted; or its fault, where there is none
-abbrev pub DoesWith : Option (List ℕ) → Option (List ℕ) → Option (List ℕ) → Option (List ℕ) → Kind → Result Configured ConfigFault → Ending → Type 0
-DoesWith old new wold wnew kind (Ok c) ended = DoesJob old new wold wnew true kind c ended
-DoesWith old new wold wnew kind (Err fault) ended = NotBegun old new wold wnew (Config fault) ended
+abbrev pub DoesWith : Stream → Stream → Kind → Result Configured ConfigFault → Ending → Type 0
+DoesWith reader writer kind (Ok c) ended = DoesJob reader writer true kind c ended
+DoesWith reader writer kind (Err fault) ended = NotBegun reader writer (Config fault) ended
 
 -- the job with the configuration that a text means
-abbrev pub DoesText : Option (List ℕ) → Option (List ℕ) → Option (List ℕ) → Option (List ℕ) → Kind → List ℕ → Ending → Type 0
-DoesText old new wold wnew kind text ended = DoesWith old new wold wnew kind (config_of text) ended
+abbrev pub DoesText : Stream → Stream → Kind → List ℕ → Ending → Type 0
+DoesText reader writer kind text ended = DoesWith reader writer kind (config_of text) ended
 
 -- the job was done, and the exit status and the error stream tell how it ended
-pub record Executes (old new wold wnew eold enew : Option (List ℕ)) (kind : Kind) (text : List ℕ) (status : ℕ) : Type 0 where
+pub record Executes (reader writer errors : Stream) (kind : Kind) (text : List ℕ) (status : ℕ) : Type 0 where
   pub ended : Ending
-  pub does : DoesText old new wold wnew kind text ended
-  pub told : Tells eold enew ended
+  pub does : DoesText reader writer kind text ended
+  pub told : Tells errors.before errors.after ended
   pub tells : status ≡ status_by ended

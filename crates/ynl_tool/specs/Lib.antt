@@ -1,3 +1,4 @@
+pub mod Input
 pub mod Jobs
 pub mod Lines
 pub mod Run

@@ -1,5 +1,5 @@
 -- What reading a line and writing a text do to the bytes of a reader and a writer.
-use Rattle.std.specs.Prelude.{◌≡◌, ◌≢◌, ◌⊎◌, ℕ, ◌+◌, ◌-◌, ◌<◌, ◌≤◌, List, [], ◌∷◌, ◌++◌, length, take, All, Option, Some, None, OnSome, Result, Ok, Err}
+use Rattle.std.specs.Prelude.{◌≡◌, ◌≢◌, ℕ, ◌<◌, ◌≤◌, List, [], ◌∷◌, ◌++◌, length, take, All, Option, Some, None, OnSome, Result, Ok, Err}
 use Rattle.std.specs.Io.KnownBytes.{Consumes, IsAtEnd, Appends}
 use Rattle.ynl_tool.specs.declared.lines_in.LineEnd.{LineEnd}
 use Rattle.ynl_tool.specs.declared.lines_in.LineEnd.TheVariants.{Newline, Input, Budget}
@@ -8,32 +8,22 @@ use Rattle.ynl_tool.specs.declared.lines_in.ReadFault.TheVariants.{Read, NoMemor
 use Rattle.ynl_tool.specs.declared.lines_in.Taken.{Taken}
 use Rattle.std.specs.declared.io.ErrorKind.{ErrorKind}
 use Rattle.std.specs.declared.io.ErrorKind.TheVariants.{OutOfMemory}
-use Rattle.ynl_tool.specs.Run.{limit}
+use Rattle.ynl_tool.specs.declared.run.ToolFault.{ToolFault}
+use Rattle.ynl_tool.specs.declared.run.ToolFault.TheVariants as tool
 
 -- no newline among the bytes
 abbrev pub IsPlain : List ℕ → Type 0
 IsPlain bytes = All (λ x. x ≢ 10) bytes
 
--- nothing, or bytes that end with a newline
-abbrev pub EndsLine : List ℕ → Type 0
-EndsLine bytes = (bytes ≡ []) ⊎ ((front : List ℕ) × (bytes ≡ front ++ 10 ∷ []))
-
--- one line at most: no newline but at the end
-abbrev pub IsOneLine : List ℕ → Type 0
-IsOneLine bytes = IsPlain (take (length bytes - 1) bytes)
-
--- of these lines the last one was read to its end or to that of the input, or the byte past the size limit was read
-abbrev pub IsComplete : Option (List ℕ) → Option (List ℕ) → List ℕ → List ℕ → Type 0
-IsComplete old new bytes last = (length (bytes ++ last) ≡ limit + 1) ⊎ (EndsLine last ⊎ OnSome old (IsAtEnd new))
-
--- after these lines one was broken off: it has no newline, and is not too long
-abbrev pub IsBrokenOff : List ℕ → List ℕ → Type 0
-IsBrokenOff bytes last = IsPlain last × (length (bytes ++ last) ≤ limit)
-
--- what is told of an error that was met in reading: want of memory is told from all others
+-- what is told of an error that was met in reading: out of memory is told from all others
 abbrev pub read_fault : ErrorKind → ReadFault
 read_fault OutOfMemory = NoMemory
 read_fault _ = Read
+
+-- the fault of a reader, as one of a job
+abbrev pub tool_fault : ReadFault → ToolFault
+tool_fault Read = tool.Read
+tool_fault NoMemory = tool.NoMemory
 
 -- Of the bytes that were shown so many are taken: those that the line grew by, to n bytes, and what ended it.
 abbrev pub IsTaken : List ℕ → List ℕ → ℕ → ℕ → ℕ → Option LineEnd → Type 0

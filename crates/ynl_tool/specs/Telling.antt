@@ -12,14 +12,13 @@ use Rattle.ynl_model.specs.View.{Viewed, view, events_of, places_of, restrict}
 use Rattle.ynl_model.specs.Promises.{HasSameReplies}
 use Rattle.ynl_core.specs.World.{World, stepped}
 use Rattle.ynl_lines.specs.Writing.{line_text}
-use Rattle.ynl_tool.specs.declared.lines_in.ReadFault.{ReadFault}
-use Rattle.ynl_tool.specs.declared.lines_in.ReadFault.TheVariants as reading
 use Rattle.ynl_tool.specs.declared.run.ToolFault.{ToolFault}
 use Rattle.ynl_tool.specs.declared.run.ToolFault.TheVariants.{Read, Write, NoMemory}
 use Rattle.ynl_tool.specs.declared.run.Summary.{Summary}
+use Rattle.ynl_tool.specs.Input.{Stream}
 use Rattle.ynl_tool.specs.Lines.{AppendsPart}
-use Rattle.ynl_tool.specs.Run.{line_of}
-use Rattle.ynl_tool.specs.Script.{Script, script_of, ReadsTo, ReadsSome, fault_lines}
+use Rattle.ynl_tool.specs.Run.{line_of, fault_lines}
+use Rattle.ynl_tool.specs.Script.{Script, script_of, ReadsTo, ReadsSome}
 
 -- ---- what is written
 
@@ -84,40 +83,40 @@ abbrev pub AreThose : Bool → Config → List Event → Name → Label → Type
 AreThose accepted c events t p = IsTrue accepted → HasSameReplies c events t p
 
 -- the tenant was told of the script that this input is, and of nothing else
-pub record IsToldOf (wold wnew : Option (List ℕ)) (accepted : Bool) (c : Config) (t : Name) (p : Label) (summary : Summary) (input : List ℕ) : Type 0 where
-  pub written : Appends wold wnew (concat (tenant_lines c t p (script_of input)))
+pub record IsToldOf (writer : Stream) (accepted : Bool) (c : Config) (t : Name) (p : Label) (summary : Summary) (input : List ℕ) : Type 0 where
+  pub written : Appends writer.before writer.after (concat (tenant_lines c t p (script_of input)))
   pub lines : summary.lines ≡ (script_of input).lines
   pub fault : summary.fault ≡ (script_of input).fault
   pub same : AreThose accepted c (script_of input).events t p
 
 -- the whole input, where the reader tells its bytes
-abbrev pub TellsWhole : Option (List ℕ) → Option (List ℕ) → Option (List ℕ) → Bool → Config → Name → Label → Result Summary ToolFault → Type 0
-TellsWhole old wold wnew accepted c t p r = IfOk r (λ summary. IfSome old (IsToldOf wold wnew accepted c t p summary))
+abbrev pub TellsWhole : Stream → Stream → Bool → Config → Name → Label → Result Summary ToolFault → Type 0
+TellsWhole reader writer accepted c t p r = IfOk r (λ summary. IfSome reader.before (IsToldOf writer accepted c t p summary))
 
 -- the script was read, and the tenant was told of it and of nothing else
-pub record TellsAll (old new wold wnew : Option (List ℕ)) (accepted : Bool) (c : Config) (t : Name) (p : Label) (summary : Summary) : Type 0 where
+pub record TellsAll (reader writer : Stream) (accepted : Bool) (c : Config) (t : Name) (p : Label) (summary : Summary) : Type 0 where
   pub script : Script
-  pub read : ReadsTo old new script
-  pub written : Appends wold wnew (concat (tenant_lines c t p script))
+  pub read : ReadsTo reader script
+  pub written : Appends writer.before writer.after (concat (tenant_lines c t p script))
   pub lines : summary.lines ≡ script.lines
   pub fault : summary.fault ≡ script.fault
   pub same : AreThose accepted c script.events t p
-  pub input : IfSome old (IsToldOf wold wnew accepted c t p summary)
+  pub input : IfSome reader.before (IsToldOf writer accepted c t p summary)
 
 -- the script was read, and then an error left a front of what the tenant is told
-pub record TellsSome (old new wold wnew : Option (List ℕ)) (c : Config) (t : Name) (p : Label) (e : ToolFault) : Type 0 where
+pub record TellsSome (reader writer : Stream) (c : Config) (t : Name) (p : Label) (e : ToolFault) : Type 0 where
   pub script : Script
-  pub read : ReadsTo old new script
-  pub written : LeavesLines wold wnew (tenant_lines c t p script) e
+  pub read : ReadsTo reader script
+  pub written : LeavesLines writer.before writer.after (tenant_lines c t p script) e
 
 -- the script was not read to its end, and nothing was written
-pub record TellsNothing (old new wold wnew : Option (List ℕ)) (e : ReadFault) : Type 0 where
-  pub read : ReadsSome old new e
-  pub unwritten : Appends wold wnew []
+pub record TellsNothing (reader writer : Stream) (e : ToolFault) : Type 0 where
+  pub read : ReadsSome reader e
+  pub unwritten : Appends writer.before writer.after []
 
 -- Only once the script has been read the tenant is told of it.
-abbrev pub TellsTenant : Option (List ℕ) → Option (List ℕ) → Option (List ℕ) → Option (List ℕ) → Bool → Config → Name → Label → Result Summary ToolFault → Type 0
-TellsTenant old new wold wnew accepted c t p (Ok summary) = TellsAll old new wold wnew accepted c t p summary
-TellsTenant old new wold wnew accepted c t p (Err Read) = TellsNothing old new wold wnew reading.Read
-TellsTenant old new wold wnew accepted c t p (Err NoMemory) = TellsNothing old new wold wnew reading.NoMemory ⊎ TellsSome old new wold wnew c t p NoMemory
-TellsTenant old new wold wnew accepted c t p (Err Write) = TellsSome old new wold wnew c t p Write
+abbrev pub TellsTenant : Stream → Stream → Bool → Config → Name → Label → Result Summary ToolFault → Type 0
+TellsTenant reader writer accepted c t p (Ok summary) = TellsAll reader writer accepted c t p summary
+TellsTenant reader writer accepted c t p (Err Read) = TellsNothing reader writer Read
+TellsTenant reader writer accepted c t p (Err NoMemory) = TellsNothing reader writer NoMemory ⊎ TellsSome reader writer c t p NoMemory
+TellsTenant reader writer accepted c t p (Err Write) = TellsSome reader writer c t p Write

@@ -30,9 +30,13 @@ run_command = with_rule (new_app (codes "run")) config_rule
 abbrev pub tenant_command : App
 tenant_command = with_rule (with_rule (with_rule (new_app (codes "tenant")) tenant_rule) label_rule) config_rule
 
--- the command `ynl`, which wants a subcommand
+-- the command `ynl`, which wants a subcommand, without those that there are
+abbrev pub bare_command : App
+bare_command = on_top (λ s. record s { subcommand_required = true }) (new_app (codes "ynl"))
+
+-- the command `ynl`
 abbrev pub command : App
-command = with_subcommand (with_subcommand (on_top (λ s. record s { subcommand_required = true }) (new_app (codes "ynl"))) run_command.top) tenant_command.top
+command = with_subcommand (with_subcommand bare_command run_command.top) tenant_command.top
 
 -- the file that the options of a subcommand name for the configuration, where they name one
 abbrev pub file_met : Text × List Row → Option Text

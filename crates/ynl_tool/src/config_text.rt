@@ -3,8 +3,7 @@
 ghost use Rattle.std.specs.Prelude.{◌≡◌, ◌++◌, IfSome, OnOk, take};
 ghost use Rattle.std.specs.IoError.{error_kind};
 ghost use Rattle.ynl_tool.specs.Jobs.{most_read};
-ghost use Rattle.ynl_tool.specs.Lines.{read_fault};
-ghost use Rattle.ynl_tool.specs.Running.{tool_fault};
+ghost use Rattle.ynl_tool.specs.Lines.{read_fault, tool_fault};
 
 use crate::lines_in::read_fault;
 use crate::run::ToolFault;
@@ -15,7 +14,7 @@ use std::io::Read;
 /// is too long is told.
 const MOST_READ: u64 = 1_048_577;
 
-/// What is told of an error that was met in opening or reading: want of memory is told from all others.
+/// What is told of an error that was met in opening or reading: out of memory is told from all others.
 pub fn fault_of(error: &io::Error) -> ToolFault
     ensures { result ≡ tool_fault (read_fault (error_kind error.now)) }
 {

@@ -2,6 +2,7 @@
 
 ghost use Rattle.std.specs.Prelude.{◌≡◌};
 ghost use Rattle.ynl_model.specs.Accepted.{is_accepted};
+ghost use Rattle.ynl_tool.specs.Input.{between};
 ghost use Rattle.ynl_tool.specs.Lines.{AppendsFront};
 ghost use Rattle.ynl_tool.specs.Jobs.{error_line, config_line, refusal_line, status_of, DoesJob, DoesText, Executes};
 
@@ -69,7 +70,7 @@ fn do_job<R: BufRead, W: Write>(
     reader: &mut R,
     writer: &mut W,
 ) -> Result<Result<Summary, JobRefusal>, ToolFault>
-    ensures { DoesJob (R.remaining reader.old) (R.remaining reader.new) (W.contents writer.old) (W.contents writer.new) (is_accepted config) kind config result }
+    ensures { DoesJob (between (R.remaining reader.old) (R.remaining reader.new)) (between (W.contents writer.old) (W.contents writer.new)) (is_accepted config) kind config result }
 {
     match kind {
         Kind::Run => match run_lines(alloc, config, reader, writer) {
@@ -96,7 +97,7 @@ fn do_text<R: BufRead, W: Write>(
     reader: &mut R,
     writer: &mut W,
 ) -> Result<Result<Summary, JobRefusal>, ToolFault>
-    ensures { DoesText (R.remaining reader.old) (R.remaining reader.new) (W.contents writer.old) (W.contents writer.new) kind text.now result }
+    ensures { DoesText (between (R.remaining reader.old) (R.remaining reader.new)) (between (W.contents writer.old) (W.contents writer.new)) kind text.now result }
 {
     match read_config(alloc, text) {
         Ok(Ok(config)) => do_job(alloc, kind, config, reader, writer),
@@ -117,7 +118,7 @@ pub fn execute<R: BufRead, W: Write, E: Write>(
     writer: &mut W,
     errors: &mut E,
 ) -> u8
-    ensures { Executes (R.remaining reader.old) (R.remaining reader.new) (W.contents writer.old) (W.contents writer.new) (E.contents errors.old) (E.contents errors.new) kind text.now result }
+    ensures { Executes (between (R.remaining reader.old) (R.remaining reader.new)) (between (W.contents writer.old) (W.contents writer.new)) (between (E.contents errors.old) (E.contents errors.new)) kind text.now result }
 {
     match do_text(alloc, kind, text, reader, writer) {
         Ok(Ok(summary)) => status_of(summary),

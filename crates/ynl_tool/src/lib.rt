@@ -5,7 +5,7 @@
 pub use config_text::{fault_of, read_text};
 pub use jobs::{execute, tell};
 pub use run::{Summary, ToolFault, run_lines};
-pub use script_in::{Script, read_script, runs_answer_scripts};
+pub use script_in::{Script, read_script};
 pub use tenant::tenant_lines;
 pub use words::{Job, Kind, WordsFault, parse_words};
 pub use ynl_config::BUILT_IN;

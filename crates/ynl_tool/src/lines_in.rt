@@ -1,15 +1,19 @@
-//! Lines, read from a reader up to a budget of bytes.
+//! The lines of an input, read one after another up to a limit of bytes.
 
-ghost use Rattle.std.specs.Prelude.{◌≡◌, ◌≢◌, ◌<◌, ◌≤◌, All, IfOk, IfErr, length, take, vec_len, slice_index};
+ghost use Rattle.std.specs.Prelude.{◌≡◌, ◌≢◌, ◌+◌, ◌<◌, ◌≤◌, All, IfOk, IfErr, false, length, take, vec_len, slice_index};
 ghost use Rattle.std.specs.IoError.{error_kind};
+ghost use Rattle.ynl_tool.specs.Input.{between, limit, BreaksOff, Takes};
 ghost use Rattle.ynl_tool.specs.Lines.{read_fault, AddsShown, FailsAs, GivesPiece, GivesLine};
 
-use std::alloc::AllocError;
+use std::alloc::{AllocError, Global};
 use std::io;
 use std::io::{BufRead, ErrorKind};
 
 /// The byte that ends a line.
 const NEWLINE: u8 = 10;
+
+/// How many bytes of an input are read at most.
+const LIMIT: usize = 67108864;
 
 /// How a line ended.
 #[derive(Clone, Copy, Debug, PartialEq, Eq)]
@@ -56,7 +60,7 @@ fn newline_or_end(bytes: &[u8]) -> usize
     bytes.len()
 }
 
-/// What is told of an error that was met in reading: want of memory is told from all others.
+/// What is told of an error that was met in reading: out of memory is told from all others.
 pub fn read_fault(error: &io::Error) -> ReadFault
     ensures { result ≡ read_fault (error_kind error.now) }
 {
@@ -74,7 +78,7 @@ struct Taken {
     end: Option<LineEnd>,
 }
 
-/// Adds what the reader shows of the line. It fails as the reader did, or for want of memory.
+/// Adds what the reader shows of the line. It fails as the reader did, or where memory was refused.
 fn add_shown(
     shown: io::Result<&[u8]>,
     line: &mut Vec<u8>,
@@ -125,7 +129,7 @@ fn take_piece<R: BufRead>(
 }
 
 /// Reads a line into `line`, of at most `budget` bytes with its newline.
-pub fn read_line<R: BufRead>(
+fn read_line<R: BufRead>(
     reader: &mut R,
     line: &mut Vec<u8>,
     budget: usize,
@@ -136,6 +140,98 @@ pub fn read_line<R: BufRead>(
     loop {
         if let Some(end) = take_piece(reader, line, budget)? {
             return Ok(end);
+        }
+    }
+}
+
+/// What comes next of an input.
+#[derive(Clone, Copy, Debug, PartialEq, Eq)]
+pub enum Next {
+    /// A line, with or without a newline.
+    Line,
+    /// A line that goes past the limit, which ends the reading.
+    TooLong,
+    /// The end.
+    End,
+}
+
+/// The lines of an input, one after another. All that reads lines reads them here.
+#[derive(Drop)]
+pub struct Lines {
+    /// The line that was read last, without its newline.
+    pub line: Vec<u8>,
+    /// How many lines were read. One that goes past the limit counts.
+    pub count: u64,
+    /// How many bytes may still be read.
+    budget: usize,
+    /// Whether the end was met. A reader is not asked again then, since a terminal would wait.
+    at_end: bool,
+}
+
+impl Lines {
+    /// Before the first line.
+    pub fn new(alloc: Global) -> Lines
+        ensures count { result.count ≡ 0 }
+        ensures budget { result.budget ≡ limit }
+        ensures ongoing { result.at_end ≡ false }
+    {
+        Lines {
+            line: Vec::new(alloc),
+            count: 0,
+            budget: LIMIT,
+            at_end: false,
+        }
+    }
+
+    /// How many bytes the line has that was read last.
+    fn length(&self) -> usize
+        ensures { result ≡ length self.now.line.items }
+    {
+        self.line.len()
+    }
+
+    /// Counts a line of so many bytes, its newline among them.
+    fn count_line(&mut self, bytes: usize)
+        requires within { self.old.count + self.old.budget ≤ limit }
+        requires fits { bytes ≤ self.old.budget }
+        requires some { 0 < bytes }
+        ensures count { self.new.count ≡ self.old.count + 1 }
+        ensures budget { bytes + self.new.budget ≡ self.old.budget }
+        ensures line { self.new.line ≡ self.old.line }
+        ensures at_end { self.new.at_end ≡ self.old.at_end }
+    {
+        self.count += 1;
+        self.budget -= bytes;
+    }
+
+    /// Reads the next line. At the end of the input what is left without a newline is one too.
+    pub fn next<R: BufRead>(&mut self, reader: &mut R) -> Result<Next, ReadFault>
+        requires { self.old.count + self.old.budget ≤ limit }
+        ensures next { IfOk result (λ next. Takes (between (R.remaining reader.old) (R.remaining reader.new)) self.old self.new next) }
+        ensures broken { IfErr result (λ _. BreaksOff (between (R.remaining reader.old) (R.remaining reader.new)) self.old) }
+    {
+        if self.at_end {
+            return Ok(Next::End);
+        }
+        match read_line(reader, &mut self.line, self.budget)? {
+            LineEnd::Newline => {
+                let bytes = self.length() + 1;
+                self.count_line(bytes);
+                Ok(Next::Line)
+            }
+            LineEnd::Input => {
+                self.at_end = true;
+                let bytes = self.length();
+                if bytes == 0 {
+                    return Ok(Next::End);
+                }
+                self.count_line(bytes);
+                Ok(Next::Line)
+            }
+            LineEnd::Budget => {
+                self.count += 1;
+                Ok(Next::TooLong)
+            }
         }
     }
 }

@@ -1,12 +1,14 @@
 //! The run: events are read line by line, and the reply to each is written.
 
-ghost use Rattle.std.specs.Prelude.{◌≡◌, ◌≢◌, ◌≤◌, ◌++◌, ◌∷◌, [], IfOk, IfErr};
+ghost use Rattle.std.specs.Prelude.{◌≡◌, ◌≢◌, IfOk, IfErr};
 ghost use Rattle.ynl_model.specs.Cluster.{opening};
 ghost use Rattle.ynl_tool.specs.declared.run.ToolFault.TheVariants.{Read};
-ghost use Rattle.ynl_tool.specs.Run.{is_blank, faulty, ending, limit, line_of};
+ghost use Rattle.ynl_tool.specs.Input.{between};
+ghost use Rattle.ynl_tool.specs.Run.{faulty, line_of};
 ghost use Rattle.ynl_tool.specs.Running.{Replies, Answers, Writes, Runs, RunsWhole};
+ghost use Rattle.ynl_tool.specs.Script.{is_blank};
 
-use crate::lines_in::{LineEnd, ReadFault, read_line};
+use crate::lines_in::{Lines, Next, ReadFault};
 use crate::lines_out::{WriteFault, write_text};
 use std::alloc::{AllocError, Global};
 use std::io::{BufRead, Write};
@@ -14,9 +16,6 @@ use thiserror::Error;
 use ynl_core::{Core, NoMemory};
 use ynl_lines::{LineFault, read_event, write_fault, write_reply};
 use ynl_queues::Config;
-
-/// How many bytes a run reads at most.
-pub const LIMIT: usize = 67108864;
 
 /// Why a run ended before its input did.
 #[derive(Clone, Copy, Debug, PartialEq, Eq, Error)]
@@ -67,7 +66,7 @@ impl From<WriteFault> for ToolFault {
 
 impl From<ReadFault> for ToolFault {
     ghost use Rattle.std.specs.Prelude.{◌≡◌};
-    ghost use Rattle.ynl_tool.specs.Running.{tool_fault};
+    ghost use Rattle.ynl_tool.specs.Lines.{tool_fault};
 
     ghost from_gives = { λ r e. e ≡ tool_fault r };
 
@@ -141,55 +140,33 @@ fn answer<W: Write>(
     }
 }
 
-/// The last line, which lacks its newline.
-fn finish<W: Write>(
-    alloc: Global,
-    core: &mut Core,
-    line: &[u8],
-    writer: &mut W,
-    lines: u64,
-) -> Result<Summary, ToolFault>
-    requires { lines ≤ limit }
-    ensures { Writes (W.contents writer.old) (W.contents writer.new) (ending core.old.config core.old.state line.now lines) result }
-{
-    if line.is_empty() {
-        return Ok(Summary { lines, fault: None });
-    }
-    let lines = lines + 1;
-    match answer(alloc, core, line, writer)? {
-        Some(fault) => tell(alloc, writer, fault, lines),
-        None => Ok(Summary { lines, fault: None }),
-    }
-}
-
-/// Reads lines to the end of the input or the first fault, and writes the reply to each.
-fn serve<R: BufRead, W: Write>(
+/// Answers the lines of the reader, to its end or to the first line with a fault.
+fn answer_lines<R: BufRead, W: Write>(
     alloc: Global,
     core: &mut Core,
     reader: &mut R,
     writer: &mut W,
 ) -> Result<Summary, ToolFault>
-    ensures { Runs (R.remaining reader.old) (R.remaining reader.new) (W.contents writer.old) (W.contents writer.new) core.old.config core.old.state result }
+    ensures { Runs (between (R.remaining reader.old) (R.remaining reader.new)) (between (W.contents writer.old) (W.contents writer.new)) core.old.config core.old.state result }
 {
-    let mut line = Vec::new(alloc);
-    let mut budget = LIMIT;
-    let mut lines = 0u64;
+    let mut input = Lines::new(alloc);
     'lines: loop {
-        match read_line(reader, &mut line, budget)? {
-            LineEnd::Budget => return tell(alloc, writer, LineFault::Size, lines + 1),
-            LineEnd::Input => return finish(alloc, core, &line, writer, lines),
-            LineEnd::Newline => {}
+        match input.next(reader)? {
+            Next::TooLong => return report(alloc, writer, LineFault::Size, input.count),
+            Next::End => return Ok(Summary {
+                lines: input.count,
+                fault: None,
+            }),
+            Next::Line => {}
         }
-        lines += 1;
-        if let Some(fault) = answer(alloc, core, &line, writer)? {
-            return tell(alloc, writer, fault, lines);
+        if let Some(fault) = answer(alloc, core, &input.line, writer)? {
+            return report(alloc, writer, fault, input.count);
         }
-        budget -= line.len() + 1;
     }
 }
 
-/// Writes the fault's line.
-pub fn tell<W: Write>(
+/// Writes the line that reports the fault of a line, and gives what was read.
+pub fn report<W: Write>(
     alloc: Global,
     writer: &mut W,
     fault: LineFault,
@@ -208,7 +185,7 @@ pub fn tell<W: Write>(
 
 /// Runs a cluster of this configuration, from its opening state, on the events of the reader, and
 /// writes the reply to each as soon as its line is read: to the end of the input, or to the first
-/// line with a fault, which is told in the last line written. An input of more than 67,108,864
+/// line with a fault, which is reported in the last line written. An input of more than 67,108,864
 /// bytes has a fault in the line where it gets too long.
 ///
 /// At an error what is written is the text of the lines before: and if the writer failed, perhaps
@@ -219,9 +196,9 @@ pub fn run_lines<R: BufRead, W: Write>(
     reader: &mut R,
     writer: &mut W,
 ) -> Result<Summary, ToolFault>
-    ensures whole { RunsWhole (R.remaining reader.old) (W.contents writer.old) (W.contents writer.new) config (opening config) result }
-    ensures steps { Runs (R.remaining reader.old) (R.remaining reader.new) (W.contents writer.old) (W.contents writer.new) config (opening config) result }
+    ensures whole { RunsWhole (between (R.remaining reader.old) (R.remaining reader.new)) (between (W.contents writer.old) (W.contents writer.new)) config (opening config) result }
+    ensures steps { Runs (between (R.remaining reader.old) (R.remaining reader.new)) (between (W.contents writer.old) (W.contents writer.new)) config (opening config) result }
 {
     let mut core = Core::open(alloc, config)?;
-    serve(alloc, &mut core, reader, writer)
+    answer_lines(alloc, &mut core, reader, writer)
 }

@@ -1,11 +1,11 @@
 //! Scripts: the events of an input, read to its end before anything is done with them.
 
-ghost use Rattle.std.specs.Prelude.{◌≡◌, ◌≤◌, IfOk};
-ghost use Rattle.ynl_tool.specs.Run.{limit};
-ghost use Rattle.ynl_tool.specs.Script.{after_events, last_part, kept, Adds, ReadsScript, ReadsWhole, DoRunsAnswerScripts};
+ghost use Rattle.std.specs.Prelude.{◌≡◌};
+ghost use Rattle.ynl_tool.specs.Input.{between};
+ghost use Rattle.ynl_tool.specs.Script.{script_read, Adds, ReadsScript, ReadsWhole};
 
-use crate::lines_in::{LineEnd, ReadFault, read_line};
-use crate::run::{LIMIT, Summary, is_blank};
+use crate::lines_in::{Lines, Next, ReadFault};
+use crate::run::{Summary, is_blank};
 use std::alloc::{AllocError, Global};
 use std::io::BufRead;
 use ynl_lines::{LineFault, read_event};
@@ -41,8 +41,8 @@ fn add_line(
 }
 
 /// The script that ends here.
-fn close(events: Vec<Event>, lines: u64, fault: Option<LineFault>) -> Script
-    ensures { kept result ≡ record { events = events.items; lines = lines; fault = fault } }
+fn end_script(events: Vec<Event>, lines: u64, fault: Option<LineFault>) -> Script
+    ensures { script_read result ≡ record { events = events.items; lines = lines; fault = fault } }
 {
     Script {
         events,
@@ -50,49 +50,22 @@ fn close(events: Vec<Event>, lines: u64, fault: Option<LineFault>) -> Script
     }
 }
 
-/// The script that ends with a last line, which lacks its newline.
-fn finish(
-    alloc: Global,
-    mut events: Vec<Event>,
-    line: &[u8],
-    lines: u64,
-) -> Result<Script, AllocError>
-    requires { lines ≤ limit }
-    ensures { IfOk result (λ script. kept script ≡ after_events events.items (last_part line.now lines)) }
-{
-    if line.is_empty() {
-        return Ok(close(events, lines, None));
-    }
-    let fault = add_line(alloc, &mut events, line)?;
-    Ok(close(events, lines + 1, fault))
-}
-
 /// Reads the script to the end of the input, or to the first line with a fault. An input of more than
 /// 67,108,864 bytes has a fault in the line where it gets too long.
 pub fn read_script<R: BufRead>(alloc: Global, reader: &mut R) -> Result<Script, ReadFault>
-    ensures whole { ReadsWhole (R.remaining reader.old) result }
-    ensures steps { ReadsScript (R.remaining reader.old) (R.remaining reader.new) result }
+    ensures whole { ReadsWhole (between (R.remaining reader.old) (R.remaining reader.new)) result }
+    ensures steps { ReadsScript (between (R.remaining reader.old) (R.remaining reader.new)) result }
 {
     let mut events = Vec::new(alloc);
-    let mut line = Vec::new(alloc);
-    let mut budget = LIMIT;
-    let mut lines = 0u64;
+    let mut input = Lines::new(alloc);
     'lines: loop {
-        match read_line(reader, &mut line, budget)? {
-            LineEnd::Budget => return Ok(close(events, lines + 1, Some(LineFault::Size))),
-            LineEnd::Input => return Ok(finish(alloc, events, &line, lines)?),
-            LineEnd::Newline => {}
+        match input.next(reader)? {
+            Next::TooLong => return Ok(end_script(events, input.count, Some(LineFault::Size))),
+            Next::End => return Ok(end_script(events, input.count, None)),
+            Next::Line => {}
         }
-        lines += 1;
-        if let Some(fault) = add_line(alloc, &mut events, &line)? {
-            return Ok(close(events, lines, Some(fault)));
+        if let Some(fault) = add_line(alloc, &mut events, &input.line)? {
+            return Ok(end_script(events, input.count, Some(fault)));
         }
-        budget -= line.len() + 1;
     }
 }
-
-/// What a run writes for an input, line after line, are the replies to the events of its script, and
-/// then the fault that ends it.
-pub fn runs_answer_scripts()
-    ensures { DoRunsAnswerScripts }
-{}

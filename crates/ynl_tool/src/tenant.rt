@@ -5,10 +5,11 @@ ghost use Rattle.ynl_core.specs.World.{stepped};
 ghost use Rattle.ynl_model.specs.Accepted.{is_accepted};
 ghost use Rattle.ynl_model.specs.Events.{replies};
 ghost use Rattle.ynl_model.specs.View.{is_sole};
+ghost use Rattle.ynl_tool.specs.Input.{between};
 ghost use Rattle.ynl_tool.specs.Telling.{entry_line, entry_lines, view_lines, SaysLines, TellsEvent, TellsTenant, TellsWhole};
 
 use crate::lines_out::write_text;
-use crate::run::{Summary, ToolFault, tell, with_newline};
+use crate::run::{Summary, ToolFault, report, with_newline};
 use crate::script_in::read_script;
 use std::alloc::Global;
 use std::io::{BufRead, Write};
@@ -84,7 +85,7 @@ fn tell_view<W: Write>(
 
 /// Reads the script, and only then writes what the tenant's partition sees of its events: each in a
 /// line with its place in the script and the reply of a cluster that holds the tenant alone. A line
-/// with a fault ends the script, and is told in the last line written.
+/// with a fault ends the script, and is reported in the last line written.
 ///
 /// After a read fault nothing is written; where memory was refused, whole lines from the front; after
 /// a write fault a front of the text.
@@ -97,13 +98,13 @@ pub fn tenant_lines<R: BufRead, W: Write>(
     writer: &mut W,
 ) -> Result<Summary, ToolFault>
     requires { IsTrue (is_sole config tenant.now label.now) }
-    ensures whole { TellsWhole (R.remaining reader.old) (W.contents writer.old) (W.contents writer.new) (is_accepted config) config tenant.now label.now result }
-    ensures steps { TellsTenant (R.remaining reader.old) (R.remaining reader.new) (W.contents writer.old) (W.contents writer.new) (is_accepted config) config tenant.now label.now result }
+    ensures whole { TellsWhole (between (R.remaining reader.old) (R.remaining reader.new)) (between (W.contents writer.old) (W.contents writer.new)) (is_accepted config) config tenant.now label.now result }
+    ensures steps { TellsTenant (between (R.remaining reader.old) (R.remaining reader.new)) (between (W.contents writer.old) (W.contents writer.new)) (is_accepted config) config tenant.now label.now result }
 {
     let script = read_script(alloc, reader)?;
     tell_view(alloc, &config, tenant, label, &script.events, writer)?;
     match script.summary.fault {
-        Some(fault) => tell(alloc, writer, fault, script.summary.lines),
+        Some(fault) => report(alloc, writer, fault, script.summary.lines),
         None => Ok(script.summary),
     }
 }

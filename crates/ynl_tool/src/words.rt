@@ -3,7 +3,7 @@
 ghost use Rattle.std.specs.Prelude.{◌≡◌, ◌∷◌, [], IfOk, IfErr, IsErr, Some, None, is_some, option_map, drop, map, codes, true, false};
 ghost use Rattle.std.specs.Option.{option_and_then};
 ghost use Rattle.std.specs.String.{string_bytes};
-ghost use Rattle.clap.specs.Simple.{app_of};
+ghost use Rattle.clap.specs.Simple.{app_of, new_app, with_rule, with_subcommand};
 ghost use Rattle.clap.specs.Walk.{rule_of};
 ghost use Rattle.clap.specs.Faults.{fault_of};
 ghost use Rattle.clap.specs.Kinds.{IsAmong};
@@ -192,32 +192,67 @@ fn run<'a>(alloc: Global) -> Result<Command<'a>, AllocError>
         .arg(config)
 }
 
+/// The subcommand `tenant` with the first of its options. It is made in steps, since a proof of many
+/// questions on a command takes long.
+fn tenant_named<'a>(alloc: Global) -> Result<Command<'a>, AllocError>
+    ensures app { IfOk result (λ c. app_of c ≡ with_rule (new_app (codes "tenant")) spec.tenant_rule) }
+    ensures local { IfOk result (λ c. (fields_of c).has_globals ≡ false) }
+{
+    let tenant = tenant_option(alloc);
+    Command::new(alloc, "tenant")
+        .about(TENANT_ABOUT)
+        .after_help(TENANT_AFTER)
+        .arg(tenant)
+}
+
+/// The same with the second.
+fn tenant_labelled<'a>(alloc: Global) -> Result<Command<'a>, AllocError>
+    ensures app { IfOk result (λ c. app_of c ≡ with_rule (with_rule (new_app (codes "tenant")) spec.tenant_rule) spec.label_rule) }
+    ensures local { IfOk result (λ c. (fields_of c).has_globals ≡ false) }
+{
+    let label = label_option(alloc);
+    tenant_named(alloc)?.arg(label)
+}
+
+/// The subcommand `tenant`.
 fn tenant<'a>(alloc: Global) -> Result<Command<'a>, AllocError>
     ensures app { IfOk result (λ c. app_of c ≡ spec.tenant_command) }
     ensures local { IfOk result (λ c. (fields_of c).has_globals ≡ false) }
 {
-    let tenant = tenant_option(alloc);
-    let label = label_option(alloc);
     let config = config_option(alloc);
-    Command::new(alloc, "tenant")
-        .about(TENANT_ABOUT)
-        .after_help(TENANT_AFTER)
-        .arg(tenant)?
-        .arg(label)?
-        .arg(config)
+    tenant_labelled(alloc)?.arg(config)
 }
 
+/// The command without its subcommands.
+fn bare_command<'a>(alloc: Global) -> Result<Command<'a>, AllocError>
+    ensures app { IfOk result (λ c. app_of c ≡ spec.bare_command) }
+    ensures local { IfOk result (λ c. (fields_of c).has_globals ≡ false) }
+{
+    let named = Command::new(alloc, "ynl").bin_name("ynl")?;
+    Ok(
+        named
+            .about(ABOUT)
+            .after_help(AFTER)
+            .subcommand_required(true),
+    )
+}
+
+/// The same with the first of them.
+fn command_of_run<'a>(alloc: Global) -> Result<Command<'a>, AllocError>
+    ensures app { IfOk result (λ c. app_of c ≡ with_subcommand spec.bare_command spec.run_command.top) }
+    ensures local { IfOk result (λ c. (fields_of c).has_globals ≡ false) }
+{
+    let run = run(alloc)?;
+    bare_command(alloc)?.subcommand(run)
+}
+
+/// The command `ynl`.
 fn command<'a>(alloc: Global) -> Result<Command<'a>, AllocError>
     ensures app { IfOk result (λ c. app_of c ≡ spec.command) }
     ensures local { IfOk result (λ c. (fields_of c).has_globals ≡ false) }
 {
-    Command::new(alloc, "ynl")
-        .bin_name("ynl")?
-        .about(ABOUT)
-        .after_help(AFTER)
-        .subcommand_required(true)
-        .subcommand(run(alloc)?)?
-        .subcommand(tenant(alloc)?)
+    let tenant = tenant(alloc)?;
+    command_of_run(alloc)?.subcommand(tenant)
 }
 
 fn name_in(text: Option<&str>) -> Option<Name>

@@ -1,16 +1,10 @@
-use Rattle.std.proofs.Common.{◌+◌, ◌≤◌, ℕ, List}
-use Rattle.std.specs.Io.KnownBytes.{Consumes}
-use Rattle.ynl_tool.specs.Lines.{EndsLine}
-use Rattle.ynl_tool.specs.Run.{limit}
-use Rattle.ynl_tool.proofs.Scripts.{SoFar}
+use Rattle.ynl_tool.specs.Input.{between}
+use Rattle.ynl_tool.proofs.Scripts.{ScriptSoFar}
 use Rattle.ynl_tool.proofs.script_in.read_script.Given as goal
 
--- these bytes were read, and gave the events
+-- the lines that were read gave the events
 abbrev pub invariant-lines : goal.invariant-lines
-invariant-lines g l = (bytes : List ℕ) × SoFar l.lines l.budget bytes l.events.items
-    × Consumes (g.R.Read.remaining l.initial.reader) (g.R.Read.remaining l.reader) bytes
-    × (l.lines + l.budget ≤ limit)
-    × EndsLine bytes
+invariant-lines g l = ScriptSoFar (between (g.R.Read.remaining l.initial.reader) (g.R.Read.remaining l.reader)) l.input l.events.items
 
 abbrev pub decreases-lines : goal.decreases-lines
-decreases-lines g l = l.budget
+decreases-lines g l = l.input.budget

@@ -1,53 +1,55 @@
-use Rattle.std.proofs.Common.{Ok, refl, sym, subst}
+use Rattle.std.proofs.Common.{Ok, Err, refl, ap, sym, subst, ◌∙◌}
 use Rattle.std.proofs.lemmas.Result.{err_from_is_err_and}
 use Rattle.ynl_model.specs.Accepted.{is_accepted}
-use Rattle.ynl_tool.specs.Script.{kept, ReadsScript}
-use Rattle.ynl_tool.specs.Telling.{view_lines, LeavesLines, SaysLines, TellsTenant}
-use Rattle.ynl_tool.proofs.Tellings.{fails_early, ends_whole, ends_broken, tells_whole}
+use Rattle.ynl_tool.specs.Input.{between}
+use Rattle.ynl_tool.specs.Script.{script_read, ReadsScript}
+use Rattle.ynl_tool.specs.Telling.{TellsTenant}
+use Rattle.ynl_tool.proofs.Tellings.{said_of, fails_early, ends_whole, ends_broken, tells_whole}
 use Rattle.ynl_tool.proofs.tenant.tenant_lines.Goals as goal
 
+-- what is seen was not told to its end
 pub returns-in_err-tell_view : goal.returns-in_err-tell_view
 returns-in_err-tell_view g c =
     let p = err_from_is_err_and c.from_residual-in_err-tell_view.result c.from_residual-in_err-tell_view.ensures.1 in
+    let k = c.args.config in
+    let t = c.args.tenant.now in
+    let l = c.args.label.now in
+    let reader = between (g.R.Read.remaining c.args.reader.now) (g.R.Read.remaining c.read_script.new.reader) in
     let w = g.W.Write.contents c.args.writer.now in
     let v = g.W.Write.contents c.tell_view.new.writer in
     let script = c.in_ok-script.script in
-    let read = subst (ReadsScript (g.R.Read.remaining c.args.reader.now) (g.R.Read.remaining c.read_script.new.reader)) c.in_ok-script.was c.read_script.ensures.steps in
-    let said = subst (λ es. SaysLines w v (view_lines c.args.config c.args.tenant.now c.args.label.now es) c.tell_view.result) c.deref.ensures.value c.tell_view.ensures in
-    let left = subst (SaysLines w v (view_lines c.args.config c.args.tenant.now c.args.label.now script.events.items)) c.in_err-tell_view.was said in
-    let a = g.R.Read.remaining c.args.reader.now in
-    let b = g.R.Read.remaining c.read_script.new.reader in
-    let steps : TellsTenant a b w v (is_accepted c.args.config) c.args.config c.args.tenant.now c.args.label.now c.from_residual-in_err-tell_view.result =
-    subst (TellsTenant _ _ w v _ _ _ _) (sym p.1)
-    (fails_early _ _ w v c.args.config c.args.tenant.now c.args.label.now (is_accepted c.args.config) (kept script) read p.0
-    (subst (LeavesLines w v (view_lines c.args.config c.args.tenant.now c.args.label.now script.events.items)) (sym p.2) left)) in
-    record { whole = tells_whole a b w v (is_accepted c.args.config) c.args.config c.args.tenant.now c.args.label.now c.from_residual-in_err-tell_view.result steps; steps = steps }
+    let read = subst (ReadsScript reader) c.in_ok-script.was c.read_script.ensures.steps in
+    let said = said_of w v k t l c.deref.result.now script.events.items c.tell_view.result (Err p.0) c.deref.ensures.value (c.in_err-tell_view.was ∙ ap Err (sym p.2)) c.tell_view.ensures in
+    let steps = subst (TellsTenant reader (between w v) (is_accepted k) k t l) (sym p.1) (fails_early reader w v k t l (is_accepted k) (script_read script) read p.0 said) in
+    record { whole = tells_whole reader (between w v) (is_accepted k) k t l c.from_residual-in_err-tell_view.result steps; steps = steps }
 
+-- a line had a fault
 pub returns-in-Some : goal.returns-in-Some
 returns-in-Some g c =
+    let k = c.args.config in
+    let t = c.args.tenant.now in
+    let l = c.args.label.now in
+    let reader = between (g.R.Read.remaining c.args.reader.now) (g.R.Read.remaining c.read_script.new.reader) in
     let w = g.W.Write.contents c.args.writer.now in
     let v = g.W.Write.contents c.tell_view.new.writer in
+    let u = g.W.Write.contents c.report.new.writer in
     let script = c.in_ok-script.script in
-    let read = subst (ReadsScript (g.R.Read.remaining c.args.reader.now) (g.R.Read.remaining c.read_script.new.reader)) c.in_ok-script.was c.read_script.ensures.steps in
-    let said = subst (λ es. SaysLines w v (view_lines c.args.config c.args.tenant.now c.args.label.now es) c.tell_view.result) c.deref.ensures.value c.tell_view.ensures in
-    let told = subst (SaysLines w v (view_lines c.args.config c.args.tenant.now c.args.label.now script.events.items)) c.in_ok-tell_view.was said in
-    let a = g.R.Read.remaining c.args.reader.now in
-    let b = g.R.Read.remaining c.read_script.new.reader in
-    let steps : TellsTenant a b w (g.W.Write.contents c.tell.new.writer) (is_accepted c.args.config) c.args.config c.args.tenant.now c.args.label.now c.tell.result =
-    ends_broken _ _ w (g.W.Write.contents c.tell.new.writer) c.args.config c.args.tenant.now c.args.label.now (is_accepted c.args.config) (kept script) read c.requires (λ is. is) v c.in-Some.fault c.tell.result c.in-Some.is told c.tell.ensures.text
-    c.tell.ensures.fault in
-    record { whole = tells_whole a b w (g.W.Write.contents c.tell.new.writer) (is_accepted c.args.config) c.args.config c.args.tenant.now c.args.label.now c.tell.result steps; steps = steps }
+    let read = subst (ReadsScript reader) c.in_ok-script.was c.read_script.ensures.steps in
+    let said = said_of w v k t l c.deref.result.now script.events.items c.tell_view.result (Ok c.in_ok-tell_view.field-0) c.deref.ensures.value c.in_ok-tell_view.was c.tell_view.ensures in
+    let steps = ends_broken reader w u k t l (is_accepted k) (script_read script) read c.requires (λ is. is) v c.in-Some.fault c.report.result c.in-Some.is said c.report.ensures.text c.report.ensures.fault in
+    record { whole = tells_whole reader (between w u) (is_accepted k) k t l c.report.result steps; steps = steps }
 
+-- no line had one
 pub returns : goal.returns
 returns g c =
+    let k = c.args.config in
+    let t = c.args.tenant.now in
+    let l = c.args.label.now in
+    let reader = between (g.R.Read.remaining c.args.reader.now) (g.R.Read.remaining c.read_script.new.reader) in
     let w = g.W.Write.contents c.args.writer.now in
     let v = g.W.Write.contents c.tell_view.new.writer in
     let script = c.in_ok-script.script in
-    let read = subst (ReadsScript (g.R.Read.remaining c.args.reader.now) (g.R.Read.remaining c.read_script.new.reader)) c.in_ok-script.was c.read_script.ensures.steps in
-    let said = subst (λ es. SaysLines w v (view_lines c.args.config c.args.tenant.now c.args.label.now es) c.tell_view.result) c.deref.ensures.value c.tell_view.ensures in
-    let told = subst (SaysLines w v (view_lines c.args.config c.args.tenant.now c.args.label.now script.events.items)) c.in_ok-tell_view.was said in
-    let a = g.R.Read.remaining c.args.reader.now in
-    let b = g.R.Read.remaining c.read_script.new.reader in
-    let steps : TellsTenant a b w v (is_accepted c.args.config) c.args.config c.args.tenant.now c.args.label.now (Ok script.summary) =
-    ends_whole _ _ w v c.args.config c.args.tenant.now c.args.label.now (is_accepted c.args.config) (kept script) read c.requires (λ is. is) script.summary refl refl c.in-None.is told in
-    record { whole = tells_whole a b w v (is_accepted c.args.config) c.args.config c.args.tenant.now c.args.label.now (Ok script.summary) steps; steps = steps }
+    let read = subst (ReadsScript reader) c.in_ok-script.was c.read_script.ensures.steps in
+    let said = said_of w v k t l c.deref.result.now script.events.items c.tell_view.result (Ok c.in_ok-tell_view.field-0) c.deref.ensures.value c.in_ok-tell_view.was c.tell_view.ensures in
+    let steps : TellsTenant reader (between w v) (is_accepted k) k t l (Ok script.summary) = ends_whole reader w v k t l (is_accepted k) (script_read script) read c.requires (λ is. is) script.summary refl refl c.in-None.is said in
+    record { whole = tells_whole reader (between w v) (is_accepted k) k t l (Ok script.summary) steps; steps = steps }
