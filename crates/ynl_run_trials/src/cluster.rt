@@ -1,11 +1,11 @@
-//! A script with every kind of event, answered at the second try.
+//! A script with every kind of event, answered at the second try; and what a cluster is asked beside events.
 
 use std::ops::Range;
 use std::test::Fail;
 use ynl_core::{Core, NoMemory};
 use ynl_model::{Event, Reply};
 use ynl_queues::Config;
-use ynl_resource::{Hundredths, Id, Label, Name, Path, Size};
+use ynl_resource::{Hundredths, Id, Label, Name, Path, Refusal, Size};
 
 // Run with each allocation failing in turn: where memory is refused at the first try, which a line
 // tells, the second gives the answer.
@@ -215,5 +215,34 @@ fn second_try_answers_each_kind(rt: HostRuntime) -> Result<(), Fail> {
     let mut core = opened(&rt)?;
     let answered = each_is_answered(&rt, &mut core)?;
     assert!(rt; answered);
+    Ok(())
+}
+
+/// Whether one user may have the whole partition, and masters a tenth of it.
+fn has_limits(core: &Core) -> Result<bool, Fail> {
+    let leaf = Path::parse("root.eng")?;
+    let gpu = Label::parse("gpu")?;
+    let user = core.user_limit(&leaf, &gpu, &size(1000, 1)?);
+    let masters = core.master_limit(&leaf, &gpu);
+    Ok(user.memory == 10000 && user.vcores == 10 && masters.memory == 1000 && masters.vcores == 1)
+}
+
+/// Whether what would be placed next may be placed, until the node has changed.
+fn gets_stale(core: &mut Core) -> Result<bool, Fail> {
+    let Some(proposal) = core.choose(&Name::parse("g1")?) else {
+        return Ok(false);
+    };
+    let is_free = core.check(&proposal).is_ok();
+    let _placed = core.apply(start(2)?)?;
+    Ok(is_free && core.check(&proposal) == Err(Refusal::Stale))
+}
+
+#[test]
+fn tells_limits_and_checks_proposals(rt: HostRuntime) -> Result<(), Fail> {
+    let mut core = opened(&rt)?;
+    let ready = none_is_refused(&rt, &mut core, 0..2)?;
+    assert!(rt; ready && has_limits(&core)?);
+    let stale = gets_stale(&mut core)?;
+    assert!(rt; stale);
     Ok(())
 }

@@ -1,13 +1,13 @@
-//! Jobs whose reader or writer fails in mid-stream, or whose memory is refused, and words that are read.
+//! Jobs whose reader or writer fails in mid-stream, or whose memory is refused.
 
-use std::alloc::{AllocError, Global};
+use std::alloc::Global;
 use std::io;
 use std::io::{BufReader, Read, Write};
 use std::process::Abort;
 use std::test::Fail;
 use ynl_config::built_in;
 use ynl_resource::{Label, Name};
-use ynl_tool::{Job, Kind, Summary, ToolFault, parse_words, run_lines, tenant_lines};
+use ynl_tool::{Summary, ToolFault, run_lines, tenant_lines};
 use ynl_view::sole;
 
 const REGISTER: &[u8] =
@@ -129,52 +129,6 @@ fn writes_a_front(rt: HostRuntime) -> Result<(), Fail> {
     Ok(())
 }
 
-fn words(alloc: Global, texts: &[&str]) -> Result<Vec<String>, AllocError> {
-    let mut words = Vec::new(alloc);
-    for text in texts {
-        words.push(String::from_str(alloc, text)?)?;
-    }
-    Ok(words)
-}
-
-#[test]
-fn reads_words(rt: HostRuntime) -> Result<(), Fail> {
-    let alloc = rt.alloc();
-    let run = words(alloc, &["ynl", "run"])?;
-    match parse_words(alloc, run.as_slice()) {
-        Ok(job) => assert!(rt;
-            job == Job {
-                kind: Kind::Run,
-                config: None
-            }
-        ),
-        Err(_) => panic!(rt; "run is a job"),
-    }
-    let tenant = words(
-        alloc,
-        &[
-            "ynl",
-            "tenant",
-            "--label",
-            "gpu",
-            "--tenant=-a",
-            "--config",
-            "c",
-        ],
-    )?;
-    let kind = Kind::Tenant(Name::parse("-a")?, Label::parse("gpu")?);
-    match parse_words(alloc, tenant.as_slice()) {
-        Ok(job) => assert!(rt;
-            job == Job {
-                kind,
-                config: Some("c")
-            }
-        ),
-        Err(_) => panic!(rt; "tenant is a job"),
-    }
-    Ok(())
-}
-
 const SCRIPT: &[u8] =
     b"\n{\"event\":\"register\",\"label\":\"\",\"memory\":1,\"node\":\"d1\",\"vcores\":1}\n{\"event\":\"relabel\",\"label\":\"gpu\",\"node\":\"d1\"}\nx";
 
@@ -193,17 +147,6 @@ fn tell_built_in<R: std::io::BufRead, W: Write>(
     let label = Label::parse("gpu")?;
     assert!(rt; sole(&config, &tenant, &label));
     Ok(tenant_lines(alloc, config, &tenant, &label, reader, writer))
-}
-
-#[test]
-fn tells_a_tenant_once_all_is_read(rt: HostRuntime) -> Result<(), Fail> {
-    let alloc = rt.alloc();
-    let mut out = Vec::new(alloc);
-    let mut reader = SCRIPT;
-    let ended = tell_built_in(&rt, alloc, &mut reader, &mut out)?;
-    assert!(rt; ended.is_ok());
-    assert!(rt; out.as_slice() == TOLD);
-    Ok(())
 }
 
 #[test]

@@ -1,13 +1,13 @@
-//! What a tenant sees, and the answers that are picked. Worked scripts stand in `ynl_rows`.
+//! What a tenant sees, the answers that are picked, and a cluster without queues.
 
 ghost use Rattle.std.specs.Prelude.{◌≡◌, length};
 
 use std::alloc::{AllocError, Global};
 use std::test::Fail;
-use ynl_core::{Answer, NoMemory};
-use ynl_model::{Event, Placed, PlacedList, Reply, What};
+use ynl_core::{Answer, NoMemory, run};
+use ynl_model::{Event, Items, Placed, Reply, What};
 use ynl_queues::Config;
-use ynl_resource::{Id, Label, Name, Size};
+use ynl_resource::{Id, Label, Name, Path, Refusal, Size};
 use ynl_view::{pick, restrict, sole, view};
 
 /// A node of 10,000 MB joins a partition.
@@ -33,7 +33,7 @@ fn configured(rt: &HostRuntime) -> Result<Config, Fail> {
 
 fn placed(alloc: Global, container: Placed) -> Result<Answer, AllocError> {
     let list = Vec::from_slice(alloc, &[container])?;
-    Ok(Answer::Replied(Reply::Placed(PlacedList::new(list))))
+    Ok(Answer::Replied(Reply::Placed(Items::new(list))))
 }
 
 fn placed_again(rt: &HostRuntime, container: Placed) -> Result<Answer, Fail> {
@@ -93,6 +93,38 @@ fn picks_at_the_second_try(rt: HostRuntime) -> Result<(), Fail> {
     assert_eq!(rt; picked.len(), 1);
     for answer in &picked {
         assert!(rt; is_placed(answer));
+    }
+    Ok(())
+}
+
+/// An application comes to root.
+fn submitted_to_root() -> Result<Event, Fail> {
+    Ok(Event::Submit {
+        queue: Path::parse("root")?,
+        app: Name::parse("j1")?,
+        user: Name::parse("ann")?,
+        label: None,
+        master: Size::new(1, 1).ok_or("no size")?,
+    })
+}
+
+/// Whether the event is refused for this reason.
+fn is_refused(answer: &Answer, reason: Refusal) -> bool {
+    match answer {
+        Answer::Replied(Reply::Refused(refusal)) => *refusal == reason,
+        _ => false,
+    }
+}
+
+// No text of a configuration leaves root without a queue.
+#[test]
+fn nobody_submits_to_root(rt: HostRuntime) -> Result<(), Fail> {
+    let alloc = rt.alloc();
+    let nobody = restrict(alloc, &configured(&rt)?, &Name::parse("mkt")?)?;
+    assert!(rt; nobody.queues().is_empty());
+    let ran = run(alloc, nobody, &[submitted_to_root()?])?;
+    for answer in ran.answers.as_slice() {
+        assert!(rt; is_refused(answer, Refusal::NotALeaf));
     }
     Ok(())
 }

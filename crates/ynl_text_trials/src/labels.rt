@@ -2,8 +2,8 @@
 
 use std::alloc::{AllocError, Global};
 use std::test::Fail;
-use ynl_model::LabelFault;
-use ynl_nodes::{LabelRow, Labels};
+use ynl_labels::Labels;
+use ynl_model::{LabelFault, LabelRow};
 use ynl_resource::{Label, Name};
 
 fn rows(alloc: Global, names: &[&str], limit: u64) -> Result<Vec<LabelRow>, Fail> {

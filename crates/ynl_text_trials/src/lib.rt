@@ -1,5 +1,5 @@
-//! Tests of what the lower crates read and write: amounts and paths, labels, queues, what an operator sets,
-//! configurations, and lines. The crates themselves have none, since a crate with tests is proved twice.
+//! Tests of what no text shows of the lower crates: amounts and paths, labels, queues, what an operator sets,
+//! configurations, and lines, most of them with memory refused. The crates themselves have none, since a crate with tests is proved twice.
 #![tactic(auto)]
 
 #[cfg(test)]
@@ -12,7 +12,5 @@ mod labels;
 mod lines;
 #[cfg(test)]
 mod queues;
-#[cfg(test)]
-mod trees;
 #[cfg(test)]
 mod words;

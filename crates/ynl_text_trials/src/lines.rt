@@ -1,16 +1,12 @@
-//! Events that are read and written, as the format's own examples have them.
+//! Lines of a journal, what is read and written at the second try, and an event that no case shows.
 
 use std::alloc::Global;
 use std::test::Fail;
-use ynl_lines::{read_event, write_event, write_reply};
-use ynl_model::{Placed, Reply, What};
+use ynl_lines::{read_event, read_line, write_event, write_line, write_reply};
+use ynl_model::{Entry, Placed, Reply, What};
 use ynl_resource::{Id, Label, Name, Size};
 
-fn size() -> Result<Size, Fail> {
-    Ok(Size::new(1000, 1).ok_or("a size")?)
-}
-
-fn container(what: What) -> Result<Placed, Fail> {
+fn master() -> Result<Placed, Fail> {
     Ok(Placed {
         id: Id {
             label: Label::parse("gpu")?,
@@ -19,9 +15,26 @@ fn container(what: What) -> Result<Placed, Fail> {
         node: Name::parse("g1")?,
         tenant: Name::parse("eng")?,
         app: Name::parse("j1")?,
-        what,
-        size: size()?,
+        what: What::Master,
+        size: Size::new(1000, 1).ok_or("a size")?,
     })
+}
+
+// Under `rt try --test --fail-alloc N` the first try may be refused memory, which a line tells.
+#[test]
+fn is_written_at_the_second_try(rt: HostRuntime) -> Result<(), Fail> {
+    let reply = Reply::Committed(master()?);
+    let text =
+        r#"{"container":{"app":"j1","id":"gpu#2","memory":1000,"node":"g1","tenant":"eng","vcores":1,"what":"master"},"reply":"committed"}"#;
+    let written = match write_reply(rt.alloc(), &reply) {
+        Ok(written) => written,
+        Err(_) => {
+            println!(rt; "refused")?;
+            write_reply(rt.alloc(), &reply)?
+        }
+    };
+    assert_eq!(rt; written.as_slice(), text.as_bytes());
+    Ok(())
 }
 
 /// The text of the event that a line is.
@@ -33,43 +46,72 @@ fn read_and_written(alloc: Global, line: &str) -> Result<Vec<u8>, Fail> {
     }
 }
 
+// No view has a node that is relabelled, so no case shows the text that is written of one.
 #[test]
-fn events_are_read_and_written(rt: HostRuntime) -> Result<(), Fail> {
+fn a_relabelled_node_is_read_and_written(rt: HostRuntime) -> Result<(), Fail> {
+    let line = r#"{"event":"relabel","label":"gpu","node":"g1"}"#;
+    let text = read_and_written(rt.alloc(), line)?;
+    assert_eq!(rt; text.as_slice(), line.as_bytes());
+    Ok(())
+}
+
+/// The text of the entry that a line of a journal is, where it has a reply.
+fn entry_read_and_written(alloc: Global, line: &str) -> Result<Vec<u8>, Fail> {
+    match read_line(alloc, line.as_bytes()) {
+        Ok(Ok((place, Entry { event, reply }))) => match reply {
+            Some(reply) => Ok(write_line(alloc, place, &event, &reply)?),
+            None => Ok(write_event(alloc, &event)?),
+        },
+        Ok(Err(_)) => Err(Fail::new("a bad line")),
+        Err(e) => Err(e.into()),
+    }
+}
+
+#[test]
+fn lines_of_a_journal_are_read_and_written(rt: HostRuntime) -> Result<(), Fail> {
     for line in [
-        r#"{"event":"register","label":"gpu","memory":10000,"node":"g1","vcores":10}"#,
-        r#"{"app":"j1","event":"submit","label":"gpu","memory":1000,"queue":"root.eng","user":"ann","vcores":1}"#,
-        r#"{"app":"j1","event":"submit","memory":1000,"queue":"root.eng.ml","user":"ann","vcores":1}"#,
-        r#"{"event":"heartbeat","node":"g1"}"#,
-        r#"{"app":"j1","count":1000000,"event":"ask","label":"","memory":1000,"priority":4294967295,"tenant":"eng","vcores":1}"#,
-        r#"{"app":"j1","event":"finish","tenant":"eng"}"#,
-        r#"{"event":"stop","queue":"root"}"#,
-        r#"{"event":"start","queue":"root.eng.ml"}"#,
-        r#"{"app":"j1","event":"poll","label":"gpu","tenant":"eng"}"#,
-        r#"{"event":"usage","label":"","queue":"root.eng"}"#,
-        r#"{"event":"propose","node":"g1"}"#,
-        r#"{"event":"commit","proposal":{"app":"j1","memory":1000,"node":"g1","stamp":9007199254740991,"tenant":"eng","vcores":1,"what":"master"}}"#,
-        r#"{"event":"commit","proposal":{"app":"j1","label":"gpu","memory":1000,"node":"g1","priority":0,"stamp":0,"tenant":"eng","vcores":1,"what":"ask"}}"#,
-        r#"{"event":"maximum","label":"gpu","maximum":10000,"queue":"root.eng"}"#,
+        r#"{"event":{"event":"stop","queue":"root"},"place":0,"reply":{"reply":"done"}}"#,
+        r#"{"event":{"event":"lost","node":"g1"},"place":1,"reply":{"refused":"NoSuchNode","reply":"refused"}}"#,
+        r#"{"event":{"event":"heartbeat","node":"g1"},"place":2,"reply":{"placed":[{"app":"j1","id":"gpu#2","memory":1000,"node":"g1","tenant":"eng","vcores":1,"what":"master"},{"app":"j1","id":"gpu#3","label":"","memory":1000,"node":"g1","priority":4294967295,"tenant":"eng","vcores":1,"what":"ask"}],"reply":"placed"}}"#,
+        r#"{"event":{"event":"propose","node":"g1"},"place":3,"reply":{"proposal":{"app":"j1","memory":1000,"node":"g1","stamp":7,"tenant":"eng","vcores":1,"what":"master"},"reply":"proposal"}}"#,
+        r#"{"event":{"event":"propose","node":"g1"},"place":4,"reply":{"reply":"nothing"}}"#,
+        r#"{"event":{"app":"j1","event":"poll","label":"gpu","tenant":"eng"},"place":5,"reply":{"asks":[{"count":1000000,"memory":1000,"priority":0,"vcores":1}],"containers":[],"reply":"held"}}"#,
+        r#"{"event":{"event":"usage","label":"","queue":"root.eng"},"place":18446744073709551615,"reply":{"guaranteed":{"memory":0,"vcores":0},"guests":{"memory":0,"vcores":0},"masters":{"memory":1000,"vcores":1},"maximum":{"memory":18446744073709551615,"vcores":0},"reply":"usage","used":{"memory":1000,"vcores":1}}}"#,
     ] {
-        let text = read_and_written(rt.alloc(), line)?;
+        let text = entry_read_and_written(rt.alloc(), line)?;
         assert_eq!(rt; text.as_slice(), line.as_bytes(), "{line}");
+    }
+    let event = r#"{"event":"propose","node":"g1"}"#;
+    let line = r#"{"place":6,"event":{"node":"g1","event":"propose"}}"#;
+    let text = entry_read_and_written(rt.alloc(), line)?;
+    assert_eq!(rt; text.as_slice(), event.as_bytes());
+    for line in [
+        r#"{"event":{"event":"lost","node":"g1"},"place":1}"#,
+        r#"{"event":{"event":"propose","node":"g1"},"place":1,"reply":null}"#,
+        r#"{"event":{"event":"lost","node":"g1"},"place":18446744073709551616,"reply":{"reply":"done"}}"#,
+        r#"{"event":{"event":"lost","node":"g1"},"place":1,"reply":{"reply":"done"},"tenant":"eng"}"#,
+        r#"{"event":{"event":"lost","node":"g1"},"place":1,"reply":{"refused":"Nosuchnode","reply":"refused"}}"#,
+    ] {
+        let read = read_line(rt.alloc(), line.as_bytes())?;
+        assert!(rt; read.is_err(), "{line}");
     }
     Ok(())
 }
 
-// Under `rt try --test --fail-alloc N` the first try may be refused memory, which a line tells.
 #[test]
-fn is_written_at_the_second_try(rt: HostRuntime) -> Result<(), Fail> {
-    let reply = Reply::Committed(container(What::Master)?);
-    let text =
-        r#"{"container":{"app":"j1","id":"gpu#2","memory":1000,"node":"g1","tenant":"eng","vcores":1,"what":"master"},"reply":"committed"}"#;
-    let written = match write_reply(rt.alloc(), &reply) {
-        Ok(written) => written,
+fn is_read_at_the_second_try(rt: HostRuntime) -> Result<(), Fail> {
+    let line =
+        r#"{"event":{"event":"commit","proposal":{"app":"j1","memory":1000,"node":"g1","stamp":7,"tenant":"eng","vcores":1,"what":"master"}},"place":8,"reply":{"container":{"app":"j1","id":"gpu#2","memory":1000,"node":"g1","tenant":"eng","vcores":1,"what":"master"},"reply":"committed"}}"#;
+    let read = match read_line(rt.alloc(), line.as_bytes()) {
+        Ok(read) => read,
         Err(_) => {
             println!(rt; "refused")?;
-            write_reply(rt.alloc(), &reply)?
+            read_line(rt.alloc(), line.as_bytes())?
         }
     };
-    assert_eq!(rt; written.as_slice(), text.as_bytes());
+    let Ok((place, _)) = read else {
+        return Err(Fail::new("a bad line"));
+    };
+    assert_eq!(rt; place, 8);
     Ok(())
 }

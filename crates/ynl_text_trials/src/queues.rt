@@ -1,12 +1,12 @@
-//! A tree that is built at the second try, and the tenants of queues.
+//! A tree that is built at the second try, and a configuration that is copied.
 
 use std::alloc::{AllocError, Global};
 use std::test::Fail;
 use ynl_config::built_in;
-use ynl_model::TreeFault;
-use ynl_nodes::Labels;
-use ynl_queues::{Access, QueueTree, WrittenQueue};
-use ynl_resource::{Hundredths, Label};
+use ynl_labels::Labels;
+use ynl_model::{LeafSettings, TreeFault};
+use ynl_queues::{Access, Config, QueueTree, WrittenQueue};
+use ynl_resource::{Hundredths, Label, Name, Path};
 
 // Run with each allocation failing in turn: where memory is refused at the first try, which a line
 // tells, the second gives the value.
@@ -17,12 +17,14 @@ fn written(alloc: Global, path: &str) -> Result<WrittenQueue, AllocError> {
         capacity: Hundredths::WHOLE,
         maximum: Hundredths::WHOLE,
         access: Access::Inherited,
-        default_label: Label::Unlabelled,
-        user_percent: Hundredths::WHOLE,
-        user_factor: 100,
-        master_percent: Hundredths::WHOLE,
-        most_applications: 10000,
-        shares: Vec::new(alloc),
+        leaf: LeafSettings {
+            default_label: Label::Unlabelled,
+            minimum_user_limit_percent: Hundredths::WHOLE,
+            user_limit_factor: 100,
+            maximum_am_resource_percent: Hundredths::WHOLE,
+            maximum_applications: 10000,
+        },
+        capacities: Vec::new(alloc),
     })
 }
 
@@ -59,11 +61,19 @@ fn builds_at_the_second_try(rt: HostRuntime) -> Result<(), Fail> {
     Ok(())
 }
 
+/// Whether root has just one queue, which is a leaf and the top of its tenant.
+fn has_one_queue(config: &Config) -> Result<bool, Fail> {
+    let root = Path::parse("root")?;
+    let eng = Path::parse("root.eng")?;
+    let mut below = config.children(root.names());
+    let is_one = below.next().is_some() && below.next().is_none();
+    let is_leaf = config.leaf(eng.names()).is_some();
+    Ok(is_one && is_leaf && config.tree().top(&Name::parse("eng")?).is_some())
+}
+
 #[test]
-fn knows_its_tenants(rt: HostRuntime) -> Result<(), Fail> {
-    let config = built_in(rt.alloc())?;
-    for row in config.queues() {
-        assert!(rt; row.tenant().as_str() == "eng");
-    }
+fn a_copy_has_the_queues(rt: HostRuntime) -> Result<(), Fail> {
+    let copy = built_in(rt.alloc())?.copy(rt.alloc())?;
+    assert!(rt; has_one_queue(&copy)?);
     Ok(())
 }
