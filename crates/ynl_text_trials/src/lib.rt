@@ -1,4 +1,4 @@
-//! Tests of what no text shows of the lower crates: amounts and paths, labels, queues, what an operator sets,
+//! Tests of what no text shows of the lower crates: rosters, amounts and paths, labels, queues, what an operator sets,
 //! configurations, and lines, most of them with memory refused. The crates themselves have none, since a crate with tests is proved twice.
 #![tactic(auto)]
 
@@ -12,5 +12,7 @@ mod labels;
 mod lines;
 #[cfg(test)]
 mod queues;
+#[cfg(test)]
+mod rosters;
 #[cfg(test)]
 mod words;

@@ -1,0 +1,189 @@
+//! Things under numbers that rise.
+
+ghost use Rattle.std.specs.Prelude.{◌≡◌, ◌≤◌, ◌<◌, ◌+◌, ◌++◌, ◌∷◌, [], ℕ, length, slice_set, vec_len, vec_capacity, None, nat_eq, slice_index_or, option_map, OnOk, OnErr, IfSome, IfNone};
+ghost use Rattle.std.specs.List.{AllByRecursion};
+ghost use Rattle.std.specs.Map.{lookup, remove_entry};
+ghost use Rattle.ynl_roster.specs.declared.roster.Slot.{Slot};
+ghost use Rattle.ynl_roster.specs.Kept.{IsPlaceOf, IsAbsent, Rises, IsShape, held};
+ghost use Rattle.ynl_roster.specs.Roster.{without};
+
+use std::alloc::{AllocError, Global};
+use std::marker::Model;
+
+/// A number, and the thing under it as long as it is there.
+#[derive(Drop)]
+struct Slot<T> {
+    number: u64,
+    item: Option<T>,
+}
+
+/// Things under numbers that rise. One is found and taken out by its number in few steps, and what
+/// is taken out takes no memory. A contract sees the pairs of a number and a thing, the highest
+/// number so far, and for how many more there is room.
+#[derive(Drop)]
+pub struct Roster<T> {
+    slots: Vec<Slot<T>>,
+    holes: usize,
+    top: u64,
+}
+
+impl<T> Model for Roster<T> {
+    ghost use Rattle.ynl_roster.specs.Roster.{Numbered, numbered_code};
+
+    ghost Value = { Numbered T };
+
+    ghost coded = { numbered_code T.code };
+
+    ghost use Rattle.ynl_roster.specs.declared.roster.Slot.{Slot};
+    ghost use Rattle.ynl_roster.specs.Kept.{numbered, IsRoster};
+
+    ghost view = { numbered };
+
+    ghost invariant = { IsRoster };
+}
+
+impl<T: Drop> Roster<T> {
+    /// Nothing yet.
+    pub fn new(alloc: Global) -> Roster<T>
+        ensures entries { result.entries ≡ [] }
+        ensures top { result.top ≡ 0 }
+    {
+        Roster {
+            slots: Vec::new(alloc),
+            holes: 0,
+            top: 0,
+        }
+    }
+
+    /// How many things there are.
+    pub fn len(&self) -> usize
+        ensures { result ≡ length self.now.entries }
+    {
+        self.slots.len() - self.holes
+    }
+
+    /// The highest number so far.
+    pub fn top(&self) -> u64
+        ensures value { result ≡ self.now.top }
+        ensures above { AllByRecursion (λ e. e.0 ≤ self.now.top) self.now.entries }
+    {
+        self.top
+    }
+
+    /// Room for so many more things.
+    pub fn reserve(&mut self, count: usize) -> Result<(), AllocError>
+        ensures entries { self.new.entries ≡ self.old.entries }
+        ensures top { self.new.top ≡ self.old.top }
+        ensures room { OnOk result (count ≤ self.new.room) }
+    {
+        self.slots.reserve(count)
+    }
+
+    /// A thing comes last, under a number above all others.
+    pub fn push_reserved(&mut self, number: u64, item: T)
+        requires room { 0 < self.old.room }
+        requires above { self.old.top < number }
+        ensures entries { self.new.entries ≡ self.old.entries ++ (number, item) ∷ [] }
+        ensures top { self.new.top ≡ number }
+        ensures room { self.old.room ≡ self.new.room + 1 }
+    {
+        self.slots.push_reserved(Slot {
+            number,
+            item: Some(item),
+        });
+        self.top = number;
+    }
+
+    /// The thing under a number.
+    pub fn get(&self, number: u64) -> Option<&T>
+        ensures { option_map (λ r. r.now) result ≡ lookup (nat_eq number) self.now.entries }
+    {
+        match find(&self.slots, number) {
+            Some(place) => match &self.slots[place].item {
+                Some(item) => Some(item),
+                None => None,
+            },
+            None => None,
+        }
+    }
+
+    /// The thing under a number is taken out.
+    pub fn remove(&mut self, number: u64) -> Option<T>
+        ensures value { result ≡ lookup (nat_eq number) self.old.entries }
+        ensures entries { self.new.entries ≡ without (λ e. nat_eq number e.0) self.old.entries }
+        ensures top { self.new.top ≡ self.old.top }
+        ensures room { self.old.room ≤ self.new.room }
+    {
+        let _len = self.slots.len();
+        let item = take(&mut self.slots, number);
+        if item.is_some() {
+            self.holes += 1;
+            self.close_holes();
+        }
+        item
+    }
+
+    /// The holes go, where they are more than half.
+    fn close_holes(&mut self)
+        ensures entries { self.new.entries ≡ self.old.entries }
+        ensures top { self.new.top ≡ self.old.top }
+        ensures room { self.old.room ≤ self.new.room }
+    {
+        if self.holes > self.slots.len() / 2 {
+            close(&mut self.slots);
+            self.holes = 0;
+        }
+    }
+}
+
+/// The thing under a number goes, and leaves a hole.
+fn take<T: Drop>(slots: &mut Vec<Slot<T>>, number: u64) -> Option<T>
+    requires { Rises slots.old.items }
+    ensures value { result ≡ lookup (nat_eq number) (held slots.old.items) }
+    ensures held { held slots.new.items ≡ remove_entry (nat_eq number) (held slots.old.items) }
+    ensures without { held slots.new.items ≡ without (λ e. nat_eq number e.0) (held slots.old.items) }
+    ensures shape { (top : ℕ) → IsShape top slots.old.items → IsShape top slots.new.items }
+    ensures len { vec_len slots.new ≡ vec_len slots.old }
+    ensures length { length slots.new.items ≡ length slots.old.items }
+    ensures capacity { vec_capacity slots.new ≡ vec_capacity slots.old }
+{
+    let Some(place) = find(slots, number) else {
+        return None;
+    };
+    take_at(slots, place)
+}
+
+/// The thing at a place goes, and leaves a hole.
+fn take_at<T: Drop>(slots: &mut Vec<Slot<T>>, place: usize) -> Option<T>
+    requires { place < length slots.old.items }
+    ensures value { (d : Slot T) → result ≡ (slice_index_or slots.old.items place d).item }
+    ensures hole { (d : Slot T) → slots.new.items ≡ slice_set slots.old.items place (record { number = (slice_index_or slots.old.items place d).number; item = None }) }
+    ensures len { vec_len slots.new ≡ vec_len slots.old }
+    ensures length { length slots.new.items ≡ length slots.old.items }
+    ensures capacity { vec_capacity slots.new ≡ vec_capacity slots.old }
+{
+    slots[place].item.take()
+}
+
+/// The holes go.
+fn close<T: Drop>(slots: &mut Vec<Slot<T>>)
+    ensures held { held slots.new.items ≡ held slots.old.items }
+    ensures len { length slots.new.items ≡ length (held slots.old.items) }
+    ensures bound { vec_len slots.new ≤ vec_len slots.old }
+    ensures shape { (top : ℕ) → IsShape top slots.old.items → IsShape top slots.new.items }
+    ensures capacity { vec_capacity slots.new ≡ vec_capacity slots.old }
+{
+    slots.retain(|slot| slot.item.is_some());
+}
+
+/// The place of a number.
+fn find<T>(slots: &Vec<Slot<T>>, number: u64) -> Option<usize>
+    requires { Rises slots.now.items }
+    ensures found { IfSome result (IsPlaceOf number slots.now.items) }
+    ensures absent { IfNone result (IsAbsent number slots.now.items) }
+{
+    match slots.binary_search_by_key(&number, |slot| slot.number) {
+        Ok(place) => Some(place),
+        Err(_) => None,
+    }
+}

@@ -1,0 +1,37 @@
+//! Things under numbers that rise.
+
+ghost use Rattle.std.specs.Prelude.{◌≡◌, ◌≤◌, OnOk};
+
+use std::alloc::AllocError;
+use std::test::Fail;
+use ynl_roster::Roster;
+
+// Run with each allocation failing in turn: where memory is refused at the first try, which a line
+// tells, the second gives the room.
+fn reserve(rt: &HostRuntime, roster: &mut Roster<u32>, count: usize) -> Result<(), Fail>
+    ensures room { OnOk result (count ≤ roster.new.room) }
+    ensures top { roster.new.top ≡ roster.old.top }
+{
+    let first: Result<(), AllocError> = roster.reserve(count);
+    if first.is_err() {
+        println!(rt; "refused")?;
+        roster.reserve(count)?;
+    }
+    Ok(())
+}
+
+#[test]
+fn takes_out_by_number_at_the_second_try(rt: HostRuntime) -> Result<(), Fail> {
+    let mut roster: Roster<u32> = Roster::new(rt.alloc());
+    reserve(&rt, &mut roster, 3)?;
+    roster.push_reserved(2, 20);
+    roster.push_reserved(5, 50);
+    roster.push_reserved(9, 90);
+    assert_eq!(rt; roster.remove(5), Some(50));
+    assert_eq!(rt; roster.remove(5), None);
+    assert_eq!(rt; roster.remove(2), Some(20));
+    assert_eq!(rt; roster.get(9).copied(), Some(90));
+    assert_eq!(rt; roster.len(), 1);
+    assert_eq!(rt; roster.top(), 9);
+    Ok(())
+}
