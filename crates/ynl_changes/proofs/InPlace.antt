@@ -109,3 +109,13 @@ update_same {X = X} test change same (x ∷ xs) = (λ i. go (test x) i ∷ updat
 pub less_capacity : (label : Label) (n m : ℕ) → n ≤ m → (rows : List PartitionRow) → HasCapacity label m rows → HasCapacity label n rows
 less_capacity label n m h [] k = tt
 less_capacity label n m h (row ∷ rows) k = ((λ same. let capacity = k.0 same in omega arith), less_capacity label n m h rows k.1)
+
+-- what holds of each row, where one is in the place of another
+pub each_set : {X : Type 0} (P : X → Type 0) (ys : List X) (i : ℕ) (y : X) → AllByRecursion P ys → P y → AllByRecursion P (set ys i y)
+each_set P [] i y h p = tt
+each_set P (x ∷ ys) zero y h p = (p, h.1)
+each_set P (x ∷ ys) (suc i) y h p = (h.0, each_set P ys i y h.1 p)
+
+-- what holds of the rows that were gone over holds of what they came from
+pub whole_kept : {X : Type 0} (P : List X → Type 0) (len : ℕ) (xs ys : List X) → length xs ≡ length ys → len ≡ length ys → P xs → P (take len (xs ++ drop (length xs) ys))
+whole_kept P len xs ys e f h = subst P (sym (whole_again len xs ys e f)) h

@@ -2,3 +2,4 @@ pub mod InPlace
 pub mod Serves
 pub mod Own
 pub mod Put
+pub mod Summing

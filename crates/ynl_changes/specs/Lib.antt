@@ -1,3 +1,4 @@
+pub mod Cells
 pub mod Placing
 pub mod Rows
 pub mod Submitting

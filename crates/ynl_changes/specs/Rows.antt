@@ -7,7 +7,11 @@ use Rattle.ynl_resource.specs.declared.names.Name.{Name}
 use Rattle.ynl_resource.specs.Names.{same_id, same_label, same_name}
 use Rattle.ynl_resource.specs.Tables.{without}
 use Rattle.ynl_model.specs.declared.containers.Placed.{Placed}
+use Rattle.ynl_resource.specs.declared.paths.Path.{Path}
+use Rattle.ynl_model.specs.Applications.{LeafApps}
 use Rattle.ynl_model.specs.Cluster.{Partition}
+use Rattle.ynl_tables.specs.declared.rows.PartitionRow.{PartitionRow}
+use Rattle.ynl_tables.specs.Kept.{IsSummed, AreSummed}
 
 -- the row of the partition is changed, and others stay
 abbrev pub in_row : Label → (Partition → Partition) → Partition → Partition
@@ -24,3 +28,11 @@ without_id id clock row = record row { clock = clock; containers = without (λ o
 -- the containers of the row at a place, and none past the last
 abbrev pub containers_at_place : List Partition → ℕ → List Placed
 containers_at_place rows place = option_map_or (λ row. row.containers) (slice_get rows place) []
+
+-- where what was kept of use was right, it is so still, whatever the queues and the leaves
+abbrev pub KeepsSum : PartitionRow → PartitionRow → Type 0
+KeepsSum old new = (queues : List Path) (leaves : List LeafApps) → IsSummed queues leaves old → IsSummed queues leaves new
+
+-- and so in each row
+abbrev pub KeepsSums : List PartitionRow → List PartitionRow → Type 0
+KeepsSums old new = (queues : List Path) (leaves : List LeafApps) → AreSummed queues leaves old → AreSummed queues leaves new

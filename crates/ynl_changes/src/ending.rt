@@ -1,52 +1,152 @@
 //! Containers that end.
 
-ghost use Rattle.std.specs.Prelude.{◌≡◌};
-ghost use Rattle.ynl_resource.specs.Names.{same_id};
+ghost use Rattle.std.specs.Prelude.{◌≡◌, ◌∷◌, length, map};
+ghost use Rattle.ynl_resource.specs.Names.{root};
 ghost use Rattle.ynl_resource.specs.Tables.{without};
 ghost use Rattle.ynl_model.specs.Cluster.{in_partition};
 ghost use Rattle.ynl_model.specs.Changes.{end};
-ghost use Rattle.ynl_tables.specs.Tables.{state_of, partition_of, partitions_of};
+ghost use Rattle.ynl_laws.specs.Uses.{use_by};
+ghost use Rattle.ynl_tables.specs.Kept.{AreKept, IsKept, IsSummed};
+ghost use Rattle.ynl_tables.specs.Numbers.{AreNumbered};
+ghost use Rattle.ynl_tables.specs.Tables.{state_of, leaves_of, partition_of, partitions_of};
+ghost use Rattle.ynl_changes.specs.Cells.{LowersAll, goes};
 ghost use Rattle.ynl_changes.specs.Rows.{in_row, without_id};
 
+use crate::cells::lower;
 use crate::placing::stamp;
-use ynl_model::Placed;
+use ynl_model::{Placed, Use};
 use ynl_queues::Config;
-use ynl_resource::{Id, Label};
-use ynl_tables::{PartitionRow, Tables, is_same, is_same_id, next_clock};
+use ynl_resource::{Id, Label, Name};
+use ynl_tables::{
+    LeafRow, PartitionRow, QueueNumbers, Tables, is_own, is_same, is_same_id, next_clock,
+};
 
-/// The container of an id goes.
-fn drop_id(containers: &mut Vec<Placed>, id: &Id)
-    ensures { containers.new.items ≡ without (λ other. same_id other.id id.now) containers.old.items }
+/// Which containers go.
+#[derive(Clone, Copy)]
+pub enum Going<'a> {
+    /// The one of an id.
+    OfId(&'a Id),
+    /// Those on a node.
+    OnNode(&'a Name),
+    /// Those of an application; its tenant is given by the bytes of its name.
+    OfApp(&'a [u8], &'a Name),
+}
+
+fn goes(going: Going<'_>, container: &Placed) -> bool
+    ensures { result ≡ goes going.entry container.now }
 {
-    containers.retain(|other| !is_same_id(&other.id, id));
+    match going {
+        Going::OfId(id) => is_same_id(&container.id, id),
+        Going::OnNode(name) => container.node == *name,
+        Going::OfApp(tenant, app) => is_own(container, tenant, app),
+    }
+}
+
+/// What queues use is lowered by a container, if it goes.
+fn lower_if(
+    uses: &mut Vec<Use>,
+    numbers: &QueueNumbers,
+    leaves: &[LeafRow],
+    container: &Placed,
+    going: Going<'_>,
+)
+    requires numbered { AreNumbered numbers.now (leaves_of leaves.now) }
+    requires len { length uses.old.items ≡ length (root ∷ numbers.now) }
+    ensures uses { LowersAll numbers.now (leaves_of leaves.now) (goes going.entry container.now) container.now uses.old.items uses.new.items }
+    ensures len { length uses.new.items ≡ length (root ∷ numbers.now) }
+{
+    if goes(going, container) {
+        lower(uses, numbers, leaves, container);
+    }
+}
+
+/// What queues use is lowered by each of the containers that goes.
+fn lower_by(
+    uses: &mut Vec<Use>,
+    numbers: &QueueNumbers,
+    leaves: &[LeafRow],
+    containers: &[Placed],
+    going: Going<'_>,
+)
+    requires numbered { AreNumbered numbers.now (leaves_of leaves.now) }
+    requires uses { uses.old.items ≡ map (λ queue. use_by (leaves_of leaves.now) queue containers.now) (root ∷ numbers.now) }
+    ensures { uses.new.items ≡ map (λ queue. use_by (leaves_of leaves.now) queue (without (goes going.entry) containers.now)) (root ∷ numbers.now) }
+{
+    for container in containers {
+        lower_if(uses, numbers, leaves, container, going);
+    }
+}
+
+/// Containers go from a row, and its queues use less by them.
+pub fn drop_going(
+    row: &mut PartitionRow,
+    numbers: &QueueNumbers,
+    leaves: &[LeafRow],
+    going: Going<'_>,
+)
+    requires numbered { AreNumbered numbers.now (leaves_of leaves.now) }
+    requires summed { IsSummed numbers.now (leaves_of leaves.now) row.old }
+    ensures meaning { partition_of row.new ≡ record (partition_of row.old) { containers = without (goes going.entry) row.old.containers.items } }
+    ensures summed { IsSummed numbers.now (leaves_of leaves.now) row.new }
+{
+    lower_by(&mut row.uses, numbers, leaves, &row.containers, going);
+    row.containers.retain(|container| !goes(going, container));
 }
 
 /// The container of an id goes from a row whose clock is set, if it is that of the partition.
-fn end_in(row: &mut PartitionRow, label: &Label, clock: u64, id: &Id)
-    ensures { partition_of row.new ≡ in_row label.now (without_id id.now clock) (partition_of row.old) }
+fn end_in(
+    row: &mut PartitionRow,
+    numbers: &QueueNumbers,
+    leaves: &[LeafRow],
+    label: &Label,
+    clock: u64,
+    id: &Id,
+)
+    requires numbered { AreNumbered numbers.now (leaves_of leaves.now) }
+    requires summed { IsSummed numbers.now (leaves_of leaves.now) row.old }
+    ensures meaning { partition_of row.new ≡ in_row label.now (without_id id.now clock) (partition_of row.old) }
+    ensures summed { IsSummed numbers.now (leaves_of leaves.now) row.new }
 {
     if is_same(&row.label, label) {
         row.clock = clock;
-        drop_id(&mut row.containers, id);
+        drop_going(row, numbers, leaves, Going::OfId(id));
     }
 }
 
 /// The container of an id goes from a partition, whose clock is set.
-fn end_on(rows: &mut Vec<PartitionRow>, label: &Label, clock: u64, id: &Id)
-    ensures { partitions_of rows.new.items ≡ in_partition label.now (without_id id.now clock) (partitions_of rows.old.items) }
+fn end_on(
+    rows: &mut Vec<PartitionRow>,
+    numbers: &QueueNumbers,
+    leaves: &[LeafRow],
+    label: &Label,
+    clock: u64,
+    id: &Id,
+)
+    requires { AreKept numbers.now (leaves_of leaves.now) rows.old.items }
+    ensures meaning { partitions_of rows.new.items ≡ in_partition label.now (without_id id.now clock) (partitions_of rows.old.items) }
+    ensures kept { AreKept numbers.now (leaves_of leaves.now) rows.new.items }
 {
     for row in rows.iter_mut() {
-        end_in(row, label, clock, id);
+        end_in(row, numbers, leaves, label, clock, id);
     }
 }
 
 /// A container ends: it goes from its partition, whose clock rises and is the node's stamp.
 #[tactic(auto, unfolding(ynl_model::specs::Changes::end, ynl_model::specs::Changes::changed_at))]
 pub fn end(config: &Config, tables: &mut Tables, container: &Placed)
-    ensures { state_of tables.new ≡ end config.now (state_of tables.old) container.now }
+    requires { IsKept tables.old }
+    ensures state { state_of tables.new ≡ end config.now (state_of tables.old) container.now }
+    ensures kept { IsKept tables.new }
 {
     let label = container.id.label;
     let clock = next_clock(config, tables, &label);
     stamp(&mut tables.nodes, &container.node, &label, clock);
-    end_on(&mut tables.partitions, &label, clock, &container.id);
+    end_on(
+        &mut tables.partitions,
+        &tables.numbers,
+        &tables.leaves,
+        &label,
+        clock,
+        &container.id,
+    );
 }

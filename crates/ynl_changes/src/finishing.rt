@@ -11,19 +11,25 @@ ghost use Rattle.ynl_model.specs.Cluster.{is_of};
 ghost use Rattle.ynl_model.specs.Changes.{all_own, app_finishes};
 ghost use Rattle.ynl_laws.specs.Working.{IsOrdered};
 ghost use Rattle.ynl_laws.specs.Finishing.{clock_rises, clocks_rise, without_own};
+ghost use Rattle.ynl_tables.specs.Kept.{AreKept, IsKept, IsSummed};
+ghost use Rattle.ynl_tables.specs.Numbers.{AreNumbered};
 ghost use Rattle.ynl_tables.specs.Tables.{state_of, app_of, leaf_of_row, leaves_of, partition_of, partitions_of};
 ghost use Rattle.ynl_changes.specs.Rows.{containers_at_place};
 
+use crate::ending::{Going, drop_going};
 use crate::placing::{set_clock, stamp};
 use ynl_model::Placed;
 use ynl_queues::Config;
 use ynl_resource::{Name, Path};
-use ynl_tables::{App, LeafRow, PartitionRow, Tables, is_own, next_clock, tenant_bytes};
+use ynl_tables::{
+    App, LeafRow, PartitionRow, QueueNumbers, Tables, is_own, next_clock, tenant_bytes,
+};
 
 /// The clock of a container's partition rises, and is the stamp of its node.
 #[tactic(auto, unfolding(ynl_model::specs::Changes::changed_at))]
 fn raise_clock(config: &Config, tables: &mut Tables, container: &Placed)
-    ensures { state_of tables.new ≡ clock_rises config.now (state_of tables.old) container.now }
+    ensures state { state_of tables.new ≡ clock_rises config.now (state_of tables.old) container.now }
+    ensures kept { IsKept tables.old → IsKept tables.new }
 {
     let label = container.id.label;
     let clock = next_clock(config, tables, &label);
@@ -41,6 +47,13 @@ fn containers_of(rows: &[PartitionRow], row: usize) -> &[Placed]
     }
 }
 
+/// The container at a place of a row.
+fn container_at(rows: &[PartitionRow], row: usize, place: usize) -> Option<Placed>
+    ensures { result ≡ slice_get (containers_at_place (partitions_of rows.now) row) place }
+{
+    containers_of(rows, row).get(place).copied()
+}
+
 /// The clock rises for the container at a place of a row, if it is the application's.
 fn raise_clock_at(
     config: &Config,
@@ -50,10 +63,10 @@ fn raise_clock_at(
     tenant: &[u8],
     app: &Name,
 )
-    ensures { state_of tables.new ≡ option_map_or (λ container. if is_of tenant.now app.now container then clock_rises config.now (state_of tables.old) container else state_of tables.old) (slice_get (containers_at_place (state_of tables.old).partitions row) place) (state_of tables.old) }
+    ensures state { state_of tables.new ≡ option_map_or (λ container. if is_of tenant.now app.now container then clock_rises config.now (state_of tables.old) container else state_of tables.old) (slice_get (containers_at_place (state_of tables.old).partitions row) place) (state_of tables.old) }
+    ensures kept { IsKept tables.old → IsKept tables.new }
 {
-    let containers = containers_of(&tables.partitions, row);
-    if let Some(container) = containers.get(place).copied() {
+    if let Some(container) = container_at(&tables.partitions, row, place) {
         if is_own(&container, tenant, app) {
             raise_clock(config, tables, &container);
         }
@@ -62,7 +75,8 @@ fn raise_clock_at(
 
 /// The clock rises for each container of a row that is the application's.
 fn raise_clocks_of_row(config: &Config, tables: &mut Tables, row: usize, tenant: &[u8], app: &Name)
-    ensures { state_of tables.new ≡ clocks_rise config.now (filter (is_of tenant.now app.now) (containers_at_place (state_of tables.old).partitions row)) (state_of tables.old) }
+    ensures state { state_of tables.new ≡ clocks_rise config.now (filter (is_of tenant.now app.now) (containers_at_place (state_of tables.old).partitions row)) (state_of tables.old) }
+    ensures kept { IsKept tables.old → IsKept tables.new }
 {
     let count = containers_of(&tables.partitions, row).len();
     for place in 0..count {
@@ -72,7 +86,8 @@ fn raise_clocks_of_row(config: &Config, tables: &mut Tables, row: usize, tenant:
 
 /// The clocks rise for all containers of an application, in the order of their ids.
 fn raise_clocks(config: &Config, tables: &mut Tables, tenant: &[u8], app: &Name)
-    ensures { state_of tables.new ≡ clocks_rise config.now (all_own (state_of tables.old) tenant.now app.now) (state_of tables.old) }
+    ensures state { state_of tables.new ≡ clocks_rise config.now (all_own (state_of tables.old) tenant.now app.now) (state_of tables.old) }
+    ensures kept { IsKept tables.old → IsKept tables.new }
 {
     let count = tables.partitions.len();
     for row in 0..count {
@@ -80,19 +95,35 @@ fn raise_clocks(config: &Config, tables: &mut Tables, tenant: &[u8], app: &Name)
     }
 }
 
-fn drop_own(row: &mut PartitionRow, tenant: &[u8], app: &Name)
-    ensures { partition_of row.new ≡ without_own tenant.now app.now (partition_of row.old) }
+fn drop_own(
+    row: &mut PartitionRow,
+    numbers: &QueueNumbers,
+    leaves: &[LeafRow],
+    tenant: &[u8],
+    app: &Name,
+)
+    requires numbered { AreNumbered numbers.now (leaves_of leaves.now) }
+    requires summed { IsSummed numbers.now (leaves_of leaves.now) row.old }
+    ensures meaning { partition_of row.new ≡ without_own tenant.now app.now (partition_of row.old) }
+    ensures summed { IsSummed numbers.now (leaves_of leaves.now) row.new }
 {
-    row.containers
-        .retain(|container| !is_own(container, tenant, app));
+    drop_going(row, numbers, leaves, Going::OfApp(tenant, app));
 }
 
 /// The containers of an application go.
-fn drop_all_own(rows: &mut Vec<PartitionRow>, tenant: &[u8], app: &Name)
-    ensures { partitions_of rows.new.items ≡ map (without_own tenant.now app.now) (partitions_of rows.old.items) }
+fn drop_all_own(
+    rows: &mut Vec<PartitionRow>,
+    numbers: &QueueNumbers,
+    leaves: &[LeafRow],
+    tenant: &[u8],
+    app: &Name,
+)
+    requires { AreKept numbers.now (leaves_of leaves.now) rows.old.items }
+    ensures meaning { partitions_of rows.new.items ≡ map (without_own tenant.now app.now) (partitions_of rows.old.items) }
+    ensures kept { AreKept numbers.now (leaves_of leaves.now) rows.new.items }
 {
     for row in rows.iter_mut() {
-        drop_own(row, tenant, app);
+        drop_own(row, numbers, leaves, tenant, app);
     }
 }
 
@@ -124,11 +155,19 @@ fn finish_in(rows: &mut Vec<LeafRow>, leaf: &Path, name: &Name)
 /// stays.
 #[tactic(auto, unfolding(ynl_model::specs::Changes::app_finishes))]
 pub fn finish_application(config: &Config, tables: &mut Tables, leaf: &Path, name: &Name)
-    requires { IsOrdered config.now (state_of tables.old) }
-    ensures { (app : Application) → app.leaf ≡ leaf.now → app.name ≡ name.now → state_of tables.new ≡ app_finishes config.now app (state_of tables.old) }
+    requires ordered { IsOrdered config.now (state_of tables.old) }
+    requires kept { IsKept tables.old }
+    ensures state { (app : Application) → app.leaf ≡ leaf.now → app.name ≡ name.now → state_of tables.new ≡ app_finishes config.now app (state_of tables.old) }
+    ensures kept { IsKept tables.new }
 {
     let tenant = tenant_bytes(leaf);
     raise_clocks(config, tables, tenant, name);
-    drop_all_own(&mut tables.partitions, tenant, name);
+    drop_all_own(
+        &mut tables.partitions,
+        &tables.numbers,
+        &tables.leaves,
+        tenant,
+        name,
+    );
     finish_in(&mut tables.leaves, leaf, name);
 }

@@ -12,6 +12,7 @@ pub use serving::serve;
 pub use submitting::{Submission, reserve_application, submit};
 
 mod asking;
+mod cells;
 mod ending;
 mod finishing;
 mod nodes;

@@ -1,40 +1,81 @@
 //! The tables of a cluster at first.
 
-ghost use Rattle.std.specs.Prelude.{◌≡◌, [], ◌∷◌, ◌++◌, IfOk};
-ghost use Rattle.ynl_model.specs.Applications.{no_apps};
+ghost use Rattle.std.specs.Prelude.{◌≡◌, List, [], ◌∷◌, ◌++◌, map, IfOk, OnOk};
+ghost use Rattle.ynl_resource.specs.Names.{root};
+ghost use Rattle.ynl_model.specs.Applications.{LeafApps, no_apps};
 ghost use Rattle.ynl_model.specs.Cluster.{opening, no_containers};
+ghost use Rattle.ynl_laws.specs.Uses.{use_by};
+ghost use Rattle.ynl_tables.specs.Kept.{AreSummed, IsKept};
 ghost use Rattle.ynl_tables.specs.Tables.{state_of, leaves_of, partitions_of};
 
 use std::alloc::{AllocError, Global};
 use ynl_controls::{Maxima, Stops};
 use ynl_labels::Labels;
+use ynl_model::Use;
 use ynl_queues::Config;
-use ynl_resource::Label;
-use ynl_tables::{LeafRow, PartitionRow, Tables};
+use ynl_resource::{Label, Resource};
+use ynl_tables::{LeafRow, PartitionRow, QueueNumbers, Tables};
+
+const NO_USE: Use = Use {
+    used: Resource {
+        memory: 0,
+        vcores: 0,
+    },
+    masters: Resource {
+        memory: 0,
+        vcores: 0,
+    },
+    master_count: 0,
+    guests: Resource {
+        memory: 0,
+        vcores: 0,
+    },
+};
+
+/// What queues use where there are no containers.
+fn no_uses(alloc: Global, numbers: &QueueNumbers) -> Result<Vec<Use>, AllocError>
+    ensures { IfOk result (λ uses. (leaves : List LeafApps) → uses.items ≡ map (λ queue. use_by leaves queue []) (root ∷ numbers.now)) }
+{
+    let mut uses = Vec::new(alloc);
+    uses.push(NO_USE)?;
+    for _i in 0..numbers.len() {
+        uses.push(NO_USE)?;
+    }
+    Ok(uses)
+}
 
 fn push_partition(
     rows: &mut Vec<PartitionRow>,
     alloc: Global,
+    numbers: &QueueNumbers,
     label: Label,
 ) -> Result<(), AllocError>
-    ensures { IfOk result (λ _. partitions_of rows.new.items ≡ partitions_of rows.old.items ++ record { label = label; clock = 0; containers = [] } ∷ []) }
+    ensures meaning { OnOk result (partitions_of rows.new.items ≡ partitions_of rows.old.items ++ record { label = label; clock = 0; containers = [] } ∷ []) }
+    ensures summed { OnOk result ((leaves : List LeafApps) → AreSummed numbers.now leaves rows.old.items → AreSummed numbers.now leaves rows.new.items) }
 {
+    let uses = no_uses(alloc, numbers)?;
     rows.push(PartitionRow {
         label,
         clock: 0,
         containers: Vec::new(alloc),
+        uses,
     })?;
     Ok(())
 }
 
 /// A row for each partition, DEFAULT first, without containers, and with the clock at 0.
-fn partitions(alloc: Global, labels: &Labels) -> Result<Vec<PartitionRow>, AllocError>
-    ensures { IfOk result (λ rows. partitions_of rows.items ≡ no_containers labels.now) }
+fn partitions(
+    alloc: Global,
+    labels: &Labels,
+    numbers: &QueueNumbers,
+) -> Result<Vec<PartitionRow>, AllocError>
+    ensures meaning { IfOk result (λ rows. partitions_of rows.items ≡ no_containers labels.now) }
+    ensures summed { IfOk result (λ rows. (leaves : List LeafApps) → AreSummed numbers.now leaves rows.items) }
 {
     let mut rows = Vec::new(alloc);
-    push_partition(&mut rows, alloc, Label::Unlabelled)?;
+    push_partition(&mut rows, alloc, numbers, Label::Unlabelled)?;
     for row in labels.rows() {
-        push_partition(&mut rows, alloc, Label::Named(row.name))?;
+        push_partition(&mut rows, alloc, numbers, Label::Named(row.name))?;
     }
     Ok(rows)
 }
@@ -60,13 +101,16 @@ fn leaves(alloc: Global, config: &Config) -> Result<Vec<LeafRow>, AllocError>
 /// The tables at first: no node, application or container, every clock 0, and the configured stops
 /// and maxima.
 pub fn opening_tables(alloc: Global, config: &Config) -> Result<Tables, AllocError>
-    ensures { IfOk result (λ tables. state_of tables ≡ opening config.now) }
+    ensures state { IfOk result (λ tables. state_of tables ≡ opening config.now) }
+    ensures kept { IfOk result (λ tables. IsKept tables) }
 {
+    let numbers = QueueNumbers::new(alloc, config)?;
     Ok(Tables {
         nodes: Vec::new(alloc),
-        partitions: partitions(alloc, config.labels())?,
+        partitions: partitions(alloc, config.labels(), &numbers)?,
         leaves: leaves(alloc, config)?,
         stops: Stops::new(alloc, config)?,
         maxima: Maxima::new(alloc, config)?,
+        numbers,
     })
 }

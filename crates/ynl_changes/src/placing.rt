@@ -6,17 +6,26 @@ ghost use Rattle.ynl_resource.specs.declared.paths.Path.{Path};
 ghost use Rattle.ynl_resource.specs.Tables.{update, without};
 ghost use Rattle.ynl_model.specs.Nodes.{stamped, is_at};
 ghost use Rattle.ynl_model.specs.Applications.{in_leaf, with_app, is_ask_of, take_one};
-ghost use Rattle.ynl_model.specs.Cluster.{in_partition};
+ghost use Rattle.ynl_model.specs.Cluster.{in_partition, sizes};
 ghost use Rattle.ynl_model.specs.Changes.{place, container_of, taken};
+ghost use Rattle.std.specs.List.{AllByRecursion};
+ghost use Rattle.ynl_laws.specs.Working.{IsWorking};
+ghost use Rattle.ynl_tables.specs.Bounds.{IsTotal};
+ghost use Rattle.ynl_tables.specs.Kept.{AreKept, IsKept, IsSummed};
+ghost use Rattle.ynl_tables.specs.Numbers.{AreNumbered};
 ghost use Rattle.ynl_tables.specs.Tables.{state_of, app_of, leaf_of_row, leaves_of, partition_of, partitions_of, HasCapacity};
 ghost use Rattle.ynl_changes.specs.Placing.{put_on, taken_from, taken_at};
+ghost use Rattle.ynl_changes.specs.Rows.{KeepsSum, KeepsSums};
 
+use crate::cells::raise;
 use std::alloc::AllocError;
 use ynl_choice::Request;
 use ynl_model::{AskRow, Node, Placed, What};
 use ynl_queues::Config;
 use ynl_resource::{Id, Label, Name, Path};
-use ynl_tables::{App, LeafRow, PartitionRow, Tables, is_ask_of, is_same, next_clock, push_copy};
+use ynl_tables::{
+    App, LeafRow, PartitionRow, QueueNumbers, Tables, is_ask_of, is_same, next_clock, push_copy,
+};
 
 fn restamped(node: &Node, name: &Name, label: &Label, stamp: u64) -> Node
     ensures { result ≡ (if is_at name.now label.now node.now then record node.now { stamp = stamp } else node.now) }
@@ -42,26 +51,48 @@ pub fn stamp(nodes: &mut Vec<Node>, name: &Name, label: &Label, stamp: u64)
     }
 }
 
-/// A container comes last on the row of its partition, whose clock is set.
-fn put(row: &mut PartitionRow, label: &Label, clock: u64, container: &Placed)
-    requires { same_label row.old.label label.now ≡ true → vec_len row.old.containers + 1 ≤ vec_capacity row.old.containers }
+/// A container comes last on the row of its partition, whose clock is set; its queues use more.
+fn put(
+    row: &mut PartitionRow,
+    numbers: &QueueNumbers,
+    leaves: &[LeafRow],
+    label: &Label,
+    clock: u64,
+    container: &Placed,
+)
+    requires numbered { AreNumbered numbers.now (leaves_of leaves.now) }
+    requires summed { IsSummed numbers.now (leaves_of leaves.now) row.old }
+    requires small { IsTotal (sizes row.old.containers.items) }
+    requires capacity { same_label row.old.label label.now ≡ true → vec_len row.old.containers + 1 ≤ vec_capacity row.old.containers }
     ensures meaning { partition_of row.new ≡ put_on label.now clock container.now (partition_of row.old) }
     ensures capacity { (n : ℕ) → (same_label row.old.label label.now ≡ true → vec_len row.old.containers + (n + 1) ≤ vec_capacity row.old.containers) → (same_label row.new.label label.now ≡ true → vec_len row.new.containers + n ≤ vec_capacity row.new.containers) }
+    ensures summed { IsSummed numbers.now (leaves_of leaves.now) row.new }
 {
     if is_same(&row.label, label) {
         row.clock = clock;
+        raise(&mut row.uses, numbers, leaves, container);
         push_copy(&mut row.containers, container);
     }
 }
 
-/// A container comes last on its partition, whose clock is set.
-fn put_container(rows: &mut Vec<PartitionRow>, label: &Label, clock: u64, container: &Placed)
-    requires { HasCapacity label.now 1 rows.old.items }
+/// A container comes last on its partition, whose clock is set; its queues use more.
+fn put_container(
+    rows: &mut Vec<PartitionRow>,
+    numbers: &QueueNumbers,
+    leaves: &[LeafRow],
+    label: &Label,
+    clock: u64,
+    container: &Placed,
+)
+    requires kept { AreKept numbers.now (leaves_of leaves.now) rows.old.items }
+    requires small { AllByRecursion (λ row. IsTotal (sizes row.containers.items)) rows.old.items }
+    requires capacity { HasCapacity label.now 1 rows.old.items }
     ensures meaning { partitions_of rows.new.items ≡ in_partition label.now (λ row. record row { clock = clock; containers = row.containers ++ container.now ∷ [] }) (partitions_of rows.old.items) }
     ensures capacity { (n : ℕ) → HasCapacity label.now (n + 1) rows.old.items → HasCapacity label.now n rows.new.items }
+    ensures kept { AreKept numbers.now (leaves_of leaves.now) rows.new.items }
 {
     for row in rows.iter_mut() {
-        put(row, label, clock, container);
+        put(row, numbers, leaves, label, clock, container);
     }
 }
 
@@ -73,6 +104,7 @@ fn reserve_containers_on(
 ) -> Result<(), AllocError>
     ensures meaning { partition_of row.new ≡ partition_of row.old }
     ensures capacity { OnOk result (same_label row.new.label label.now ≡ true → vec_len row.new.containers + count ≤ vec_capacity row.new.containers) }
+    ensures summed { KeepsSum row.old row.new }
 {
     if is_same(&row.label, label) {
         row.containers.reserve(count)?;
@@ -88,6 +120,7 @@ pub fn reserve_containers(
 ) -> Result<(), AllocError>
     ensures meaning { partitions_of rows.new.items ≡ partitions_of rows.old.items }
     ensures capacity { OnOk result (HasCapacity label.now count rows.new.items) }
+    ensures summed { KeepsSums rows.old.items rows.new.items }
 {
     for row in rows.iter_mut() {
         reserve_containers_on(row, label, count)?;
@@ -184,10 +217,13 @@ fn take_request(rows: &mut Vec<LeafRow>, request: &Request)
 /// Places a request on a node, and gives the container.
 #[tactic(auto, unfolding(ynl_model::specs::Changes::place, ynl_model::specs::Changes::changed_at, ynl_model::specs::Changes::container_of))]
 pub fn place(config: &Config, tables: &mut Tables, node: &Node, request: &Request) -> Placed
-    requires { HasCapacity node.now.label 1 tables.old.partitions.items }
+    requires working { IsWorking config.now (state_of tables.old) }
+    requires kept { IsKept tables.old }
+    requires capacity { HasCapacity node.now.label 1 tables.old.partitions.items }
     ensures container { result ≡ container_of config.now (state_of tables.old) node.now request.now }
     ensures state { state_of tables.new ≡ place config.now node.now request.now (state_of tables.old) }
     ensures capacity { (n : ℕ) → HasCapacity node.now.label (n + 1) tables.old.partitions.items → HasCapacity node.now.label n tables.new.partitions.items }
+    ensures kept { IsKept tables.new }
 {
     let clock = next_clock(config, tables, &node.label);
     let container = Placed {
@@ -202,13 +238,21 @@ pub fn place(config: &Config, tables: &mut Tables, node: &Node, request: &Reques
         size: request.size,
     };
     stamp(&mut tables.nodes, &node.name, &node.label, clock);
-    put_container(&mut tables.partitions, &node.label, clock, &container);
+    put_container(
+        &mut tables.partitions,
+        &tables.numbers,
+        &tables.leaves,
+        &node.label,
+        clock,
+        &container,
+    );
     take_request(&mut tables.leaves, request);
     container
 }
 
 fn set_on(row: &mut PartitionRow, label: &Label, clock: u64)
-    ensures { partition_of row.new ≡ (if same_label row.old.label label.now then record (partition_of row.old) { clock = clock } else partition_of row.old) }
+    ensures meaning { partition_of row.new ≡ (if same_label row.old.label label.now then record (partition_of row.old) { clock = clock } else partition_of row.old) }
+    ensures summed { KeepsSum row.old row.new }
 {
     if is_same(&row.label, label) {
         row.clock = clock;
@@ -217,7 +261,8 @@ fn set_on(row: &mut PartitionRow, label: &Label, clock: u64)
 
 /// A partition's clock is set.
 pub fn set_clock(rows: &mut Vec<PartitionRow>, label: &Label, clock: u64)
-    ensures { partitions_of rows.new.items ≡ in_partition label.now (λ row. record row { clock = clock }) (partitions_of rows.old.items) }
+    ensures meaning { partitions_of rows.new.items ≡ in_partition label.now (λ row. record row { clock = clock }) (partitions_of rows.old.items) }
+    ensures summed { KeepsSums rows.old.items rows.new.items }
 {
     for row in rows.iter_mut() {
         set_on(row, label, clock);

@@ -3,6 +3,7 @@
 ghost use Rattle.std.specs.Prelude.{◌≡◌, ◌≤◌, ◌+◌, ◌++◌, vec_len, vec_capacity};
 ghost use Rattle.ynl_model.specs.Changes.{next_item, beat};
 ghost use Rattle.ynl_laws.specs.Working.{IsWorking, Stands};
+ghost use Rattle.ynl_tables.specs.Kept.{IsKept};
 ghost use Rattle.ynl_tables.specs.Tables.{state_of, HasCapacity};
 
 use crate::placing::place;
@@ -13,7 +14,8 @@ use ynl_tables::{Tables, is_spent, push_copy};
 
 /// The request that is placed next on a node: none where the clock is spent.
 fn next_request(config: &Config, tables: &Tables, node: &Node) -> Option<Request>
-    requires { IsWorking config.now (state_of tables.now) }
+    requires working { IsWorking config.now (state_of tables.now) }
+    requires kept { IsKept tables.now }
     ensures { result ≡ next_item config.now (state_of tables.now) node.now }
 {
     if is_spent(config, tables, &node.label) {
@@ -31,11 +33,13 @@ pub fn serve(
     placed: &mut Vec<Placed>,
 )
     requires working { IsWorking config.now (state_of tables.old) }
+    requires kept { IsKept tables.old }
     requires stands { Stands (state_of tables.old) node.now }
     requires capacity { HasCapacity node.now.label times tables.old.partitions.items }
     requires reply_capacity { vec_len placed.old + times ≤ vec_capacity placed.old }
     ensures state { state_of tables.new ≡ (beat config.now node.now times (state_of tables.old)).state }
     ensures placed { placed.new.items ≡ placed.old.items ++ (beat config.now node.now times (state_of tables.old)).placed }
+    ensures kept { IsKept tables.new }
 {
     for _i in 0..times {
         let Some(request) = next_request(config, tables, node) else {

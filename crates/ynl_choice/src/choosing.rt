@@ -7,7 +7,7 @@ ghost use Rattle.ynl_resource.specs.Names.{same_name};
 ghost use Rattle.ynl_resource.specs.declared.labels.Label.TheVariants.{Unlabelled};
 ghost use Rattle.ynl_model.specs.Cluster.{free as free_on};
 ghost use Rattle.ynl_model.specs.Service.{place_in_leaf, first_of, key, eligible, has_room, asks_for, some_eligible, takes_guests, choice};
-ghost use Rattle.ynl_tables.specs.Bounds.{IsBounded};
+ghost use Rattle.ynl_tables.specs.Bounds.{IsReadable};
 ghost use Rattle.ynl_tables.specs.Tables.{state_of, app_of};
 ghost use Rattle.ynl_choice.specs.Choosing.{state_in, key_in, item_of, passes, overtakes, IsScene, IsDesk, IsKeyed, HoldsBest, masters_of as masters_in, wanted, asks_in, all_masters, all_asks};
 ghost use Rattle.ynl_choice.specs.declared.scenes.Scene.{Scene};
@@ -240,7 +240,7 @@ fn with_all_asks(scene: &Scene<'_>, held: Option<Candidate>) -> Option<Candidate
 
 /// The first of the eligible requests.
 fn first_eligible(config: &Config, tables: &Tables, node: &Node, free: &Resource) -> Option<Request>
-    requires bounded { IsBounded (state_of tables.now) }
+    requires readable { IsReadable tables.now }
     requires free { free.now ≡ free_on (state_of tables.now) node.now }
     ensures { result ≡ first_of (key config.now (state_of tables.now) node.now.label) (eligible config.now (state_of tables.now) node.now) }
 {
@@ -260,7 +260,7 @@ fn first_eligible(config: &Config, tables: &Tables, node: &Node, free: &Resource
 
 /// The first of the asks for DEFAULT that have room, as guests.
 fn first_guest(config: &Config, tables: &Tables, node: &Node, free: &Resource) -> Option<Request>
-    requires bounded { IsBounded (state_of tables.now) }
+    requires readable { IsReadable tables.now }
     requires free { free.now ≡ free_on (state_of tables.now) node.now }
     ensures { result ≡ first_of (key config.now (state_of tables.now) Unlabelled) (filter (λ item. has_room (state_of tables.now) node.now item.size) (asks_for (state_of tables.now) Unlabelled)) }
 {
@@ -289,7 +289,7 @@ fn request_in(held: Option<Candidate>) -> Option<Request>
 
 /// Whether any request is eligible on a node.
 pub fn some_eligible(config: &Config, tables: &Tables, node: &Node) -> bool
-    requires { IsBounded (state_of tables.now) }
+    requires { IsReadable tables.now }
     ensures { result ≡ some_eligible config.now (state_of tables.now) node.now }
 {
     let free = free(tables, node);
@@ -309,7 +309,7 @@ pub fn takes_guests(config: &Config, label: &Label) -> bool
 /// The request that is served next on a node: the first of the eligible ones, or else the first
 /// guest. It does not look at the clock.
 pub fn choose(config: &Config, tables: &Tables, node: &Node) -> Option<Request>
-    requires { IsBounded (state_of tables.now) }
+    requires { IsReadable tables.now }
     ensures { result ≡ choice config.now (state_of tables.now) node.now }
 {
     let free = free(tables, node);

@@ -5,7 +5,7 @@ ghost use Rattle.ynl_resource.specs.Names.{way_to};
 ghost use Rattle.ynl_model.specs.Cluster.{total as total_on};
 ghost use Rattle.ynl_model.specs.Service.{standing, last_name};
 ghost use Rattle.ynl_tables.specs.Tables.{state_of};
-ghost use Rattle.ynl_tables.specs.Bounds.{IsBounded};
+ghost use Rattle.ynl_tables.specs.Bounds.{IsReadable};
 ghost use Rattle.ynl_choice.specs.Candidates.{standings_of};
 
 use crate::standings::{Standing, Standings};
@@ -28,7 +28,7 @@ fn standing_of(
     label: &Label,
     total: &Resource,
 ) -> Standing
-    requires bounded { IsBounded (state_of tables.now) }
+    requires readable { IsReadable tables.now }
     requires total { total.now ≡ total_on (state_of tables.now) label.now }
     requires below_root { 0 < length queue.now }
     ensures { result ≡ standing config.now (state_of tables.now) label.now queue.now }
@@ -51,7 +51,7 @@ pub fn standings_on(
     label: &Label,
     total: &Resource,
 ) -> Standings
-    requires bounded { IsBounded (state_of tables.now) }
+    requires readable { IsReadable tables.now }
     requires total { total.now ≡ total_on (state_of tables.now) label.now }
     requires depth { length leaf.now ≤ 7 }
     ensures { standings_of result ≡ map (standing config.now (state_of tables.now) label.now) (way_to leaf.now) }

@@ -6,6 +6,7 @@ use Rattle.ynl_model.specs.Cluster.{State}
 use Rattle.ynl_laws.specs.Working.{IsWorking}
 use Rattle.ynl_core.specs.declared.cluster.Core.TheInside.{Inside}
 use Rattle.ynl_core.specs.Resting.{AreResting}
+use Rattle.ynl_tables.specs.Kept.{IsKept}
 use Rattle.ynl_tables.specs.Tables.{state_of}
 use Rattle.ynl_core.specs.World.{World}
 
@@ -18,6 +19,7 @@ pub record IsSound (c : Config) (s : State) (names : List Name) : Type 0 where
   pub working : IsWorking c s
   pub resting : AreResting c s names
 
--- that is so of the state and the resting nodes that a core keeps
-abbrev pub IsWorkingCore : Inside → Type 0
-IsWorkingCore a = IsSound a.config (state_of a.tables) a.resting.items
+-- that is so of the state and the resting nodes that a core keeps, and what it keeps of use is right
+pub record IsWorkingCore (a : Inside) : Type 0 where
+  pub sound : IsSound a.config (state_of a.tables) a.resting.items
+  pub kept : IsKept a.tables

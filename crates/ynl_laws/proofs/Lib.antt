@@ -6,6 +6,7 @@ pub mod Events
 pub mod Soundness
 pub mod Lives
 pub mod Limits
+pub mod Totals
 pub mod Service
 pub mod Isolating
 pub mod Computed

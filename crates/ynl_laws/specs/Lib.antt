@@ -15,3 +15,10 @@ pub mod Classes
 pub mod Decided
 pub mod Numbers
 pub mod Descent
+pub mod Ways
+pub mod Uses
+pub mod UseLaws
+pub mod Marks
+pub mod Sharers
+pub mod Owners
+pub mod Tabled

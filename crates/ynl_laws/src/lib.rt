@@ -4,9 +4,13 @@
 pub mod classes;
 pub mod entitlement;
 pub mod isolation;
+pub mod marks;
 pub mod maxima;
 pub mod nodes;
 pub mod order;
 pub mod proposals;
+pub mod sharers;
+pub mod standing;
 pub mod states;
+pub mod uses;
 pub mod worked;

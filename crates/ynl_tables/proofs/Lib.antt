@@ -1,4 +1,6 @@
 pub mod Finding
+pub mod Numbering
+pub mod Kept
 pub mod Adding
 pub mod Filters
 pub mod Shared

@@ -1,4 +1,7 @@
 pub mod Bounds
+pub mod Kept
+pub mod NumberFields
+pub mod Numbers
 pub mod Sharing
 pub mod Tables
 pub mod Uses

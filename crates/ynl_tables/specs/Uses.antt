@@ -1,17 +1,14 @@
 -- Which containers count in a sum.
-use Rattle.std.specs.Prelude.{Bool, not, ◌&&◌, List}
+use Rattle.std.specs.Prelude.{Bool, ◌&&◌, List}
 use Rattle.ynl_resource.specs.Names.{same_name}
 use Rattle.ynl_resource.specs.declared.names.Name.{Name}
 use Rattle.ynl_resource.specs.declared.paths.Path.{Path}
 use Rattle.ynl_model.specs.declared.containers.Placed.{Placed as Container}
 use Rattle.ynl_model.specs.Applications.{LeafApps}
-use Rattle.ynl_model.specs.Cluster.{is_master, is_guest, is_below, of_app_that}
+use Rattle.ynl_model.specs.Cluster.{is_master, of_app_that}
+use Rattle.ynl_laws.specs.Uses.{counts, counts_as_guest}
 use Rattle.ynl_tables.specs.declared.uses.Counted.{Counted}
 use Rattle.ynl_tables.specs.declared.uses.Counted.TheVariants.{Everyone, User, Masters, Guests}
-
--- whether a container counts in the use of a queue: it is no guest, and its leaf is the queue or below
-abbrev pub counts : List LeafApps → Path → Container → Bool
-counts leaves queue container = not (is_guest container) && is_below leaves queue container
 
 -- whether a container is that of a live application of a user
 abbrev pub of_user : Name → List LeafApps → Container → Bool
@@ -22,4 +19,4 @@ abbrev pub is_counted : List LeafApps → Path → Counted → Container → Boo
 is_counted leaves queue Everyone container = counts leaves queue container
 is_counted leaves queue (User user) container = counts leaves queue container && of_user user.now leaves container
 is_counted leaves queue Masters container = counts leaves queue container && is_master container
-is_counted leaves queue Guests container = is_guest container && is_below leaves queue container
+is_counted leaves queue Guests container = counts_as_guest leaves queue container

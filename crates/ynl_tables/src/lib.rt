@@ -1,5 +1,5 @@
 //! The tables of a cluster: nodes, partitions with their containers, leaves with their applications;
-//! and all that only reads them: what is found there, sums of use, totals, who shares a leaf, the tests
+//! and all that only reads them: what is found there, what is used, totals, who shares a leaf, the tests
 //! for which events are refused, and what is told of the tables in a reply.
 #![tactic(auto)]
 
@@ -8,6 +8,7 @@ pub use asks::{ask_of, is_ask_of, is_foreign, is_one_too_many};
 pub use clocks::{is_spent, next_clock};
 pub use containers::{container_of_tenant, container_on, is_own, is_same_id, push_copy};
 pub use live::{Live, live_at};
+pub use numbers::{QueueNumbers, way_of_app};
 pub use polling::{own_containers, pending_on};
 pub use queue_use::{free, guests, masters_used, no_master_in, runs, used, user_used};
 pub use rows::{App, LeafRow, PartitionRow};
@@ -17,13 +18,14 @@ pub use tables::{
     risen, tenant_bytes,
 };
 pub use usage::usage_of;
-pub use uses::{is_master, total_of};
+pub use uses::{is_guest_on, is_master, total_of};
 
 mod applications;
 mod asks;
 mod clocks;
 mod containers;
 mod live;
+mod numbers;
 mod polling;
 mod queue_use;
 mod rows;

@@ -1,27 +1,59 @@
-//! What a queue, its users and its masters use of a partition, and how many users share it.
+//! What a queue, its users and its masters use of a partition. What a queue uses is kept, and only for a
+//! path that is no queue of the configuration it is summed.
 
-ghost use Rattle.std.specs.Prelude.{◌≡◌, ◌&&◌};
+ghost use Rattle.std.specs.Prelude.{◌≡◌, ◌&&◌, filter, IfSome};
 ghost use Rattle.std.specs.List.{list_any};
-ghost use Rattle.ynl_model.specs.Cluster.{used, user_used, masters_used, guests, is_master, is_of, runs, free, counted};
+ghost use Rattle.ynl_model.specs.Cluster.{used, user_used, masters_used, guests, is_master, is_of, runs, free, counted, containers_on, sizes};
 ghost use Rattle.ynl_model.specs.Service.{no_master_in};
 ghost use Rattle.ynl_tables.specs.Tables.{state_of, app_of};
-ghost use Rattle.ynl_tables.specs.Bounds.{IsBounded, IsTotal};
+ghost use Rattle.ynl_laws.specs.Uses.{use_of};
+ghost use Rattle.ynl_tables.specs.Bounds.{IsBounded, IsReadable, IsTotal};
+ghost use Rattle.ynl_tables.specs.Kept.{IsKept};
+ghost use Rattle.ynl_tables.specs.Uses.{is_counted};
 
 use crate::rows::App;
-use crate::tables::{Tables, containers_at, tenant_bytes};
+use crate::tables::{Tables, containers_at, partition_row, tenant_bytes};
 use crate::uses::{Counted, counts, is_master, used_by, used_on};
-use ynl_model::{Node, Placed};
+use ynl_model::{Node, Placed, Use};
 use ynl_resource::{Label, Name, Path, Resource};
+
+/// What is kept of a queue's use of a partition: nothing where the configuration has no such queue or
+/// no such partition.
+fn use_at(tables: &Tables, queue: &[Name], label: &Label) -> Option<Use>
+    requires { IsKept tables.now }
+    ensures { IfSome result (λ kept. kept ≡ use_of (state_of tables.now) label.now queue.now) }
+{
+    match partition_row(&tables.partitions, label) {
+        Some(row) => match tables.numbers.number(queue) {
+            Some(number) => Some(row.uses[number]),
+            None => None,
+        },
+        None => None,
+    }
+}
+
+/// What a queue uses of a partition, or one user, the masters or the guests in it, by the containers
+/// there.
+fn sum_of(tables: &Tables, queue: &[Name], counted: Counted<'_>, label: &Label) -> Resource
+    requires { IsBounded (state_of tables.now) }
+    ensures value { result ≡ sizes (filter (is_counted (state_of tables.now).leaves queue.now counted.entry) (containers_on (state_of tables.now) label.now)) }
+    ensures small { IsTotal result }
+{
+    let containers = containers_at(&tables.partitions, label);
+    used_by(&tables.leaves, queue, counted, containers)
+}
 
 /// What a queue uses of a partition.
 #[tactic(auto, unfolding(ynl_model::specs::Cluster::used))]
 pub fn used(tables: &Tables, queue: &[Name], label: &Label) -> Resource
-    requires { IsBounded (state_of tables.now) }
+    requires { IsReadable tables.now }
     ensures value { result ≡ used (state_of tables.now) queue.now label.now }
     ensures small { IsTotal result }
 {
-    let containers = containers_at(&tables.partitions, label);
-    used_by(&tables.leaves, queue, Counted::Everyone, containers)
+    match use_at(tables, queue, label) {
+        Some(kept) => kept.used,
+        None => sum_of(tables, queue, Counted::Everyone, label),
+    }
 }
 
 /// What a user uses of a partition in a queue.
@@ -31,32 +63,36 @@ pub fn user_used(tables: &Tables, queue: &[Name], user: &Name, label: &Label) ->
     ensures value { result ≡ user_used (state_of tables.now) queue.now user.now label.now }
     ensures small { IsTotal result }
 {
-    let containers = containers_at(&tables.partitions, label);
-    used_by(&tables.leaves, queue, Counted::User(user), containers)
+    sum_of(tables, queue, Counted::User(user), label)
 }
 
 /// What the masters of a queue use of a partition.
 #[tactic(auto, unfolding(ynl_model::specs::Cluster::masters_used))]
 pub fn masters_used(tables: &Tables, queue: &[Name], label: &Label) -> Resource
-    requires { IsBounded (state_of tables.now) }
+    requires { IsReadable tables.now }
     ensures value { result ≡ masters_used (state_of tables.now) queue.now label.now }
     ensures small { IsTotal result }
 {
-    let containers = containers_at(&tables.partitions, label);
-    used_by(&tables.leaves, queue, Counted::Masters, containers)
+    match use_at(tables, queue, label) {
+        Some(kept) => kept.masters,
+        None => sum_of(tables, queue, Counted::Masters, label),
+    }
 }
 
 /// What the guests of a queue use of a partition.
 #[tactic(auto, unfolding(ynl_model::specs::Cluster::guests))]
 pub fn guests(tables: &Tables, queue: &[Name], label: &Label) -> Resource
-    requires { IsBounded (state_of tables.now) }
+    requires { IsReadable tables.now }
     ensures { result ≡ guests (state_of tables.now) queue.now label.now }
 {
-    let containers = containers_at(&tables.partitions, label);
-    used_by(&tables.leaves, queue, Counted::Guests, containers)
+    match use_at(tables, queue, label) {
+        Some(kept) => kept.guests,
+        None => sum_of(tables, queue, Counted::Guests, label),
+    }
 }
 
-fn has_counted_master(tables: &Tables, leaf: &[Name], label: &Label) -> bool
+/// Whether any of the containers on a partition is a master that counts in the use of a leaf.
+fn any_master(tables: &Tables, leaf: &[Name], label: &Label) -> bool
     ensures { result ≡ list_any is_master (counted (state_of tables.now) leaf.now label.now) }
 {
     containers_at(&tables.partitions, label)
@@ -65,8 +101,19 @@ fn has_counted_master(tables: &Tables, leaf: &[Name], label: &Label) -> bool
         .any(is_master)
 }
 
+fn has_counted_master(tables: &Tables, leaf: &[Name], label: &Label) -> bool
+    requires { IsKept tables.now }
+    ensures { result ≡ list_any is_master (counted (state_of tables.now) leaf.now label.now) }
+{
+    match use_at(tables, leaf, label) {
+        Some(kept) => kept.master_count > 0,
+        None => any_master(tables, leaf, label),
+    }
+}
+
 /// Whether no master of the leaf holds a container on the partition.
 pub fn no_master_in(tables: &Tables, leaf: &[Name], label: &Label) -> bool
+    requires { IsReadable tables.now }
     ensures { result ≡ no_master_in (state_of tables.now) leaf.now label.now }
 {
     !has_counted_master(tables, leaf, label)

@@ -4,7 +4,7 @@ ghost use Rattle.std.specs.Prelude.{◌≡◌, IsTrue};
 ghost use Rattle.ynl_resource.specs.Names.{same_name, tenant_of};
 
 use std::marker::Model;
-use ynl_model::{AskRow, Placed};
+use ynl_model::{AskRow, Placed, Use};
 use ynl_resource::{Label, Name, Path, Size};
 
 /// A live application of a leaf; the leaf's path stands in the leaf's row.
@@ -28,10 +28,19 @@ pub struct LeafRow {
     ghost of_tenant: { IsTrue (same_name tenant (tenant_of path)) },
 }
 
-/// A partition: its clock, and the containers on it in the order in which they were placed.
+/// A partition: its clock, the containers on it in the order in which they were placed, and what each
+/// queue uses by them, by the queue's number.
 #[derive(Drop)]
 pub struct PartitionRow {
     pub label: Label,
     pub clock: u64,
     pub containers: Vec<Placed>,
+    pub uses: Vec<Use>,
+}
+
+/// The numbers of root and of the queues on the way to a queue, itself among them.
+#[derive(Drop)]
+pub struct Way {
+    pub queue: Path,
+    pub numbers: Vec<usize>,
 }

@@ -9,6 +9,7 @@ ghost use Rattle.ynl_model.specs.Applications.{row_of, apps_of};
 ghost use Rattle.ynl_model.specs.Cluster.{is_partition};
 ghost use Rattle.ynl_tables.specs.Tables.{leaf_of_row, leaves_of, partition_of, partitions_of, app_of};
 
+use crate::numbers::QueueNumbers;
 use crate::rows::{App, LeafRow, PartitionRow};
 use ynl_controls::{Maxima, Stops};
 use ynl_model::{Node, Placed};
@@ -22,6 +23,7 @@ pub struct Tables {
     pub leaves: Vec<LeafRow>,
     pub stops: Stops,
     pub maxima: Maxima,
+    pub numbers: QueueNumbers,
 }
 
 /// Whether two labels name the same partition.
@@ -56,7 +58,8 @@ pub fn is_full(nodes: &[Node], label: &Label) -> bool
 
 // ---- partitions
 
-fn partition_row<'a>(rows: &'a [PartitionRow], label: &Label) -> Option<&'a PartitionRow>
+/// The row of a partition, as it is kept.
+pub fn partition_row<'a>(rows: &'a [PartitionRow], label: &Label) -> Option<&'a PartitionRow>
     ensures { option_map (λ r. r.now) result ≡ find (λ row. same_label row.label label.now) rows.now }
 {
     rows.iter().find(|row| row.label == *label)

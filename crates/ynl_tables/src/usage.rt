@@ -2,7 +2,7 @@
 
 ghost use Rattle.std.specs.Prelude.{◌≡◌};
 ghost use Rattle.ynl_model.specs.Events.{usage};
-ghost use Rattle.ynl_tables.specs.Bounds.{IsBounded};
+ghost use Rattle.ynl_tables.specs.Bounds.{IsReadable};
 ghost use Rattle.ynl_tables.specs.Tables.{state_of};
 
 use crate::queue_use::{guests, masters_used, used};
@@ -16,7 +16,7 @@ use ynl_resource::{Label, Path};
 /// use there.
 #[tactic(auto, unfolding(ynl_model::specs::Events::usage, ynl_model::specs::Cluster::guaranteed, ynl_model::specs::Cluster::maximum))]
 pub fn usage_of(config: &Config, tables: &Tables, queue: &Path, label: &Label) -> Reply
-    requires { IsBounded (state_of tables.now) }
+    requires { IsReadable tables.now }
     ensures { result ≡ usage config.now (state_of tables.now) queue.now label.now }
 {
     let names = queue.names();

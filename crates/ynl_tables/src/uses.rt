@@ -7,7 +7,8 @@ ghost use Rattle.ynl_model.specs.Nodes.{total};
 ghost use Rattle.ynl_model.specs.Cluster.{is_master, is_guest_on, is_below, sizes};
 ghost use Rattle.ynl_tables.specs.Tables.{leaves_of};
 ghost use Rattle.ynl_tables.specs.Bounds.{IsTotal};
-ghost use Rattle.ynl_tables.specs.Uses.{counts, of_user, is_counted};
+ghost use Rattle.ynl_laws.specs.Uses.{counts};
+ghost use Rattle.ynl_tables.specs.Uses.{of_user, is_counted};
 
 use crate::rows::{App, LeafRow};
 use crate::tables::{is_same, leaf_row_of};

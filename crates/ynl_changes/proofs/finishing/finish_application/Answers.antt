@@ -1,28 +1,40 @@
-use Rattle.std.proofs.Common.{◌≡◌, map, sym, ap, ◌∙◌}
+use Rattle.std.proofs.Common.{◌≡◌, List, map, sym, ap, subst, ◌∙◌}
 use Rattle.ynl_resource.specs.Names.{tenant_of}
 use Rattle.ynl_resource.specs.declared.names.Name.{Name}
-use Rattle.ynl_model.specs.Applications.{Application, in_leaf, finished}
+use Rattle.ynl_model.specs.Applications.{Application, LeafApps, in_leaf, finished}
 use Rattle.ynl_model.specs.Cluster.{State}
 use Rattle.ynl_model.specs.Changes.{all_own, all_end, app_finishes}
 use Rattle.ynl_laws.specs.Finishing.{clocks_rise, without_own, all_without_own}
 use Rattle.ynl_laws.proofs.Lives.Finished.{own-end}
+use Rattle.ynl_laws.proofs.Events.Kept.{finished-names}
+use Rattle.ynl_tables.specs.declared.rows.LeafRow.{LeafRow}
+use Rattle.ynl_tables.specs.Kept.{AreKept}
 use Rattle.ynl_tables.specs.Tables.{state_of, leaves_of, partitions_of}
 use Rattle.ynl_changes.proofs.Own.{leaves_stay}
+use Rattle.ynl_changes.proofs.Summing.{kept_leaf}
 use Rattle.ynl_changes.proofs.finishing.finish_application.Goals as goal
 
-pub returns : goal.returns
+pub returns-clause-state : goal.returns-clause-state
 unfolding app_finishes
-returns c = λ (app : Application) leaf name.
+returns-clause-state c = λ (app : Application) leaf name.
     let config = c.args.config.now in
     let s : State = state_of c.args.tables.now in
     let tenant : Name = tenant_of app.leaf in
     let z : State = clocks_rise config (all_own s tenant app.name) s in
     let bytes : c.tenant_bytes-tenant.result.now ≡ tenant = c.tenant_bytes-tenant.ensures ∙ ap tenant_of (sym leaf) in
-    let risen : state_of c.raise_clocks.new.tables ≡ z = c.raise_clocks.ensures ∙ (λ i. clocks_rise config (all_own s (bytes i) (sym name i)) s) in
+    let risen : state_of c.raise_clocks.new.tables ≡ z = c.raise_clocks.ensures.state ∙ (λ i. clocks_rise config (all_own s (bytes i) (sym name i)) s) in
     let rows : partitions_of c.drop_all_own.new.rows.items ≡ map (without_own tenant app.name) z.partitions =
-    c.drop_all_own.ensures ∙ (λ i. map (without_own (bytes i) (sym name i)) (risen i).partitions) in
-    let ended : all_end config (all_own s tenant app.name) s ≡ all_without_own tenant app.name z = own-end config s tenant app.name c.requires in
+    c.drop_all_own.ensures.meaning ∙ (λ i. map (without_own (bytes i) (sym name i)) (risen i).partitions) in
+    let ended : all_end config (all_own s tenant app.name) s ≡ all_without_own tenant app.name z = own-end config s tenant app.name c.requires.ordered in
     let leaves : leaves_of c.finish_in.new.rows.items ≡ in_leaf app.leaf (finished app.name) z.leaves =
     c.finish_in.ensures ∙ (λ i. in_leaf (sym leaf i) (finished (sym name i)) (risen i).leaves) in
     (λ i. record (risen i) { partitions = rows i; leaves = leaves i })
     ∙ (λ i. record (sym ended i) { leaves = in_leaf app.leaf (finished app.name) (leaves_stay config (all_own s tenant app.name) s i) })
+
+pub returns-clause-kept : goal.returns-clause-kept
+returns-clause-kept c =
+    let leaves = leaves_of c.raise_clocks.new.tables.leaves.items in
+    let change = finished c.args.name.now in
+    subst (λ (leaves : List LeafApps). AreKept c.raise_clocks.new.tables.numbers leaves c.drop_all_own.new.rows.items) (sym c.finish_in.ensures)
+    (kept_leaf c.raise_clocks.new.tables.numbers c.args.leaf.now change (finished-names c.args.name.now) leaves c.drop_all_own.new.rows.items
+    (subst (λ (rows : List LeafRow). AreKept c.raise_clocks.new.tables.numbers (leaves_of rows) c.drop_all_own.new.rows.items) c.deref.ensures.value c.drop_all_own.ensures.kept))

@@ -16,8 +16,12 @@ loop-row-preserved c =
     let i = c.loop-row.row in
     let so_far : List Placed = flat_map (λ row. filter own row.containers) (take i old.partitions) in
     let same : containers_at_place now.partitions i ≡ containers_at_place old.partitions i =
-    ap (λ (s : State). containers_at_place s.partitions i) c.loop-row.invariant ∙ places_stay config so_far old i in
-    c.raise_clocks_of_row.ensures
-    ∙ ap (λ (xs : List Placed). clocks_rise config (filter own xs) now) same
-    ∙ ap (clocks_rise config (filter own (containers_at_place old.partitions i))) c.loop-row.invariant
-    ∙ sym (rows_more (clock_rises config) own old.partitions i old)
+    ap (λ (s : State). containers_at_place s.partitions i) c.loop-row.invariant.state ∙ places_stay config so_far old i in
+    record {
+      state =
+          c.raise_clocks_of_row.ensures.state
+          ∙ ap (λ (xs : List Placed). clocks_rise config (filter own xs) now) same
+          ∙ ap (clocks_rise config (filter own (containers_at_place old.partitions i))) c.loop-row.invariant.state
+          ∙ sym (rows_more (clock_rises config) own old.partitions i old);
+      kept = λ h. c.raise_clocks_of_row.ensures.kept (c.loop-row.invariant.kept h);
+    }

@@ -17,8 +17,12 @@ loop-place-preserved c =
     let place = c.loop-place.place in
     let ks : List Placed = containers_at_place old.partitions c.args.row in
     let same : containers_at_place now.partitions c.args.row ≡ ks =
-    ap (λ (s : State). containers_at_place s.partitions c.args.row) c.loop-place.invariant ∙ places_stay config (filter own (take place ks)) old c.args.row in
-    c.raise_clock_at.ensures
-    ∙ ap (λ (xs : List Placed). option_map_or (λ k. cond (own k) (clock_rises config now k) now) (slice_get xs place) now) same
-    ∙ ap (λ (s : State). option_map_or (λ k. cond (own k) (clock_rises config s k) s) (slice_get ks place) s) c.loop-place.invariant
-    ∙ sym (fold_more (clock_rises config) own ks place old)
+    ap (λ (s : State). containers_at_place s.partitions c.args.row) c.loop-place.invariant.state ∙ places_stay config (filter own (take place ks)) old c.args.row in
+    record {
+      state =
+          c.raise_clock_at.ensures.state
+          ∙ ap (λ (xs : List Placed). option_map_or (λ k. cond (own k) (clock_rises config now k) now) (slice_get xs place) now) same
+          ∙ ap (λ (s : State). option_map_or (λ k. cond (own k) (clock_rises config s k) s) (slice_get ks place) s) c.loop-place.invariant.state
+          ∙ sym (fold_more (clock_rises config) own ks place old);
+      kept = λ h. c.raise_clock_at.ensures.kept (c.loop-place.invariant.kept h);
+    }

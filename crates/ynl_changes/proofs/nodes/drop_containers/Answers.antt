@@ -1,8 +1,27 @@
-use Rattle.ynl_tables.specs.Tables.{partition_of}
+use Rattle.std.proofs.Common.{◌<◌, length, ap, ◌∙◌, arith}
 use Rattle.ynl_changes.specs.Rows.{in_row, emptied}
-use Rattle.ynl_changes.proofs.InPlace.{changed_step}
+use Rattle.ynl_laws.proofs.Lists.{all-of}
+use Rattle.ynl_tables.specs.Kept.{IsSummed, AreSummed}
+use Rattle.ynl_tables.specs.Tables.{leaves_of, partition_of}
+use Rattle.ynl_changes.proofs.InPlace.{changed_step, each_set, whole_kept}
 use Rattle.ynl_changes.proofs.nodes.drop_containers.Goals as goal
 
+pub drop_in-requires-clause-summed : goal.drop_in-requires-clause-summed
+drop_in-requires-clause-summed c =
+    let inside : c.loop-row.row-index < length c.loop-row.row-items = omega (arith, c.loop-row.invariant.changed.len) in
+    all-of (IsSummed c.args.numbers.now (leaves_of c.args.leaves.now)) c.loop-row.row-items c.loop-row.invariant.summed c.loop-row.row-index c.row-item.result inside
+
 pub loop-row-preserved : goal.loop-row-preserved
-loop-row-preserved c =
-    changed_step partition_of (in_row c.args.label.now (emptied c.args.node.now)) _ _ _ c.loop-row.invariant c.row-item.result c.drop_in.new.row c.loop-row-test.true c.row-item.is c.drop_in.ensures
+loop-row-preserved c = record {
+  changed = changed_step partition_of (in_row c.args.label.now (emptied c.args.node.now)) _ _ _ c.loop-row.invariant.changed c.row-item.result c.drop_in.new.row c.loop-row-test.true c.row-item.is c.drop_in.ensures.meaning;
+  summed = each_set (IsSummed c.args.numbers.now (leaves_of c.args.leaves.now)) c.loop-row.row-items c.loop-row.row-index c.drop_in.new.row c.loop-row.invariant.summed c.drop_in.ensures.summed;
+}
+
+pub returns-clause-kept : goal.returns-clause-kept
+returns-clause-kept c =
+    let items = c.loop-row.row-items in
+    let same = c.loop-row.auto.row-items ∙ ap length c.deref_mut-row-items.ensures.value in
+    record {
+      numbered = c.requires.numbered;
+      summed = whole_kept (AreSummed c.args.numbers.now (leaves_of c.args.leaves.now)) c.args.rows.now.len items c.args.rows.now.items same c.args.rows.now.ok.0 c.loop-row.invariant.summed;
+    }

@@ -16,8 +16,8 @@ returns-in_default-clause-placed c =
     let s = state_of c.loop-i.tables in
     placed_done _ s c.loop-i.placed.items _ (beat_none c.args.config.now c.args.node.now (c.args.times - c.loop-i._i) s (sym c.next_request.ensures ∙ c.in_default.is)) c.loop-i.invariant.placed
 
-pub place-container-requires : goal.place-container-requires
-place-container-requires c =
+pub place-container-requires-clause-capacity : goal.place-container-requires-clause-capacity
+place-container-requires-clause-capacity c =
     let some : 1 ≤ c.args.times - c.loop-i._i = omega arith in
     less_capacity c.args.node.now.label 1 (c.args.times - c.loop-i._i) some c.loop-i.tables.partitions.items c.loop-i.invariant.capacity
 
@@ -34,6 +34,7 @@ loop-i-preserved c =
     let moved = c.place-container.ensures.state in
     record {
       working = working_next config s new node c.in-Some.request c.loop-i.invariant.working c.loop-i.invariant.stands f moved;
+      kept = c.place-container.ensures.kept;
       stands = stands_next config s new node c.in-Some.request c.loop-i.invariant.stands moved;
       capacity = c.place-container.ensures.capacity k (subst (λ (n : ℕ). HasCapacity node.label n c.loop-i.tables.partitions.items) (let g : m ≡ k + 1 = omega arith in g) c.loop-i.invariant.capacity);
       reply_capacity = omega arith;

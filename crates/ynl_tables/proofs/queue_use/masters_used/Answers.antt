@@ -1,19 +1,15 @@
-use Rattle.std.proofs.Common.{◌≡◌, List, [], filter, find, ap, ◌∙◌}
-use Rattle.std.specs.Option.{option_map_or}
-use Rattle.ynl_model.specs.Cluster.{sizes, containers_on, is_partition, is_master, masters_used}
-use Rattle.ynl_tables.specs.declared.rows.PartitionRow.{PartitionRow}
-use Rattle.ynl_tables.specs.declared.uses.Counted.TheVariants.{Masters}
-use Rattle.ynl_tables.specs.Tables.{state_of, leaves_of, partitions_of}
-use Rattle.ynl_tables.specs.Uses.{counts, is_counted}
+use Rattle.std.proofs.Common.{ap, ◌∙◌}
+use Rattle.ynl_model.specs.Cluster.{sizes, containers_on, is_master, masters_used}
+use Rattle.ynl_laws.specs.Uses.{counts}
+use Rattle.ynl_tables.specs.Tables.{state_of}
 use Rattle.ynl_tables.proofs.Filters.{filter_and}
+use Rattle.ynl_tables.proofs.Kept.{masters_small}
 use Rattle.ynl_tables.proofs.queue_use.masters_used.Goals as goal
 
-pub returns-clause-value : goal.returns-clause-value
+pub returns-in-Some-clause-small : goal.returns-in-Some-clause-small
+returns-in-Some-clause-small c = masters_small (state_of c.args.tables.now) c.args.label.now c.args.queue.now c.in-Some.kept c.requires.bounded c.in-Some.ensures
+
+pub returns-in-None-clause-value : goal.returns-in-None-clause-value
 unfolding masters_used
-returns-clause-value c =
-    let t = c.args.tables.now in
-    let found : c.containers_at-containers.result.now ≡ containers_on (state_of t) c.args.label.now =
-    c.containers_at-containers.ensures ∙ ap (λ (rows : List PartitionRow). option_map_or (λ row. row.containers) (find (is_partition c.args.label.now) (partitions_of rows)) []) c.deref.ensures.value in
-    c.used_by.ensures.value
-    ∙ (λ i. sizes (filter (is_counted (leaves_of (c.deref-2.ensures.value i)) c.args.queue.now Masters) (found i)))
-    ∙ ap sizes (filter_and (counts (leaves_of t.leaves.items) c.args.queue.now) (is_master) (containers_on (state_of t) c.args.label.now))
+returns-in-None-clause-value c =
+    let s = state_of c.args.tables.now in c.sum_of.ensures.value ∙ ap sizes (filter_and (counts s.leaves c.args.queue.now) is_master (containers_on s c.args.label.now))

@@ -1,10 +1,8 @@
-use Rattle.std.proofs.Common.{◌≡◌, List, [], filter, find, ap, ◌∙◌}
-use Rattle.std.specs.Option.{option_map_or}
-use Rattle.ynl_model.specs.Cluster.{sizes, containers_on, is_partition, user_used}
-use Rattle.ynl_tables.specs.declared.rows.PartitionRow.{PartitionRow}
-use Rattle.ynl_tables.specs.declared.uses.Counted.TheVariants.{User}
-use Rattle.ynl_tables.specs.Tables.{state_of, leaves_of, partitions_of}
-use Rattle.ynl_tables.specs.Uses.{counts, is_counted, of_user}
+use Rattle.std.proofs.Common.{ap, ◌∙◌}
+use Rattle.ynl_model.specs.Cluster.{sizes, containers_on, user_used}
+use Rattle.ynl_laws.specs.Uses.{counts}
+use Rattle.ynl_tables.specs.Tables.{state_of, leaves_of}
+use Rattle.ynl_tables.specs.Uses.{of_user}
 use Rattle.ynl_tables.proofs.Filters.{filter_and}
 use Rattle.ynl_tables.proofs.queue_use.user_used.Goals as goal
 
@@ -12,8 +10,5 @@ pub returns-clause-value : goal.returns-clause-value
 unfolding user_used
 returns-clause-value c =
     let t = c.args.tables.now in
-    let found : c.containers_at-containers.result.now ≡ containers_on (state_of t) c.args.label.now =
-    c.containers_at-containers.ensures ∙ ap (λ (rows : List PartitionRow). option_map_or (λ row. row.containers) (find (is_partition c.args.label.now) (partitions_of rows)) []) c.deref.ensures.value in
-    c.used_by.ensures.value
-    ∙ (λ i. sizes (filter (is_counted (leaves_of (c.deref-2.ensures.value i)) c.args.queue.now (User c.args.user)) (found i)))
+    c.sum_of.ensures.value
     ∙ ap sizes (filter_and (counts (leaves_of t.leaves.items) c.args.queue.now) (of_user c.args.user.now (leaves_of t.leaves.items)) (containers_on (state_of t) c.args.label.now))

@@ -1,18 +1,19 @@
-use Rattle.std.proofs.Common.{◌≡◌, Option, Some, None, rules, sym, ap, subst, ◌∙◌}
+use Rattle.std.proofs.Common.{◌≡◌, List, Option, Some, None, rules, sym, ap, subst, ◌∙◌}
 use Rattle.std.specs.Prelude.{option_map}
 use Rattle.std.specs.Option.{option_map_or}
-use Rattle.ynl_resource.specs.Amounts.{IsSize}
 use Rattle.ynl_resource.specs.declared.paths.Path.{Path}
 use Rattle.ynl_model.specs.declared.events.Event.{Event}
 use Rattle.ynl_model.specs.declared.events.Event.TheVariants.{Ask}
 use Rattle.ynl_model.specs.declared.replies.Reply.TheVariants.{Done}
 use Rattle.ynl_model.specs.Applications.{Application, LeafApps, find_app, in_leaf, with_app, set_ask}
-use Rattle.ynl_model.specs.declared.applications.AskRow.{AskRow}
 use Rattle.ynl_model.specs.Cluster.{State}
 use Rattle.ynl_model.specs.Events.{Outcome, done, step, accepted}
 use Rattle.ynl_laws.specs.Working.{IsWorking}
+use Rattle.ynl_laws.proofs.Events.Kept.{with_app-names}
 use Rattle.ynl_laws.proofs.Soundness.Working.{working-step}
+use Rattle.ynl_tables.specs.Kept.{AreKept}
 use Rattle.ynl_tables.specs.Tables.{state_of, leaves_of, partitions_of}
+use Rattle.ynl_changes.proofs.Summing.{kept_leaf}
 use Rattle.ynl_core.specs.World.{World, Answers}
 use Rattle.ynl_core.proofs.Stepping.{taken_in, none_rests}
 use Rattle.ynl_core.proofs.cluster.Core.ask.Goals as goal
@@ -39,7 +40,15 @@ pub invariant_of-self-2 : goal.invariant_of-self-2
 invariant_of-self-2 c =
     let config = c.self.inside.config in
     let event : Event = Ask c.args.tenant c.args.name c.args.ask.label c.args.ask.priority c.args.ask.count c.args.ask.size in
-    none_rests config _ _ (search rules) (subst (IsWorking config) (ap (λ (o : Outcome). o.state) (stepped c)) (working-step config (state_of c.self.inside.tables) event c.amount-sized.ensures.range c.self.invariant.working))
+    let change : LeafApps → LeafApps = with_app c.args.name (set_ask c.args.ask) in
+    let leaves : leaves_of c.ask_for.new.rows.items ≡ in_leaf c.in-Ok.leaf change (leaves_of c.self.inside.tables.leaves.items) = c.ask_for.ensures ∙ ap (in_leaf c.in-Ok.leaf change) c.reserve_ask.ensures.meaning in
+    let numbers = c.self.inside.tables.numbers in
+    let rows = c.self.inside.tables.partitions.items in
+    record {
+      sound = none_rests config _ _ (search rules) (subst (IsWorking config) (ap (λ (o : Outcome). o.state) (stepped c)) (working-step config (state_of c.self.inside.tables) event c.amount-sized.ensures.range c.self.invariant.sound.working));
+      kept = subst (λ (leaves : List LeafApps). AreKept numbers leaves rows) (sym leaves)
+          (kept_leaf numbers c.in-Ok.leaf change (with_app-names c.args.name (set_ask c.args.ask)) (leaves_of c.self.inside.tables.leaves.items) rows c.self.invariant.kept);
+    }
 
 pub returns-clause-ok : goal.returns-clause-ok
 returns-clause-ok c =

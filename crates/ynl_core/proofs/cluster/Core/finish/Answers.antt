@@ -19,14 +19,14 @@ stepped c =
     let s : State = state_of c.self.inside.tables in
     let app : Application = app_of c.in-Ok.live.leaf.now c.in-Ok.live.app.now in
     let found : find_app s.leaves c.args.tenant c.args.name ≡ Some app = c.in-Ok.ensures.live in
-    let moved = c.finish_application.ensures app refl refl in
+    let moved = c.finish_application.ensures.state app refl refl in
     taken_in c.self.inside.config s (Finish c.args.tenant c.args.name) (c.in-Ok.ensures.free c.self.inside.config) ∙ rw found (ap done (sym moved))
 
 pub invariant_of-self : goal.invariant_of-self
 invariant_of-self c =
     let config = c.self.inside.config in
     let event : Event = Finish c.args.tenant c.args.name in
-    none_rests config _ _ (search rules) (subst (IsWorking config) (ap (λ (o : Outcome). o.state) (stepped c)) (working-step config (state_of c.self.inside.tables) event tt c.self.invariant.working))
+    record { sound = none_rests config _ _ (search rules) (subst (IsWorking config) (ap (λ (o : Outcome). o.state) (stepped c)) (working-step config (state_of c.self.inside.tables) event tt c.self.invariant.sound.working)); kept = c.finish_application.ensures.kept }
 
 pub returns : goal.returns
 returns c =

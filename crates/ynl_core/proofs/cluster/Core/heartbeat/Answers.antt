@@ -1,9 +1,9 @@
-use Rattle.std.proofs.Common.{◌≡◌, ◌<◌, [], Some, rules, sym, ap, subst, ◌∙◌}
+use Rattle.std.proofs.Common.{◌≡◌, ◌<◌, List, [], Some, rules, sym, ap, subst, ◌∙◌}
 use Rattle.ynl_model.specs.declared.events.Event.{Event}
 use Rattle.ynl_model.specs.declared.events.Event.TheVariants.{Heartbeat}
 use Rattle.ynl_model.specs.declared.replies.Reply.TheVariants.{Placed}
 use Rattle.ynl_model.specs.Nodes.{find_node}
-use Rattle.ynl_model.specs.Cluster.{State}
+use Rattle.ynl_model.specs.Cluster.{State, Partition}
 use Rattle.ynl_model.specs.Changes.{beat}
 use Rattle.ynl_model.specs.Events.{Outcome, step, accepted}
 use Rattle.ynl_laws.specs.Working.{IsWorking}
@@ -17,6 +17,9 @@ use Rattle.ynl_core.proofs.Idle.{empty_items, unplaced_more, unplaced_rests, unp
 use Rattle.ynl_core.proofs.Stepping.{none_rests}
 use Rattle.ynl_core.proofs.cluster.Core.heartbeat.Goals as goal
 
+pub serve-requires-clause-kept : goal.serve-requires-clause-kept
+serve-requires-clause-kept c = record { numbered = c.self.invariant.kept.numbered; summed = c.reserve_containers.ensures.summed _ _ c.self.invariant.kept.summed }
+
 pub serve-requires-clause-stands : goal.serve-requires-clause-stands
 serve-requires-clause-stands c = stands-found (state_of c.self.inside.tables) c.args.name c.in-Ok.node (search rules)
 
@@ -27,7 +30,7 @@ invariant_of-self-else-is_empty c =
     let config = c.self.inside.config in
     let event : Event = Heartbeat c.args.name in
     let same : (step config old event).state ≡ state_of c.serve.new.tables = search rules in
-    none_rests config _ _ (search rules) (subst (IsWorking config) same (working-step config old event tt c.self.invariant.working))
+    record { sound = none_rests config _ _ (search rules) (subst (IsWorking config) same (working-step config old event tt c.self.invariant.sound.working)); kept = c.serve.ensures.kept }
 
 pub invariant_of-self-then-count-gt0 : goal.invariant_of-self-then-count-gt0
 invariant_of-self-then-count-gt0 c =
@@ -41,12 +44,15 @@ invariant_of-self-then-count-gt0 c =
     let nothing : c.serve.new.placed.items ≡ [] = empty_items c.serve.new.placed.items (search rules) in
     let unplaced : (beat config node times reserved).placed ≡ [] = unplaced_more (beat config node times reserved) c.in_ok-placed.placed.items c.serve.new.placed.items c.in_ok-placed.ensures.items c.serve.ensures.placed nothing in
     let inside : 0 < times = search rules in
-    let sound : IsSound config reserved c.self.inside.resting.items = subst (λ s. IsSound config s c.self.inside.resting.items) as_before c.self.invariant in
+    let sound : IsSound config reserved c.self.inside.resting.items = subst (λ s. IsSound config s c.self.inside.resting.items) as_before c.self.invariant.sound in
     let same : state_of c.serve.new.tables ≡ reserved = c.serve.ensures.state ∙ unplaced_same config node times reserved inside unplaced in
-    subst (λ s. IsSound config s c.rest.new.names.items) (sym same) (record {
-      working = sound.working;
-      resting = c.rest.ensures config reserved (unplaced_rests config reserved c.args.name node times found inside unplaced) sound.resting;
-    })
+    record {
+      sound = subst (λ s. IsSound config s c.rest.new.names.items) (sym same) (record {
+        working = sound.working;
+        resting = c.rest.ensures config reserved (unplaced_rests config reserved c.args.name node times found inside unplaced) sound.resting;
+      });
+      kept = c.serve.ensures.kept;
+    }
 
 pub returns-then-rests-clause-ok : goal.returns-then-rests-clause-ok
 returns-then-rests-clause-ok c =
@@ -54,10 +60,20 @@ returns-then-rests-clause-ok c =
     let node = c.in-Ok.node in
     let event : Event = Heartbeat c.args.name in
     let found : find_node old.state.nodes c.args.name ≡ Some node = search rules in
-    let none = c.rests.ensures (search rules) old.config old.state (subst (AreResting old.config old.state) (sym c.deref.ensures.value) c.self.invariant.resting) node found in
+    let none = c.rests.ensures (search rules) old.config old.state (subst (AreResting old.config old.state) (sym c.deref.ensures.value) c.self.invariant.sound.resting) node found in
     let same = resting_step old.config old.state c.args.name node c.in-Ok.ensures.free found none in
     let P : World → Type 0 = λ w. Answers w event w (Placed c.new-then-rests.result) in
     subst P c.self.view_is (record {
       told = ap Placed (c.new-then-rests.ensures ∙ c.new.ensures.items) ∙ sym (ap (λ (o : Outcome). o.reply) same);
       left = λ i. record { config = old.config; state = sym (ap (λ (o : Outcome). o.state) same) i };
     })
+
+-- where memory is refused all is as it was
+pub invariant_of-self : goal.invariant_of-self
+invariant_of-self c =
+    let tables = c.self.inside.tables in
+    let P : List Partition → Type 0 = λ rows. IsSound c.self.inside.config (record (state_of tables) { partitions = rows }) c.self.inside.resting.items in
+    record {
+      sound = subst P (sym c.reserve_containers.ensures.meaning) c.self.invariant.sound;
+      kept = record { numbered = c.self.invariant.kept.numbered; summed = c.reserve_containers.ensures.summed _ _ c.self.invariant.kept.summed };
+    }

@@ -5,4 +5,7 @@ use Rattle.ynl_core.proofs.Stepping.{none_rests}
 use Rattle.ynl_core.proofs.cluster.Core.open.Goals as goal
 
 pub invariant_of-result : goal.invariant_of-result
-invariant_of-result c = none_rests c.args.config _ _ (search rules) (subst (IsWorking c.args.config) (sym c.in_ok-tables.ensures) (working-opening c.args.config))
+invariant_of-result c = record {
+  sound = none_rests c.args.config _ _ (search rules) (subst (IsWorking c.args.config) (sym c.in_ok-tables.ensures.state) (working-opening c.args.config));
+  kept = c.in_ok-tables.ensures.kept;
+}

@@ -1,6 +1,5 @@
-use Rattle.ynl_tables.specs.Tables.{state_of}
-use Rattle.ynl_changes.proofs.Serves.{bounded}
+use Rattle.ynl_changes.proofs.Summing.{readable}
 use Rattle.ynl_core.proofs.cluster.Core.propose.Goals as goal
 
 pub propose-requires : goal.propose-requires
-propose-requires c = bounded c.self.inside.config (state_of c.self.inside.tables) c.self.invariant.working
+propose-requires c = readable c.self.inside.config c.self.inside.tables c.self.invariant.sound.working c.self.invariant.kept

@@ -15,4 +15,4 @@ invariant_of-self c =
     let config = c.self.inside.config in
     let event : Event = Release c.args.tenant c.args.id in
     let same : (step config (state_of tables) event).state ≡ state_of c.end.new.tables = search rules in
-    none_rests config _ _ (search rules) (subst (IsWorking config) same (working-step config (state_of tables) event tt c.self.invariant.working))
+    record { sound = none_rests config _ _ (search rules) (subst (IsWorking config) same (working-step config (state_of tables) event tt c.self.invariant.sound.working)); kept = c.end.ensures.kept }

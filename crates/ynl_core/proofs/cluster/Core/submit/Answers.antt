@@ -1,15 +1,32 @@
-use Rattle.std.proofs.Common.{◌≡◌, rules, sym, ap, subst, ◌∙◌}
+use Rattle.std.proofs.Common.{◌≡◌, false, List, Option, None, is_some, rules, sym, ap, subst, ◌∙◌}
+use Rattle.ynl_resource.specs.Names.{tenant_of}
+use Rattle.ynl_resource.specs.Refusals.{first_that_holds}
+use Rattle.ynl_resource.specs.declared.amounts.Resource.{Resource}
+use Rattle.ynl_resource.specs.declared.labels.Label.{Label}
+use Rattle.ynl_resource.specs.declared.names.Name.{Name}
+use Rattle.ynl_resource.specs.declared.paths.Path.{Path}
 use Rattle.ynl_model.specs.declared.events.Event.{Event}
 use Rattle.ynl_model.specs.declared.events.Event.TheVariants.{Submit}
 use Rattle.ynl_model.specs.declared.replies.Reply.TheVariants.{Done}
-use Rattle.ynl_model.specs.Applications.{in_leaf, submitted, new_app}
-use Rattle.ynl_model.specs.Events.{Outcome, done, step, accepted}
+use Rattle.ynl_model.specs.Queues.{Config}
+use Rattle.ynl_model.specs.Cluster.{State}
+use Rattle.ynl_model.specs.Applications.{Application, LeafApps, leaf_of, in_leaf, submitted, new_app}
+use Rattle.ynl_model.specs.Events.{Outcome, done, home_of, reasons, step, accepted}
 use Rattle.ynl_laws.specs.Working.{IsWorking}
+use Rattle.ynl_laws.proofs.Events.Chosen.{none-holds}
+use Rattle.ynl_laws.proofs.Events.Kept.{submit-extends}
 use Rattle.ynl_laws.proofs.Soundness.Working.{working-step}
+use Rattle.ynl_tables.specs.Kept.{AreKept}
 use Rattle.ynl_tables.specs.Tables.{state_of, leaves_of, partitions_of}
+use Rattle.ynl_changes.proofs.Summing.{kept_submission}
 use Rattle.ynl_core.specs.World.{World, Answers}
 use Rattle.ynl_core.proofs.Stepping.{taken_in, none_rests}
 use Rattle.ynl_core.proofs.cluster.Core.submit.Goals as goal
+
+-- a name that is submitted was not used
+unused : (c : Config) (s : State) (queue : Path) (app user : Name) (label : Option Label) (master : Resource) → first_that_holds (reasons c s (Submit queue app user label master)) ≡ None → is_some (leaf_of s.leaves (tenant_of queue) app) ≡ false
+unfolding reasons
+unused c s queue app user label master none = (none-holds (reasons c s (Submit queue app user label master)) none).1.1.1.1.1.1.0
 
 -- the step is the submission
 stepped : (c : goal.After-clear) → (step c.self.inside.config (state_of c.self.inside.tables) (Submit c.args.queue c.args.app c.args.user c.args.label c.args.master))
@@ -27,7 +44,17 @@ pub invariant_of-self-2 : goal.invariant_of-self-2
 invariant_of-self-2 c =
     let config = c.self.inside.config in
     let event : Event = Submit c.args.queue c.args.app c.args.user c.args.label c.args.master in
-    none_rests config _ _ (search rules) (subst (IsWorking config) (ap (λ (o : Outcome). o.state) (stepped c)) (working-step config (state_of c.self.inside.tables) event c.amount-sized.ensures.range c.self.invariant.working))
+    let s : State = state_of c.self.inside.tables in
+    let app : Application = new_app c.args.queue c.args.app c.args.user (home_of config c.args.queue c.args.label) c.args.master in
+    let leaves : leaves_of c.submit.new.rows.items ≡ in_leaf c.args.queue (submitted app) s.leaves =
+    c.submit.ensures ∙ (λ i. in_leaf c.args.queue (submitted (new_app c.args.queue c.args.app c.args.user (c.in-Ok.ensures.home i) c.args.master)) (c.reserve_application.ensures.meaning i)) in
+    let numbers = c.self.inside.tables.numbers in
+    let rows = c.self.inside.tables.partitions.items in
+    record {
+      sound = none_rests config _ _ (search rules) (subst (IsWorking config) (ap (λ (o : Outcome). o.state) (stepped c)) (working-step config (state_of c.self.inside.tables) event c.amount-sized.ensures.range c.self.invariant.sound.working));
+      kept = subst (λ (leaves : List LeafApps). AreKept numbers leaves rows) (sym leaves)
+          (kept_submission numbers app s.leaves rows (submit-extends app s.leaves (unused config s c.args.queue c.args.app c.args.user c.args.label c.args.master (c.in-Ok.ensures.free c.args.user))) c.self.invariant.sound.working.kept.uses c.self.invariant.kept);
+    }
 
 pub returns-clause-ok : goal.returns-clause-ok
 returns-clause-ok c =

@@ -1,0 +1,152 @@
+-- What is kept of the use of queues, where containers come and go and leaves change.
+use Rattle.std.proofs.Common.{◌≡◌, ℕ, ◌+◌, ◌<◌, ◌≤◌, ◌^◌, Bool, true, false, not, cond, ◌||◌, List, [], ◌∷◌, ◌++◌, map, length, take, drop, get_or, filter, find, Some, refl, sym, ap, subst, ◌∙◌, arith, append-nil, append_assoc}
+use Rattle.std.specs.List.{AllByRecursion, list_any}
+use Rattle.std.specs.Option.{option_map_or}
+use Rattle.std.proofs.lemmas.List.{take_more, take_all, drop_more, drop_all, length-map}
+use Rattle.std.proofs.lemmas.List.Elements.{filter-append}
+use Rattle.ynl_resource.specs.declared.amounts.Resource.{Resource}
+use Rattle.ynl_resource.specs.Names.{root, same_path}
+use Rattle.ynl_resource.specs.declared.paths.Path.{Path}
+use Rattle.ynl_resource.specs.Tables.{without}
+use Rattle.ynl_model.specs.declared.containers.Placed.{Placed}
+use Rattle.ynl_model.specs.declared.uses.Use.{Use}
+use Rattle.ynl_model.specs.Queues.{Config, QueueRow, is_leaf}
+use Rattle.ynl_model.specs.Applications.{Application, LeafApps, in_leaf, submitted, no_apps}
+use Rattle.ynl_model.specs.Cluster.{Partition, is_partition, sizes, is_master}
+use Rattle.ynl_laws.specs.Working.{IsWorking, UsesAll, EachUses}
+use Rattle.ynl_laws.specs.Uses.{counts, counts_as_guest, use_by, raised_in, lowered_in}
+use Rattle.ynl_laws.proofs.Amounts.{fits-filter, fits-trans}
+use Rattle.ynl_laws.proofs.Events.Kept.{KeepsNames, Extends, leaf_of-kept}
+use Rattle.ynl_laws.proofs.Lists.{Each-all, Each-filter, Each-map, Each-unmap, Each-weaker, Each-with, any-later, map-update}
+use Rattle.ynl_laws.proofs.Totals.Used.{use-with, use-without, use-same, use-extends}
+use Rattle.ynl_tables.specs.declared.rows.PartitionRow.{PartitionRow}
+use Rattle.ynl_tables.specs.declared.tables.Tables.{Tables}
+use Rattle.ynl_tables.specs.Bounds.{IsReadable, IsTotal}
+use Rattle.ynl_tables.specs.Kept.{IsSummed, AreKept, IsKept}
+use Rattle.ynl_tables.specs.Numbers.{AreNumbered}
+use Rattle.ynl_tables.specs.Tables.{partition_of, partitions_of, state_of}
+use Rattle.ynl_tables.proofs.Adding.{small_part}
+use Rattle.ynl_tables.proofs.Numbering.{path_self}
+use Rattle.ynl_changes.specs.Cells.{IsSmallUse}
+use Rattle.ynl_changes.proofs.Serves.{bounded}
+
+-- maps that are the same at each thing
+pub map_each : {X Y : Type 0} (f g : X → Y) → ((x : X) → f x ≡ g x) → (xs : List X) → map f xs ≡ map g xs
+map_each f g same xs = λ i. map (λ x. same x i) xs
+
+-- ---- small amounts
+
+filter_fewer : {X : Type 0} (p : X → Bool) (xs : List X) → length (filter p xs) ≤ length xs
+filter_fewer p [] = omega arith
+filter_fewer {X = X} p (x ∷ xs) = go (p x) (filter_fewer p xs)
+  where
+    go : (b : Bool) → length (filter p xs) ≤ length xs → length (cond b (x ∷ filter p xs) (filter p xs)) ≤ length (x ∷ xs)
+    go true h = omega (arith, h)
+    go false h = omega (arith, h)
+
+use_small : (leaves : List LeafApps) (queue : Path) (xs : List Placed) → IsTotal (sizes xs) → length xs < 2 ^ 63 → IsSmallUse (use_by leaves queue xs)
+use_small leaves queue xs h few =
+    let size : Placed → Resource = λ k. k.size in
+    let counted : List Placed = filter (counts leaves queue) xs in
+    record {
+      used = small_part (sizes counted) (sizes counted) (sizes xs) refl (fits-filter size (counts leaves queue) xs) h;
+      masters = small_part (sizes (filter is_master counted)) (sizes (filter is_master counted)) (sizes xs) refl
+          (fits-trans (sizes (filter is_master counted)) (sizes counted) (sizes xs) (fits-filter size is_master counted) (fits-filter size (counts leaves queue) xs)) h;
+      master_count = omega (arith, few, filter_fewer is_master counted, filter_fewer (counts leaves queue) xs);
+      guests = small_part (sizes (filter (counts_as_guest leaves queue) xs)) (sizes (filter (counts_as_guest leaves queue) xs)) (sizes xs) refl (fits-filter size (counts_as_guest leaves queue) xs) h;
+    }
+
+-- what a row keeps is small
+pub small_uses : (queues : List Path) (leaves : List LeafApps) (row : PartitionRow) → IsSummed queues leaves row → IsTotal (sizes row.containers.items) → length row.containers.items < 2 ^ 63 → AllByRecursion IsSmallUse row.uses.items
+small_uses queues leaves row summed h few =
+    subst (AllByRecursion IsSmallUse) (sym summed)
+    (Each-map (λ queue. Unit {0}) IsSmallUse (λ queue. use_by leaves queue row.containers.items) (λ queue _. use_small leaves queue row.containers.items h few) (root ∷ queues) (Each-all (λ queue. Unit {0}) (λ queue. tt) (root ∷ queues)))
+
+pub uses_long : (queues : List Path) (leaves : List LeafApps) (row : PartitionRow) → IsSummed queues leaves row → length row.uses.items ≡ length (root ∷ queues)
+uses_long queues leaves row summed = ap length summed ∙ length-map (root ∷ queues) (λ queue. use_by leaves queue row.containers.items)
+
+-- in a state that works the containers of each row come to little
+pub rows_small : (c : Config) (t : Tables) → IsWorking c (state_of t) → AllByRecursion (λ row. IsTotal (sizes row.containers.items)) t.partitions.items
+rows_small c t w =
+    Each-unmap partition_of (λ row. IsTotal (sizes row.containers)) t.partitions.items
+    (Each-weaker (λ row. find (is_partition row.label) (partitions_of t.partitions.items) ≡ Some row) (λ row. IsTotal (sizes row.containers))
+    (λ row found. subst (λ o. IsTotal (sizes (option_map_or (λ (row : Partition). row.containers) o []))) found ((bounded c (state_of t) w).sizes row.label))
+    (partitions_of t.partitions.items) w.ordered.found)
+
+-- what is read of tables in a state that works
+pub readable : (c : Config) (t : Tables) → IsWorking c (state_of t) → IsKept t → IsReadable t
+readable c t w h = record { bounded = bounded c (state_of t) w; kept = h }
+
+-- ---- one container more, or less
+
+pub raised_all : (queues : List Path) (leaves : List LeafApps) (k : Placed) (old new : List Placed) (uses : List Use) → new ≡ old ++ k ∷ [] → uses ≡ map (λ queue. raised_in leaves queue k (use_by leaves queue old)) queues → uses ≡ map (λ queue. use_by leaves queue new) queues
+raised_all queues leaves k old new uses pushed e =
+    e ∙ map_each (λ queue. raised_in leaves queue k (use_by leaves queue old)) (λ queue. use_by leaves queue new)
+    (λ queue. sym (ap (use_by leaves queue) pushed ∙ use-with leaves queue old [] k ∙ ap (λ xs. raised_in leaves queue k (use_by leaves queue xs)) (append-nil old))) queues
+
+-- the first containers without those that go, and the rest
+abbrev pub so_far : (Placed → Bool) → List Placed → ℕ → List Placed
+so_far goes xs i = without goes (take i xs) ++ drop i xs
+
+drop_next : (xs : List Placed) (i : ℕ) (x : Placed) → i < length xs → x ≡ get_or xs i x → drop i xs ≡ x ∷ drop (i + 1) xs
+drop_next xs i x inside e = drop_more xs i x inside ∙ ap (λ z. z ∷ drop (i + 1) xs) (sym e)
+
+pub less_one : (leaves : List LeafApps) (queue : Path) (goes : Placed → Bool) (xs : List Placed) (i : ℕ) (x : Placed) → i < length xs → x ≡ get_or xs i x
+    → cond (goes x) (lowered_in leaves queue x (use_by leaves queue (so_far goes xs i))) (use_by leaves queue (so_far goes xs i)) ≡ use_by leaves queue (so_far goes xs (i + 1))
+less_one leaves queue goes xs i x inside e =
+    let front : List Placed = without goes (take i xs) in
+    let rest : List Placed = drop (i + 1) xs in
+    let here : so_far goes xs i ≡ front ++ x ∷ rest = ap (λ ys. front ++ ys) (drop_next xs i x inside e) in
+    let next : so_far goes xs (i + 1) ≡ (front ++ cond (not (goes x)) (x ∷ []) []) ++ rest =
+    ap (λ ys. without goes ys ++ rest) (take_more xs i x inside ∙ ap (λ z. take i xs ++ z ∷ []) (sym e)) ∙ ap (λ ys. ys ++ rest) (filter-append (λ k. not (goes k)) (take i xs) (x ∷ [])) in
+    ap (λ ys. cond (goes x) (lowered_in leaves queue x (use_by leaves queue ys)) (use_by leaves queue ys)) here ∙ go (goes x) front rest ∙ sym (ap (use_by leaves queue) next)
+  where
+    go : (b : Bool) (front rest : List Placed) → cond b (lowered_in leaves queue x (use_by leaves queue (front ++ x ∷ rest))) (use_by leaves queue (front ++ x ∷ rest)) ≡ use_by leaves queue ((front ++ cond (not b) (x ∷ []) []) ++ rest)
+    go true front rest = use-without leaves queue front rest x ∙ ap (use_by leaves queue) (ap (λ ys. ys ++ rest) (sym (append-nil front)))
+    go false front rest = ap (use_by leaves queue) (sym (append_assoc front (x ∷ []) rest))
+
+pub all_gone : (goes : Placed → Bool) (xs : List Placed) (i : ℕ) → length xs ≤ i → so_far goes xs i ≡ without goes xs
+all_gone goes xs i past = ap (λ ys. without goes (take i xs) ++ ys) (drop_all i xs past) ∙ append-nil (without goes (take i xs)) ∙ ap (without goes) (take_all i xs past)
+
+-- ---- leaves that change
+
+numbered_leaf : (queues : List Path) (leaf : Path) (change : LeafApps → LeafApps) → ((row : LeafApps) → (change row).leaf ≡ row.leaf) → (leaves : List LeafApps) → AreNumbered queues leaves → AreNumbered queues (in_leaf leaf change leaves)
+numbered_leaf queues leaf change same leaves h =
+    subst (AllByRecursion (λ leaf. list_any (same_path leaf) queues ≡ true)) (sym (map-update (λ (row : LeafApps). row.leaf) (λ row. same_path row.leaf leaf) change same leaves)) h
+
+-- a change of a leaf that keeps its name and the names used there
+pub kept_leaf : (queues : List Path) (leaf : Path) (change : LeafApps → LeafApps) → KeepsNames change → (leaves : List LeafApps) (rows : List PartitionRow) → AreKept queues leaves rows → AreKept queues (in_leaf leaf change leaves) rows
+kept_leaf queues leaf change names leaves rows h = record {
+  numbered = numbered_leaf queues leaf change names.leaf leaves h.numbered;
+  summed = Each-weaker (IsSummed queues leaves) (IsSummed queues (in_leaf leaf change leaves))
+      (λ row e. e ∙ map_each (λ queue. use_by leaves queue row.containers.items) (λ queue. use_by (in_leaf leaf change leaves) queue row.containers.items)
+      (λ queue. sym (use-same leaves (in_leaf leaf change leaves) (leaf_of-kept leaf change names leaves) queue row.containers.items)) (root ∷ queues)) rows h.summed;
+}
+
+-- a new application, whose name no container has
+pub kept_submission : (queues : List Path) (app : Application) (leaves : List LeafApps) (rows : List PartitionRow) → Extends leaves (in_leaf app.leaf (submitted app) leaves) → EachUses leaves (partitions_of rows) → AreKept queues leaves rows
+    → AreKept queues (in_leaf app.leaf (submitted app) leaves) rows
+kept_submission queues app leaves rows extends known h = record {
+  numbered = numbered_leaf queues app.leaf (submitted app) (λ row. refl) leaves h.numbered;
+  summed = Each-with (λ row. UsesAll leaves row.containers.items) (IsSummed queues leaves) (IsSummed queues (in_leaf app.leaf (submitted app) leaves))
+      (λ row all e. e ∙ map_each (λ queue. use_by leaves queue row.containers.items) (λ queue. use_by (in_leaf app.leaf (submitted app) leaves) queue row.containers.items)
+      (λ queue. sym (use-extends leaves (in_leaf app.leaf (submitted app) leaves) queue row.containers.items extends all)) (root ∷ queues)) rows (Each-unmap partition_of (λ row. UsesAll leaves row.containers) rows known) h.summed;
+}
+
+-- ---- at first
+
+each_listed : (rows : List QueueRow) → AllByRecursion (λ row. list_any (same_path row.path) (map (λ row. row.path) rows) ≡ true) rows
+each_listed [] = tt
+each_listed (row ∷ rows) = (
+  ap (λ b. b || list_any (same_path row.path) (map (λ row. row.path) rows)) (path_self row.path),
+  Each-weaker (λ other. list_any (same_path other.path) (map (λ row. row.path) rows) ≡ true) (λ other. list_any (same_path other.path) (map (λ row. row.path) (row ∷ rows)) ≡ true)
+      (λ other h. any-later (same_path other.path) row.path (map (λ row. row.path) rows) h) rows (each_listed rows),
+)
+
+-- each leaf of a configuration has a number
+pub numbered_first : (c : Config) → AreNumbered (map (λ row. row.path) c.queues) (no_apps c)
+numbered_first c =
+    let P : Path → Type 0 = λ leaf. list_any (same_path leaf) (map (λ row. row.path) c.queues) ≡ true in
+    Each-map (λ (row : LeafApps). P row.leaf) P (λ row. row.leaf) (λ row h. h) (no_apps c)
+    (Each-map (λ (row : QueueRow). P row.path) (λ (row : LeafApps). P row.leaf) _ (λ row h. h) (filter (λ row. is_leaf c row.path) c.queues)
+    (Each-filter (λ (row : QueueRow). P row.path) (λ row. is_leaf c row.path) c.queues (each_listed c.queues)))

@@ -1,0 +1,25 @@
+use Rattle.std.proofs.Common.{◌<◌, ◌^◌, List, ◌∷◌, length, sym, arith}
+use Rattle.ynl_resource.specs.Names.{root}
+use Rattle.ynl_resource.specs.declared.paths.Path.{Path}
+use Rattle.ynl_model.specs.declared.uses.Use.{Use}
+use Rattle.ynl_laws.specs.Uses.{use_by}
+use Rattle.ynl_tables.specs.Tables.{leaves_of}
+use Rattle.ynl_changes.proofs.Summing.{small_uses, uses_long, raised_all}
+use Rattle.ynl_changes.proofs.placing.put.Goals as goal
+
+pub raise-requires-clause-len : goal.raise-requires-clause-len
+raise-requires-clause-len c = uses_long c.args.numbers.now (leaves_of c.args.leaves.now) c.args.row.now c.requires.summed
+
+pub raise-requires-clause-small : goal.raise-requires-clause-small
+raise-requires-clause-small c =
+    let row = c.args.row.now in
+    let room = c.requires.capacity (sym c.if-is_same.ensures) in
+    let few : length row.containers.items < 2 ^ 63 = omega (arith, room, row.containers.ok.0, row.containers.small) in
+    small_uses c.args.numbers.now (leaves_of c.args.leaves.now) row c.requires.summed c.requires.small few
+
+pub returns-then-is_same-clause-summed : goal.returns-then-is_same-clause-summed
+returns-then-is_same-clause-summed c =
+    let leaves = leaves_of c.args.leaves.now in
+    let all : List Path = root ∷ c.args.numbers.now in
+    let before : Path → Use = λ queue. use_by leaves queue c.args.row.now.containers.items in
+    raised_all all leaves c.args.container.now c.args.row.now.containers.items c.push_copy.new.containers.items c.raise.new.uses.items c.push_copy.ensures.items (c.raise.ensures before c.requires.summed)

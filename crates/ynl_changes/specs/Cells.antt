@@ -1,0 +1,34 @@
+-- What is kept of the use of queues, with a container more or less. The queues that are named here are those below root.
+use Rattle.std.specs.Prelude.{◌≡◌, ◌<◌, ◌^◌, Bool, List, ◌∷◌, map, if◌then◌else◌}
+use Rattle.ynl_resource.specs.Names.{root, same_id, same_name}
+use Rattle.ynl_resource.specs.declared.paths.Path.{Path}
+use Rattle.ynl_model.specs.declared.containers.Placed.{Placed}
+use Rattle.ynl_model.specs.declared.uses.Use.{Use}
+use Rattle.ynl_model.specs.Applications.{LeafApps}
+use Rattle.ynl_model.specs.Cluster.{is_of}
+use Rattle.ynl_laws.specs.Uses.{raised_in, lowered_in}
+use Rattle.ynl_tables.specs.Bounds.{IsTotal}
+use Rattle.ynl_changes.specs.declared.ending.Going.{Going}
+use Rattle.ynl_changes.specs.declared.ending.Going.TheVariants.{OfId, OnNode, OfApp}
+
+-- small enough for one more container
+pub record IsSmallUse (u : Use) : Type 0 where
+  pub used : IsTotal u.used
+  pub masters : IsTotal u.masters
+  pub master_count : u.master_count < 2 ^ 63
+  pub guests : IsTotal u.guests
+
+-- whatever each queue used, it uses as much more as the container makes it
+abbrev pub RaisesAll : List Path → List LeafApps → Placed → List Use → List Use → Type 0
+RaisesAll queues leaves container old new = (used : Path → Use) → old ≡ map used (root ∷ queues) → new ≡ map (λ queue. raised_in leaves queue container (used queue)) (root ∷ queues)
+
+-- or as much less, if the container goes
+abbrev pub LowersAll : List Path → List LeafApps → Bool → Placed → List Use → List Use → Type 0
+LowersAll queues leaves goes container old new =
+    (used : Path → Use) → old ≡ map used (root ∷ queues) → new ≡ map (λ queue. if goes then lowered_in leaves queue container (used queue) else used queue) (root ∷ queues)
+
+-- whether a container is one of those that go
+abbrev pub goes : Going → Placed → Bool
+goes (OfId id) container = same_id container.id id.now
+goes (OnNode name) container = same_name container.node name.now
+goes (OfApp tenant app) container = is_of tenant.now app.now container

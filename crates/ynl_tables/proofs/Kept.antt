@@ -1,0 +1,68 @@
+-- What is kept of use, as it is read.
+use Rattle.std.proofs.Common.{◌≡◌, ℕ, ◌<◌, Bool, true, false, cond, ◌||◌, List, [], ◌∷◌, length, get_or, filter, find, Some, option_map, refl, sym, ap, ◌∙◌, arith}
+use Rattle.std.specs.Prelude.{nat_lt}
+use Rattle.std.specs.List.{list_any}
+use Rattle.std.specs.Option.{option_map_or}
+use Rattle.std.proofs.lemmas.List.{get_or-map, length-map}
+use Rattle.std.proofs.lemmas.Bool.Decides.{nat_tests}
+use Rattle.ynl_resource.specs.Names.{root, same_label}
+use Rattle.ynl_resource.specs.declared.labels.Label.{Label}
+use Rattle.ynl_resource.specs.declared.paths.Path.{Path}
+use Rattle.ynl_model.specs.declared.containers.Placed.{Placed}
+use Rattle.ynl_model.specs.declared.uses.Use.{Use}
+use Rattle.ynl_model.specs.Applications.{LeafApps}
+use Rattle.ynl_model.specs.Cluster.{State, Partition, is_partition, containers_on, sizes, counted, is_master, used, masters_used}
+use Rattle.ynl_laws.specs.Uses.{counts, use_by, use_of}
+use Rattle.ynl_laws.proofs.Amounts.{fits-filter, fits-trans}
+use Rattle.ynl_laws.proofs.Lists.{Each-find}
+use Rattle.ynl_laws.proofs.Totals.Used.{use-is}
+use Rattle.ynl_tables.specs.declared.rows.PartitionRow.{PartitionRow}
+use Rattle.ynl_tables.specs.declared.tables.Tables.{Tables}
+use Rattle.ynl_tables.specs.Bounds.{IsBounded, IsTotal}
+use Rattle.ynl_tables.specs.Kept.{IsSummed, AreSummed}
+use Rattle.ynl_tables.specs.Numbers.{IsNumberOf}
+use Rattle.ynl_tables.specs.Tables.{leaves_of, partition_of, state_of}
+use Rattle.ynl_tables.proofs.Adding.{small_part}
+use Rattle.ynl_tables.proofs.Finding.{find_map}
+
+pub summed_row : (queues : List Path) (leaves : List LeafApps) (rows : List PartitionRow) (label : Label) (row : PartitionRow) → AreSummed queues leaves rows → Some row ≡ find (λ row. same_label row.label label) rows → IsSummed queues leaves row
+summed_row queues leaves rows label row h e = (Each-find (IsSummed queues leaves) (λ row. same_label row.label label) rows h row (sym e)).0
+
+-- a number is within what a row keeps
+pub kept_within : (queues : List Path) (leaves : List LeafApps) (row : PartitionRow) (number : ℕ) → IsSummed queues leaves row → number < length (root ∷ queues) → number < length row.uses.items
+kept_within queues leaves row number h inside =
+    omega (arith, inside, ap length h, length-map (root ∷ queues) (λ queue. use_by leaves queue row.containers.items))
+
+-- what is kept under a queue's number is what the queue uses
+pub kept_use : (t : Tables) (label : Label) (queue : Path) (row : PartitionRow) (number : ℕ) (kept : Use) → AreSummed t.numbers (leaves_of t.leaves.items) t.partitions.items → Some row ≡ find (λ row. same_label row.label label) t.partitions.items
+    → IsNumberOf t.numbers queue (Some number) → kept ≡ get_or row.uses.items number kept → kept ≡ use_of (state_of t) label queue
+kept_use t label queue row number kept h e n read =
+    let leaves : List LeafApps = leaves_of t.leaves.items in
+    let all : List Path = root ∷ t.numbers in
+    let of : Path → Use = λ queue. use_by leaves queue row.containers.items in
+    let summed : IsSummed t.numbers leaves row = summed_row t.numbers leaves t.partitions.items label row h e in
+    let there : containers_on (state_of t) label ≡ row.containers.items =
+    ap (λ o. option_map_or (λ (row : Partition). row.containers) o []) (find_map partition_of (is_partition label) t.partitions.items ∙ sym (ap (option_map partition_of) e)) in
+    read ∙ ap (λ us. get_or us number kept) summed ∙ get_or-map of all number root kept n.0 ∙ ap of (n.1 root) ∙ sym (ap (use_by leaves queue) there) ∙ sym (use-is (state_of t) label queue)
+
+-- what is kept of use is small
+pub used_small : (s : State) (p : Label) (queue : Path) (kept : Use) → IsBounded s → kept ≡ use_of s p queue → IsTotal kept.used
+unfolding used
+used_small s p queue kept b e =
+    small_part kept.used (sizes (counted s queue p)) (sizes (containers_on s p)) (ap (λ (u : Use). u.used) e) (fits-filter (λ (k : Placed). k.size) (counts s.leaves queue) (containers_on s p)) (b.sizes p)
+
+pub masters_small : (s : State) (p : Label) (queue : Path) (kept : Use) → IsBounded s → kept ≡ use_of s p queue → IsTotal kept.masters
+unfolding masters_used
+masters_small s p queue kept b e =
+    small_part kept.masters (sizes (filter is_master (counted s queue p))) (sizes (containers_on s p)) (ap (λ (u : Use). u.masters) e)
+    (fits-trans (sizes (filter is_master (counted s queue p))) (sizes (counted s queue p)) (sizes (containers_on s p)) (fits-filter (λ (k : Placed). k.size) is_master (counted s queue p)) (fits-filter (λ (k : Placed). k.size) (counts s.leaves queue) (containers_on s p)))
+    (b.sizes p)
+
+-- some pass where their number is not 0
+pub some_counted : {X : Type 0} (p : X → Bool) (xs : List X) → nat_lt 0 (length (filter p xs)) ≡ list_any p xs
+some_counted p [] = refl
+some_counted {X = X} p (x ∷ xs) = go (p x) (some_counted p xs)
+  where
+    go : (b : Bool) → nat_lt 0 (length (filter p xs)) ≡ list_any p xs → nat_lt 0 (length (cond b (x ∷ filter p xs) (filter p xs))) ≡ (b || list_any p xs)
+    go true h = grind (arith, nat_tests)
+    go false h = h

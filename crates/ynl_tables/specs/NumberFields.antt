@@ -1,0 +1,15 @@
+-- What the fields of queue numbers mean.
+use Rattle.std.specs.Prelude.{◌≡◌, List, map}
+use Rattle.std.specs.List.{AllByRecursion}
+use Rattle.ynl_resource.specs.declared.paths.Path.{Path}
+use Rattle.ynl_tables.specs.declared.numbers.QueueNumbers.TheInside.{Inside}
+use Rattle.ynl_tables.specs.Numbers.{IsWayTo}
+
+-- the queues below root
+abbrev pub queues_of : Inside → List Path
+queues_of a = a.queues.items
+
+-- each way is that to its queue, and each queue has one
+pub record AreWays (a : Inside) : Type 0 where
+  pub ways : AllByRecursion (IsWayTo a.queues.items) a.ways.items
+  pub each : map (λ way. way.queue) a.ways.items ≡ a.queues.items

@@ -1,0 +1,31 @@
+-- The numbers of queues. The queues that are named here are those below root; root has number 0.
+use Rattle.std.specs.Prelude.{◌≡◌, ℕ, ◌<◌, Bool, true, false, ⊤, List, ◌∷◌, map, length, slice_index_or, Option, None, Some}
+use Rattle.std.specs.List.{AllByRecursion, list_any}
+use Rattle.std.specs.Option.{option_map_or}
+use Rattle.ynl_resource.specs.Names.{is_within, root, same_path}
+use Rattle.ynl_resource.specs.declared.names.Name.{Name}
+use Rattle.ynl_resource.specs.declared.paths.Path.{Path}
+use Rattle.ynl_model.specs.Applications.{LeafApps, leaf_of}
+use Rattle.ynl_laws.specs.Ways.{IsWay}
+use Rattle.ynl_tables.specs.declared.rows.Way.{Way}
+
+-- whether a queue is on the way to another, or is that queue
+abbrev pub is_above : Path → Path → Bool
+is_above queue other = is_within other queue
+
+-- whether a queue is on the way to the leaf of an application, or is that leaf
+abbrev pub is_above_app : List LeafApps → Name → Name → Path → Bool
+is_above_app leaves tenant app queue = option_map_or (is_within queue) (leaf_of leaves tenant app) false
+
+-- a way has the numbers of the queues above its queue
+abbrev pub IsWayTo : List Path → Way → Type 0
+IsWayTo queues way = IsWay (root ∷ queues) (is_above way.queue) way.numbers.items
+
+-- a number is that of the queue
+abbrev pub IsNumberOf : List Path → Path → Option ℕ → Type 0
+IsNumberOf queues queue None = ⊤
+IsNumberOf queues queue (Some number) = (number < length (root ∷ queues)) × ((d : Path) → slice_index_or (root ∷ queues) number d ≡ queue)
+
+-- each leaf has a number
+abbrev pub AreNumbered : List Path → List LeafApps → Type 0
+AreNumbered queues leaves = AllByRecursion (λ leaf. list_any (same_path leaf) queues ≡ true) (map (λ row. row.leaf) leaves)

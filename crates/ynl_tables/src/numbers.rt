@@ -1,0 +1,170 @@
+//! The numbers of queues, by which it is kept what they use.
+
+ghost use Rattle.std.specs.Prelude.{◌≡◌, ◌<◌, ◌^◌, ◌++◌, ◌∷◌, [], true, length, map, find, option_map, IfOk, IfSome, OnOk, if◌then◌else◌};
+ghost use Rattle.std.specs.List.{AllByRecursion, list_any, position};
+ghost use Rattle.ynl_resource.specs.Names.{root, same_path};
+ghost use Rattle.ynl_laws.specs.Ways.{IsWay};
+ghost use Rattle.ynl_tables.specs.Numbers.{AreNumbered, is_above, is_above_app, IsNumberOf, IsWayTo};
+ghost use Rattle.ynl_tables.specs.Tables.{leaves_of};
+
+use crate::rows::{LeafRow, Way};
+use crate::tables::leaf_row_of;
+use std::alloc::{AllocError, Global};
+use std::marker::Model;
+use ynl_queues::{Config, is_within};
+use ynl_resource::{Name, Path};
+
+/// The numbers of the queues of a configuration. Root has number 0, and the queues below follow in
+/// the order of the configuration. A contract sees the queues below root.
+#[derive(Drop)]
+pub struct QueueNumbers {
+    queues: Vec<Path>,
+    ways: Vec<Way>,
+}
+
+impl Model for QueueNumbers {
+    ghost use Rattle.std.specs.Prelude.{List, ℕ};
+
+    ghost Value = { List (List (List ℕ)) };
+
+    ghost use Rattle.ynl_tables.specs.NumberFields.{queues_of, AreWays};
+
+    ghost view = { queues_of };
+
+    ghost invariant = { AreWays };
+}
+
+impl QueueNumbers {
+    /// The numbers of a configuration's queues.
+    pub fn new(alloc: Global, config: &Config) -> Result<QueueNumbers, AllocError>
+        ensures { IfOk result (λ numbers. numbers ≡ map (λ row. row.path) config.now.queues) }
+    {
+        let queues = paths_of(alloc, config)?;
+        let ways = ways_to(alloc, &queues)?;
+        Ok(QueueNumbers { queues, ways })
+    }
+
+    /// How many queues there are below root.
+    pub fn len(&self) -> usize
+        ensures { result ≡ length self.now }
+    {
+        self.queues.len()
+    }
+
+    /// The place of a queue among those below root.
+    fn place(&self, queue: &[Name]) -> Option<usize>
+        ensures place { result ≡ position (λ other. same_path other queue.now) self.now }
+        ensures bound { IfSome result (λ place. place < 2 ^ 63) }
+    {
+        self.queues.iter().position(|other| other.names() == queue)
+    }
+
+    /// The number of a queue.
+    pub fn number(&self, queue: &[Name]) -> Option<usize>
+        ensures { IsNumberOf self.now queue.now result }
+    {
+        if queue.is_empty() {
+            return Some(0);
+        }
+        match self.place(queue) {
+            Some(place) => Some(place + 1),
+            None => None,
+        }
+    }
+
+    /// The numbers of root and of the queues on the way to a queue, itself among them.
+    pub fn way(&self, queue: &Path) -> &[usize]
+        ensures { list_any (same_path queue.now) self.now ≡ true → IsWay (root ∷ self.now) (is_above queue.now) result.now }
+    {
+        match way_to(&self.ways, queue) {
+            Some(way) => &way.numbers,
+            None => &[],
+        }
+    }
+}
+
+/// The paths of the queues below root.
+fn paths_of(alloc: Global, config: &Config) -> Result<Vec<Path>, AllocError>
+    ensures { IfOk result (λ paths. paths.items ≡ map (λ row. row.path) config.now.queues) }
+{
+    let mut paths = Vec::new(alloc);
+    for row in config.queues() {
+        paths.push(row.path)?;
+    }
+    Ok(paths)
+}
+
+fn push_if(numbers: &mut Vec<usize>, number: usize, is_above: bool) -> Result<(), AllocError>
+    ensures { OnOk result (numbers.new.items ≡ numbers.old.items ++ (if is_above then number ∷ [] else [])) }
+{
+    if is_above {
+        numbers.push(number)?;
+    }
+    Ok(())
+}
+
+/// The numbers of root and of those queues on the way to a queue, itself among them.
+fn numbers_to(alloc: Global, queues: &[Path], queue: &Path) -> Result<Vec<usize>, AllocError>
+    ensures { IfOk result (λ numbers. IsWay (root ∷ queues.now) (is_above queue.now) numbers.items) }
+{
+    let mut numbers = Vec::new(alloc);
+    numbers.push(0)?;
+    for i in 0..queues.len() {
+        let is_above = is_within(queues[i].names(), queue.names());
+        push_if(&mut numbers, i + 1, is_above)?;
+    }
+    Ok(numbers)
+}
+
+fn push_way(
+    ways: &mut Vec<Way>,
+    alloc: Global,
+    queues: &[Path],
+    queue: &Path,
+) -> Result<(), AllocError>
+    ensures ways { OnOk result (AllByRecursion (IsWayTo queues.now) ways.old.items → AllByRecursion (IsWayTo queues.now) ways.new.items) }
+    ensures queues { OnOk result (map (λ way. way.queue) ways.new.items ≡ map (λ way. way.queue) ways.old.items ++ queue.now ∷ []) }
+{
+    let numbers = numbers_to(alloc, queues, queue)?;
+    ways.push(Way {
+        queue: *queue,
+        numbers,
+    })?;
+    Ok(())
+}
+
+/// The ways to all queues.
+fn ways_to(alloc: Global, queues: &[Path]) -> Result<Vec<Way>, AllocError>
+    ensures ways { IfOk result (λ ways. AllByRecursion (IsWayTo queues.now) ways.items) }
+    ensures queues { IfOk result (λ ways. map (λ way. way.queue) ways.items ≡ queues.now) }
+{
+    let mut ways = Vec::new(alloc);
+    for queue in queues {
+        push_way(&mut ways, alloc, queues, queue)?;
+    }
+    Ok(ways)
+}
+
+fn way_to<'a>(ways: &'a [Way], queue: &Path) -> Option<&'a Way>
+    ensures { option_map (λ r. r.now) result ≡ find (λ way. same_path way.queue queue.now) ways.now }
+{
+    ways.iter().find(|way| way.queue == *queue)
+}
+
+/// The numbers of root and of the queues on the way to the leaf of an application, and none where
+/// there is no such application; the tenant is given by the bytes of its name.
+#[tactic(auto, unfolding(ynl_model::specs::Applications::leaf_of))]
+pub fn way_of_app<'a>(
+    numbers: &'a QueueNumbers,
+    leaves: &[LeafRow],
+    tenant: &[u8],
+    app: &Name,
+) -> &'a [usize]
+    requires { AreNumbered numbers.now (leaves_of leaves.now) }
+    ensures { IsWay (root ∷ numbers.now) (is_above_app (leaves_of leaves.now) tenant.now app.now) result.now }
+{
+    match leaf_row_of(leaves, tenant, app) {
+        Some(row) => numbers.way(&row.path),
+        None => &[],
+    }
+}
