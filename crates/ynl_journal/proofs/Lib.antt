@@ -1,3 +1,4 @@
 pub mod Longer
 pub mod Replies
 pub mod Shown
+pub mod Same

@@ -1,5 +1,5 @@
 -- Journals that are one entry longer.
-use Rattle.std.proofs.Common.{◌≡◌, ℕ, ◌+◌, ◌-◌, ◌<◌, refl, sym, ap, ◌∙◌, arith, List, [], ◌∷◌, ◌++◌, length, take, get_or, Option, Some, subst}
+use Rattle.std.proofs.Common.{◌≡◌, ℕ, zero, suc, ◌+◌, ◌-◌, ◌<◌, refl, sym, ap, ◌∙◌, arith, List, [], ◌∷◌, ◌++◌, length, take, get_or, Option, Some, subst}
 use Rattle.std.specs.Prelude.{map}
 use Rattle.std.specs.List.{AllZip}
 use Rattle.std.proofs.lemmas.List.{take_more, map-append}
@@ -22,7 +22,7 @@ events_push : (es : List Entry) (e : Entry) → events_in (es ++ e ∷ []) ≡ e
 events_push es e = map-append (λ (x : Entry). x.event) es (e ∷ [])
 
 -- the cluster after one entry more
-replayed_push : (c : Config) (es : List Entry) (e : Entry) → replayed c (es ++ e ∷ []) ≡ record { config = c; state = (step c (state_after c (events_in es)) e.event).state }
+pub replayed_push : (c : Config) (es : List Entry) (e : Entry) → replayed c (es ++ e ∷ []) ≡ record { config = c; state = (step c (state_after c (events_in es)) e.event).state }
 replayed_push c es e =
     let state : state_after c (events_in (es ++ e ∷ [])) ≡ (step c (state_after c (events_in es)) e.event).state = ap (state_after c) (events_push es e) ∙ state_push c (opening c) (events_in es) e.event in
     λ i. record { config = c; state = state i }
@@ -36,11 +36,21 @@ agrees_from_last c s [] e a = a.0
 agrees_from_last c s (x ∷ xs) e a = agrees_from_last c (step c s x.event).state xs e a.1
 
 -- one entry more that fits
-agrees_push : (c : Config) (es : List Entry) (e : Entry) → Agrees c es → FitsReply e (step c (state_after c (events_in es)) e.event).reply → Agrees c (es ++ e ∷ [])
+pub agrees_push : (c : Config) (es : List Entry) (e : Entry) → Agrees c es → FitsReply e (step c (state_after c (events_in es)) e.event).reply → Agrees c (es ++ e ∷ [])
 agrees_push c es e a f = agrees_from_push c (opening c) es e a f
 
-agrees_last : (c : Config) (es : List Entry) (e : Entry) → Agrees c (es ++ e ∷ []) → FitsReply e (step c (state_after c (events_in es)) e.event).reply
+pub agrees_last : (c : Config) (es : List Entry) (e : Entry) → Agrees c (es ++ e ∷ []) → FitsReply e (step c (state_after c (events_in es)) e.event).reply
 agrees_last c es e a = agrees_from_last c (opening c) es e a
+
+agrees_from_front : (c : Config) (s : State) (es : List Entry) (n : ℕ) → AgreesFrom c s es → AgreesFrom c s (take n es)
+agrees_from_front c s [] zero a = tt
+agrees_from_front c s [] (suc n) a = tt
+agrees_from_front c s (x ∷ xs) zero a = tt
+agrees_from_front c s (x ∷ xs) (suc n) a = (a.0, agrees_from_front c (step c s x.event).state xs n a.1)
+
+-- entries from the front agree as all do
+pub agrees_front : (c : Config) (es : List Entry) (n : ℕ) → Agrees c es → Agrees c (take n es)
+agrees_front c es n a = agrees_from_front c (opening c) es n a
 
 -- a step from a cluster that is known
 pub known_reply : (c : Config) (es : List Entry) (old new : World) (event : Event) (r : Reply) → old ≡ replayed c es → Answers old event new r → r ≡ (step c (state_after c (events_in es)) event).reply
@@ -116,4 +126,14 @@ history_push c es longer event kept more same closed =
     let H : List Entry → Type 0 = λ xs. IsHistory c xs in
     subst H (sym more) (
     map-append (λ (x : Entry). x.reply) es (e ∷ []) ∙ ap (λ rs. rs ++ Some kept ∷ []) closed ∙ ap (λ (r : Reply). map Some (replies_to c (events_in es)) ++ Some r ∷ []) same ∙ sym (replies_more c es e)
+    )
+
+-- the closed history of the events up to a place, and that of those up to the next
+pub history_more : (c : Config) (es done longer : List Entry) (i : ℕ) (e : Entry) (old new : World) (r : Reply) → i < length es → e ≡ get_or es i e → old ≡ replayed c done → events_in done ≡ events_in (take i es) → IsHistory c done → Answers old e.event new r → longer ≡ done ++ entry e.event (Some r) ∷ [] → (new ≡ replayed c longer) × (events_in longer ≡ events_in (take (i + 1) es)) × IsHistory c longer
+history_more c es done longer i e old new r inside at is same closed step_is more =
+    let n = entry e.event (Some r) in
+    let push : List Event → List Event = λ xs. xs ++ e.event ∷ [] in (
+      known_step c done old new n r is step_is ∙ ap (replayed c) (sym more),
+      ap events_in more ∙ events_push done n ∙ ap push same ∙ sym (ap events_in (take_one_more es i e inside at) ∙ events_push (take i es) e),
+      history_push c done longer e.event r more (known_reply c done old new e.event r is step_is) closed,
     )

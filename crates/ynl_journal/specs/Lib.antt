@@ -3,3 +3,4 @@ pub mod Audits
 pub mod BookFields
 pub mod Copies
 pub mod Promises
+pub mod Same

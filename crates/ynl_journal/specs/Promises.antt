@@ -1,5 +1,5 @@
--- What a closed history shows of a tenant that alone may use an exclusive partition.
-use Rattle.std.specs.Prelude.{◌≡◌, IsTrue, List, map, Option, Some}
+-- When entries are a closed history, and what one shows of a tenant that alone may use an exclusive partition.
+use Rattle.std.specs.Prelude.{◌≡◌, IsTrue, IsSome, All, List, map, Option, Some}
 use Rattle.ynl_resource.specs.declared.names.Name.{Name}
 use Rattle.ynl_resource.specs.declared.labels.Label.{Label}
 use Rattle.ynl_model.specs.declared.entries.Entry.{Entry}
@@ -9,7 +9,7 @@ use Rattle.ynl_model.specs.Accepted.{is_accepted}
 use Rattle.ynl_model.specs.Events.{IsHistory, replies_to}
 use Rattle.ynl_model.specs.View.{view, events_of, places_of, at_places, is_sole, restrict}
 use Rattle.ynl_model.specs.Promises.{LooksTheSame, NeverAllocatesOver}
-use Rattle.ynl_journal.specs.Journal.{events_in}
+use Rattle.ynl_journal.specs.Journal.{Agrees, events_in}
 
 -- the replies that are written down
 abbrev pub written : List Entry → List (Option Reply)
@@ -26,3 +26,11 @@ pub record ShowsAlone (c : Config) (entries : List Entry) (t : Name) (p : Label)
 abbrev pub HistoriesShowAlone : Type 0
 HistoriesShowAlone =
     (c : Config) (entries : List Entry) (t : Name) (p : Label) → IsHistory c entries → IsTrue (is_accepted c) → IsTrue (is_sole c t p) → ShowsAlone c entries t p
+
+-- each entry has a reply
+abbrev pub AreAnswered : List Entry → Type 0
+AreAnswered entries = All (λ (e : Entry). IsSome e.reply) entries
+
+-- entries that agree, and of which each has a reply, are a closed history
+abbrev pub AgreeingAreHistories : Type 0
+AgreeingAreHistories = (c : Config) (entries : List Entry) → Agrees c entries → AreAnswered entries → IsHistory c entries

@@ -3,6 +3,7 @@
 ghost use Rattle.std.specs.Prelude.{◌≡◌, ◌↔◌, [], IsTrue, OnOk, IfErr};
 ghost use Rattle.ynl_journal.specs.Journal.{Agrees, FitsReply, replayed};
 ghost use Rattle.ynl_journal.specs.Audits.{IsFault};
+ghost use Rattle.ynl_journal.specs.Same.{fits_reply};
 
 use crate::comparing::is_same_reply;
 use std::alloc::Global;
@@ -22,8 +23,10 @@ pub enum AuditFault {
     NoMemory,
 }
 
-fn fits(entry: &Entry, reply: &Reply) -> bool
-    ensures { IsTrue result ↔ FitsReply entry.now reply.now }
+/// Whether this is the reply that the entry has. An entry without a reply fits any.
+pub fn fits(entry: &Entry, reply: &Reply) -> bool
+    ensures fits { IsTrue result ↔ FitsReply entry.now reply.now }
+    ensures test { result ≡ fits_reply entry.now reply.now }
 {
     match &entry.reply {
         Some(given) => is_same_reply(given, reply),

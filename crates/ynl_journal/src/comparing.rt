@@ -54,7 +54,7 @@ fn is_same_pending(given: &Items<Pending>, list: &Items<Pending>) -> bool
 }
 
 /// Whether two replies are the same.
-pub(crate) fn is_same_reply(given: &Reply, reply: &Reply) -> bool
+pub fn is_same_reply(given: &Reply, reply: &Reply) -> bool
     ensures { IsTrue result ↔ (given.now ≡ reply.now) }
 {
     match (given, reply) {

@@ -1,6 +1,6 @@
-//! What a closed history shows: entries of which each has the cluster's reply.
+//! When entries are a closed history, in which each has the cluster's reply, and what one shows.
 
-ghost use Rattle.ynl_journal.specs.Promises.{HistoriesShowAlone};
+ghost use Rattle.ynl_journal.specs.Promises.{AgreeingAreHistories, HistoriesShowAlone};
 
 /// A tenant that alone may use an exclusive partition of an accepted configuration is as alone there:
 /// what the history has at the places of its view are the replies of a cluster that holds its queues
@@ -8,4 +8,10 @@ ghost use Rattle.ynl_journal.specs.Promises.{HistoriesShowAlone};
 /// no allocation takes a queue above its maximum there.
 pub fn histories_show_tenants_alone()
     ensures { HistoriesShowAlone }
+{}
+
+/// Entries of which each has a reply, and none another than the cluster's, are a closed history: so is
+/// a journal that passes its audit and lacks no reply.
+pub fn agreeing_entries_are_histories()
+    ensures { AgreeingAreHistories }
 {}

@@ -1,9 +1,10 @@
 //! The journal of a scheduler: each event with the reply that it got, in order, and its audit.
 #![tactic(auto)]
 
-pub use auditing::{AuditFault, audit};
+pub use auditing::{AuditFault, audit, fits};
+pub use comparing::is_same_reply;
 pub use journal::Book;
-pub use replaying::replay;
+pub use replaying::{replay, replay_history};
 pub use ynl_model::Entry;
 
 mod auditing;

@@ -7,7 +7,7 @@ use std::process::Abort;
 use std::test::Fail;
 use ynl_config::built_in;
 use ynl_resource::{Label, Name};
-use ynl_tool::{Summary, ToolFault, run_lines, tenant_lines};
+use ynl_tool::{Summary, ToolFault, audit_lines, run_lines, tenant_lines};
 use ynl_view::sole;
 
 const REGISTER: &[u8] =
@@ -98,6 +98,45 @@ fn goes_by_few_bytes(rt: HostRuntime) -> Result<(), Fail> {
         let taken = run_by(rt.alloc(), most)?;
         assert!(rt; taken.as_slice() == TWO_REPLIES, "{most}");
     }
+    Ok(())
+}
+
+/// Takes all that it is given, and counts the calls.
+#[derive(Drop)]
+struct Counted {
+    taken: Vec<u8>,
+    calls: u64,
+}
+
+impl Write for Counted {
+    fn write(&mut self, buf: &[u8]) -> io::Result<usize> {
+        self.taken.extend_from_slice(buf)?;
+        self.calls = self.calls.wrapping_add(1);
+        Ok(buf.len())
+    }
+
+    fn flush(&mut self) -> io::Result<()> {
+        Ok(())
+    }
+}
+
+const TWO_LINES_AND_MORE: &[u8] =
+    b"{\"event\":\"register\",\"label\":\"gpu\",\"memory\":10000,\"node\":\"g1\",\"vcores\":10}\n{\"event\":\"heartbeat\",\"node\":\"g1\"}\n{\"event\":\"";
+
+// That lines which come together cost one write no contract says.
+#[test]
+fn answers_what_came_together_by_one_write(rt: HostRuntime) -> Result<(), Fail> {
+    let alloc = rt.alloc();
+    let cut = Cut {
+        left: TWO_LINES_AND_MORE,
+    };
+    let mut reader = BufReader::with_capacity(alloc, 4096, cut)?;
+    let taken = Vec::new(alloc);
+    let mut writer = Counted { taken, calls: 0 };
+    let ended = run_lines(alloc, built_in(alloc)?, &mut reader, &mut writer);
+    assert!(rt; ended == Err(ToolFault::Read));
+    assert!(rt; writer.taken.as_slice() == TWO_REPLIES);
+    assert!(rt; writer.calls == 1);
     Ok(())
 }
 
@@ -194,5 +233,54 @@ fn answers_at_the_second_try(rt: HostRuntime) -> Result<(), Fail> {
     assert!(rt;
         out.as_slice() == b"{\"refused\":\"NoSuchNode\",\"reply\":\"refused\"}\n".as_slice()
     );
+    Ok(())
+}
+
+const JOURNAL: &[u8] =
+    b"{\"event\":{\"event\":\"register\",\"label\":\"gpu\",\"memory\":1,\"node\":\"g1\",\"vcores\":1},\"place\":0,\"reply\":{\"reply\":\"done\"}}\n";
+
+const PASSED: &[u8] = b"{\"audit\":\"ok\",\"entries\":1}\n";
+
+#[test]
+fn tells_nothing_of_a_journal_after_a_read_fault(rt: HostRuntime) -> Result<(), Fail> {
+    let alloc = rt.alloc();
+    let mut cut = BufReader::with_capacity(alloc, 7, Cut { left: JOURNAL })?;
+    let mut out = Vec::new(alloc);
+    let ended = audit_lines(alloc, built_in(alloc)?, &mut cut, &mut out);
+    assert!(rt; ended == Err(ToolFault::Read));
+    assert!(rt; out.is_empty());
+    Ok(())
+}
+
+#[test]
+fn tells_a_front_of_an_audit(rt: HostRuntime) -> Result<(), Fail> {
+    let alloc = rt.alloc();
+    let mut writer = Narrow {
+        taken: Vec::new(alloc),
+        room: 7,
+        fails: false,
+    };
+    let mut reader = JOURNAL;
+    let ended = audit_lines(alloc, built_in(alloc)?, &mut reader, &mut writer);
+    assert!(rt; ended == Err(ToolFault::Write));
+    assert!(rt; writer.taken.as_slice() == &PASSED[..7]);
+    Ok(())
+}
+
+// Run with each allocation failing in turn, as the test of replies is.
+#[test]
+fn audits_at_the_second_try(rt: HostRuntime) -> Result<(), Fail> {
+    let alloc = rt.alloc();
+    let mut first = JOURNAL;
+    let mut out = Vec::with_capacity(alloc, 256)?;
+    let tried = audit_lines(alloc, built_in(alloc)?, &mut first, &mut out);
+    if tried == Err(ToolFault::NoMemory) {
+        println!(rt; "refused")?;
+        assert!(rt; out.is_empty());
+        let mut second = JOURNAL;
+        let ended = audit_lines(alloc, built_in(alloc)?, &mut second, &mut out);
+        assert!(rt; ended.is_ok());
+    }
+    assert!(rt; out.as_slice() == PASSED);
     Ok(())
 }
