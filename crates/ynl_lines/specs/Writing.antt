@@ -1,4 +1,4 @@
--- The texts of replies, faults and events: JSON objects in the compact form, the keys in byte order.
+-- The texts of replies, faults, audits and events: JSON objects in the compact form, the keys in byte order.
 use Rattle.std.specs.Prelude.{ℕ, map, List, Option, Some, None, codes}
 use Rattle.serde_json.specs.Data.{Data, Members, object, array, string, number, unsigned, member, no_members, put}
 use Rattle.serde_json.specs.View.{items_of}
@@ -22,6 +22,10 @@ use Rattle.ynl_model.specs.declared.replies.Reply.{Reply}
 use Rattle.ynl_model.specs.declared.replies.Reply.TheVariants.{Done, Refused, Placed, Proposed, Committed, Held, Usage}
 use Rattle.ynl_lines.specs.declared.faults.LineFault.{LineFault}
 use Rattle.ynl_lines.specs.declared.faults.LineFault.TheVariants as fault
+use Rattle.ynl_lines.specs.declared.faults.JournalFault.{JournalFault}
+use Rattle.ynl_lines.specs.declared.faults.JournalFault.TheVariants as journal_fault
+use Rattle.ynl_lines.specs.declared.faults.InputFault.{InputFault}
+use Rattle.ynl_lines.specs.declared.faults.InputFault.TheVariants.{Script, Journal}
 
 -- ---- what stands in several objects
 
@@ -263,7 +267,7 @@ event_text e = compact_text (event_data e)
 
 -- ---- faults
 
--- the word that tells a fault
+-- the word that tells why a line is no event
 abbrev pub fault_word : LineFault → List ℕ
 fault_word fault.Size = codes "size"
 fault_word fault.Syntax = codes "syntax"
@@ -272,13 +276,34 @@ fault_word fault.Field = codes "field"
 fault_word fault.Name = codes "name"
 fault_word fault.Range = codes "range"
 
+-- the word that tells why an audit ends before its journal does
+abbrev pub journal_fault_word : JournalFault → List ℕ
+journal_fault_word journal_fault.Size = codes "size"
+journal_fault_word journal_fault.Line = codes "line"
+journal_fault_word journal_fault.Differs = codes "differs"
+
+-- the word that tells a fault of an input
+abbrev pub input_fault_word : InputFault → List ℕ
+input_fault_word (Script f) = fault_word f
+input_fault_word (Journal f) = journal_fault_word f
+
 -- a fault and the number of its line
-abbrev pub fault_data : LineFault → ℕ → Data
-fault_data f line = object (member (codes "fault") (string (fault_word f)) (member (codes "line") (count line) no_members))
+abbrev pub fault_data : InputFault → ℕ → Data
+fault_data f line = object (member (codes "fault") (string (input_fault_word f)) (member (codes "line") (count line) no_members))
 
 -- the text that tells a fault in a line, without its newline
-abbrev pub fault_text : LineFault → ℕ → List ℕ
+abbrev pub fault_text : InputFault → ℕ → List ℕ
 fault_text f line = compact_text (fault_data f line)
+
+-- ---- audits
+
+-- that a journal of so many entries passes its audit
+abbrev pub audit_data : ℕ → Data
+audit_data entries = object (member (codes "audit") (string (codes "ok")) (member (codes "entries") (count entries) no_members))
+
+-- its text, without the newline of its line
+abbrev pub audit_text : ℕ → List ℕ
+audit_text entries = compact_text (audit_data entries)
 
 -- ---- lines
 

@@ -1,12 +1,12 @@
-//! Lines of text: events, and events with their replies, are read from them, and replies, faults,
-//! events, and events with their replies are written to them.
+//! Lines of text: events, and events with their replies, are read from them, and replies, faults, what
+//! an audit found, events, and events with their replies are written to them.
 //! Each is a JSON object. A text here is without the newline that ends its line.
 #![tactic(auto)]
 
-pub use faults::{BadLine, LineFault};
+pub use faults::{BadLine, InputFault, JournalFault, LineFault};
 pub use read::read_event;
 pub use read_lines::read_line;
-pub use write::{write_event, write_fault, write_line, write_reply};
+pub use write::{write_audit, write_event, write_fault, write_line, write_reply};
 
 mod events;
 mod faults;

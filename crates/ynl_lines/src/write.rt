@@ -9,7 +9,7 @@ ghost use Rattle.ynl_lines.specs.ReadingReplies.{line_of_text, answered_entry, I
 ghost use Rattle.ynl_lines.specs.Writing as spec;
 
 use crate::events::event_value;
-use crate::faults::LineFault;
+use crate::faults::InputFault;
 use crate::object::{Field, members, object, with};
 use crate::replies::reply_value;
 use serde_json::Value;
@@ -47,7 +47,7 @@ pub fn write_reply(alloc: Global, reply: &Reply) -> Result<Vec<u8>, AllocError>
     text_of(alloc, &value)
 }
 
-fn fault_value(alloc: Global, fault: LineFault, line: u64) -> Result<Value, AllocError>
+fn fault_value(alloc: Global, fault: InputFault, line: u64) -> Result<Value, AllocError>
     ensures { IfOk result (λ v. view v ≡ spec.fault_data fault line) }
 {
     object(
@@ -61,10 +61,31 @@ fn fault_value(alloc: Global, fault: LineFault, line: u64) -> Result<Value, Allo
 
 /// The text of the line that tells a fault, without its newline; `line` is the number of the faulty
 /// line, from 1.
-pub fn write_fault(alloc: Global, fault: LineFault, line: u64) -> Result<Vec<u8>, AllocError>
+pub fn write_fault(alloc: Global, fault: InputFault, line: u64) -> Result<Vec<u8>, AllocError>
     ensures text { IfOk result (λ text. text.items ≡ spec.fault_text fault line) }
 {
     let value = fault_value(alloc, fault, line)?;
+    text_of(alloc, &value)
+}
+
+fn audit_value(alloc: Global, entries: u64) -> Result<Value, AllocError>
+    ensures { IfOk result (λ v. view v ≡ spec.audit_data entries) }
+{
+    object(
+        alloc,
+        &[
+            ("audit", Field::Word("ok")),
+            ("entries", Field::Number(entries)),
+        ],
+    )
+}
+
+/// The text of the line that tells that a journal of so many entries passes its audit, without its
+/// newline.
+pub fn write_audit(alloc: Global, entries: u64) -> Result<Vec<u8>, AllocError>
+    ensures text { IfOk result (λ text. text.items ≡ spec.audit_text entries) }
+{
+    let value = audit_value(alloc, entries)?;
     text_of(alloc, &value)
 }
 

@@ -4,7 +4,7 @@ use crate::proposals::Proposal;
 use ynl_resource::{Hundredths, Id, Label, Name, Path, Size};
 
 /// What can happen to the cluster, or be asked of it.
-#[derive(Clone, Copy)]
+#[derive(Clone, Copy, PartialEq, Eq)]
 pub enum Event {
     /// A node joins a partition.
     Register {

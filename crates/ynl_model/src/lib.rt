@@ -13,6 +13,7 @@ pub use nodes::{Node, Tracked};
 pub use proposals::{Proposal, What};
 pub use queues::{LabelCapacity, LeafSettings, MaximumRow, StopRow};
 pub use replies::{Pending, Reply};
+pub use uses::Use;
 
 mod applications;
 mod containers;
@@ -25,3 +26,4 @@ mod nodes;
 mod proposals;
 mod queues;
 mod replies;
+mod uses;

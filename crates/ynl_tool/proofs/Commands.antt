@@ -19,7 +19,7 @@ use Rattle.clap.proofs.OnLiterals.{clap_on_literals}
 use Rattle.clap.proofs.WalkLemmas.{first_value-rows}
 use Rattle.ynl_resource.specs.declared.names.Name.{Name}
 use Rattle.ynl_resource.specs.declared.labels.Label.{Label}
-use Rattle.ynl_tool.specs.declared.words.Kind.TheVariants.{Run}
+use Rattle.ynl_tool.specs.declared.words.Kind.TheVariants.{Run, Audit}
 use Rattle.ynl_tool.specs.declared.words.WordsFault.{WordsFault}
 use Rattle.ynl_tool.specs.declared.words.WordsFault.TheVariants.{Words, NoMemory}
 use Rattle.ynl_tool.specs.Words.{command, name_in, label_in, tenant_by, kind_met, kind_of}
@@ -65,7 +65,7 @@ label_read found p e = e ∙ ap (option_and_then label_in) (first_value-rows fou
 
 tenant_met : (name : Text) (rows : List Row) → bytes_eq name (codes "tenant") ≡ true
     → kind_met (name, rows) ≡ tenant_by (option_and_then name_in (first_of (codes "tenant") rows)) (option_and_then label_in (first_of (codes "label") rows))
-tenant_met name rows e = ap (λ b. cond b (tenant_by (option_and_then name_in (first_of (codes "tenant") rows)) (option_and_then label_in (first_of (codes "label") rows))) (Some Run)) e
+tenant_met name rows e = ap (λ b. cond b (tenant_by (option_and_then name_in (first_of (codes "tenant") rows)) (option_and_then label_in (first_of (codes "label") rows))) (cond (bytes_eq name (codes "audit")) (Some Audit) (Some Run))) e
 
 pub kind_named : (name : Text) (found : Found) (t : Option Name) (p : Option Label) → bytes_eq name (codes "tenant") ≡ true → t ≡ option_and_then name_in (first_value found (codes "tenant"))
     → p ≡ option_and_then label_in (first_value found (codes "label")) → tenant_by t p ≡ kind_met (name, rows_of found)

@@ -9,23 +9,26 @@ use Rattle.ynl_model.specs.View.{is_sole}
 use Rattle.ynl_config.specs.declared.faults.ConfigFault.{ConfigFault}
 use Rattle.ynl_tool.specs.declared.run.ToolFault.TheVariants.{NoMemory}
 use Rattle.ynl_tool.specs.declared.words.Kind.{Kind}
-use Rattle.ynl_tool.specs.declared.words.Kind.TheVariants.{Run, Tenant}
+use Rattle.ynl_tool.specs.declared.words.Kind.TheVariants.{Run, Tenant, Audit}
 use Rattle.ynl_tool.specs.Jobs.{IsIdle, DoesJob, DoesWith, TellsJob}
 use Rattle.ynl_tool.specs.Input.{between}
 use Rattle.ynl_tool.proofs.Runs.{stops_at_once}
-use Rattle.ynl_tool.proofs.Scripts.{nothing_read}
+use Rattle.ynl_tool.specs.Audit.{audit_way}
+use Rattle.ynl_tool.specs.Script.{script_way}
+use Rattle.ynl_tool.proofs.Readings.{nothing_read}
 
 module _ (old wold : Option (List ℕ)) where
   idle : IsIdle (between old old) (between wold wold)
   idle = record { unread = Consumes-nil old; unwritten = Appends-nil wold }
 
   idle_by : (c : Config) (t : Name) (p : Label) (sole : Bool) → TellsJob (between old old) (between wold wold) true c t p sole (Err NoMemory)
-  idle_by c t p true = inl (record { read = nothing_read old NoMemory; unwritten = Appends-nil wold })
+  idle_by c t p true = inl (record { read = nothing_read script_way old NoMemory; unwritten = Appends-nil wold })
   idle_by c t p false = (refl, idle)
 
   idle_job : (kind : Kind) (c : Config) → DoesJob (between old old) (between wold wold) true kind c (Err NoMemory)
   idle_job Run c = stops_at_once old wold c (opening c)
   idle_job (Tenant t p) c = idle_by c t p (is_sole c t p)
+  idle_job Audit c = inl (record { read = nothing_read (audit_way c) old NoMemory; unwritten = Appends-nil wold })
 
   pub idle_with : (kind : Kind) (read : Result Config ConfigFault) → DoesWith (between old old) (between wold wold) kind read (Err NoMemory)
   idle_with kind (Ok c) = idle_job kind c

@@ -1,8 +1,12 @@
+pub mod Audited
+pub mod Audits
 pub mod Commands
 pub mod Fronts
+pub mod Held
 pub mod Idle
 pub mod Inputs
 pub mod Pieces
+pub mod Readings
 pub mod Runs
 pub mod Scripts
 pub mod Tellings

@@ -1,6 +1,6 @@
 -- The run of an input, a line after another, and what it writes.
 use Rattle.std.proofs.Common.{◌≡◌, ◌≢◌, ℕ, List, [], ◌∷◌, ◌++◌, length, Bool, true, false, Option, Some, None, IfSome, Result, Ok, Err, subst, refl, sym, ap, ◌∙◌, arith, append_assoc, append-nil}
-use Rattle.std.specs.Prelude.{IfErr}
+use Rattle.std.specs.Prelude.{IfErr, option_map}
 use Rattle.std.specs.List.{concat}
 use Rattle.std.proofs.Math.Seq.{take-length}
 use Rattle.std.proofs.lemmas.List.Folds.{concat-append}
@@ -12,20 +12,23 @@ use Rattle.ynl_model.specs.Cluster.{State}
 use Rattle.ynl_model.specs.Events.{step, replies, after}
 use Rattle.ynl_core.specs.World.{World}
 use Rattle.ynl_lines.specs.declared.faults.LineFault.{LineFault}
+use Rattle.ynl_lines.specs.declared.faults.InputFault.TheVariants.{Script as InScript}
 use Rattle.ynl_lines.specs.declared.faults.LineFault.TheVariants as fault
 use Rattle.ynl_lines.specs.Writing.{reply_text, fault_text}
 use Rattle.ynl_tool.specs.declared.lines_in.Lines.{Lines}
 use Rattle.ynl_tool.specs.declared.run.ToolFault.{ToolFault}
 use Rattle.ynl_tool.specs.declared.run.ToolFault.TheVariants.{Read, Write, NoMemory}
 use Rattle.ynl_tool.specs.declared.run.Summary.{Summary}
-use Rattle.ynl_tool.specs.Input.{Stream, between, limit, MetEnd, lines_left, MayFollow, TakesLine, TakesTooLong, TakesNone, BreaksOff}
+use Rattle.ynl_tool.specs.Input.{Stream, between, MetEnd, lines_left, TakesLine, TakesTooLong, TakesNone, BreaksOff}
 use Rattle.ynl_tool.specs.Lines.{AppendsFront, AppendsPart}
-use Rattle.ynl_tool.specs.Script.{part, Script, after_events, script, script_of, ReadsTo}
-use Rattle.ynl_tool.specs.Run.{line_of, reply_lines, replies_text, fault_lines, faulty, Outcome, answers_to, run_of}
-use Rattle.ynl_tool.specs.Running.{LeavesMore, Answers, Writes, IsRunOf, RunsTo, RunsWhole, Stops, Runs}
+use Rattle.ynl_tool.specs.Readings.{come_to, ReadsTo}
+use Rattle.ynl_tool.specs.Script.{part, Script, script_way, script_of}
+use Rattle.ynl_tool.specs.Run.{line_of, reply_lines, replies_text, fault_lines, faulty, answers_to, run_of}
+use Rattle.ynl_tool.specs.Running.{LeavesMore, Writes, IsRunOf, RunsTo, RunsWhole, Stops, Runs}
 use Rattle.ynl_tool.proofs.Fronts.{front_of_more, part_after, part_of_more}
 use Rattle.ynl_tool.proofs.Inputs.{of_input, line_met_end, both}
-use Rattle.ynl_tool.proofs.Scripts.{ScriptSoFar, script_at_start, empty, nothing_read, script_follows, here, then_long, then_line, then_fault, reading_failed, long_reads, long_failed, line_reads, line_failed, ends_too_long, ends_faulty, ends_well, took}
+use Rattle.ynl_tool.proofs.Readings.{ReadSoFar, empty, nothing_read, reads_on, here, then_long, then_fault, reading_failed, long_reads, long_failed, line_reads, line_failed, ends_too_long, ends_faulty, ends_well}
+use Rattle.ynl_tool.proofs.Scripts.{has_fault, after_events, script, as_after}
 
 -- ---- the text of a run
 
@@ -42,21 +45,21 @@ after_more c s [] fs = refl
 after_more c s (e ∷ es) fs = after_more c (step c s e).state es fs
 
 -- what is answered to a script that goes on
-answers_after : (c : Config) (s : State) (es : List Event) (rest : Script) → (answers_to c s (after_events es rest)).text ≡ replies_text c s es ++ (answers_to c (after c s es) rest).text
+pub answers_after : (c : Config) (s : State) (es : List Event) (rest : Script) → (answers_to c s (after_events es rest)).text ≡ replies_text c s es ++ (answers_to c (after c s es) rest).text
 answers_after c s es rest =
-    let more = reply_lines (replies c (after c s es) rest.events) in
-    ap (λ ls. concat (ls ++ fault_lines rest)) (replies_of_more c s es rest.events)
+    let more = reply_lines (replies c (after c s es) rest.made) in
+    ap (λ ls. concat (ls ++ fault_lines rest)) (replies_of_more c s es rest.made)
     ∙ ap concat (append_assoc (reply_lines (replies c s es)) more (fault_lines rest))
     ∙ concat-append (reply_lines (replies c s es)) (more ++ fault_lines rest)
 
 -- of a script without a fault, the text of the replies
-pub text_of_good : (c : Config) (s : State) (es : List Event) (n : ℕ) → (answers_to c s (record { events = es; lines = n; fault = None })).text ≡ replies_text c s es
+pub text_of_good : (c : Config) (s : State) (es : List Event) (n : ℕ) → (answers_to c s (come_to es n None)).text ≡ replies_text c s es
 text_of_good c s es n = ap concat (append-nil (reply_lines (replies c s es)))
 
 -- and else the line of the fault after it
-pub text_of_faulty : (c : Config) (s : State) (es : List Event) (n : ℕ) (f : LineFault) → (answers_to c s (record { events = es; lines = n; fault = Some f })).text ≡ replies_text c s es ++ (faulty f n).text
+pub text_of_faulty : (c : Config) (s : State) (es : List Event) (n : ℕ) (f : LineFault) → (answers_to c s (come_to es n (Some f))).text ≡ replies_text c s es ++ (faulty (InScript f) n).text
 text_of_faulty c s es n f =
-    concat-append (reply_lines (replies c s es)) (line_of (fault_text f n) ∷ []) ∙ ap (λ l. replies_text c s es ++ l) (append-nil (line_of (fault_text f n)))
+    concat-append (reply_lines (replies c s es)) (line_of (fault_text (InScript f) n) ∷ []) ∙ ap (λ l. replies_text c s es ++ l) (append-nil (line_of (fault_text (InScript f) n)))
 
 -- ---- what was written
 
@@ -64,13 +67,6 @@ text_of_faulty c s es n f =
 pub of_some : (a : Option (List ℕ)) (P Q : List ℕ → Type 0) → ((x : List ℕ) → P x → Q x) → IfSome a P → IfSome a Q
 of_some None P Q f h = tt
 of_some (Some x) P Q f h = f x h
-
--- nothing was written before
-after_nothing : (a b c : Option (List ℕ)) (o : Outcome) (r : Result Summary ToolFault) → Appends a b [] → Writes b c o r → Writes a c o r
-after_nothing a b c o (Ok summary) nothing w = (w.0, w.1, Appends-trans a b c [] o.text nothing w.2)
-after_nothing a b c o (Err Read) nothing w = Appends-trans a b c [] [] nothing w
-after_nothing a b c o (Err Write) nothing w = part_after a b c [] o.text nothing w
-after_nothing a b c o (Err NoMemory) nothing w = Appends-trans a b c [] [] nothing w
 
 -- what was written is a front
 front_of_text : (w v : Option (List ℕ)) (text front rest : List ℕ) → Appends w v front → text ≡ front ++ rest → AppendsFront w v text
@@ -81,42 +77,35 @@ front_of_text w v text front rest written is =
 -- ---- a run that came to an end
 
 -- the text of a script was written, and its lines and its fault are told
-pub runs_to : (reader writer : Stream) (c : Config) (s : State) (summary : Summary) (o : Script) → ReadsTo reader o → Appends writer.before writer.after (answers_to c s o).text → summary.lines ≡ o.lines → summary.fault ≡ o.fault
+pub runs_to : (reader writer : Stream) (c : Config) (s : State) (summary : Summary) (o : Script) → ReadsTo script_way reader o → Appends writer.before writer.after (answers_to c s o).text → summary.lines ≡ o.lines → summary.fault ≡ option_map InScript o.fault
     → RunsTo reader writer c s summary
 runs_to reader writer c s summary o read written lines fault =
     let ran : (input : List ℕ) → o ≡ script_of input → IsRunOf writer c s summary input = λ input is. record {
       written = subst (λ k. Appends writer.before writer.after (answers_to c s k).text) is written;
       lines = lines ∙ ap (λ (k : Script). k.lines) is;
-      fault = fault ∙ ap (λ (k : Script). k.fault) is;
+      fault = fault ∙ ap (λ (k : Script). option_map InScript k.fault) is;
     } in
     record { script = o; read = read; ran = ran (read.lines.bytes ++ read.lines.last) read.is; input = of_some reader.before (λ input. o ≡ script_of input) (IsRunOf writer c s summary) ran read.input }
 
 -- ---- a run so far
 
--- The lines that were read were answered, and the cluster is as they left it.
+-- The lines that were read were answered, all of it is written, and the cluster is as they left it.
 pub record RunSoFar (reader writer : Stream) (c : Config) (s : State) (l : Lines) (core : World) : Type 0 where
   pub events : List Event
-  pub read : ScriptSoFar reader l events
+  pub read : ReadSoFar script_way reader l events
   pub written : Appends writer.before writer.after (replies_text c s events)
   pub now : core ≡ record { config = c; state = after c s events }
-
-pub run_at_start : (a w : Option (List ℕ)) (core : World) (l : Lines) → l.count ≡ 0 → l.budget ≡ limit → l.at_end ≡ false → RunSoFar (between a a) (between w w) core.config core.state l core
-run_at_start a w core l count budget ongoing = record {
-  events = [];
-  read = script_at_start a l count budget ongoing;
-  written = Appends-nil w;
-  now = refl;
-}
 
 module _ (a b d w v u : Option (List ℕ)) (c : Config) (s : State) (l l' : Lines) (core : World) (so : RunSoFar (between a b) (between w v) c s l core) where
   -- the text of what was read before
   text_here : l.at_end ≡ false → (run_of c s so.read.far.bytes).text ≡ replies_text c s so.events
-  text_here ongoing = ap (λ k. (answers_to c s k).text) (here a b d l l' so.events so.read ongoing) ∙ text_of_good c s so.events l.count
+  text_here ongoing = ap (λ k. (answers_to c s k).text) (here script_way a b d l l' so.events so.read ongoing) ∙ text_of_good c s so.events l.count
 
   -- and of what may follow
   text_follows : (more rest : List ℕ) → l.at_end ≡ false → (run_of c s ((so.read.far.bytes ++ more) ++ rest)).text ≡ replies_text c s so.events ++ (answers_to c (after c s so.events) (script (lines_left l (more ++ rest)) l.count)).text
   text_follows more rest ongoing =
-      ap (λ k. (answers_to c s k).text) (script_follows a b d l l' so.events so.read more rest ongoing) ∙ answers_after c s so.events (script (lines_left l (more ++ rest)) l.count)
+      ap (λ k. (answers_to c s k).text) (reads_on script_way a b d l l' so.events so.read more rest ongoing ∙ as_after (lines_left l (more ++ rest)) so.events l.count)
+      ∙ answers_after c s so.events (script (lines_left l (more ++ rest)) l.count)
 
   -- nothing more was written
   still_written : Appends v u [] → Appends w u (replies_text c s so.events)
@@ -151,89 +140,50 @@ module _ (a b d w v u : Option (List ℕ)) (c : Config) (s : State) (l l' : Line
   -- the reader failed in a line
   pub reading_stops : (e : ToolFault) → e ≢ Write → BreaksOff (between b d) l → Appends v u [] → Stops (between a d) (between w u) c s e
   reading_stops e other t nothing =
-      let read = reading_failed a b d l l' so.events so.read e other t in
+      let read = reading_failed script_way a b d l l' so.events so.read e other t in
       let left = stops_before t.bytes e t.ongoing other read.lines.read nothing in
-      record { read = reading_failed a b d l l' so.events so.read e other t; written = left.0; front = left.1 }
+      record { read = reading_failed script_way a b d l l' so.events so.read e other t; written = left.0; front = left.1 }
 
   -- the fault of a line is reported, whatever may follow
   reported : (more : List ℕ) (f : LineFault) (closed : Bool) → l.at_end ≡ false → Consumes a d (so.read.far.bytes ++ more) → (closed ≡ true → MetEnd (between a d))
-      → ((rest : List ℕ) → (closed ≡ true → rest ≡ []) → script_of ((so.read.far.bytes ++ more) ++ rest) ≡ record { events = so.events; lines = l'.count; fault = Some f })
-      → ReadsTo (between a d) (record { events = so.events; lines = l'.count; fault = Some f })
+      → ((rest : List ℕ) → (closed ≡ true → rest ≡ []) → script_of ((so.read.far.bytes ++ more) ++ rest) ≡ come_to so.events l'.count (Some f))
+      → ReadsTo script_way (between a d) (come_to so.events l'.count (Some f))
       → ((e : ToolFault) → e ≢ Read → LeavesMore (between w u) (run_of c s so.read.far.bytes).text (run_of c s (so.read.far.bytes ++ more)).text e × IfSome a (λ input. AppendsFront w u (run_of c s input).text) → Stops (between a d) (between w u) c s e)
-      → (r : Result Summary ToolFault) → Writes v u (faulty f l'.count) r → IfErr r (λ e. e ≢ Read) → Runs (between a d) (between w u) c s r
+      → (r : Result Summary ToolFault) → Writes v u (faulty (InScript f) l'.count) r → IfErr r (λ e. e ≢ Read) → Runs (between a d) (between w u) c s r
   reported more f closed ongoing read met follows whole stops (Ok summary) wrote other =
       runs_to (between a d) (between w u) c s summary _ whole
-      (subst (Appends w u) (sym (text_of_faulty c s so.events l'.count f)) (Appends-trans w v u (replies_text c s so.events) (faulty f l'.count).text so.written wrote.2)) wrote.0 wrote.1
+      (subst (Appends w u) (sym (text_of_faulty c s so.events l'.count f)) (Appends-trans w v u (replies_text c s so.events) (faulty (InScript f) l'.count).text so.written wrote.2)) wrote.0 wrote.1
   reported more f closed ongoing read met follows whole stops (Err Read) wrote other = absurd (other refl)
   reported more f closed ongoing read met follows whole stops (Err NoMemory) wrote other = stops NoMemory other (stops_before more NoMemory ongoing (λ e. cc) read wrote)
   reported more f closed ongoing read met follows whole stops (Err Write) wrote other =
       stops Write other
-      (stops_writing more (faulty f l'.count).text closed read met wrote
-      (λ rest may. ([], ap (λ k. (answers_to c s k).text) (follows rest may) ∙ text_of_faulty c s so.events l'.count f ∙ ap (λ k. replies_text c s so.events ++ k) (sym (append-nil (faulty f l'.count).text)))))
+      (stops_writing more (faulty (InScript f) l'.count).text closed read met wrote
+      (λ rest may. ([], ap (λ k. (answers_to c s k).text) (follows rest may) ∙ text_of_faulty c s so.events l'.count f ∙ ap (λ k. replies_text c s so.events ++ k) (sym (append-nil (faulty (InScript f) l'.count).text)))))
 
   -- of a line with the byte past the limit
-  pub long_reported : TakesTooLong (between b d) l l' → (r : Result Summary ToolFault) → Writes v u (faulty fault.Size l'.count) r → IfErr r (λ e. e ≢ Read) → Runs (between a d) (between w u) c s r
+  pub long_reported : TakesTooLong (between b d) l l' → (r : Result Summary ToolFault) → Writes v u (faulty (InScript fault.Size) l'.count) r → IfErr r (λ e. e ≢ Read) → Runs (between a d) (between w u) c s r
   long_reported t =
-      reported t.bytes fault.Size false t.ongoing (long_reads a b d l l' so.events so.read t).read (λ no. both false no refl) (λ rest _. then_long a b d l l' so.events so.read t rest) (ends_too_long a b d l l' so.events so.read t)
-      (λ e other left. record { read = long_failed a b d l l' so.events so.read t e other; written = left.0; front = left.1 })
+      reported t.bytes fault.Size false t.ongoing (long_reads script_way a b d l l' so.events so.read t).read (λ no. both false no refl) (λ rest _. then_long script_way a b d l l' so.events so.read t rest) (ends_too_long script_way a b d l l' so.events so.read t)
+      (λ e other left. record { read = long_failed script_way a b d l l' so.events so.read t e other; written = left.0; front = left.1 })
 
   -- the input is at its end
   pub ends : TakesNone (between b d) l l' → (summary : Summary) → summary.lines ≡ l'.count → summary.fault ≡ None → RunsTo (between a d) (between w v) c s summary
   ends t summary lines fault =
-      runs_to (between a d) (between w v) c s summary _ (ends_well a b d l l' so.events so.read t) (subst (Appends w v) (sym (text_of_good c s so.events l'.count)) so.written) lines fault
+      runs_to (between a d) (between w v) c s summary _ (ends_well script_way a b d l l' so.events so.read t) (subst (Appends w v) (sym (text_of_good c s so.events l'.count)) so.written) lines fault
 
-  module _ (t : TakesLine (between b d) l l') (next : World) (text : List ℕ) (answer : Result (Option LineFault) ToolFault) (same : text ≡ l'.line.items) where
-    -- what was answered to the line, from the state that the lines before left
-    answer_is : (now : Option (List ℕ)) (r : Result (Option LineFault) ToolFault) → answer ≡ r → Answers v now core.config core.state next text answer → Answers v now c (after c s so.events) next l'.line.items r
-    answer_is now r is h =
-        subst (Answers v now c (after c s so.events) next l'.line.items) is
-        (subst (λ k. Answers v now c (after c s so.events) next k answer) same (subst (λ (k : World). Answers v now k.config k.state next text answer) so.now h))
-
+  module _ (t : TakesLine (between b d) l l') where
     -- a line with a fault
-    pub fault_reported : (now : Option (List ℕ)) (f : LineFault) → answer ≡ Ok (Some f) → Answers v now core.config core.state next text answer → (r : Result Summary ToolFault) → Writes now u (faulty f l'.count) r → IfErr r (λ e. e ≢ Read)
-        → Runs (between a d) (between w u) c s r
-    fault_reported now f is h r wrote =
-        let bad = answer_is now (Ok (Some f)) is h in
-        reported t.bytes f l'.at_end t.ongoing (line_reads a b d l l' so.events so.read t).read (line_met_end a b d l l' so.read.done so.read.far t) (then_fault a b d l l' so.events so.read t f bad.0) (ends_faulty a b d l l' so.events so.read t f bad.0)
-        (λ e other left. record { read = line_failed a b d l l' so.events so.read t e other; written = left.0; front = left.1 }) r (after_nothing v now u (faulty f l'.count) r bad.1 wrote)
+    pub fault_reported : (f : LineFault) → (part l'.line.items).fault ≡ Some f → (r : Result Summary ToolFault) → Writes v u (faulty (InScript f) l'.count) r → IfErr r (λ e. e ≢ Read) → Runs (between a d) (between w u) c s r
+    fault_reported f bad =
+        let adds = has_fault so.events l'.line.items f bad in
+        reported t.bytes f l'.at_end t.ongoing (line_reads script_way a b d l l' so.events so.read t).read (line_met_end a b d l l' so.read.done so.read.far t) (then_fault script_way a b d l l' so.events so.read t f adds) (ends_faulty script_way a b d l l' so.events so.read t f adds)
+        (λ e other left. record { read = line_failed script_way a b d l l' so.events so.read t e other; written = left.0; front = left.1 })
 
-    line_text : (part l'.line.items).fault ≡ None → (rest : List ℕ) → MayFollow l' rest
-        → (x : List ℕ) × ((run_of c s ((so.read.far.bytes ++ t.bytes) ++ rest)).text ≡ replies_text c s so.events ++ (replies_text c (after c s so.events) (part l'.line.items).events ++ x))
-    line_text fine rest may =
-        let es = so.events in
-        let fs = (part l'.line.items).events in
-        let left = script (lines_left l' rest) l'.count in
-        let x = (answers_to c (after c s (es ++ fs)) left).text in (
-          x,
-          ap (λ k. (answers_to c s k).text) (then_line a b d l l' es so.read t fine rest may)
-              ∙ answers_after c s (es ++ fs) left
-              ∙ ap (λ k. k ++ x) (text_of_more c s es fs)
-              ∙ append_assoc (replies_text c s es) (replies_text c (after c s es) fs) x,
-        )
-
-    -- a line was read, but not answered, or not to its end
-    answer_left : (e : ToolFault) → Answers v u c (after c s so.events) next l'.line.items (Err e) → Stops (between a d) (between w u) c s e
-    answer_left Read h = absurd h
-    answer_left NoMemory h =
-        let left = stops_before t.bytes NoMemory t.ongoing (λ e. cc) (line_reads a b d l l' so.events so.read t).read h in
-        record { read = line_failed a b d l l' so.events so.read t NoMemory (λ e. cc); written = left.0; front = left.1 }
-    answer_left Write h =
-        let left = stops_writing t.bytes (replies_text c (after c s so.events) (part l'.line.items).events) l'.at_end (line_reads a b d l l' so.events so.read t).read (line_met_end a b d l l' so.read.done so.read.far t) h.2 (line_text h.0) in
-        record { read = line_failed a b d l l' so.events so.read t Write (λ e. cc); written = left.0; front = left.1 }
-
-    pub answer_stops : (e : ToolFault) → answer ≡ Err e → Answers v u core.config core.state next text answer → Stops (between a d) (between w u) c s e
-    answer_stops e is h = answer_left e (answer_is u (Err e) is h)
-
-    -- a line was answered
-    pub answered : answer ≡ Ok None → Answers v u core.config core.state next text answer → RunSoFar (between a d) (between w u) c s l' next
-    answered is h =
-        let done = answer_is u (Ok None) is h in
-        record {
-          events = so.events ++ (part l'.line.items).events;
-          read = took a b d l l' so.events so.read t done.0;
-          written = subst (Appends w u) (sym (text_of_more c s so.events (part l'.line.items).events)) (Appends-trans w v u (replies_text c s so.events) _ so.written done.2);
-          now = done.1 ∙ ap (λ k. record { config = c; state = k }) (sym (after_more c s so.events (part l'.line.items).events));
-        }
+    -- a line was read, and there was no memory for its reply
+    pub no_reply : Appends v u [] → Stops (between a d) (between w u) c s NoMemory
+    no_reply nothing =
+        let left = stops_before t.bytes NoMemory t.ongoing (λ e. cc) (line_reads script_way a b d l l' so.events so.read t).read nothing in
+        record { read = line_failed script_way a b d l l' so.events so.read t NoMemory (λ e. cc); written = left.0; front = left.1 }
 
 -- ---- a run that stops before it reads anything
 
@@ -244,8 +194,8 @@ for_any (Some x) P h = h x
 
 pub stops_at_once : (a w : Option (List ℕ)) (c : Config) (s : State) → Stops (between a a) (between w w) c s NoMemory
 stops_at_once a w c s = record {
-  read = nothing_read a NoMemory;
-  written = subst (Appends w w) (sym (ap (λ k. (answers_to c s k).text) empty)) (Appends-nil w);
+  read = nothing_read script_way a NoMemory;
+  written = subst (Appends w w) (sym (ap (λ k. (answers_to c s k).text) (empty script_way))) (Appends-nil w);
   front = for_any a (λ input. AppendsFront w w (run_of c s input).text) (λ input. record { count = 0; bound = omega arith; appended = Appends-nil w });
 }
 

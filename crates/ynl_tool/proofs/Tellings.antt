@@ -1,6 +1,6 @@
 -- Lines of events that are written one after another.
 use Rattle.std.proofs.Common.{◌≡◌, ◌≢◌, ℕ, suc, ◌+◌, ◌<◌, List, [], ◌∷◌, ◌++◌, length, drop, get_or, Bool, Option, Some, None, Result, Ok, Err, refl, sym, ap, subst, ◌∙◌, arith, append-nil, append_assoc, length-append, inr}
-use Rattle.std.specs.Prelude.{IsTrue, IfErr}
+use Rattle.std.specs.Prelude.{IsTrue, IfErr, option_map}
 use Rattle.std.specs.List.{concat}
 use Rattle.std.specs.Io.KnownBytes.{Appends}
 use Rattle.std.proofs.KnownBytes.{Appends-nil, Appends-trans}
@@ -19,13 +19,15 @@ use Rattle.ynl_core.specs.World.{World, stepped}
 use Rattle.ynl_tool.specs.declared.run.ToolFault.{ToolFault}
 use Rattle.ynl_tool.specs.declared.run.ToolFault.TheVariants.{Read, Write, NoMemory}
 use Rattle.ynl_lines.specs.declared.faults.LineFault.{LineFault}
+use Rattle.ynl_lines.specs.declared.faults.InputFault.TheVariants.{Script as InScript}
 use Rattle.ynl_lines.specs.Writing.{fault_text}
 use Rattle.ynl_tool.specs.declared.run.Summary.{Summary}
 use Rattle.ynl_tool.specs.Lines.{AppendsPart}
 use Rattle.ynl_tool.specs.Input.{Stream, between}
 use Rattle.ynl_tool.specs.Run.{line_of, faulty, fault_lines_of, fault_lines}
 use Rattle.ynl_tool.specs.Running.{Writes}
-use Rattle.ynl_tool.specs.Script.{Script, script_of, ReadsTo}
+use Rattle.ynl_tool.specs.Readings.{ReadsTo}
+use Rattle.ynl_tool.specs.Script.{Script, script_way, script_of}
 use Rattle.ynl_tool.specs.Telling.{entry_lines, entry_line, view_lines, tenant_lines, AppendsLines, LeavesLine, LeavesLines, SaysLines, TellsEvent, IsToldOf, TellsAll, TellsWhole, TellsTenant}
 use Rattle.ynl_tool.proofs.Fronts.{part_of_more, part_after}
 use Rattle.ynl_tool.proofs.Runs.{of_some}
@@ -134,9 +136,9 @@ said_of a b c t p events those r is same e said = subst (SaysLines a b (view_lin
 
 -- ---- a script that was read, and what the tenant is told of it
 
-module _ (reader : Stream) (w0 w1 : Option (List ℕ)) (c : Config) (t : Name) (p : Label) (accepted : Bool) (s : Script) (read : ReadsTo reader s) where
+module _ (reader : Stream) (w0 w1 : Option (List ℕ)) (c : Config) (t : Name) (p : Label) (accepted : Bool) (s : Script) (read : ReadsTo script_way reader s) where
   abbrev seen : List (List ℕ)
-  seen = view_lines c t p s.events
+  seen = view_lines c t p s.made
 
   pub fails : (e : ToolFault) → LeavesLines w0 w1 (tenant_lines c t p s) e → TellsTenant reader (between w0 w1) accepted c t p (Err e)
   fails Read left = absurd left
@@ -148,41 +150,41 @@ module _ (reader : Stream) (w0 w1 : Option (List ℕ)) (c : Config) (t : Name) (
   fails_early e left = fails e (leaves_more w0 w1 seen (fault_lines s) e left)
 
   module _ (sole : IsTrue (is_sole c t p)) (known : IsTrue accepted → IsTrue (is_accepted c)) where
-    ends_well : (summary : Summary) → summary.lines ≡ s.lines → summary.fault ≡ s.fault → Appends w0 w1 (concat (tenant_lines c t p s)) → TellsAll reader (between w0 w1) accepted c t p summary
+    ends_well : (summary : Summary) → summary.lines ≡ s.lines → summary.fault ≡ option_map InScript s.fault → Appends w0 w1 (concat (tenant_lines c t p s)) → TellsAll reader (between w0 w1) accepted c t p summary
     ends_well summary lines fault written = record {
       script = s;
       read = read;
       written = written;
       lines = lines;
       fault = fault;
-      same = λ is. (is_isolated c s.events t p (known is) sole).replies;
+      same = λ is. (is_isolated c s.made t p (known is) sole).replies;
       input = of_some reader.before (λ input. s ≡ script_of input) (IsToldOf (between w0 w1) accepted c t p summary)
           (λ input is. record {
             written = subst (λ (k : Script). Appends w0 w1 (concat (tenant_lines c t p k))) is written;
             lines = lines ∙ ap (λ (k : Script). k.lines) is;
-            fault = fault ∙ ap (λ (k : Script). k.fault) is;
-            same = λ is. (is_isolated c (script_of input).events t p (known is) sole).replies;
+            fault = fault ∙ ap (λ (k : Script). option_map InScript k.fault) is;
+            same = λ is. (is_isolated c (script_of input).made t p (known is) sole).replies;
           })
           read.input;
     }
 
     -- no line has a fault
-    pub ends_whole : (summary : Summary) → summary.lines ≡ s.lines → summary.fault ≡ s.fault → s.fault ≡ None → Appends w0 w1 (concat seen) → TellsAll reader (between w0 w1) accepted c t p summary
+    pub ends_whole : (summary : Summary) → summary.lines ≡ s.lines → summary.fault ≡ option_map InScript s.fault → s.fault ≡ None → Appends w0 w1 (concat seen) → TellsAll reader (between w0 w1) accepted c t p summary
     ends_whole summary lines fault none h =
         ends_well summary lines fault
         (subst (λ ls. Appends w0 w1 (concat ls)) (sym (ap (λ f. seen ++ fault_lines_of s.lines f) none ∙ append-nil seen)) h)
 
     -- what was seen is written, and then the line of the fault
-    pub ends_broken : (wm : Option (List ℕ)) (f : LineFault) (r : Result Summary ToolFault) → s.fault ≡ Some f → Appends w0 wm (concat seen) → Writes wm w1 (faulty f s.lines) r → IfErr r (λ e. e ≢ Read)
+    pub ends_broken : (wm : Option (List ℕ)) (f : LineFault) (r : Result Summary ToolFault) → s.fault ≡ Some f → Appends w0 wm (concat seen) → Writes wm w1 (faulty (InScript f) s.lines) r → IfErr r (λ e. e ≢ Read)
         → TellsTenant reader (between w0 w1) accepted c t p r
     ends_broken wm f (Ok summary) some h w other =
-        ends_well summary w.0 (w.1 ∙ sym some)
-        (subst (λ ls. Appends w0 w1 (concat ls)) (sym (ap (λ f. seen ++ fault_lines_of s.lines f) some)) (one_more w0 wm w1 seen (line_of (fault_text f s.lines)) h w.2))
+        ends_well summary w.0 (w.1 ∙ ap (option_map InScript) (sym some))
+        (subst (λ ls. Appends w0 w1 (concat ls)) (sym (ap (λ f. seen ++ fault_lines_of s.lines f) some)) (one_more w0 wm w1 seen (line_of (fault_text (InScript f) s.lines)) h w.2))
     ends_broken wm f (Err Read) some h w other = absurd (other refl)
     ends_broken wm f (Err NoMemory) some h w other =
-        fails NoMemory (subst (λ ls. LeavesLines w0 w1 ls NoMemory) (sym (ap (λ f. seen ++ fault_lines_of s.lines f) some)) (leaves_after w0 wm w1 seen (line_of (fault_text f s.lines)) [] NoMemory h w))
+        fails NoMemory (subst (λ ls. LeavesLines w0 w1 ls NoMemory) (sym (ap (λ f. seen ++ fault_lines_of s.lines f) some)) (leaves_after w0 wm w1 seen (line_of (fault_text (InScript f) s.lines)) [] NoMemory h w))
     ends_broken wm f (Err Write) some h w other =
-        fails Write (subst (λ ls. LeavesLines w0 w1 ls Write) (sym (ap (λ f. seen ++ fault_lines_of s.lines f) some)) (leaves_after w0 wm w1 seen (line_of (fault_text f s.lines)) [] Write h w))
+        fails Write (subst (λ ls. LeavesLines w0 w1 ls Write) (sym (ap (λ f. seen ++ fault_lines_of s.lines f) some)) (leaves_after w0 wm w1 seen (line_of (fault_text (InScript f) s.lines)) [] Write h w))
 
 -- what the tenant is told of the whole input
 pub tells_whole : (reader writer : Stream) (accepted : Bool) (c : Config) (t : Name) (p : Label) (r : Result Summary ToolFault) → TellsTenant reader writer accepted c t p r → TellsWhole reader writer accepted c t p r

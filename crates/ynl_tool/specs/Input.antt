@@ -1,5 +1,6 @@
 -- The lines of an input, and what reading them one after another does.
-use Rattle.std.specs.Prelude.{◌≡◌, ◌⊎◌, ℕ, ◌+◌, ◌-◌, ◌<◌, ◌≤◌, List, [], ◌∷◌, ◌++◌, length, take, true, false, ◌==◌, Option, OnSome, if◌then◌else◌}
+use Rattle.std.specs.Prelude.{◌≡◌, ◌⊎◌, ℕ, ◌+◌, ◌-◌, ◌<◌, ◌≤◌, List, [], ◌∷◌, ◌++◌, length, take, Bool, true, false, ◌||◌, ◌==◌, Option, OnSome, if◌then◌else◌}
+use Rattle.std.specs.List.{list_all}
 use Rattle.std.specs.Io.KnownBytes.{Consumes, IsAtEnd}
 use Rattle.ynl_tool.specs.declared.lines_in.Lines.{Lines}
 use Rattle.ynl_tool.specs.declared.lines_in.Next.{Next}
@@ -26,6 +27,10 @@ lines_within (b ∷ bs) budget =
     if budget == 0 then too_long ∷ []
     else if b == 10 then whole [] ∷ lines_within bs (budget - 1)
     else onto b (lines_within bs (budget - 1))
+
+-- spaces, tabs and carriage returns alone: such a line is passed over
+abbrev pub is_blank : List ℕ → Bool
+is_blank line = list_all (λ b. (b == 32) || (b == 9) || (b == 13)) line
 
 -- how many bytes of an input are read at most
 abbrev pub limit : ℕ
@@ -126,3 +131,15 @@ abbrev pub Takes : Stream → Lines → Lines → Next → Type 0
 Takes reader old new next.Line = TakesLine reader old new
 Takes reader old new next.TooLong = TakesTooLong reader old new
 Takes reader old new next.End = TakesNone reader old new
+
+-- Nothing was read, and the same lines are left.
+pub record KeepsPlace (reader : Stream) (old new : Lines) : Type 0 where
+  pub read : Consumes reader.before reader.after []
+  pub count : new.count ≡ old.count
+  pub budget : new.budget ≡ old.budget
+  pub at_end : new.at_end ≡ old.at_end
+
+-- a line was taken, or nothing was
+abbrev pub TakesAtHand : Stream → Lines → Lines → Bool → Type 0
+TakesAtHand reader old new true = TakesLine reader old new
+TakesAtHand reader old new false = KeepsPlace reader old new

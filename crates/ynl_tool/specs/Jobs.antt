@@ -17,11 +17,12 @@ use Rattle.ynl_tool.specs.Input.{Stream}
 use Rattle.ynl_tool.specs.Lines.{AppendsFront}
 use Rattle.ynl_tool.specs.Run.{line_of}
 use Rattle.ynl_tool.specs.Running.{Runs}
+use Rattle.ynl_tool.specs.Auditing.{AuditsJournal}
 use Rattle.ynl_tool.specs.Telling.{TellsTenant}
 use Rattle.ynl_tool.specs.declared.jobs.JobRefusal.{JobRefusal}
 use Rattle.ynl_tool.specs.declared.jobs.JobRefusal.TheVariants.{Config, NotSole}
 use Rattle.ynl_tool.specs.declared.words.Kind.{Kind}
-use Rattle.ynl_tool.specs.declared.words.Kind.TheVariants.{Run, Tenant}
+use Rattle.ynl_tool.specs.declared.words.Kind.TheVariants.{Run, Tenant, Audit}
 
 -- how many bytes of a configuration are read at most: one more than it may have
 abbrev pub most_read : ℕ
@@ -80,6 +81,12 @@ RunsJob reader writer c (Ok (Ok summary)) = Runs reader writer c (opening c) (Ok
 RunsJob reader writer c (Ok (Err refusal)) = ⊥
 RunsJob reader writer c (Err e) = Runs reader writer c (opening c) (Err e)
 
+-- an audit against a cluster of this configuration
+abbrev pub AuditsJob : Stream → Stream → Configured → Ending → Type 0
+AuditsJob reader writer c (Ok (Ok summary)) = AuditsJournal reader writer c (Ok summary)
+AuditsJob reader writer c (Ok (Err refusal)) = ⊥
+AuditsJob reader writer c (Err e) = AuditsJournal reader writer c (Err e)
+
 -- what a tenant's partition sees is told, where the tenant is alone there
 abbrev pub TellsJob : Stream → Stream → Bool → Configured → Name → Label → Bool → Ending → Type 0
 TellsJob reader writer accepted c t p true (Ok (Ok summary)) = TellsTenant reader writer accepted c t p (Ok summary)
@@ -91,6 +98,7 @@ TellsJob reader writer accepted c t p false ended = NotBegun reader writer NotSo
 abbrev pub DoesJob : Stream → Stream → Bool → Kind → Configured → Ending → Type 0
 DoesJob reader writer accepted Run c ended = RunsJob reader writer c ended
 DoesJob reader writer accepted (Tenant t p) c ended = TellsJob reader writer accepted c t p (is_sole c t p) ended
+DoesJob reader writer accepted Audit c ended = AuditsJob reader writer c ended
 
 -- the job with this configuration, which is accepted; or its fault, where there is none
 abbrev pub DoesWith : Stream → Stream → Kind → Result Configured ConfigFault → Ending → Type 0

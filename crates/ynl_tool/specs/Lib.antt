@@ -1,6 +1,10 @@
+pub mod Audit
+pub mod Audited
+pub mod Auditing
 pub mod Input
 pub mod Jobs
 pub mod Lines
+pub mod Readings
 pub mod Run
 pub mod Running
 pub mod Script

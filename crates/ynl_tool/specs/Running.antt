@@ -1,7 +1,7 @@
 -- What a run does to its reader and its writer.
-use Rattle.std.specs.Prelude.{◌≡◌, ℕ, List, [], ◌++◌, Option, Some, None, IfSome, Result, Ok, Err, IfOk, Vec}
+use Rattle.std.specs.Prelude.{◌≡◌, ◌⊎◌, ℕ, List, [], ◌++◌, Option, Some, None, IfSome, Result, Ok, Err, IfOk, Vec}
 use Rattle.std.specs.Global.{Global}
-use Rattle.std.specs.Io.KnownBytes.{Appends}
+use Rattle.std.specs.Io.KnownBytes.{Appends, Consumes}
 use Rattle.ynl_model.specs.Queues.{Config}
 use Rattle.ynl_model.specs.Cluster.{State}
 use Rattle.ynl_model.specs.Events.{after}
@@ -10,9 +10,13 @@ use Rattle.ynl_lines.specs.declared.faults.LineFault.{LineFault}
 use Rattle.ynl_tool.specs.declared.run.ToolFault.{ToolFault}
 use Rattle.ynl_tool.specs.declared.run.ToolFault.TheVariants.{Read, Write, NoMemory}
 use Rattle.ynl_tool.specs.declared.run.Summary.{Summary}
-use Rattle.ynl_tool.specs.Input.{Stream}
+use Rattle.ynl_tool.specs.declared.lines_in.Lines.{Lines}
+use Rattle.ynl_tool.specs.declared.lines_in.Next.{Next}
+use Rattle.ynl_tool.specs.declared.lines_in.Next.TheVariants as next
+use Rattle.ynl_tool.specs.Input.{Stream, TakesLine, TakesTooLong, TakesNone, BreaksOff}
 use Rattle.ynl_tool.specs.Lines.{AppendsFront, AppendsPart}
-use Rattle.ynl_tool.specs.Script.{Script, part, ReadsTo, ReadsSome}
+use Rattle.ynl_tool.specs.Readings.{ReadsTo, ReadsSome}
+use Rattle.ynl_tool.specs.Script.{Script, part, script_way}
 use Rattle.ynl_tool.specs.Run.{Outcome, replies_text, run_of}
 
 -- What is written after an error: a front of the text, but not all of it, after a fault of the writer, and nothing after another.
@@ -31,15 +35,30 @@ Replies c s next line (Ok (Ok text)) = IsAnswered c s next line (text.items ≡ 
 Replies c s next line (Ok (Err f)) = (part line).fault ≡ Some f
 Replies c s next line (Err e) = Unit {0}
 
--- A line was answered, or has a fault, of which nothing is written yet. A write fails only once the line is answered, and a read never.
-abbrev pub Answers : Option (List ℕ) → Option (List ℕ) → Config → State → World → List ℕ → Result (Option LineFault) ToolFault → Type 0
-Answers old new c s next line (Ok None) = IsAnswered c s next line (Appends old new (replies_text c s (part line).events))
-Answers old new c s next line (Ok (Some f)) = ((part line).fault ≡ Some f) × Appends old new []
-Answers old new c s next line (Err Read) = ⊥
-Answers old new c s next line (Err NoMemory) = Appends old new []
-Answers old new c s next line (Err Write) = IsAnswered c s next line (AppendsPart old new (replies_text c s (part line).events))
+-- A line was answered in the text that is held back, or has a fault, or there was no memory, and then that text is as it was.
+abbrev pub Holds : {E : Type 0} → List ℕ → List ℕ → Config → State → World → List ℕ → Result (Option LineFault) E → Type 0
+Holds old new c s next line (Ok None) = IsAnswered c s next line (new ≡ old ++ replies_text c s (part line).events)
+Holds old new c s next line (Ok (Some f)) = ((part line).fault ≡ Some f) × (new ≡ old)
+Holds old new c s next line (Err e) = new ≡ old
 
--- what ends a run was written
+-- the text that was held back is written, and none is held now
+abbrev pub Released : Stream → List ℕ → List ℕ → Type 0
+Released writer old new = Appends writer.before writer.after old × (new ≡ [])
+
+-- the text that is held back is as it was, and nothing was written; or it was written
+abbrev pub HoldsOn : Stream → List ℕ → List ℕ → Type 0
+HoldsOn writer old new = ((writer.after ≡ writer.before) × (new ≡ old)) ⊎ Released writer old new
+
+-- A line was taken; or none is left, and all text is written. A write fails before anything is read, and a read once all text is written.
+abbrev pub GoesOn : Stream → Stream → Lines → Lines → List ℕ → List ℕ → Result Next ToolFault → Type 0
+GoesOn reader writer old new held kept (Ok next.Line) = TakesLine reader old new × HoldsOn writer held kept
+GoesOn reader writer old new held kept (Ok next.TooLong) = TakesTooLong reader old new × Released writer held kept
+GoesOn reader writer old new held kept (Ok next.End) = TakesNone reader old new × Released writer held kept
+GoesOn reader writer old new held kept (Err Write) = Consumes reader.before reader.after [] × AppendsPart writer.before writer.after held
+GoesOn reader writer old new held kept (Err Read) = BreaksOff reader old × Appends writer.before writer.after held
+GoesOn reader writer old new held kept (Err NoMemory) = BreaksOff reader old × Appends writer.before writer.after held
+
+-- what ends a job was written
 abbrev pub Writes : Option (List ℕ) → Option (List ℕ) → Outcome → Result Summary ToolFault → Type 0
 Writes old new o (Ok summary) = (summary.lines ≡ o.lines) × (summary.fault ≡ o.fault) × Appends old new o.text
 Writes old new o (Err e) = LeavesFront old new o.text e
@@ -63,14 +82,14 @@ RunsWhole reader writer c s r = IfOk r (λ summary. IfSome reader.before (IsRunO
 -- A script was read. The run wrote the text of the whole input, which is that of what it read, and nothing else.
 pub record RunsTo (reader writer : Stream) (c : Config) (s : State) (summary : Summary) : Type 0 where
   pub script : Script
-  pub read : ReadsTo reader script
+  pub read : ReadsTo script_way reader script
   pub ran : IsRunOf writer c s summary (read.lines.bytes ++ read.lines.last)
   pub input : IfSome reader.before (IsRunOf writer c s summary)
 
 -- Whole lines without a fault were read, and then one line at most. The run wrote the text of the lines before that one, and of
 -- that one a front if a write failed, and else nothing: a front of the text of the whole input.
 pub record Stops (reader writer : Stream) (c : Config) (s : State) (e : ToolFault) : Type 0 where
-  pub read : ReadsSome reader e
+  pub read : ReadsSome script_way reader e
   pub written : LeavesMore writer (run_of c s read.lines.bytes).text (run_of c s (read.lines.bytes ++ read.lines.last)).text e
   pub front : IfSome reader.before (λ input. AppendsFront writer.before writer.after (run_of c s input).text)
 

@@ -1,22 +1,16 @@
 -- The script that an input is: its events.
-use Rattle.std.specs.Prelude.{◌≡◌, ℕ, ◌+◌, List, [], ◌∷◌, ◌++◌, Bool, ◌||◌, ◌==◌, Option, Some, None, IfSome, IfNone, Result, Ok, Err, IfOk, if◌then◌else◌}
-use Rattle.std.specs.List.{list_all}
+use Rattle.std.specs.Prelude.{◌≡◌, ℕ, List, [], ◌∷◌, ◌++◌, Option, Some, None, IfSome, Result, Ok, Err, IfOk, if◌then◌else◌}
 use Rattle.ynl_model.specs.declared.events.Event.{Event}
 use Rattle.ynl_lines.specs.declared.faults.LineFault.{LineFault}
 use Rattle.ynl_lines.specs.declared.faults.LineFault.TheVariants as fault
 use Rattle.ynl_lines.specs.Reading.{event_of_line}
 use Rattle.ynl_tool.specs.declared.lines_in.ReadFault.{ReadFault}
-use Rattle.ynl_tool.specs.declared.run.ToolFault.{ToolFault}
-use Rattle.ynl_tool.specs.declared.run.ToolFault.TheVariants.{Read, Write}
 use Rattle.ynl_tool.specs.declared.script_in.Script.{Script as Kept}
-use Rattle.ynl_tool.specs.Input.{Line, whole, too_long, lines_within, limit, Stream, MetEnd, ReadsLines, IsBrokenOff, IsComplete}
+use Rattle.ynl_tool.specs.Input.{is_blank, Stream}
 use Rattle.ynl_tool.specs.Lines.{tool_fault}
+use Rattle.ynl_tool.specs.Readings.{Way, Reading, reading_of, come_to, ReadsTo, ReadsSome}
 
 -- ---- what an input is
-
--- spaces, tabs and carriage returns alone
-abbrev pub is_blank : List ℕ → Bool
-is_blank line = list_all (λ b. (b == 32) || (b == 9) || (b == 13)) line
 
 -- what one line adds to a script: an event, or nothing, or the fault that ends it
 pub record Part : Type 0 where
@@ -37,39 +31,31 @@ abbrev pub part : List ℕ → Part
 part line = if is_blank line then no_part else part_of (event_of_line line)
 
 -- a script: its events, how many lines were read for them, and the fault that ends it, if one does
-pub record Script : Type 0 where
-  pub events : List Event
-  pub lines : ℕ
-  pub fault : Option LineFault
+abbrev pub Script : Type 0
+Script = Reading (List Event) LineFault
 
--- a script without events, after so many lines
-abbrev pub no_script : Option LineFault → ℕ → Script
-no_script f n = record { events = []; lines = n; fault = f }
+-- events and more, unless there is a fault
+abbrev pub joined : List Event → List Event → Option LineFault → Result (List Event) LineFault
+joined events more None = Ok (events ++ more)
+joined events more (Some f) = Err f
 
--- a fault ends a script
-abbrev pub unless_broken : Option LineFault → ℕ → Script → Script
-unless_broken None n rest = rest
-unless_broken (Some f) n rest = no_script (Some f) n
+-- the events with those that a line adds, or its fault
+abbrev pub add_events : List Event → List ℕ → Result (List Event) LineFault
+add_events events line = joined events (part line).events (part line).fault
 
--- a script after some events
-abbrev pub after_events : List Event → Script → Script
-after_events events rest = record { events = events ++ rest.events; lines = rest.lines; fault = rest.fault }
-
--- the script of these lines, after n lines
-unfoldable pub script : List Line → ℕ → Script
-script [] n = no_script None n
-script (too_long ∷ ls) n = no_script (Some fault.Size) (n + 1)
-script (whole l ∷ ls) n = after_events (part l).events (unless_broken (part l).fault (n + 1) (script ls (n + 1)))
+-- how a script is read
+abbrev pub script_way : Way (List Event) LineFault
+script_way = record { start = []; add = add_events; size = fault.Size }
 
 -- the script of an input
 abbrev pub script_of : List ℕ → Script
-script_of bytes = script (lines_within bytes limit) 0
+script_of bytes = reading_of script_way bytes
 
 -- ---- reading it
 
 -- the script that was read
 abbrev pub script_read : Kept → Script
-script_read s = record { events = s.events.items; lines = s.summary.lines; fault = s.summary.fault }
+script_read s = come_to s.events.items s.lines s.fault
 
 -- a line was added to the events, or has a fault
 abbrev pub Adds : {E : Type 0} → List Event → List Event → List ℕ → Result (Option LineFault) E → Type 0
@@ -77,28 +63,10 @@ Adds before after line (Ok None) = ((part line).fault ≡ None) × (after ≡ be
 Adds before after line (Ok (Some f)) = ((part line).fault ≡ Some f) × (after ≡ before)
 Adds before after line (Err e) = Unit {0}
 
--- Whole lines were read, and then one line at most, and none after it. No line before that one has a fault, and where that one has
--- none the input is at its end. The script is that of the whole input, which is that of what was read.
-pub record ReadsTo (reader : Stream) (s : Script) : Type 0 where
-  pub lines : ReadsLines reader
-  pub good : (script_of lines.bytes).fault ≡ None
-  pub complete : IsComplete lines
-  pub ended : IfNone s.fault (MetEnd reader)
-  pub is : s ≡ script_of (lines.bytes ++ lines.last)
-  pub input : IfSome reader.before (λ input. s ≡ script_of input)
-
--- Whole lines without a fault were read, and then one line at most, with its newline or a part of it. A read fails within
--- a line that is not too long, and a write only once a line was read to its end.
-pub record ReadsSome (reader : Stream) (e : ToolFault) : Type 0 where
-  pub lines : ReadsLines reader
-  pub good : (script_of lines.bytes).fault ≡ None
-  pub reading : e ≡ Read → IsBrokenOff lines
-  pub writing : e ≡ Write → IsComplete lines
-
 -- what was read, whether a script came of it or an error
 abbrev pub ReadsScript : Stream → Result Kept ReadFault → Type 0
-ReadsScript reader (Ok s) = ReadsTo reader (script_read s)
-ReadsScript reader (Err e) = ReadsSome reader (tool_fault e)
+ReadsScript reader (Ok s) = ReadsTo script_way reader (script_read s)
+ReadsScript reader (Err e) = ReadsSome script_way reader (tool_fault e)
 
 -- the script of the whole input, where the reader tells its bytes
 abbrev pub ReadsWhole : Stream → Result Kept ReadFault → Type 0

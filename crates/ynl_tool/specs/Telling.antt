@@ -1,5 +1,5 @@
 -- What is told to a tenant: the events that its partition sees, and the replies of the cluster that holds the tenant alone.
-use Rattle.std.specs.Prelude.{◌≡◌, ◌⊎◌, ℕ, ◌≤◌, Bool, IsTrue, List, [], ◌∷◌, ◌++◌, length, take, Option, IfSome, Result, Ok, Err, IfOk}
+use Rattle.std.specs.Prelude.{◌≡◌, ◌⊎◌, ℕ, ◌≤◌, Bool, IsTrue, List, [], ◌∷◌, ◌++◌, length, take, Option, option_map, IfSome, Result, Ok, Err, IfOk}
 use Rattle.std.specs.List.{concat}
 use Rattle.std.specs.Io.KnownBytes.{Appends}
 use Rattle.ynl_resource.specs.declared.names.Name.{Name}
@@ -11,6 +11,7 @@ use Rattle.ynl_model.specs.Events.{step, replies_to}
 use Rattle.ynl_model.specs.View.{Viewed, view, events_of, places_of, restrict}
 use Rattle.ynl_model.specs.Promises.{HasSameReplies}
 use Rattle.ynl_core.specs.World.{World, stepped}
+use Rattle.ynl_lines.specs.declared.faults.InputFault.TheVariants.{Script as InScript}
 use Rattle.ynl_lines.specs.Writing.{line_text}
 use Rattle.ynl_tool.specs.declared.run.ToolFault.{ToolFault}
 use Rattle.ynl_tool.specs.declared.run.ToolFault.TheVariants.{Read, Write, NoMemory}
@@ -18,7 +19,8 @@ use Rattle.ynl_tool.specs.declared.run.Summary.{Summary}
 use Rattle.ynl_tool.specs.Input.{Stream}
 use Rattle.ynl_tool.specs.Lines.{AppendsPart}
 use Rattle.ynl_tool.specs.Run.{line_of, fault_lines}
-use Rattle.ynl_tool.specs.Script.{Script, script_of, ReadsTo, ReadsSome}
+use Rattle.ynl_tool.specs.Readings.{ReadsTo, ReadsSome}
+use Rattle.ynl_tool.specs.Script.{Script, script_way, script_of}
 
 -- ---- what is written
 
@@ -39,7 +41,7 @@ view_lines c t p events = seen_lines (restrict c t) (view c events t p)
 
 -- what a tenant is told of a script
 abbrev pub tenant_lines : Config → Name → Label → Script → List (List ℕ)
-tenant_lines c t p s = view_lines c t p s.events ++ fault_lines s
+tenant_lines c t p s = view_lines c t p s.made ++ fault_lines s
 
 -- ---- writing it
 
@@ -86,8 +88,8 @@ AreThose accepted c events t p = IsTrue accepted → HasSameReplies c events t p
 pub record IsToldOf (writer : Stream) (accepted : Bool) (c : Config) (t : Name) (p : Label) (summary : Summary) (input : List ℕ) : Type 0 where
   pub written : Appends writer.before writer.after (concat (tenant_lines c t p (script_of input)))
   pub lines : summary.lines ≡ (script_of input).lines
-  pub fault : summary.fault ≡ (script_of input).fault
-  pub same : AreThose accepted c (script_of input).events t p
+  pub fault : summary.fault ≡ option_map InScript (script_of input).fault
+  pub same : AreThose accepted c (script_of input).made t p
 
 -- the whole input, where the reader tells its bytes
 abbrev pub TellsWhole : Stream → Stream → Bool → Config → Name → Label → Result Summary ToolFault → Type 0
@@ -96,22 +98,22 @@ TellsWhole reader writer accepted c t p r = IfOk r (λ summary. IfSome reader.be
 -- the script was read, and the tenant was told of it and of nothing else
 pub record TellsAll (reader writer : Stream) (accepted : Bool) (c : Config) (t : Name) (p : Label) (summary : Summary) : Type 0 where
   pub script : Script
-  pub read : ReadsTo reader script
+  pub read : ReadsTo script_way reader script
   pub written : Appends writer.before writer.after (concat (tenant_lines c t p script))
   pub lines : summary.lines ≡ script.lines
-  pub fault : summary.fault ≡ script.fault
-  pub same : AreThose accepted c script.events t p
+  pub fault : summary.fault ≡ option_map InScript script.fault
+  pub same : AreThose accepted c script.made t p
   pub input : IfSome reader.before (IsToldOf writer accepted c t p summary)
 
 -- the script was read, and then an error left a front of what the tenant is told
 pub record TellsSome (reader writer : Stream) (c : Config) (t : Name) (p : Label) (e : ToolFault) : Type 0 where
   pub script : Script
-  pub read : ReadsTo reader script
+  pub read : ReadsTo script_way reader script
   pub written : LeavesLines writer.before writer.after (tenant_lines c t p script) e
 
 -- the script was not read to its end, and nothing was written
 pub record TellsNothing (reader writer : Stream) (e : ToolFault) : Type 0 where
-  pub read : ReadsSome reader e
+  pub read : ReadsSome script_way reader e
   pub unwritten : Appends writer.before writer.after []
 
 -- Only once the script has been read the tenant is told of it.

@@ -8,7 +8,7 @@ use Rattle.ynl_resource.specs.declared.names.Name.{Name}
 use Rattle.ynl_resource.specs.declared.labels.Label.{Label}
 use Rattle.ynl_resource.specs.Texts.{read_name, read_label}
 use Rattle.ynl_tool.specs.declared.words.Kind.{Kind}
-use Rattle.ynl_tool.specs.declared.words.Kind.TheVariants.{Run, Tenant}
+use Rattle.ynl_tool.specs.declared.words.Kind.TheVariants.{Run, Tenant, Audit}
 
 -- the option `--config FILE`
 abbrev pub config_rule : Rule
@@ -30,13 +30,17 @@ run_command = with_rule (new_app (codes "run")) config_rule
 abbrev pub tenant_command : App
 tenant_command = with_rule (with_rule (with_rule (new_app (codes "tenant")) tenant_rule) label_rule) config_rule
 
+-- the subcommand `audit`
+abbrev pub audit_command : App
+audit_command = with_rule (new_app (codes "audit")) config_rule
+
 -- the command `ynl`, which wants a subcommand, without those that there are
 abbrev pub bare_command : App
 bare_command = on_top (λ s. record s { subcommand_required = true }) (new_app (codes "ynl"))
 
 -- the command `ynl`
 abbrev pub command : App
-command = with_subcommand (with_subcommand bare_command run_command.top) tenant_command.top
+command = with_subcommand (with_subcommand (with_subcommand bare_command run_command.top) tenant_command.top) audit_command.top
 
 -- the file that the options of a subcommand name for the configuration, where they name one
 abbrev pub file_met : Text × List Row → Option Text
@@ -65,6 +69,7 @@ abbrev pub kind_met : Text × List Row → Option Kind
 kind_met met =
     if bytes_eq met.0 (codes "tenant")
     then tenant_by (option_and_then name_in (first_of (codes "tenant") met.1)) (option_and_then label_in (first_of (codes "label") met.1))
+    else if bytes_eq met.0 (codes "audit") then Some Audit
     else Some Run
 
 -- what the words ask for

@@ -6,6 +6,7 @@ ghost use Rattle.ynl_tool.specs.Input.{between};
 ghost use Rattle.ynl_tool.specs.Lines.{AppendsFront};
 ghost use Rattle.ynl_tool.specs.Jobs.{error_line, config_line, refusal_line, status_of, DoesJob, DoesText, Executes};
 
+use crate::audit::audit_lines;
 use crate::lines_out::{write_text, write_three};
 use crate::run::{Summary, ToolFault, run_lines};
 use crate::tenant::tenant_lines;
@@ -86,6 +87,10 @@ fn do_job<R: BufRead, W: Write>(
                 Err(fault) => Err(fault),
             }
         }
+        Kind::Audit => match audit_lines(alloc, config, reader, writer) {
+            Ok(summary) => Ok(Ok(summary)),
+            Err(fault) => Err(fault),
+        },
     }
 }
 

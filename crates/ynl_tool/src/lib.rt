@@ -2,6 +2,7 @@
 //! events of an input, and tells how that ended.
 #![tactic(auto)]
 
+pub use audit::audit_lines;
 pub use config_text::{fault_of, read_text};
 pub use jobs::{execute, tell};
 pub use run::{Summary, ToolFault, run_lines};
@@ -10,6 +11,8 @@ pub use tenant::tenant_lines;
 pub use words::{Job, Kind, WordsFault, parse_words};
 pub use ynl_config::BUILT_IN;
 
+mod audit;
+pub mod audit_laws;
 mod config_text;
 mod jobs;
 mod lines_in;

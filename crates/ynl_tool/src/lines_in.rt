@@ -2,7 +2,7 @@
 
 ghost use Rattle.std.specs.Prelude.{◌≡◌, ◌≢◌, ◌+◌, ◌<◌, ◌≤◌, All, IfOk, IfErr, false, length, take, vec_len, slice_index};
 ghost use Rattle.std.specs.IoError.{error_kind};
-ghost use Rattle.ynl_tool.specs.Input.{between, limit, BreaksOff, Takes};
+ghost use Rattle.ynl_tool.specs.Input.{between, is_blank, limit, BreaksOff, Takes, TakesAtHand};
 ghost use Rattle.ynl_tool.specs.Lines.{read_fault, AddsShown, FailsAs, GivesPiece, GivesLine};
 
 use std::alloc::{AllocError, Global};
@@ -78,11 +78,13 @@ struct Taken {
     end: Option<LineEnd>,
 }
 
-/// Adds what the reader shows of the line. It fails as the reader did, or where memory was refused.
+/// Adds what the reader shows of the line, and notes whether it shows more beyond. It fails as the
+/// reader did, or where memory was refused.
 fn add_shown(
     shown: io::Result<&[u8]>,
     line: &mut Vec<u8>,
     budget: usize,
+    more: &mut bool,
 ) -> Result<Taken, ReadFault>
     requires { vec_len line.old ≤ budget }
     ensures shown { IfOk shown.entry (λ bytes. AddsShown bytes.now line.old.items line.new.items budget result) }
@@ -104,6 +106,7 @@ fn add_shown(
     let within = room.min(shown.len());
     let count = newline_or_end(&shown[..within]);
     line.extend_from_slice(&shown[..count])?;
+    *more = within - count > 1;
     if count < within {
         let end = Some(LineEnd::Newline);
         return Ok(Taken {
@@ -119,26 +122,29 @@ fn take_piece<R: BufRead>(
     reader: &mut R,
     line: &mut Vec<u8>,
     budget: usize,
+    more: &mut bool,
 ) -> Result<Option<LineEnd>, ReadFault>
     requires { vec_len line.old ≤ budget }
     ensures { GivesPiece (R.remaining reader.old) (R.remaining reader.new) line.old.items line.new.items budget result }
 {
-    let taken = add_shown(reader.fill_buf(), line, budget)?;
+    let taken = add_shown(reader.fill_buf(), line, budget, more)?;
     reader.consume(taken.count);
     Ok(taken.end)
 }
 
-/// Reads a line into `line`, of at most `budget` bytes with its newline.
+/// Reads a line into `line`, of at most `budget` bytes with its newline, and notes whether the reader
+/// showed more beyond it.
 fn read_line<R: BufRead>(
     reader: &mut R,
     line: &mut Vec<u8>,
     budget: usize,
+    more: &mut bool,
 ) -> Result<LineEnd, ReadFault>
     ensures { GivesLine (R.remaining reader.old) (R.remaining reader.new) line.new.items budget result }
 {
     line.clear();
     loop {
-        if let Some(end) = take_piece(reader, line, budget)? {
+        if let Some(end) = take_piece(reader, line, budget, more)? {
             return Ok(end);
         }
     }
@@ -155,6 +161,14 @@ pub enum Next {
     End,
 }
 
+/// Whether a line is spaces, tabs and carriage returns alone: such a line is passed over.
+pub fn is_blank(line: &[u8]) -> bool
+    ensures { result ≡ is_blank line.now }
+{
+    line.iter()
+        .all(|b| *b == b' ' || *b == b'\t' || *b == b'\r')
+}
+
 /// The lines of an input, one after another. All that reads lines reads them here.
 #[derive(Drop)]
 pub struct Lines {
@@ -166,6 +180,9 @@ pub struct Lines {
     budget: usize,
     /// Whether the end was met. A reader is not asked again then, since a terminal would wait.
     at_end: bool,
+    /// Whether the reader showed more beyond the line that was read last, so that a look at it needs no
+    /// waiting. A hint: no contract rests on it.
+    shows_more: bool,
 }
 
 impl Lines {
@@ -180,6 +197,7 @@ impl Lines {
             count: 0,
             budget: LIMIT,
             at_end: false,
+            shows_more: false,
         }
     }
 
@@ -213,7 +231,7 @@ impl Lines {
         if self.at_end {
             return Ok(Next::End);
         }
-        match read_line(reader, &mut self.line, self.budget)? {
+        match read_line(reader, &mut self.line, self.budget, &mut self.shows_more)? {
             LineEnd::Newline => {
                 let bytes = self.length() + 1;
                 self.count_line(bytes);
@@ -232,6 +250,35 @@ impl Lines {
                 self.count += 1;
                 Ok(Next::TooLong)
             }
+        }
+    }
+
+    /// Takes the next line if the reader shows the whole of it, with its newline, without reading more of
+    /// its input. Else nothing is taken: also where the reader fails or there is no memory for the line,
+    /// which `next` tells.
+    pub fn take_at_hand<R: BufRead>(&mut self, reader: &mut R) -> bool
+        requires { self.old.count + self.old.budget ≤ limit }
+        ensures { TakesAtHand (between (R.remaining reader.old) (R.remaining reader.new)) self.old self.new result }
+    {
+        if self.at_end || !self.shows_more {
+            return false;
+        }
+        self.line.clear();
+        let shown = reader.fill_buf();
+        let Ok(taken) = add_shown(shown, &mut self.line, self.budget, &mut self.shows_more) else {
+            return false;
+        };
+        let Some(end) = taken.end else {
+            return false;
+        };
+        match end {
+            LineEnd::Newline => {
+                reader.consume(taken.count);
+                let bytes = self.length() + 1;
+                self.count_line(bytes);
+                true
+            }
+            _ => false,
         }
     }
 }

@@ -1,20 +1,21 @@
 //! The run: events are read line by line, and the reply to each is written.
 
-ghost use Rattle.std.specs.Prelude.{◌≡◌, ◌≢◌, IfOk, IfErr};
+ghost use Rattle.std.specs.Prelude.{◌≡◌, ◌≢◌, ◌+◌, ◌≤◌, [], IfOk, IfErr, OnOk, OnErr};
+ghost use Rattle.std.specs.Io.KnownBytes.{Appends};
 ghost use Rattle.ynl_model.specs.Cluster.{opening};
 ghost use Rattle.ynl_tool.specs.declared.run.ToolFault.TheVariants.{Read};
-ghost use Rattle.ynl_tool.specs.Input.{between};
+ghost use Rattle.ynl_tool.specs.Input.{between, limit};
+ghost use Rattle.ynl_tool.specs.Lines.{AppendsPart};
 ghost use Rattle.ynl_tool.specs.Run.{faulty, line_of};
-ghost use Rattle.ynl_tool.specs.Running.{Replies, Answers, Writes, Runs, RunsWhole};
-ghost use Rattle.ynl_tool.specs.Script.{is_blank};
+ghost use Rattle.ynl_tool.specs.Running.{Replies, Holds, GoesOn, Writes, Runs, RunsWhole};
 
-use crate::lines_in::{Lines, Next, ReadFault};
+use crate::lines_in::{Lines, Next, ReadFault, is_blank};
 use crate::lines_out::{WriteFault, write_text};
 use std::alloc::{AllocError, Global};
 use std::io::{BufRead, Write};
 use thiserror::Error;
 use ynl_core::{Core, NoMemory};
-use ynl_lines::{LineFault, read_event, write_fault, write_reply};
+use ynl_lines::{InputFault, LineFault, read_event, write_fault, write_reply};
 use ynl_queues::Config;
 
 /// Why a run ended before its input did.
@@ -78,19 +79,11 @@ impl From<ReadFault> for ToolFault {
     }
 }
 
-/// What a run read: how many lines, and the fault that ended it, if one did.
+/// What a job read: how many lines, and the fault that ended it, if one did.
 #[derive(Clone, Copy, Debug, PartialEq, Eq)]
 pub struct Summary {
     pub lines: u64,
-    pub fault: Option<LineFault>,
-}
-
-/// Whether a line is spaces, tabs and carriage returns alone.
-pub fn is_blank(line: &[u8]) -> bool
-    ensures { result ≡ is_blank line.now }
-{
-    line.iter()
-        .all(|b| *b == b' ' || *b == b'\t' || *b == b'\r')
+    pub fault: Option<InputFault>,
 }
 
 /// A text and the newline that ends its line.
@@ -122,22 +115,54 @@ fn reply_to(
     Ok(Ok(with_newline(text)?))
 }
 
-/// Answers one line, or gives its fault.
-fn answer<W: Write>(
+/// How long the text may get that is held back, in bytes, before it is written ahead of the next line.
+const HELD: usize = 65536;
+
+/// Answers one line, with the text added to what is held back, or gives its fault.
+fn answer(
     alloc: Global,
     core: &mut Core,
     line: &[u8],
-    writer: &mut W,
-) -> Result<Option<LineFault>, ToolFault>
-    ensures { Answers (W.contents writer.old) (W.contents writer.new) core.old.config core.old.state core.new line.now result }
+    held: &mut Vec<u8>,
+) -> Result<Option<LineFault>, NoMemory>
+    ensures { Holds held.old.items held.new.items core.old.config core.old.state core.new line.now result }
 {
     match reply_to(alloc, core, line)? {
         Ok(text) => {
-            write_text(writer, &text)?;
+            held.extend_from_slice(&text)?;
             Ok(None)
         }
         Err(fault) => Ok(Some(fault)),
     }
+}
+
+/// Writes the text that is held back, and holds none then.
+fn write_held<W: Write>(writer: &mut W, held: &mut Vec<u8>) -> Result<(), WriteFault>
+    ensures ok { OnOk result (Appends (W.contents writer.old) (W.contents writer.new) held.old.items) }
+    ensures none { OnOk result (held.new.items ≡ []) }
+    ensures err { OnErr result (AppendsPart (W.contents writer.old) (W.contents writer.new) held.old.items) }
+{
+    write_text(writer, held)?;
+    held.clear();
+    Ok(())
+}
+
+/// Reads the next line. Before more of the input is read the text that is held back is written, so that
+/// nobody waits for a reply while the reader waits for input.
+fn go_on<R: BufRead, W: Write>(
+    input: &mut Lines,
+    reader: &mut R,
+    held: &mut Vec<u8>,
+    writer: &mut W,
+) -> Result<Next, ToolFault>
+    requires { input.old.count + input.old.budget ≤ limit }
+    ensures { GoesOn (between (R.remaining reader.old) (R.remaining reader.new)) (between (W.contents writer.old) (W.contents writer.new)) input.old input.new held.old.items held.new.items result }
+{
+    if held.len() < HELD && input.take_at_hand(reader) {
+        return Ok(Next::Line);
+    }
+    write_held(writer, held)?;
+    Ok(input.next(reader)?)
 }
 
 /// Answers the lines of the reader, to its end or to the first line with a fault.
@@ -150,17 +175,29 @@ fn answer_lines<R: BufRead, W: Write>(
     ensures { Runs (between (R.remaining reader.old) (R.remaining reader.new)) (between (W.contents writer.old) (W.contents writer.new)) core.old.config core.old.state result }
 {
     let mut input = Lines::new(alloc);
+    let mut held = Vec::new(alloc);
     'lines: loop {
-        match input.next(reader)? {
-            Next::TooLong => return report(alloc, writer, LineFault::Size, input.count),
+        match go_on(&mut input, reader, &mut held, writer)? {
+            Next::TooLong => {
+                let fault = InputFault::Script(LineFault::Size);
+                return report(alloc, writer, fault, input.count);
+            }
             Next::End => return Ok(Summary {
                 lines: input.count,
                 fault: None,
             }),
             Next::Line => {}
         }
-        if let Some(fault) = answer(alloc, core, &input.line, writer)? {
-            return report(alloc, writer, fault, input.count);
+        match answer(alloc, core, &input.line, &mut held) {
+            Ok(None) => {}
+            Ok(Some(fault)) => {
+                write_held(writer, &mut held)?;
+                return report(alloc, writer, InputFault::Script(fault), input.count);
+            }
+            Err(NoMemory) => {
+                write_held(writer, &mut held)?;
+                return Err(ToolFault::NoMemory);
+            }
         }
     }
 }
@@ -169,7 +206,7 @@ fn answer_lines<R: BufRead, W: Write>(
 pub fn report<W: Write>(
     alloc: Global,
     writer: &mut W,
-    fault: LineFault,
+    fault: InputFault,
     lines: u64,
 ) -> Result<Summary, ToolFault>
     ensures text { Writes (W.contents writer.old) (W.contents writer.new) (faulty fault lines) result }
@@ -184,9 +221,10 @@ pub fn report<W: Write>(
 }
 
 /// Runs a cluster of this configuration, from its opening state, on the events of the reader, and
-/// writes the reply to each as soon as its line is read: to the end of the input, or to the first
-/// line with a fault, which is reported in the last line written. An input of more than 67,108,864
-/// bytes has a fault in the line where it gets too long.
+/// writes the reply to each: to the end of the input, or to the first line with a fault, which is
+/// reported in the last line written. Replies are held back while the reader shows whole lines, and
+/// written before more of its input is read. An input of more than 67,108,864 bytes has a fault in the
+/// line where it gets too long.
 ///
 /// At an error what is written is the text of the lines before: and if the writer failed, perhaps
 /// a front of the text of one line more.

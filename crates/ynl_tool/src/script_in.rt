@@ -2,20 +2,22 @@
 
 ghost use Rattle.std.specs.Prelude.{◌≡◌};
 ghost use Rattle.ynl_tool.specs.Input.{between};
+ghost use Rattle.ynl_tool.specs.Readings.{come_to};
 ghost use Rattle.ynl_tool.specs.Script.{script_read, Adds, ReadsScript, ReadsWhole};
 
-use crate::lines_in::{Lines, Next, ReadFault};
-use crate::run::{Summary, is_blank};
+use crate::lines_in::{Lines, Next, ReadFault, is_blank};
 use std::alloc::{AllocError, Global};
 use std::io::BufRead;
 use ynl_lines::{LineFault, read_event};
 use ynl_model::Event;
 
-/// The events of an input, to its end or to the first line with a fault.
+/// The events of an input, to its end or to the first line with a fault: how many lines were read for
+/// them, and that fault, if there is one.
 #[derive(Drop)]
 pub struct Script {
     pub events: Vec<Event>,
-    pub summary: Summary,
+    pub lines: u64,
+    pub fault: Option<LineFault>,
 }
 
 /// Adds what a line says to the events, or gives the line's fault.
@@ -42,11 +44,12 @@ fn add_line(
 
 /// The script that ends here.
 fn end_script(events: Vec<Event>, lines: u64, fault: Option<LineFault>) -> Script
-    ensures { script_read result ≡ record { events = events.items; lines = lines; fault = fault } }
+    ensures { script_read result ≡ come_to events.items lines fault }
 {
     Script {
         events,
-        summary: Summary { lines, fault },
+        lines,
+        fault,
     }
 }
 

@@ -14,7 +14,7 @@ use crate::script_in::read_script;
 use std::alloc::Global;
 use std::io::{BufRead, Write};
 use ynl_core::{Core, NoMemory};
-use ynl_lines::write_line;
+use ynl_lines::{InputFault, write_line};
 use ynl_model::Event;
 use ynl_queues::Config;
 use ynl_resource::{Label, Name};
@@ -103,8 +103,11 @@ pub fn tenant_lines<R: BufRead, W: Write>(
 {
     let script = read_script(alloc, reader)?;
     tell_view(alloc, &config, tenant, label, &script.events, writer)?;
-    match script.summary.fault {
-        Some(fault) => report(alloc, writer, fault, script.summary.lines),
-        None => Ok(script.summary),
+    match script.fault {
+        Some(fault) => report(alloc, writer, InputFault::Script(fault), script.lines),
+        None => Ok(Summary {
+            lines: script.lines,
+            fault: None,
+        }),
     }
 }

@@ -27,6 +27,8 @@ pub enum Kind {
     Run,
     /// To tell a tenant what the partition of a label sees of an input.
     Tenant(Name, Label),
+    /// To audit the journal that an input is.
+    Audit,
 }
 
 /// A piece of work for the program.
@@ -80,14 +82,15 @@ const ABOUT: &str = "Decides which containers of a cluster run on which node";
 const AFTER: &str = "\
 Exit status:
   0  the input was read to its end
-  1  a line of the input is no event, or the input is too long: the last line of the output tells; or
-     the configuration has a fault, or a tenant is not alone on its partition: standard error tells
+  1  a line of the input is bad, or the input is too long: the last line of the output tells; or the
+     configuration has a fault, or a tenant is not alone on its partition: standard error tells
   2  the words of the command line are wrong, or ask for help
   3  reading, writing or memory failed, as a line on standard error tells
 
 Examples:
   ynl run < events > replies
-  ynl tenant --tenant eng --label gpu < events";
+  ynl tenant --tenant eng --label gpu < events
+  ynl audit < journal";
 
 const CONFIG_HELP: &str =
     "The configuration, a TOML text; without it there is one queue, root.eng, and one label, gpu";
@@ -143,6 +146,37 @@ Exit status:
 
 Example:
   ynl tenant --tenant eng --label gpu --config cluster.toml < events";
+
+const AUDIT_ABOUT: &str = "Checks that the replies in a journal are those of a cluster";
+
+const AUDIT_AFTER: &str = "\
+Standard input has an entry of the journal on each line, a JSON object with an event as for run, its
+place, counted from 0 over the entries, and the reply that it got. The entry of a propose may be without
+its reply. A line of blanks is passed over.
+
+  {\"event\":{\"event\":\"lost\",\"node\":\"g1\"},\"place\":6,\"reply\":{\"reply\":\"done\"}}
+
+A cluster of the configuration is given the events one after another, and its replies are compared with
+those in the journal. Once reading has ended, standard output has one line. Where all agree it tells how
+many entries there are:
+
+  {\"audit\":\"ok\",\"entries\":7}
+
+Else it tells the first line that is bad, and reading ends there: with the fault line one that is no entry,
+or whose place is not the number of the entries before it; with differs one whose reply is not the
+cluster's; and with size the line with which the input gets longer than 67108864 bytes:
+
+  {\"fault\":\"differs\",\"line\":4}
+
+Exit status:
+  0  all replies agree
+  1  a line is bad, or the input is too long; or the configuration has a fault, as a line on standard
+     error tells: nothing is read
+  2  the words of the command line are wrong, or ask for help
+  3  reading, writing or memory failed, as a line on standard error tells
+
+Example:
+  ynl audit --config cluster.toml < journal";
 
 const TENANT_HELP: &str = "The tenant, by the name of its top-level queue";
 
@@ -223,6 +257,18 @@ fn tenant<'a>(alloc: Global) -> Result<Command<'a>, AllocError>
     tenant_labelled(alloc)?.arg(config)
 }
 
+/// The subcommand `audit`.
+fn audit<'a>(alloc: Global) -> Result<Command<'a>, AllocError>
+    ensures app { IfOk result (λ c. app_of c ≡ spec.audit_command) }
+    ensures local { IfOk result (λ c. (fields_of c).has_globals ≡ false) }
+{
+    let config = config_option(alloc);
+    Command::new(alloc, "audit")
+        .about(AUDIT_ABOUT)
+        .after_help(AUDIT_AFTER)
+        .arg(config)
+}
+
 /// The command without its subcommands.
 fn bare_command<'a>(alloc: Global) -> Result<Command<'a>, AllocError>
     ensures app { IfOk result (λ c. app_of c ≡ spec.bare_command) }
@@ -246,13 +292,22 @@ fn command_of_run<'a>(alloc: Global) -> Result<Command<'a>, AllocError>
     bare_command(alloc)?.subcommand(run)
 }
 
+/// The same with the first two.
+fn command_of_events<'a>(alloc: Global) -> Result<Command<'a>, AllocError>
+    ensures app { IfOk result (λ c. app_of c ≡ with_subcommand (with_subcommand spec.bare_command spec.run_command.top) spec.tenant_command.top) }
+    ensures local { IfOk result (λ c. (fields_of c).has_globals ≡ false) }
+{
+    let tenant = tenant(alloc)?;
+    command_of_run(alloc)?.subcommand(tenant)
+}
+
 /// The command `ynl`.
 fn command<'a>(alloc: Global) -> Result<Command<'a>, AllocError>
     ensures app { IfOk result (λ c. app_of c ≡ spec.command) }
     ensures local { IfOk result (λ c. (fields_of c).has_globals ≡ false) }
 {
-    let tenant = tenant(alloc)?;
-    command_of_run(alloc)?.subcommand(tenant)
+    let audit = audit(alloc)?;
+    command_of_events(alloc)?.subcommand(audit)
 }
 
 fn name_in(text: Option<&str>) -> Option<Name>
@@ -277,12 +332,15 @@ fn label_in(text: Option<&str>) -> Option<Label>
 fn kind_of(subcommand: &str, options: &ArgMatches<'_>) -> Option<Kind>
     ensures { result ≡ spec.kind_met (subcommand.now, rows_of (found_of options.now)) }
 {
-    if subcommand != "tenant" {
-        return Some(Kind::Run);
+    if subcommand == "tenant" {
+        let tenant = name_in(options.get_str("tenant"))?;
+        let label = label_in(options.get_str("label"))?;
+        return Some(Kind::Tenant(tenant, label));
     }
-    let tenant = name_in(options.get_str("tenant"))?;
-    let label = label_in(options.get_str("label"))?;
-    Some(Kind::Tenant(tenant, label))
+    if subcommand == "audit" {
+        return Some(Kind::Audit);
+    }
+    Some(Kind::Run)
 }
 
 /// The job that the words ask for, with the file that `--config` names. The first word is the program's

@@ -1,47 +1,80 @@
-use Rattle.std.proofs.Common.{Ok, Err, refl, ap, sym, subst, ◌∙◌}
+use Rattle.std.proofs.Common.{◌≡◌, Ok, Err, Some, refl, ap, sym, subst, ◌∙◌}
 use Rattle.std.proofs.lemmas.Result.{err_from_is_err_and}
+use Rattle.std.specs.Io.KnownBytes.{Appends}
 use Rattle.std.proofs.KnownBytes.{Appends-nil}
-use Rattle.ynl_tool.specs.Input.{Takes}
-use Rattle.ynl_tool.specs.Running.{Runs}
-use Rattle.ynl_tool.proofs.Scripts.{no_write}
-use Rattle.ynl_tool.proofs.Runs.{run_at_start, reading_stops, long_reported, ends, fault_reported, answer_stops, answered}
+use Rattle.ynl_tool.specs.Lines.{AppendsPart}
+use Rattle.ynl_tool.specs.Script.{part}
+use Rattle.ynl_tool.specs.Running.{GoesOn, Holds, Runs}
+use Rattle.ynl_tool.proofs.Held.{held_at_start, released, holds_on, holds_more, stops_after_line, going_stops}
+use Rattle.ynl_tool.proofs.Runs.{long_reported, ends, fault_reported, no_reply}
 use Rattle.ynl_tool.proofs.run.answer_lines.Goals as goal
 
 pub lines-init : goal.lines-init
-lines-init g c = run_at_start _ _ c.args.core.now c.new-input.result c.new-input.ensures.count c.new-input.ensures.budget c.new-input.ensures.ongoing
+lines-init g c = held_at_start _ _ c.args.core.now c.new-input.result _ c.new-input.ensures.count c.new-input.ensures.budget c.new-input.ensures.ongoing c.new-held.ensures.items
 
--- the reader failed
-pub returns-in_err-next : goal.returns-in_err-next
-returns-in_err-next g c =
+-- a write failed before more was read, or the reader did
+pub returns-in_err-go_on : goal.returns-in_err-go_on
+returns-in_err-go_on g c =
     let p = err_from_is_err_and c.from_residual.result c.from_residual.ensures.1 in
     subst (Runs _ _ c.args.core.now.config c.args.core.now.state) (sym p.1)
-    (reading_stops _ _ _ _ _ _ _ _ _ c.next.new.self _ c.lines.invariant p.0 (λ wrote. no_write _ (sym p.2 ∙ wrote)) c.in_err-next.ensures.broken (Appends-nil (g.W.Write.contents c.lines.writer)))
+    (going_stops _ _ _ _ _ _ _ _ _ c.go_on.new.input _ _ c.lines.invariant c.go_on.new.held.items p.0 (subst (GoesOn _ _ _ _ _ _) (c.in_err-go_on.was ∙ ap Err (sym p.2)) c.go_on.ensures))
 
 -- the byte past the limit
 pub returns-in-TooLong : goal.returns-in-TooLong
-returns-in-TooLong g c = long_reported _ _ _ _ _ _ _ _ _ _ _ c.lines.invariant (subst (Takes _ _ _) c.in-TooLong.is c.in_ok-next.ensures.next) c.report.result c.report.ensures.text c.report.ensures.fault
+returns-in-TooLong g c =
+    let h = subst (GoesOn _ _ _ _ _ _) (c.in_ok-go_on.was ∙ ap Ok c.in-TooLong.is) c.go_on.ensures in
+    let so = released _ _ (g.R.Read.remaining c.go_on.new.reader) _ _ _ _ _ _ c.go_on.new.input _ _ c.lines.invariant h.1.0 in
+    long_reported _ _ _ _ _ _ _ _ _ _ _ so h.0 c.report.result c.report.ensures.text c.report.ensures.fault
 
 -- the end
 pub returns-in-End : goal.returns-in-End
-returns-in-End g c = ends _ _ _ _ _ (g.W.Write.contents c.lines.writer) _ _ _ _ _ c.lines.invariant (subst (Takes _ _ _) c.in-End.is c.in_ok-next.ensures.next) _ refl refl
+returns-in-End g c =
+    let h = subst (GoesOn _ _ _ _ _ _) (c.in_ok-go_on.was ∙ ap Ok c.in-End.is) c.go_on.ensures in
+    let so = released _ _ (g.R.Read.remaining c.go_on.new.reader) _ _ _ _ _ _ c.go_on.new.input _ _ c.lines.invariant h.1.0 in
+    ends _ _ _ _ _ (g.W.Write.contents c.go_on.new.writer) _ _ _ _ _ so h.0 _ refl refl
 
--- a line was not answered, or not to its end
-pub returns-in_err-fault : goal.returns-in_err-fault
-returns-in_err-fault g c =
-    let p = err_from_is_err_and c.from_residual-in_err-fault.result c.from_residual-in_err-fault.ensures.1 in
-    let t = subst (Takes _ _ _) c.in-Line.is c.in_ok-next.ensures.next in
-    subst (Runs _ _ c.args.core.now.config c.args.core.now.state) (sym p.1)
-    (answer_stops _ _ _ _ _ _ _ _ _ _ _ c.lines.invariant t c.answer.new.core c.deref.result.now c.answer.result c.deref.ensures.value p.0 (c.in_err-fault.was ∙ ap Err (sym p.2)) c.answer.ensures)
-
--- a line with a fault
-pub returns-in-Some : goal.returns-in-Some
-returns-in-Some g c =
-    let t = subst (Takes _ _ _) c.in-Line.is c.in_ok-next.ensures.next in
-    fault_reported _ _ _ _ _ _ _ _ _ _ _ c.lines.invariant t c.answer.new.core c.deref.result.now c.answer.result c.deref.ensures.value (g.W.Write.contents c.answer.new.writer) c.in-Some.fault
-    (c.in_ok-fault.was ∙ ap Ok c.in-Some.is) c.answer.ensures c.report-in-Some.result c.report-in-Some.ensures.text c.report-in-Some.ensures.fault
-
--- a line without one
+-- a line without a fault
 pub lines-preserved : goal.lines-preserved
 lines-preserved g c =
-    let t = subst (Takes _ _ _) c.in-Line.is c.in_ok-next.ensures.next in
-    answered _ _ _ _ _ _ _ _ _ _ _ c.lines.invariant t c.answer.new.core c.deref.result.now c.answer.result c.deref.ensures.value (c.in_ok-fault.was ∙ ap Ok c.in_default.is) c.answer.ensures
+    let h = subst (GoesOn _ _ _ _ _ _) (c.in_ok-go_on.was ∙ ap Ok c.in-Line.is) c.go_on.ensures in
+    let so = holds_on _ _ (g.R.Read.remaining c.go_on.new.reader) _ _ _ _ _ _ c.go_on.new.input _ _ c.lines.invariant c.go_on.new.held.items h.1 in
+    let done = subst (Holds c.go_on.new.held.items c.answer.new.held.items c.lines.core.config c.lines.core.state c.answer.new.core c.deref.result.now) (c.in-Ok-None.is ∙ ap Ok c.in-Ok-None.field-0-is) c.answer.ensures in
+    holds_more _ _ (g.R.Read.remaining c.go_on.new.reader) _ _ (g.W.Write.contents c.go_on.new.writer) _ _ _ _ _ _ so h.0 c.answer.new.core c.deref.result.now _ c.deref.ensures.value done
+
+-- a write failed after a line with a fault
+pub returns-in_err-write_held-in-Ok-Some : goal.returns-in_err-write_held-in-Ok-Some
+returns-in_err-write_held-in-Ok-Some g c =
+    let h = subst (GoesOn _ _ _ _ _ _) (c.in_ok-go_on.was ∙ ap Ok c.in-Line.is) c.go_on.ensures in
+    let so = holds_on _ _ (g.R.Read.remaining c.go_on.new.reader) _ _ _ _ _ _ c.go_on.new.input _ _ c.lines.invariant c.go_on.new.held.items h.1 in
+    let p = err_from_is_err_and c.from_residual-in_err-write_held-in-Ok-Some.result c.from_residual-in_err-write_held-in-Ok-Some.ensures.1 in
+    let bad = subst (Holds c.go_on.new.held.items c.answer.new.held.items c.lines.core.config c.lines.core.state c.answer.new.core c.deref.result.now) (c.in-Ok-Some.is ∙ ap Ok c.in-Ok-Some.field-0-is) c.answer.ensures in
+    subst (Runs _ _ c.args.core.now.config c.args.core.now.state) (sym (p.1 ∙ ap Err p.2))
+    (stops_after_line _ _ _ _ _ _ _ _ _ _ _ _ so h.0 (subst (λ k. AppendsPart (g.W.Write.contents c.go_on.new.writer) (g.W.Write.contents c.write_held.new.writer) k) bad.1 c.in_err-write_held-in-Ok-Some.ensures.err))
+
+-- a line with a fault
+pub returns-in-Ok-Some : goal.returns-in-Ok-Some
+returns-in-Ok-Some g c =
+    let h = subst (GoesOn _ _ _ _ _ _) (c.in_ok-go_on.was ∙ ap Ok c.in-Line.is) c.go_on.ensures in
+    let so = holds_on _ _ (g.R.Read.remaining c.go_on.new.reader) _ _ _ _ _ _ c.go_on.new.input _ _ c.lines.invariant c.go_on.new.held.items h.1 in
+    let bad = subst (Holds c.go_on.new.held.items c.answer.new.held.items c.lines.core.config c.lines.core.state c.answer.new.core c.deref.result.now) (c.in-Ok-Some.is ∙ ap Ok c.in-Ok-Some.field-0-is) c.answer.ensures in
+    let all = released _ _ (g.R.Read.remaining c.go_on.new.reader) _ _ _ _ _ _ c.go_on.new.input _ _ so (subst (λ k. Appends (g.W.Write.contents c.go_on.new.writer) (g.W.Write.contents c.write_held.new.writer) k) bad.1 c.in_ok-write_held-in-Ok-Some.ensures.ok) in
+    fault_reported _ _ (g.R.Read.remaining c.go_on.new.reader) _ _ _ _ _ _ _ _ all h.0 c.in-Ok-Some.fault (subst (λ k. (part k).fault ≡ Some c.in-Ok-Some.fault) c.deref.ensures.value bad.0) c.report-in-Ok-Some.result c.report-in-Ok-Some.ensures.text c.report-in-Ok-Some.ensures.fault
+
+-- a write failed after a line that there was no memory for
+pub returns-in_err-write_held-in-Err : goal.returns-in_err-write_held-in-Err
+returns-in_err-write_held-in-Err g c =
+    let h = subst (GoesOn _ _ _ _ _ _) (c.in_ok-go_on.was ∙ ap Ok c.in-Line.is) c.go_on.ensures in
+    let so = holds_on _ _ (g.R.Read.remaining c.go_on.new.reader) _ _ _ _ _ _ c.go_on.new.input _ _ c.lines.invariant c.go_on.new.held.items h.1 in
+    let p = err_from_is_err_and c.from_residual-in_err-write_held-in-Err.result c.from_residual-in_err-write_held-in-Err.ensures.1 in
+    let same = subst (Holds c.go_on.new.held.items c.answer.new.held.items c.lines.core.config c.lines.core.state c.answer.new.core c.deref.result.now) c.in-Err.is c.answer.ensures in
+    subst (Runs _ _ c.args.core.now.config c.args.core.now.state) (sym (p.1 ∙ ap Err p.2))
+    (stops_after_line _ _ _ _ _ _ _ _ _ _ _ _ so h.0 (subst (λ k. AppendsPart (g.W.Write.contents c.go_on.new.writer) (g.W.Write.contents c.write_held-in-Err.new.writer) k) same c.in_err-write_held-in-Err.ensures.err))
+
+-- no memory for a line
+pub returns-in-Err : goal.returns-in-Err
+returns-in-Err g c =
+    let h = subst (GoesOn _ _ _ _ _ _) (c.in_ok-go_on.was ∙ ap Ok c.in-Line.is) c.go_on.ensures in
+    let so = holds_on _ _ (g.R.Read.remaining c.go_on.new.reader) _ _ _ _ _ _ c.go_on.new.input _ _ c.lines.invariant c.go_on.new.held.items h.1 in
+    let same = subst (Holds c.go_on.new.held.items c.answer.new.held.items c.lines.core.config c.lines.core.state c.answer.new.core c.deref.result.now) c.in-Err.is c.answer.ensures in
+    let all = released _ _ (g.R.Read.remaining c.go_on.new.reader) _ _ _ _ _ _ c.go_on.new.input _ _ so (subst (λ k. Appends (g.W.Write.contents c.go_on.new.writer) (g.W.Write.contents c.write_held-in-Err.new.writer) k) same c.in_ok-write_held-in-Err.ensures.ok) in
+    no_reply _ _ (g.R.Read.remaining c.go_on.new.reader) _ _ _ _ _ _ _ _ all h.0 (Appends-nil (g.W.Write.contents c.write_held-in-Err.new.writer))

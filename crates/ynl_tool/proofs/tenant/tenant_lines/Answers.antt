@@ -1,6 +1,9 @@
-use Rattle.std.proofs.Common.{Ok, Err, refl, ap, sym, subst, ◌∙◌}
+use Rattle.std.proofs.Common.{Ok, Err, None, refl, ap, sym, subst, ◌∙◌}
+use Rattle.std.specs.Prelude.{option_map}
 use Rattle.std.proofs.lemmas.Result.{err_from_is_err_and}
 use Rattle.ynl_model.specs.Accepted.{is_accepted}
+use Rattle.ynl_lines.specs.declared.faults.InputFault.TheVariants.{Script as InScript}
+use Rattle.ynl_tool.specs.declared.run.Summary.{Summary}
 use Rattle.ynl_tool.specs.Input.{between}
 use Rattle.ynl_tool.specs.Script.{script_read, ReadsScript}
 use Rattle.ynl_tool.specs.Telling.{TellsTenant}
@@ -51,5 +54,6 @@ returns g c =
     let script = c.in_ok-script.script in
     let read = subst (ReadsScript reader) c.in_ok-script.was c.read_script.ensures.steps in
     let said = said_of w v k t l c.deref.result.now script.events.items c.tell_view.result (Ok c.in_ok-tell_view.field-0) c.deref.ensures.value c.in_ok-tell_view.was c.tell_view.ensures in
-    let steps : TellsTenant reader (between w v) (is_accepted k) k t l (Ok script.summary) = ends_whole reader w v k t l (is_accepted k) (script_read script) read c.requires (λ is. is) script.summary refl refl c.in-None.is said in
-    record { whole = tells_whole reader (between w v) (is_accepted k) k t l (Ok script.summary) steps; steps = steps }
+    let summary : Summary = record { lines = script.lines; fault = None } in
+    let steps : TellsTenant reader (between w v) (is_accepted k) k t l (Ok summary) = ends_whole reader w v k t l (is_accepted k) (script_read script) read c.requires (λ is. is) summary refl (ap (option_map InScript) (sym c.in-None.is)) c.in-None.is said in
+    record { whole = tells_whole reader (between w v) (is_accepted k) k t l (Ok summary) steps; steps = steps }

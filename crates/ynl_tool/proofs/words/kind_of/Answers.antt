@@ -17,11 +17,11 @@ returns-in_err-label c =
     let none : c.from_residual-in_err-label.result ≡ None = search rules in
     none
     ∙ kind_named c.args.subcommand.now (found_of c.args.options.now) (Some c.in_ok-tenant.tenant) None same (sym c.in_ok-tenant.was ∙ c.name_in.ensures ∙ ap (option_and_then name_in) c.get_str.ensures)
-    (sym c.in_err-label.was ∙ c.label_in.ensures ∙ ap (option_and_then label_in) c.get_str-2.ensures)
+    (sym c.in_err-label.was ∙ c.label_in.ensures ∙ ap (option_and_then label_in) c.get_str-then-eq.ensures)
 
-pub returns : goal.returns
-returns c =
+pub returns-then-eq : goal.returns-then-eq
+returns-then-eq c =
     let same : bytes_eq c.args.subcommand.now (codes "tenant") ≡ true = search rules in
     kind_named c.args.subcommand.now (found_of c.args.options.now) (Some c.in_ok-tenant.tenant) (Some c.in_ok-label.label) same
     (sym c.in_ok-tenant.was ∙ c.name_in.ensures ∙ ap (option_and_then name_in) c.get_str.ensures)
-    (sym c.in_ok-label.was ∙ c.label_in.ensures ∙ ap (option_and_then label_in) c.get_str-2.ensures)
+    (sym c.in_ok-label.was ∙ c.label_in.ensures ∙ ap (option_and_then label_in) c.get_str-then-eq.ensures)
