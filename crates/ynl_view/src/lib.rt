@@ -4,6 +4,7 @@
 pub use exclusivity::sole;
 pub use picking::pick;
 pub use restriction::restrict;
+pub use tracking::tracked_nodes;
 pub use viewing::view;
 pub use views::View;
 
@@ -12,5 +13,6 @@ mod picking;
 mod restriction;
 mod sights;
 mod track;
+mod tracking;
 mod viewing;
 mod views;

@@ -1,6 +1,6 @@
 //! Where the nodes are, told from node events alone.
 
-ghost use Rattle.std.specs.Prelude.{◌≡◌, [], length, filter, OnOk};
+ghost use Rattle.std.specs.Prelude.{◌≡◌, [], length, filter, map, OnOk, IfOk};
 ghost use Rattle.std.specs.Option.{option_map_or};
 ghost use Rattle.ynl_resource.specs.Names.{same_label};
 ghost use Rattle.ynl_model.specs.View.{tracked, is_in, has_place, registers, relabels, dropped, joined, track_step};
@@ -52,6 +52,13 @@ impl Track {
             Some(node) => node.label == *label,
             None => false,
         }
+    }
+
+    /// The names of the nodes, in the order of joining.
+    pub fn names(&self, alloc: Global) -> Result<Vec<Name>, AllocError>
+        ensures { IfOk result (λ names. names.items ≡ map (λ node. node.name) self.now) }
+    {
+        self.nodes.iter().map(|node| node.name).collect(alloc)
     }
 
     fn count_on(&self, label: &Label) -> usize

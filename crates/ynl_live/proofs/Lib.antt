@@ -1,0 +1,3 @@
+pub mod Marks
+pub mod Lists
+pub mod Sums

@@ -1,0 +1,64 @@
+-- The lists of receipts of all seats.
+use Rattle.std.proofs.Common.{◌≡◌, ℕ, ◌+◌, ◌<◌, sym, ap, ◌∙◌, arith, List, [], ◌∷◌, ◌++◌, Bool, length, take, get_or, subst, append-nil, All}
+use Rattle.std.specs.Prelude.{map, Vec, sum}
+use Rattle.std.specs.declared.alloc.Global.{Global}
+use Rattle.std.proofs.lemmas.List.{take_more, get_or-map, length-map}
+use Rattle.std.proofs.lemmas.Grind.{same_number_lists}
+use Rattle.std.proofs.lemmas.List.Sums.{sum-map}
+use Rattle.std.proofs.lemmas.List.Concat.{flat_map-append, length-flat_map}
+use Rattle.std.proofs.lemmas.List.Elements.{All-more}
+use Rattle.ynl_model.specs.declared.entries.Entry.{Entry}
+use Rattle.ynl_live.specs.declared.receipts.Receipt.{Receipt}
+use Rattle.ynl_live.specs.Seats.{Standing}
+use Rattle.ynl_live.specs.Receipts.{all_receipts, EachOnce, ListFits, calls_on, IsOneForEach}
+use Rattle.ynl_live.specs.Marks.{IsMarked}
+use Rattle.ynl_live.proofs.Marks.{EachOnce-from_marks}
+
+-- the receipts of one list more
+pub all_receipts-more : (lists : List (Vec Receipt Global)) (i : ℕ) (v : Vec Receipt Global) → i < length lists → v ≡ get_or lists i v → all_receipts (take (i + 1) lists) ≡ all_receipts (take i lists) ++ v.items
+all_receipts-more lists i v inside at =
+    let more : take (i + 1) lists ≡ take i lists ++ v ∷ [] = take_more lists i v inside ∙ ap (λ (x : Vec Receipt Global). take i lists ++ x ∷ []) (sym at) in
+    let one : all_receipts (v ∷ []) ≡ v.items = append-nil v.items in
+    ap all_receipts more ∙ flat_map-append (λ (x : Vec Receipt Global). x.items) (take i lists) (v ∷ []) ∙ ap (λ (xs : List Receipt). all_receipts (take i lists) ++ xs) one
+
+-- the lists that fit the seats have as many receipts as the seats made calls
+pub length-all_receipts : (seats : List Standing) (lists : List (Vec Receipt Global)) → IsOneForEach seats lists → length (all_receipts lists) ≡ calls_on seats
+length-all_receipts seats lists fit =
+    length-flat_map (λ (v : Vec Receipt Global). v.items) lists ∙ sym (sum-map (λ (v : Vec Receipt Global). length v.items) lists) ∙ ap sum fit ∙ sum-map (λ (s : Standing). s.calls) seats
+
+-- how long the list of the seat i is
+pub list_len_at : (lists : List (Vec Receipt Global)) (i : ℕ) (v : Vec Receipt Global) → i < length lists → v ≡ get_or lists i v → get_or (map (λ (x : Vec Receipt Global). length x.items) lists) i 0 ≡ length v.items
+list_len_at lists i v inside at =
+    get_or-map (λ (x : Vec Receipt Global). length x.items) lists i v 0 inside ∙ ap (λ (x : Vec Receipt Global). length x.items) (sym at)
+
+-- how many calls the seat i has
+pub calls_at : (seats : List Standing) (i : ℕ) (s : Standing) → i < length seats → s ≡ get_or seats i s → get_or (map (λ (x : Standing). x.calls) seats) i 0 ≡ s.calls
+calls_at seats i s inside at = get_or-map (λ (x : Standing). x.calls) seats i s 0 inside ∙ ap (λ (x : Standing). x.calls) (sym at)
+
+-- there is one list for each seat where each is as long as its seat's calls
+pub IsOneForEach-from_each : (seats : List Standing) (lists : List (Vec Receipt Global)) → length lists ≡ length seats → ((k : ℕ) → k < length seats → get_or (map (λ (v : Vec Receipt Global). length v.items) lists) k 0 ≡ get_or (map (λ (s : Standing). s.calls) seats) k 0) → IsOneForEach seats lists
+IsOneForEach-from_each seats lists len each =
+    let a = length-map lists (λ (v : Vec Receipt Global). length v.items) in
+    let b = length-map seats (λ (s : Standing). s.calls) in
+    same_number_lists _ _ (a ∙ len ∙ sym b) (λ k inside. each k (omega arith))
+
+-- then there are as many lists as seats
+pub length-from_IsOneForEach : (seats : List Standing) (lists : List (Vec Receipt Global)) → IsOneForEach seats lists → length lists ≡ length seats
+length-from_IsOneForEach seats lists fit =
+    sym (length-map lists (λ (v : Vec Receipt Global). length v.items)) ∙ ap length fit ∙ length-map seats (λ (s : Standing). s.calls)
+
+-- the lists up to a place are marked, and so are those up to the next
+pub lists_marked : (entries : List Entry) (met now : List Bool) (lists : List (Vec Receipt Global)) (i : ℕ) (v : Vec Receipt Global) (items : List Receipt) → i < length lists → v ≡ get_or lists i v → items ≡ v.items → All (λ w. ListFits entries w.items) (take i lists) → IsMarked met (all_receipts (take i lists)) → ListFits entries items → ((seen : List Receipt) → IsMarked met seen → IsMarked now (seen ++ items)) → All (λ w. ListFits entries w.items) (take (i + 1) lists) × IsMarked now (all_receipts (take (i + 1) lists))
+lists_marked entries met now lists i v items inside at is fit marked fits marks =
+    let P : Vec Receipt Global → Type 0 = λ w. ListFits entries w.items in
+    let N : List Receipt → Type 0 = λ xs. IsMarked now xs in
+    let F : List Receipt → Type 0 = λ xs. ListFits entries xs in
+    let here : P (get_or lists i v) = subst P at (subst F is fits) in
+    let more : all_receipts (take i lists) ++ items ≡ all_receipts (take (i + 1) lists) = ap (λ (xs : List Receipt). all_receipts (take i lists) ++ xs) is ∙ sym (all_receipts-more lists i v inside at) in
+    (All-more P lists i v inside fit here, subst N more (marks (all_receipts (take i lists)) marked))
+
+-- where the receipts of all lists are marked, and are as many as the places, each place is in exactly one
+pub EachOnce-at_close : (marks : List Bool) (seats : List Standing) (lists : List (Vec Receipt Global)) (n : ℕ) → IsMarked marks (all_receipts lists) → IsOneForEach seats lists → calls_on seats ≡ n → length marks ≡ n → EachOnce n (all_receipts lists)
+EachOnce-at_close marks seats lists n marked fit calls len =
+    let E : ℕ → Type 0 = λ k. EachOnce k (all_receipts lists) in
+    subst E len (EachOnce-from_marks marks (all_receipts lists) marked (length-all_receipts seats lists fit ∙ calls ∙ sym len))

@@ -1,0 +1,141 @@
+//! The end of a live scheduler: the closed journal.
+
+ghost use Rattle.std.specs.Prelude.{◌≡◌, [], All, length, IfOk, OnOk, IfErr};
+ghost use Rattle.ynl_model.specs.Events.{IsHistory};
+ghost use Rattle.ynl_journal.specs.Journal.{events_in};
+ghost use Rattle.ynl_live.specs.Alone.{ShowTenantsAlone};
+ghost use Rattle.ynl_live.specs.Causes.{IsCause, IsCauseFor};
+ghost use Rattle.ynl_live.specs.Marks.{IsMarked};
+ghost use Rattle.ynl_live.specs.Receipts.{all_receipts, EachOnce, ListFits, calls_on, IsOneForEach};
+
+use crate::calling::Live;
+use crate::matching::{are_calls, is_one_for_each, mark_lists};
+use crate::receipts::Receipt;
+use crate::seats::Seat;
+use std::alloc::Global;
+use std::sync::Mutex;
+use thiserror::Error;
+use ynl_core::NoMemory;
+use ynl_journal::replay_history;
+use ynl_model::Entry;
+use ynl_queues::Config;
+
+/// Why a journal is not closed. They are looked for in this order.
+#[derive(Clone, Copy, Debug, PartialEq, Eq, Error)]
+pub enum Cause {
+    /// The seats' calls are not together as many as the journal's entries.
+    #[error("not all seats are there")]
+    SeatsMissing,
+    /// There is not one list of receipts for each seat, as long as the seat's calls.
+    #[error("not all receipts are there")]
+    ReceiptsMissing,
+    /// The first receipt, list by list, that does not fit has this place: the journal has no such place,
+    /// a receipt before it has that place or, in its list, a later one, or another event or another reply
+    /// stands there.
+    #[error("the receipt of place {0} does not fit the journal")]
+    Mismatch(u64),
+    /// Memory was refused.
+    #[error("out of memory")]
+    NoMemory,
+}
+
+/// A whole journal: each event with its reply.
+#[derive(Drop)]
+pub struct Closed {
+    pub config: Config,
+    pub entries: Vec<Entry>,
+}
+
+/// A scheduler that goes on, with the seats that were handed in, and why its journal is not closed.
+#[derive(Drop)]
+pub struct Unclosed {
+    pub cause: Cause,
+    pub live: Live,
+    pub seats: Vec<Seat>,
+}
+
+/// Ends a live scheduler, and answers its journal: all its seats are handed in, and for each seat, in
+/// the order of the seats, the list of all receipts of its calls. The events are replayed by a cluster of
+/// the same configuration, whose replies are the journal's. At a cause the journal is as before.
+pub fn close(
+    alloc: Global,
+    live: Live,
+    seats: Vec<Seat>,
+    lists: &[Vec<Receipt>],
+) -> Result<Closed, Unclosed>
+    ensures config { IfOk result (λ closed. closed.config ≡ live) }
+    ensures history { IfOk result (λ closed. IsHistory closed.config closed.entries.items) }
+    ensures alone { IfOk result (λ closed. ShowTenantsAlone closed.config closed.entries.items) }
+    ensures calls { IfOk result (λ closed. length closed.entries.items ≡ calls_on seats.items) }
+    ensures lists { OnOk result (IsOneForEach seats.items lists.now) }
+    ensures receipts { IfOk result (λ closed. All (λ list. ListFits closed.entries.items list.items) lists.now) }
+    ensures once { IfOk result (λ closed. EachOnce (length closed.entries.items) (all_receipts lists.now)) }
+    ensures live { IfErr result (λ unclosed. unclosed.live ≡ live) }
+    ensures seats { IfErr result (λ unclosed. unclosed.seats ≡ seats) }
+    ensures cause { IfErr result (λ unclosed. IsCauseFor seats.items lists.now unclosed.cause) }
+{
+    let Live { config, book } = live;
+    let book = book.into_inner();
+    match closed_entries(alloc, &config, book.entries(), seats.as_slice(), lists) {
+        Ok(entries) => Ok(Closed { config, entries }),
+        Err(cause) => Err(Unclosed {
+            cause,
+            live: Live {
+                config,
+                book: Mutex::new(book),
+            },
+            seats,
+        }),
+    }
+}
+
+/// The closed history of a journal's events, where the receipts of all seats fit it.
+fn closed_entries(
+    alloc: Global,
+    config: &Config,
+    journal: &[Entry],
+    seats: &[Seat],
+    lists: &[Vec<Receipt>],
+) -> Result<Vec<Entry>, Cause>
+    ensures events { IfOk result (λ entries. events_in entries.items ≡ events_in journal.now) }
+    ensures history { IfOk result (λ entries. IsHistory config.now entries.items) }
+    ensures calls { IfOk result (λ entries. length entries.items ≡ calls_on seats.now) }
+    ensures lists { OnOk result (IsOneForEach seats.now lists.now) }
+    ensures receipts { IfOk result (λ entries. All (λ list. ListFits entries.items list.items) lists.now) }
+    ensures once { IfOk result (λ entries. EachOnce (length entries.items) (all_receipts lists.now)) }
+    ensures cause { IfErr result (IsCause (length journal.now) seats.now lists.now) }
+{
+    if !are_calls(seats, journal.len() as u64) {
+        return Err(Cause::SeatsMissing);
+    }
+    if !is_one_for_each(seats, lists) {
+        return Err(Cause::ReceiptsMissing);
+    }
+    let Ok(entries) = replayed(alloc, config, journal) else {
+        return Err(Cause::NoMemory);
+    };
+    let Ok(mut marks) = unmarked(alloc, entries.len()) else {
+        return Err(Cause::NoMemory);
+    };
+    match mark_lists(entries.as_slice(), marks.as_mut_slice(), lists) {
+        Ok(()) => Ok(entries),
+        Err(place) => Err(Cause::Mismatch(place)),
+    }
+}
+
+/// The closed history of a journal's events.
+fn replayed(alloc: Global, config: &Config, journal: &[Entry]) -> Result<Vec<Entry>, NoMemory>
+    ensures events { IfOk result (λ entries. events_in entries.items ≡ events_in journal.now) }
+    ensures history { IfOk result (λ entries. IsHistory config.now entries.items) }
+    ensures len { IfOk result (λ entries. length entries.items ≡ length journal.now) }
+{
+    replay_history(alloc, config.copy(alloc)?, journal)
+}
+
+/// As many places, none of which is marked.
+fn unmarked(alloc: Global, len: usize) -> Result<Vec<bool>, NoMemory>
+    ensures len { IfOk result (λ marks. length marks.items ≡ len) }
+    ensures none { IfOk result (λ marks. IsMarked marks.items []) }
+{
+    Ok(vec![in alloc; false; len]?)
+}

@@ -1,0 +1,24 @@
+//! A live scheduler: one cluster that many callers use at once. Each caller has a seat and keeps the
+//! receipts of its calls, and at the end all receipts are held against the journal.
+//!
+//! A call waits for the lock round the cluster's book, has its event entered, and gives a receipt: the
+//! event's place in the journal and the reply. What a call did to the book under the lock is no part of
+//! its contract, since no clause can name a value that others share. What can be said is said at the end:
+//! `close` answers a journal only where each entry has the cluster's reply, and each place stands in
+//! exactly one receipt, with the event and the reply that the receipt has. A call that would answer
+//! without entering, that would lose an entry, or that would invent a reply leaves a journal that cannot
+//! be closed.
+#![tactic(auto)]
+
+pub use calling::{CallFault, Live};
+pub use closing::{Cause, Closed, Unclosed, close};
+pub use receipts::Receipt;
+pub use seats::Seat;
+
+mod calling;
+mod closing;
+mod comparing;
+pub mod counts;
+mod matching;
+mod receipts;
+mod seats;

@@ -1,0 +1,95 @@
+//! Receipts held against a journal, place by place.
+
+ghost use Rattle.std.specs.Prelude.{◌≡◌, ◌+◌, ◌≤◌, ◌<◌, ◌↔◌, [], ◌++◌, List, All, length, IsTrue, OnOk, true, false, slice_set, slice_index_or};
+ghost use Rattle.std.specs.Bool.{OnTrue};
+ghost use Rattle.ynl_live.specs.declared.receipts.Receipt.{Receipt};
+ghost use Rattle.ynl_live.specs.Receipts.{all_receipts, IsAt, ListFits, calls_on, IsOneForEach};
+ghost use Rattle.ynl_live.specs.Marks.{IsMarked};
+
+use crate::comparing::tells_of;
+use crate::receipts::Receipt;
+use crate::seats::Seat;
+use ynl_model::Entry;
+
+/// Marks the receipt's place, where that is at the front or behind it, not yet marked, and has the entry
+/// that the receipt tells of.
+fn mark(entries: &[Entry], marks: &mut [bool], receipt: &Receipt, front: u64) -> bool
+    requires { length marks.old ≡ length entries.now }
+    ensures place { OnTrue result ((front ≤ receipt.now.place) × (receipt.now.place < length entries.now)) }
+    ensures fits { OnTrue result (IsAt entries.now receipt.now) }
+    ensures first { OnTrue result (slice_index_or marks.old receipt.now.place false ≡ false) }
+    ensures marked { OnTrue result (marks.new ≡ slice_set marks.old receipt.now.place true) }
+{
+    if receipt.place < front || receipt.place >= entries.len() as u64 {
+        return false;
+    }
+    let place = receipt.place as usize;
+    if marks[place] || !tells_of(receipt, &entries[place]) {
+        return false;
+    }
+    marks[place] = true;
+    true
+}
+
+/// Marks the places of one seat's receipts, or answers the first place that does not fit.
+fn mark_list(entries: &[Entry], marks: &mut [bool], list: &[Receipt]) -> Result<(), u64>
+    requires { length marks.old ≡ length entries.now }
+    ensures fits { OnOk result (ListFits entries.now list.now) }
+    ensures marks { OnOk result ((seen : List Receipt) → IsMarked marks.old seen → IsMarked marks.new (seen ++ list.now)) }
+{
+    let mut front = 0;
+    for receipt in list {
+        if !mark(entries, marks, receipt, front) {
+            return Err(receipt.place);
+        }
+        front = receipt.place + 1;
+    }
+    Ok(())
+}
+
+/// Marks the places of all lists, or answers the first place that does not fit.
+pub(crate) fn mark_lists(
+    entries: &[Entry],
+    marks: &mut [bool],
+    lists: &[Vec<Receipt>],
+) -> Result<(), u64>
+    requires len { length marks.old ≡ length entries.now }
+    requires none { IsMarked marks.old [] }
+    ensures fit { OnOk result (All (λ list. ListFits entries.now list.items) lists.now) }
+    ensures marks { OnOk result (IsMarked marks.new (all_receipts lists.now)) }
+{
+    for list in lists {
+        mark_list(entries, marks, list.as_slice())?;
+    }
+    Ok(())
+}
+
+/// Whether so many calls were answered on the seats together.
+pub(crate) fn are_calls(seats: &[Seat], calls: u64) -> bool
+    ensures { IsTrue result ↔ (calls_on seats.now ≡ calls) }
+{
+    let mut left = calls;
+    for seat in seats {
+        let made = seat.calls();
+        if made > left {
+            return false;
+        }
+        left -= made;
+    }
+    left == 0
+}
+
+/// Whether there is one list for each seat, as long as the seat's calls.
+pub(crate) fn is_one_for_each(seats: &[Seat], lists: &[Vec<Receipt>]) -> bool
+    ensures { IsTrue result ↔ IsOneForEach seats.now lists.now }
+{
+    if lists.len() != seats.len() {
+        return false;
+    }
+    for i in 0..seats.len() {
+        if lists[i].len() as u64 != seats[i].calls() {
+            return false;
+        }
+    }
+    true
+}

@@ -1,0 +1,241 @@
+//! Workers that overlap, that are halted, and that have nothing to do.
+
+use crate::events::{ask, called, closed_len, opened, register, submit};
+use std::alloc::Global;
+use std::process::Abort;
+use std::rt::Clock;
+use std::sync::Wait;
+use std::sync::atomic::{AtomicU64, Ordering};
+use std::test::Fail;
+use std::thread;
+use std::thread::Threads;
+use std::time::Duration;
+use ynl_live::{Live, Receipt, Seat};
+use ynl_model::{Event, Reply};
+use ynl_resource::{Name, Refusal};
+use ynl_workers::{End, Gate, Go, WorkerEnd, run_round};
+
+/// Worker 1 waits before its commit until worker 0 is before its own, and worker 0 waits there until
+/// worker 1's commit is answered. Each wait ends after ten seconds, and is then told to be late.
+struct Overlap<'a, R> {
+    rt: &'a R,
+    met: AtomicU64,
+    committed: AtomicU64,
+    late: AtomicU64,
+}
+
+impl<R> Drop for Overlap<'_, R> {
+    fn drop(self) {
+        let Overlap {
+            rt: _,
+            met: _,
+            committed: _,
+            late: _,
+        } = self;
+    }
+}
+
+impl<'a, R: Clock> Overlap<'a, R> {
+    fn new(rt: &'a R) -> Overlap<'a, R> {
+        Overlap {
+            rt,
+            met: AtomicU64::new(0),
+            committed: AtomicU64::new(0),
+            late: AtomicU64::new(0),
+        }
+    }
+
+    fn wait_for(&self, told: &AtomicU64) {
+        for _ in 0..10_000 {
+            if told.load(Ordering::SeqCst) > 0 {
+                return;
+            }
+            thread::sleep(self.rt, Duration::from_millis(1));
+        }
+        self.late.store(1, Ordering::SeqCst);
+    }
+}
+
+impl<R: Clock> Gate for Overlap<'_, R> {
+    ghost is_free = { λ _. Unit {0} };
+
+    fn before_commit(&self, worker: u64, _turn: u64) -> Go {
+        if worker == 1 {
+            self.wait_for(&self.met);
+        } else {
+            self.met.store(1, Ordering::SeqCst);
+            self.wait_for(&self.committed);
+        }
+        Go::On
+    }
+
+    fn after_commit(&self, worker: u64, _turn: u64) {
+        if worker == 1 {
+            self.committed.store(1, Ordering::SeqCst);
+        }
+    }
+}
+
+/// Halts each worker at this turn.
+#[derive(Drop)]
+pub(crate) struct HaltsAt(pub(crate) u64);
+
+impl Gate for HaltsAt {
+    ghost is_free = { λ _. ⊥ };
+
+    fn before_commit(&self, _worker: u64, turn: u64) -> Go {
+        if turn == self.0 { Go::Halt } else { Go::On }
+    }
+
+    fn after_commit(&self, _worker: u64, _turn: u64) {}
+}
+
+/// A node, and an application with its master, that asks for two containers; with its seat and receipts.
+#[derive(Drop)]
+struct Started {
+    live: Live,
+    seat: Seat,
+    receipts: Vec<Receipt>,
+}
+
+fn script() -> Option<[Event; 4]> {
+    let node = Name::parse("g1").ok()?;
+    Some([
+        register()?,
+        submit("j1", 1000)?,
+        Event::Heartbeat { node },
+        ask()?,
+    ])
+}
+
+fn play_script<R: Wait>(rt: &R, alloc: Global) -> Result<Started, Fail> {
+    let (live, mut seat) = opened(alloc)?;
+    let mut receipts = Vec::new(alloc);
+    for event in script().ok_or("no script")? {
+        called(rt, &live, &mut seat, &mut receipts, event).ok_or("not called")?;
+    }
+    Ok(Started {
+        live,
+        seat,
+        receipts,
+    })
+}
+
+/// The node so many times.
+pub(crate) fn turns(alloc: Global, count: usize) -> Result<Vec<Name>, Fail> {
+    let node = Name::parse("g1")?;
+    Ok(vec![in alloc; node; count]?)
+}
+
+/// The last reply of a worker.
+fn last_reply(worker: &WorkerEnd) -> Option<&Reply> {
+    match worker.receipts.last() {
+        Some(receipt) => Some(&receipt.reply),
+        None => None,
+    }
+}
+
+fn is_stale(worker: &WorkerEnd) -> bool {
+    matches!(last_reply(worker), Some(Reply::Refused(Refusal::Stale)))
+}
+
+fn is_committed(worker: &WorkerEnd) -> bool {
+    matches!(last_reply(worker), Some(Reply::Committed(_)))
+}
+
+/// The seats and the lists of all callers, the script's first.
+fn gathered(
+    alloc: Global,
+    seat: Seat,
+    receipts: Vec<Receipt>,
+    ends: Vec<WorkerEnd>,
+) -> Result<(Vec<Seat>, Vec<Vec<Receipt>>), Fail> {
+    let mut seats = vec![in alloc; seat]?;
+    let mut lists = vec![in alloc; receipts]?;
+    for worker in ends {
+        let WorkerEnd { seat, receipts, .. } = worker;
+        seats.push(seat)?;
+        lists.push(receipts)?;
+    }
+    Ok((seats, lists))
+}
+
+fn two_that_overlap<R: Threads + Wait + Abort + Clock + Sync>(
+    rt: &R,
+    alloc: Global,
+) -> Result<(), Fail> {
+    let Started {
+        live,
+        seat,
+        receipts,
+    } = play_script(rt, alloc)?;
+    let seats = vec![in alloc; seat.split(), seat.split()]?;
+    let lists = [turns(alloc, 1)?, turns(alloc, 1)?];
+    let gate = Overlap::new(rt);
+    let ends = run_round(rt, alloc, &live, seats, &lists, &gate)
+        .ok()
+        .ok_or("not run")?;
+    assert_eq!(rt; gate.late.load(Ordering::SeqCst), 0);
+    assert!(rt; ends.first().is_some_and(is_stale));
+    assert!(rt; ends.last().is_some_and(is_committed));
+    let (seats, lists) = gathered(alloc, seat, receipts, ends)?;
+    let len = closed_len(alloc, live, seats, lists.as_slice());
+    assert_eq!(rt; len, Some(8));
+    Ok(())
+}
+
+#[test]
+fn workers_overlap_before_the_commit(rt: HostRuntime) -> Result<(), Fail> {
+    two_that_overlap(&rt, rt.alloc())
+}
+
+/// How each worker ended, and how many receipts it has.
+pub(crate) fn told(alloc: Global, ends: &[WorkerEnd]) -> Result<Vec<(End, usize)>, Fail> {
+    let mut told = Vec::new(alloc);
+    for worker in ends {
+        told.push((worker.end, worker.receipts.len()))?;
+    }
+    Ok(told)
+}
+
+/// A round of one worker, which is halted at a turn of three on the node.
+fn halted_at<R: Threads + Wait + Sync>(
+    rt: &R,
+    alloc: Global,
+    turn: u64,
+) -> Result<Vec<(End, usize)>, Fail> {
+    let Started { live, seat, .. } = play_script(rt, alloc)?;
+    let seats = vec![in alloc; seat.split()]?;
+    let lists = [turns(alloc, 3)?];
+    let ends = run_round(rt, alloc, &live, seats, &lists, &HaltsAt(turn))
+        .ok()
+        .ok_or("not run")?;
+    told(alloc, ends.as_slice())
+}
+
+#[test]
+fn worker_is_halted_before_the_commit(rt: HostRuntime) -> Result<(), Fail> {
+    let alloc = rt.alloc();
+    // Two containers are asked for: the third propose is answered none, so no gate is met there.
+    let first = halted_at(&rt, alloc, 0)?;
+    assert_eq!(rt; first.as_slice(), [(End::Halted, 1)].as_slice());
+    let second = halted_at(&rt, alloc, 1)?;
+    assert_eq!(rt; second.as_slice(), [(End::Halted, 3)].as_slice());
+    let third = halted_at(&rt, alloc, 2)?;
+    assert_eq!(rt; third.as_slice(), [(End::Whole, 5)].as_slice());
+    Ok(())
+}
+
+#[test]
+fn workers_without_nodes_are_whole(rt: HostRuntime) -> Result<(), Fail> {
+    let alloc = rt.alloc();
+    let (live, seat) = opened(alloc)?;
+    let seats = vec![in alloc; seat.split(), seat.split(), seat.split()]?;
+    let lists = [turns(alloc, 0)?, turns(alloc, 0)?, turns(alloc, 0)?];
+    let ends = run_round(&rt, alloc, &live, seats, &lists, &HaltsAt(0))
+        .ok()
+        .ok_or("not run")?;
+    let told = told(alloc, ends.as_slice())?;
+    assert!(rt; told.len() == 3 && told.iter().all(|end| *end == (End::Whole, 0)));
+    Ok(())
+}

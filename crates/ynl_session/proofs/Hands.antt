@@ -1,0 +1,116 @@
+-- What the closed journal of a session shows.
+use Rattle.std.proofs.Common.{◌≡◌, ℕ, ◌+◌, ◌*◌, refl, sym, ap, ◌∙◌, arith, List, [], ◌∷◌, ◌++◌, cond, Bool, true, false, length, drop, subst, Vec, All}
+use Rattle.std.specs.Prelude.{map, sum_by, IsTrue}
+use Rattle.std.specs.declared.alloc.Global.{Global}
+use Rattle.std.specs.List.Sorted.{IsPermutation}
+use Rattle.std.proofs.lemmas.List.{map-append}
+use Rattle.std.proofs.lemmas.List.Sums.{sum_by-cons, sum_by-append}
+use Rattle.std.proofs.lemmas.List.Sorted.{sum_by-IsPermutation}
+use Rattle.std.proofs.lemmas.List.Elements.{All-head, All-tail, All-nil, All-cons, All-append}
+use Rattle.ynl_resource.specs.declared.names.Name.{Name}
+use Rattle.ynl_resource.specs.Names.{same_name}
+use Rattle.ynl_model.specs.declared.events.Event.{Event}
+use Rattle.ynl_model.specs.declared.entries.Entry.{Entry}
+use Rattle.ynl_model.specs.Queues.{Config}
+use Rattle.ynl_model.specs.Events.{IsHistory}
+use Rattle.ynl_journal.specs.Journal.{events_in}
+use Rattle.ynl_live.specs.declared.receipts.Receipt.{Receipt}
+use Rattle.ynl_live.specs.Receipts.{all_receipts, EachOnce, IsAt, ListFits, entry_of}
+use Rattle.ynl_live.specs.Alone.{ShowTenantsAlone}
+use Rattle.ynl_live.proofs.Sums.{count_alike}
+use Rattle.ynl_session.specs.Dealt.{AreDealt}
+use Rattle.ynl_session.specs.Handed.{is_workers, asks, AddsRounds}
+use Rattle.ynl_session.specs.Scripted.{AreCalls}
+use Rattle.ynl_session.specs.Sessions.{nodes_after, IsSession}
+use Rattle.ynl_session.proofs.Fronts.{front, events_called}
+
+-- ---- sums
+
+sum_by_mapped : {X Y : Type 0} (f : Y → ℕ) (g : X → Y) (xs : List X) → sum_by f (map g xs) ≡ sum_by (λ x. f (g x)) xs
+sum_by_mapped f g [] = refl
+sum_by_mapped f g (x ∷ xs) = sum_by-cons f (g x) (map g xs) ∙ ap (λ n. f (g x) + n) (sum_by_mapped f g xs) ∙ sym (sum_by-cons (λ y. f (g y)) x xs)
+
+-- nothing is counted where the test holds of each
+none_counted : {X : Type 0} (p : X → Bool) (xs : List X) → All (λ x. IsTrue (p x)) xs → sum_by (λ x. cond (p x) 0 1) xs ≡ 0
+none_counted p [] all = refl
+none_counted p (x ∷ xs) all =
+    let here : cond {A = ℕ} (p x) 0 1 ≡ 0 = one (p x) (All-head (λ x. IsTrue (p x)) x xs all) in
+    let rest = none_counted p xs (All-tail (λ x. IsTrue (p x)) x xs all) in
+    omega (arith, here, rest, sum_by-cons (λ y. cond (p y) 0 1) x xs)
+  where
+    one : (b : Bool) → IsTrue b → cond {A = ℕ} b 0 1 ≡ 0
+    one true is = refl
+    one false is = absurd (cc)
+
+-- and where nothing is counted it holds of each
+all_from_none : {X : Type 0} (p : X → Bool) (xs : List X) → sum_by (λ x. cond (p x) 0 1) xs ≡ 0 → All (λ x. IsTrue (p x)) xs
+all_from_none p [] none = All-nil (λ x. IsTrue (p x))
+all_from_none p (x ∷ xs) none =
+    let sum = sum_by-cons (λ y. cond (p y) 0 1) x xs in
+    All-cons (λ x. IsTrue (p x)) x xs (one (p x) (omega (arith, sum, none))) (all_from_none p xs (omega (arith, sum, none)))
+  where
+    one : (b : Bool) → cond {A = ℕ} b 0 1 ≡ 0 → IsTrue b
+    one true is = refl
+    one false is = absurd (omega (arith, is))
+
+empty_from_none : {X : Type 0} (xs : List X) → sum_by (λ x. 1) xs ≡ 0 → xs ≡ []
+empty_from_none [] none = refl
+empty_from_none (x ∷ xs) none = absurd (omega (arith, none, sum_by-cons (λ y. 1) x xs))
+
+-- ---- receipts
+
+all_at : (entries : List Entry) (lists : List (Vec Receipt Global)) → All (λ list. ListFits entries list.items) lists → All (IsAt entries) (all_receipts lists)
+all_at entries [] fits = All-nil (IsAt entries)
+all_at entries (v ∷ vs) fits =
+    let P : Vec Receipt Global → Type 0 = λ list. ListFits entries list.items in
+    let here = All-head P v vs fits in
+    All-append (IsAt entries) v.items (all_receipts vs) here.at (all_at entries vs (All-tail P v vs fits))
+
+module _ (entries : List Entry) (events : List Event) (first : Vec Receipt Global) (more : List (Vec Receipt Global)) (calls : AreCalls 0 events first.items)
+    (fits : All (λ list. ListFits entries list.items) (first ∷ more)) (once : EachOnce (length entries) (all_receipts (first ∷ more))) where
+  abbrev rest : List Entry
+  rest = drop (length first.items) entries
+
+  split : entries ≡ map entry_of first.items ++ rest
+  split = front entries events first.items calls (All-head (λ (list : Vec Receipt Global). ListFits entries list.items) first more fits).at
+
+  -- whatever is counted of what follows the script, the workers' receipts count it alike
+  rests_alike : (f : Entry → ℕ) → sum_by f rest ≡ sum_by (λ r. f (entry_of r)) (all_receipts more)
+  rests_alike f =
+      let alike = count_alike f entries (all_receipts (first ∷ more)) once (all_at entries (first ∷ more) fits) in
+      let left = sum_by-append (λ (r : Receipt). f (entry_of r)) first.items (all_receipts more) in
+      let right : sum_by f entries ≡ sum_by f (map entry_of first.items) + sum_by f rest = ap (sum_by f) split ∙ sum_by-append f (map entry_of first.items) rest in
+      let same = sum_by_mapped f entry_of first.items in
+      omega (arith, alike, left, right, same)
+
+  begins : events_in entries ≡ events ++ events_in rest
+  begins =
+      ap events_in split ∙ map-append (λ (e : Entry). e.event) (map entry_of first.items) rest
+      ∙ ap (λ es. es ++ events_in rest) (events_called 0 events first.items calls)
+
+pub session : (free : Type 0) (c : Config) (events : List Event) (rounds : ℕ) (entries : List Entry) (nodes : List Name) (dealt : List (Vec Name Global)) (first : Vec Receipt Global) (lists : List (Vec Receipt Global))
+    → AreCalls 0 events first.items → AddsRounds free dealt rounds (first ∷ []) lists → AreDealt nodes dealt → IsPermutation (nodes_after c events) nodes
+    → IsHistory c entries → ShowTenantsAlone c entries → All (λ list. ListFits entries list.items) lists → EachOnce (length entries) (all_receipts lists)
+    → IsSession free c events rounds entries
+session free c events rounds entries nodes dealt first lists calls adds are_dealt sorted history alone fits once =
+    let F : List (Vec Receipt Global) → Type 0 = λ ls. All (λ list. ListFits entries list.items) ls in
+    let O : List (Vec Receipt Global) → Type 0 = λ ls. EachOnce (length entries) (all_receipts ls) in
+    let fit : F (first ∷ adds.more) = subst F adds.all fits in
+    let each : O (first ∷ adds.more) = subst O adds.all once in
+    let alike = rests_alike entries events first adds.more calls fit each in
+    let after : List Entry = drop (length first.items) entries in
+    record {
+      history = history;
+      further = events_in after;
+      begins = begins entries events first adds.more calls fit each;
+      workers =
+          all_from_none is_workers (events_in after)
+          (sum_by_mapped (λ e. cond (is_workers e) 0 1) (λ (e : Entry). e.event) after ∙ alike (λ e. cond (is_workers e.event) 0 1) ∙ none_counted (λ (r : Receipt). is_workers r.event) (all_receipts adds.more) adds.workers);
+      idle = λ none.
+          let count : sum_by (λ (e : Entry). 1) after ≡ 0 = alike (λ e. 1) ∙ ap (λ ls. sum_by (λ (r : Receipt). 1) (all_receipts ls)) (adds.idle none) in
+          ap events_in (empty_from_none after count);
+      asked = λ is node.
+          sum_by_mapped (λ e. cond (asks node e) 1 0) (λ (e : Entry). e.event) after ∙ alike (λ e. cond (asks node e.event) 1 0) ∙ adds.asked is node
+          ∙ ap (λ n. rounds * n) (are_dealt node ∙ sum_by-IsPermutation (λ (other : Name). cond (same_name other node) 1 0) (nodes_after c events) nodes sorted);
+      alone = alone;
+    }

@@ -1,0 +1,5 @@
+mod Fronts
+mod Rounds
+mod Hands
+mod Deals
+mod Takes

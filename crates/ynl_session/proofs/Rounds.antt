@@ -1,0 +1,157 @@
+-- What the workers of a round called.
+use Rattle.std.proofs.Common.{◌≡◌, ℕ, suc, ◌+◌, ◌*◌, refl, sym, ap, ◌∙◌, arith, List, [], ◌∷◌, ◌++◌, cond, length, take, subst, Some, None, Option, Vec, All, inl, inr, ◌⊎◌, append-nil, append_assoc, Result, Ok, Err}
+use Rattle.std.specs.Prelude.{map, count_by, IsTrue, MatchOption, OnOk}
+use Rattle.std.specs.declared.alloc.Global.{Global}
+use Rattle.std.proofs.lemmas.List.Sums.{sum_by-cons, sum_by-append}
+use Rattle.std.proofs.lemmas.List.Elements.{All-head, All-tail, All-nil, All-cons, All-append}
+use Rattle.std.proofs.lemmas.List.Concat.{flat_map-append}
+use Rattle.ynl_resource.specs.declared.names.Name.{Name}
+use Rattle.ynl_resource.specs.Names.{same_name}
+use Rattle.ynl_model.specs.declared.proposals.Proposal.{Proposal}
+use Rattle.ynl_model.specs.declared.events.Event.TheVariants.{Commit}
+use Rattle.ynl_live.specs.Seats.{Standing}
+use Rattle.ynl_live.specs.declared.receipts.Receipt.{Receipt}
+use Rattle.ynl_live.specs.Receipts.{all_receipts}
+use Rattle.ynl_workers.specs.declared.working.End.{End}
+use Rattle.ynl_workers.specs.declared.working.End.TheVariants.{Whole, Halted, NoMemory, Behind}
+use Rattle.ynl_workers.specs.declared.working.WorkerEnd.{WorkerEnd}
+use Rattle.ynl_workers.specs.Turns.{IsAsked, IsWhole, IsHalted}
+use Rattle.ynl_workers.specs.Works.{IsWork}
+use Rattle.ynl_workers.specs.Rounds.{IsRound}
+use Rattle.ynl_session.specs.Dealt.{times_in, all_dealt}
+use Rattle.ynl_session.specs.Handed.{is_workers, asks, AddsRounds}
+
+-- a worker called this
+abbrev IsOfWorker : Receipt → Type 0
+IsOfWorker r = IsTrue (is_workers r.event)
+
+-- how many of the calls ask about the node
+abbrev asked_in : Name → List Receipt → ℕ
+asked_in n rs = count_by (λ (r : Receipt). asks n r.event) rs
+
+-- what these receipts tell of calls on these nodes
+record Tells (nodes : List Name) (rs : List Receipt) : Type 0 where
+  workers : All IsOfWorker rs
+  asked : (n : Name) → asked_in n rs ≡ times_in n nodes
+
+is_asking : (node : Name) (found : Option Proposal) (r : Receipt) → IsAsked node found r → IsOfWorker r
+is_asking node found r is = subst (λ e. IsTrue (is_workers e)) (sym is.event) refl
+
+is_committing : (p : Proposal) (r : Receipt) → r.event ≡ Commit p → IsOfWorker r
+is_committing p r is = subst (λ e. IsTrue (is_workers e)) (sym is) refl
+
+asking : (n node : Name) (found : Option Proposal) (r : Receipt) → IsAsked node found r → cond {A = ℕ} (asks n r.event) 1 0 ≡ cond {A = ℕ} (same_name node n) 1 0
+asking n node found r is = ap (λ e. cond {A = ℕ} (asks n e) 1 0) is.event
+
+committing : (n : Name) (p : Proposal) (r : Receipt) → r.event ≡ Commit p → cond {A = ℕ} (asks n r.event) 1 0 ≡ 0
+committing n p r is = ap (λ e. cond {A = ℕ} (asks n e) 1 0) is
+
+turn_tells : (node : Name) (turn : List Receipt) (asked : Receipt) (found : Option Proposal) → IsAsked node found asked → MatchOption found (turn ≡ asked ∷ []) (λ proposal. (done : Receipt) × (done.event ≡ Commit proposal) × (turn ≡ asked ∷ done ∷ [])) → Tells (node ∷ []) turn
+turn_tells node turn asked None is h =
+    subst (λ xs. Tells (node ∷ []) xs) (sym h)
+    (record {
+      workers = All-cons IsOfWorker asked [] (is_asking node None asked is) (All-nil IsOfWorker);
+      asked = λ n. let one = asking n node None asked is in omega (arith, one, sum_by-cons (λ (r : Receipt). cond (asks n r.event) 1 0) asked [], sum_by-cons (λ (x : Name). cond (same_name x n) 1 0) node []);
+    })
+turn_tells node turn asked (Some p) is h =
+    subst (λ xs. Tells (node ∷ []) xs) (sym h.2)
+    (record {
+      workers = All-cons IsOfWorker asked (h.0 ∷ []) (is_asking node (Some p) asked is) (All-cons IsOfWorker h.0 [] (is_committing p h.0 h.1) (All-nil IsOfWorker));
+      asked = λ n.
+          let one = asking n node (Some p) asked is in
+          let none = committing n p h.0 h.1 in
+          omega (arith, one, none, sum_by-cons (λ (r : Receipt). cond (asks n r.event) 1 0) asked (h.0 ∷ []), sum_by-cons (λ (r : Receipt). cond (asks n r.event) 1 0) h.0 [], sum_by-cons (λ (x : Name). cond (same_name x n) 1 0) node []);
+    })
+
+Tells-append : (xs ys : List Name) (rs ss : List Receipt) → Tells xs rs → Tells ys ss → Tells (xs ++ ys) (rs ++ ss)
+Tells-append xs ys rs ss a b = record {
+  workers = All-append IsOfWorker rs ss a.workers b.workers;
+  asked = λ n. sum_by-append (λ (r : Receipt). cond (asks n r.event) 1 0) rs ss ∙ (λ i. a.asked n i + b.asked n i) ∙ sym (sum_by-append (λ (x : Name). cond (same_name x n) 1 0) xs ys);
+}
+
+Tells-nil : Tells [] []
+Tells-nil = record { workers = All-nil IsOfWorker; asked = λ n. refl }
+
+whole_tells : (nodes : List Name) (rs : List Receipt) → IsWhole nodes rs → Tells nodes rs
+whole_tells [] rs whole = subst (λ xs. Tells [] xs) (sym whole) Tells-nil
+whole_tells (node ∷ nodes) rs whole =
+    let turn = whole.3 in
+    subst (λ xs. Tells (node ∷ nodes) xs) (sym whole.2)
+    (Tells-append (node ∷ []) nodes whole.0 whole.1 (turn_tells node whole.0 turn.0 turn.1 turn.2 turn.3) (whole_tells nodes whole.1 whole.4))
+
+halted_workers : (nodes : List Name) (rs : List Receipt) → IsHalted nodes rs → All IsOfWorker rs
+halted_workers nodes rs h =
+    subst (All IsOfWorker) (sym h.all)
+    (All-append IsOfWorker h.done (h.last ∷ []) (whole_tells (take h.turns nodes) h.done h.whole).workers (All-cons IsOfWorker h.last [] (is_asking h.node (Some h.found) h.last h.asked) (All-nil IsOfWorker)))
+
+-- what these receipts tell, where each worker was free
+pub record TellsFree (free : Type 0) (nodes : List Name) (rs : List Receipt) : Type 0 where
+  pub workers : All (λ receipt. IsTrue (is_workers receipt.event)) rs
+  pub asked : free → (node : Name) → count_by (λ receipt. asks node receipt.event) rs ≡ times_in node nodes
+
+work_tells : (free : Type 0) (nodes : List Name) (rs : List Receipt) (end : End) → IsWork free nodes rs end → (end ≡ Whole) ⊎ (end ≡ Halted) → TellsFree free nodes rs
+work_tells free nodes rs Whole work ended = let t = whole_tells nodes rs work in record { workers = t.workers; asked = λ _. t.asked }
+work_tells free nodes rs Halted work ended = record { workers = halted_workers nodes rs work.1; asked = λ is. absurd (work.0 is) }
+work_tells free nodes rs NoMemory work (inl e) = absurd (cc)
+work_tells free nodes rs NoMemory work (inr e) = absurd (cc)
+work_tells free nodes rs (Behind n) work (inl e) = absurd (cc)
+work_tells free nodes rs (Behind n) work (inr e) = absurd (cc)
+
+TellsFree-append : (free : Type 0) (xs ys : List Name) (rs ss : List Receipt) → TellsFree free xs rs → TellsFree free ys ss → TellsFree free (xs ++ ys) (rs ++ ss)
+TellsFree-append free xs ys rs ss a b = record {
+  workers = All-append IsOfWorker rs ss a.workers b.workers;
+  asked = λ is n. sum_by-append (λ (r : Receipt). cond (asks n r.event) 1 0) rs ss ∙ (λ i. a.asked is n i + b.asked is n i) ∙ sym (sum_by-append (λ (x : Name). cond (same_name x n) 1 0) xs ys);
+}
+
+-- it ended with all its nodes, or halted
+abbrev pub HasEnded : WorkerEnd → Type 0
+HasEnded w = (w.end ≡ Whole) ⊎ (w.end ≡ Halted)
+
+round_tells : (free : Type 0) (seats : List Standing) (lists : List (Vec Name Global)) (ends : List WorkerEnd) → length seats ≡ length ends → length lists ≡ length ends → IsRound free seats lists ends → All HasEnded ends → TellsFree free (all_dealt lists) (all_receipts (map (λ w. w.receipts) ends))
+round_tells free [] [] [] a b round ended = record { workers = All-nil IsOfWorker; asked = λ _ n. refl }
+round_tells free [] [] (w ∷ ws) a b round ended = absurd (omega arith)
+round_tells free [] (l ∷ ls) [] a b round ended = absurd (omega arith)
+round_tells free [] (l ∷ ls) (w ∷ ws) a b round ended = absurd (omega arith)
+round_tells free (s ∷ ss) [] [] a b round ended = absurd (omega arith)
+round_tells free (s ∷ ss) [] (w ∷ ws) a b round ended = absurd (omega arith)
+round_tells free (s ∷ ss) (l ∷ ls) [] a b round ended = absurd (omega arith)
+round_tells free (s ∷ ss) (l ∷ ls) (w ∷ ws) a b round ended =
+    let here = work_tells free l.items w.receipts.items w.end (round 0 s l w refl refl refl).work (All-head HasEnded w ws ended) in
+    let rest = round_tells free ss ls ws (omega arith) (omega arith) (λ k. round (suc k)) (All-tail HasEnded w ws ended) in
+    TellsFree-append free l.items (all_dealt ls) w.receipts.items (all_receipts (map (λ w. w.receipts) ws)) here rest
+
+-- one round
+pub AddsRounds-one : (free : Type 0) (seats : List Standing) (lists : List (Vec Name Global)) (ends : List WorkerEnd) (old new : List (Vec Receipt Global)) → length seats ≡ length ends → length lists ≡ length ends → IsRound free seats lists ends → All HasEnded ends → new ≡ old ++ map (λ w. w.receipts) ends → AddsRounds free lists 1 old new
+AddsRounds-one free seats lists ends old new a b round ended is =
+    let t = round_tells free seats lists ends a b round ended in
+    record {
+      more = map (λ w. w.receipts) ends;
+      all = is;
+      workers = t.workers;
+      idle = λ none. absurd (omega (arith, none));
+      asked = λ is n. t.asked is n ∙ (let e : times_in n (all_dealt lists) ≡ 1 * times_in n (all_dealt lists) = omega arith in e);
+    }
+
+pub AddsRounds-none : (free : Type 0) (dealt : List (Vec Name Global)) (old : List (Vec Receipt Global)) → AddsRounds free dealt 0 old old
+AddsRounds-none free dealt old = record { more = []; all = sym (append-nil old); workers = All-nil IsOfWorker; idle = λ _. refl; asked = λ _ n. (let e : 0 * times_in n (all_dealt dealt) ≡ 0 = omega arith in sym e) }
+
+-- rounds, and one more
+pub AddsRounds-more : (free : Type 0) (dealt : List (Vec Name Global)) (k : ℕ) (a b c : List (Vec Receipt Global)) → AddsRounds free dealt k a b → AddsRounds free dealt 1 b c → AddsRounds free dealt (k + 1) a c
+AddsRounds-more free dealt k a b c first next =
+    let both : all_receipts (first.more ++ next.more) ≡ all_receipts first.more ++ all_receipts next.more = flat_map-append (λ (v : Vec Receipt Global). v.items) first.more next.more in
+    record {
+      more = first.more ++ next.more;
+      all = next.all ∙ ap (λ xs. xs ++ next.more) first.all ∙ append_assoc a first.more next.more;
+      workers = subst (All IsOfWorker) (sym both) (All-append IsOfWorker (all_receipts first.more) (all_receipts next.more) first.workers next.workers);
+      idle = λ none. absurd (omega (arith, none));
+      asked = λ is n.
+          let p = ap (asked_in n) both ∙ sum_by-append (λ (r : Receipt). cond (asks n r.event) 1 0) (all_receipts first.more) (all_receipts next.more) in
+          let x = first.asked is n in
+          let y = next.asked is n in
+          omega (arith, p, x, y);
+    }
+
+-- the same, where it is known to have come to its end
+pub AddsRounds-if : {T E : Type 0} (r : Result T E) (free : Type 0) (seats : List Standing) (lists : List (Vec Name Global)) (ends : List WorkerEnd) (old new : List (Vec Receipt Global)) → length seats ≡ length ends → length lists ≡ length ends → IsRound free seats lists ends → OnOk r (All HasEnded ends) → OnOk r (new ≡ old ++ map (λ w. w.receipts) ends) → OnOk r (AddsRounds free lists 1 old new)
+AddsRounds-if (Ok x) free seats lists ends old new a b round ended is = AddsRounds-one free seats lists ends old new a b round ended is
+AddsRounds-if (Err e) free seats lists ends old new a b round ended is = tt

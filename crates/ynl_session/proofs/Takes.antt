@@ -1,0 +1,35 @@
+-- Workers that are taken in one after another.
+use Rattle.std.proofs.Common.{◌≡◌, sym, ap, ◌∙◌, List, [], ◌∷◌, ◌++◌, subst, Vec, All, append_assoc, append-nil}
+use Rattle.std.specs.Prelude.{map}
+use Rattle.std.specs.declared.alloc.Global.{Global}
+use Rattle.std.proofs.lemmas.List.{map-append}
+use Rattle.std.proofs.lemmas.List.Elements.{All-nil, All-push}
+use Rattle.ynl_live.specs.declared.receipts.Receipt.{Receipt}
+use Rattle.ynl_workers.specs.declared.working.WorkerEnd.{WorkerEnd}
+use Rattle.ynl_session.proofs.Rounds.{HasEnded}
+
+abbrev lists_of : List WorkerEnd → List (Vec Receipt Global)
+lists_of ends = map (λ w. w.receipts) ends
+
+-- the workers so far were taken in, and these are left
+pub record TakenSoFar (old now : List (Vec Receipt Global)) (all left : List WorkerEnd) : Type 0 where
+  pub done : List WorkerEnd
+  pub all_are : done ++ left ≡ all
+  pub ended : All (λ worker. HasEnded worker) done
+  pub lists : now ≡ old ++ map (λ w. w.receipts) done
+
+pub TakenSoFar-none : (old : List (Vec Receipt Global)) (all left : List WorkerEnd) → left ≡ all → TakenSoFar old old all left
+TakenSoFar-none old all left is = record { done = []; all_are = is; ended = All-nil (λ worker. HasEnded worker); lists = sym (append-nil old) }
+
+pub TakenSoFar-more : (old now next : List (Vec Receipt Global)) (all left rest : List WorkerEnd) (w : WorkerEnd) → left ≡ w ∷ rest → HasEnded w → next ≡ now ++ w.receipts ∷ [] → TakenSoFar old now all left → TakenSoFar old next all rest
+TakenSoFar-more old now next all left rest w is ended one so = record {
+  done = so.done ++ w ∷ [];
+  all_are = append_assoc so.done (w ∷ []) rest ∙ ap (λ ws. so.done ++ ws) (sym is) ∙ so.all_are;
+  ended = All-push (λ worker. HasEnded worker) so.done w so.ended ended;
+  lists = one ∙ ap (λ ls. ls ++ w.receipts ∷ []) so.lists ∙ append_assoc old (lists_of so.done) (w.receipts ∷ []) ∙ ap (λ ls. old ++ ls) (sym (map-append (λ (x : WorkerEnd). x.receipts) so.done (w ∷ [])));
+}
+
+pub TakenSoFar-all : (old now : List (Vec Receipt Global)) (all left : List WorkerEnd) → left ≡ [] → TakenSoFar old now all left → All HasEnded all × (now ≡ old ++ map (λ w. w.receipts) all)
+TakenSoFar-all old now all left none so =
+    let same : so.done ≡ all = sym (append-nil so.done) ∙ ap (λ ws. so.done ++ ws) (sym none) ∙ so.all_are in
+    (subst (All HasEnded) same so.ended, so.lists ∙ ap (λ ws. old ++ lists_of ws) same)

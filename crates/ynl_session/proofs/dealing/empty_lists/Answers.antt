@@ -1,0 +1,7 @@
+use Rattle.std.proofs.Common.{arith, []}
+use Rattle.ynl_session.proofs.Deals.{AreDealt-empty}
+use Rattle.ynl_session.proofs.dealing.empty_lists.Goals as goal
+
+pub loop-preserved : goal.loop-preserved
+loop-preserved c =
+    (omega (arith, c.in_ok-push.ensures.len, c.loop.invariant.0), AreDealt-empty [] c.loop.lists.items c.push.new.self.items c.new.result c.in_ok-push.ensures.items c.new.ensures.items c.loop.invariant.1)

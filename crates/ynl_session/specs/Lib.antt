@@ -1,0 +1,4 @@
+pub mod Dealt
+pub mod Handed
+pub mod Scripted
+pub mod Sessions

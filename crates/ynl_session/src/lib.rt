@@ -1,0 +1,14 @@
+//! A session of a live scheduler: the events of a script, rounds of workers over the nodes that these
+//! leave, and the closed journal.
+//!
+//! What threads do in a session no contract can say before it has ended. Then the journal tells: it is a
+//! history of the cluster, the script stands at its front, and behind it each node of the script was asked
+//! about once a round.
+#![tactic(auto)]
+
+pub use sessions::{SessionFault, run_session};
+
+mod dealing;
+mod handing;
+mod scripted;
+mod sessions;

@@ -1,0 +1,103 @@
+//! Sessions.
+
+ghost use Rattle.std.specs.Prelude.{◌≡◌, ◌<◌, IfOk};
+ghost use Rattle.std.specs.List.Sorted.{IsPermutation};
+ghost use Rattle.ynl_session.specs.Sessions.{nodes_after, IsSession};
+
+use crate::dealing::deal;
+use crate::handing::Handed;
+use crate::scripted::call_events;
+use std::alloc::{AllocError, Global};
+use std::sync::Wait;
+use std::thread::Threads;
+use thiserror::Error;
+use ynl_core::NoMemory;
+use ynl_live::{CallFault, Cause, Live, close};
+use ynl_model::{Entry, Event};
+use ynl_queues::Config;
+use ynl_resource::Name;
+use ynl_view::tracked_nodes;
+use ynl_workers::Gate;
+
+/// Why a session has no closed journal.
+#[derive(Clone, Copy, Debug, PartialEq, Eq, Error)]
+pub enum SessionFault {
+    /// Memory was refused.
+    #[error("out of memory")]
+    NoMemory,
+    /// The receipts do not fit the journal.
+    #[error("not closed")]
+    Unclosed,
+}
+
+impl From<AllocError> for SessionFault {
+    fn from(_error: AllocError) -> SessionFault {
+        SessionFault::NoMemory
+    }
+}
+
+impl From<NoMemory> for SessionFault {
+    fn from(_error: NoMemory) -> SessionFault {
+        SessionFault::NoMemory
+    }
+}
+
+impl From<CallFault> for SessionFault {
+    fn from(error: CallFault) -> SessionFault {
+        match error {
+            CallFault::NoMemory => SessionFault::NoMemory,
+            CallFault::Behind(_) => SessionFault::Unclosed,
+        }
+    }
+}
+
+fn fault_of(cause: Cause) -> SessionFault {
+    match cause {
+        Cause::NoMemory => SessionFault::NoMemory,
+        _ => SessionFault::Unclosed,
+    }
+}
+
+/// The nodes that the events leave, by name in byte order.
+fn nodes_in_order(
+    alloc: Global,
+    config: &Config,
+    events: &[Event],
+) -> Result<Vec<Name>, SessionFault>
+    ensures { IfOk result (λ nodes. IsPermutation (nodes_after config.now events.now) nodes.items) }
+{
+    let mut nodes = tracked_nodes(alloc, config, events)?;
+    nodes.sort()?;
+    Ok(nodes)
+}
+
+/// Calls the events on a new cluster, runs so many rounds of workers over the nodes that these leave, and
+/// closes the journal. In each round the nodes, by name in byte order, are dealt out to the workers in turn.
+///
+/// `Unclosed` comes only where the receipts do not fit the journal, or where an event got another place
+/// than its number.
+pub fn run_session<T: Threads + Wait + Sync, G: Gate + Sync>(
+    rt: &T,
+    alloc: Global,
+    config: Config,
+    events: &[Event],
+    workers: usize,
+    rounds: u64,
+    gate: &G,
+) -> Result<Vec<Entry>, SessionFault>
+    requires { 0 < workers }
+    ensures { IfOk result (λ entries. IsSession (G.is_free gate.now) config events.now rounds entries.items) }
+{
+    let nodes = nodes_in_order(alloc, &config, events)?;
+    let dealt = deal(alloc, &nodes, workers)?;
+    let (live, mut seat) = Live::open(alloc, config)?;
+    let receipts = call_events(rt, alloc, &live, &mut seat, events)?;
+    let apart = seat.split();
+    let mut handed = Handed::first(alloc, seat, receipts)?;
+    handed.run_rounds(rt, alloc, &live, &apart, &dealt, rounds, gate)?;
+    let Handed { seats, lists } = handed;
+    match close(alloc, live, seats, &lists) {
+        Ok(closed) => Ok(closed.entries),
+        Err(unclosed) => Err(fault_of(unclosed.cause)),
+    }
+}

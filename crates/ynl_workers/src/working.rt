@@ -1,0 +1,157 @@
+//! One worker: its turns, one on each node.
+
+ghost use Rattle.std.specs.Prelude.{◌≡◌, ℕ, ◌+◌, ◌*◌, ◌≤◌, ◌<◌, [], ◌∷◌, ◌++◌, length, vec_len, vec_capacity, IfOk, OnOk, OnErr, ◌⊎◌};
+ghost use Rattle.ynl_live.specs.declared.receipts.Receipt.{Receipt};
+ghost use Rattle.ynl_workers.specs.Turns.{IsAsked, proposal_in};
+ghost use Rattle.ynl_workers.specs.Works.{IsWork, Adds};
+
+use crate::gates::{Gate, Go};
+use std::sync::Wait;
+use ynl_live::{CallFault, Live, Receipt, Seat};
+use ynl_model::{Event, Proposal, Reply};
+use ynl_resource::Name;
+
+/// How a worker came to its end.
+#[derive(Clone, Copy, Debug, PartialEq, Eq)]
+pub enum End {
+    /// It went over all its nodes.
+    Whole,
+    /// The gate answered `Halt`.
+    Halted,
+    /// A call was refused memory.
+    NoMemory,
+    /// A call told that the journal has only this many entries: the seat is of another `Live`.
+    Behind(u64),
+}
+
+/// What a worker hands back: its seat, the receipts of its calls in their order, and how it ended.
+#[derive(Drop)]
+pub struct WorkerEnd {
+    pub seat: Seat,
+    pub receipts: Vec<Receipt>,
+    pub end: End,
+}
+
+/// A turn of a worker: which worker, which of its turns, and on which node.
+#[derive(Clone, Copy)]
+struct Turn {
+    worker: u64,
+    number: u64,
+    node: Name,
+}
+
+fn end_of(fault: CallFault) -> End
+    ensures { (result ≡ End.NoMemory) ⊎ ((entered : ℕ) × (result ≡ End.Behind entered)) }
+{
+    match fault {
+        CallFault::NoMemory => End::NoMemory,
+        CallFault::Behind(entered) => End::Behind(entered),
+    }
+}
+
+fn proposal_of(reply: &Reply) -> Option<Proposal>
+    ensures { result ≡ proposal_in reply.now }
+{
+    match reply {
+        Reply::Proposed(found) => *found,
+        _ => None,
+    }
+}
+
+/// Goes over the nodes, and keeps all receipts.
+pub(crate) fn work<R: Wait, G: Gate>(
+    rt: &R,
+    live: &Live,
+    gate: &G,
+    worker: u64,
+    nodes: &[Name],
+    seat: &mut Seat,
+    receipts: &mut Vec<Receipt>,
+) -> End
+    requires empty { receipts.old.items ≡ [] }
+    requires reserved { 2 * length nodes.now ≤ vec_capacity receipts.old }
+    ensures calls { seat.new.calls ≡ seat.old.calls + length receipts.new.items }
+    ensures work { IsWork (G.is_free gate.now) nodes.now receipts.new.items result }
+{
+    for (number, node) in nodes.iter().enumerate() {
+        let turn = Turn {
+            worker,
+            number: number as u64,
+            node: *node,
+        };
+        match take_turn(rt, live, gate, turn, seat, receipts) {
+            End::Whole => {}
+            end => return end,
+        }
+    }
+    End::Whole
+}
+
+/// Asks what would be placed on the node, and commits what is answered, where the gate lets it.
+fn take_turn<R: Wait, G: Gate>(
+    rt: &R,
+    live: &Live,
+    gate: &G,
+    turn: Turn,
+    seat: &mut Seat,
+    receipts: &mut Vec<Receipt>,
+) -> End
+    requires { vec_len receipts.old + 2 ≤ vec_capacity receipts.old }
+    ensures capacity { vec_capacity receipts.new ≡ vec_capacity receipts.old }
+    ensures adds { Adds (G.is_free gate.now) turn.node receipts.old.items receipts.new.items seat.old.calls seat.new.calls result }
+{
+    let proposal = match ask(rt, live, turn.node, seat, receipts) {
+        Ok(Some(proposal)) => proposal,
+        Ok(None) => return End::Whole,
+        Err(fault) => return end_of(fault),
+    };
+    if gate.before_commit(turn.worker, turn.number) == Go::Halt {
+        return End::Halted;
+    }
+    match commit(rt, live, proposal, seat, receipts) {
+        Ok(()) => {
+            gate.after_commit(turn.worker, turn.number);
+            End::Whole
+        }
+        Err(fault) => end_of(fault),
+    }
+}
+
+/// Asks what would be placed on the node, and keeps the receipt.
+fn ask<R: Wait>(
+    rt: &R,
+    live: &Live,
+    node: Name,
+    seat: &mut Seat,
+    receipts: &mut Vec<Receipt>,
+) -> Result<Option<Proposal>, CallFault>
+    requires { vec_len receipts.old < vec_capacity receipts.old }
+    ensures capacity { vec_capacity receipts.new ≡ vec_capacity receipts.old }
+    ensures calls { OnOk result (seat.new.calls ≡ seat.old.calls + 1) }
+    ensures receipt { IfOk result (λ found. (asked : Receipt) × (receipts.new.items ≡ receipts.old.items ++ asked ∷ []) × IsAsked node found asked) }
+    ensures err { OnErr result ((seat.new ≡ seat.old) × (receipts.new ≡ receipts.old)) }
+{
+    let receipt = live.call(rt, seat, Event::Propose { node })?;
+    let found = proposal_of(&receipt.reply);
+    receipts.push_reserved(receipt);
+    Ok(found)
+}
+
+/// Commits a proposal, and keeps the receipt.
+fn commit<R: Wait>(
+    rt: &R,
+    live: &Live,
+    proposal: Proposal,
+    seat: &mut Seat,
+    receipts: &mut Vec<Receipt>,
+) -> Result<(), CallFault>
+    requires { vec_len receipts.old < vec_capacity receipts.old }
+    ensures capacity { vec_capacity receipts.new ≡ vec_capacity receipts.old }
+    ensures calls { OnOk result (seat.new.calls ≡ seat.old.calls + 1) }
+    ensures receipt { OnOk result ((done : Receipt) × (receipts.new.items ≡ receipts.old.items ++ done ∷ []) × (done.event ≡ Event.Commit proposal)) }
+    ensures err { OnErr result ((seat.new ≡ seat.old) × (receipts.new ≡ receipts.old)) }
+{
+    let receipt = live.call(rt, seat, Event::Commit { proposal })?;
+    receipts.push_reserved(receipt);
+    Ok(())
+}
