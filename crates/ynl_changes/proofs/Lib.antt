@@ -3,3 +3,4 @@ pub mod Serves
 pub mod Own
 pub mod Put
 pub mod Summing
+pub mod Moving

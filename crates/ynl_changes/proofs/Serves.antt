@@ -7,6 +7,8 @@ use Rattle.ynl_model.specs.Cluster.{State, is_spent}
 use Rattle.ynl_model.specs.Service.{Item, choice}
 use Rattle.ynl_model.specs.Changes.{Beat, beat, next_item, place, container_of}
 use Rattle.ynl_laws.specs.Working.{IsWorking, Stands}
+use Rattle.ynl_laws.specs.Tabled.{Tabled}
+use Rattle.ynl_laws.proofs.Totals.Tabling.{tabled-place}
 use Rattle.ynl_laws.proofs.Soundness.Working.{working-place, stands-place}
 use Rattle.ynl_laws.proofs.Soundness.Bounds.{total-small, on-within, small-within}
 use Rattle.ynl_tables.specs.Bounds.{IsBounded}
@@ -66,6 +68,9 @@ chosen c s node item e = go (is_spent c.labels s node.label) refl e
 pub working_next : (c : Config) (s new : State) (node : Node) (item : Item) → IsWorking c s → Stands s node → next_item c s node ≡ Some item → new ≡ place c node item s → IsWorking c new
 working_next c s new node item w stands e moved =
     let k = chosen c s node item e in subst (IsWorking c) (sym moved) (working-place c s node item w stands k.1 k.0)
+
+pub tabled_next : (c : Config) (s new : State) (node : Node) (item : Item) → IsWorking c s → Tabled s → next_item c s node ≡ Some item → new ≡ place c node item s → Tabled new
+tabled_next c s new node item w tabled e moved = subst Tabled (sym moved) (tabled-place c s node item w.kept tabled (chosen c s node item e).1)
 
 pub stands_next : (c : Config) (s new : State) (node : Node) (item : Item) → Stands s node → new ≡ place c node item s → Stands new node
 stands_next c s new node item stands moved = subst (λ (z : State). Stands z node) (sym moved) (stands-place c s node item stands)

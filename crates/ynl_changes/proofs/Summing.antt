@@ -14,6 +14,7 @@ use Rattle.ynl_model.specs.Queues.{Config, QueueRow, is_leaf}
 use Rattle.ynl_model.specs.Applications.{Application, LeafApps, in_leaf, submitted, no_apps}
 use Rattle.ynl_model.specs.Cluster.{Partition, is_partition, sizes, is_master}
 use Rattle.ynl_laws.specs.Working.{IsWorking, UsesAll, EachUses}
+use Rattle.ynl_laws.specs.Tabled.{Tabled}
 use Rattle.ynl_laws.specs.Uses.{counts, counts_as_guest, use_by, raised_in, lowered_in}
 use Rattle.ynl_laws.proofs.Amounts.{fits-filter, fits-trans}
 use Rattle.ynl_laws.proofs.Events.Kept.{KeepsNames, Extends, leaf_of-kept}
@@ -22,6 +23,9 @@ use Rattle.ynl_laws.proofs.Totals.Used.{use-with, use-without, use-same, use-ext
 use Rattle.ynl_tables.specs.declared.rows.PartitionRow.{PartitionRow}
 use Rattle.ynl_tables.specs.declared.tables.Tables.{Tables}
 use Rattle.ynl_tables.specs.Bounds.{IsReadable, IsTotal}
+use Rattle.ynl_tables.specs.declared.filled.Filled.{Filled}
+use Rattle.ynl_tables.specs.Filled.{IsFilled}
+use Rattle.ynl_changes.specs.Cells.{FreesIf}
 use Rattle.ynl_tables.specs.Kept.{IsSummed, AreKept, IsKept}
 use Rattle.ynl_tables.specs.Numbers.{AreNumbered}
 use Rattle.ynl_tables.specs.Tables.{partition_of, partitions_of, state_of}
@@ -59,11 +63,11 @@ use_small leaves queue xs h few =
 -- what a row keeps is small
 pub small_uses : (queues : List Path) (leaves : List LeafApps) (row : PartitionRow) → IsSummed queues leaves row → IsTotal (sizes row.containers.items) → length row.containers.items < 2 ^ 63 → AllByRecursion IsSmallUse row.uses.items
 small_uses queues leaves row summed h few =
-    subst (AllByRecursion IsSmallUse) (sym summed)
+    subst (AllByRecursion IsSmallUse) (sym summed.uses)
     (Each-map (λ queue. Unit {0}) IsSmallUse (λ queue. use_by leaves queue row.containers.items) (λ queue _. use_small leaves queue row.containers.items h few) (root ∷ queues) (Each-all (λ queue. Unit {0}) (λ queue. tt) (root ∷ queues)))
 
 pub uses_long : (queues : List Path) (leaves : List LeafApps) (row : PartitionRow) → IsSummed queues leaves row → length row.uses.items ≡ length (root ∷ queues)
-uses_long queues leaves row summed = ap length summed ∙ length-map (root ∷ queues) (λ queue. use_by leaves queue row.containers.items)
+uses_long queues leaves row summed = ap length summed.uses ∙ length-map (root ∷ queues) (λ queue. use_by leaves queue row.containers.items)
 
 -- in a state that works the containers of each row come to little
 pub rows_small : (c : Config) (t : Tables) → IsWorking c (state_of t) → AllByRecursion (λ row. IsTotal (sizes row.containers.items)) t.partitions.items
@@ -74,8 +78,8 @@ rows_small c t w =
     (partitions_of t.partitions.items) w.ordered.found)
 
 -- what is read of tables in a state that works
-pub readable : (c : Config) (t : Tables) → IsWorking c (state_of t) → IsKept t → IsReadable t
-readable c t w h = record { bounded = bounded c (state_of t) w; kept = h }
+pub readable : (c : Config) (t : Tables) → IsWorking c (state_of t) → Tabled (state_of t) → IsKept t → IsReadable t
+readable c t w tabled h = record { bounded = bounded c (state_of t) w; tabled = tabled; kept = h }
 
 -- ---- one container more, or less
 
@@ -105,6 +109,20 @@ less_one leaves queue goes xs i x inside e =
     go true front rest = use-without leaves queue front rest x ∙ ap (use_by leaves queue) (ap (λ ys. ys ++ rest) (sym (append-nil front)))
     go false front rest = ap (use_by leaves queue) (sym (append_assoc front (x ∷ []) rest))
 
+-- the same of what is kept of nodes
+pub freed_one : (old new : Filled) (goes : Placed → Bool) (xs : List Placed) (i : ℕ) (x : Placed) → i < length xs → x ≡ get_or xs i x → FreesIf (goes x) old new x → IsFilled old (so_far goes xs i) → IsFilled new (so_far goes xs (i + 1))
+freed_one old new goes xs i x inside e frees filled =
+    let front : List Placed = without goes (take i xs) in
+    let rest : List Placed = drop (i + 1) xs in
+    let here : so_far goes xs i ≡ front ++ x ∷ rest = ap (λ ys. front ++ ys) (drop_next xs i x inside e) in
+    let next : so_far goes xs (i + 1) ≡ (front ++ cond (not (goes x)) (x ∷ []) []) ++ rest =
+    ap (λ ys. without goes ys ++ rest) (take_more xs i x inside ∙ ap (λ z. take i xs ++ z ∷ []) (sym e)) ∙ ap (λ ys. ys ++ rest) (filter-append (λ k. not (goes k)) (take i xs) (x ∷ [])) in
+    subst (IsFilled new) (sym next) (go (goes x) front rest frees (subst (IsFilled old) here filled))
+  where
+    go : (b : Bool) (front rest : List Placed) → FreesIf b old new x → IsFilled old (front ++ x ∷ rest) → IsFilled new ((front ++ cond (not b) (x ∷ []) []) ++ rest)
+    go true front rest frees filled = subst (IsFilled new) (ap (λ ys. ys ++ rest) (sym (append-nil front))) (frees front rest filled)
+    go false front rest same filled = subst (IsFilled new) (sym (append_assoc front (x ∷ []) rest)) (subst (λ f. IsFilled f (front ++ x ∷ rest)) (sym same) filled)
+
 pub all_gone : (goes : Placed → Bool) (xs : List Placed) (i : ℕ) → length xs ≤ i → so_far goes xs i ≡ without goes xs
 all_gone goes xs i past = ap (λ ys. without goes (take i xs) ++ ys) (drop_all i xs past) ∙ append-nil (without goes (take i xs)) ∙ ap (without goes) (take_all i xs past)
 
@@ -119,8 +137,11 @@ pub kept_leaf : (queues : List Path) (leaf : Path) (change : LeafApps → LeafAp
 kept_leaf queues leaf change names leaves rows h = record {
   numbered = numbered_leaf queues leaf change names.leaf leaves h.numbered;
   summed = Each-weaker (IsSummed queues leaves) (IsSummed queues (in_leaf leaf change leaves))
-      (λ row e. e ∙ map_each (λ queue. use_by leaves queue row.containers.items) (λ queue. use_by (in_leaf leaf change leaves) queue row.containers.items)
-      (λ queue. sym (use-same leaves (in_leaf leaf change leaves) (leaf_of-kept leaf change names leaves) queue row.containers.items)) (root ∷ queues)) rows h.summed;
+      (λ row e. record {
+        uses = e.uses ∙ map_each (λ queue. use_by leaves queue row.containers.items) (λ queue. use_by (in_leaf leaf change leaves) queue row.containers.items)
+            (λ queue. sym (use-same leaves (in_leaf leaf change leaves) (leaf_of-kept leaf change names leaves) queue row.containers.items)) (root ∷ queues);
+        filled = e.filled;
+      }) rows h.summed;
 }
 
 -- a new application, whose name no container has
@@ -129,8 +150,11 @@ pub kept_submission : (queues : List Path) (app : Application) (leaves : List Le
 kept_submission queues app leaves rows extends known h = record {
   numbered = numbered_leaf queues app.leaf (submitted app) (λ row. refl) leaves h.numbered;
   summed = Each-with (λ row. UsesAll leaves row.containers.items) (IsSummed queues leaves) (IsSummed queues (in_leaf app.leaf (submitted app) leaves))
-      (λ row all e. e ∙ map_each (λ queue. use_by leaves queue row.containers.items) (λ queue. use_by (in_leaf app.leaf (submitted app) leaves) queue row.containers.items)
-      (λ queue. sym (use-extends leaves (in_leaf app.leaf (submitted app) leaves) queue row.containers.items extends all)) (root ∷ queues)) rows (Each-unmap partition_of (λ row. UsesAll leaves row.containers) rows known) h.summed;
+      (λ row all e. record {
+        uses = e.uses ∙ map_each (λ queue. use_by leaves queue row.containers.items) (λ queue. use_by (in_leaf app.leaf (submitted app) leaves) queue row.containers.items)
+            (λ queue. sym (use-extends leaves (in_leaf app.leaf (submitted app) leaves) queue row.containers.items extends all)) (root ∷ queues);
+        filled = e.filled;
+      }) rows (Each-unmap partition_of (λ row. UsesAll leaves row.containers) rows known) h.summed;
 }
 
 -- ---- at first

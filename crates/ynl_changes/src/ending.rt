@@ -6,19 +6,19 @@ ghost use Rattle.ynl_resource.specs.Tables.{without};
 ghost use Rattle.ynl_model.specs.Cluster.{in_partition};
 ghost use Rattle.ynl_model.specs.Changes.{end};
 ghost use Rattle.ynl_laws.specs.Uses.{use_by};
+ghost use Rattle.ynl_tables.specs.Filled.{IsFilled};
 ghost use Rattle.ynl_tables.specs.Kept.{AreKept, IsKept, IsSummed};
 ghost use Rattle.ynl_tables.specs.Numbers.{AreNumbered};
 ghost use Rattle.ynl_tables.specs.Tables.{state_of, leaves_of, partition_of, partitions_of};
-ghost use Rattle.ynl_changes.specs.Cells.{LowersAll, goes};
+ghost use Rattle.ynl_changes.specs.Cells.{LowersAll, FreesIf, goes};
 ghost use Rattle.ynl_changes.specs.Rows.{in_row, without_id};
 
 use crate::cells::lower;
-use crate::placing::stamp;
 use ynl_model::{Placed, Use};
 use ynl_queues::Config;
 use ynl_resource::{Id, Label, Name};
 use ynl_tables::{
-    LeafRow, PartitionRow, QueueNumbers, Tables, is_own, is_same, is_same_id, next_clock,
+    Filled, LeafRow, PartitionRow, QueueNumbers, Tables, is_own, is_same, is_same_id, next_clock,
 };
 
 /// Which containers go.
@@ -77,7 +77,26 @@ fn lower_by(
     }
 }
 
-/// Containers go from a row, and its queues use less by them.
+/// What is used of a node is lowered by a container, if it goes.
+fn free_if(filled: &mut Filled, container: &Placed, going: Going<'_>)
+    ensures { FreesIf (goes going.entry container.now) filled.old filled.new container.now }
+{
+    if goes(going, container) {
+        filled.free(container);
+    }
+}
+
+/// What is used of nodes is lowered by each of the containers that goes.
+fn free_by(filled: &mut Filled, containers: &[Placed], going: Going<'_>)
+    requires { IsFilled filled.old containers.now }
+    ensures { IsFilled filled.new (without (goes going.entry) containers.now) }
+{
+    for container in containers {
+        free_if(filled, container, going);
+    }
+}
+
+/// Containers go from a row, and its queues and nodes use less by them.
 pub fn drop_going(
     row: &mut PartitionRow,
     numbers: &QueueNumbers,
@@ -90,6 +109,7 @@ pub fn drop_going(
     ensures summed { IsSummed numbers.now (leaves_of leaves.now) row.new }
 {
     lower_by(&mut row.uses, numbers, leaves, &row.containers, going);
+    free_by(&mut row.filled, &row.containers, going);
     row.containers.retain(|container| !goes(going, container));
 }
 
@@ -140,7 +160,7 @@ pub fn end(config: &Config, tables: &mut Tables, container: &Placed)
 {
     let label = container.id.label;
     let clock = next_clock(config, tables, &label);
-    stamp(&mut tables.nodes, &container.node, &label, clock);
+    tables.nodes.stamp(&container.node, &label, clock);
     end_on(
         &mut tables.partitions,
         &tables.numbers,

@@ -17,7 +17,7 @@ ghost use Rattle.ynl_tables.specs.Tables.{state_of, app_of, leaf_of_row, leaves_
 ghost use Rattle.ynl_changes.specs.Rows.{containers_at_place};
 
 use crate::ending::{Going, drop_going};
-use crate::placing::{set_clock, stamp};
+use crate::placing::set_clock;
 use ynl_model::Placed;
 use ynl_queues::Config;
 use ynl_resource::{Name, Path};
@@ -33,7 +33,7 @@ fn raise_clock(config: &Config, tables: &mut Tables, container: &Placed)
 {
     let label = container.id.label;
     let clock = next_clock(config, tables, &label);
-    stamp(&mut tables.nodes, &container.node, &label, clock);
+    tables.nodes.stamp(&container.node, &label, clock);
     set_clock(&mut tables.partitions, &label, clock);
 }
 

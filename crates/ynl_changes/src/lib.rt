@@ -5,7 +5,7 @@
 pub use asking::{ask_for, reserve_ask};
 pub use ending::end;
 pub use finishing::finish_application;
-pub use nodes::{join, leave};
+pub use nodes::{join, leave, relabel};
 pub use opening::opening_tables;
 pub use placing::{place, reserve_containers};
 pub use serving::serve;

@@ -1,7 +1,7 @@
 //! Nodes that join a partition, and nodes that leave it.
 
-ghost use Rattle.std.specs.Prelude.{◌≡◌, ◌≤◌, ◌+◌, vec_len, vec_capacity};
-ghost use Rattle.ynl_model.specs.Nodes.{is_at, left};
+ghost use Rattle.std.specs.Prelude.{◌≡◌, Some, None, false, OnOk, OnErr};
+ghost use Rattle.ynl_model.specs.Nodes.{find_node, is_full};
 ghost use Rattle.ynl_model.specs.Cluster.{in_partition};
 ghost use Rattle.ynl_model.specs.Changes.{node_joins, node_leaves};
 ghost use Rattle.ynl_tables.specs.Kept.{AreKept, IsKept, IsSummed};
@@ -11,42 +11,37 @@ ghost use Rattle.ynl_changes.specs.Rows.{in_row, emptied};
 
 use crate::ending::{Going, drop_going};
 use crate::placing::set_clock;
+use std::alloc::AllocError;
 use ynl_model::Node;
 use ynl_queues::Config;
 use ynl_resource::{Label, Name, Size};
 use ynl_tables::{LeafRow, PartitionRow, QueueNumbers, Tables, is_same, next_clock};
 
-/// Whether the node has this name and stands on this partition.
-fn is_at(node: &Node, name: &Name, label: &Label) -> bool
-    ensures { result ≡ is_at name.now label.now node.now }
-{
-    node.name == *name && is_same(&node.label, label)
-}
-
-/// A node joins a partition: the clock rises, and is the node's stamp. There is capacity for its row.
-#[tactic(auto, unfolding(ynl_model::specs::Changes::node_joins, ynl_model::specs::Nodes::joined))]
-pub fn join(config: &Config, tables: &mut Tables, name: &Name, label: &Label, size: &Size)
-    requires { vec_len tables.old.nodes + 1 ≤ vec_capacity tables.old.nodes }
-    ensures state { state_of tables.new ≡ node_joins config.now name.now label.now size.now (state_of tables.old) }
+/// A node joins a partition: the clock rises, and is the node's stamp. Where memory is refused,
+/// nothing has changed.
+#[tactic(auto, unfolding(ynl_model::specs::Changes::node_joins))]
+pub fn join(
+    config: &Config,
+    tables: &mut Tables,
+    name: &Name,
+    label: &Label,
+    size: &Size,
+) -> Result<(), AllocError>
+    requires new { find_node tables.old.nodes name.now ≡ None }
+    requires room { is_full tables.old.nodes label.now ≡ false }
+    ensures ok { OnOk result (state_of tables.new ≡ node_joins config.now name.now label.now size.now (state_of tables.old)) }
+    ensures err { OnErr result (state_of tables.new ≡ state_of tables.old) }
     ensures kept { IsKept tables.old → IsKept tables.new }
 {
     let stamp = next_clock(config, tables, label);
-    set_clock(&mut tables.partitions, label, stamp);
-    tables.nodes.push_reserved(Node {
+    tables.nodes.join(Node {
         name: *name,
         label: *label,
         size: *size,
         stamp,
-    });
-}
-
-#[tactic(auto, unfolding(ynl_model::specs::Nodes::left))]
-fn drop_node(nodes: &mut Vec<Node>, node: &Node)
-    ensures items { nodes.new.items ≡ left node.now nodes.old.items }
-    ensures bound { vec_len nodes.new ≤ vec_len nodes.old }
-    ensures capacity { vec_capacity nodes.new ≡ vec_capacity nodes.old }
-{
-    nodes.retain(|other| !is_at(other, &node.name, &node.label));
+    })?;
+    set_clock(&mut tables.partitions, label, stamp);
+    Ok(())
 }
 
 /// The containers on a node go from a row, if it is that of the partition.
@@ -89,11 +84,9 @@ fn drop_containers(
 pub fn leave(tables: &mut Tables, node: &Node)
     requires { IsKept tables.old }
     ensures state { state_of tables.new ≡ node_leaves node.now (state_of tables.old) }
-    ensures bound { vec_len tables.new.nodes ≤ vec_len tables.old.nodes }
-    ensures capacity { vec_capacity tables.new.nodes ≡ vec_capacity tables.old.nodes }
     ensures kept { IsKept tables.new }
 {
-    drop_node(&mut tables.nodes, node);
+    tables.nodes.leave(node);
     drop_containers(
         &mut tables.partitions,
         &tables.numbers,
@@ -101,4 +94,33 @@ pub fn leave(tables: &mut Tables, node: &Node)
         &node.label,
         &node.name,
     );
+}
+
+/// The node of a name leaves its partition, and joins another. Where memory is refused, nothing has changed.
+#[tactic(auto, unfolding(ynl_model::specs::Changes::node_joins, ynl_model::specs::Changes::node_leaves))]
+pub fn relabel(
+    config: &Config,
+    tables: &mut Tables,
+    name: &Name,
+    node: &Node,
+    label: &Label,
+) -> Result<(), AllocError>
+    requires here { find_node tables.old.nodes name.now ≡ Some node.now }
+    requires room { is_full tables.old.nodes label.now ≡ false }
+    requires kept { IsKept tables.old }
+    ensures ok { OnOk result (state_of tables.new ≡ node_joins config.now name.now label.now node.now.size (node_leaves node.now (state_of tables.old))) }
+    ensures err { OnErr result (state_of tables.new ≡ state_of tables.old) }
+    ensures kept { IsKept tables.new }
+{
+    let clock = next_clock(config, tables, label);
+    tables.nodes.rejoin(node, label, clock)?;
+    drop_containers(
+        &mut tables.partitions,
+        &tables.numbers,
+        &tables.leaves,
+        &node.label,
+        &node.name,
+    );
+    set_clock(&mut tables.partitions, label, clock);
+    Ok(())
 }

@@ -12,9 +12,10 @@ use std::alloc::{AllocError, Global};
 use ynl_controls::{Maxima, Stops};
 use ynl_labels::Labels;
 use ynl_model::Use;
+use ynl_nodes::Nodes;
 use ynl_queues::Config;
 use ynl_resource::{Label, Resource};
-use ynl_tables::{LeafRow, PartitionRow, QueueNumbers, Tables};
+use ynl_tables::{Filled, LeafRow, PartitionRow, QueueNumbers, Tables};
 
 const NO_USE: Use = Use {
     used: Resource {
@@ -59,6 +60,7 @@ fn push_partition(
         clock: 0,
         containers: Vec::new(alloc),
         uses,
+        filled: Filled::new(alloc),
     })?;
     Ok(())
 }
@@ -106,7 +108,7 @@ pub fn opening_tables(alloc: Global, config: &Config) -> Result<Tables, AllocErr
 {
     let numbers = QueueNumbers::new(alloc, config)?;
     Ok(Tables {
-        nodes: Vec::new(alloc),
+        nodes: Nodes::new(alloc),
         partitions: partitions(alloc, config.labels(), &numbers)?,
         leaves: leaves(alloc, config)?,
         stops: Stops::new(alloc, config)?,

@@ -4,7 +4,6 @@ ghost use Rattle.std.specs.Prelude.{◌≡◌, ◌≤◌, ◌+◌, ◌-◌, ◌+
 ghost use Rattle.ynl_resource.specs.Names.{same_label};
 ghost use Rattle.ynl_resource.specs.declared.paths.Path.{Path};
 ghost use Rattle.ynl_resource.specs.Tables.{update, without};
-ghost use Rattle.ynl_model.specs.Nodes.{stamped, is_at};
 ghost use Rattle.ynl_model.specs.Applications.{in_leaf, with_app, is_ask_of, take_one};
 ghost use Rattle.ynl_model.specs.Cluster.{in_partition, sizes};
 ghost use Rattle.ynl_model.specs.Changes.{place, container_of, taken};
@@ -27,30 +26,6 @@ use ynl_tables::{
     App, LeafRow, PartitionRow, QueueNumbers, Tables, is_ask_of, is_same, next_clock, push_copy,
 };
 
-fn restamped(node: &Node, name: &Name, label: &Label, stamp: u64) -> Node
-    ensures { result ≡ (if is_at name.now label.now node.now then record node.now { stamp = stamp } else node.now) }
-{
-    if node.name == *name && is_same(&node.label, label) {
-        return Node {
-            name: node.name,
-            label: node.label,
-            size: node.size,
-            stamp,
-        };
-    }
-    *node
-}
-
-/// A node gets a stamp.
-#[tactic(auto, unfolding(ynl_model::specs::Nodes::stamped))]
-pub fn stamp(nodes: &mut Vec<Node>, name: &Name, label: &Label, stamp: u64)
-    ensures { nodes.new.items ≡ stamped name.now label.now stamp nodes.old.items }
-{
-    for node in nodes.iter_mut() {
-        *node = restamped(node, name, label, stamp);
-    }
-}
-
 /// A container comes last on the row of its partition, whose clock is set; its queues use more.
 fn put(
     row: &mut PartitionRow,
@@ -71,6 +46,7 @@ fn put(
     if is_same(&row.label, label) {
         row.clock = clock;
         raise(&mut row.uses, numbers, leaves, container);
+        row.filled.fill(container);
         push_copy(&mut row.containers, container);
     }
 }
@@ -237,7 +213,7 @@ pub fn place(config: &Config, tables: &mut Tables, node: &Node, request: &Reques
         what: request.what,
         size: request.size,
     };
-    stamp(&mut tables.nodes, &node.name, &node.label, clock);
+    tables.nodes.stamp(&node.name, &node.label, clock);
     put_container(
         &mut tables.partitions,
         &tables.numbers,

@@ -3,6 +3,7 @@
 ghost use Rattle.std.specs.Prelude.{◌≡◌, ◌≤◌, ◌+◌, ◌++◌, vec_len, vec_capacity};
 ghost use Rattle.ynl_model.specs.Changes.{next_item, beat};
 ghost use Rattle.ynl_laws.specs.Working.{IsWorking, Stands};
+ghost use Rattle.ynl_laws.specs.Tabled.{Tabled};
 ghost use Rattle.ynl_tables.specs.Kept.{IsKept};
 ghost use Rattle.ynl_tables.specs.Tables.{state_of, HasCapacity};
 
@@ -15,6 +16,7 @@ use ynl_tables::{Tables, is_spent, push_copy};
 /// The request that is placed next on a node: none where the clock is spent.
 fn next_request(config: &Config, tables: &Tables, node: &Node) -> Option<Request>
     requires working { IsWorking config.now (state_of tables.now) }
+    requires tabled { Tabled (state_of tables.now) }
     requires kept { IsKept tables.now }
     ensures { result ≡ next_item config.now (state_of tables.now) node.now }
 {
@@ -33,6 +35,7 @@ pub fn serve(
     placed: &mut Vec<Placed>,
 )
     requires working { IsWorking config.now (state_of tables.old) }
+    requires tabled { Tabled (state_of tables.old) }
     requires kept { IsKept tables.old }
     requires stands { Stands (state_of tables.old) node.now }
     requires capacity { HasCapacity node.now.label times tables.old.partitions.items }

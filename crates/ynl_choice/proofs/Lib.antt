@@ -1,5 +1,6 @@
 pub mod Rooms
 pub mod Ranked
 pub mod Considering
+pub mod Placed
 pub mod Choices
 pub mod Checks

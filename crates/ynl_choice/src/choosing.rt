@@ -1,30 +1,31 @@
 //! The choice on a node: of the eligible requests the first in the order of service, or else the
 //! first guest. The requests are gone through once, and the first so far is held.
 
-ghost use Rattle.std.specs.Prelude.{◌≡◌, [], ◌∷◌, IfSome, None, filter};
-ghost use Rattle.std.specs.List.{position_or_len};
-ghost use Rattle.ynl_resource.specs.Names.{same_name};
+ghost use Rattle.std.specs.Prelude.{◌≡◌, [], ◌∷◌, ◌&&◌, IfSome, None, filter, if◌then◌else◌};
 ghost use Rattle.ynl_resource.specs.declared.labels.Label.TheVariants.{Unlabelled};
 ghost use Rattle.ynl_model.specs.Cluster.{free as free_on};
-ghost use Rattle.ynl_model.specs.Service.{place_in_leaf, first_of, key, eligible, has_room, asks_for, some_eligible, takes_guests, choice};
+ghost use Rattle.ynl_model.specs.Service.{Item, item_of as request_item, place_in_leaf, first_of, key, eligible, has_room, asks_for, some_eligible, takes_guests, choice};
 ghost use Rattle.ynl_tables.specs.Bounds.{IsReadable};
 ghost use Rattle.ynl_tables.specs.Tables.{state_of, app_of};
-ghost use Rattle.ynl_choice.specs.Choosing.{state_in, key_in, item_of, passes, overtakes, IsScene, IsDesk, IsKeyed, HoldsBest, masters_of as masters_in, wanted, asks_in, all_masters, all_asks};
+ghost use Rattle.ynl_choice.specs.Choosing.{state_in, key_in, item_of, passes, overtakes, wants, ArePlaced, IsScene, IsDesk, IsKeyed, HoldsBest, masters_of as masters_in, wanted_of, asks_in, all_masters, all_asks};
+ghost use Rattle.ynl_choice.specs.Candidates.{next_key};
+ghost use Rattle.ynl_choice.specs.LeafUses.{IsModest, IsLeafUse};
 ghost use Rattle.ynl_choice.specs.declared.scenes.Scene.{Scene};
 
 use crate::eligible::is_eligible;
-use crate::leaf_use::use_of_leaf;
-use crate::order::is_overtaken;
+use crate::leaf_use::{LeafUse, use_of_leaf};
+use crate::order::{Next, is_overtaken};
 use crate::ranking::standings_on;
-use crate::requests::{Request, master_of, request_of};
+use crate::requests::{Request, request_of};
 use crate::scenes::{Desk, Scene};
 use crate::standings::Candidate;
-use ynl_model::{AskRow, Node};
+use ynl_model::{AskRow, Node, What};
 use ynl_queues::Config;
-use ynl_resource::{Label, Name, Path, Resource};
-use ynl_tables::{App, LeafRow, Tables, apps_at, free, is_same, runs, total_of};
+use ynl_resource::{Label, Name, Path, Resource, Size};
+use ynl_tables::{App, LeafRow, Tables, free, is_same, runs};
 
-/// What is worked out of a leaf for all its requests.
+/// What is worked out of a leaf for all its requests. Its limits are worked out by the first request that
+/// is tested against them.
 fn desk_of(scene: &Scene<'_>, row: &LeafRow) -> Desk
     requires { IsScene scene.now }
     ensures { IsDesk scene.now row.now.path result }
@@ -38,40 +39,70 @@ fn desk_of(scene: &Scene<'_>, row: &LeafRow) -> Desk
         &scene.label,
         &scene.total,
     );
-    if scene.as_guests {
-        return Desk {
-            standings,
-            limits: None,
-        };
-    }
-    let limits = use_of_leaf(
-        scene.config,
-        scene.tables,
-        &row.path,
-        &scene.label,
-        &scene.total,
-    );
     Desk {
         standings,
-        limits: Some(limits),
+        limits: None,
     }
 }
 
-/// Whether a request may be placed on the node; a guest wants room alone.
-fn may_be_placed(scene: &Scene<'_>, desk: &Desk, request: &Request) -> bool
+/// What the requests of a leaf are tested against.
+fn limits_at(scene: &Scene<'_>, desk: &mut Desk, leaf: &Path) -> LeafUse
     requires scene { IsScene scene.now }
-    requires desk { IsDesk scene.now request.now.leaf desk.now }
-    ensures { result ≡ passes scene.now request.now }
+    requires desk { IsDesk scene.now leaf.now desk.old }
+    ensures meaning { IsLeafUse scene.now.config.now (state_in scene.now) scene.now.label leaf.now result }
+    ensures modest { IsModest result }
+    ensures desk { IsDesk scene.now leaf.now desk.new }
 {
-    match &desk.limits {
-        Some(limits) => is_eligible(scene.tables, &scene.node, &scene.free, limits, request),
-        None => request.size.amount().fits_in(scene.free),
+    if let Some(limits) = desk.limits {
+        return limits;
+    }
+    let limits = use_of_leaf(scene.config, scene.tables, leaf, &scene.label, &scene.total);
+    desk.limits = Some(limits);
+    limits
+}
+
+/// Whether an application wants such a request: while it waits its master, and while it runs what it asks
+/// for.
+fn is_wanted(scene: &Scene<'_>, row: &LeafRow, app: &App, request: &Request) -> bool
+    ensures { result ≡ wants (state_in scene.now) (app_of row.now.path app.now) request.now.what }
+{
+    let runs = runs(scene.tables, &row.path, app);
+    match request.what {
+        What::Master => !runs,
+        What::Ask(_, _) => runs,
     }
 }
 
-/// Whether a candidate is before the one that is held.
-fn overtakes(held: &Option<Candidate>, next: &Candidate) -> bool
-    ensures { (scene : Scene) → IfSome held.now (IsKeyed scene) → IsKeyed scene next.now → result ≡ overtakes (key_in scene) (item_of held.now) next.now.request }
+/// Whether a request is wanted and may be placed on the node; a guest wants room alone. Room is looked at
+/// first, since it takes no sum, and the leaf's limits and its user's use last.
+fn may_be_placed(
+    scene: &Scene<'_>,
+    desk: &mut Desk,
+    row: &LeafRow,
+    app: &App,
+    request: &Request,
+) -> bool
+    requires scene { IsScene scene.now }
+    requires desk { IsDesk scene.now request.now.leaf desk.old }
+    ensures passes { result ≡ (wants (state_in scene.now) (app_of row.now.path app.now) request.now.what && passes scene.now request.now) }
+    ensures desk { IsDesk scene.now request.now.leaf desk.new }
+{
+    if !request.size.amount().fits_in(scene.free) {
+        return false;
+    }
+    if !is_wanted(scene, row, app, request) {
+        return false;
+    }
+    if scene.as_guests {
+        return true;
+    }
+    let limits = limits_at(scene, desk, &request.leaf);
+    is_eligible(scene.tables, &scene.node, &scene.free, &limits, request)
+}
+
+/// Whether a request that comes up is before the one that is held.
+fn overtakes(held: &Option<Candidate>, next: &Next<'_>) -> bool
+    ensures { (scene : Scene) (item : Item) → IfSome held.now (IsKeyed scene) → next_key next.now ≡ key_in scene item → result ≡ overtakes (key_in scene) (item_of held.now) item }
 {
     match held {
         None => true,
@@ -79,163 +110,162 @@ fn overtakes(held: &Option<Candidate>, next: &Candidate) -> bool
     }
 }
 
-/// One request more. The order is looked at first: it takes no sum.
-fn with_request(
+/// One request more, if its application wants it. The order is looked at first, and only a request that
+/// would be first is made.
+fn add_request(
     scene: &Scene<'_>,
-    desk: &Desk,
-    request: &Request,
+    desk: &mut Desk,
+    row: &LeafRow,
+    app: &App,
     place: u64,
-    held: Option<Candidate>,
-) -> Option<Candidate>
+    what: &What,
+    size: &Size,
+    held: &mut Option<Candidate>,
+)
     requires scene { IsScene scene.now }
-    requires desk { IsDesk scene.now request.now.leaf desk.now }
-    requires place { place ≡ place_in_leaf (state_in scene.now) request.now.leaf request.now.app }
-    ensures { HoldsBest scene.now held (request.now ∷ []) result }
+    requires desk { IsDesk scene.now row.now.path desk.old }
+    requires place { place ≡ place_in_leaf (state_in scene.now) row.now.path app.now.name }
+    ensures best { HoldsBest scene.now held.old (if wants (state_in scene.now) (app_of row.now.path app.now) what.now then request_item (app_of row.now.path app.now) what.now size.now ∷ [] else []) held.new }
+    ensures desk { IsDesk scene.now row.now.path desk.new }
 {
-    let next = Candidate {
-        request: *request,
-        standings: desk.standings,
+    let standings = desk.standings;
+    let next = Next {
+        standings: &standings,
         place,
+        what: *what,
     };
-    if overtakes(&held, &next) && may_be_placed(scene, desk, request) {
-        return Some(next);
+    if !overtakes(held, &next) {
+        return;
     }
-    held
-}
-
-fn index_among(apps: &[App], name: &Name) -> u64
-    ensures { result ≡ position_or_len (λ app. same_name app.name name.now) apps.now }
-{
-    for i in 0..apps.len() {
-        if apps[i].name == *name {
-            return i as u64;
-        }
+    let request = request_of(row, app, what, size);
+    if may_be_placed(scene, desk, row, app, &request) {
+        *held = Some(Candidate {
+            request,
+            standings,
+            place,
+        });
     }
-    apps.len() as u64
-}
-
-/// An application's place among the live ones of its leaf.
-fn index_of(tables: &Tables, leaf: &Path, name: &Name) -> u64
-    ensures { result ≡ place_in_leaf (state_of tables.now) leaf.now name.now }
-{
-    index_among(apps_at(&tables.leaves, leaf), name)
 }
 
 /// An application's master, if it is wanted on the partition.
-fn with_master(
+fn add_master(
     scene: &Scene<'_>,
-    desk: &Desk,
+    desk: &mut Desk,
     row: &LeafRow,
     app: &App,
-    held: Option<Candidate>,
-) -> Option<Candidate>
+    place: u64,
+    held: &mut Option<Candidate>,
+)
     requires scene { IsScene scene.now }
-    requires desk { IsDesk scene.now row.now.path desk.now }
-    ensures { HoldsBest scene.now held (masters_in scene.now row.now.path (app.now ∷ [])) result }
+    requires desk { IsDesk scene.now row.now.path desk.old }
+    requires place { place ≡ place_in_leaf (state_in scene.now) row.now.path app.now.name }
+    ensures best { HoldsBest scene.now held.old (masters_in scene.now row.now.path (app.now ∷ [])) held.new }
+    ensures desk { IsDesk scene.now row.now.path desk.new }
 {
-    if !is_same(&app.home, &scene.label) || runs(scene.tables, &row.path, app) {
-        return held;
+    if is_same(&app.home, &scene.label) {
+        add_request(
+            scene,
+            desk,
+            row,
+            app,
+            place,
+            &What::Master,
+            &app.master,
+            held,
+        );
     }
-    let place = index_of(scene.tables, &row.path, &app.name);
-    with_request(scene, desk, &master_of(row, app), place, held)
 }
 
 /// The masters wanted on the partition by the applications of a leaf.
-fn with_masters(scene: &Scene<'_>, row: &LeafRow, held: Option<Candidate>) -> Option<Candidate>
-    requires { IsScene scene.now }
-    ensures { HoldsBest scene.now held (masters_in scene.now row.now.path row.now.apps.items) result }
+fn add_masters(scene: &Scene<'_>, row: &LeafRow, held: &mut Option<Candidate>)
+    requires scene { IsScene scene.now }
+    requires placed { ArePlaced (state_in scene.now) row.now }
+    ensures { HoldsBest scene.now held.old (masters_in scene.now row.now.path row.now.apps.items) held.new }
 {
     if row.apps.is_empty() {
-        return held;
+        return;
     }
-    let desk = desk_of(scene, row);
-    let mut first = held;
-    for app in &row.apps {
-        first = with_master(scene, &desk, row, app, first);
+    let mut desk = desk_of(scene, row);
+    for i in 0..row.apps.len() {
+        add_master(scene, &mut desk, row, &row.apps[i], i as u64, held);
     }
-    first
 }
 
-/// One ask of an application that runs, if it is for the partition.
-fn with_ask(
+/// One ask of an application, if it is for the partition and the application runs.
+fn add_ask(
     scene: &Scene<'_>,
-    desk: &Desk,
+    desk: &mut Desk,
     row: &LeafRow,
     app: &App,
+    place: u64,
     ask: &AskRow,
-    held: Option<Candidate>,
-) -> Option<Candidate>
+    held: &mut Option<Candidate>,
+)
     requires scene { IsScene scene.now }
-    requires desk { IsDesk scene.now row.now.path desk.now }
-    ensures { HoldsBest scene.now held (wanted scene.now (app_of row.now.path app.now) (ask.now ∷ [])) result }
+    requires desk { IsDesk scene.now row.now.path desk.old }
+    requires place { place ≡ place_in_leaf (state_in scene.now) row.now.path app.now.name }
+    ensures best { HoldsBest scene.now held.old (wanted_of scene.now (app_of row.now.path app.now) (ask.now ∷ [])) held.new }
+    ensures desk { IsDesk scene.now row.now.path desk.new }
 {
-    if !is_same(&ask.label, &scene.label) || ask.count == 0 {
-        return held;
+    if is_same(&ask.label, &scene.label) && ask.count > 0 {
+        let what = What::Ask(ask.label, ask.priority);
+        add_request(scene, desk, row, app, place, &what, &ask.size, held);
     }
-    let place = index_of(scene.tables, &row.path, &app.name);
-    with_request(scene, desk, &request_of(row, app, ask), place, held)
 }
 
 /// What an application asks for on the partition, if it runs.
-fn with_asks_of(
+fn add_asks_of(
     scene: &Scene<'_>,
-    desk: &Desk,
+    desk: &mut Desk,
     row: &LeafRow,
     app: &App,
-    held: Option<Candidate>,
-) -> Option<Candidate>
+    place: u64,
+    held: &mut Option<Candidate>,
+)
     requires scene { IsScene scene.now }
-    requires desk { IsDesk scene.now row.now.path desk.now }
-    ensures { HoldsBest scene.now held (asks_in scene.now row.now.path (app.now ∷ [])) result }
+    requires desk { IsDesk scene.now row.now.path desk.old }
+    requires place { place ≡ place_in_leaf (state_in scene.now) row.now.path app.now.name }
+    ensures best { HoldsBest scene.now held.old (asks_in scene.now row.now.path (app.now ∷ [])) held.new }
+    ensures desk { IsDesk scene.now row.now.path desk.new }
 {
-    if app.asks.is_empty() || !runs(scene.tables, &row.path, app) {
-        return held;
-    }
-    let mut first = held;
     for ask in &app.asks {
-        first = with_ask(scene, desk, row, app, ask, first);
+        add_ask(scene, desk, row, app, place, ask, held);
     }
-    first
 }
 
 /// What the running applications of a leaf ask for on the partition.
-fn with_asks(scene: &Scene<'_>, row: &LeafRow, held: Option<Candidate>) -> Option<Candidate>
-    requires { IsScene scene.now }
-    ensures { HoldsBest scene.now held (asks_in scene.now row.now.path row.now.apps.items) result }
+fn add_asks(scene: &Scene<'_>, row: &LeafRow, held: &mut Option<Candidate>)
+    requires scene { IsScene scene.now }
+    requires placed { ArePlaced (state_in scene.now) row.now }
+    ensures { HoldsBest scene.now held.old (asks_in scene.now row.now.path row.now.apps.items) held.new }
 {
     if row.apps.is_empty() {
-        return held;
+        return;
     }
-    let desk = desk_of(scene, row);
-    let mut first = held;
-    for app in &row.apps {
-        first = with_asks_of(scene, &desk, row, app, first);
+    let mut desk = desk_of(scene, row);
+    for i in 0..row.apps.len() {
+        add_asks_of(scene, &mut desk, row, &row.apps[i], i as u64, held);
     }
-    first
 }
 
 /// The masters wanted on the partition.
-fn first_master(scene: &Scene<'_>) -> Option<Candidate>
+fn add_all_masters(scene: &Scene<'_>, held: &mut Option<Candidate>)
     requires { IsScene scene.now }
-    ensures { HoldsBest scene.now None (all_masters scene.now scene.now.tables.now.leaves.items) result }
+    ensures { HoldsBest scene.now held.old (all_masters scene.now scene.now.tables.now.leaves.items) held.new }
 {
-    let mut first = None;
     for row in &scene.tables.leaves {
-        first = with_masters(scene, row, first);
+        add_masters(scene, row, held);
     }
-    first
 }
 
 /// What the running applications ask for on the partition.
-fn with_all_asks(scene: &Scene<'_>, held: Option<Candidate>) -> Option<Candidate>
+fn add_all_asks(scene: &Scene<'_>, held: &mut Option<Candidate>)
     requires { IsScene scene.now }
-    ensures { HoldsBest scene.now held (all_asks scene.now scene.now.tables.now.leaves.items) result }
+    ensures { HoldsBest scene.now held.old (all_asks scene.now scene.now.tables.now.leaves.items) held.new }
 {
-    let mut first = held;
     for row in &scene.tables.leaves {
-        first = with_asks(scene, row, first);
+        add_asks(scene, row, held);
     }
-    first
 }
 
 /// The first of the eligible requests.
@@ -244,7 +274,7 @@ fn first_eligible(config: &Config, tables: &Tables, node: &Node, free: &Resource
     requires free { free.now ≡ free_on (state_of tables.now) node.now }
     ensures { result ≡ first_of (key config.now (state_of tables.now) node.now.label) (eligible config.now (state_of tables.now) node.now) }
 {
-    let total = total_of(&tables.nodes, &node.label);
+    let total = tables.nodes.total(&node.label);
     let scene = Scene {
         config,
         tables,
@@ -254,8 +284,10 @@ fn first_eligible(config: &Config, tables: &Tables, node: &Node, free: &Resource
         free: *free,
         total,
     };
-    let held = with_all_asks(&scene, first_master(&scene));
-    request_in(held)
+    let mut held = None;
+    add_all_masters(&scene, &mut held);
+    add_all_asks(&scene, &mut held);
+    request_in(&held)
 }
 
 /// The first of the asks for DEFAULT that have room, as guests.
@@ -264,7 +296,7 @@ fn first_guest(config: &Config, tables: &Tables, node: &Node, free: &Resource) -
     requires free { free.now ≡ free_on (state_of tables.now) node.now }
     ensures { result ≡ first_of (key config.now (state_of tables.now) Unlabelled) (filter (λ item. has_room (state_of tables.now) node.now item.size) (asks_for (state_of tables.now) Unlabelled)) }
 {
-    let total = total_of(&tables.nodes, &Label::Unlabelled);
+    let total = tables.nodes.total(&Label::Unlabelled);
     let scene = Scene {
         config,
         tables,
@@ -274,12 +306,13 @@ fn first_guest(config: &Config, tables: &Tables, node: &Node, free: &Resource) -
         free: *free,
         total,
     };
-    let held = with_all_asks(&scene, None);
-    request_in(held)
+    let mut held = None;
+    add_all_asks(&scene, &mut held);
+    request_in(&held)
 }
 
-fn request_in(held: Option<Candidate>) -> Option<Request>
-    ensures { result ≡ item_of held }
+fn request_in(held: &Option<Candidate>) -> Option<Request>
+    ensures { result ≡ item_of held.now }
 {
     match held {
         Some(candidate) => Some(candidate.request),

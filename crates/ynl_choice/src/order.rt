@@ -4,9 +4,9 @@ ghost use Rattle.std.specs.Prelude.{◌≡◌, ◌*◌};
 ghost use Rattle.std.specs.Ordering.{is_gt, nat_cmp};
 ghost use Rattle.std.specs.Cmp.Lexicographic.{slice_cmp};
 ghost use Rattle.ynl_model.specs.Service.{ratio_order, standing_order, key_order};
-ghost use Rattle.ynl_choice.specs.Candidates.{key_of, rank_order};
+ghost use Rattle.ynl_choice.specs.Candidates.{key_of, next_key, rank_order};
 
-use crate::standings::{Candidate, Standing};
+use crate::standings::{Candidate, Standing, Standings};
 use std::cmp::Ordering;
 use ynl_model::What;
 
@@ -70,17 +70,26 @@ fn rank_order(a: &What, b: &What) -> Ordering
     }
 }
 
-fn turn_order(a: &Candidate, b: &Candidate) -> Ordering
-    ensures { result ≡ slice_cmp nat_cmp (key_of a.now).turn (key_of b.now).turn }
+/// What a request that comes up is ordered by: how the queues on its way stand, its application's place in
+/// the leaf, and what it is for.
+#[derive(Clone, Copy)]
+pub struct Next<'a> {
+    pub standings: &'a Standings,
+    pub place: u64,
+    pub what: What,
+}
+
+fn turn_order(a: &Candidate, b: &Next<'_>) -> Ordering
+    ensures { result ≡ slice_cmp nat_cmp (key_of a.now).turn (next_key b.now).turn }
 {
     match a.place.cmp(&b.place) {
-        Ordering::Equal => rank_order(&a.request.what, &b.request.what),
+        Ordering::Equal => rank_order(&a.request.what, &b.what),
         other => other,
     }
 }
 
-fn order(a: &Candidate, b: &Candidate) -> Ordering
-    ensures { result ≡ key_order (key_of a.now) (key_of b.now) }
+fn order(a: &Candidate, b: &Next<'_>) -> Ordering
+    ensures { result ≡ key_order (key_of a.now) (next_key b.now) }
 {
     let here = &a.standings.places[..a.standings.depth];
     let there = &b.standings.places[..b.standings.depth];
@@ -90,9 +99,9 @@ fn order(a: &Candidate, b: &Candidate) -> Ordering
     }
 }
 
-/// Whether the second candidate is before the first.
-pub fn is_overtaken(a: &Candidate, b: &Candidate) -> bool
-    ensures { result ≡ is_gt (key_order (key_of a.now) (key_of b.now)) }
+/// Whether a request that comes up is before the candidate.
+pub fn is_overtaken(candidate: &Candidate, next: &Next<'_>) -> bool
+    ensures { result ≡ is_gt (key_order (key_of candidate.now) (next_key next.now)) }
 {
-    order(a, b) == Ordering::Greater
+    order(candidate, next) == Ordering::Greater
 }

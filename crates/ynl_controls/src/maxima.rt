@@ -1,6 +1,6 @@
 //! The present maximum of each queue on each partition.
 
-ghost use Rattle.std.specs.Prelude.{◌≡◌, ◌++◌, ◌∷◌, [], IfOk, IsTrue, find, map, if◌then◌else◌};
+ghost use Rattle.std.specs.Prelude.{◌≡◌, ◌++◌, ◌∷◌, [], IfOk, IsTrue, find, map, option_map, if◌then◌else◌};
 ghost use Rattle.ynl_model.specs.Queues.{opening_maxima, is_maximum_of, set_maximum, maximum_on, maximum};
 ghost use Rattle.ynl_controls.specs.Opening.{opening_maximum};
 ghost use Rattle.ynl_model.specs.Nodes.{partition_labels};
@@ -105,13 +105,10 @@ impl Maxima {
         set(&mut self.rows, queue, label, share);
     }
 
-    fn row(&self, queue: &[Name], label: &Label) -> Option<MaximumRow>
-        ensures { result ≡ find (is_maximum_of queue.now label.now) self.now }
+    fn row(&self, queue: &[Name], label: &Label) -> Option<&MaximumRow>
+        ensures { option_map (λ r. r.now) result ≡ find (is_maximum_of queue.now label.now) self.now }
     {
-        self.rows
-            .iter()
-            .copied()
-            .find(|row| is_of(row, queue, label))
+        self.rows.iter().find(|row| is_of(row, queue, label))
     }
 
     /// The queue's present maximum on a partition, as a share of its parent's.

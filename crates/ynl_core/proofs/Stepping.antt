@@ -9,7 +9,10 @@ use Rattle.ynl_model.specs.declared.replies.Reply.TheVariants.{Refused}
 use Rattle.ynl_model.specs.Queues.{Config}
 use Rattle.ynl_model.specs.Cluster.{State}
 use Rattle.ynl_model.specs.Events.{Outcome, answered, reasons, accepted, step}
-use Rattle.ynl_laws.specs.Working.{IsWorking}
+use Rattle.ynl_laws.specs.Working.{IsRanged, IsWorking}
+use Rattle.ynl_laws.specs.Tabled.{Tabled}
+use Rattle.ynl_laws.proofs.Soundness.Working.{working-step}
+use Rattle.ynl_laws.proofs.Totals.Tabling.{tabled-step}
 use Rattle.ynl_core.specs.CoreFields.{IsSound}
 use Rattle.ynl_core.specs.World.{World, Answers}
 
@@ -30,5 +33,10 @@ answers_refused old event refusal e =
     }
 
 -- after a change no node rests
-pub none_rests : (c : Config) (s : State) (names : List Name) → names ≡ [] → IsWorking c s → IsSound c s names
-none_rests c s names e w = subst (IsSound c s) (sym e) (record { working = w; resting = tt })
+pub none_rests : (c : Config) (s : State) (names : List Name) → names ≡ [] → IsWorking c s → Tabled s → IsSound c s names
+none_rests c s names e w tabled = subst (IsSound c s) (sym e) (record { working = w; tabled = tabled; resting = tt })
+
+-- and so after an event
+pub sound_after : (c : Config) (s new : State) (event : Event) (old names : List Name) → names ≡ [] → IsRanged event → (step c s event).state ≡ new → IsSound c s old → IsSound c new names
+sound_after c s new event old names none ranged same h =
+    none_rests c new names none (subst (IsWorking c) same (working-step c s event ranged h.working)) (subst Tabled same (tabled-step c s event h.working.kept h.tabled))

@@ -4,6 +4,7 @@ use Rattle.ynl_resource.specs.declared.names.Name.{Name}
 use Rattle.ynl_model.specs.Queues.{Config}
 use Rattle.ynl_model.specs.Cluster.{State}
 use Rattle.ynl_laws.specs.Working.{IsWorking}
+use Rattle.ynl_laws.specs.Tabled.{Tabled}
 use Rattle.ynl_core.specs.declared.cluster.Core.TheInside.{Inside}
 use Rattle.ynl_core.specs.Resting.{AreResting}
 use Rattle.ynl_tables.specs.Kept.{IsKept}
@@ -14,12 +15,14 @@ use Rattle.ynl_core.specs.World.{World}
 abbrev pub world_of : Inside → World
 world_of a = record { config = a.config; state = state_of a.tables }
 
--- the state is one that works, as each that events lead to, and nothing is to be placed on the nodes that rest
+-- the state is one that works, as each that events lead to, its leaves and applications are found by their names, and nothing is to be placed
+-- on the nodes that rest
 pub record IsSound (c : Config) (s : State) (names : List Name) : Type 0 where
   pub working : IsWorking c s
+  pub tabled : Tabled s
   pub resting : AreResting c s names
 
 -- that is so of the state and the resting nodes that a core keeps, and what it keeps of use is right
 pub record IsWorkingCore (a : Inside) : Type 0 where
-  pub sound : IsSound a.config (state_of a.tables) a.resting.items
+  pub sound : IsSound a.config (state_of a.tables) a.resting.keys
   pub kept : IsKept a.tables

@@ -19,26 +19,25 @@ use crate::refusals::{
 };
 use crate::resting::{rest, rests};
 use std::alloc::Global;
+use std::collections::BTreeSet;
 use std::marker::Model;
 use ynl_changes::{
-    Submission, ask_for, end, finish_application, join, leave, opening_tables, place,
+    Submission, ask_for, end, finish_application, join, leave, opening_tables, place, relabel,
     reserve_application, reserve_ask, reserve_containers, serve, submit,
 };
 use ynl_choice::{master_limit_of, propose, user_limit_of};
 use ynl_model::{AskRow, Event, Items, Placed, Proposal, Reply};
 use ynl_queues::Config;
 use ynl_resource::{Hundredths, Id, Label, Name, Path, Refusal, Resource, Size};
-use ynl_tables::{
-    Tables, containers_at, find_node, own_containers, pending_on, push_copy, usage_of,
-};
+use ynl_tables::{Tables, containers_at, own_containers, pending_on, push_copy, usage_of};
 
-/// A cluster: what it is configured with, and its state. The names of nodes that rest are listed
+/// A cluster: what it is configured with, and its state. The names of nodes that rest are kept
 /// beside it, so that their heartbeats take no search; a change of the cluster strikes them all.
 #[derive(Drop)]
 pub struct Core {
     config: Config,
     tables: Tables,
-    resting: Vec<Name>,
+    resting: BTreeSet<Name>,
 }
 
 impl Model for Core {
@@ -64,8 +63,7 @@ impl Core {
             return Ok(Reply::Refused(refusal));
         }
         let _sized = size.amount();
-        self.tables.nodes.reserve(1)?;
-        join(&self.config, &mut self.tables, &name, &label, &size);
+        join(&self.config, &mut self.tables, &name, &label, &size)?;
         self.resting.clear();
         Ok(Reply::Done)
     }
@@ -93,9 +91,7 @@ impl Core {
             Ok(node) => node,
             Err(refusal) => return Ok(Reply::Refused(refusal)),
         };
-        self.tables.nodes.reserve(1)?;
-        leave(&mut self.tables, &node);
-        join(&self.config, &mut self.tables, &name, &label, &node.size);
+        relabel(&self.config, &mut self.tables, &name, &node, &label)?;
         self.resting.clear();
         Ok(Reply::Done)
     }
@@ -185,7 +181,7 @@ impl Core {
             Ok(node) => node,
             Err(refusal) => return Ok(Reply::Refused(refusal)),
         };
-        let alloc = *self.tables.nodes.allocator();
+        let alloc = *self.tables.leaves.allocator();
         if rests(&self.resting, &name) {
             return Ok(Reply::Placed(Items::new(Vec::new(alloc))));
         }
@@ -261,7 +257,7 @@ impl Core {
             Ok(live) => live,
             Err(refusal) => return Ok(Reply::Refused(refusal)),
         };
-        let alloc = *self.tables.nodes.allocator();
+        let alloc = *self.tables.leaves.allocator();
         let containers = own_containers(alloc, &self.tables, &tenant, &name, &label)?;
         let asks = pending_on(alloc, live.app, &label)?;
         Ok(Reply::Held {
@@ -314,7 +310,7 @@ impl Core {
         ensures { IfOk result (λ core. core ≡ opened config) }
     {
         let tables = opening_tables(alloc, &config)?;
-        let resting = Vec::new(alloc);
+        let resting = BTreeSet::new(alloc);
         Ok(Core {
             config,
             tables,
@@ -395,7 +391,7 @@ impl Core {
     pub fn choose(&self, node: &Name) -> Option<Proposal>
         ensures { result ≡ option_and_then (proposed self.now.config self.now.state) (node_of self.now.state node.now) }
     {
-        match find_node(&self.tables.nodes, node) {
+        match self.tables.nodes.find(node) {
             Some(node) => propose(&self.config, &self.tables, &node),
             None => None,
         }

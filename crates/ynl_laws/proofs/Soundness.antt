@@ -5,5 +5,6 @@ pub mod Steps
 pub mod Ordered
 pub mod Housed
 pub mod Sound
+pub mod Once
 pub mod Working
 pub mod Bounds

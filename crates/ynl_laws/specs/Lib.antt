@@ -22,3 +22,4 @@ pub mod Marks
 pub mod Sharers
 pub mod Owners
 pub mod Tabled
+pub mod Tracks

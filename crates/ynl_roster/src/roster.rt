@@ -1,11 +1,11 @@
 //! Things under numbers that rise.
 
-ghost use Rattle.std.specs.Prelude.{◌≡◌, ◌≤◌, ◌<◌, ◌+◌, ◌++◌, ◌∷◌, [], ℕ, length, slice_set, vec_len, vec_capacity, None, nat_eq, slice_index_or, option_map, OnOk, OnErr, IfSome, IfNone};
+ghost use Rattle.std.specs.Prelude.{◌≡◌, ◌≤◌, ◌<◌, ◌+◌, ◌++◌, ◌∷◌, [], ℕ, length, slice_set, vec_len, vec_capacity, None, Some, is_some, nat_eq, slice_index_or, option_map, if◌then◌else◌, OnOk, OnErr, IfSome, IfNone};
 ghost use Rattle.std.specs.List.{AllByRecursion};
 ghost use Rattle.std.specs.Map.{lookup, remove_entry};
 ghost use Rattle.ynl_roster.specs.declared.roster.Slot.{Slot};
 ghost use Rattle.ynl_roster.specs.Kept.{IsPlaceOf, IsAbsent, Rises, IsShape, held};
-ghost use Rattle.ynl_roster.specs.Roster.{without};
+ghost use Rattle.ynl_roster.specs.Roster.{without, with_at, IsOnly};
 
 use std::alloc::{AllocError, Global};
 use std::marker::Model;
@@ -94,9 +94,10 @@ impl<T: Drop> Roster<T> {
         self.top = number;
     }
 
-    /// The thing under a number.
+    /// The thing under a number. A number has one thing at most.
     pub fn get(&self, number: u64) -> Option<&T>
-        ensures { option_map (λ r. r.now) result ≡ lookup (nat_eq number) self.now.entries }
+        ensures value { option_map (λ r. r.now) result ≡ lookup (nat_eq number) self.now.entries }
+        ensures only { IfSome result (λ r. IsOnly number r.now self.now.entries) }
     {
         match find(&self.slots, number) {
             Some(place) => match &self.slots[place].item {
@@ -107,9 +108,19 @@ impl<T: Drop> Roster<T> {
         }
     }
 
+    /// Another thing comes in the place of the one under a number, if there is one.
+    pub fn set(&mut self, number: u64, item: T)
+        ensures entries { self.new.entries ≡ with_at number item self.old.entries }
+        ensures top { self.new.top ≡ self.old.top }
+        ensures room { self.new.room ≡ self.old.room }
+    {
+        put(&mut self.slots, number, item);
+    }
+
     /// The thing under a number is taken out.
     pub fn remove(&mut self, number: u64) -> Option<T>
         ensures value { result ≡ lookup (nat_eq number) self.old.entries }
+        ensures first { self.new.entries ≡ remove_entry (nat_eq number) self.old.entries }
         ensures entries { self.new.entries ≡ without (λ e. nat_eq number e.0) self.old.entries }
         ensures top { self.new.top ≡ self.old.top }
         ensures room { self.old.room ≤ self.new.room }
@@ -133,6 +144,36 @@ impl<T: Drop> Roster<T> {
             close(&mut self.slots);
             self.holes = 0;
         }
+    }
+}
+
+/// Another thing comes in the place of the one under a number.
+fn put<T: Drop>(slots: &mut Vec<Slot<T>>, number: u64, item: T)
+    requires { Rises slots.old.items }
+    ensures held { held slots.new.items ≡ with_at number item (held slots.old.items) }
+    ensures shape { (top : ℕ) → IsShape top slots.old.items → IsShape top slots.new.items }
+    ensures len { vec_len slots.new ≡ vec_len slots.old }
+    ensures length { length slots.new.items ≡ length slots.old.items }
+    ensures capacity { vec_capacity slots.new ≡ vec_capacity slots.old }
+{
+    if let Some(place) = find(slots, number) {
+        put_at(slots, place, number, item);
+    }
+}
+
+/// Another thing comes in the place of the one at a place, and a hole stays one.
+fn put_at<T: Drop>(slots: &mut Vec<Slot<T>>, place: usize, number: u64, item: T)
+    requires { place < length slots.old.items }
+    ensures slot { (d : Slot T) → slots.new.items ≡ (if is_some (slice_index_or slots.old.items place d).item then slice_set slots.old.items place (record { number = number; item = Some item }) else slots.old.items) }
+    ensures len { vec_len slots.new ≡ vec_len slots.old }
+    ensures length { length slots.new.items ≡ length slots.old.items }
+    ensures capacity { vec_capacity slots.new ≡ vec_capacity slots.old }
+{
+    if slots[place].item.is_some() {
+        slots[place] = Slot {
+            number,
+            item: Some(item),
+        };
     }
 }
 

@@ -1,5 +1,5 @@
 -- What is kept of use, as it is read.
-use Rattle.std.proofs.Common.{◌≡◌, ℕ, ◌<◌, Bool, true, false, cond, ◌||◌, List, [], ◌∷◌, length, get_or, filter, find, Some, option_map, refl, sym, ap, ◌∙◌, arith}
+use Rattle.std.proofs.Common.{◌≡◌, ℕ, ◌<◌, Bool, true, false, cond, ◌||◌, List, [], ◌∷◌, length, get_or, filter, find, Option, Some, None, IfSome, option_map, refl, sym, ap, ◌∙◌, arith}
 use Rattle.std.specs.Prelude.{nat_lt}
 use Rattle.std.specs.List.{list_any}
 use Rattle.std.specs.Option.{option_map_or}
@@ -19,6 +19,9 @@ use Rattle.ynl_laws.proofs.Totals.Used.{use-is}
 use Rattle.ynl_tables.specs.declared.rows.PartitionRow.{PartitionRow}
 use Rattle.ynl_tables.specs.declared.tables.Tables.{Tables}
 use Rattle.ynl_tables.specs.Bounds.{IsBounded, IsTotal}
+use Rattle.ynl_resource.specs.declared.amounts.Resource.{Resource}
+use Rattle.ynl_resource.specs.declared.names.Name.{Name}
+use Rattle.ynl_tables.specs.Filled.{sizes_on, IsUsedOn}
 use Rattle.ynl_tables.specs.Kept.{IsSummed, AreSummed}
 use Rattle.ynl_tables.specs.Numbers.{IsNumberOf}
 use Rattle.ynl_tables.specs.Tables.{leaves_of, partition_of, state_of}
@@ -31,7 +34,18 @@ summed_row queues leaves rows label row h e = (Each-find (IsSummed queues leaves
 -- a number is within what a row keeps
 pub kept_within : (queues : List Path) (leaves : List LeafApps) (row : PartitionRow) (number : ℕ) → IsSummed queues leaves row → number < length (root ∷ queues) → number < length row.uses.items
 kept_within queues leaves row number h inside =
-    omega (arith, inside, ap length h, length-map (root ∷ queues) (λ queue. use_by leaves queue row.containers.items))
+    omega (arith, inside, ap length h.uses, length-map (root ∷ queues) (λ queue. use_by leaves queue row.containers.items))
+
+-- the containers of a partition are those of its row
+row_holds : (t : Tables) (label : Label) (row : PartitionRow) → Some row ≡ find (λ row. same_label row.label label) t.partitions.items → containers_on (state_of t) label ≡ row.containers.items
+row_holds t label row e = ap (λ o. option_map_or (λ (row : Partition). row.containers) o []) (find_map partition_of (is_partition label) t.partitions.items ∙ sym (ap (option_map partition_of) e))
+
+-- what is kept of a node is what the containers on it come to
+pub kept_filled : (t : Tables) (label : Label) (node : Name) (row : PartitionRow) (used : Option Resource) → AreSummed t.numbers (leaves_of t.leaves.items) t.partitions.items → Some row ≡ find (λ row. same_label row.label label) t.partitions.items
+    → IsUsedOn row.filled node used → IfSome used (λ taken. taken ≡ sizes_on node (containers_on (state_of t) label))
+kept_filled t label node row None h e is = tt
+kept_filled t label node row (Some sum) h e is =
+    is row.containers.items (summed_row t.numbers (leaves_of t.leaves.items) t.partitions.items label row h e).filled ∙ ap (sizes_on node) (sym (row_holds t label row e))
 
 -- what is kept under a queue's number is what the queue uses
 pub kept_use : (t : Tables) (label : Label) (queue : Path) (row : PartitionRow) (number : ℕ) (kept : Use) → AreSummed t.numbers (leaves_of t.leaves.items) t.partitions.items → Some row ≡ find (λ row. same_label row.label label) t.partitions.items
@@ -41,9 +55,8 @@ kept_use t label queue row number kept h e n read =
     let all : List Path = root ∷ t.numbers in
     let of : Path → Use = λ queue. use_by leaves queue row.containers.items in
     let summed : IsSummed t.numbers leaves row = summed_row t.numbers leaves t.partitions.items label row h e in
-    let there : containers_on (state_of t) label ≡ row.containers.items =
-    ap (λ o. option_map_or (λ (row : Partition). row.containers) o []) (find_map partition_of (is_partition label) t.partitions.items ∙ sym (ap (option_map partition_of) e)) in
-    read ∙ ap (λ us. get_or us number kept) summed ∙ get_or-map of all number root kept n.0 ∙ ap of (n.1 root) ∙ sym (ap (use_by leaves queue) there) ∙ sym (use-is (state_of t) label queue)
+    let there : containers_on (state_of t) label ≡ row.containers.items = row_holds t label row e in
+    read ∙ ap (λ us. get_or us number kept) summed.uses ∙ get_or-map of all number root kept n.0 ∙ ap of (n.1 root) ∙ sym (ap (use_by leaves queue) there) ∙ sym (use-is (state_of t) label queue)
 
 -- what is kept of use is small
 pub used_small : (s : State) (p : Label) (queue : Path) (kept : Use) → IsBounded s → kept ≡ use_of s p queue → IsTotal kept.used

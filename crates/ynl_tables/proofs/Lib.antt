@@ -2,6 +2,8 @@ pub mod Finding
 pub mod Numbering
 pub mod Kept
 pub mod Adding
+pub mod Below
 pub mod Filters
 pub mod Shared
 pub mod Sorted
+pub mod Filling

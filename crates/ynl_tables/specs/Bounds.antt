@@ -3,6 +3,7 @@ use Rattle.std.specs.Prelude.{◌<◌, ◌≤◌, ◌^◌}
 use Rattle.ynl_resource.specs.declared.amounts.Resource.{Resource}
 use Rattle.ynl_resource.specs.declared.labels.Label.{Label}
 use Rattle.ynl_model.specs.Cluster.{State, total, containers_on, sizes}
+use Rattle.ynl_laws.specs.Tabled.{Tabled}
 use Rattle.ynl_tables.specs.declared.tables.Tables.{Tables}
 use Rattle.ynl_tables.specs.Kept.{IsKept}
 use Rattle.ynl_tables.specs.Tables.{state_of}
@@ -16,7 +17,8 @@ pub record IsBounded (s : State) : Type 0 where
   pub totals : (p : Label) → IsTotal (total s p)
   pub sizes : (p : Label) → IsTotal (sizes (containers_on s p))
 
--- the amounts of the tables' state are small, and what is kept of use is right
+-- the amounts of the tables' state are small, its leaves and applications are found by their names, and what is kept of use is right
 pub record IsReadable (t : Tables) : Type 0 where
   pub bounded : IsBounded (state_of t)
+  pub tabled : Tabled (state_of t)
   pub kept : IsKept t

@@ -1,4 +1,4 @@
--- What is kept beside the state: what each queue uses of each partition, by the queue's number. The queues that are named here are those
+-- What is kept beside the state: what each queue uses of each partition, by the queue's number, and what is used of each node. The queues that are named here are those
 -- below root.
 use Rattle.std.specs.Prelude.{◌≡◌, List, ◌∷◌, map}
 use Rattle.std.specs.List.{AllByRecursion}
@@ -8,12 +8,14 @@ use Rattle.ynl_model.specs.Applications.{LeafApps}
 use Rattle.ynl_laws.specs.Uses.{use_by}
 use Rattle.ynl_tables.specs.declared.rows.PartitionRow.{PartitionRow}
 use Rattle.ynl_tables.specs.declared.tables.Tables.{Tables}
+use Rattle.ynl_tables.specs.Filled.{IsFilled}
 use Rattle.ynl_tables.specs.Numbers.{AreNumbered}
 use Rattle.ynl_tables.specs.Tables.{leaves_of}
 
--- what is kept of each queue is what it uses by the containers of the row
-abbrev pub IsSummed : List Path → List LeafApps → PartitionRow → Type 0
-IsSummed queues leaves row = row.uses.items ≡ map (λ queue. use_by leaves queue row.containers.items) (root ∷ queues)
+-- what is kept of each queue is what it uses by the containers of the row, and what is kept of each node what they use of it
+pub record IsSummed (queues : List Path) (leaves : List LeafApps) (row : PartitionRow) : Type 0 where
+  pub uses : row.uses.items ≡ map (λ queue. use_by leaves queue row.containers.items) (root ∷ queues)
+  pub filled : IsFilled row.filled row.containers.items
 
 -- and so in each row
 abbrev pub AreSummed : List Path → List LeafApps → List PartitionRow → Type 0

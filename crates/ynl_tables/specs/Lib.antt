@@ -1,4 +1,5 @@
 pub mod Bounds
+pub mod Filled
 pub mod Kept
 pub mod NumberFields
 pub mod Numbers

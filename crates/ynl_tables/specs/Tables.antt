@@ -30,7 +30,7 @@ partitions_of rows = map partition_of rows
 
 -- the state that the tables stand for
 abbrev pub state_of : Tables → State
-state_of t = record { nodes = t.nodes.items; partitions = partitions_of t.partitions.items; leaves = leaves_of t.leaves.items; stops = t.stops; maxima = t.maxima }
+state_of t = record { nodes = t.nodes; partitions = partitions_of t.partitions.items; leaves = leaves_of t.leaves.items; stops = t.stops; maxima = t.maxima }
 
 -- there is capacity for so many more containers on a partition
 abbrev pub HasCapacity : Label → ℕ → List PartitionRow → Type 0

@@ -1,5 +1,5 @@
 -- Which containers count in a sum.
-use Rattle.std.specs.Prelude.{Bool, ◌&&◌, List}
+use Rattle.std.specs.Prelude.{Bool, false, not, ◌&&◌, List, [], ◌∷◌}
 use Rattle.ynl_resource.specs.Names.{same_name}
 use Rattle.ynl_resource.specs.declared.names.Name.{Name}
 use Rattle.ynl_resource.specs.declared.paths.Path.{Path}
@@ -9,6 +9,11 @@ use Rattle.ynl_model.specs.Cluster.{is_master, of_app_that}
 use Rattle.ynl_laws.specs.Uses.{counts, counts_as_guest}
 use Rattle.ynl_tables.specs.declared.uses.Counted.{Counted}
 use Rattle.ynl_tables.specs.declared.uses.Counted.TheVariants.{Everyone, User, Masters, Guests}
+
+-- whether a queue stands below the top-level queue of another tenant
+abbrev pub is_of_other : Path → Name → Bool
+is_of_other [] tenant = false
+is_of_other (name ∷ queue) tenant = not (same_name name tenant)
 
 -- whether a container is that of a live application of a user
 abbrev pub of_user : Name → List LeafApps → Container → Bool

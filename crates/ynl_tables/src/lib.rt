@@ -7,6 +7,7 @@ pub use applications::{has_most_apps, home_of, is_used};
 pub use asks::{ask_of, is_ask_of, is_foreign, is_one_too_many};
 pub use clocks::{is_spent, next_clock};
 pub use containers::{container_of_tenant, container_on, is_own, is_same_id, push_copy};
+pub use filled::Filled;
 pub use live::{Live, live_at};
 pub use numbers::{QueueNumbers, way_of_app};
 pub use polling::{own_containers, pending_on};
@@ -14,16 +15,16 @@ pub use queue_use::{free, guests, masters_used, no_master_in, runs, used, user_u
 pub use rows::{App, LeafRow, PartitionRow};
 pub use sharing::users;
 pub use tables::{
-    Tables, apps_at, clock_at, containers_at, find_node, is_full, is_same, leaf_row_of, lists_name,
-    risen, tenant_bytes,
+    Tables, apps_at, clock_at, containers_at, is_same, leaf_row_of, lists_name, risen, tenant_bytes,
 };
 pub use usage::usage_of;
-pub use uses::{is_guest_on, is_master, total_of};
+pub use uses::{is_guest_on, is_master};
 
 mod applications;
 mod asks;
 mod clocks;
 mod containers;
+mod filled;
 mod live;
 mod numbers;
 mod polling;

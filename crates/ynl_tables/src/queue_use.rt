@@ -3,6 +3,7 @@
 
 ghost use Rattle.std.specs.Prelude.{◌≡◌, ◌&&◌, filter, IfSome};
 ghost use Rattle.std.specs.List.{list_any};
+ghost use Rattle.ynl_resource.specs.Names.{same_name};
 ghost use Rattle.ynl_model.specs.Cluster.{used, user_used, masters_used, guests, is_master, is_of, runs, free, counted, containers_on, sizes};
 ghost use Rattle.ynl_model.specs.Service.{no_master_in};
 ghost use Rattle.ynl_tables.specs.Tables.{state_of, app_of};
@@ -119,13 +120,28 @@ pub fn no_master_in(tables: &Tables, leaf: &[Name], label: &Label) -> bool
     !has_counted_master(tables, leaf, label)
 }
 
+/// What is kept of the use of a node; nothing where none is kept, or the configuration has no such
+/// partition.
+fn kept_on(tables: &Tables, node: &Node) -> Option<Resource>
+    requires { IsKept tables.now }
+    ensures { IfSome result (λ taken. taken ≡ sizes (filter (λ k. same_name k.node node.now.name) (containers_on (state_of tables.now) node.now.label))) }
+{
+    match partition_row(&tables.partitions, &node.label) {
+        Some(row) => row.filled.used_on(&node.name),
+        None => None,
+    }
+}
+
 /// What is free on a node: its size less all its containers.
 #[tactic(auto, unfolding(ynl_model::specs::Cluster::free))]
 pub fn free(tables: &Tables, node: &Node) -> Resource
-    requires { IsBounded (state_of tables.now) }
+    requires { IsReadable tables.now }
     ensures { result ≡ free (state_of tables.now) node.now }
 {
-    let taken = used_on(&node.name, containers_at(&tables.partitions, &node.label));
+    let taken = match kept_on(tables, node) {
+        Some(taken) => taken,
+        None => used_on(&node.name, containers_at(&tables.partitions, &node.label)),
+    };
     let size = node.size.amount();
     Resource {
         memory: size.memory.saturating_sub(taken.memory),

@@ -3,6 +3,7 @@
 ghost use Rattle.std.specs.Prelude.{◌≡◌, IsTrue};
 ghost use Rattle.ynl_resource.specs.Names.{same_name, tenant_of};
 
+use crate::filled::Filled;
 use std::marker::Model;
 use ynl_model::{AskRow, Placed, Use};
 use ynl_resource::{Label, Name, Path, Size};
@@ -28,14 +29,15 @@ pub struct LeafRow {
     ghost of_tenant: { IsTrue (same_name tenant (tenant_of path)) },
 }
 
-/// A partition: its clock, the containers on it in the order in which they were placed, and what each
-/// queue uses by them, by the queue's number.
+/// A partition: its clock, the containers on it in the order in which they were placed, what each queue
+/// uses by them, by the queue's number, and what they use of each node.
 #[derive(Drop)]
 pub struct PartitionRow {
     pub label: Label,
     pub clock: u64,
     pub containers: Vec<Placed>,
     pub uses: Vec<Use>,
+    pub filled: Filled,
 }
 
 /// The numbers of root and of the queues on the way to a queue, itself among them.

@@ -1,10 +1,10 @@
 //! The tables of a cluster, and what is read of them.
 
-ghost use Rattle.std.specs.Prelude.{◌≡◌, ◌&&◌, [], IfSome, option_map, find, map, length};
+ghost use Rattle.std.specs.Prelude.{◌≡◌, ◌&&◌, [], IfSome, option_map, find, map};
 ghost use Rattle.std.specs.List.{list_any};
 ghost use Rattle.std.specs.Option.{option_map_or};
 ghost use Rattle.ynl_resource.specs.Names.{same_name, same_path, same_label, tenant_of};
-ghost use Rattle.ynl_model.specs.Nodes.{find_node, nodes_of, is_full, rises};
+ghost use Rattle.ynl_model.specs.Nodes.{rises};
 ghost use Rattle.ynl_model.specs.Applications.{row_of, apps_of};
 ghost use Rattle.ynl_model.specs.Cluster.{is_partition};
 ghost use Rattle.ynl_tables.specs.Tables.{leaf_of_row, leaves_of, partition_of, partitions_of, app_of};
@@ -12,13 +12,14 @@ ghost use Rattle.ynl_tables.specs.Tables.{leaf_of_row, leaves_of, partition_of, 
 use crate::numbers::QueueNumbers;
 use crate::rows::{App, LeafRow, PartitionRow};
 use ynl_controls::{Maxima, Stops};
-use ynl_model::{Node, Placed};
-use ynl_resource::{Label, MOST_NODES, Name, Path};
+use ynl_model::Placed;
+use ynl_nodes::Nodes;
+use ynl_resource::{Label, Name, Path};
 
 /// The tables of a cluster.
 #[derive(Drop)]
 pub struct Tables {
-    pub nodes: Vec<Node>,
+    pub nodes: Nodes,
     pub partitions: Vec<PartitionRow>,
     pub leaves: Vec<LeafRow>,
     pub stops: Stops,
@@ -31,29 +32,6 @@ pub fn is_same(a: &Label, b: &Label) -> bool
     ensures { result ≡ same_label a.now b.now }
 {
     *a == *b
-}
-
-// ---- nodes
-
-/// The node of a name.
-pub fn find_node(nodes: &[Node], name: &Name) -> Option<Node>
-    ensures { result ≡ find_node nodes.now name.now }
-{
-    nodes.iter().copied().find(|node| node.name == *name)
-}
-
-fn count_on(nodes: &[Node], label: &Label) -> usize
-    ensures { result ≡ length (nodes_of nodes.now label.now) }
-{
-    nodes.iter().filter(|node| node.label == *label).count()
-}
-
-/// Whether a partition has no place for one more node.
-#[tactic(auto, unfolding(ynl_model::specs::Nodes::is_full))]
-pub fn is_full(nodes: &[Node], label: &Label) -> bool
-    ensures { result ≡ is_full nodes.now label.now }
-{
-    count_on(nodes, label) >= MOST_NODES
 }
 
 // ---- partitions

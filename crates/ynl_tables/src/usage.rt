@@ -7,7 +7,6 @@ ghost use Rattle.ynl_tables.specs.Tables.{state_of};
 
 use crate::queue_use::{guests, masters_used, used};
 use crate::tables::Tables;
-use crate::uses::total_of;
 use ynl_model::Reply;
 use ynl_queues::Config;
 use ynl_resource::{Label, Path};
@@ -20,7 +19,7 @@ pub fn usage_of(config: &Config, tables: &Tables, queue: &Path, label: &Label) -
     ensures { result ≡ usage config.now (state_of tables.now) queue.now label.now }
 {
     let names = queue.names();
-    let total = total_of(&tables.nodes, label);
+    let total = tables.nodes.total(label);
     Reply::Usage {
         used: used(tables, names, label),
         guaranteed: config.guaranteed(names, label, &total),

@@ -3,16 +3,15 @@
 ghost use Rattle.std.specs.Prelude.{◌≡◌, IsTrue, filter, find, option_map, if◌then◌else◌};
 ghost use Rattle.ynl_resource.specs.Amounts.{plus, fits_in};
 ghost use Rattle.ynl_resource.specs.Names.{same_name};
-ghost use Rattle.ynl_model.specs.Nodes.{total};
 ghost use Rattle.ynl_model.specs.Cluster.{is_master, is_guest_on, is_below, sizes};
 ghost use Rattle.ynl_tables.specs.Tables.{leaves_of};
 ghost use Rattle.ynl_tables.specs.Bounds.{IsTotal};
 ghost use Rattle.ynl_laws.specs.Uses.{counts};
-ghost use Rattle.ynl_tables.specs.Uses.{of_user, is_counted};
+ghost use Rattle.ynl_tables.specs.Uses.{is_of_other, of_user, is_counted};
 
 use crate::rows::{App, LeafRow};
-use crate::tables::{is_same, leaf_row_of};
-use ynl_model::{Node, Placed, What};
+use crate::tables::leaf_row_of;
+use ynl_model::{Placed, What};
 use ynl_queues::is_within;
 use ynl_resource::{Label, Name, Resource, Size};
 
@@ -50,11 +49,25 @@ pub fn is_guest_on(partition: &Label, what: &What) -> bool
     }
 }
 
-/// Whether the container's leaf is the queue or below.
+/// Whether a queue stands below the top-level queue of another tenant.
+fn is_of_other(queue: &[Name], tenant: &Name) -> bool
+    ensures { result ≡ is_of_other queue.now tenant.now }
+{
+    match queue.first() {
+        Some(name) => *name != *tenant,
+        None => false,
+    }
+}
+
+/// Whether the container's leaf is the queue or below. Its tenant is looked at first, since the leaf is
+/// searched for.
 #[tactic(auto, unfolding(ynl_model::specs::Applications::leaf_of))]
 fn is_below(leaves: &[LeafRow], queue: &[Name], container: &Placed) -> bool
     ensures { result ≡ is_below (leaves_of leaves.now) queue.now container.now }
 {
+    if is_of_other(queue, &container.tenant) {
+        return false;
+    }
     match leaf_row_of(leaves, container.tenant.as_bytes(), &container.app) {
         Some(row) => is_within(queue, row.path.names()),
         None => false,
@@ -140,19 +153,6 @@ pub fn used_on(node: &Name, containers: &[Placed]) -> Resource
     let mut sum = NOTHING;
     for container in containers {
         sum = added(&sum, &container.size, container.node == *node);
-    }
-    sum
-}
-
-/// The total of a partition: the sum of its nodes.
-#[tactic(auto, unfolding(ynl_model::specs::Nodes::total))]
-pub fn total_of(nodes: &[Node], label: &Label) -> Resource
-    requires { IsTotal (total nodes.now label.now) }
-    ensures { result ≡ total nodes.now label.now }
-{
-    let mut sum = NOTHING;
-    for node in nodes {
-        sum = added(&sum, &node.size, is_same(&node.label, label));
     }
     sum
 }

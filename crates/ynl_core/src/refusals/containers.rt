@@ -15,7 +15,7 @@ use ynl_choice::{Checked, check};
 use ynl_model::{Placed, Proposal};
 use ynl_queues::Config;
 use ynl_resource::{Id, Name, Refusal};
-use ynl_tables::{Tables, container_of_tenant, container_on, containers_at, find_node, is_master};
+use ynl_tables::{Tables, container_of_tenant, container_on, containers_at, is_master};
 
 /// The container that ended by itself, or the first reason for which none did.
 #[tactic(auto, unfolding(ynl_model::specs::Events::reasons))]
@@ -24,7 +24,7 @@ pub(crate) fn refuse_exited(tables: &Tables, name: &Name, id: &Id) -> Result<Pla
     ensures free { IfOk result (λ _. (c : Config) → first_that_holds (reasons c (state_of tables.now) (Exited name.now id.now)) ≡ None) }
     ensures container { IfOk result (λ container. container_at (state_of tables.now) name.now id.now ≡ Some container) }
 {
-    let Some(node) = find_node(&tables.nodes, name) else {
+    let Some(node) = tables.nodes.find(name) else {
         return Err(Refusal::NoSuchNode);
     };
     let containers = containers_at(&tables.partitions, &node.label);

@@ -1,8 +1,9 @@
 //! Refusals of what happens to a node, and of what is to be placed on one.
 
-ghost use Rattle.std.specs.Prelude.{◌≡◌, Some, None, IfOk, IfErr};
+ghost use Rattle.std.specs.Prelude.{◌≡◌, Some, None, false, IfNone, IfOk, IfErr};
 ghost use Rattle.ynl_resource.specs.Refusals.{first_that_holds};
 ghost use Rattle.ynl_resource.specs.declared.amounts.Resource.{Resource};
+ghost use Rattle.ynl_model.specs.Nodes.{find_node, is_full};
 ghost use Rattle.ynl_model.specs.Queues.{Config};
 ghost use Rattle.ynl_model.specs.Cluster.{node_of};
 ghost use Rattle.ynl_model.specs.Check.{placing_reasons};
@@ -13,7 +14,7 @@ ghost use Rattle.ynl_tables.specs.Tables.{state_of};
 use ynl_model::Node;
 use ynl_queues::Config;
 use ynl_resource::{Label, Name, Refusal};
-use ynl_tables::{Tables, find_node, is_full, is_same, is_spent};
+use ynl_tables::{Tables, is_same, is_spent};
 
 /// The first reason for which a node does not join, if there is one.
 #[tactic(auto, unfolding(ynl_model::specs::Events::reasons))]
@@ -23,15 +24,17 @@ pub(crate) fn refuse_register(
     name: &Name,
     label: &Label,
 ) -> Option<Refusal>
-    ensures { (size : Resource) → result ≡ first_that_holds (reasons config.now (state_of tables.now) (Register name.now label.now size)) }
+    ensures value { (size : Resource) → result ≡ first_that_holds (reasons config.now (state_of tables.now) (Register name.now label.now size)) }
+    ensures new { IfNone result (find_node tables.now.nodes name.now ≡ None) }
+    ensures room { IfNone result (is_full tables.now.nodes label.now ≡ false) }
 {
     if !config.labels().has(label) {
         return Some(Refusal::NoSuchLabel);
     }
-    if find_node(&tables.nodes, name).is_some() {
+    if tables.nodes.find(name).is_some() {
         return Some(Refusal::NodeExists);
     }
-    if is_full(&tables.nodes, label) {
+    if tables.nodes.is_full(label) {
         return Some(Refusal::PartitionFull);
     }
     None
@@ -44,7 +47,7 @@ pub(crate) fn refuse_lost(tables: &Tables, name: &Name) -> Result<Node, Refusal>
     ensures free { IfOk result (λ _. (c : Config) → first_that_holds (reasons c (state_of tables.now) (Lost name.now)) ≡ None) }
     ensures node { IfOk result (λ node. node_of (state_of tables.now) name.now ≡ Some node) }
 {
-    match find_node(&tables.nodes, name) {
+    match tables.nodes.find(name) {
         Some(node) => Ok(node),
         None => Err(Refusal::NoSuchNode),
     }
@@ -60,18 +63,19 @@ pub(crate) fn refuse_relabel(
 ) -> Result<Node, Refusal>
     ensures refused { IfErr result (λ refusal. first_that_holds (reasons config.now (state_of tables.now) (Relabel name.now label.now)) ≡ Some refusal) }
     ensures free { IfOk result (λ _. first_that_holds (reasons config.now (state_of tables.now) (Relabel name.now label.now)) ≡ None) }
+    ensures room { IfOk result (λ _. is_full tables.now.nodes label.now ≡ false) }
     ensures node { IfOk result (λ node. node_of (state_of tables.now) name.now ≡ Some node) }
 {
     if !config.labels().has(label) {
         return Err(Refusal::NoSuchLabel);
     }
-    let Some(node) = find_node(&tables.nodes, name) else {
+    let Some(node) = tables.nodes.find(name) else {
         return Err(Refusal::NoSuchNode);
     };
     if is_same(&node.label, label) {
         return Err(Refusal::SameLabel);
     }
-    if is_full(&tables.nodes, label) {
+    if tables.nodes.is_full(label) {
         return Err(Refusal::PartitionFull);
     }
     Ok(node)
@@ -83,7 +87,7 @@ fn refuse_placing(config: &Config, tables: &Tables, name: &Name) -> Result<Node,
     ensures free { IfOk result (λ _. first_that_holds (placing_reasons config.now (state_of tables.now) name.now) ≡ None) }
     ensures node { IfOk result (λ node. node_of (state_of tables.now) name.now ≡ Some node) }
 {
-    let Some(node) = find_node(&tables.nodes, name) else {
+    let Some(node) = tables.nodes.find(name) else {
         return Err(Refusal::NoSuchNode);
     };
     if is_spent(config, tables, &node.label) {

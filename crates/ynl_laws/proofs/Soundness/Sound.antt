@@ -22,7 +22,7 @@ use Rattle.ynl_laws.proofs.Soundness.Housed.{is_housed}
 use Rattle.ynl_laws.proofs.Lists.{Each-unmap, all-of, Each-weaker, Each-with, pairs-of, pairs-unmap, pairs-weaker}
 use Rattle.ynl_laws.proofs.Names.{same-name_self, same-label_path}
 
-apart-after : (c : Config) (events : List Event) (s : State) → Apart (places s) → Apart (places (after c s events))
+pub apart-after : (c : Config) (events : List Event) (s : State) → Apart (places s) → Apart (places (after c s events))
 apart-after c [] s h = h
 apart-after c (event ∷ events) s h = apart-after c events _ (step-apart c s event h)
 

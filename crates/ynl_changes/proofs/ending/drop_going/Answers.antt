@@ -1,4 +1,4 @@
-use Rattle.std.proofs.Common.{◌≡◌, rules, not, List, ◌∷◌, map, sym, ap, ◌∙◌}
+use Rattle.std.proofs.Common.{◌≡◌, rules, not, List, ◌∷◌, map, sym, ap, subst, ◌∙◌}
 use Rattle.std.proofs.lemmas.Fn.{filter_same}
 use Rattle.ynl_resource.specs.Names.{root}
 use Rattle.ynl_resource.specs.Tables.{without}
@@ -6,6 +6,7 @@ use Rattle.ynl_model.specs.declared.containers.Placed.{Placed}
 use Rattle.ynl_model.specs.declared.uses.Use.{Use}
 use Rattle.ynl_laws.specs.Uses.{use_by}
 use Rattle.ynl_tables.specs.Tables.{leaves_of, partition_of}
+use Rattle.ynl_tables.specs.Filled.{IsFilled}
 use Rattle.ynl_changes.specs.Cells.{goes}
 use Rattle.ynl_changes.proofs.ending.drop_going.Goals as goal
 
@@ -19,4 +20,7 @@ returns-clause-meaning c = ap (λ (xs : List Placed). record (partition_of c.arg
 pub returns-clause-summed : goal.returns-clause-summed
 returns-clause-summed c =
     let by : List Placed → List Use = λ xs. map (λ queue. use_by (leaves_of c.args.leaves.now) queue xs) (root ∷ c.args.numbers.now) in
-    c.lower_by.ensures ∙ ap (λ xs. by (without (goes c.args.going) xs)) c.deref.ensures.value ∙ sym (ap by (left c))
+    record {
+      uses = c.lower_by.ensures ∙ ap (λ xs. by (without (goes c.args.going) xs)) c.deref.ensures.value ∙ sym (ap by (left c));
+      filled = subst (IsFilled c.free_by.new.filled) (ap (without (goes c.args.going)) c.deref-2.ensures.value ∙ sym (left c)) c.free_by.ensures;
+    }

@@ -1,9 +1,13 @@
-use Rattle.std.proofs.Common.{◌<◌, ◌^◌, List, ◌∷◌, length, sym, arith}
+use Rattle.std.proofs.Common.{◌<◌, ◌^◌, List, ◌∷◌, length, sym, subst, arith}
 use Rattle.ynl_resource.specs.Names.{root}
 use Rattle.ynl_resource.specs.declared.paths.Path.{Path}
 use Rattle.ynl_model.specs.declared.uses.Use.{Use}
 use Rattle.ynl_laws.specs.Uses.{use_by}
 use Rattle.ynl_tables.specs.Tables.{leaves_of}
+use Rattle.ynl_resource.specs.Amounts.{IsSmall}
+use Rattle.ynl_model.specs.declared.containers.Placed.{Placed}
+use Rattle.ynl_model.specs.Cluster.{sizes}
+use Rattle.ynl_tables.specs.Filled.{IsFilled}
 use Rattle.ynl_changes.proofs.Summing.{small_uses, uses_long, raised_all}
 use Rattle.ynl_changes.proofs.placing.put.Goals as goal
 
@@ -22,4 +26,9 @@ returns-then-is_same-clause-summed c =
     let leaves = leaves_of c.args.leaves.now in
     let all : List Path = root ∷ c.args.numbers.now in
     let before : Path → Use = λ queue. use_by leaves queue c.args.row.now.containers.items in
-    raised_all all leaves c.args.container.now c.args.row.now.containers.items c.push_copy.new.containers.items c.raise.new.uses.items c.push_copy.ensures.items (c.raise.ensures before c.requires.summed)
+    let old : List Placed = c.args.row.now.containers.items in
+    let small : IsSmall (sizes old) = (omega (arith, c.requires.small.0), omega (arith, c.requires.small.1)) in
+    record {
+      uses = raised_all all leaves c.args.container.now old c.push_copy.new.containers.items c.raise.new.uses.items c.push_copy.ensures.items (c.raise.ensures before c.requires.summed.uses);
+      filled = subst (IsFilled c.fill.new.self) (sym c.push_copy.ensures.items) (c.fill.ensures old small c.requires.summed.filled);
+    }

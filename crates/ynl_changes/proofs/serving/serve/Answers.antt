@@ -3,7 +3,7 @@ use Rattle.ynl_model.specs.declared.containers.Placed.{Placed}
 use Rattle.ynl_model.specs.Changes.{next_item}
 use Rattle.ynl_tables.specs.Tables.{state_of, HasCapacity}
 use Rattle.ynl_changes.proofs.InPlace.{less_capacity}
-use Rattle.ynl_changes.proofs.Serves.{beat_none, beat_zero, state_done, placed_done, state_next, placed_next, working_next, stands_next}
+use Rattle.ynl_changes.proofs.Serves.{beat_none, beat_zero, state_done, placed_done, state_next, placed_next, working_next, tabled_next, stands_next}
 use Rattle.ynl_changes.proofs.serving.serve.Goals as goal
 
 pub returns-in_default-clause-state : goal.returns-in_default-clause-state
@@ -34,6 +34,7 @@ loop-i-preserved c =
     let moved = c.place-container.ensures.state in
     record {
       working = working_next config s new node c.in-Some.request c.loop-i.invariant.working c.loop-i.invariant.stands f moved;
+      tabled = tabled_next config s new node c.in-Some.request c.loop-i.invariant.working c.loop-i.invariant.tabled f moved;
       kept = c.place-container.ensures.kept;
       stands = stands_next config s new node c.in-Some.request c.loop-i.invariant.stands moved;
       capacity = c.place-container.ensures.capacity k (subst (λ (n : ℕ). HasCapacity node.label n c.loop-i.tables.partitions.items) (let g : m ≡ k + 1 = omega arith in g) c.loop-i.invariant.capacity);

@@ -1,6 +1,7 @@
 use Rattle.std.proofs.Common.{◌≡◌, ◌+◌, ◌-◌, ◌≤◌, ◌++◌, vec_len, vec_capacity}
 use Rattle.ynl_model.specs.Changes.{beat}
 use Rattle.ynl_laws.specs.Working.{IsWorking, Stands}
+use Rattle.ynl_laws.specs.Tabled.{Tabled}
 use Rattle.ynl_tables.specs.Kept.{IsKept}
 use Rattle.ynl_tables.specs.Tables.{state_of, HasCapacity}
 use Rattle.ynl_changes.proofs.serving.serve.Given as goal
@@ -8,6 +9,7 @@ use Rattle.ynl_changes.proofs.serving.serve.Given as goal
 abbrev pub invariant-loop-i : goal.invariant-loop-i
 invariant-loop-i l = record {
   working : IsWorking l.config (state_of l.tables);
+  tabled : Tabled (state_of l.tables);
   kept : IsKept l.tables;
   stands : Stands (state_of l.tables) l.node;
   capacity : HasCapacity l.node.label (l.times - l._i) l.tables.partitions.items;

@@ -1,12 +1,7 @@
-use Rattle.std.proofs.Common.{[], ◌∷◌, sym, subst}
-use Rattle.ynl_core.specs.Resting.{Rests, AreResting}
+use Rattle.std.proofs.Common.{rules, sym, subst}
+use Rattle.ynl_core.specs.Resting.{AreResting}
+use Rattle.ynl_core.proofs.Idle.{rests_more}
 use Rattle.ynl_core.proofs.resting.rest.Goals as goal
-use Rattle.ynl_laws.proofs.Lists.{Each-append}
 
-pub returns-then-is_ok : goal.returns-then-is_ok
-returns-then-is_ok c config s p each =
-    let listed = subst (AreResting config s) (sym c.reserve.ensures.items) each in
-    subst (AreResting config s) (sym c.push_reserved.ensures.items) (Each-append (Rests config s) c.reserve.new.self.items (c.args.name.now ∷ []) listed (p, tt))
-
-pub returns-else-is_ok : goal.returns-else-is_ok
-returns-else-is_ok c config s p each = subst (AreResting config s) (sym c.reserve.ensures.items) each
+pub returns-in-Ok : goal.returns-in-Ok
+returns-in-Ok c config s p each = subst (AreResting config s) (sym (search rules)) (rests_more config s c.args.names.now.keys c.args.name.now p each)

@@ -8,14 +8,12 @@ use Rattle.ynl_model.specs.declared.replies.Reply.TheVariants.{Done}
 use Rattle.ynl_model.specs.Applications.{Application, LeafApps, find_app, in_leaf, with_app, set_ask}
 use Rattle.ynl_model.specs.Cluster.{State}
 use Rattle.ynl_model.specs.Events.{Outcome, done, step, accepted}
-use Rattle.ynl_laws.specs.Working.{IsWorking}
 use Rattle.ynl_laws.proofs.Events.Kept.{with_app-names}
-use Rattle.ynl_laws.proofs.Soundness.Working.{working-step}
 use Rattle.ynl_tables.specs.Kept.{AreKept}
 use Rattle.ynl_tables.specs.Tables.{state_of, leaves_of, partitions_of}
 use Rattle.ynl_changes.proofs.Summing.{kept_leaf}
 use Rattle.ynl_core.specs.World.{World, Answers}
-use Rattle.ynl_core.proofs.Stepping.{taken_in, none_rests}
+use Rattle.ynl_core.proofs.Stepping.{taken_in, sound_after}
 use Rattle.ynl_core.proofs.cluster.Core.ask.Goals as goal
 
 by_leaf : (o : Option Application) (leaf : Path) (s : State) (outcome : Path → Outcome) → option_map (λ app. app.leaf) o ≡ Some leaf → option_map_or (λ app. outcome app.leaf) o (done s) ≡ outcome leaf
@@ -24,7 +22,7 @@ by_leaf (Some app) leaf s outcome e = let same : app.leaf ≡ leaf = cc in ap ou
 
 -- the step is that the application asks
 stepped : (c : goal.After-clear) → step c.self.inside.config (state_of c.self.inside.tables) (Ask c.args.tenant c.args.name c.args.ask.label c.args.ask.priority c.args.ask.count c.args.ask.size)
-    ≡ done (record { nodes = c.self.inside.tables.nodes.items; partitions = partitions_of c.self.inside.tables.partitions.items; leaves = leaves_of c.ask_for.new.rows.items; stops = c.self.inside.tables.stops; maxima = c.self.inside.tables.maxima })
+    ≡ done (record { nodes = c.self.inside.tables.nodes; partitions = partitions_of c.self.inside.tables.partitions.items; leaves = leaves_of c.ask_for.new.rows.items; stops = c.self.inside.tables.stops; maxima = c.self.inside.tables.maxima })
 unfolding accepted
 stepped c =
     let config = c.self.inside.config in
@@ -45,7 +43,7 @@ invariant_of-self-2 c =
     let numbers = c.self.inside.tables.numbers in
     let rows = c.self.inside.tables.partitions.items in
     record {
-      sound = none_rests config _ _ (search rules) (subst (IsWorking config) (ap (λ (o : Outcome). o.state) (stepped c)) (working-step config (state_of c.self.inside.tables) event c.amount-sized.ensures.range c.self.invariant.sound.working));
+      sound = sound_after config (state_of c.self.inside.tables) _ event _ _ (search rules) c.amount-sized.ensures.range (ap (λ (o : Outcome). o.state) (stepped c)) c.self.invariant.sound;
       kept = subst (λ (leaves : List LeafApps). AreKept numbers leaves rows) (sym leaves)
           (kept_leaf numbers c.in-Ok.leaf change (with_app-names c.args.name (set_ask c.args.ask)) (leaves_of c.self.inside.tables.leaves.items) rows c.self.invariant.kept);
     }

@@ -4,15 +4,13 @@ use Rattle.ynl_model.specs.declared.events.Event.TheVariants.{Commit}
 use Rattle.ynl_model.specs.Cluster.{Partition}
 use Rattle.ynl_model.specs.Events.{step, accepted}
 use Rattle.ynl_core.specs.CoreFields.{IsSound}
-use Rattle.ynl_laws.specs.Working.{IsWorking}
-use Rattle.ynl_laws.proofs.Soundness.Working.{working-step}
 use Rattle.ynl_tables.specs.Tables.{state_of}
 use Rattle.ynl_changes.proofs.Summing.{readable}
-use Rattle.ynl_core.proofs.Stepping.{none_rests}
+use Rattle.ynl_core.proofs.Stepping.{sound_after}
 use Rattle.ynl_core.proofs.cluster.Core.commit.Goals as goal
 
 pub refuse_commit-requires : goal.refuse_commit-requires
-refuse_commit-requires c = readable c.self.inside.config c.self.inside.tables c.self.invariant.sound.working c.self.invariant.kept
+refuse_commit-requires c = readable c.self.inside.config c.self.inside.tables c.self.invariant.sound.working c.self.invariant.sound.tabled c.self.invariant.kept
 
 pub invariant_of-self-2 : goal.invariant_of-self-2
 unfolding step accepted
@@ -21,13 +19,13 @@ invariant_of-self-2 c =
     let config = c.self.inside.config in
     let event : Event = Commit c.args.proposal in
     let same : (step config (state_of tables) event).state ≡ state_of c.place-container.new.tables = search rules in
-    record { sound = none_rests config _ _ (search rules) (subst (IsWorking config) same (working-step config (state_of tables) event c.amount-sized.ensures.range c.self.invariant.sound.working)); kept = c.place-container.ensures.kept }
+    record { sound = sound_after config (state_of tables) _ event _ _ (search rules) c.amount-sized.ensures.range same c.self.invariant.sound; kept = c.place-container.ensures.kept }
 
 -- where memory is refused all is as it was
 pub invariant_of-self : goal.invariant_of-self
 invariant_of-self c =
     let tables = c.self.inside.tables in
-    let P : List Partition → Type 0 = λ rows. IsSound c.self.inside.config (record (state_of tables) { partitions = rows }) c.self.inside.resting.items in
+    let P : List Partition → Type 0 = λ rows. IsSound c.self.inside.config (record (state_of tables) { partitions = rows }) c.self.inside.resting.keys in
     record {
       sound = subst P (sym c.reserve_containers.ensures.meaning) c.self.invariant.sound;
       kept = record { numbered = c.self.invariant.kept.numbered; summed = c.reserve_containers.ensures.summed _ _ c.self.invariant.kept.summed };

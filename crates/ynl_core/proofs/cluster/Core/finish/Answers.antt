@@ -5,9 +5,7 @@ use Rattle.ynl_model.specs.declared.replies.Reply.TheVariants.{Done}
 use Rattle.ynl_model.specs.Applications.{Application, find_app}
 use Rattle.ynl_model.specs.Cluster.{State}
 use Rattle.ynl_model.specs.Events.{Outcome, done, step, accepted}
-use Rattle.ynl_laws.specs.Working.{IsWorking}
-use Rattle.ynl_laws.proofs.Soundness.Working.{working-step}
-use Rattle.ynl_core.proofs.Stepping.{taken_in, none_rests}
+use Rattle.ynl_core.proofs.Stepping.{taken_in, sound_after}
 use Rattle.ynl_tables.specs.Tables.{state_of, app_of}
 use Rattle.ynl_core.specs.World.{World, Answers}
 use Rattle.ynl_core.proofs.cluster.Core.finish.Goals as goal
@@ -26,7 +24,7 @@ pub invariant_of-self : goal.invariant_of-self
 invariant_of-self c =
     let config = c.self.inside.config in
     let event : Event = Finish c.args.tenant c.args.name in
-    record { sound = none_rests config _ _ (search rules) (subst (IsWorking config) (ap (λ (o : Outcome). o.state) (stepped c)) (working-step config (state_of c.self.inside.tables) event tt c.self.invariant.sound.working)); kept = c.finish_application.ensures.kept }
+    record { sound = sound_after config (state_of c.self.inside.tables) _ event _ _ (search rules) tt (ap (λ (o : Outcome). o.state) (stepped c)) c.self.invariant.sound; kept = c.finish_application.ensures.kept }
 
 pub returns : goal.returns
 returns c =

@@ -6,15 +6,13 @@ use Rattle.ynl_model.specs.Nodes.{find_node}
 use Rattle.ynl_model.specs.Cluster.{State, Partition}
 use Rattle.ynl_model.specs.Changes.{beat}
 use Rattle.ynl_model.specs.Events.{Outcome, step, accepted}
-use Rattle.ynl_laws.specs.Working.{IsWorking}
-use Rattle.ynl_laws.proofs.Soundness.Working.{working-step}
 use Rattle.ynl_laws.proofs.Soundness.Steps.{stands-found}
 use Rattle.ynl_core.specs.CoreFields.{world_of, IsSound}
 use Rattle.ynl_core.specs.Resting.{AreResting}
 use Rattle.ynl_tables.specs.Tables.{state_of, leaves_of, partitions_of}
 use Rattle.ynl_core.specs.World.{World, Answers}
 use Rattle.ynl_core.proofs.Idle.{empty_items, unplaced_more, unplaced_rests, unplaced_same, resting_step}
-use Rattle.ynl_core.proofs.Stepping.{none_rests}
+use Rattle.ynl_core.proofs.Stepping.{sound_after}
 use Rattle.ynl_core.proofs.cluster.Core.heartbeat.Goals as goal
 
 pub serve-requires-clause-kept : goal.serve-requires-clause-kept
@@ -30,7 +28,7 @@ invariant_of-self-else-is_empty c =
     let config = c.self.inside.config in
     let event : Event = Heartbeat c.args.name in
     let same : (step config old event).state ≡ state_of c.serve.new.tables = search rules in
-    record { sound = none_rests config _ _ (search rules) (subst (IsWorking config) same (working-step config old event tt c.self.invariant.sound.working)); kept = c.serve.ensures.kept }
+    record { sound = sound_after config old _ event _ _ (search rules) tt same c.self.invariant.sound; kept = c.serve.ensures.kept }
 
 pub invariant_of-self-then-count-gt0 : goal.invariant_of-self-then-count-gt0
 invariant_of-self-then-count-gt0 c =
@@ -38,17 +36,18 @@ invariant_of-self-then-count-gt0 c =
     let config = c.self.inside.config in
     let node = c.in-Ok.node in
     let times = c.containers_per_heartbeat-count.result in
-    let reserved : State = record { nodes = tables.nodes.items; partitions = partitions_of c.reserve_containers.new.rows.items; leaves = leaves_of tables.leaves.items; stops = tables.stops; maxima = tables.maxima } in
-    let as_before : state_of tables ≡ reserved = λ i. record { nodes = tables.nodes.items; partitions = sym c.reserve_containers.ensures.meaning i; leaves = leaves_of tables.leaves.items; stops = tables.stops; maxima = tables.maxima } in
+    let reserved : State = record { nodes = tables.nodes; partitions = partitions_of c.reserve_containers.new.rows.items; leaves = leaves_of tables.leaves.items; stops = tables.stops; maxima = tables.maxima } in
+    let as_before : state_of tables ≡ reserved = λ i. record { nodes = tables.nodes; partitions = sym c.reserve_containers.ensures.meaning i; leaves = leaves_of tables.leaves.items; stops = tables.stops; maxima = tables.maxima } in
     let found : find_node reserved.nodes c.args.name ≡ Some node = search rules in
     let nothing : c.serve.new.placed.items ≡ [] = empty_items c.serve.new.placed.items (search rules) in
     let unplaced : (beat config node times reserved).placed ≡ [] = unplaced_more (beat config node times reserved) c.in_ok-placed.placed.items c.serve.new.placed.items c.in_ok-placed.ensures.items c.serve.ensures.placed nothing in
     let inside : 0 < times = search rules in
-    let sound : IsSound config reserved c.self.inside.resting.items = subst (λ s. IsSound config s c.self.inside.resting.items) as_before c.self.invariant.sound in
+    let sound : IsSound config reserved c.self.inside.resting.keys = subst (λ s. IsSound config s c.self.inside.resting.keys) as_before c.self.invariant.sound in
     let same : state_of c.serve.new.tables ≡ reserved = c.serve.ensures.state ∙ unplaced_same config node times reserved inside unplaced in
     record {
-      sound = subst (λ s. IsSound config s c.rest.new.names.items) (sym same) (record {
+      sound = subst (λ s. IsSound config s c.rest.new.names.keys) (sym same) (record {
         working = sound.working;
+        tabled = sound.tabled;
         resting = c.rest.ensures config reserved (unplaced_rests config reserved c.args.name node times found inside unplaced) sound.resting;
       });
       kept = c.serve.ensures.kept;
@@ -60,7 +59,7 @@ returns-then-rests-clause-ok c =
     let node = c.in-Ok.node in
     let event : Event = Heartbeat c.args.name in
     let found : find_node old.state.nodes c.args.name ≡ Some node = search rules in
-    let none = c.rests.ensures (search rules) old.config old.state (subst (AreResting old.config old.state) (sym c.deref.ensures.value) c.self.invariant.sound.resting) node found in
+    let none = c.rests.ensures (search rules) old.config old.state c.self.invariant.sound.resting node found in
     let same = resting_step old.config old.state c.args.name node c.in-Ok.ensures.free found none in
     let P : World → Type 0 = λ w. Answers w event w (Placed c.new-then-rests.result) in
     subst P c.self.view_is (record {
@@ -72,7 +71,7 @@ returns-then-rests-clause-ok c =
 pub invariant_of-self : goal.invariant_of-self
 invariant_of-self c =
     let tables = c.self.inside.tables in
-    let P : List Partition → Type 0 = λ rows. IsSound c.self.inside.config (record (state_of tables) { partitions = rows }) c.self.inside.resting.items in
+    let P : List Partition → Type 0 = λ rows. IsSound c.self.inside.config (record (state_of tables) { partitions = rows }) c.self.inside.resting.keys in
     record {
       sound = subst P (sym c.reserve_containers.ensures.meaning) c.self.invariant.sound;
       kept = record { numbered = c.self.invariant.kept.numbered; summed = c.reserve_containers.ensures.summed _ _ c.self.invariant.kept.summed };

@@ -1,11 +1,13 @@
-use Rattle.std.proofs.Common.{rules, sym, subst}
+use Rattle.std.proofs.Common.{[], rules, sym, subst}
 use Rattle.ynl_laws.specs.Working.{IsWorking}
+use Rattle.ynl_laws.specs.Tabled.{Tabled}
+use Rattle.ynl_laws.proofs.Totals.Tabling.{are-tabled}
 use Rattle.ynl_laws.proofs.Soundness.Working.{working-opening}
 use Rattle.ynl_core.proofs.Stepping.{none_rests}
 use Rattle.ynl_core.proofs.cluster.Core.open.Goals as goal
 
 pub invariant_of-result : goal.invariant_of-result
 invariant_of-result c = record {
-  sound = none_rests c.args.config _ _ (search rules) (subst (IsWorking c.args.config) (sym c.in_ok-tables.ensures.state) (working-opening c.args.config));
+  sound = none_rests c.args.config _ _ (search rules) (subst (IsWorking c.args.config) (sym c.in_ok-tables.ensures.state) (working-opening c.args.config)) (subst Tabled (sym c.in_ok-tables.ensures.state) (are-tabled c.args.config []));
   kept = c.in_ok-tables.ensures.kept;
 }

@@ -2,4 +2,4 @@ use Rattle.ynl_changes.proofs.Summing.{readable}
 use Rattle.ynl_core.proofs.cluster.Core.propose.Goals as goal
 
 pub propose-requires : goal.propose-requires
-propose-requires c = readable c.self.inside.config c.self.inside.tables c.self.invariant.sound.working c.self.invariant.kept
+propose-requires c = readable c.self.inside.config c.self.inside.tables c.self.invariant.sound.working c.self.invariant.sound.tabled c.self.invariant.kept

@@ -1,10 +1,8 @@
-use Rattle.std.proofs.Common.{◌≡◌, rules, subst}
+use Rattle.std.proofs.Common.{◌≡◌, rules}
 use Rattle.ynl_model.specs.declared.events.Event.{Event}
 use Rattle.ynl_model.specs.declared.events.Event.TheVariants.{Register}
 use Rattle.ynl_model.specs.Events.{step, accepted}
-use Rattle.ynl_laws.specs.Working.{IsWorking}
-use Rattle.ynl_laws.proofs.Soundness.Working.{working-step}
-use Rattle.ynl_core.proofs.Stepping.{none_rests}
+use Rattle.ynl_core.proofs.Stepping.{sound_after}
 use Rattle.ynl_tables.specs.Tables.{state_of}
 use Rattle.ynl_core.proofs.cluster.Core.register.Goals as goal
 
@@ -15,4 +13,4 @@ invariant_of-self-2 c =
     let config = c.self.inside.config in
     let event : Event = Register c.args.name c.args.label c.args.size in
     let same : (step config (state_of tables) event).state ≡ state_of c.join.new.tables = search rules in
-    record { sound = none_rests config _ _ (search rules) (subst (IsWorking config) same (working-step config (state_of tables) event c.amount-sized.ensures.range c.self.invariant.sound.working)); kept = c.join.ensures.kept c.self.invariant.kept }
+    record { sound = sound_after config (state_of tables) _ event _ _ (search rules) c.amount-sized.ensures.range same c.self.invariant.sound; kept = c.join.ensures.kept c.self.invariant.kept }

@@ -1,10 +1,8 @@
-use Rattle.std.proofs.Common.{◌≡◌, rules, subst}
+use Rattle.std.proofs.Common.{◌≡◌, rules}
 use Rattle.ynl_model.specs.declared.events.Event.{Event}
 use Rattle.ynl_model.specs.declared.events.Event.TheVariants.{Relabel}
 use Rattle.ynl_model.specs.Events.{step, accepted}
-use Rattle.ynl_laws.specs.Working.{IsWorking}
-use Rattle.ynl_laws.proofs.Soundness.Working.{working-step}
-use Rattle.ynl_core.proofs.Stepping.{none_rests}
+use Rattle.ynl_core.proofs.Stepping.{sound_after}
 use Rattle.ynl_tables.specs.Tables.{state_of}
 use Rattle.ynl_core.proofs.cluster.Core.relabel.Goals as goal
 
@@ -14,5 +12,5 @@ invariant_of-self-2 c =
     let tables = c.self.inside.tables in
     let config = c.self.inside.config in
     let event : Event = Relabel c.args.name c.args.label in
-    let same : (step config (state_of tables) event).state ≡ state_of c.join.new.tables = search rules in
-    record { sound = none_rests config _ _ (search rules) (subst (IsWorking config) same (working-step config (state_of tables) event tt c.self.invariant.sound.working)); kept = c.join.ensures.kept c.leave.ensures.kept }
+    let same : (step config (state_of tables) event).state ≡ state_of c.relabel.new.tables = search rules in
+    record { sound = sound_after config (state_of tables) _ event _ _ (search rules) tt same c.self.invariant.sound; kept = c.relabel.ensures.kept }

@@ -1,0 +1,6 @@
+use Rattle.ynl_choice.proofs.Placed.{row_placed_at}
+use Rattle.ynl_choice.proofs.choosing.add_all_masters.Goals as goal
+
+pub add_masters-requires-clause-placed : goal.add_masters-requires-clause-placed
+add_masters-requires-clause-placed c =
+    row_placed_at c.args.scene.now.tables.now c.deref-row-items.result.now c.loop-row.row-index c.row-item.result c.requires.readable.tabled c.deref-row-items.ensures.value c.loop-row-test.true c.row-item.is

@@ -1,0 +1,34 @@
+use Rattle.std.proofs.Common.{◌≡◌, true, Some, [], ◌∷◌, ◌&&◌, cond, sym, ap, subst, ◌∙◌}
+use Rattle.ynl_model.specs.Service.{Item}
+use Rattle.ynl_model.specs.Service.{item_of as request_item}
+use Rattle.ynl_tables.specs.Tables.{app_of}
+use Rattle.ynl_choice.specs.declared.standings.Candidate.{Candidate}
+use Rattle.ynl_choice.specs.Choosing.{state_in, item_of, passes, wants, Holds, considered}
+use Rattle.ynl_choice.proofs.Considering.{keyed, taken_as_wanted, behind}
+use Rattle.ynl_choice.proofs.choosing.add_request.Goals as goal
+
+pub returns-then-not-overtakes-clause-best : goal.returns-then-not-overtakes-clause-best
+returns-then-not-overtakes-clause-best c = λ h.
+    let scene = c.args.scene.now in
+    let item : Item = request_item (app_of c.args.row.now.path c.args.app.now) c.args.what.now c.args.size.now in
+    let k = keyed scene c.args.desk.now item c.args.place c.requires.desk c.requires.place in
+    record {
+      is = behind scene (item_of c.args.held.now) item _ (sym (c.overtakes.ensures scene item h k) ∙ c.if-not-overtakes.true);
+      keyed = h;
+    }
+
+pub returns-then-may_be_placed-clause-best : goal.returns-then-may_be_placed-clause-best
+returns-then-may_be_placed-clause-best c = λ h.
+    let scene = c.args.scene.now in
+    let app = app_of c.args.row.now.path c.args.app.now in
+    let item : Item = request_item app c.args.what.now c.args.size.now in
+    let is = c.request_of-request.ensures in
+    let k = keyed scene c.args.desk.now item c.args.place c.requires.desk c.requires.place in
+    let w = wants (state_in scene) app c.args.what.now in
+    let may : (w && passes scene item) ≡ true =
+    ap (λ (r : Item). wants (state_in scene) app r.what && passes scene r) (sym is) ∙ sym c.may_be_placed.ensures.passes ∙ c.if-may_be_placed.true in
+    let candidate : Item → Candidate = λ r. record { request = r; standings = c.args.desk.now.standings; place = c.args.place } in
+    subst (λ (r : Item). Holds scene (Some (candidate r)) (considered scene (item_of c.args.held.now) (cond w (item ∷ []) []))) (sym is) (record {
+      is = taken_as_wanted scene (item_of c.args.held.now) item w (sym (c.overtakes.ensures scene item h k) ∙ c.if-not-overtakes.false) may;
+      keyed = k;
+    })

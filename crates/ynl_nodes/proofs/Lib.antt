@@ -1,0 +1,4 @@
+pub mod Indexed
+pub mod Places
+pub mod Summed
+pub mod Whole

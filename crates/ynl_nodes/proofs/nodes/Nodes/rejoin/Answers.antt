@@ -1,0 +1,71 @@
+use Rattle.std.proofs.Common.{◌<◌, ◌++◌, ◌∷◌, [], cond, refl, ap, ◌∙◌, map, nat_eq, arith}
+use Rattle.std.specs.BTreeMap.{get}
+use Rattle.std.specs.Map.{remove_entry}
+use Rattle.std.proofs.lemmas.Bool.Decides.{nat_tests}
+use Rattle.ynl_resource.specs.Names.{name_order, same_label}
+use Rattle.ynl_resource.specs.Tables.{without}
+use Rattle.ynl_model.specs.Nodes.{is_full, joined, left}
+use Rattle.ynl_model.specs.declared.nodes.Node.{Node}
+use Rattle.ynl_nodes.specs.Sums.{sum_at, raised, lowered}
+use Rattle.ynl_nodes.proofs.Indexed.{rejoined_index}
+use Rattle.ynl_nodes.proofs.Summed.{label_self, small_at, fewer_left, not_full, summed_opened, summed_left, summed_joined}
+use Rattle.ynl_nodes.proofs.Whole.{pushed_nodes, spot_same, spot_left}
+use Rattle.ynl_nodes.proofs.nodes.Nodes.rejoin.Goals as goal
+
+pub raise-requires-clause-small : goal.raise-requires-clause-small
+unfolding is_full
+raise-requires-clause-small c =
+    let node = c.args.node.now in
+    let label = c.args.label.now in
+    let n = c.in-Some.spot.number in
+    let roster = c.self.inside.roster in
+    let entries = c.remove-node.new.self.entries in
+    let opened = c.open_row.new.rows.items in
+    let lowered_rows = c.lower.new.rows.items in
+    let spot = spot_same c.self.inside.numbers roster c.self.invariant.indexed c.args.self.now c.self.view_is node.name n c.in-Some.spot.node c.in-Some.ensures.found node c.requires.here in
+    let first = c.remove-node.ensures.first ∙ ap (λ es. remove_entry (nat_eq n) es) c.reserve.ensures.entries in
+    let gone = c.remove-node.ensures.entries ∙ ap (λ es. without (λ e. nat_eq n e.0) es) c.reserve.ensures.entries in
+    let few = fewer_left n node roster.entries entries spot.there first label (not_full (map (λ e. e.1) roster.entries) label (rw c.self.view_is c.requires.room)) in
+    let summed = summed_left opened lowered_rows n node node.label roster.entries entries (summed_opened c.self.inside.sums.items opened (map (λ e. e.1) roster.entries) c.self.invariant.summed c.open_row.ensures.sums) spot.there (label_self node.label) first gone
+    (λ p. c.lower.ensures.sums p ∙ (λ i. cond (same_label node.label p) (lowered (c.amount-size.ensures.value i) (sum_at opened p)) (sum_at opened p))) in
+    small_at lowered_rows (map (λ e. e.1) entries) label node.size summed c.amount-size.ensures.range few c.amount-size.result c.amount-size.ensures.value
+
+pub invariant_of-self-in-Ok : goal.invariant_of-self-in-Ok
+unfolding is_full
+invariant_of-self-in-Ok c =
+    let node = c.args.node.now in
+    let label = c.args.label.now in
+    let n = c.in-Some.spot.number in
+    let roster = c.self.inside.roster in
+    let entries = c.remove-node.new.self.entries in
+    let opened = c.open_row.new.rows.items in
+    let lowered_rows = c.lower.new.rows.items in
+    let spot = spot_same c.self.inside.numbers roster c.self.invariant.indexed c.args.self.now c.self.view_is node.name n c.in-Some.spot.node c.in-Some.ensures.found node c.requires.here in
+    let first = c.remove-node.ensures.first ∙ ap (λ es. remove_entry (nat_eq n) es) c.reserve.ensures.entries in
+    let gone = c.remove-node.ensures.entries ∙ ap (λ es. without (λ e. nat_eq n e.0) es) c.reserve.ensures.entries in
+    let few = fewer_left n node roster.entries entries spot.there first label (not_full (map (λ e. e.1) roster.entries) label (rw c.self.view_is c.requires.room)) in
+    let summed = summed_left opened lowered_rows n node node.label roster.entries entries (summed_opened c.self.inside.sums.items opened (map (λ e. e.1) roster.entries) c.self.invariant.summed c.open_row.ensures.sums) spot.there (label_self node.label) first gone
+    (λ p. c.lower.ensures.sums p ∙ (λ i. cond (same_label node.label p) (lowered (c.amount-size.ensures.value i) (sum_at opened p)) (sum_at opened p))) in
+    let number = c.in-Some-checked_add.number in
+    let next : Node = record { name = node.name; label = label; size = node.size; stamp = c.args.stamp } in
+    let pushed = c.push_reserved.ensures.entries in
+    let high : roster.top < number = grind (arith, nat_tests, c.in-Some-checked_add.ensures, c.top.ensures.value) in
+    record {
+      indexed = rejoined_index (λ q. get name_order c.self.inside.numbers q) (λ q. get name_order c.insert.new.self q) node.name n number spot.leads c.in-Ok.ensures.updates.0 roster.entries c.push_reserved.new.self.entries next roster.top c.push_reserved.new.self.top c.self.invariant.indexed refl c.top.ensures.above high
+          (pushed ∙ ap (λ es. es ++ (number, next) ∷ []) gone) c.push_reserved.ensures.top;
+      summed = summed_joined lowered_rows c.raise.new.rows.items (map (λ e. e.1) entries) (map (λ e. e.1) c.push_reserved.new.self.entries) next summed c.amount-size.ensures.range few
+          (pushed_nodes entries c.push_reserved.new.self.entries number next (map (λ e. e.1) entries) pushed refl)
+          (λ p. c.raise.ensures p ∙ (λ i. cond (same_label label p) (raised (c.amount-size.ensures.value i) (sum_at lowered_rows p)) (sum_at lowered_rows p)));
+    }
+
+pub returns-in-Ok-clause-ok : goal.returns-in-Ok-clause-ok
+unfolding left joined
+returns-in-Ok-clause-ok c =
+    let node = c.args.node.now in
+    let n = c.in-Some.spot.number in
+    let roster = c.self.inside.roster in
+    let next : Node = record { name = node.name; label = c.args.label.now; size = node.size; stamp = c.args.stamp } in
+    let spot = spot_same c.self.inside.numbers roster c.self.invariant.indexed c.args.self.now c.self.view_is node.name n c.in-Some.spot.node c.in-Some.ensures.found node c.requires.here in
+    let gone = c.remove-node.ensures.entries ∙ ap (λ es. without (λ e. nat_eq n e.0) es) c.reserve.ensures.entries in
+    pushed_nodes c.remove-node.new.self.entries c.push_reserved.new.self.entries c.in-Some-checked_add.number next (left node c.args.self.now) c.push_reserved.ensures.entries
+    (spot_left c.self.inside.numbers roster c.self.invariant.indexed c.args.self.now c.self.view_is node.name n node spot node.label (label_self node.label) c.remove-node.new.self.entries gone)

@@ -1,0 +1,8 @@
+//! The nodes of a cluster in the order of joining: found by name, and summed by label.
+#![tactic(auto)]
+
+pub use nodes::Nodes;
+
+mod nodes;
+mod spots;
+mod sums;
