@@ -1,11 +1,13 @@
-//! The program `ynl`: it reads events from standard input, and writes the reply to each to standard
-//! output.
+//! The program `ynl`: it reads events or a journal from standard input, and writes what comes of them to
+//! standard output.
 #![tactic(auto)]
 
 use std::alloc::AllocError;
 use std::fs::File;
 use std::io::BufReader;
 use std::process::ExitCode;
+use std::sync::Wait;
+use std::thread::Threads;
 use std::{env, io};
 use ynl_tool::{
     BUILT_IN, Job, ToolFault, WordsFault, execute, fault_of, parse_words, read_text, tell,
@@ -25,7 +27,7 @@ fn main(rt: HostRuntime) -> ExitCode {
         return out_of_memory(&rt);
     };
     match parse_words(rt.alloc(), words.as_slice()) {
-        Ok(job) => work(&rt, &job),
+        Ok(job) => work(&rt, &rt, &job),
         Err(WordsFault::Words(error)) => {
             let _told = eprint!(rt; "{error}");
             ExitCode::from(2)
@@ -53,7 +55,8 @@ fn read_configuration(
     }
 }
 
-fn work(rt: &HostRuntime, job: &Job<'_>) -> ExitCode {
+/// Does the job. Below `main` the runtime has threads only as a handle of its own, so it comes twice.
+fn work<T: Threads + Wait + Sync>(rt: &HostRuntime, threads: &T, job: &Job<'_>) -> ExitCode {
     let mut errors = rt.stderr();
     let mut text = Vec::new(rt.alloc());
     if let Err(fault) = read_configuration(rt, job.config, &mut text) {
@@ -64,6 +67,7 @@ fn work(rt: &HostRuntime, job: &Job<'_>) -> ExitCode {
     };
     let mut writer = io::writer(rt);
     let status = execute(
+        threads,
         rt.alloc(),
         job.kind,
         &text,

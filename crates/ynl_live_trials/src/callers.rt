@@ -1,6 +1,6 @@
 //! Callers in four threads, and for what causes their journal is not closed.
 
-use crate::events::{called, closed_len, opened, poll, register, submit};
+use crate::events::{called, closed_len, opened, poll, register, register_node, submit};
 use std::alloc::Global;
 use std::process::Abort;
 use std::sync::Wait;
@@ -146,6 +146,84 @@ fn closes_with_all_seats_and_receipts(rt: HostRuntime) -> Result<(), Fail> {
     lists.push(list)?;
     let len = closed_len(alloc, live, seats, lists.as_slice());
     assert_eq!(rt; len, Some(400));
+    Ok(())
+}
+
+/// Two seats in turn, each with two receipts: the first seat's places are 0 and 2.
+fn two_in_turn<R: Wait>(rt: &R, alloc: Global) -> Result<Called, Fail> {
+    let (live, mut one) = opened(alloc)?;
+    let mut two = one.split();
+    let (mut ones, mut twos) = (Vec::new(alloc), Vec::new(alloc));
+    for (mine, theirs) in [("g1", "g2"), ("g3", "g4")] {
+        let event = register_node(mine).ok_or("no event")?;
+        called(rt, &live, &mut one, &mut ones, event).ok_or("not called")?;
+        let event = register_node(theirs).ok_or("no event")?;
+        called(rt, &live, &mut two, &mut twos, event).ok_or("not called")?;
+    }
+    let seats = vec![in alloc; one, two]?;
+    let lists = vec![in alloc; ones, twos]?;
+    Ok(Called { live, seats, lists })
+}
+
+/// For what cause the journal was not closed, and all that was handed in.
+fn refused(alloc: Global, called: Called) -> Result<(Cause, Called), Fail> {
+    let Called { live, seats, lists } = called;
+    let back = unclosed(alloc, live, seats, lists.as_slice());
+    let (cause, live, seats) = back.ok_or("closed")?;
+    Ok((cause, Called { live, seats, lists }))
+}
+
+fn is_closed_with_four(alloc: Global, called: Called) -> bool {
+    let Called { live, seats, lists } = called;
+    closed_len(alloc, live, seats, lists.as_slice()) == Some(4)
+}
+
+/// Has the first receipt of the second list tell that this node was registered at this place.
+fn retell(called: &mut Called, place: u64, node: &str) -> Option<()> {
+    let event = register_node(node)?;
+    let receipt = called.lists.get_mut(1)?.get_mut(0)?;
+    receipt.place = place;
+    receipt.event = event;
+    Some(())
+}
+
+#[test]
+fn closes_where_receipts_are_in_order(rt: HostRuntime) -> Result<(), Fail> {
+    let alloc = rt.alloc();
+    let mut called = two_in_turn(&rt, alloc)?;
+    called.lists.get_mut(0).ok_or("no list")?.reverse();
+    let (cause, mut called) = refused(alloc, called)?;
+    assert_eq!(rt; cause, Cause::Mismatch(0));
+    called.lists.get_mut(0).ok_or("no list")?.reverse();
+    assert!(rt; is_closed_with_four(alloc, called));
+    Ok(())
+}
+
+#[test]
+fn closes_where_no_receipt_is_missing(rt: HostRuntime) -> Result<(), Fail> {
+    let alloc = rt.alloc();
+    let mut called = two_in_turn(&rt, alloc)?;
+    let last = called.lists.get_mut(0).ok_or("no list")?.pop();
+    let (cause, mut called) = refused(alloc, called)?;
+    assert_eq!(rt; cause, Cause::ReceiptsMissing);
+    let list = called.lists.get_mut(0).ok_or("no list")?;
+    list.push(last.ok_or("no receipt")?)?;
+    assert!(rt; is_closed_with_four(alloc, called));
+    Ok(())
+}
+
+#[test]
+fn closes_where_each_place_is_told_once(rt: HostRuntime) -> Result<(), Fail> {
+    let alloc = rt.alloc();
+    let mut called = two_in_turn(&rt, alloc)?;
+    retell(&mut called, 0, "g1").ok_or("no receipt")?;
+    let (cause, mut called) = refused(alloc, called)?;
+    assert_eq!(rt; cause, Cause::Mismatch(0));
+    retell(&mut called, 400, "g2").ok_or("no receipt")?;
+    let (cause, mut called) = refused(alloc, called)?;
+    assert_eq!(rt; cause, Cause::Mismatch(400));
+    retell(&mut called, 1, "g2").ok_or("no receipt")?;
+    assert!(rt; is_closed_with_four(alloc, called));
     Ok(())
 }
 

@@ -8,8 +8,12 @@ use ynl_model::Event;
 use ynl_resource::{Label, Name, Path, Size};
 
 pub(crate) fn register() -> Option<Event> {
+    register_node("g1")
+}
+
+pub(crate) fn register_node(node: &str) -> Option<Event> {
     Some(Event::Register {
-        node: Name::parse("g1").ok()?,
+        node: Name::parse(node).ok()?,
         label: Label::parse("gpu").ok()?,
         size: Size::new(10000, 10)?,
     })

@@ -1,5 +1,5 @@
-//! Tests of what threads do: callers whose journal is closed, and workers of a round. The crates themselves
-//! have none, since a crate with tests is proved twice.
+//! Tests of what threads do: callers whose journal is closed, workers of a round, and sessions. The crates
+//! themselves have none, since a crate with tests is proved twice.
 #![tactic(auto)]
 
 #[cfg(test)]
@@ -8,5 +8,7 @@ mod callers;
 mod events;
 #[cfg(test)]
 mod refusals;
+#[cfg(test)]
+mod sessions;
 #[cfg(test)]
 mod workers;

@@ -92,13 +92,13 @@ impl Gate for HaltsAt {
 
 /// A node, and an application with its master, that asks for two containers; with its seat and receipts.
 #[derive(Drop)]
-struct Started {
-    live: Live,
-    seat: Seat,
-    receipts: Vec<Receipt>,
+pub(crate) struct Started {
+    pub(crate) live: Live,
+    pub(crate) seat: Seat,
+    pub(crate) receipts: Vec<Receipt>,
 }
 
-fn script() -> Option<[Event; 4]> {
+pub(crate) fn script() -> Option<[Event; 4]> {
     let node = Name::parse("g1").ok()?;
     Some([
         register()?,
@@ -108,7 +108,7 @@ fn script() -> Option<[Event; 4]> {
     ])
 }
 
-fn play_script<R: Wait>(rt: &R, alloc: Global) -> Result<Started, Fail> {
+pub(crate) fn play_script<R: Wait>(rt: &R, alloc: Global) -> Result<Started, Fail> {
     let (live, mut seat) = opened(alloc)?;
     let mut receipts = Vec::new(alloc);
     for event in script().ok_or("no script")? {
@@ -144,7 +144,7 @@ fn is_committed(worker: &WorkerEnd) -> bool {
 }
 
 /// The seats and the lists of all callers, the script's first.
-fn gathered(
+pub(crate) fn gathered(
     alloc: Global,
     seat: Seat,
     receipts: Vec<Receipt>,
@@ -223,6 +223,25 @@ fn worker_is_halted_before_the_commit(rt: HostRuntime) -> Result<(), Fail> {
     assert_eq!(rt; second.as_slice(), [(End::Halted, 3)].as_slice());
     let third = halted_at(&rt, alloc, 2)?;
     assert_eq!(rt; third.as_slice(), [(End::Whole, 5)].as_slice());
+    Ok(())
+}
+
+#[test]
+fn a_halted_workers_journal_is_closed(rt: HostRuntime) -> Result<(), Fail> {
+    let alloc = rt.alloc();
+    let Started {
+        live,
+        seat,
+        receipts,
+    } = play_script(&rt, alloc)?;
+    let seats = vec![in alloc; seat.split()]?;
+    let lists = [turns(alloc, 2)?];
+    let ends = run_round(&rt, alloc, &live, seats, &lists, &HaltsAt(0))
+        .ok()
+        .ok_or("not run")?;
+    let (seats, lists) = gathered(alloc, seat, receipts, ends)?;
+    let len = closed_len(alloc, live, seats, lists.as_slice());
+    assert_eq!(rt; len, Some(5));
     Ok(())
 }
 

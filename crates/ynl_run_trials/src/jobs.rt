@@ -4,11 +4,14 @@ use std::alloc::Global;
 use std::io;
 use std::io::{BufReader, Read, Write};
 use std::process::Abort;
+use std::sync::Wait;
 use std::test::Fail;
+use std::thread::Threads;
 use ynl_config::built_in;
 use ynl_resource::{Label, Name};
-use ynl_tool::{Summary, ToolFault, audit_lines, run_lines, tenant_lines};
+use ynl_tool::{Summary, ToolFault, audit_lines, live_lines, run_lines, tenant_lines};
 use ynl_view::sole;
+use ynl_workers::{Gate, Go};
 
 const REGISTER: &[u8] =
     b"{\"event\":\"register\",\"label\":\"gpu\",\"memory\":10000,\"node\":\"g1\",\"vcores\":10}\n{\"event\":\"";
@@ -282,5 +285,82 @@ fn audits_at_the_second_try(rt: HostRuntime) -> Result<(), Fail> {
         assert!(rt; ended.is_ok());
     }
     assert!(rt; out.as_slice() == PASSED);
+    Ok(())
+}
+
+/// Lets each worker go on.
+struct Free;
+
+impl Gate for Free {
+    ghost use Rattle.std.specs.Prelude.{⊤};
+
+    ghost is_free = { λ _. ⊤ };
+
+    fn before_commit(&self, _worker: u64, _turn: u64) -> Go {
+        Go::On
+    }
+
+    fn after_commit(&self, _worker: u64, _turn: u64) {}
+}
+
+/// Has one worker go over the nodes of a script, once.
+fn live_once<T: Threads + Wait + Sync, R: std::io::BufRead, W: Write>(
+    rt: &T,
+    alloc: Global,
+    reader: &mut R,
+    writer: &mut W,
+) -> Result<Result<Summary, ToolFault>, Fail> {
+    let config = built_in(alloc)?;
+    Ok(live_lines(rt, alloc, config, 1, 1, &Free, reader, writer))
+}
+
+const LIVED: &[u8] =
+    b"{\"event\":{\"event\":\"register\",\"label\":\"gpu\",\"memory\":1,\"node\":\"g1\",\"vcores\":1},\"place\":0,\"reply\":{\"reply\":\"done\"}}\n{\"event\":{\"event\":\"propose\",\"node\":\"g1\"},\"place\":1,\"reply\":{\"reply\":\"nothing\"}}\n";
+
+const NODE: &[u8] =
+    b"{\"event\":\"register\",\"label\":\"gpu\",\"memory\":1,\"node\":\"g1\",\"vcores\":1}\n";
+
+#[test]
+fn tells_nothing_of_a_session_after_a_read_fault(rt: HostRuntime) -> Result<(), Fail> {
+    let alloc = rt.alloc();
+    let mut cut = BufReader::with_capacity(alloc, 7, Cut { left: NODE })?;
+    let mut out = Vec::new(alloc);
+    let ended = live_once(&rt, alloc, &mut cut, &mut out)?;
+    assert!(rt; ended == Err(ToolFault::Read));
+    assert!(rt; out.is_empty());
+    Ok(())
+}
+
+#[test]
+fn tells_a_front_of_a_session(rt: HostRuntime) -> Result<(), Fail> {
+    let alloc = rt.alloc();
+    let mut writer = Narrow {
+        taken: Vec::new(alloc),
+        room: 120,
+        fails: true,
+    };
+    let mut reader = NODE;
+    let ended = live_once(&rt, alloc, &mut reader, &mut writer)?;
+    assert!(rt; ended == Err(ToolFault::Write));
+    assert!(rt; writer.taken.as_slice() == &LIVED[..120]);
+    Ok(())
+}
+
+// Run with each allocation failing in turn, as the test of replies is. Whole lines may be there.
+#[test]
+fn lives_at_the_second_try(rt: HostRuntime) -> Result<(), Fail> {
+    let alloc = rt.alloc();
+    let mut first = NODE;
+    let mut out = Vec::with_capacity(alloc, 512)?;
+    let tried = live_once(&rt, alloc, &mut first, &mut out)?;
+    if tried == Err(ToolFault::NoMemory) {
+        println!(rt; "refused")?;
+        assert!(rt; LIVED.starts_with(&out));
+        out.clear();
+        let mut second = NODE;
+        let ended = live_once(&rt, alloc, &mut second, &mut out)?;
+        assert!(rt; ended.is_ok());
+    }
+    assert!(rt; out.as_slice() == LIVED);
     Ok(())
 }

@@ -13,12 +13,15 @@ use Rattle.ynl_model.specs.declared.events.Event.{Event}
 use Rattle.ynl_model.specs.declared.entries.Entry.{Entry}
 use Rattle.ynl_model.specs.Queues.{Config}
 use Rattle.ynl_model.specs.Events.{IsHistory}
+use Rattle.ynl_model.specs.View.{track, is_there}
+use Rattle.ynl_model.specs.declared.nodes.Tracked.{Tracked}
 use Rattle.ynl_journal.specs.Journal.{events_in}
 use Rattle.ynl_live.specs.declared.receipts.Receipt.{Receipt}
 use Rattle.ynl_live.specs.Receipts.{all_receipts, EachOnce, IsAt, ListFits, entry_of}
 use Rattle.ynl_live.specs.Alone.{ShowTenantsAlone}
 use Rattle.ynl_live.proofs.Sums.{count_alike}
-use Rattle.ynl_session.specs.Dealt.{AreDealt}
+use Rattle.ynl_laws.proofs.Soundness.Once.{is_tracked_once}
+use Rattle.ynl_session.specs.Dealt.{times_in, AreDealt}
 use Rattle.ynl_session.specs.Handed.{is_workers, asks, AddsRounds}
 use Rattle.ynl_session.specs.Scripted.{AreCalls}
 use Rattle.ynl_session.specs.Sessions.{nodes_after, IsSession}
@@ -56,6 +59,14 @@ all_from_none p (x ∷ xs) none =
 empty_from_none : {X : Type 0} (xs : List X) → sum_by (λ x. 1) xs ≡ 0 → xs ≡ []
 empty_from_none [] none = refl
 empty_from_none (x ∷ xs) none = absurd (omega (arith, none, sum_by-cons (λ y. 1) x xs))
+
+-- ---- nodes
+
+-- so many rounds over the nodes that a script leaves
+rounds_over : (c : Config) (events : List Event) (rounds : ℕ) (node : Name) → rounds * times_in node (nodes_after c events) ≡ cond (is_there (track c events) node) rounds 0
+rounds_over c events rounds node =
+    ap (λ n. rounds * n) (sum_by_mapped (λ other. cond (same_name other node) 1 0) (λ (found : Tracked). found.name) (track c events) ∙ is_tracked_once c events node)
+    ∙ elim (is_there (track c events) node) as (λ b. rounds * cond b 1 0 ≡ cond b rounds 0) [ true ↦ omega arith | false ↦ omega arith ]
 
 -- ---- receipts
 
@@ -111,6 +122,6 @@ session free c events rounds entries nodes dealt first lists calls adds are_deal
           ap events_in (empty_from_none after count);
       asked = λ is node.
           sum_by_mapped (λ e. cond (asks node e) 1 0) (λ (e : Entry). e.event) after ∙ alike (λ e. cond (asks node e.event) 1 0) ∙ adds.asked is node
-          ∙ ap (λ n. rounds * n) (are_dealt node ∙ sum_by-IsPermutation (λ (other : Name). cond (same_name other node) 1 0) (nodes_after c events) nodes sorted);
+          ∙ ap (λ n. rounds * n) (are_dealt node ∙ sum_by-IsPermutation (λ (other : Name). cond (same_name other node) 1 0) (nodes_after c events) nodes sorted) ∙ rounds_over c events rounds node;
       alone = alone;
     }

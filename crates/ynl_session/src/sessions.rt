@@ -2,6 +2,7 @@
 
 ghost use Rattle.std.specs.Prelude.{◌≡◌, ◌<◌, IfOk};
 ghost use Rattle.std.specs.List.Sorted.{IsPermutation};
+ghost use Rattle.ynl_session.specs.Faults.{fault_of_cause};
 ghost use Rattle.ynl_session.specs.Sessions.{nodes_after, IsSession};
 
 use crate::dealing::deal;
@@ -31,18 +32,33 @@ pub enum SessionFault {
 }
 
 impl From<AllocError> for SessionFault {
+    ghost use Rattle.std.specs.Prelude.{◌≡◌};
+    ghost use Rattle.ynl_session.specs.declared.sessions.SessionFault.TheVariants.{NoMemory};
+
+    ghost from_gives = { λ _ fault. fault ≡ NoMemory };
+
     fn from(_error: AllocError) -> SessionFault {
         SessionFault::NoMemory
     }
 }
 
 impl From<NoMemory> for SessionFault {
+    ghost use Rattle.std.specs.Prelude.{◌≡◌};
+    ghost use Rattle.ynl_session.specs.declared.sessions.SessionFault.TheVariants.{NoMemory};
+
+    ghost from_gives = { λ _ fault. fault ≡ NoMemory };
+
     fn from(_error: NoMemory) -> SessionFault {
         SessionFault::NoMemory
     }
 }
 
 impl From<CallFault> for SessionFault {
+    ghost use Rattle.std.specs.Prelude.{◌≡◌};
+    ghost use Rattle.ynl_session.specs.Faults.{fault_of_call};
+
+    ghost from_gives = { λ call fault. fault ≡ fault_of_call call };
+
     fn from(error: CallFault) -> SessionFault {
         match error {
             CallFault::NoMemory => SessionFault::NoMemory,
@@ -51,7 +67,10 @@ impl From<CallFault> for SessionFault {
     }
 }
 
-fn fault_of(cause: Cause) -> SessionFault {
+/// A want of memory is told as such, and each other cause as receipts that do not fit.
+fn fault_of(cause: Cause) -> SessionFault
+    ensures { result ≡ fault_of_cause cause }
+{
     match cause {
         Cause::NoMemory => SessionFault::NoMemory,
         _ => SessionFault::Unclosed,

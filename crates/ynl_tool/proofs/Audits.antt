@@ -15,14 +15,14 @@ use Rattle.ynl_tool.specs.declared.audit.Audit.{Audit}
 use Rattle.ynl_tool.specs.declared.audit.Found.{Found}
 use Rattle.ynl_tool.specs.declared.lines_in.Lines.{Lines}
 use Rattle.ynl_tool.specs.declared.run.ToolFault.{ToolFault}
-use Rattle.ynl_tool.specs.declared.run.ToolFault.TheVariants.{Read, Write, NoMemory}
+use Rattle.ynl_tool.specs.declared.run.ToolFault.TheVariants.{Read, Write, NoMemory, Unclosed}
 use Rattle.ynl_tool.specs.declared.run.Summary.{Summary}
 use Rattle.ynl_tool.specs.Input.{Stream, between, limit, TakesLine}
 use Rattle.ynl_tool.specs.Readings.{Reading, ReadsTo, ReadsSome}
 use Rattle.ynl_tool.specs.Running.{Writes}
 use Rattle.ynl_tool.specs.Audit.{entry_said, reply_after, audited_with, audit_way, audited, answer_of, audit_answer}
 use Rattle.ynl_tool.specs.Auditing.{IsAuditOf, fits_next, TakesEntry, Passes, Finds, IsAnswerTo, AuditsWhole, AuditsJournal}
-use Rattle.ynl_tool.proofs.Readings.{ReadSoFar, at_first, took}
+use Rattle.ynl_tool.proofs.Readings.{OfReading, ReadSoFar, at_first, took}
 use Rattle.ynl_tool.proofs.Runs.{of_some}
 
 -- ---- an entry after another
@@ -94,10 +94,11 @@ line_passed c a b d l l' old new so t few h = record {
 pub found : (reader : Stream) (c : Config) (r : Reading (List Entry) JournalFault) (f : Found) → ReadsTo (audit_way c) reader r → f.entries ≡ length r.made → f.lines ≡ r.lines → f.fault ≡ r.fault → Finds reader c (Ok f)
 found reader c r f read entries lines fault = record { journal = r; read = read; entries = entries; lines = lines; fault = fault }
 
-pub failed : (reader : Stream) (c : Config) (e : ToolFault) → e ≢ Write → ReadsSome (audit_way c) reader e → Finds reader c (Err e)
+pub failed : (reader : Stream) (c : Config) (e : ToolFault) → OfReading e → ReadsSome (audit_way c) reader e → Finds reader c (Err e)
 failed reader c Read other some = some
 failed reader c NoMemory other some = some
-failed reader c Write other some = absurd (other refl)
+failed reader c Write other some = absurd other
+failed reader c Unclosed other some = absurd other
 
 -- ---- what was told
 
@@ -106,6 +107,7 @@ pub untold : (reader : Stream) (w : Option (List ℕ)) (c : Config) (e : ToolFau
 untold reader w c Read some = record { read = some; unwritten = Appends-nil w }
 untold reader w c NoMemory some = inl (record { read = some; unwritten = Appends-nil w })
 untold reader w c Write some = absurd some
+untold reader w c Unclosed some = absurd some
 
 told_by : (reader : Stream) (w v : Option (List ℕ)) (c : Config) (r : Reading (List Entry) JournalFault) (o : Result Summary ToolFault) → ReadsTo (audit_way c) reader r → Writes w v (audit_answer r) o → IfErr o (λ e. e ≢ Read)
     → AuditsJournal reader (between w v) c o
@@ -126,6 +128,7 @@ told_by reader w v c r (Ok summary) read wrote other = record {
 told_by reader w v c r (Err Read) read wrote other = absurd (other refl)
 told_by reader w v c r (Err NoMemory) read wrote other = inr (record { journal = r; read = read; written = wrote })
 told_by reader w v c r (Err Write) read wrote other = record { journal = r; read = read; written = wrote }
+told_by reader w v c r (Err Unclosed) read wrote other = absurd wrote
 
 -- what was found is told
 pub told : (reader : Stream) (w v : Option (List ℕ)) (c : Config) (f : Found) (o : Result Summary ToolFault) → Finds reader c (Ok f) → Writes w v (answer_of f.entries f.lines f.fault) o → IfErr o (λ e. e ≢ Read) → AuditsJournal reader (between w v) c o

@@ -1,8 +1,12 @@
 -- Which words the command takes, and what they ask for.
-use Rattle.std.proofs.Common.{◌≡◌, ◌≢◌, ◌⊎◌, inl, inr, subst, ◌&&◌, ◌∙◌, true, cond, List, [], ◌∷◌, Option, Some, None, codes, drop, refl, sym, ap, option_map, option_and_then}
+use Rattle.std.proofs.Common.{ℕ, ◌<◌, ◌^◌, Bool, false, length, Result, Ok, Err, arith, ◌≡◌, ◌≢◌, ◌⊎◌, inl, inr, subst, ◌&&◌, ◌∙◌, true, cond, List, [], ◌∷◌, Option, Some, None, codes, drop, refl, sym, ap, option_map, option_and_then}
 use Rattle.std.specs.Prelude.{Box}
 use Rattle.std.specs.Box.{box_value}
-use Rattle.std.specs.Str.{bytes_eq}
+use Rattle.std.specs.Str.{bytes_eq, all_ascii_digits}
+use Rattle.std.specs.Str.Parse.{digits_value, IsNumeral}
+use Rattle.std.specs.Result.{OkIff, result_ok}
+use Rattle.std.proofs.lemmas.Bool.Decides.{nat_tests}
+use Rattle.std.proofs.lemmas.Str.Parse.{IsNumeralModel, numerals_by_value, tells_all_ascii_digits}
 use Rattle.clap.specs.Walk.{Text, Row, nothing_held, first_of, rows_of, stop_after}
 use Rattle.clap.specs.Simple.{built, entered, is_simple, names_of, subcommand_rows}
 use Rattle.clap.specs.Takes.{takes, built_takes}
@@ -22,7 +26,7 @@ use Rattle.ynl_resource.specs.declared.labels.Label.{Label}
 use Rattle.ynl_tool.specs.declared.words.Kind.TheVariants.{Run, Audit}
 use Rattle.ynl_tool.specs.declared.words.WordsFault.{WordsFault}
 use Rattle.ynl_tool.specs.declared.words.WordsFault.TheVariants.{Words, NoMemory}
-use Rattle.ynl_tool.specs.Words.{command, name_in, label_in, tenant_by, kind_met, kind_of}
+use Rattle.ynl_tool.specs.Words.{command, name_in, label_in, tenant_by, workers_in, rounds_in, live_by, live_met, is_number, number_of, kind_met, kind_of}
 
 pub taken : (words : List Text) → drop 1 words ≡ codes "run" ∷ [] → takes command words ≡ true
 unfolding clap_on_literals
@@ -65,7 +69,7 @@ label_read found p e = e ∙ ap (option_and_then label_in) (first_value-rows fou
 
 tenant_met : (name : Text) (rows : List Row) → bytes_eq name (codes "tenant") ≡ true
     → kind_met (name, rows) ≡ tenant_by (option_and_then name_in (first_of (codes "tenant") rows)) (option_and_then label_in (first_of (codes "label") rows))
-tenant_met name rows e = ap (λ b. cond b (tenant_by (option_and_then name_in (first_of (codes "tenant") rows)) (option_and_then label_in (first_of (codes "label") rows))) (cond (bytes_eq name (codes "audit")) (Some Audit) (Some Run))) e
+tenant_met name rows e = ap (λ b. cond b (tenant_by (option_and_then name_in (first_of (codes "tenant") rows)) (option_and_then label_in (first_of (codes "label") rows))) (cond (bytes_eq name (codes "audit")) (Some Audit) (cond (bytes_eq name (codes "live")) (live_met rows) (Some Run)))) e
 
 pub kind_named : (name : Text) (found : Found) (t : Option Name) (p : Option Label) → bytes_eq name (codes "tenant") ≡ true → t ≡ option_and_then name_in (first_value found (codes "tenant"))
     → p ≡ option_and_then label_in (first_value found (codes "label")) → tenant_by t p ≡ kind_met (name, rows_of found)
@@ -76,6 +80,39 @@ kind_named name found t p same named labelled =
 pub kind_unnamed : (name : Text) (found : Found) → bytes_eq name (codes "tenant") ≡ true → None ≡ option_and_then name_in (first_value found (codes "tenant")) → None ≡ kind_met (name, rows_of found)
 kind_unnamed name found same named =
     ap (λ o. tenant_by o (option_and_then label_in (first_of (codes "label") (rows_of found)))) (name_read found None named) ∙ sym (tenant_met name (rows_of found) same)
+
+-- what `live` asks for, by what its options give
+pub live_read : (found : Found) (w r : Option ℕ) → w ≡ option_and_then workers_in (first_value found (codes "workers")) → r ≡ option_and_then rounds_in (first_value found (codes "rounds"))
+    → live_by w r ≡ live_met (rows_of found)
+live_read found w r worked rounded =
+    ap (λ o. live_by o r) (worked ∙ ap (option_and_then workers_in) (first_value-rows found (codes "workers")))
+    ∙ ap (live_by (option_and_then workers_in (first_of (codes "workers") (rows_of found)))) (rounded ∙ ap (option_and_then rounds_in) (first_value-rows found (codes "rounds")))
+
+-- without workers it asks for nothing, whatever the rounds
+pub live_unread : (found : Found) → None ≡ option_and_then workers_in (first_value found (codes "workers")) → None ≡ live_met (rows_of found)
+live_unread found worked = live_read found None (option_and_then rounds_in (first_value found (codes "rounds"))) worked refl
+
+-- ---- numbers
+
+-- digits by their test
+own : IsNumeralModel (λ ds. all_ascii_digits ds ≡ true) (digits_value 10)
+own = numerals_by_value _ tells_all_ascii_digits
+
+-- what `parse` reads is the number that the digits are
+pub number_told : {E : Type 0} (ds : List ℕ) (r : Result ℕ E) → OkIff r (IsNumeral 10 ds × (digits_value 10 ds < 2 ^ 64)) (digits_value 10 ds) → result_ok r ≡ number_of ds
+number_told ds (Ok n) h =
+    let digits = own.from ds h.0.0.1 in
+    let some = h.0.0.0 in
+    let fits = h.0.1 in
+    let test : is_number ds ≡ true = grind (arith, nat_tests) in
+    ap Some h.1 ∙ sym (ap (λ b. cond b (Some (digits_value 10 ds)) None) test)
+number_told ds (Err e) h = refused (is_number ds) refl
+  where
+    refused : (b : Bool) → is_number ds ≡ b → None ≡ cond b (Some (digits_value 10 ds)) None
+    refused true test =
+        let parts : (0 < length ds) × (all_ascii_digits ds ≡ true) × (digits_value 10 ds < 2 ^ 64) = grind (arith, nat_tests) in
+        absurd (h ((parts.0, own.to ds parts.1), parts.2))
+    refused false test = refl
 
 -- `run` alone asks for a run
 pub asks_run : (words : List Text) → drop 1 words ≡ codes "run" ∷ [] → kind_of words ≡ Some Run

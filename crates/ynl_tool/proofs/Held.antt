@@ -13,7 +13,7 @@ use Rattle.ynl_tool.specs.declared.lines_in.Next.TheVariants as next
 use Rattle.ynl_tool.specs.declared.lines_in.ReadFault.{ReadFault}
 use Rattle.ynl_tool.specs.declared.lines_in.ReadFault.TheVariants as reading
 use Rattle.ynl_tool.specs.declared.run.ToolFault.{ToolFault}
-use Rattle.ynl_tool.specs.declared.run.ToolFault.TheVariants.{Read, Write, NoMemory}
+use Rattle.ynl_tool.specs.declared.run.ToolFault.TheVariants.{Read, Write, NoMemory, Unclosed}
 use Rattle.ynl_tool.specs.Input.{Stream, between, limit, MetEnd, ReadsLines, IsComplete, lines_left, TakesLine, BreaksOff, Takes, KeepsPlace}
 use Rattle.ynl_tool.specs.Lines.{tool_fault, AppendsFront, AppendsPart}
 use Rattle.ynl_tool.specs.Readings.{reading_of}
@@ -102,8 +102,9 @@ module _ (a b d w v u : Option (List ℕ)) (c : Config) (s : State) (l l' : Line
   -- the run did not go on
   pub going_stops : (kept : List ℕ) (e : ToolFault) → GoesOn (between b d) (between v u) l l' held kept (Err e) → Stops (between a d) (between w u) c s e
   going_stops kept Write h = stops_waiting h.0 h.1
-  going_stops kept Read h = reading_stops a b d w u u c s l l' core (released h.1) Read (λ e. cc) h.0 (Appends-nil u)
-  going_stops kept NoMemory h = reading_stops a b d w u u c s l l' core (released h.1) NoMemory (λ e. cc) h.0 (Appends-nil u)
+  going_stops kept Read h = reading_stops a b d w u u c s l l' core (released h.1) Read tt h.0 (Appends-nil u)
+  going_stops kept NoMemory h = reading_stops a b d w u u c s l l' core (released h.1) NoMemory tt h.0 (Appends-nil u)
+  going_stops kept Unclosed h = absurd h
 
   module _ (t : TakesLine (between b d) l l') where
     -- once a line was read that is not answered

@@ -9,7 +9,7 @@ use Rattle.ynl_model.specs.View.{is_sole}
 use Rattle.ynl_config.specs.declared.faults.ConfigFault.{ConfigFault}
 use Rattle.ynl_tool.specs.declared.run.ToolFault.TheVariants.{NoMemory}
 use Rattle.ynl_tool.specs.declared.words.Kind.{Kind}
-use Rattle.ynl_tool.specs.declared.words.Kind.TheVariants.{Run, Tenant, Audit}
+use Rattle.ynl_tool.specs.declared.words.Kind.TheVariants.{Run, Tenant, Audit, Live}
 use Rattle.ynl_tool.specs.Jobs.{IsIdle, DoesJob, DoesWith, TellsJob}
 use Rattle.ynl_tool.specs.Input.{between}
 use Rattle.ynl_tool.proofs.Runs.{stops_at_once}
@@ -29,6 +29,7 @@ module _ (old wold : Option (List ℕ)) where
   idle_job Run c = stops_at_once old wold c (opening c)
   idle_job (Tenant t p) c = idle_by c t p (is_sole c t p)
   idle_job Audit c = inl (record { read = nothing_read (audit_way c) old NoMemory; unwritten = Appends-nil wold })
+  idle_job (Live workers rounds) c = inl (record { read = nothing_read script_way old NoMemory; unwritten = Appends-nil wold })
 
   pub idle_with : (kind : Kind) (read : Result Config ConfigFault) → DoesWith (between old old) (between wold wold) kind read (Err NoMemory)
   idle_with kind (Ok c) = idle_job kind c

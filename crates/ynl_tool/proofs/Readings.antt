@@ -7,11 +7,18 @@ use Rattle.ynl_tool.specs.declared.lines_in.Lines.{Lines}
 use Rattle.ynl_tool.specs.declared.lines_in.ReadFault.{ReadFault}
 use Rattle.ynl_tool.specs.declared.lines_in.ReadFault.TheVariants as reading
 use Rattle.ynl_tool.specs.declared.run.ToolFault.{ToolFault}
-use Rattle.ynl_tool.specs.declared.run.ToolFault.TheVariants.{Read, Write}
+use Rattle.ynl_tool.specs.declared.run.ToolFault.TheVariants.{Read, Write, NoMemory, Unclosed}
 use Rattle.ynl_tool.specs.Input.{Line, whole, lines_within, limit, Stream, between, MetEnd, EndsBy, ReadsLines, IsComplete, lines_left, MayFollow, TakesLine, TakesTooLong, TakesNone, BreaksOff}
 use Rattle.ynl_tool.specs.Lines.{tool_fault}
 use Rattle.ynl_tool.specs.Readings.{Way, Reading, come_to, unless_faulty, read_on, reading_of, ReadsTo, ReadsSome}
 use Rattle.ynl_tool.proofs.Inputs.{SoFar, at_start, follows, reads, used_before, took_whole, took_last, line_met_end, line_complete, none_met_end, still_at_end, left_none, of_input, one_part, both}
+
+-- a fault of reading, or of memory
+abbrev pub OfReading : ToolFault → Type 0
+OfReading Read = Unit {0}
+OfReading NoMemory = Unit {0}
+OfReading Write = ⊥
+OfReading Unclosed = ⊥
 
 -- These lines were read, and made this; no line before the last one has a fault.
 pub record ReadSoFar {S F : Type 0} (w : Way S F) (reader : Stream) (l : Lines) (made : S) : Type 0 where
@@ -60,12 +67,12 @@ module _ {S F : Type 0} (w : Way S F) (a b d : Option (List ℕ)) (l l' : Lines)
       ∙ ap (read_on w made l.count) (left_none l)
 
   -- the reader failed in a line
-  abbrev pub reading_failed : (e : ToolFault) → e ≢ Write → BreaksOff (between b d) l → ReadsSome w (between a d) e
+  abbrev pub reading_failed : (e : ToolFault) → OfReading e → BreaksOff (between b d) l → ReadsSome w (between a d) e
   reading_failed e other t = record {
     lines = reads a b d l l' so.done so.far t.bytes t.ongoing t.read (one_part t.bytes t.plain) (let fits = t.fits in omega (arith, fits));
     good = so.good;
     reading = λ _. (t.plain, let fits = t.fits in let used = used_before a b d l l' so.done so.far t.ongoing in omega (arith, fits, used, length-append so.far.bytes t.bytes));
-    writing = λ wrote. absurd (other wrote);
+    writing = λ wrote. absurd (subst OfReading wrote other);
   }
 
   -- the byte past the limit
@@ -202,9 +209,9 @@ nothing_read {S = S} {F = F} w a e = record {
   writing = λ _. inr (inl (inl refl));
 }
 
-pub no_write : (r : ReadFault) → tool_fault r ≢ Write
-no_write reading.Read e = cc
-no_write reading.NoMemory e = cc
+pub of_reading : (r : ReadFault) → OfReading (tool_fault r)
+of_reading reading.Read = tt
+of_reading reading.NoMemory = tt
 
 pub no_read : (r : ReadFault) → r ≡ reading.NoMemory → tool_fault r ≢ Read
 no_read reading.Read is e = cc

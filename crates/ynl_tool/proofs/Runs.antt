@@ -17,7 +17,7 @@ use Rattle.ynl_lines.specs.declared.faults.LineFault.TheVariants as fault
 use Rattle.ynl_lines.specs.Writing.{reply_text, fault_text}
 use Rattle.ynl_tool.specs.declared.lines_in.Lines.{Lines}
 use Rattle.ynl_tool.specs.declared.run.ToolFault.{ToolFault}
-use Rattle.ynl_tool.specs.declared.run.ToolFault.TheVariants.{Read, Write, NoMemory}
+use Rattle.ynl_tool.specs.declared.run.ToolFault.TheVariants.{Read, Write, NoMemory, Unclosed}
 use Rattle.ynl_tool.specs.declared.run.Summary.{Summary}
 use Rattle.ynl_tool.specs.Input.{Stream, between, MetEnd, lines_left, TakesLine, TakesTooLong, TakesNone, BreaksOff}
 use Rattle.ynl_tool.specs.Lines.{AppendsFront, AppendsPart}
@@ -27,7 +27,7 @@ use Rattle.ynl_tool.specs.Run.{line_of, reply_lines, replies_text, fault_lines, 
 use Rattle.ynl_tool.specs.Running.{LeavesMore, Writes, IsRunOf, RunsTo, RunsWhole, Stops, Runs}
 use Rattle.ynl_tool.proofs.Fronts.{front_of_more, part_after, part_of_more}
 use Rattle.ynl_tool.proofs.Inputs.{of_input, line_met_end, both}
-use Rattle.ynl_tool.proofs.Readings.{ReadSoFar, empty, nothing_read, reads_on, here, then_long, then_fault, reading_failed, long_reads, long_failed, line_reads, line_failed, ends_too_long, ends_faulty, ends_well}
+use Rattle.ynl_tool.proofs.Readings.{OfReading, ReadSoFar, empty, nothing_read, reads_on, here, then_long, then_fault, reading_failed, long_reads, long_failed, line_reads, line_failed, ends_too_long, ends_faulty, ends_well}
 use Rattle.ynl_tool.proofs.Scripts.{has_fault, after_events, script, as_after}
 
 -- ---- the text of a run
@@ -112,7 +112,7 @@ module _ (a b d w v u : Option (List ℕ)) (c : Config) (s : State) (l l' : Line
   still_written nothing = subst (Appends w u) (append-nil (replies_text c s so.events)) (Appends-trans w v u (replies_text c s so.events) [] so.written nothing)
 
   -- an error after which nothing was written of the line
-  stops_before : (more : List ℕ) (e : ToolFault) → l.at_end ≡ false → e ≢ Write → Consumes a d (so.read.far.bytes ++ more) → Appends v u []
+  stops_before : (more : List ℕ) (e : ToolFault) → l.at_end ≡ false → OfReading e → Consumes a d (so.read.far.bytes ++ more) → Appends v u []
       → LeavesMore (between w u) (run_of c s so.read.far.bytes).text (run_of c s (so.read.far.bytes ++ more)).text e × IfSome a (λ input. AppendsFront w u (run_of c s input).text)
   stops_before more e ongoing other read nothing = (
     left e other,
@@ -120,10 +120,11 @@ module _ (a b d w v u : Option (List ℕ)) (c : Config) (s : State) (l l' : Line
         (λ rest _. front_of_text w u _ (replies_text c s so.events) _ (still_written nothing) (text_follows more rest ongoing)),
   )
     where
-      left : (e : ToolFault) → e ≢ Write → LeavesMore (between w u) (run_of c s so.read.far.bytes).text (run_of c s (so.read.far.bytes ++ more)).text e
+      left : (e : ToolFault) → OfReading e → LeavesMore (between w u) (run_of c s so.read.far.bytes).text (run_of c s (so.read.far.bytes ++ more)).text e
       left Read other = subst (Appends w u) (sym (text_here ongoing)) (still_written nothing)
       left NoMemory other = subst (Appends w u) (sym (text_here ongoing)) (still_written nothing)
-      left Write other = absurd (other refl)
+      left Write other = absurd other
+      left Unclosed other = absurd other
 
   -- a fault of the writer, in a text that is written next, whatever may follow
   stops_writing : (more told : List ℕ) (closed : Bool) → Consumes a d (so.read.far.bytes ++ more) → (closed ≡ true → MetEnd (between a d)) → AppendsPart v u told
@@ -138,7 +139,7 @@ module _ (a b d w v u : Option (List ℕ)) (c : Config) (s : State) (l l' : Line
       )
 
   -- the reader failed in a line
-  pub reading_stops : (e : ToolFault) → e ≢ Write → BreaksOff (between b d) l → Appends v u [] → Stops (between a d) (between w u) c s e
+  pub reading_stops : (e : ToolFault) → OfReading e → BreaksOff (between b d) l → Appends v u [] → Stops (between a d) (between w u) c s e
   reading_stops e other t nothing =
       let read = reading_failed script_way a b d l l' so.events so.read e other t in
       let left = stops_before t.bytes e t.ongoing other read.lines.read nothing in
@@ -154,7 +155,8 @@ module _ (a b d w v u : Option (List ℕ)) (c : Config) (s : State) (l l' : Line
       runs_to (between a d) (between w u) c s summary _ whole
       (subst (Appends w u) (sym (text_of_faulty c s so.events l'.count f)) (Appends-trans w v u (replies_text c s so.events) (faulty (InScript f) l'.count).text so.written wrote.2)) wrote.0 wrote.1
   reported more f closed ongoing read met follows whole stops (Err Read) wrote other = absurd (other refl)
-  reported more f closed ongoing read met follows whole stops (Err NoMemory) wrote other = stops NoMemory other (stops_before more NoMemory ongoing (λ e. cc) read wrote)
+  reported more f closed ongoing read met follows whole stops (Err Unclosed) wrote other = absurd wrote
+  reported more f closed ongoing read met follows whole stops (Err NoMemory) wrote other = stops NoMemory other (stops_before more NoMemory ongoing tt read wrote)
   reported more f closed ongoing read met follows whole stops (Err Write) wrote other =
       stops Write other
       (stops_writing more (faulty (InScript f) l'.count).text closed read met wrote
@@ -182,7 +184,7 @@ module _ (a b d w v u : Option (List ℕ)) (c : Config) (s : State) (l l' : Line
     -- a line was read, and there was no memory for its reply
     pub no_reply : Appends v u [] → Stops (between a d) (between w u) c s NoMemory
     no_reply nothing =
-        let left = stops_before t.bytes NoMemory t.ongoing (λ e. cc) (line_reads script_way a b d l l' so.events so.read t).read nothing in
+        let left = stops_before t.bytes NoMemory t.ongoing tt (line_reads script_way a b d l l' so.events so.read t).read nothing in
         record { read = line_failed script_way a b d l l' so.events so.read t NoMemory (λ e. cc); written = left.0; front = left.1 }
 
 -- ---- a run that stops before it reads anything

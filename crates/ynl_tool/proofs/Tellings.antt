@@ -17,7 +17,7 @@ use Rattle.ynl_model.specs.View.{is_sole}
 use Rattle.ynl_laws.proofs.Isolating.Isolated.{is_isolated}
 use Rattle.ynl_core.specs.World.{World, stepped}
 use Rattle.ynl_tool.specs.declared.run.ToolFault.{ToolFault}
-use Rattle.ynl_tool.specs.declared.run.ToolFault.TheVariants.{Read, Write, NoMemory}
+use Rattle.ynl_tool.specs.declared.run.ToolFault.TheVariants.{Read, Write, NoMemory, Unclosed}
 use Rattle.ynl_lines.specs.declared.faults.LineFault.{LineFault}
 use Rattle.ynl_lines.specs.declared.faults.InputFault.TheVariants.{Script as InScript}
 use Rattle.ynl_lines.specs.Writing.{fault_text}
@@ -43,7 +43,7 @@ lines_of_more a b xs ys h = record {
 }
 
 -- all of the lines, and none of what follows
-all_of_more : (a b : Option (List ℕ)) (xs ys : List (List ℕ)) → Appends a b (concat xs) → AppendsLines a b (xs ++ ys)
+pub all_of_more : (a b : Option (List ℕ)) (xs ys : List (List ℕ)) → Appends a b (concat xs) → AppendsLines a b (xs ++ ys)
 all_of_more a b xs ys h = record {
   count = length xs;
   bound = omega (arith, length-append xs ys);
@@ -56,12 +56,14 @@ no_lines a xs = all_of_more a a [] xs (Appends-nil a)
 -- what is left of some lines is left of more
 pub leaves_more : (a b : Option (List ℕ)) (xs ys : List (List ℕ)) (e : ToolFault) → LeavesLines a b xs e → LeavesLines a b (xs ++ ys) e
 leaves_more a b xs ys Read h = h
+leaves_more a b xs ys Unclosed h = h
 leaves_more a b xs ys NoMemory h = lines_of_more a b xs ys h
 leaves_more a b xs ys Write h = subst (AppendsPart a b) (sym (concat-append xs ys)) (part_of_more a b (concat xs) (concat ys) h)
 
 -- lines, and then what a fault left of the next
 pub leaves_after : (a b c : Option (List ℕ)) (done : List (List ℕ)) (line : List ℕ) (rest : List (List ℕ)) (e : ToolFault) → Appends a b (concat done) → LeavesLine b c line e → LeavesLines a c (done ++ line ∷ rest) e
 leaves_after a b c done line rest Read before h = h
+leaves_after a b c done line rest Unclosed before h = h
 leaves_after a b c done line rest NoMemory before h = all_of_more a c done (line ∷ rest) (subst (Appends a c) (append-nil (concat done)) (Appends-trans a b c (concat done) [] before h))
 leaves_after a b c done line rest Write before h =
     subst (AppendsPart a c) (sym (concat-append done (line ∷ rest))) (part_after a b c (concat done) (line ++ concat rest) before (part_of_more b c line (concat rest) h))
@@ -119,6 +121,7 @@ pub record ToldSoFar (old new : Option (List ℕ)) (core : World) (places : List
 -- what an error leaves of an event's line
 pub event_left : (a b : Option (List ℕ)) (core next : World) (n : ℕ) (e : Event) (f : ToolFault) → TellsEvent {A = Unit {0}} a b core next n e (Err f) → LeavesLine a b (entry_line core n e) f
 event_left a b core next n e Read h = absurd h
+event_left a b core next n e Unclosed h = absurd h
 event_left a b core next n e NoMemory h = h
 event_left a b core next n e Write h = h.1
 
@@ -142,6 +145,7 @@ module _ (reader : Stream) (w0 w1 : Option (List ℕ)) (c : Config) (t : Name) (
 
   pub fails : (e : ToolFault) → LeavesLines w0 w1 (tenant_lines c t p s) e → TellsTenant reader (between w0 w1) accepted c t p (Err e)
   fails Read left = absurd left
+  fails Unclosed left = absurd left
   fails NoMemory left = inr (record { script = s; read = read; written = left })
   fails Write left = record { script = s; read = read; written = left }
 
@@ -181,6 +185,7 @@ module _ (reader : Stream) (w0 w1 : Option (List ℕ)) (c : Config) (t : Name) (
         ends_well summary w.0 (w.1 ∙ ap (option_map InScript) (sym some))
         (subst (λ ls. Appends w0 w1 (concat ls)) (sym (ap (λ f. seen ++ fault_lines_of s.lines f) some)) (one_more w0 wm w1 seen (line_of (fault_text (InScript f) s.lines)) h w.2))
     ends_broken wm f (Err Read) some h w other = absurd (other refl)
+    ends_broken wm f (Err Unclosed) some h w other = absurd w
     ends_broken wm f (Err NoMemory) some h w other =
         fails NoMemory (subst (λ ls. LeavesLines w0 w1 ls NoMemory) (sym (ap (λ f. seen ++ fault_lines_of s.lines f) some)) (leaves_after w0 wm w1 seen (line_of (fault_text (InScript f) s.lines)) [] NoMemory h w))
     ends_broken wm f (Err Write) some h w other =

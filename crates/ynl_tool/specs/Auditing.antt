@@ -12,7 +12,7 @@ use Rattle.ynl_lines.specs.declared.faults.JournalFault.{JournalFault}
 use Rattle.ynl_tool.specs.declared.audit.Audit.{Audit}
 use Rattle.ynl_tool.specs.declared.audit.Found.{Found}
 use Rattle.ynl_tool.specs.declared.run.ToolFault.{ToolFault}
-use Rattle.ynl_tool.specs.declared.run.ToolFault.TheVariants.{Read, Write, NoMemory}
+use Rattle.ynl_tool.specs.declared.run.ToolFault.TheVariants.{Read, Write, NoMemory, Unclosed}
 use Rattle.ynl_tool.specs.declared.run.Summary.{Summary}
 use Rattle.ynl_tool.specs.Input.{Stream}
 use Rattle.ynl_tool.specs.Readings.{Reading, ReadsTo, ReadsSome}
@@ -61,6 +61,7 @@ Finds reader c (Ok found) = FindsAll reader c found
 Finds reader c (Err Read) = ReadsSome (audit_way c) reader Read
 Finds reader c (Err NoMemory) = ReadsSome (audit_way c) reader NoMemory
 Finds reader c (Err Write) = ⊥
+Finds reader c (Err Unclosed) = ⊥
 
 -- ---- the whole
 
@@ -100,3 +101,4 @@ AuditsJournal reader writer c (Ok summary) = AuditsAll reader writer c summary
 AuditsJournal reader writer c (Err Read) = AuditsNothing reader writer c Read
 AuditsJournal reader writer c (Err NoMemory) = AuditsNothing reader writer c NoMemory ⊎ AuditsSome reader writer c NoMemory
 AuditsJournal reader writer c (Err Write) = AuditsSome reader writer c Write
+AuditsJournal reader writer c (Err Unclosed) = ⊥

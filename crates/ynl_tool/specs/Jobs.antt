@@ -1,5 +1,5 @@
 -- How a job ends.
-use Rattle.std.specs.Prelude.{◌≡◌, ℕ, Bool, true, false, List, [], ◌++◌, Option, Result, Ok, Err, codes}
+use Rattle.std.specs.Prelude.{⊤, ◌≡◌, ℕ, Bool, true, false, List, [], ◌++◌, Option, Result, Ok, Err, codes}
 use Rattle.std.specs.Option.{option_map_or}
 use Rattle.std.specs.Io.KnownBytes.{Consumes, Appends}
 use Rattle.ynl_resource.specs.declared.names.Name.{Name}
@@ -11,7 +11,7 @@ use Rattle.ynl_config.specs.declared.faults.ConfigFault.{ConfigFault}
 use Rattle.ynl_config.specs.Earliest.{fault_word}
 use Rattle.ynl_config.specs.Meaning.{config_of}
 use Rattle.ynl_tool.specs.declared.run.ToolFault.{ToolFault}
-use Rattle.ynl_tool.specs.declared.run.ToolFault.TheVariants.{Read, Write, NoMemory}
+use Rattle.ynl_tool.specs.declared.run.ToolFault.TheVariants.{Read, Write, NoMemory, Unclosed}
 use Rattle.ynl_tool.specs.declared.run.Summary.{Summary}
 use Rattle.ynl_tool.specs.Input.{Stream}
 use Rattle.ynl_tool.specs.Lines.{AppendsFront}
@@ -19,10 +19,11 @@ use Rattle.ynl_tool.specs.Run.{line_of}
 use Rattle.ynl_tool.specs.Running.{Runs}
 use Rattle.ynl_tool.specs.Auditing.{AuditsJournal}
 use Rattle.ynl_tool.specs.Telling.{TellsTenant}
+use Rattle.ynl_tool.specs.Living.{Lives}
 use Rattle.ynl_tool.specs.declared.jobs.JobRefusal.{JobRefusal}
 use Rattle.ynl_tool.specs.declared.jobs.JobRefusal.TheVariants.{Config, NotSole}
 use Rattle.ynl_tool.specs.declared.words.Kind.{Kind}
-use Rattle.ynl_tool.specs.declared.words.Kind.TheVariants.{Run, Tenant, Audit}
+use Rattle.ynl_tool.specs.declared.words.Kind.TheVariants.{Run, Tenant, Audit, Live}
 
 -- how many bytes of a configuration are read at most: one more than it may have
 abbrev pub most_read : ℕ
@@ -33,6 +34,7 @@ abbrev pub error_line : ToolFault → List ℕ
 error_line Read = line_of (codes "ynl: read fault")
 error_line Write = line_of (codes "ynl: write fault")
 error_line NoMemory = line_of (codes "ynl: out of memory")
+error_line Unclosed = line_of (codes "ynl: not closed")
 
 -- and that of a text which is no configuration
 abbrev pub config_line : ConfigFault → List ℕ
@@ -94,11 +96,18 @@ TellsJob reader writer accepted c t p true (Ok (Err refusal)) = ⊥
 TellsJob reader writer accepted c t p true (Err e) = TellsTenant reader writer accepted c t p (Err e)
 TellsJob reader writer accepted c t p false ended = NotBegun reader writer NotSole ended
 
+-- a session of so many rounds is told, in which no worker is halted
+abbrev pub LivesJob : Stream → Stream → Configured → ℕ → Ending → Type 0
+LivesJob reader writer c rounds (Ok (Ok summary)) = Lives ⊤ reader writer c rounds (Ok summary)
+LivesJob reader writer c rounds (Ok (Err refusal)) = ⊥
+LivesJob reader writer c rounds (Err e) = Lives ⊤ reader writer c rounds (Err e)
+
 -- the job of a kind, with a cluster of this configuration, where that may be known to be accepted
 abbrev pub DoesJob : Stream → Stream → Bool → Kind → Configured → Ending → Type 0
 DoesJob reader writer accepted Run c ended = RunsJob reader writer c ended
 DoesJob reader writer accepted (Tenant t p) c ended = TellsJob reader writer accepted c t p (is_sole c t p) ended
 DoesJob reader writer accepted Audit c ended = AuditsJob reader writer c ended
+DoesJob reader writer accepted (Live workers rounds) c ended = LivesJob reader writer c rounds ended
 
 -- the job with this configuration, which is accepted; or its fault, where there is none
 abbrev pub DoesWith : Stream → Stream → Kind → Result Configured ConfigFault → Ending → Type 0

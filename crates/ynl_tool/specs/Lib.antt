@@ -4,6 +4,7 @@ pub mod Auditing
 pub mod Input
 pub mod Jobs
 pub mod Lines
+pub mod Living
 pub mod Readings
 pub mod Run
 pub mod Running

@@ -8,7 +8,7 @@ use Rattle.ynl_model.specs.Events.{after}
 use Rattle.ynl_core.specs.World.{World}
 use Rattle.ynl_lines.specs.declared.faults.LineFault.{LineFault}
 use Rattle.ynl_tool.specs.declared.run.ToolFault.{ToolFault}
-use Rattle.ynl_tool.specs.declared.run.ToolFault.TheVariants.{Read, Write, NoMemory}
+use Rattle.ynl_tool.specs.declared.run.ToolFault.TheVariants.{Read, Write, NoMemory, Unclosed}
 use Rattle.ynl_tool.specs.declared.run.Summary.{Summary}
 use Rattle.ynl_tool.specs.declared.lines_in.Lines.{Lines}
 use Rattle.ynl_tool.specs.declared.lines_in.Next.{Next}
@@ -24,6 +24,7 @@ abbrev pub LeavesFront : Option (List ℕ) → Option (List ℕ) → List ℕ �
 LeavesFront old new text Write = AppendsPart old new text
 LeavesFront old new text Read = Appends old new []
 LeavesFront old new text NoMemory = Appends old new []
+LeavesFront old new text Unclosed = ⊥
 
 -- the line has no fault, the cluster is the one that it leaves, and besides this holds
 abbrev pub IsAnswered : Config → State → World → List ℕ → Type 0 → Type 0
@@ -57,6 +58,7 @@ GoesOn reader writer old new held kept (Ok next.End) = TakesNone reader old new 
 GoesOn reader writer old new held kept (Err Write) = Consumes reader.before reader.after [] × AppendsPart writer.before writer.after held
 GoesOn reader writer old new held kept (Err Read) = BreaksOff reader old × Appends writer.before writer.after held
 GoesOn reader writer old new held kept (Err NoMemory) = BreaksOff reader old × Appends writer.before writer.after held
+GoesOn reader writer old new held kept (Err Unclosed) = ⊥
 
 -- what ends a job was written
 abbrev pub Writes : Option (List ℕ) → Option (List ℕ) → Outcome → Result Summary ToolFault → Type 0
@@ -68,6 +70,7 @@ abbrev pub LeavesMore : Stream → List ℕ → List ℕ → ToolFault → Type 
 LeavesMore writer before text Write = AppendsPart writer.before writer.after text
 LeavesMore writer before text Read = Appends writer.before writer.after before
 LeavesMore writer before text NoMemory = Appends writer.before writer.after before
+LeavesMore writer before text Unclosed = ⊥
 
 -- The run of this input was written, and nothing else, and is told.
 pub record IsRunOf (writer : Stream) (c : Config) (s : State) (summary : Summary) (input : List ℕ) : Type 0 where

@@ -14,7 +14,7 @@ use Rattle.ynl_core.specs.World.{World, stepped}
 use Rattle.ynl_lines.specs.declared.faults.InputFault.TheVariants.{Script as InScript}
 use Rattle.ynl_lines.specs.Writing.{line_text}
 use Rattle.ynl_tool.specs.declared.run.ToolFault.{ToolFault}
-use Rattle.ynl_tool.specs.declared.run.ToolFault.TheVariants.{Read, Write, NoMemory}
+use Rattle.ynl_tool.specs.declared.run.ToolFault.TheVariants.{Read, Write, NoMemory, Unclosed}
 use Rattle.ynl_tool.specs.declared.run.Summary.{Summary}
 use Rattle.ynl_tool.specs.Input.{Stream}
 use Rattle.ynl_tool.specs.Lines.{AppendsPart}
@@ -57,12 +57,14 @@ abbrev pub LeavesLines : Option (List ℕ) → Option (List ℕ) → List (List 
 LeavesLines old new lines Write = AppendsPart old new (concat lines)
 LeavesLines old new lines NoMemory = AppendsLines old new lines
 LeavesLines old new lines Read = ⊥
+LeavesLines old new lines Unclosed = ⊥
 
 -- a fault left a front of a line: nothing where memory was refused
 abbrev pub LeavesLine : Option (List ℕ) → Option (List ℕ) → List ℕ → ToolFault → Type 0
 LeavesLine old new line Write = AppendsPart old new line
 LeavesLine old new line NoMemory = Appends old new []
 LeavesLine old new line Read = ⊥
+LeavesLine old new line Unclosed = ⊥
 
 -- the line of an event
 abbrev pub entry_line : World → ℕ → Event → List ℕ
@@ -74,6 +76,7 @@ TellsEvent old new core next place e (Ok x) = (next ≡ stepped core e) × Appen
 TellsEvent old new core next place e (Err Write) = (next ≡ stepped core e) × AppendsPart old new (entry_line core place e)
 TellsEvent old new core next place e (Err NoMemory) = Appends old new []
 TellsEvent old new core next place e (Err Read) = ⊥
+TellsEvent old new core next place e (Err Unclosed) = ⊥
 
 -- the lines were written, or a fault left a front of them
 abbrev pub SaysLines : {A : Type 0} → Option (List ℕ) → Option (List ℕ) → List (List ℕ) → Result A ToolFault → Type 0
@@ -122,3 +125,4 @@ TellsTenant reader writer accepted c t p (Ok summary) = TellsAll reader writer a
 TellsTenant reader writer accepted c t p (Err Read) = TellsNothing reader writer Read
 TellsTenant reader writer accepted c t p (Err NoMemory) = TellsNothing reader writer NoMemory ⊎ TellsSome reader writer c t p NoMemory
 TellsTenant reader writer accepted c t p (Err Write) = TellsSome reader writer c t p Write
+TellsTenant reader writer accepted c t p (Err Unclosed) = ⊥

@@ -1,14 +1,16 @@
 -- The command line.
-use Rattle.std.specs.Prelude.{◌≡◌, true, List, Option, Some, None, option_and_then, codes, if◌then◌else◌}
+use Rattle.std.specs.Prelude.{◌≡◌, ℕ, Bool, true, ◌&&◌, List, [], ◌∷◌, length, nat_lt, nat_le, Option, Some, None, option_and_then, codes, if◌then◌else◌}
 use Rattle.std.specs.Result.{result_ok}
-use Rattle.std.specs.Str.{bytes_eq}
+use Rattle.std.specs.Str.{bytes_eq, all_ascii_digits}
+use Rattle.std.specs.Str.Parse.{digits_value, without_leading_plus}
 use Rattle.clap.specs.Walk.{Rule, Row, Text, first_of}
 use Rattle.clap.specs.Simple.{App, new_app, new_rule, on_top, subcommand_of, with_rule, with_subcommand}
+use Rattle.clap.specs.declared.builder.value_parser.ValueParser.TheVariants.{Unsigned}
 use Rattle.ynl_resource.specs.declared.names.Name.{Name}
 use Rattle.ynl_resource.specs.declared.labels.Label.{Label}
 use Rattle.ynl_resource.specs.Texts.{read_name, read_label}
 use Rattle.ynl_tool.specs.declared.words.Kind.{Kind}
-use Rattle.ynl_tool.specs.declared.words.Kind.TheVariants.{Run, Tenant, Audit}
+use Rattle.ynl_tool.specs.declared.words.Kind.TheVariants.{Run, Tenant, Audit, Live}
 
 -- the option `--config FILE`
 abbrev pub config_rule : Rule
@@ -22,6 +24,14 @@ tenant_rule = record (new_rule (codes "tenant")) { long = Some (codes "tenant");
 abbrev pub label_rule : Rule
 label_rule = record (new_rule (codes "label")) { long = Some (codes "label"); value_names = 1; required = true }
 
+-- the option `--workers N`, from 1 to 64, without which it is 2
+abbrev pub workers_rule : Rule
+workers_rule = record (new_rule (codes "workers")) { long = Some (codes "workers"); value_names = 1; parser = Some (Unsigned 1 64); defaults = codes "2" ∷ [] }
+
+-- the option `--rounds R`, from 0 to 1000, without which it is 1
+abbrev pub rounds_rule : Rule
+rounds_rule = record (new_rule (codes "rounds")) { long = Some (codes "rounds"); value_names = 1; parser = Some (Unsigned 0 1000); defaults = codes "1" ∷ [] }
+
 -- the subcommand `run`
 abbrev pub run_command : App
 run_command = with_rule (new_app (codes "run")) config_rule
@@ -34,13 +44,21 @@ tenant_command = with_rule (with_rule (with_rule (new_app (codes "tenant")) tena
 abbrev pub audit_command : App
 audit_command = with_rule (new_app (codes "audit")) config_rule
 
+-- the subcommand `live`
+abbrev pub live_command : App
+live_command = with_rule (with_rule (with_rule (new_app (codes "live")) workers_rule) rounds_rule) config_rule
+
 -- the command `ynl`, which wants a subcommand, without those that there are
 abbrev pub bare_command : App
 bare_command = on_top (λ s. record s { subcommand_required = true }) (new_app (codes "ynl"))
 
+-- the command `ynl` without `live`
+abbrev pub command_of_journals : App
+command_of_journals = with_subcommand (with_subcommand (with_subcommand bare_command run_command.top) tenant_command.top) audit_command.top
+
 -- the command `ynl`
 abbrev pub command : App
-command = with_subcommand (with_subcommand (with_subcommand bare_command run_command.top) tenant_command.top) audit_command.top
+command = with_subcommand command_of_journals live_command.top
 
 -- the file that the options of a subcommand name for the configuration, where they name one
 abbrev pub file_met : Text × List Row → Option Text
@@ -64,18 +82,57 @@ tenant_by (Some t) (Some p) = Some (Tenant t p)
 tenant_by (Some t) None = None
 tenant_by None p = None
 
+-- digits, at least one, that are the number of a `u64`
+abbrev pub is_number : Text → Bool
+is_number digits = nat_lt 0 (length digits) && all_ascii_digits digits && nat_lt (digits_value 10 digits) 18446744073709551616
+
+-- the number that digits are
+abbrev pub number_of : Text → Option ℕ
+number_of digits = if is_number digits then Some (digits_value 10 digits) else None
+
+-- the number that a text is, which may begin with a plus
+abbrev pub number_in : Text → Option ℕ
+number_in text = number_of (without_leading_plus text)
+
+-- so many workers, where there may be so many
+abbrev pub workers_of : ℕ → Option ℕ
+workers_of n = if nat_le 1 n && nat_le n 64 then Some n else None
+
+-- so many rounds, where there may be so many
+abbrev pub rounds_of : ℕ → Option ℕ
+rounds_of n = if nat_le n 1000 then Some n else None
+
+-- the number of workers that a text is
+abbrev pub workers_in : Text → Option ℕ
+workers_in text = option_and_then workers_of (number_in text)
+
+-- the number of rounds that a text is
+abbrev pub rounds_in : Text → Option ℕ
+rounds_in text = option_and_then rounds_of (number_in text)
+
+-- workers and rounds, where both are there
+abbrev pub live_by : Option ℕ → Option ℕ → Option Kind
+live_by (Some workers) (Some rounds) = Some (Live workers rounds)
+live_by (Some workers) None = None
+live_by None rounds = None
+
+-- what `live` asks for with its options
+abbrev pub live_met : List Row → Option Kind
+live_met rows = live_by (option_and_then workers_in (first_of (codes "workers") rows)) (option_and_then rounds_in (first_of (codes "rounds") rows))
+
 -- what a subcommand asks for with its options
 abbrev pub kind_met : Text × List Row → Option Kind
 kind_met met =
     if bytes_eq met.0 (codes "tenant")
     then tenant_by (option_and_then name_in (first_of (codes "tenant") met.1)) (option_and_then label_in (first_of (codes "label") met.1))
     else if bytes_eq met.0 (codes "audit") then Some Audit
+    else if bytes_eq met.0 (codes "live") then live_met met.1
     else Some Run
 
 -- what the words ask for
 abbrev pub kind_of : List Text → Option Kind
 kind_of words = option_and_then kind_met (subcommand_of command words)
 
--- a subcommand was found, and what it is given for a name or a label is none
+-- a subcommand was found, and what it is given for a name, a label or a number is none
 abbrev pub HasBadName : List Text → Type 0
 HasBadName words = (met : Text × List Row) × (subcommand_of command words ≡ Some met) × (kind_met met ≡ None)

@@ -8,11 +8,14 @@ ghost use Rattle.ynl_tool.specs.Jobs.{error_line, config_line, refusal_line, sta
 
 use crate::audit::audit_lines;
 use crate::lines_out::{write_text, write_three};
+use crate::live::{FreeGate, live_lines};
 use crate::run::{Summary, ToolFault, run_lines};
 use crate::tenant::tenant_lines;
 use crate::words::Kind;
 use std::alloc::Global;
 use std::io::{BufRead, Write};
+use std::sync::Wait;
+use std::thread::Threads;
 use ynl_config::{ConfigFault, read_config};
 use ynl_queues::Config;
 use ynl_view::sole;
@@ -34,6 +37,7 @@ fn error_line(fault: ToolFault) -> &'static str
         ToolFault::Read => "ynl: read fault\n",
         ToolFault::Write => "ynl: write fault\n",
         ToolFault::NoMemory => "ynl: out of memory\n",
+        ToolFault::Unclosed => "ynl: not closed\n",
     }
 }
 
@@ -64,7 +68,8 @@ fn tell_refusal<E: Write>(errors: &mut E, refusal: JobRefusal)
 }
 
 /// Does the job with a cluster of this configuration.
-fn do_job<R: BufRead, W: Write>(
+fn do_job<T: Threads + Wait + Sync, R: BufRead, W: Write>(
+    rt: &T,
     alloc: Global,
     kind: Kind,
     config: Config,
@@ -91,11 +96,19 @@ fn do_job<R: BufRead, W: Write>(
             Ok(summary) => Ok(Ok(summary)),
             Err(fault) => Err(fault),
         },
+        Kind::Live(workers, rounds) => {
+            let count = workers.number();
+            match live_lines(rt, alloc, config, count, rounds, &FreeGate, reader, writer) {
+                Ok(summary) => Ok(Ok(summary)),
+                Err(fault) => Err(fault),
+            }
+        }
     }
 }
 
 /// Does the job with the configuration that a text means. Where it means none nothing is done.
-fn do_text<R: BufRead, W: Write>(
+fn do_text<T: Threads + Wait + Sync, R: BufRead, W: Write>(
+    rt: &T,
     alloc: Global,
     kind: Kind,
     text: &[u8],
@@ -105,7 +118,7 @@ fn do_text<R: BufRead, W: Write>(
     ensures { DoesText (between (R.remaining reader.old) (R.remaining reader.new)) (between (W.contents writer.old) (W.contents writer.new)) kind text.now result }
 {
     match read_config(alloc, text) {
-        Ok(Ok(config)) => do_job(alloc, kind, config, reader, writer),
+        Ok(Ok(config)) => do_job(rt, alloc, kind, config, reader, writer),
         Ok(Err(fault)) => Ok(Err(JobRefusal::Config(fault))),
         Err(_) => Err(ToolFault::NoMemory),
     }
@@ -113,9 +126,10 @@ fn do_text<R: BufRead, W: Write>(
 
 /// Does the job with the configuration that the text means, and gives the exit status: 0, or 1 if
 /// the text means none or the tenant is not alone on the partition, as a line on `errors` tells, or if
-/// a line of the input had a fault; or 3 after a fault of reading, writing or memory, which a line on
-/// `errors` tells.
-pub fn execute<R: BufRead, W: Write, E: Write>(
+/// a line of the input had a fault; or 3 after a fault of reading, writing or memory or where the journal of
+/// a live scheduler is not closed, which a line on `errors` tells.
+pub fn execute<T: Threads + Wait + Sync, R: BufRead, W: Write, E: Write>(
+    rt: &T,
     alloc: Global,
     kind: Kind,
     text: &[u8],
@@ -125,7 +139,7 @@ pub fn execute<R: BufRead, W: Write, E: Write>(
 ) -> u8
     ensures { Executes (between (R.remaining reader.old) (R.remaining reader.new)) (between (W.contents writer.old) (W.contents writer.new)) (between (E.contents errors.old) (E.contents errors.new)) kind text.now result }
 {
-    match do_text(alloc, kind, text, reader, writer) {
+    match do_text(rt, alloc, kind, text, reader, writer) {
         Ok(Ok(summary)) => status_of(summary),
         Ok(Err(refusal)) => {
             tell_refusal(errors, refusal);

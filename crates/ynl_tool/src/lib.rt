@@ -5,6 +5,8 @@
 pub use audit::audit_lines;
 pub use config_text::{fault_of, read_text};
 pub use jobs::{execute, tell};
+pub use live::live_lines;
+pub use live_words::Workers;
 pub use run::{Summary, ToolFault, run_lines};
 pub use script_in::{Script, read_script};
 pub use tenant::tenant_lines;
@@ -17,6 +19,8 @@ mod config_text;
 mod jobs;
 mod lines_in;
 mod lines_out;
+mod live;
+mod live_words;
 mod run;
 mod script_in;
 mod tenant;

@@ -30,6 +30,9 @@ pub enum ToolFault {
     /// Memory was refused.
     #[error("out of memory")]
     NoMemory,
+    /// The journal of a live scheduler was not closed.
+    #[error("not closed")]
+    Unclosed,
 }
 
 impl From<AllocError> for ToolFault {

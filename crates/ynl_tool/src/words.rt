@@ -15,6 +15,7 @@ ghost use Rattle.clap.specs.declared.builder.command.Command.TheViews.{out-Comma
 ghost use Rattle.ynl_tool.specs.Words as spec;
 ghost use Rattle.ynl_tool.specs.declared.words.WordsFault.TheVariants.{Words, BadName, NoMemory};
 
+use crate::live_words::{Workers, live_command, live_kind};
 use clap::error::ErrorKind;
 use clap::{Arg, ArgMatches, Command, Error};
 use std::alloc::{AllocError, Global};
@@ -29,6 +30,8 @@ pub enum Kind {
     Tenant(Name, Label),
     /// To audit the journal that an input is.
     Audit,
+    /// To run so many workers over the nodes that an input leaves, for so many rounds.
+    Live(Workers, u64),
 }
 
 /// A piece of work for the program.
@@ -85,12 +88,14 @@ Exit status:
   1  a line of the input is bad, or the input is too long: the last line of the output tells; or the
      configuration has a fault, or a tenant is not alone on its partition: standard error tells
   2  the words of the command line are wrong, or ask for help
-  3  reading, writing or memory failed, as a line on standard error tells
+  3  reading, writing or memory failed, or a live scheduler's journal was not closed, as a line on
+     standard error tells
 
 Examples:
   ynl run < events > replies
   ynl tenant --tenant eng --label gpu < events
-  ynl audit < journal";
+  ynl audit < journal
+  ynl live --workers 4 < events > journal";
 
 const CONFIG_HELP: &str =
     "The configuration, a TOML text; without it there is one queue, root.eng, and one label, gpu";
@@ -183,7 +188,7 @@ const TENANT_HELP: &str = "The tenant, by the name of its top-level queue";
 const LABEL_HELP: &str = "The label of its partition";
 
 /// The option that names the file of the configuration.
-fn config_option<'a>(alloc: Global) -> Arg<'a>
+pub(crate) fn config_option<'a>(alloc: Global) -> Arg<'a>
     ensures rule { rule_of result ≡ spec.config_rule }
     ensures local { result.global ≡ false }
 {
@@ -301,13 +306,22 @@ fn command_of_events<'a>(alloc: Global) -> Result<Command<'a>, AllocError>
     command_of_run(alloc)?.subcommand(tenant)
 }
 
+/// The same with the first three.
+fn command_of_journals<'a>(alloc: Global) -> Result<Command<'a>, AllocError>
+    ensures app { IfOk result (λ c. app_of c ≡ spec.command_of_journals) }
+    ensures local { IfOk result (λ c. (fields_of c).has_globals ≡ false) }
+{
+    let audit = audit(alloc)?;
+    command_of_events(alloc)?.subcommand(audit)
+}
+
 /// The command `ynl`.
 fn command<'a>(alloc: Global) -> Result<Command<'a>, AllocError>
     ensures app { IfOk result (λ c. app_of c ≡ spec.command) }
     ensures local { IfOk result (λ c. (fields_of c).has_globals ≡ false) }
 {
-    let audit = audit(alloc)?;
-    command_of_events(alloc)?.subcommand(audit)
+    let live = live_command(alloc)?;
+    command_of_journals(alloc)?.subcommand(live)
 }
 
 fn name_in(text: Option<&str>) -> Option<Name>
@@ -339,6 +353,9 @@ fn kind_of(subcommand: &str, options: &ArgMatches<'_>) -> Option<Kind>
     }
     if subcommand == "audit" {
         return Some(Kind::Audit);
+    }
+    if subcommand == "live" {
+        return live_kind(options);
     }
     Some(Kind::Run)
 }

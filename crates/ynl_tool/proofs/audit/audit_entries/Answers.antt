@@ -4,7 +4,7 @@ use Rattle.ynl_tool.specs.declared.run.ToolFault.TheVariants.{Write, NoMemory}
 use Rattle.ynl_tool.specs.Input.{between, Takes}
 use Rattle.ynl_tool.specs.Audit.{audit_way}
 use Rattle.ynl_tool.specs.Auditing.{Passes, Finds}
-use Rattle.ynl_tool.proofs.Readings.{nothing_read, reading_failed, line_failed, ends_too_long, ends_faulty, ends_well, no_write}
+use Rattle.ynl_tool.proofs.Readings.{nothing_read, reading_failed, line_failed, ends_too_long, ends_faulty, ends_well, OfReading, of_reading}
 use Rattle.ynl_tool.proofs.Audits.{audit_at_start, line_passed, found, failed}
 use Rattle.ynl_tool.proofs.audit.audit_entries.Goals as goal
 
@@ -27,7 +27,7 @@ returns-in_err-next g c =
     let a = g.R.Read.remaining c.args.reader.now in
     let d = g.R.Read.remaining c.next.new.reader in
     let k = c.args.config in
-    let other : p.0 ≢ Write = λ wrote. no_write _ (sym p.2 ∙ wrote) in
+    let other = subst OfReading (sym p.2) (of_reading _) in
     let some = reading_failed (audit_way k) _ _ _ _ c.next.new.self _ c.lines.invariant.read p.0 other c.in_err-next.ensures.broken in
     subst (Finds (between a d) k) (sym p.1) (failed (between a d) k p.0 other some)
 

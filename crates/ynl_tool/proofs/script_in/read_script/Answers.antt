@@ -4,7 +4,7 @@ use Rattle.ynl_tool.specs.Input.{between, Takes}
 use Rattle.ynl_tool.specs.Lines.{tool_fault}
 use Rattle.ynl_tool.specs.Readings.{come_to, ReadsTo}
 use Rattle.ynl_tool.specs.Script.{Adds, script_way, ReadsScript}
-use Rattle.ynl_tool.proofs.Readings.{ReadSoFar, at_first, reading_failed, line_failed, ends_too_long, ends_faulty, ends_well, took, no_write, no_read}
+use Rattle.ynl_tool.proofs.Readings.{ReadSoFar, at_first, reading_failed, line_failed, ends_too_long, ends_faulty, ends_well, took, of_reading, no_read}
 use Rattle.ynl_tool.proofs.Scripts.{adds_events, has_fault, reads_whole}
 use Rattle.ynl_tool.proofs.script_in.read_script.Goals as goal
 
@@ -19,7 +19,7 @@ returns-in_err-next g c =
     let p = err_from_is_err_and c.from_residual.result c.from_residual.ensures.1 in
     let a = g.R.Read.remaining c.args.reader.now in
     let d = g.R.Read.remaining c.next.new.reader in
-    let some = reading_failed script_way _ _ _ _ c.next.new.self _ c.lines.invariant (tool_fault p.0) (no_write p.0) c.in_err-next.ensures.broken in
+    let some = reading_failed script_way _ _ _ _ c.next.new.self _ c.lines.invariant (tool_fault p.0) (of_reading p.0) c.in_err-next.ensures.broken in
     let steps : ReadsScript (between a d) c.from_residual.result = subst (ReadsScript (between a d)) (sym p.1) some in
     record { whole = reads_whole a d c.from_residual.result steps; steps = steps }
 

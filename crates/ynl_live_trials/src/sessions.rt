@@ -1,0 +1,128 @@
+//! Sessions: a script, rounds of workers over its nodes, and the closed journal.
+
+ghost use Rattle.std.specs.Prelude.{◌<◌};
+
+use crate::events::{ask, register_node, submit};
+use crate::workers::HaltsAt;
+use std::alloc::Global;
+use std::sync::Wait;
+use std::test::Fail;
+use std::thread::Threads;
+use ynl_config::built_in;
+use ynl_journal::audit;
+use ynl_model::{Entry, Event};
+use ynl_resource::Name;
+use ynl_session::run_session;
+use ynl_workers::{Gate, Go};
+
+/// Lets each worker go on.
+#[derive(Drop)]
+pub(crate) struct Open;
+
+impl Gate for Open {
+    ghost is_free = { λ _. Unit {0} };
+
+    fn before_commit(&self, _worker: u64, _turn: u64) -> Go {
+        Go::On
+    }
+
+    fn after_commit(&self, _worker: u64, _turn: u64) {}
+}
+
+/// Two nodes, and an application that waits for its master and asks for two containers.
+pub(crate) fn script() -> Option<[Event; 4]> {
+    Some([
+        register_node("g2")?,
+        register_node("g1")?,
+        submit("j1", 1000)?,
+        ask()?,
+    ])
+}
+
+/// The closed journal of the script and so many rounds.
+fn played<R: Threads + Wait + Sync, G: Gate + Sync>(
+    rt: &R,
+    alloc: Global,
+    workers: usize,
+    rounds: u64,
+    gate: &G,
+) -> Result<Vec<Entry>, Fail>
+    requires { 0 < workers }
+{
+    let events = script().ok_or("no script")?;
+    let config = built_in(alloc)?;
+    Ok(run_session(rt, alloc, config, &events, workers, rounds, gate)?)
+}
+
+fn begins_with(entries: &[Entry], events: &[Event]) -> bool {
+    entries.len() >= events.len()
+        && entries
+            .iter()
+            .zip(events)
+            .all(|(entry, event)| entry.event == *event)
+}
+
+/// How often a node is asked about.
+fn times_asked(entries: &[Entry], name: &str) -> Result<usize, Fail> {
+    let node = Name::parse(name)?;
+    let event = Event::Propose { node };
+    Ok(entries.iter().filter(|entry| entry.event == event).count())
+}
+
+fn commits(entries: &[Entry]) -> usize {
+    entries
+        .iter()
+        .filter(|entry| matches!(entry.event, Event::Commit { .. }))
+        .count()
+}
+
+/// How many entries are no commits.
+fn others(entries: &[Entry]) -> usize {
+    entries
+        .iter()
+        .filter(|entry| !matches!(entry.event, Event::Commit { .. }))
+        .count()
+}
+
+#[test]
+fn each_node_is_asked_about_once_a_round(rt: HostRuntime) -> Result<(), Fail> {
+    let alloc = rt.alloc();
+    let entries = played(&rt, alloc, 2, 2, &Open)?;
+    let events = script().ok_or("no script")?;
+    assert!(rt; begins_with(&entries, &events));
+    assert_eq!(rt; times_asked(&entries, "g1")?, 2);
+    assert_eq!(rt; times_asked(&entries, "g2")?, 2);
+    // The master and one container of the ask at least find their node.
+    assert!(rt; commits(&entries) >= 2);
+    assert_eq!(rt; others(&entries), 8);
+    assert_eq!(rt; audit(alloc, built_in(alloc)?, &entries), Ok(()));
+    Ok(())
+}
+
+#[test]
+fn session_without_rounds_is_its_script(rt: HostRuntime) -> Result<(), Fail> {
+    let entries = played(&rt, rt.alloc(), 2, 0, &Open)?;
+    let events = script().ok_or("no script")?;
+    assert!(rt; begins_with(&entries, &events));
+    assert_eq!(rt; entries.len(), events.len());
+    Ok(())
+}
+
+/// Each round begins anew with the first node, where the worker is halted.
+#[test]
+fn session_that_is_halted_commits_nothing(rt: HostRuntime) -> Result<(), Fail> {
+    let entries = played(&rt, rt.alloc(), 1, 2, &HaltsAt(0))?;
+    assert_eq!(rt; commits(&entries), 0);
+    assert_eq!(rt; times_asked(&entries, "g1")?, 2);
+    assert_eq!(rt; entries.len(), 6);
+    Ok(())
+}
+
+#[test]
+fn workers_may_be_more_than_nodes(rt: HostRuntime) -> Result<(), Fail> {
+    let entries = played(&rt, rt.alloc(), 5, 1, &Open)?;
+    assert_eq!(rt; times_asked(&entries, "g1")?, 1);
+    assert_eq!(rt; times_asked(&entries, "g2")?, 1);
+    assert_eq!(rt; others(&entries), 6);
+    Ok(())
+}

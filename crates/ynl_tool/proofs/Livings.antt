@@ -1,0 +1,76 @@
+-- Sessions that are told.
+use Rattle.std.proofs.Common.{◌≡◌, ◌≢◌, ℕ, suc, ◌+◌, ◌<◌, List, [], ◌∷◌, ◌++◌, length, drop, take, get_or, Option, Some, Result, Ok, Err, refl, sym, ap, subst, ◌∙◌, arith, append-nil, append_assoc, length-append, inl, inr}
+use Rattle.std.specs.Prelude.{IfOk, IfErr, option_map}
+use Rattle.std.specs.List.{concat}
+use Rattle.std.specs.Io.KnownBytes.{Appends}
+use Rattle.std.proofs.KnownBytes.{Appends-nil, Appends-trans}
+use Rattle.std.proofs.lemmas.List.Folds.{concat-append}
+use Rattle.std.proofs.Math.Seq.{drop-cons, take-append-add}
+use Rattle.ynl_model.specs.declared.entries.Entry.{Entry}
+use Rattle.ynl_model.specs.Queues.{Config}
+use Rattle.ynl_lines.specs.declared.faults.LineFault.{LineFault}
+use Rattle.ynl_lines.specs.declared.faults.InputFault.TheVariants.{Script as InScript}
+use Rattle.ynl_lines.specs.Writing.{fault_text}
+use Rattle.ynl_session.specs.Sessions.{IsSession}
+use Rattle.ynl_session.specs.declared.sessions.SessionFault.{SessionFault}
+use Rattle.ynl_session.specs.declared.sessions.SessionFault.TheVariants as session
+use Rattle.ynl_tool.specs.declared.run.ToolFault.{ToolFault}
+use Rattle.ynl_tool.specs.declared.run.ToolFault.TheVariants.{Read, Write, NoMemory, Unclosed}
+use Rattle.ynl_tool.specs.declared.run.Summary.{Summary}
+use Rattle.ynl_tool.specs.Lines.{AppendsPart}
+use Rattle.ynl_tool.specs.Input.{Stream, between}
+use Rattle.ynl_tool.specs.Run.{line_of, faulty, fault_lines_of, fault_lines}
+use Rattle.ynl_tool.specs.Running.{Writes}
+use Rattle.ynl_tool.specs.Readings.{ReadsTo}
+use Rattle.ynl_tool.specs.Script.{Script, script_way, script_of}
+use Rattle.ynl_tool.specs.Telling.{AppendsLines, LeavesLine, LeavesLines, SaysLines}
+use Rattle.ynl_tool.specs.Living.{rounds_of, journal_line, journal_lines, session_lines, session_fault, SumsUp, IsLived, LivesWhole, Lives}
+use Rattle.ynl_tool.proofs.Fronts.{part_after}
+use Rattle.ynl_tool.proofs.Runs.{of_some}
+use Rattle.ynl_tool.proofs.Tellings.{all_of_more, leaves_more, leaves_after, one_more}
+
+-- ---- entries, one after another
+
+-- The lines of the entries so far were written.
+pub record EntriesSoFar (old new : Option (List ℕ)) (entries : List Entry) (i : ℕ) : Type 0 where
+  pub done : List (List ℕ)
+  pub goes_on : journal_lines 0 entries ≡ done ++ journal_lines i (drop i entries)
+  pub written : Appends old new (concat done)
+
+pub none_yet : (a : Option (List ℕ)) (entries : List Entry) → EntriesSoFar a a entries 0
+none_yet a entries = record { done = []; goes_on = refl; written = Appends-nil a }
+
+-- what is left begins with the next
+next_entry : (xs : List Entry) (i : ℕ) (x : Entry) → i < length xs → x ≡ get_or xs i x → drop i xs ≡ x ∷ drop (i + 1) xs
+next_entry xs i x h is = let e : suc i ≡ i + 1 = omega arith in drop-cons xs i x h ∙ ap (λ k. get_or xs i x ∷ drop k xs) e ∙ ap (λ y. y ∷ drop (i + 1) xs) (sym is)
+
+module _ (a b c : Option (List ℕ)) (entries : List Entry) (i : ℕ) (so : EntriesSoFar a b entries i) (x : Entry) (left : i < length entries) (is : x ≡ get_or entries i x) where
+  next : journal_lines 0 entries ≡ so.done ++ (journal_line i x ∷ journal_lines (i + 1) (drop (i + 1) entries))
+  next = so.goes_on ∙ ap (λ es. so.done ++ journal_lines i es) (next_entry entries i x left is)
+
+  pub entry_told : Appends b c (journal_line i x) → EntriesSoFar a c entries (i + 1)
+  entry_told written = record {
+    done = so.done ++ journal_line i x ∷ [];
+    goes_on = next ∙ sym (append_assoc so.done (journal_line i x ∷ []) (journal_lines (i + 1) (drop (i + 1) entries)));
+    written = one_more a b c so.done (journal_line i x) so.written written;
+  }
+
+  pub entry_failed : (e : ToolFault) → LeavesLine b c (journal_line i x) e → LeavesLines a c (journal_lines 0 entries) e
+  entry_failed e h = subst (λ ls. LeavesLines a c ls e) (sym next) (leaves_after a b c so.done (journal_line i x) _ e so.written h)
+
+-- ---- lines, and then more
+
+-- lines, and then some of more
+some_after : (a b c : Option (List ℕ)) (xs ys : List (List ℕ)) → Appends a b (concat xs) → AppendsLines b c ys → AppendsLines a c (xs ++ ys)
+some_after a b c xs ys before h = record {
+  count = length xs + h.count;
+  bound = omega (arith, h.bound, length-append xs ys);
+  appended = subst (λ ls. Appends a c ls) (sym (ap concat (take-append-add xs ys h.count) ∙ concat-append xs (take h.count ys))) (Appends-trans a b c (concat xs) (concat (take h.count ys)) before h.appended);
+}
+
+pub says_after : {A : Type 0} (a b c : Option (List ℕ)) (xs ys : List (List ℕ)) (r : Result A ToolFault) → Appends a b (concat xs) → SaysLines b c ys r → SaysLines a c (xs ++ ys) r
+says_after a b c xs ys (Ok x) before h = subst (Appends a c) (sym (concat-append xs ys)) (Appends-trans a b c (concat xs) (concat ys) before h)
+says_after a b c xs ys (Err Read) before h = h
+says_after a b c xs ys (Err Unclosed) before h = h
+says_after a b c xs ys (Err NoMemory) before h = some_after a b c xs ys before h
+says_after a b c xs ys (Err Write) before h = subst (AppendsPart a c) (sym (concat-append xs ys)) (part_after a b c (concat xs) (concat ys) before h)

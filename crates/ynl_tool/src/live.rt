@@ -1,0 +1,150 @@
+//! Telling the closed journal of a live scheduler that is given a script.
+
+ghost use Rattle.std.specs.Prelude.{◌≡◌, ◌<◌, IfOk};
+ghost use Rattle.ynl_tool.specs.Input.{between};
+ghost use Rattle.ynl_tool.specs.Living.{rounds_of, journal_line, journal_lines, session_lines, session_fault, Lives, LivesWhole, SaysLine, SumsUp};
+ghost use Rattle.ynl_tool.specs.Run.{fault_lines};
+ghost use Rattle.ynl_tool.specs.Script.{script_read};
+ghost use Rattle.ynl_tool.specs.Telling.{SaysLines};
+
+use crate::lines_out::write_text;
+use crate::run::{Summary, ToolFault, report, with_newline};
+use crate::script_in::{Script, read_script};
+use std::alloc::{AllocError, Global};
+use std::io::{BufRead, Write};
+use std::sync::Wait;
+use std::thread::Threads;
+use ynl_lines::{InputFault, write_line};
+use ynl_model::Entry;
+use ynl_queues::Config;
+use ynl_session::{SessionFault, run_session};
+use ynl_workers::{Gate, Go};
+
+/// Lets each worker go on.
+pub(crate) struct FreeGate;
+
+impl Gate for FreeGate {
+    ghost use Rattle.std.specs.Prelude.{⊤};
+
+    ghost is_free = { λ _. ⊤ };
+
+    fn before_commit(&self, _worker: u64, _turn: u64) -> Go {
+        Go::On
+    }
+
+    fn after_commit(&self, _worker: u64, _turn: u64) {}
+}
+
+impl From<SessionFault> for ToolFault {
+    ghost use Rattle.std.specs.Prelude.{◌≡◌};
+    ghost use Rattle.ynl_tool.specs.Living.{session_fault};
+
+    ghost from_gives = { λ s e. e ≡ session_fault s };
+
+    fn from(error: SessionFault) -> ToolFault {
+        match error {
+            SessionFault::NoMemory => ToolFault::NoMemory,
+            SessionFault::Unclosed => ToolFault::Unclosed,
+        }
+    }
+}
+
+/// How many rounds are run: none where a line of the script has a fault.
+fn rounds_of(script: &Script, rounds: u64) -> u64
+    ensures { result ≡ rounds_of rounds (script_read script.now) }
+{
+    match script.fault {
+        Some(_) => 0,
+        None => rounds,
+    }
+}
+
+/// The line of an entry.
+fn entry_line(alloc: Global, place: u64, entry: &Entry) -> Result<Vec<u8>, AllocError>
+    ensures { IfOk result (λ line. line.items ≡ journal_line place entry.now) }
+{
+    match &entry.reply {
+        Some(reply) => with_newline(write_line(alloc, place, &entry.event, reply)?),
+        // No history has such an entry.
+        None => Ok(Vec::new(alloc)),
+    }
+}
+
+/// Writes the line of an entry.
+fn tell_entry<W: Write>(
+    alloc: Global,
+    place: u64,
+    entry: &Entry,
+    writer: &mut W,
+) -> Result<(), ToolFault>
+    ensures { SaysLine (W.contents writer.old) (W.contents writer.new) (journal_line place entry.now) result }
+{
+    let line = entry_line(alloc, place, entry)?;
+    write_text(writer, &line)?;
+    Ok(())
+}
+
+/// Writes the lines of the entries.
+fn tell_entries<W: Write>(alloc: Global, entries: &[Entry], writer: &mut W) -> Result<(), ToolFault>
+    ensures { SaysLines (W.contents writer.old) (W.contents writer.new) (journal_lines 0 entries.now) result }
+{
+    for (i, entry) in entries.iter().enumerate() {
+        tell_entry(alloc, i as u64, entry, writer)?;
+    }
+    Ok(())
+}
+
+/// Writes the line of the script's fault, if it has one, and gives what was read.
+fn tell_end<W: Write>(alloc: Global, script: &Script, writer: &mut W) -> Result<Summary, ToolFault>
+    ensures told { SaysLines (W.contents writer.old) (W.contents writer.new) (fault_lines (script_read script.now)) result }
+    ensures summary { IfOk result (SumsUp (script_read script.now)) }
+{
+    match script.fault {
+        Some(fault) => report(alloc, writer, InputFault::Script(fault), script.lines),
+        None => Ok(Summary {
+            lines: script.lines,
+            fault: None,
+        }),
+    }
+}
+
+/// Writes what is told of a session.
+fn tell_session<W: Write>(
+    alloc: Global,
+    entries: &[Entry],
+    script: &Script,
+    writer: &mut W,
+) -> Result<Summary, ToolFault>
+    ensures told { SaysLines (W.contents writer.old) (W.contents writer.new) (session_lines entries.now (script_read script.now)) result }
+    ensures summary { IfOk result (SumsUp (script_read script.now)) }
+{
+    tell_entries(alloc, entries, writer)?;
+    tell_end(alloc, script, writer)
+}
+
+/// Reads the script, and only then calls its events on a live scheduler, runs so many rounds of workers
+/// over the nodes that these leave, and closes the journal; then writes each entry in a line with its
+/// place. A line with a fault ends the script, is reported in the last line written, and no round is run.
+///
+/// Where the journal is not closed nothing is written, and that is told as `Unclosed`. After a read fault
+/// nothing is written either; where memory was refused, whole lines from the front; after a write fault
+/// a front of the text.
+pub fn live_lines<T: Threads + Wait + Sync, R: BufRead, W: Write, G: Gate + Sync>(
+    rt: &T,
+    alloc: Global,
+    config: Config,
+    workers: usize,
+    rounds: u64,
+    gate: &G,
+    reader: &mut R,
+    writer: &mut W,
+) -> Result<Summary, ToolFault>
+    requires { 0 < workers }
+    ensures whole { LivesWhole (G.is_free gate.now) (between (R.remaining reader.old) (R.remaining reader.new)) (between (W.contents writer.old) (W.contents writer.new)) config rounds result }
+    ensures steps { Lives (G.is_free gate.now) (between (R.remaining reader.old) (R.remaining reader.new)) (between (W.contents writer.old) (W.contents writer.new)) config rounds result }
+{
+    let script = read_script(alloc, reader)?;
+    let rounds = rounds_of(&script, rounds);
+    let entries = run_session(rt, alloc, config, &script.events, workers, rounds, gate)?;
+    tell_session(alloc, &entries, &script, writer)
+}
