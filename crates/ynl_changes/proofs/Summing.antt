@@ -1,37 +1,39 @@
 -- What is kept of the use of queues, where containers come and go and leaves change.
-use Rattle.std.proofs.Common.{◌≡◌, ℕ, ◌+◌, ◌<◌, ◌≤◌, ◌^◌, Bool, true, false, not, cond, ◌||◌, List, [], ◌∷◌, ◌++◌, map, length, take, drop, get_or, filter, find, Some, refl, sym, ap, subst, ◌∙◌, arith, append-nil, append_assoc}
+use Rattle.std.proofs.Common.{◌≡◌, ℕ, ◌+◌, ◌<◌, ◌≤◌, ◌^◌, Bool, true, false, not, cond, ◌||◌, List, [], ◌∷◌, ◌++◌, map, length, take, drop, get_or, filter, find, is_some, option_map, Some, refl, sym, ap, subst, ◌∙◌, arith, append-nil, append_assoc}
 use Rattle.std.specs.List.{AllByRecursion, list_any}
 use Rattle.std.specs.Option.{option_map_or}
 use Rattle.std.proofs.lemmas.List.{take_more, take_all, drop_more, drop_all, length-map}
 use Rattle.std.proofs.lemmas.List.Elements.{filter-append}
 use Rattle.ynl_resource.specs.declared.amounts.Resource.{Resource}
-use Rattle.ynl_resource.specs.Names.{root, same_path}
+use Rattle.ynl_resource.specs.Names.{root, same_path, tenant_of}
+use Rattle.ynl_resource.specs.declared.names.Name.{Name}
 use Rattle.ynl_resource.specs.declared.paths.Path.{Path}
 use Rattle.ynl_resource.specs.Tables.{without}
 use Rattle.ynl_model.specs.declared.containers.Placed.{Placed}
 use Rattle.ynl_model.specs.declared.uses.Use.{Use}
 use Rattle.ynl_model.specs.Queues.{Config, QueueRow, is_leaf}
-use Rattle.ynl_model.specs.Applications.{Application, LeafApps, in_leaf, submitted, no_apps}
-use Rattle.ynl_model.specs.Cluster.{Partition, is_partition, sizes, is_master}
+use Rattle.ynl_model.specs.Applications.{Application, LeafApps, leaf_of, in_leaf, submitted, with_app, finished, no_apps}
+use Rattle.ynl_model.specs.Cluster.{Partition, is_partition, sizes, is_master, is_of}
 use Rattle.ynl_laws.specs.Working.{IsWorking, UsesAll, EachUses}
 use Rattle.ynl_laws.specs.Tabled.{Tabled}
+use Rattle.ynl_laws.specs.Finishing.{without_own}
+use Rattle.ynl_laws.specs.Owners.{owner}
 use Rattle.ynl_laws.specs.Uses.{counts, counts_as_guest, use_by, raised_in, lowered_in}
 use Rattle.ynl_laws.proofs.Amounts.{fits-filter, fits-trans}
-use Rattle.ynl_laws.proofs.Events.Kept.{KeepsNames, Extends, leaf_of-kept}
-use Rattle.ynl_laws.proofs.Lists.{Each-all, Each-filter, Each-map, Each-unmap, Each-weaker, Each-with, any-later, map-update}
+use Rattle.ynl_laws.proofs.Events.Kept.{KeepsNames, Extends, leaf_of-kept, with_app-names, finished-names, submit-extends}
+use Rattle.ynl_laws.proofs.Lists.{Each-all, Each-filter, Each-map, Each-unmap, Each-weaker, Each-with, any-later, filter-passes, map-update}
+use Rattle.ynl_laws.proofs.Totals.Owners.{owner-changed, find-finished, find-submitted}
 use Rattle.ynl_laws.proofs.Totals.Used.{use-with, use-without, use-same, use-extends}
 use Rattle.ynl_tables.specs.declared.rows.PartitionRow.{PartitionRow}
 use Rattle.ynl_tables.specs.declared.tables.Tables.{Tables}
 use Rattle.ynl_tables.specs.Bounds.{IsReadable, IsTotal}
-use Rattle.ynl_tables.specs.declared.filled.Filled.{Filled}
-use Rattle.ynl_tables.specs.Filled.{IsFilled}
-use Rattle.ynl_changes.specs.Cells.{FreesIf}
 use Rattle.ynl_tables.specs.Kept.{IsSummed, AreKept, IsKept}
 use Rattle.ynl_tables.specs.Numbers.{AreNumbered}
 use Rattle.ynl_tables.specs.Tables.{partition_of, partitions_of, state_of}
 use Rattle.ynl_tables.proofs.Adding.{small_part}
 use Rattle.ynl_tables.proofs.Numbering.{path_self}
-use Rattle.ynl_changes.specs.Cells.{IsSmallUse}
+use Rattle.ynl_changes.specs.Cells.{IsSmallUse, LeavesIf}
+use Rattle.ynl_changes.proofs.ByUser.{users_alike}
 use Rattle.ynl_changes.proofs.Serves.{bounded}
 
 -- maps that are the same at each thing
@@ -109,19 +111,19 @@ less_one leaves queue goes xs i x inside e =
     go true front rest = use-without leaves queue front rest x ∙ ap (use_by leaves queue) (ap (λ ys. ys ++ rest) (sym (append-nil front)))
     go false front rest = ap (use_by leaves queue) (sym (append_assoc front (x ∷ []) rest))
 
--- the same of what is kept of nodes
-pub freed_one : (old new : Filled) (goes : Placed → Bool) (xs : List Placed) (i : ℕ) (x : Placed) → i < length xs → x ≡ get_or xs i x → FreesIf (goes x) old new x → IsFilled old (so_far goes xs i) → IsFilled new (so_far goes xs (i + 1))
-freed_one old new goes xs i x inside e frees filled =
+-- what was so of the containers so far is so in another way with one more of them gone over
+pub left_one : (Was Is : List Placed → Type 0) (goes : Placed → Bool) (xs : List Placed) (i : ℕ) (x : Placed) → i < length xs → x ≡ get_or xs i x → LeavesIf (goes x) x Was Is → Was (so_far goes xs i) → Is (so_far goes xs (i + 1))
+left_one Was Is goes xs i x inside e leaves was =
     let front : List Placed = without goes (take i xs) in
     let rest : List Placed = drop (i + 1) xs in
     let here : so_far goes xs i ≡ front ++ x ∷ rest = ap (λ ys. front ++ ys) (drop_next xs i x inside e) in
     let next : so_far goes xs (i + 1) ≡ (front ++ cond (not (goes x)) (x ∷ []) []) ++ rest =
     ap (λ ys. without goes ys ++ rest) (take_more xs i x inside ∙ ap (λ z. take i xs ++ z ∷ []) (sym e)) ∙ ap (λ ys. ys ++ rest) (filter-append (λ k. not (goes k)) (take i xs) (x ∷ [])) in
-    subst (IsFilled new) (sym next) (go (goes x) front rest frees (subst (IsFilled old) here filled))
+    subst Is (sym next) (go (goes x) front rest leaves (subst Was here was))
   where
-    go : (b : Bool) (front rest : List Placed) → FreesIf b old new x → IsFilled old (front ++ x ∷ rest) → IsFilled new ((front ++ cond (not b) (x ∷ []) []) ++ rest)
-    go true front rest frees filled = subst (IsFilled new) (ap (λ ys. ys ++ rest) (sym (append-nil front))) (frees front rest filled)
-    go false front rest same filled = subst (IsFilled new) (sym (append_assoc front (x ∷ []) rest)) (subst (λ f. IsFilled f (front ++ x ∷ rest)) (sym same) filled)
+    go : (b : Bool) (front rest : List Placed) → LeavesIf b x Was Is → Was (front ++ x ∷ rest) → Is ((front ++ cond (not b) (x ∷ []) []) ++ rest)
+    go true front rest leaves was = subst Is (ap (λ ys. ys ++ rest) (sym (append-nil front))) (leaves front rest was)
+    go false front rest leaves was = subst Is (sym (append_assoc front (x ∷ []) rest)) (leaves (front ++ x ∷ rest) was)
 
 pub all_gone : (goes : Placed → Bool) (xs : List Placed) (i : ℕ) → length xs ≤ i → so_far goes xs i ≡ without goes xs
 all_gone goes xs i past = ap (λ ys. without goes (take i xs) ++ ys) (drop_all i xs past) ∙ append-nil (without goes (take i xs)) ∙ ap (without goes) (take_all i xs past)
@@ -132,30 +134,63 @@ numbered_leaf : (queues : List Path) (leaf : Path) (change : LeafApps → LeafAp
 numbered_leaf queues leaf change same leaves h =
     subst (AllByRecursion (λ leaf. list_any (same_path leaf) queues ≡ true)) (sym (map-update (λ (row : LeafApps). row.leaf) (λ row. same_path row.leaf leaf) change same leaves)) h
 
--- a change of a leaf that keeps its name and the names used there
-pub kept_leaf : (queues : List Path) (leaf : Path) (change : LeafApps → LeafApps) → KeepsNames change → (leaves : List LeafApps) (rows : List PartitionRow) → AreKept queues leaves rows → AreKept queues (in_leaf leaf change leaves) rows
-kept_leaf queues leaf change names leaves rows h = record {
-  numbered = numbered_leaf queues leaf change names.leaf leaves h.numbered;
-  summed = Each-weaker (IsSummed queues leaves) (IsSummed queues (in_leaf leaf change leaves))
-      (λ row e. record {
-        uses = e.uses ∙ map_each (λ queue. use_by leaves queue row.containers.items) (λ queue. use_by (in_leaf leaf change leaves) queue row.containers.items)
-            (λ queue. sym (use-same leaves (in_leaf leaf change leaves) (leaf_of-kept leaf change names leaves) queue row.containers.items)) (root ∷ queues);
-        filled = e.filled;
-      }) rows h.summed;
+-- what a row keeps, where the leaves and the users of its containers are what they were
+summed_alike : (queues : List Path) (old new : List LeafApps) (row : PartitionRow) (P : Placed → Type 0) → ((k : Placed) → P k → leaf_of new k.tenant k.app ≡ leaf_of old k.tenant k.app) → ((k : Placed) → P k → owner new k.tenant k.app ≡ owner old k.tenant k.app)
+    → AllByRecursion P row.containers.items → ((queue : Path) → use_by new queue row.containers.items ≡ use_by old queue row.containers.items) → IsSummed queues old row → IsSummed queues new row
+summed_alike queues old new row P leaf mine all uses h = record {
+  uses = h.uses ∙ map_each (λ queue. use_by old queue row.containers.items) (λ queue. use_by new queue row.containers.items) (λ queue. sym (uses queue)) (root ∷ queues);
+  users = users_alike queues old new P leaf mine row.users.items row.containers.items all h.users;
+  filled = h.filled;
 }
 
--- a new application, whose name no container has
-pub kept_submission : (queues : List Path) (app : Application) (leaves : List LeafApps) (rows : List PartitionRow) → Extends leaves (in_leaf app.leaf (submitted app) leaves) → EachUses leaves (partitions_of rows) → AreKept queues leaves rows
-    → AreKept queues (in_leaf app.leaf (submitted app) leaves) rows
-kept_submission queues app leaves rows extends known h = record {
-  numbered = numbered_leaf queues app.leaf (submitted app) (λ row. refl) leaves h.numbered;
-  summed = Each-with (λ row. UsesAll leaves row.containers.items) (IsSummed queues leaves) (IsSummed queues (in_leaf app.leaf (submitted app) leaves))
-      (λ row all e. record {
-        uses = e.uses ∙ map_each (λ queue. use_by leaves queue row.containers.items) (λ queue. use_by (in_leaf app.leaf (submitted app) leaves) queue row.containers.items)
-            (λ queue. sym (use-extends leaves (in_leaf app.leaf (submitted app) leaves) queue row.containers.items extends all)) (root ∷ queues);
-        filled = e.filled;
-      }) rows (Each-unmap partition_of (λ row. UsesAll leaves row.containers) rows known) h.summed;
+-- a change of a leaf that keeps its name and the names used there, and the users of some containers
+kept_change : (queues : List Path) (leaf : Path) (change : LeafApps → LeafApps) → KeepsNames change → (leaves : List LeafApps) (rows : List PartitionRow) (P : Placed → Type 0)
+    → ((k : Placed) → P k → owner (in_leaf leaf change leaves) k.tenant k.app ≡ owner leaves k.tenant k.app) → AllByRecursion (λ row. AllByRecursion P row.containers.items) rows → AreKept queues leaves rows → AreKept queues (in_leaf leaf change leaves) rows
+kept_change queues leaf change names leaves rows P mine all h = record {
+  numbered = numbered_leaf queues leaf change names.leaf leaves h.numbered;
+  summed = Each-with (λ row. AllByRecursion P row.containers.items) (IsSummed queues leaves) (IsSummed queues (in_leaf leaf change leaves))
+      (λ row each e. summed_alike queues leaves (in_leaf leaf change leaves) row P (λ k p. leaf_of-kept leaf change names leaves k.tenant k.app) mine each
+      (λ queue. use-same leaves (in_leaf leaf change leaves) (leaf_of-kept leaf change names leaves) queue row.containers.items) e) rows all h.summed;
 }
+
+-- an application of a leaf that is changed, and keeps its name and its user
+pub kept_leaf : (queues : List Path) (leaf : Path) (name : Name) (change : Application → Application) → ((app : Application) → (change app).name ≡ app.name) → ((app : Application) → (change app).user ≡ app.user) → (leaves : List LeafApps)
+    (rows : List PartitionRow) → AreKept queues leaves rows → AreKept queues (in_leaf leaf (with_app name change) leaves) rows
+kept_leaf queues leaf name change named used leaves rows h =
+    kept_change queues leaf (with_app name change) (with_app-names name change) leaves rows (λ k. Unit {0}) (λ k p. owner-changed leaf name change named used leaves k.tenant k.app)
+    (Each-all (λ row. AllByRecursion (λ k. Unit {0}) row.containers.items) (λ row. Each-all (λ k. Unit {0}) (λ k. tt) row.containers.items) rows) h
+
+-- an application that is finished, and has no containers any more
+pub kept_finished : (queues : List Path) (leaf : Path) (name : Name) (leaves : List LeafApps) (old : List Partition) (rows : List PartitionRow) → partitions_of rows ≡ map (without_own (tenant_of leaf) name) old → AreKept queues leaves rows
+    → AreKept queues (in_leaf leaf (finished name) leaves) rows
+kept_finished queues leaf name leaves old rows gone h =
+    let Off : Placed → Type 0 = λ k. is_of (tenant_of leaf) name k ≡ false in
+    let each : AllByRecursion (λ (row : Partition). AllByRecursion Off row.containers) (partitions_of rows) =
+    subst (AllByRecursion (λ (row : Partition). AllByRecursion Off row.containers)) (sym gone)
+    (Each-map (λ (row : Partition). Unit {0}) (λ (row : Partition). AllByRecursion Off row.containers) (without_own (tenant_of leaf) name) (λ row _. none_own row.containers) old (Each-all (λ (row : Partition). Unit {0}) (λ row. tt) old)) in
+    kept_change queues leaf (finished name) (finished-names name) leaves rows Off (λ k off. ap (option_map (λ app. app.user)) (find-finished leaf name leaves k.tenant k.app off)) (Each-unmap partition_of (λ row. AllByRecursion Off row.containers) rows each) h
+  where
+    none_own : (ks : List Placed) → AllByRecursion (λ k. is_of (tenant_of leaf) name k ≡ false) (without (is_of (tenant_of leaf) name) ks)
+    none_own ks = Each-weaker (λ k. not (is_of (tenant_of leaf) name k) ≡ true) (λ k. is_of (tenant_of leaf) name k ≡ false) (λ k e. go (is_of (tenant_of leaf) name k) e)
+        (without (is_of (tenant_of leaf) name) ks) (filter-passes (λ k. not (is_of (tenant_of leaf) name k)) ks)
+      where
+        go : (b : Bool) → not b ≡ true → b ≡ false
+        go true e = absurd (cc)
+        go false e = refl
+
+-- a new application, whose name no container has
+pub kept_submission : (queues : List Path) (app : Application) (leaves : List LeafApps) (rows : List PartitionRow) → is_some (leaf_of leaves (tenant_of app.leaf) app.name) ≡ false → EachUses leaves (partitions_of rows) → AreKept queues leaves rows
+    → AreKept queues (in_leaf app.leaf (submitted app) leaves) rows
+kept_submission queues app leaves rows unused known h =
+    let new : List LeafApps = in_leaf app.leaf (submitted app) leaves in
+    let extends : Extends leaves new = submit-extends app leaves unused in
+    record {
+      numbered = numbered_leaf queues app.leaf (submitted app) (λ row. refl) leaves h.numbered;
+      summed = Each-with (λ row. UsesAll leaves row.containers.items) (IsSummed queues leaves) (IsSummed queues new)
+          (λ row all e. summed_alike queues leaves new row (λ k. is_some (leaf_of leaves k.tenant k.app) ≡ true) (λ k used. extends k.tenant k.app used)
+          (λ k used. ap (option_map (λ app. app.user)) (find-submitted app leaves unused k.tenant k.app used)) all (λ queue. use-extends leaves new queue row.containers.items extends all) e)
+          rows (Each-unmap partition_of (λ row. UsesAll leaves row.containers) rows known) h.summed;
+    }
 
 -- ---- at first
 

@@ -1,5 +1,5 @@
--- What is kept of the use of queues, with a container more or less. The queues that are named here are those below root.
-use Rattle.std.specs.Prelude.{◌≡◌, ◌<◌, ◌^◌, Bool, true, false, List, ◌∷◌, map, if◌then◌else◌}
+-- What is kept of use, with a container more or less. The queues that are named here are those below root.
+use Rattle.std.specs.Prelude.{◌≡◌, ◌<◌, ◌^◌, Bool, true, false, List, ◌∷◌, ◌++◌, map, if◌then◌else◌}
 use Rattle.ynl_resource.specs.Names.{root, same_id, same_name}
 use Rattle.ynl_resource.specs.declared.paths.Path.{Path}
 use Rattle.ynl_model.specs.declared.containers.Placed.{Placed}
@@ -7,9 +7,7 @@ use Rattle.ynl_model.specs.declared.uses.Use.{Use}
 use Rattle.ynl_model.specs.Applications.{LeafApps}
 use Rattle.ynl_model.specs.Cluster.{is_of}
 use Rattle.ynl_laws.specs.Uses.{raised_in, lowered_in}
-use Rattle.ynl_tables.specs.declared.filled.Filled.{Filled}
 use Rattle.ynl_tables.specs.Bounds.{IsTotal}
-use Rattle.ynl_tables.specs.Filled.{Frees}
 use Rattle.ynl_changes.specs.declared.ending.Going.{Going}
 use Rattle.ynl_changes.specs.declared.ending.Going.TheVariants.{OfId, OnNode, OfApp}
 
@@ -35,7 +33,7 @@ goes (OfId id) container = same_id container.id id.now
 goes (OnNode name) container = same_name container.node name.now
 goes (OfApp tenant app) container = is_of tenant.now app.now container
 
--- a node's use is lowered by a container, if it goes
-abbrev pub FreesIf : Bool → Filled → Filled → Placed → Type 0
-FreesIf true old new container = Frees old new container
-FreesIf false old new container = new ≡ old
+-- what was so of containers is so in another way without one of them, if it goes
+abbrev pub LeavesIf : Bool → Placed → (List Placed → Type 0) → (List Placed → Type 0) → Type 0
+LeavesIf true container Was Is = (before after : List Placed) → Was (before ++ container ∷ after) → Is (before ++ after)
+LeavesIf false container Was Is = (containers : List Placed) → Was containers → Is containers

@@ -11,7 +11,9 @@ use Rattle.ynl_resource.specs.declared.paths.Path.{Path}
 use Rattle.ynl_model.specs.Applications.{LeafApps}
 use Rattle.ynl_model.specs.Cluster.{Partition}
 use Rattle.ynl_tables.specs.declared.rows.PartitionRow.{PartitionRow}
-use Rattle.ynl_tables.specs.Kept.{IsSummed, AreSummed}
+use Rattle.ynl_tables.specs.declared.tables.Tables.{Tables}
+use Rattle.ynl_tables.specs.Kept.{IsSummed, AreSummed, AreKept}
+use Rattle.ynl_tables.specs.Tables.{leaves_of}
 
 -- the row of the partition is changed, and others stay
 abbrev pub in_row : Label → (Partition → Partition) → Partition → Partition
@@ -36,3 +38,7 @@ KeepsSum old new = (queues : List Path) (leaves : List LeafApps) → IsSummed qu
 -- and so in each row
 abbrev pub KeepsSums : List PartitionRow → List PartitionRow → Type 0
 KeepsSums old new = (queues : List Path) (leaves : List LeafApps) → AreSummed queues leaves old → AreSummed queues leaves new
+
+-- where what is kept of use was right, it is so still
+abbrev pub KeepsAmounts : Tables → Tables → Type 0
+KeepsAmounts old new = AreKept old.numbers (leaves_of old.leaves.items) old.partitions.items → AreKept new.numbers (leaves_of new.leaves.items) new.partitions.items

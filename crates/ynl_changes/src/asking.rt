@@ -6,6 +6,7 @@ ghost use Rattle.ynl_resource.specs.declared.paths.Path.{Path};
 ghost use Rattle.ynl_resource.specs.Tables.{without, put};
 ghost use Rattle.ynl_model.specs.Applications.{in_leaf, with_app, is_ask_of, set_ask};
 ghost use Rattle.ynl_tables.specs.Tables.{app_of, leaf_of_row, leaves_of};
+ghost use Rattle.ynl_changes.specs.Marking.{KeepsMark, KeepsMarksAmong, KeepsMarksIn, KeepsMarks};
 ghost use Rattle.ynl_changes.specs.Asking.{asked_at, asked_in, HasAskCapacity, HasAskCapacityIn};
 
 use std::alloc::AllocError;
@@ -57,7 +58,8 @@ fn drop_ask(asks: &mut Vec<AskRow>, label: &Label, priority: u32)
 /// The ask takes the place of the one of its label and priority; with count 0 that one goes.
 fn set_ask(app: &mut App, ask: &AskRow)
     requires { 0 < ask.now.count → vec_len app.old.asks + 1 ≤ vec_capacity app.old.asks }
-    ensures { (leaf : Path) → app_of leaf app.new ≡ set_ask ask.now (app_of leaf app.old) }
+    ensures marks { KeepsMark app.old app.new }
+    ensures meaning { (leaf : Path) → app_of leaf app.new ≡ set_ask ask.now (app_of leaf app.old) }
 {
     if ask.count == 0 {
         drop_ask(&mut app.asks, &ask.label, ask.priority);
@@ -68,7 +70,8 @@ fn set_ask(app: &mut App, ask: &AskRow)
 
 fn ask_at(app: &mut App, name: &Name, ask: &AskRow)
     requires { HasAskCapacity name.now ask.now.count app.old }
-    ensures { (leaf : Path) → app_of leaf app.new ≡ asked_at name.now ask.now (app_of leaf app.old) }
+    ensures marks { KeepsMark app.old app.new }
+    ensures meaning { (leaf : Path) → app_of leaf app.new ≡ asked_at name.now ask.now (app_of leaf app.old) }
 {
     if app.name == *name {
         set_ask(app, ask);
@@ -77,7 +80,8 @@ fn ask_at(app: &mut App, name: &Name, ask: &AskRow)
 
 fn ask_among(apps: &mut Vec<App>, name: &Name, ask: &AskRow)
     requires { AllByRecursion (HasAskCapacity name.now ask.now.count) apps.old.items }
-    ensures { (leaf : Path) → map (app_of leaf) apps.new.items ≡ map (asked_at name.now ask.now) (map (app_of leaf) apps.old.items) }
+    ensures marks { KeepsMarksAmong apps.old.items apps.new.items }
+    ensures meaning { (leaf : Path) → map (app_of leaf) apps.new.items ≡ map (asked_at name.now ask.now) (map (app_of leaf) apps.old.items) }
 {
     for app in apps.iter_mut() {
         ask_at(app, name, ask);
@@ -86,7 +90,8 @@ fn ask_among(apps: &mut Vec<App>, name: &Name, ask: &AskRow)
 
 fn ask_in(row: &mut LeafRow, leaf: &Path, name: &Name, ask: &AskRow)
     requires { HasAskCapacityIn leaf.now name.now ask.now.count row.old }
-    ensures { leaf_of_row row.new ≡ asked_in leaf.now name.now ask.now (leaf_of_row row.old) }
+    ensures marks { KeepsMarksIn row.old row.new }
+    ensures meaning { leaf_of_row row.new ≡ asked_in leaf.now name.now ask.now (leaf_of_row row.old) }
 {
     if row.path == *leaf {
         ask_among(&mut row.apps, name, ask);
@@ -96,7 +101,8 @@ fn ask_in(row: &mut LeafRow, leaf: &Path, name: &Name, ask: &AskRow)
 /// An application of a leaf asks.
 pub fn ask_for(rows: &mut Vec<LeafRow>, leaf: &Path, name: &Name, ask: &AskRow)
     requires { AllByRecursion (HasAskCapacityIn leaf.now name.now ask.now.count) rows.old.items }
-    ensures { leaves_of rows.new.items ≡ in_leaf leaf.now (with_app name.now (set_ask ask.now)) (leaves_of rows.old.items) }
+    ensures marks { KeepsMarks rows.old.items rows.new.items }
+    ensures meaning { leaves_of rows.new.items ≡ in_leaf leaf.now (with_app name.now (set_ask ask.now)) (leaves_of rows.old.items) }
 {
     for row in rows.iter_mut() {
         ask_in(row, leaf, name, ask);
@@ -105,6 +111,7 @@ pub fn ask_for(rows: &mut Vec<LeafRow>, leaf: &Path, name: &Name, ask: &AskRow)
 
 fn reserve_at(app: &mut App, name: &Name, count: u32) -> Result<(), AllocError>
     ensures meaning { (leaf : Path) → app_of leaf app.new ≡ app_of leaf app.old }
+    ensures marks { KeepsMark app.old app.new }
     ensures capacity { OnOk result (HasAskCapacity name.now count app.new) }
     ensures sure { count ≡ 0 → IsOk result }
 {
@@ -116,6 +123,7 @@ fn reserve_at(app: &mut App, name: &Name, count: u32) -> Result<(), AllocError>
 
 fn reserve_among(apps: &mut Vec<App>, name: &Name, count: u32) -> Result<(), AllocError>
     ensures meaning { (leaf : Path) → map (app_of leaf) apps.new.items ≡ map (app_of leaf) apps.old.items }
+    ensures marks { KeepsMarksAmong apps.old.items apps.new.items }
     ensures capacity { OnOk result (AllByRecursion (HasAskCapacity name.now count) apps.new.items) }
     ensures sure { count ≡ 0 → IsOk result }
 {
@@ -127,6 +135,7 @@ fn reserve_among(apps: &mut Vec<App>, name: &Name, count: u32) -> Result<(), All
 
 fn reserve_in(row: &mut LeafRow, leaf: &Path, name: &Name, count: u32) -> Result<(), AllocError>
     ensures meaning { leaf_of_row row.new ≡ leaf_of_row row.old }
+    ensures marks { KeepsMarksIn row.old row.new }
     ensures capacity { OnOk result (HasAskCapacityIn leaf.now name.now count row.new) }
     ensures sure { count ≡ 0 → IsOk result }
 {
@@ -144,6 +153,7 @@ pub fn reserve_ask(
     count: u32,
 ) -> Result<(), AllocError>
     ensures meaning { leaves_of rows.new.items ≡ leaves_of rows.old.items }
+    ensures marks { KeepsMarks rows.old.items rows.new.items }
     ensures capacity { OnOk result (AllByRecursion (HasAskCapacityIn leaf.now name.now count) rows.new.items) }
     ensures sure { count ≡ 0 → IsOk result }
 {

@@ -1,24 +1,26 @@
 //! Containers that end.
 
-ghost use Rattle.std.specs.Prelude.{◌≡◌, ◌∷◌, length, map};
-ghost use Rattle.ynl_resource.specs.Names.{root};
+ghost use Rattle.std.specs.Prelude.{◌≡◌, [], ◌∷◌, filter, length, map};
+ghost use Rattle.ynl_resource.specs.Names.{root, same_id};
 ghost use Rattle.ynl_resource.specs.Tables.{without};
-ghost use Rattle.ynl_model.specs.Cluster.{in_partition};
+ghost use Rattle.ynl_model.specs.Cluster.{containers_on, in_partition};
 ghost use Rattle.ynl_model.specs.Changes.{end};
 ghost use Rattle.ynl_laws.specs.Uses.{use_by};
-ghost use Rattle.ynl_tables.specs.Filled.{IsFilled};
-ghost use Rattle.ynl_tables.specs.Kept.{AreKept, IsKept, IsSummed};
+ghost use Rattle.ynl_tables.specs.Kept.{AreByUser, AreKept, IsKept, IsSummed, stands_on};
 ghost use Rattle.ynl_tables.specs.Numbers.{AreNumbered};
+ghost use Rattle.ynl_tables.specs.Sums.{AreSums};
 ghost use Rattle.ynl_tables.specs.Tables.{state_of, leaves_of, partition_of, partitions_of};
-ghost use Rattle.ynl_changes.specs.Cells.{LowersAll, FreesIf, goes};
+ghost use Rattle.ynl_changes.specs.Cells.{LowersAll, LeavesIf, goes};
 ghost use Rattle.ynl_changes.specs.Rows.{in_row, without_id};
 
 use crate::cells::lower;
+use crate::marking::mark;
+use crate::users::{Change, change_users};
 use ynl_model::{Placed, Use};
 use ynl_queues::Config;
 use ynl_resource::{Id, Label, Name};
 use ynl_tables::{
-    Filled, LeafRow, PartitionRow, QueueNumbers, Tables, is_own, is_same, is_same_id, next_clock,
+    LeafRow, PartitionRow, QueueNumbers, Sums, Tables, is_own, is_same, is_same_id, next_clock,
 };
 
 /// Which containers go.
@@ -78,25 +80,56 @@ fn lower_by(
 }
 
 /// What is used of a node is lowered by a container, if it goes.
-fn free_if(filled: &mut Filled, container: &Placed, going: Going<'_>)
-    ensures { FreesIf (goes going.entry container.now) filled.old filled.new container.now }
+fn free_if(filled: &mut Sums, container: &Placed, going: Going<'_>)
+    ensures { LeavesIf (goes going.entry container.now) container.now (AreSums stands_on filled.old) (AreSums stands_on filled.new) }
 {
     if goes(going, container) {
-        filled.free(container);
+        filled.lower(&container.node, &container.size);
     }
 }
 
 /// What is used of nodes is lowered by each of the containers that goes.
-fn free_by(filled: &mut Filled, containers: &[Placed], going: Going<'_>)
-    requires { IsFilled filled.old containers.now }
-    ensures { IsFilled filled.new (without (goes going.entry) containers.now) }
+fn free_by(filled: &mut Sums, containers: &[Placed], going: Going<'_>)
+    requires { AreSums stands_on filled.old containers.now }
+    ensures { AreSums stands_on filled.new (without (goes going.entry) containers.now) }
 {
     for container in containers {
         free_if(filled, container, going);
     }
 }
 
-/// Containers go from a row, and its queues and nodes use less by them.
+/// What users use is lowered by a container, if it goes.
+fn lower_users_if(
+    users: &mut Vec<Sums>,
+    numbers: &QueueNumbers,
+    leaves: &[LeafRow],
+    container: &Placed,
+    going: Going<'_>,
+)
+    ensures { LeavesIf (goes going.entry container.now) container.now (AreByUser numbers.now (leaves_of leaves.now) users.old.items) (AreByUser numbers.now (leaves_of leaves.now) users.new.items) }
+{
+    if goes(going, container) {
+        change_users(users, numbers, leaves, Change::Less, container);
+    }
+}
+
+/// What users use is lowered by each of the containers that goes.
+fn lower_users_by(
+    users: &mut Vec<Sums>,
+    numbers: &QueueNumbers,
+    leaves: &[LeafRow],
+    containers: &[Placed],
+    going: Going<'_>,
+)
+    requires { AreByUser numbers.now (leaves_of leaves.now) users.old.items containers.now }
+    ensures { AreByUser numbers.now (leaves_of leaves.now) users.new.items (without (goes going.entry) containers.now) }
+{
+    for container in containers {
+        lower_users_if(users, numbers, leaves, container, going);
+    }
+}
+
+/// Containers go from a row, and its queues, their users and its nodes use less by them.
 pub fn drop_going(
     row: &mut PartitionRow,
     numbers: &QueueNumbers,
@@ -109,6 +142,7 @@ pub fn drop_going(
     ensures summed { IsSummed numbers.now (leaves_of leaves.now) row.new }
 {
     lower_by(&mut row.uses, numbers, leaves, &row.containers, going);
+    lower_users_by(&mut row.users, numbers, leaves, &row.containers, going);
     free_by(&mut row.filled, &row.containers, going);
     row.containers.retain(|container| !goes(going, container));
 }
@@ -154,7 +188,8 @@ fn end_on(
 /// A container ends: it goes from its partition, whose clock rises and is the node's stamp.
 #[tactic(auto, unfolding(ynl_model::specs::Changes::end, ynl_model::specs::Changes::changed_at))]
 pub fn end(config: &Config, tables: &mut Tables, container: &Placed)
-    requires { IsKept tables.old }
+    requires once { filter (λ other. same_id other.id container.now.id) (containers_on (state_of tables.old) container.now.id.label) ≡ container.now ∷ [] }
+    requires kept { IsKept tables.old }
     ensures state { state_of tables.new ≡ end config.now (state_of tables.old) container.now }
     ensures kept { IsKept tables.new }
 {
@@ -169,4 +204,5 @@ pub fn end(config: &Config, tables: &mut Tables, container: &Placed)
         clock,
         &container.id,
     );
+    mark(&mut tables.leaves, &label, container, 0);
 }

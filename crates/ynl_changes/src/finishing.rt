@@ -1,20 +1,22 @@
 //! Applications that finish: the clocks rise once for each of their containers, and then the
 //! containers go. So no list of them is needed.
 
-ghost use Rattle.std.specs.Prelude.{◌≡◌, map, filter, slice_get, if◌then◌else◌};
+ghost use Rattle.std.specs.Prelude.{◌≡◌, Some, map, filter, option_map, slice_get, if◌then◌else◌};
 ghost use Rattle.std.specs.Option.{option_map_or};
-ghost use Rattle.ynl_resource.specs.Names.{same_name, same_path};
+ghost use Rattle.ynl_resource.specs.Names.{same_name, same_path, tenant_of};
 ghost use Rattle.ynl_resource.specs.declared.paths.Path.{Path};
 ghost use Rattle.ynl_resource.specs.Tables.{without};
-ghost use Rattle.ynl_model.specs.Applications.{Application, in_leaf, finished};
+ghost use Rattle.ynl_model.specs.Applications.{Application, find_app, in_leaf, finished};
 ghost use Rattle.ynl_model.specs.Cluster.{is_of};
 ghost use Rattle.ynl_model.specs.Changes.{all_own, app_finishes};
 ghost use Rattle.ynl_laws.specs.Working.{IsOrdered};
+ghost use Rattle.ynl_laws.specs.Tabled.{Tabled};
 ghost use Rattle.ynl_laws.specs.Finishing.{clock_rises, clocks_rise, without_own};
 ghost use Rattle.ynl_tables.specs.Kept.{AreKept, IsKept, IsSummed};
 ghost use Rattle.ynl_tables.specs.Numbers.{AreNumbered};
 ghost use Rattle.ynl_tables.specs.Tables.{state_of, app_of, leaf_of_row, leaves_of, partition_of, partitions_of};
-ghost use Rattle.ynl_changes.specs.Rows.{containers_at_place};
+ghost use Rattle.ynl_changes.specs.Marking.{KeepsMarksAmong, KeepsMarksIn, KeepsMarks};
+ghost use Rattle.ynl_changes.specs.Rows.{KeepsAmounts, containers_at_place};
 
 use crate::ending::{Going, drop_going};
 use crate::placing::set_clock;
@@ -29,7 +31,8 @@ use ynl_tables::{
 #[tactic(auto, unfolding(ynl_model::specs::Changes::changed_at))]
 fn raise_clock(config: &Config, tables: &mut Tables, container: &Placed)
     ensures state { state_of tables.new ≡ clock_rises config.now (state_of tables.old) container.now }
-    ensures kept { IsKept tables.old → IsKept tables.new }
+    ensures leaves { tables.new.leaves.items ≡ tables.old.leaves.items }
+    ensures kept { KeepsAmounts tables.old tables.new }
 {
     let label = container.id.label;
     let clock = next_clock(config, tables, &label);
@@ -64,7 +67,8 @@ fn raise_clock_at(
     app: &Name,
 )
     ensures state { state_of tables.new ≡ option_map_or (λ container. if is_of tenant.now app.now container then clock_rises config.now (state_of tables.old) container else state_of tables.old) (slice_get (containers_at_place (state_of tables.old).partitions row) place) (state_of tables.old) }
-    ensures kept { IsKept tables.old → IsKept tables.new }
+    ensures leaves { tables.new.leaves.items ≡ tables.old.leaves.items }
+    ensures kept { KeepsAmounts tables.old tables.new }
 {
     if let Some(container) = container_at(&tables.partitions, row, place) {
         if is_own(&container, tenant, app) {
@@ -76,7 +80,8 @@ fn raise_clock_at(
 /// The clock rises for each container of a row that is the application's.
 fn raise_clocks_of_row(config: &Config, tables: &mut Tables, row: usize, tenant: &[u8], app: &Name)
     ensures state { state_of tables.new ≡ clocks_rise config.now (filter (is_of tenant.now app.now) (containers_at_place (state_of tables.old).partitions row)) (state_of tables.old) }
-    ensures kept { IsKept tables.old → IsKept tables.new }
+    ensures leaves { tables.new.leaves.items ≡ tables.old.leaves.items }
+    ensures kept { KeepsAmounts tables.old tables.new }
 {
     let count = containers_of(&tables.partitions, row).len();
     for place in 0..count {
@@ -87,7 +92,8 @@ fn raise_clocks_of_row(config: &Config, tables: &mut Tables, row: usize, tenant:
 /// The clocks rise for all containers of an application, in the order of their ids.
 fn raise_clocks(config: &Config, tables: &mut Tables, tenant: &[u8], app: &Name)
     ensures state { state_of tables.new ≡ clocks_rise config.now (all_own (state_of tables.old) tenant.now app.now) (state_of tables.old) }
-    ensures kept { IsKept tables.old → IsKept tables.new }
+    ensures leaves { tables.new.leaves.items ≡ tables.old.leaves.items }
+    ensures kept { KeepsAmounts tables.old tables.new }
 {
     let count = tables.partitions.len();
     for row in 0..count {
@@ -128,14 +134,16 @@ fn drop_all_own(
 }
 
 fn drop_app(apps: &mut Vec<App>, name: &Name)
-    ensures { (leaf : Path) → map (app_of leaf) apps.new.items ≡ without (λ app. same_name app.name name.now) (map (app_of leaf) apps.old.items) }
+    ensures marks { KeepsMarksAmong apps.old.items apps.new.items }
+    ensures meaning { (leaf : Path) → map (app_of leaf) apps.new.items ≡ without (λ app. same_name app.name name.now) (map (app_of leaf) apps.old.items) }
 {
     apps.retain(|app| app.name != *name);
 }
 
 /// An application is finished on a row, if it is that of its leaf.
 fn finish_on(row: &mut LeafRow, leaf: &Path, name: &Name)
-    ensures { leaf_of_row row.new ≡ (if same_path row.old.path leaf.now then finished name.now (leaf_of_row row.old) else leaf_of_row row.old) }
+    ensures marks { KeepsMarksIn row.old row.new }
+    ensures meaning { leaf_of_row row.new ≡ (if same_path row.old.path leaf.now then finished name.now (leaf_of_row row.old) else leaf_of_row row.old) }
 {
     if row.path == *leaf {
         drop_app(&mut row.apps, name);
@@ -144,7 +152,8 @@ fn finish_on(row: &mut LeafRow, leaf: &Path, name: &Name)
 
 /// An application of a leaf is finished: of it only the name stays.
 fn finish_in(rows: &mut Vec<LeafRow>, leaf: &Path, name: &Name)
-    ensures { leaves_of rows.new.items ≡ in_leaf leaf.now (finished name.now) (leaves_of rows.old.items) }
+    ensures marks { KeepsMarks rows.old.items rows.new.items }
+    ensures meaning { leaves_of rows.new.items ≡ in_leaf leaf.now (finished name.now) (leaves_of rows.old.items) }
 {
     for row in rows.iter_mut() {
         finish_on(row, leaf, name);
@@ -156,6 +165,8 @@ fn finish_in(rows: &mut Vec<LeafRow>, leaf: &Path, name: &Name)
 #[tactic(auto, unfolding(ynl_model::specs::Changes::app_finishes))]
 pub fn finish_application(config: &Config, tables: &mut Tables, leaf: &Path, name: &Name)
     requires ordered { IsOrdered config.now (state_of tables.old) }
+    requires tabled { Tabled (state_of tables.old) }
+    requires live { option_map (λ app. app.leaf) (find_app (state_of tables.old).leaves (tenant_of leaf.now) name.now) ≡ Some leaf.now }
     requires kept { IsKept tables.old }
     ensures state { (app : Application) → app.leaf ≡ leaf.now → app.name ≡ name.now → state_of tables.new ≡ app_finishes config.now app (state_of tables.old) }
     ensures kept { IsKept tables.new }

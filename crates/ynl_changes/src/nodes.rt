@@ -10,12 +10,13 @@ ghost use Rattle.ynl_tables.specs.Tables.{state_of, leaves_of, partition_of, par
 ghost use Rattle.ynl_changes.specs.Rows.{in_row, emptied};
 
 use crate::ending::{Going, drop_going};
+use crate::marking::unmark;
 use crate::placing::set_clock;
 use std::alloc::AllocError;
 use ynl_model::Node;
 use ynl_queues::Config;
 use ynl_resource::{Label, Name, Size};
-use ynl_tables::{LeafRow, PartitionRow, QueueNumbers, Tables, is_same, next_clock};
+use ynl_tables::{LeafRow, PartitionRow, QueueNumbers, Tables, containers_at, is_same, next_clock};
 
 /// A node joins a partition: the clock rises, and is the node's stamp. Where memory is refused,
 /// nothing has changed.
@@ -86,6 +87,12 @@ pub fn leave(tables: &mut Tables, node: &Node)
     ensures state { state_of tables.new ≡ node_leaves node.now (state_of tables.old) }
     ensures kept { IsKept tables.new }
 {
+    unmark(
+        &mut tables.leaves,
+        &node.label,
+        &node.name,
+        containers_at(&tables.partitions, &node.label),
+    );
     tables.nodes.leave(node);
     drop_containers(
         &mut tables.partitions,
@@ -114,6 +121,12 @@ pub fn relabel(
 {
     let clock = next_clock(config, tables, label);
     tables.nodes.rejoin(node, label, clock)?;
+    unmark(
+        &mut tables.leaves,
+        &node.label,
+        &node.name,
+        containers_at(&tables.partitions, &node.label),
+    );
     drop_containers(
         &mut tables.partitions,
         &tables.numbers,

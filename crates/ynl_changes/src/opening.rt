@@ -5,7 +5,7 @@ ghost use Rattle.ynl_resource.specs.Names.{root};
 ghost use Rattle.ynl_model.specs.Applications.{LeafApps, no_apps};
 ghost use Rattle.ynl_model.specs.Cluster.{opening, no_containers};
 ghost use Rattle.ynl_laws.specs.Uses.{use_by};
-ghost use Rattle.ynl_tables.specs.Kept.{AreSummed, IsKept};
+ghost use Rattle.ynl_tables.specs.Kept.{AreByUser, AreSummed, IsKept};
 ghost use Rattle.ynl_tables.specs.Tables.{state_of, leaves_of, partitions_of};
 
 use std::alloc::{AllocError, Global};
@@ -15,7 +15,7 @@ use ynl_model::Use;
 use ynl_nodes::Nodes;
 use ynl_queues::Config;
 use ynl_resource::{Label, Resource};
-use ynl_tables::{Filled, LeafRow, PartitionRow, QueueNumbers, Tables};
+use ynl_tables::{Known, LeafRow, PartitionRow, QueueNumbers, Sums, Tables};
 
 const NO_USE: Use = Use {
     used: Resource {
@@ -45,6 +45,18 @@ fn no_uses(alloc: Global, numbers: &QueueNumbers) -> Result<Vec<Use>, AllocError
     Ok(uses)
 }
 
+/// What users use of queues where there are no containers.
+fn no_users(alloc: Global, numbers: &QueueNumbers) -> Result<Vec<Sums>, AllocError>
+    ensures { IfOk result (λ users. (leaves : List LeafApps) → AreByUser numbers.now leaves users.items []) }
+{
+    let mut users = Vec::new(alloc);
+    users.push(Sums::new(alloc))?;
+    for _i in 0..numbers.len() {
+        users.push(Sums::new(alloc))?;
+    }
+    Ok(users)
+}
+
 fn push_partition(
     rows: &mut Vec<PartitionRow>,
     alloc: Global,
@@ -55,12 +67,14 @@ fn push_partition(
     ensures summed { OnOk result ((leaves : List LeafApps) → AreSummed numbers.now leaves rows.old.items → AreSummed numbers.now leaves rows.new.items) }
 {
     let uses = no_uses(alloc, numbers)?;
+    let users = no_users(alloc, numbers)?;
     rows.push(PartitionRow {
         label,
         clock: 0,
         containers: Vec::new(alloc),
         uses,
-        filled: Filled::new(alloc),
+        users,
+        filled: Sums::new(alloc),
     })?;
     Ok(())
 }
@@ -93,6 +107,7 @@ fn leaves(alloc: Global, config: &Config) -> Result<Vec<LeafRow>, AllocError>
                 path: queue.path,
                 tenant: queue.tenant(),
                 names: Vec::new(alloc),
+                known: Known::new(alloc),
                 apps: Vec::new(alloc),
             })?;
         }

@@ -9,14 +9,18 @@ ghost use Rattle.ynl_model.specs.Cluster.{in_partition, sizes};
 ghost use Rattle.ynl_model.specs.Changes.{place, container_of, taken};
 ghost use Rattle.std.specs.List.{AllByRecursion};
 ghost use Rattle.ynl_laws.specs.Working.{IsWorking};
+ghost use Rattle.ynl_laws.specs.Tabled.{Tabled};
 ghost use Rattle.ynl_tables.specs.Bounds.{IsTotal};
 ghost use Rattle.ynl_tables.specs.Kept.{AreKept, IsKept, IsSummed};
 ghost use Rattle.ynl_tables.specs.Numbers.{AreNumbered};
 ghost use Rattle.ynl_tables.specs.Tables.{state_of, app_of, leaf_of_row, leaves_of, partition_of, partitions_of, HasCapacity};
+ghost use Rattle.ynl_changes.specs.Marking.{KeepsMark, KeepsMarksAmong, KeepsMarksIn, KeepsMarks, IsPlaceable};
 ghost use Rattle.ynl_changes.specs.Placing.{put_on, taken_from, taken_at};
 ghost use Rattle.ynl_changes.specs.Rows.{KeepsSum, KeepsSums};
 
 use crate::cells::raise;
+use crate::marking::mark;
+use crate::users::{Change, change_users};
 use std::alloc::AllocError;
 use ynl_choice::Request;
 use ynl_model::{AskRow, Node, Placed, What};
@@ -26,7 +30,8 @@ use ynl_tables::{
     App, LeafRow, PartitionRow, QueueNumbers, Tables, is_ask_of, is_same, next_clock, push_copy,
 };
 
-/// A container comes last on the row of its partition, whose clock is set; its queues use more.
+/// A container comes last on the row of its partition, whose clock is set; its queues, its user and its
+/// node use more.
 fn put(
     row: &mut PartitionRow,
     numbers: &QueueNumbers,
@@ -46,7 +51,8 @@ fn put(
     if is_same(&row.label, label) {
         row.clock = clock;
         raise(&mut row.uses, numbers, leaves, container);
-        row.filled.fill(container);
+        change_users(&mut row.users, numbers, leaves, Change::More, container);
+        row.filled.raise(&container.node, &container.size);
         push_copy(&mut row.containers, container);
     }
 }
@@ -140,14 +146,16 @@ fn drop_spent(asks: &mut Vec<AskRow>, label: &Label, priority: u32)
 
 /// One container of an ask was placed: its count falls by 1, and at 0 the ask goes.
 fn take_one(app: &mut App, label: &Label, priority: u32)
-    ensures { (leaf : Path) → app_of leaf app.new ≡ take_one label.now priority (app_of leaf app.old) }
+    ensures meaning { (leaf : Path) → app_of leaf app.new ≡ take_one label.now priority (app_of leaf app.old) }
+    ensures marks { KeepsMark app.old app.new }
 {
     lower(&mut app.asks, label, priority);
     drop_spent(&mut app.asks, label, priority);
 }
 
 fn take_at(app: &mut App, name: &Name, label: &Label, priority: u32)
-    ensures { (leaf : Path) → app_of leaf app.new ≡ taken_at name.now label.now priority (app_of leaf app.old) }
+    ensures marks { KeepsMark app.old app.new }
+    ensures meaning { (leaf : Path) → app_of leaf app.new ≡ taken_at name.now label.now priority (app_of leaf app.old) }
 {
     if app.name == *name {
         take_one(app, label, priority);
@@ -155,7 +163,8 @@ fn take_at(app: &mut App, name: &Name, label: &Label, priority: u32)
 }
 
 fn take_among(apps: &mut Vec<App>, name: &Name, label: &Label, priority: u32)
-    ensures { (leaf : Path) → map (app_of leaf) apps.new.items ≡ map (taken_at name.now label.now priority) (map (app_of leaf) apps.old.items) }
+    ensures marks { KeepsMarksAmong apps.old.items apps.new.items }
+    ensures meaning { (leaf : Path) → map (app_of leaf) apps.new.items ≡ map (taken_at name.now label.now priority) (map (app_of leaf) apps.old.items) }
 {
     for app in apps.iter_mut() {
         take_at(app, name, label, priority);
@@ -163,7 +172,8 @@ fn take_among(apps: &mut Vec<App>, name: &Name, label: &Label, priority: u32)
 }
 
 fn take_in(row: &mut LeafRow, leaf: &Path, name: &Name, label: &Label, priority: u32)
-    ensures { leaf_of_row row.new ≡ taken_from leaf.now name.now label.now priority (leaf_of_row row.old) }
+    ensures marks { KeepsMarksIn row.old row.new }
+    ensures meaning { leaf_of_row row.new ≡ taken_from leaf.now name.now label.now priority (leaf_of_row row.old) }
 {
     if row.path == *leaf {
         take_among(&mut row.apps, name, label, priority);
@@ -171,7 +181,8 @@ fn take_in(row: &mut LeafRow, leaf: &Path, name: &Name, label: &Label, priority:
 }
 
 fn take_ask(rows: &mut Vec<LeafRow>, leaf: &Path, name: &Name, label: &Label, priority: u32)
-    ensures { leaves_of rows.new.items ≡ in_leaf leaf.now (with_app name.now (take_one label.now priority)) (leaves_of rows.old.items) }
+    ensures marks { KeepsMarks rows.old.items rows.new.items }
+    ensures meaning { leaves_of rows.new.items ≡ in_leaf leaf.now (with_app name.now (take_one label.now priority)) (leaves_of rows.old.items) }
 {
     for row in rows.iter_mut() {
         take_in(row, leaf, name, label, priority);
@@ -180,7 +191,8 @@ fn take_ask(rows: &mut Vec<LeafRow>, leaf: &Path, name: &Name, label: &Label, pr
 
 /// One less is asked for; a master is not counted.
 fn take_request(rows: &mut Vec<LeafRow>, request: &Request)
-    ensures { leaves_of rows.new.items ≡ in_leaf request.now.leaf (with_app request.now.app (taken request.now.what)) (leaves_of rows.old.items) }
+    ensures marks { KeepsMarks rows.old.items rows.new.items }
+    ensures meaning { leaves_of rows.new.items ≡ in_leaf request.now.leaf (with_app request.now.app (taken request.now.what)) (leaves_of rows.old.items) }
 {
     match request.what {
         What::Master => {}
@@ -194,6 +206,8 @@ fn take_request(rows: &mut Vec<LeafRow>, request: &Request)
 #[tactic(auto, unfolding(ynl_model::specs::Changes::place, ynl_model::specs::Changes::changed_at, ynl_model::specs::Changes::container_of))]
 pub fn place(config: &Config, tables: &mut Tables, node: &Node, request: &Request) -> Placed
     requires working { IsWorking config.now (state_of tables.old) }
+    requires tabled { Tabled (state_of tables.old) }
+    requires placeable { IsPlaceable config.now (state_of tables.old) node.now request.now }
     requires kept { IsKept tables.old }
     requires capacity { HasCapacity node.now.label 1 tables.old.partitions.items }
     ensures container { result ≡ container_of config.now (state_of tables.old) node.now request.now }
@@ -222,6 +236,7 @@ pub fn place(config: &Config, tables: &mut Tables, node: &Node, request: &Reques
         clock,
         &container,
     );
+    mark(&mut tables.leaves, &node.label, &container, clock);
     take_request(&mut tables.leaves, request);
     container
 }

@@ -4,7 +4,11 @@ ghost use Rattle.std.specs.Prelude.{◌≡◌, OnOk, if◌then◌else◌};
 ghost use Rattle.std.specs.List.{AllByRecursion};
 ghost use Rattle.ynl_resource.specs.Names.{same_path};
 ghost use Rattle.ynl_model.specs.Applications.{in_leaf, submitted};
+ghost use Rattle.ynl_model.specs.Cluster.{State};
+ghost use Rattle.ynl_laws.specs.Marks.{IsMarked};
+ghost use Rattle.ynl_tables.specs.Marked.{AreMarkedIn, AreMarked};
 ghost use Rattle.ynl_tables.specs.Tables.{leaf_of_row, leaves_of};
+ghost use Rattle.ynl_changes.specs.Marking.{KeepsMarksIn, KeepsMarks};
 ghost use Rattle.ynl_changes.specs.Submitting.{application, HasAppCapacity};
 
 use std::alloc::{AllocError, Global};
@@ -24,6 +28,7 @@ pub struct Submission {
 /// Capacity for one more application on a row, if it is that of the leaf.
 fn reserve_application_on(row: &mut LeafRow, leaf: &Path) -> Result<(), AllocError>
     ensures meaning { leaf_of_row row.new ≡ leaf_of_row row.old }
+    ensures marks { KeepsMarksIn row.old row.new }
     ensures capacity { OnOk result (HasAppCapacity leaf.now row.new) }
 {
     if row.path == *leaf {
@@ -36,6 +41,7 @@ fn reserve_application_on(row: &mut LeafRow, leaf: &Path) -> Result<(), AllocErr
 /// Capacity for one more application in a leaf.
 pub fn reserve_application(rows: &mut Vec<LeafRow>, leaf: &Path) -> Result<(), AllocError>
     ensures meaning { leaves_of rows.new.items ≡ leaves_of rows.old.items }
+    ensures marks { KeepsMarks rows.old.items rows.new.items }
     ensures capacity { OnOk result (AllByRecursion (HasAppCapacity leaf.now) rows.new.items) }
 {
     for row in rows.iter_mut() {
@@ -47,15 +53,18 @@ pub fn reserve_application(rows: &mut Vec<LeafRow>, leaf: &Path) -> Result<(), A
 /// The application comes last on a row, if it is that of its leaf.
 fn submit_on(row: &mut LeafRow, new: &Submission, alloc: Global)
     requires { HasAppCapacity new.now.leaf row.old }
-    ensures { leaf_of_row row.new ≡ (if same_path row.old.path new.now.leaf then submitted (application new.now) (leaf_of_row row.old) else leaf_of_row row.old) }
+    ensures marks { (s : State) → IsMarked s (application new.now) 0 → AreMarkedIn s row.old → AreMarkedIn s row.new }
+    ensures meaning { leaf_of_row row.new ≡ (if same_path row.old.path new.now.leaf then submitted (application new.now) (leaf_of_row row.old) else leaf_of_row row.old) }
 {
     if row.path == new.leaf {
+        row.known.add(&new.name);
         row.names.push_reserved(new.name);
         row.apps.push_reserved(App {
             name: new.name,
             user: new.user,
             home: new.home,
             master: new.master,
+            master_clock: 0,
             asks: Vec::new(alloc),
         });
     }
@@ -64,7 +73,8 @@ fn submit_on(row: &mut LeafRow, new: &Submission, alloc: Global)
 /// The application comes last in its leaf, and its name is used for good.
 pub fn submit(rows: &mut Vec<LeafRow>, new: &Submission, alloc: Global)
     requires { AllByRecursion (HasAppCapacity new.now.leaf) rows.old.items }
-    ensures { leaves_of rows.new.items ≡ in_leaf new.now.leaf (submitted (application new.now)) (leaves_of rows.old.items) }
+    ensures marks { (s : State) → IsMarked s (application new.now) 0 → AreMarked s rows.old.items → AreMarked s rows.new.items }
+    ensures meaning { leaves_of rows.new.items ≡ in_leaf new.now.leaf (submitted (application new.now)) (leaves_of rows.old.items) }
 {
     for row in rows.iter_mut() {
         submit_on(row, new, alloc);

@@ -51,6 +51,10 @@ row_placed s row found named i d inside =
     ∙ ap (λ (n : Name). position_or_len (λ app. same_name app.name n) apps) (sym name)
     ∙ first_named apps i (app_of row.path d) (subst (λ n. i < n) (sym (length-map row.apps.items (app_of row.path))) inside) named
 
+-- what holds of each row holds of the one that is read from what was lent
+pub row_at : (P : LeafRow → Type 0) (all rows : List LeafRow) (i : ℕ) (row : LeafRow) → AllByRecursion P all → rows ≡ all → i < length rows → row ≡ get_or rows i row → P row
+row_at P all rows i row h same inside at = subst P (sym at) (each_at P rows i row inside (subst (AllByRecursion P) (sym same) h))
+
 -- so it is in each leaf
 pub rows_placed : (t : Tables) → Tabled (state_of t) → AllByRecursion (ArePlaced (state_of t)) t.leaves.items
 rows_placed t h =
@@ -63,4 +67,4 @@ rows_placed t h =
 -- and in the leaf of an index
 pub row_placed_at : (t : Tables) (rows : List LeafRow) (i : ℕ) (row : LeafRow) → Tabled (state_of t) → rows ≡ t.leaves.items → i < length rows → row ≡ get_or rows i row → ArePlaced (state_of t) row
 row_placed_at t rows i row h same inside at =
-    subst (ArePlaced (state_of t)) (sym at) (each_at (ArePlaced (state_of t)) rows i row inside (subst (AllByRecursion (ArePlaced (state_of t))) (sym same) (rows_placed t h)))
+    row_at (ArePlaced (state_of t)) t.leaves.items rows i row (rows_placed t h) same inside at

@@ -6,6 +6,7 @@ ghost use Rattle.ynl_resource.specs.declared.labels.Label.TheVariants.{Unlabelle
 ghost use Rattle.ynl_model.specs.Cluster.{free as free_on};
 ghost use Rattle.ynl_model.specs.Service.{Item, item_of as request_item, place_in_leaf, first_of, key, eligible, has_room, asks_for, some_eligible, takes_guests, choice};
 ghost use Rattle.ynl_tables.specs.Bounds.{IsReadable};
+ghost use Rattle.ynl_tables.specs.Marked.{IsMarkedApp, AreMarkedIn};
 ghost use Rattle.ynl_tables.specs.Tables.{state_of, app_of};
 ghost use Rattle.ynl_choice.specs.Choosing.{state_in, key_in, item_of, passes, overtakes, wants, ArePlaced, IsScene, IsDesk, IsKeyed, HoldsBest, masters_of as masters_in, wanted_of, asks_in, all_masters, all_asks};
 ghost use Rattle.ynl_choice.specs.Candidates.{next_key};
@@ -64,6 +65,7 @@ fn limits_at(scene: &Scene<'_>, desk: &mut Desk, leaf: &Path) -> LeafUse
 /// Whether an application wants such a request: while it waits its master, and while it runs what it asks
 /// for.
 fn is_wanted(scene: &Scene<'_>, row: &LeafRow, app: &App, request: &Request) -> bool
+    requires { IsMarkedApp (state_in scene.now) row.now.path app.now }
     ensures { result ≡ wants (state_in scene.now) (app_of row.now.path app.now) request.now.what }
 {
     let runs = runs(scene.tables, &row.path, app);
@@ -84,6 +86,7 @@ fn may_be_placed(
 ) -> bool
     requires scene { IsScene scene.now }
     requires desk { IsDesk scene.now request.now.leaf desk.old }
+    requires marked { IsMarkedApp (state_in scene.now) row.now.path app.now }
     ensures passes { result ≡ (wants (state_in scene.now) (app_of row.now.path app.now) request.now.what && passes scene.now request.now) }
     ensures desk { IsDesk scene.now request.now.leaf desk.new }
 {
@@ -125,6 +128,7 @@ fn add_request(
     requires scene { IsScene scene.now }
     requires desk { IsDesk scene.now row.now.path desk.old }
     requires place { place ≡ place_in_leaf (state_in scene.now) row.now.path app.now.name }
+    requires marked { IsMarkedApp (state_in scene.now) row.now.path app.now }
     ensures best { HoldsBest scene.now held.old (if wants (state_in scene.now) (app_of row.now.path app.now) what.now then request_item (app_of row.now.path app.now) what.now size.now ∷ [] else []) held.new }
     ensures desk { IsDesk scene.now row.now.path desk.new }
 {
@@ -159,6 +163,7 @@ fn add_master(
     requires scene { IsScene scene.now }
     requires desk { IsDesk scene.now row.now.path desk.old }
     requires place { place ≡ place_in_leaf (state_in scene.now) row.now.path app.now.name }
+    requires marked { IsMarkedApp (state_in scene.now) row.now.path app.now }
     ensures best { HoldsBest scene.now held.old (masters_in scene.now row.now.path (app.now ∷ [])) held.new }
     ensures desk { IsDesk scene.now row.now.path desk.new }
 {
@@ -180,6 +185,7 @@ fn add_master(
 fn add_masters(scene: &Scene<'_>, row: &LeafRow, held: &mut Option<Candidate>)
     requires scene { IsScene scene.now }
     requires placed { ArePlaced (state_in scene.now) row.now }
+    requires marked { AreMarkedIn (state_in scene.now) row.now }
     ensures { HoldsBest scene.now held.old (masters_in scene.now row.now.path row.now.apps.items) held.new }
 {
     if row.apps.is_empty() {
@@ -204,6 +210,7 @@ fn add_ask(
     requires scene { IsScene scene.now }
     requires desk { IsDesk scene.now row.now.path desk.old }
     requires place { place ≡ place_in_leaf (state_in scene.now) row.now.path app.now.name }
+    requires marked { IsMarkedApp (state_in scene.now) row.now.path app.now }
     ensures best { HoldsBest scene.now held.old (wanted_of scene.now (app_of row.now.path app.now) (ask.now ∷ [])) held.new }
     ensures desk { IsDesk scene.now row.now.path desk.new }
 {
@@ -225,6 +232,7 @@ fn add_asks_of(
     requires scene { IsScene scene.now }
     requires desk { IsDesk scene.now row.now.path desk.old }
     requires place { place ≡ place_in_leaf (state_in scene.now) row.now.path app.now.name }
+    requires marked { IsMarkedApp (state_in scene.now) row.now.path app.now }
     ensures best { HoldsBest scene.now held.old (asks_in scene.now row.now.path (app.now ∷ [])) held.new }
     ensures desk { IsDesk scene.now row.now.path desk.new }
 {
@@ -237,6 +245,7 @@ fn add_asks_of(
 fn add_asks(scene: &Scene<'_>, row: &LeafRow, held: &mut Option<Candidate>)
     requires scene { IsScene scene.now }
     requires placed { ArePlaced (state_in scene.now) row.now }
+    requires marked { AreMarkedIn (state_in scene.now) row.now }
     ensures { HoldsBest scene.now held.old (asks_in scene.now row.now.path row.now.apps.items) held.new }
 {
     if row.apps.is_empty() {

@@ -2,3 +2,4 @@ pub mod Idle
 pub mod Stepping
 pub mod RunMore
 pub mod Alone
+pub mod Reserved

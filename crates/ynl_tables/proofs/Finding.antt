@@ -4,14 +4,14 @@ use Rattle.std.specs.Prelude.{IfSome}
 use Rattle.ynl_resource.specs.declared.paths.Path.{Path}
 use Rattle.ynl_resource.specs.Names.{same_path}
 use Rattle.std.specs.Option.{option_map_or, option_and_then}
-use Rattle.std.specs.List.{position_or_len}
+use Rattle.std.specs.List.{AllByRecursion, position_or_len}
 use Rattle.ynl_resource.specs.declared.names.Name.{Name}
 use Rattle.ynl_resource.specs.Names.{same_name}
 use Rattle.ynl_model.specs.Applications.{Application, LeafApps, row_of, find_app}
 use Rattle.ynl_tables.specs.declared.rows.App.{App}
 use Rattle.ynl_tables.specs.declared.rows.LeafRow.{LeafRow}
 use Rattle.ynl_tables.specs.Tables.{app_of, leaf_of_row}
-use Rattle.ynl_laws.proofs.Lists.{found-passes}
+use Rattle.ynl_laws.proofs.Lists.{Each-find, found-passes}
 use Rattle.ynl_laws.proofs.Names.{same-path}
 
 -- what is found among meanings is the meaning of what is found
@@ -31,6 +31,11 @@ meant {X = X} f q xs o e = twice o ∙ ap (option_map f) e ∙ sym (find_map f q
 pub found_so : {X : Type 0} (q : X → Bool) (xs : List X) (o : Option (Bor X)) → option_map (λ r. r.now) o ≡ find q xs → IfSome o (λ r. q r.now ≡ true)
 found_so q xs None e = tt
 found_so q xs (Some r) e = subst (λ o. IfSome o (λ x. q x ≡ true)) (sym e) (found-passes q xs)
+
+-- what holds of each holds of what is found
+pub found_each : {X : Type 0} (P : X → Type 0) (q : X → Bool) (xs : List X) (o : Option (Bor X)) → option_map (λ r. r.now) o ≡ find q xs → AllByRecursion P xs → IfSome o (λ r. P r.now)
+found_each P q xs None e h = tt
+found_each P q xs (Some r) e h = (Each-find P q xs h r.now (sym e)).0
 
 -- the row that is found of a leaf has the leaf's path
 pub found_path : (leaf : Path) (rows : List LeafRow) (o : Option (Bor LeafRow)) → option_map (λ r. r.now) o ≡ find (λ row. same_path row.path leaf) rows → IfSome o (λ r. r.now.path ≡ leaf)

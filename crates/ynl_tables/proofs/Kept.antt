@@ -11,7 +11,7 @@ use Rattle.ynl_resource.specs.declared.paths.Path.{Path}
 use Rattle.ynl_model.specs.declared.containers.Placed.{Placed}
 use Rattle.ynl_model.specs.declared.uses.Use.{Use}
 use Rattle.ynl_model.specs.Applications.{LeafApps}
-use Rattle.ynl_model.specs.Cluster.{State, Partition, is_partition, containers_on, sizes, counted, is_master, used, masters_used}
+use Rattle.ynl_model.specs.Cluster.{State, Partition, is_partition, containers_on, sizes, counted, is_master, used, user_used, masters_used}
 use Rattle.ynl_laws.specs.Uses.{counts, use_by, use_of}
 use Rattle.ynl_laws.proofs.Amounts.{fits-filter, fits-trans}
 use Rattle.ynl_laws.proofs.Lists.{Each-find}
@@ -21,11 +21,14 @@ use Rattle.ynl_tables.specs.declared.tables.Tables.{Tables}
 use Rattle.ynl_tables.specs.Bounds.{IsBounded, IsTotal}
 use Rattle.ynl_resource.specs.declared.amounts.Resource.{Resource}
 use Rattle.ynl_resource.specs.declared.names.Name.{Name}
-use Rattle.ynl_tables.specs.Filled.{sizes_on, IsUsedOn}
-use Rattle.ynl_tables.specs.Kept.{IsSummed, AreSummed}
-use Rattle.ynl_tables.specs.Numbers.{IsNumberOf}
+use Rattle.ynl_tables.specs.declared.sums.Sums.{Sums}
+use Rattle.ynl_tables.specs.Kept.{IsSummed, AreSummed, stands_on}
+use Rattle.ynl_tables.specs.Numbers.{IsNumberOf, queue_at}
+use Rattle.ynl_tables.specs.Sums.{sizes_for, IsSumFor}
+use Rattle.ynl_tables.specs.Uses.{counts_for, of_user}
 use Rattle.ynl_tables.specs.Tables.{leaves_of, partition_of, state_of}
 use Rattle.ynl_tables.proofs.Adding.{small_part}
+use Rattle.ynl_tables.proofs.Filters.{filter_and}
 use Rattle.ynl_tables.proofs.Finding.{find_map}
 
 pub summed_row : (queues : List Path) (leaves : List LeafApps) (rows : List PartitionRow) (label : Label) (row : PartitionRow) → AreSummed queues leaves rows → Some row ≡ find (λ row. same_label row.label label) rows → IsSummed queues leaves row
@@ -42,10 +45,37 @@ row_holds t label row e = ap (λ o. option_map_or (λ (row : Partition). row.con
 
 -- what is kept of a node is what the containers on it come to
 pub kept_filled : (t : Tables) (label : Label) (node : Name) (row : PartitionRow) (used : Option Resource) → AreSummed t.numbers (leaves_of t.leaves.items) t.partitions.items → Some row ≡ find (λ row. same_label row.label label) t.partitions.items
-    → IsUsedOn row.filled node used → IfSome used (λ taken. taken ≡ sizes_on node (containers_on (state_of t) label))
+    → IsSumFor row.filled node used → IfSome used (λ taken. taken ≡ sizes_for stands_on node (containers_on (state_of t) label))
 kept_filled t label node row None h e is = tt
 kept_filled t label node row (Some sum) h e is =
-    is row.containers.items (summed_row t.numbers (leaves_of t.leaves.items) t.partitions.items label row h e).filled ∙ ap (sizes_on node) (sym (row_holds t label row e))
+    is stands_on row.containers.items (summed_row t.numbers (leaves_of t.leaves.items) t.partitions.items label row h e).filled ∙ ap (sizes_for stands_on node) (sym (row_holds t label row e))
+
+-- a number is within what a row keeps of users
+pub users_within : (queues : List Path) (leaves : List LeafApps) (row : PartitionRow) (number : ℕ) → IsSummed queues leaves row → number < length (root ∷ queues) → number < length row.users.items
+users_within queues leaves row number h inside = omega (arith, inside, h.users.len)
+
+-- what is kept of a user under a queue's number is what the user uses there
+pub kept_user : (t : Tables) (label : Label) (queue : Path) (user : Name) (row : PartitionRow) (number : ℕ) (sums : Sums) (used : Option Resource) → AreSummed t.numbers (leaves_of t.leaves.items) t.partitions.items
+    → Some row ≡ find (λ row. same_label row.label label) t.partitions.items → IsNumberOf t.numbers queue (Some number) → sums ≡ get_or row.users.items number sums → IsSumFor sums user used
+    → IfSome used (λ used. used ≡ user_used (state_of t) queue user label)
+unfolding user_used
+kept_user t label queue user row number sums None h e n read is = tt
+kept_user t label queue user row number sums (Some sum) h e n read is =
+    let leaves : List LeafApps = leaves_of t.leaves.items in
+    let summed : IsSummed t.numbers leaves row = summed_row t.numbers leaves t.partitions.items label row h e in
+    is (counts_for leaves (queue_at t.numbers number)) row.containers.items (summed.users.each number sums (users_within t.numbers leaves row number summed n.0) read)
+    ∙ ap (λ q. sizes (filter (counts_for leaves q user) row.containers.items)) (n.1 root)
+    ∙ ap (λ (ks : List Placed). sizes (filter (counts_for leaves queue user) ks)) (sym (row_holds t label row e))
+    ∙ ap sizes (filter_and (counts leaves queue) (of_user user leaves) (containers_on (state_of t) label))
+
+-- and it is small
+pub user_small : (s : State) (p : Label) (queue : Path) (user : Name) (kept : Resource) → IsBounded s → kept ≡ user_used s queue user p → IsTotal kept
+unfolding user_used
+user_small s p queue user kept b e =
+    small_part kept (sizes (filter (of_user user s.leaves) (counted s queue p))) (sizes (containers_on s p)) e
+    (fits-trans (sizes (filter (of_user user s.leaves) (counted s queue p))) (sizes (counted s queue p)) (sizes (containers_on s p)) (fits-filter (λ (k : Placed). k.size) (of_user user s.leaves) (counted s queue p))
+    (fits-filter (λ (k : Placed). k.size) (counts s.leaves queue) (containers_on s p)))
+    (b.sizes p)
 
 -- what is kept under a queue's number is what the queue uses
 pub kept_use : (t : Tables) (label : Label) (queue : Path) (row : PartitionRow) (number : ℕ) (kept : Use) → AreSummed t.numbers (leaves_of t.leaves.items) t.partitions.items → Some row ≡ find (λ row. same_label row.label label) t.partitions.items

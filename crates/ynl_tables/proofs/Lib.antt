@@ -6,4 +6,6 @@ pub mod Below
 pub mod Filters
 pub mod Shared
 pub mod Sorted
-pub mod Filling
+pub mod Knowing
+pub mod Changing
+pub mod Counting

@@ -1,8 +1,10 @@
 pub mod Bounds
-pub mod Filled
 pub mod Kept
+pub mod Known
+pub mod Marked
 pub mod NumberFields
 pub mod Numbers
 pub mod Sharing
+pub mod Sums
 pub mod Tables
 pub mod Uses

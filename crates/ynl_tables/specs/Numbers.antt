@@ -9,6 +9,10 @@ use Rattle.ynl_model.specs.Applications.{LeafApps, leaf_of}
 use Rattle.ynl_laws.specs.Ways.{IsWay}
 use Rattle.ynl_tables.specs.declared.rows.Way.{Way}
 
+-- the queue of a number; root where no queue has it
+abbrev pub queue_at : List Path → ℕ → Path
+queue_at queues number = slice_index_or (root ∷ queues) number root
+
 -- whether a queue is on the way to another, or is that queue
 abbrev pub is_above : Path → Path → Bool
 is_above queue other = is_within other queue

@@ -7,30 +7,32 @@ pub use applications::{has_most_apps, home_of, is_used};
 pub use asks::{ask_of, is_ask_of, is_foreign, is_one_too_many};
 pub use clocks::{is_spent, next_clock};
 pub use containers::{container_of_tenant, container_on, is_own, is_same_id, push_copy};
-pub use filled::Filled;
+pub use known::Known;
 pub use live::{Live, live_at};
 pub use numbers::{QueueNumbers, way_of_app};
 pub use polling::{own_containers, pending_on};
 pub use queue_use::{free, guests, masters_used, no_master_in, runs, used, user_used};
 pub use rows::{App, LeafRow, PartitionRow};
 pub use sharing::users;
+pub use sums::Sums;
 pub use tables::{
-    Tables, apps_at, clock_at, containers_at, is_same, leaf_row_of, lists_name, risen, tenant_bytes,
+    Tables, apps_at, clock_at, containers_at, is_same, leaf_row_of, risen, tenant_bytes,
 };
 pub use usage::usage_of;
-pub use uses::{is_guest_on, is_master};
+pub use uses::{Owner, is_guest_on, is_master, owner_of};
 
 mod applications;
 mod asks;
 mod clocks;
 mod containers;
-mod filled;
+mod known;
 mod live;
 mod numbers;
 mod polling;
 mod queue_use;
 mod rows;
 mod sharing;
+mod sums;
 mod tables;
 mod usage;
 mod uses;

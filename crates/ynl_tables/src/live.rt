@@ -1,7 +1,9 @@
 //! The live applications of a tenant.
 
-ghost use Rattle.std.specs.Prelude.{◌≡◌, option_map};
+ghost use Rattle.std.specs.Prelude.{◌≡◌, IfSome, option_map};
 ghost use Rattle.ynl_model.specs.Applications.{find_app};
+ghost use Rattle.ynl_model.specs.Cluster.{State};
+ghost use Rattle.ynl_tables.specs.Marked.{IsMarkedApp, AreMarked};
 ghost use Rattle.ynl_tables.specs.Tables.{app_of, leaves_of};
 
 use crate::rows::{App, LeafRow};
@@ -19,7 +21,8 @@ pub struct Live<'a> {
 /// The live application of a tenant and a name; the tenant is given by the bytes of its name.
 #[tactic(auto, unfolding(ynl_model::specs::Applications::find_app))]
 pub fn live_at<'a>(rows: &'a [LeafRow], tenant: &[u8], name: &Name) -> Option<Live<'a>>
-    ensures { option_map (λ live. app_of live.leaf.now live.app.now) result ≡ find_app (leaves_of rows.now) tenant.now name.now }
+    ensures meaning { option_map (λ live. app_of live.leaf.now live.app.now) result ≡ find_app (leaves_of rows.now) tenant.now name.now }
+    ensures marks { (s : State) → AreMarked s rows.now → IfSome result (λ live. IsMarkedApp s live.leaf.now live.app.now) }
 {
     match leaf_row_of(rows, tenant, name) {
         Some(row) => match app_named(&row.apps, name) {

@@ -2,9 +2,9 @@
 
 ghost use Rattle.std.specs.Prelude.{◌≡◌, ◌<◌, ◌^◌, ◌++◌, ◌∷◌, [], true, length, map, find, option_map, IfOk, IfSome, OnOk, if◌then◌else◌};
 ghost use Rattle.std.specs.List.{AllByRecursion, list_any, position};
-ghost use Rattle.ynl_resource.specs.Names.{root, same_path};
+ghost use Rattle.ynl_resource.specs.Names.{is_within, root, same_path};
 ghost use Rattle.ynl_laws.specs.Ways.{IsWay};
-ghost use Rattle.ynl_tables.specs.Numbers.{AreNumbered, is_above, is_above_app, IsNumberOf, IsWayTo};
+ghost use Rattle.ynl_tables.specs.Numbers.{AreNumbered, is_above, is_above_app, IsNumberOf, IsWayTo, queue_at};
 ghost use Rattle.ynl_tables.specs.Tables.{leaves_of};
 
 use crate::rows::{LeafRow, Way};
@@ -69,6 +69,19 @@ impl QueueNumbers {
         match self.place(queue) {
             Some(place) => Some(place + 1),
             None => None,
+        }
+    }
+
+    /// Whether the queue of a number is on the way to a queue, or is that queue.
+    pub fn is_above(&self, number: usize, queue: &Path) -> bool
+        ensures { result ≡ is_within (queue_at self.now number) queue.now }
+    {
+        if number == 0 {
+            return true;
+        }
+        match self.queues.get(number - 1) {
+            Some(above) => is_within(above.names(), queue.names()),
+            None => true,
         }
     }
 

@@ -1,21 +1,22 @@
-//! What a queue, its users and its masters use of a partition. What a queue uses is kept, and only for a
-//! path that is no queue of the configuration it is summed.
+//! What a queue, its users and its masters use of a partition. It is kept, and summed only for a path that
+//! is no queue of the configuration, and for users where there was no memory to keep it.
 
-ghost use Rattle.std.specs.Prelude.{◌≡◌, ◌&&◌, filter, IfSome};
+ghost use Rattle.std.specs.Prelude.{◌≡◌, filter, IfSome};
 ghost use Rattle.std.specs.List.{list_any};
 ghost use Rattle.ynl_resource.specs.Names.{same_name};
-ghost use Rattle.ynl_model.specs.Cluster.{used, user_used, masters_used, guests, is_master, is_of, runs, free, counted, containers_on, sizes};
+ghost use Rattle.ynl_model.specs.Cluster.{used, user_used, masters_used, guests, is_master, runs, free, counted, containers_on, sizes};
 ghost use Rattle.ynl_model.specs.Service.{no_master_in};
 ghost use Rattle.ynl_tables.specs.Tables.{state_of, app_of};
 ghost use Rattle.ynl_laws.specs.Uses.{use_of};
 ghost use Rattle.ynl_tables.specs.Bounds.{IsBounded, IsReadable, IsTotal};
 ghost use Rattle.ynl_tables.specs.Kept.{IsKept};
+ghost use Rattle.ynl_tables.specs.Marked.{IsMarkedApp};
 ghost use Rattle.ynl_tables.specs.Uses.{is_counted};
 
 use crate::rows::App;
-use crate::tables::{Tables, containers_at, partition_row, tenant_bytes};
+use crate::tables::{Tables, containers_at, partition_row};
 use crate::uses::{Counted, counts, is_master, used_by, used_on};
-use ynl_model::{Node, Placed, Use};
+use ynl_model::{Node, Use};
 use ynl_resource::{Label, Name, Path, Resource};
 
 /// What is kept of a queue's use of a partition: nothing where the configuration has no such queue or
@@ -57,14 +58,32 @@ pub fn used(tables: &Tables, queue: &[Name], label: &Label) -> Resource
     }
 }
 
+/// What is kept of a user's use of a partition in a queue; nothing where none is kept, or the
+/// configuration has no such queue or no such partition.
+fn kept_for(tables: &Tables, queue: &[Name], user: &Name, label: &Label) -> Option<Resource>
+    requires { IsKept tables.now }
+    ensures { IfSome result (λ used. used ≡ user_used (state_of tables.now) queue.now user.now label.now) }
+{
+    match partition_row(&tables.partitions, label) {
+        Some(row) => match tables.numbers.number(queue) {
+            Some(number) => row.users[number].sum_for(user),
+            None => None,
+        },
+        None => None,
+    }
+}
+
 /// What a user uses of a partition in a queue.
 #[tactic(auto, unfolding(ynl_model::specs::Cluster::user_used))]
 pub fn user_used(tables: &Tables, queue: &[Name], user: &Name, label: &Label) -> Resource
-    requires { IsBounded (state_of tables.now) }
+    requires { IsReadable tables.now }
     ensures value { result ≡ user_used (state_of tables.now) queue.now user.now label.now }
     ensures small { IsTotal result }
 {
-    sum_of(tables, queue, Counted::User(user), label)
+    match kept_for(tables, queue, user, label) {
+        Some(kept) => kept,
+        None => sum_of(tables, queue, Counted::User(user), label),
+    }
 }
 
 /// What the masters of a queue use of a partition.
@@ -127,7 +146,7 @@ fn kept_on(tables: &Tables, node: &Node) -> Option<Resource>
     ensures { IfSome result (λ taken. taken ≡ sizes (filter (λ k. same_name k.node node.now.name) (containers_on (state_of tables.now) node.now.label))) }
 {
     match partition_row(&tables.partitions, &node.label) {
-        Some(row) => row.filled.used_on(&node.name),
+        Some(row) => row.filled.sum_for(&node.name),
         None => None,
     }
 }
@@ -149,17 +168,10 @@ pub fn free(tables: &Tables, node: &Node) -> Resource
     }
 }
 
-fn holds_master(containers: &[Placed], tenant: &[u8], app: &Name) -> bool
-    ensures { result ≡ list_any (λ k. is_master k && is_of tenant.now app.now k) containers.now }
-{
-    containers.iter().any(|k| is_master(k) && k.tenant.as_bytes() == tenant && k.app == *app)
-}
-
 /// Whether an application of a leaf runs: it has its master container, which stands on its home.
-#[tactic(auto, unfolding(ynl_model::specs::Cluster::runs))]
 pub fn runs(tables: &Tables, leaf: &Path, app: &App) -> bool
+    requires { IsMarkedApp (state_of tables.now) leaf.now app.now }
     ensures { result ≡ runs (state_of tables.now) (app_of leaf.now app.now) }
 {
-    let containers = containers_at(&tables.partitions, &app.home);
-    holds_master(containers, tenant_bytes(leaf), &app.name)
+    app.master_clock > 0
 }

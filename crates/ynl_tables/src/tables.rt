@@ -6,7 +6,8 @@ ghost use Rattle.std.specs.Option.{option_map_or};
 ghost use Rattle.ynl_resource.specs.Names.{same_name, same_path, same_label, tenant_of};
 ghost use Rattle.ynl_model.specs.Nodes.{rises};
 ghost use Rattle.ynl_model.specs.Applications.{row_of, apps_of};
-ghost use Rattle.ynl_model.specs.Cluster.{is_partition};
+ghost use Rattle.ynl_model.specs.Cluster.{State, is_partition};
+ghost use Rattle.ynl_tables.specs.Marked.{AreMarkedIn, AreMarked};
 ghost use Rattle.ynl_tables.specs.Tables.{leaf_of_row, leaves_of, partition_of, partitions_of, app_of};
 
 use crate::numbers::QueueNumbers;
@@ -88,23 +89,17 @@ pub fn tenant_bytes(path: &Path) -> &[u8]
     }
 }
 
-/// Whether a name is listed.
-pub fn lists_name(names: &[Name], name: &Name) -> bool
-    ensures { result ≡ list_any (same_name name.now) names.now }
-{
-    names.iter().any(|listed| *name == *listed)
-}
-
 fn submitted_row<'a>(rows: &'a [LeafRow], tenant: &[u8], name: &Name) -> Option<&'a LeafRow>
     ensures { option_map (λ r. r.now) result ≡ find (λ row. same_name (tenant_of row.path) tenant.now && list_any (same_name name.now) row.names.items) rows.now }
 {
-    rows.iter().find(|row| tenant_bytes(&row.path) == tenant && lists_name(&row.names, name))
+    rows.iter().find(|row| tenant_bytes(&row.path) == tenant && row.known.lists(&row.names, name))
 }
 
 /// The row of the leaf to which a tenant's application of that name was submitted; the tenant is
 /// given by the bytes of its name.
 pub fn leaf_row_of<'a>(rows: &'a [LeafRow], tenant: &[u8], name: &Name) -> Option<&'a LeafRow>
-    ensures { option_map (λ r. leaf_of_row r.now) result ≡ row_of (leaves_of rows.now) tenant.now name.now }
+    ensures meaning { option_map (λ r. leaf_of_row r.now) result ≡ row_of (leaves_of rows.now) tenant.now name.now }
+    ensures marks { (s : State) → AreMarked s rows.now → IfSome result (λ r. AreMarkedIn s r.now) }
 {
     submitted_row(rows, tenant, name)
 }

@@ -7,13 +7,13 @@ ghost use Rattle.ynl_model.specs.Cluster.{is_master, is_guest_on, is_below, size
 ghost use Rattle.ynl_tables.specs.Tables.{leaves_of};
 ghost use Rattle.ynl_tables.specs.Bounds.{IsTotal};
 ghost use Rattle.ynl_laws.specs.Uses.{counts};
-ghost use Rattle.ynl_tables.specs.Uses.{is_of_other, of_user, is_counted};
+ghost use Rattle.ynl_tables.specs.Uses.{is_of_other, of_user, is_counted, IsOwner};
 
 use crate::rows::{App, LeafRow};
 use crate::tables::leaf_row_of;
 use ynl_model::{Placed, What};
 use ynl_queues::is_within;
-use ynl_resource::{Label, Name, Resource, Size};
+use ynl_resource::{Label, Name, Path, Resource, Size};
 
 /// Which containers count in a sum of use.
 #[derive(Clone, Copy)]
@@ -22,6 +22,13 @@ pub enum Counted<'a> {
     User(&'a Name),
     Masters,
     Guests,
+}
+
+/// Whose use a container counts in: the leaf of its application, and the application's user.
+#[derive(Clone, Copy)]
+pub struct Owner<'a> {
+    pub leaf: &'a Path,
+    pub user: &'a Name,
 }
 
 const NOTHING: Resource = Resource {
@@ -99,6 +106,26 @@ fn is_of_user(leaves: &[LeafRow], user: &Name, container: &Placed) -> bool
             None => false,
         },
         None => false,
+    }
+}
+
+/// Whose use a container counts in; none for a guest, and where the application is not live.
+#[tactic(auto, unfolding(ynl_model::specs::Applications::leaf_of, ynl_model::specs::Applications::find_app))]
+pub fn owner_of<'a>(leaves: &'a [LeafRow], container: &Placed) -> Option<Owner<'a>>
+    ensures { IsOwner (leaves_of leaves.now) container.now result }
+{
+    if is_guest_on(&container.id.label, &container.what) {
+        return None;
+    }
+    match leaf_row_of(leaves, container.tenant.as_bytes(), &container.app) {
+        Some(row) => match app_named(&row.apps, &container.app) {
+            Some(app) => Some(Owner {
+                leaf: &row.path,
+                user: &app.user,
+            }),
+            None => None,
+        },
+        None => None,
     }
 }
 

@@ -1,10 +1,14 @@
-use Rattle.std.proofs.Common.{◌<◌, length, map, ap, ◌∙◌, arith}
+use Rattle.std.proofs.Common.{◌<◌, length, map, ap, ◌∙◌, arith, sym, subst}
 use Rattle.std.proofs.Math.ListN.{set}
 use Rattle.std.proofs.lemmas.List.{length-set}
 use Rattle.ynl_resource.specs.declared.paths.Path.{Path}
 use Rattle.ynl_tables.specs.Tables.{app_of}
 use Rattle.ynl_changes.specs.Asking.{HasAskCapacity}
-use Rattle.ynl_changes.proofs.InPlace.{each_step, same_set, whole_again}
+use Rattle.ynl_changes.proofs.InPlace.{whole_kept, each_step, same_set, whole_again}
+use Rattle.std.specs.List.{AllByRecursion}
+use Rattle.ynl_tables.specs.declared.rows.App.{App}
+use Rattle.ynl_tables.specs.Marked.{IsMarkedApp}
+use Rattle.ynl_changes.proofs.Marks.{kept_set}
 use Rattle.ynl_changes.proofs.asking.reserve_among.Goals as goal
 
 pub loop-app-preserved : goal.loop-app-preserved
@@ -13,6 +17,7 @@ loop-app-preserved c =
     record {
       meaning = λ (leaf : Path). same_set (app_of leaf) c.loop-app.app-items c.loop-app.app-index c.app-item.result c.reserve_at.new.app inside (c.reserve_at.ensures.meaning leaf) ∙ c.loop-app.invariant.meaning leaf;
       capacity = each_step (HasAskCapacity c.args.name.now c.args.count) c.loop-app.app-items c.loop-app.app-index c.reserve_at.new.app inside c.loop-app.invariant.capacity c.in_ok-reserve_at.ensures.capacity;
+      marks = λ s leaf h. kept_set (IsMarkedApp s leaf) c.loop-app.app-items c.loop-app.app-index c.app-item.result c.reserve_at.new.app inside (c.loop-app.invariant.marks s leaf h) (c.reserve_at.ensures.marks s leaf);
     }
 
 pub returns-in_err-reserve_at-clause-meaning : goal.returns-in_err-reserve_at-clause-meaning
@@ -25,3 +30,22 @@ returns-in_err-reserve_at-clause-meaning c = λ (leaf : Path).
     ∙ same_set (app_of leaf) items c.loop-app.app-index c.app-item.result c.reserve_at.new.app inside (c.reserve_at.ensures.meaning leaf)
     ∙ c.loop-app.invariant.meaning leaf
     ∙ ap (map (app_of leaf)) value
+
+pub returns-clause-marks : goal.returns-clause-marks
+returns-clause-marks c = λ s leaf h.
+    let items = c.loop-app.app-items in
+    let value = c.deref_mut-app-items.ensures.value in
+    let same = c.loop-app.auto.app-items ∙ ap length value in
+    let P : App → Type 0 = IsMarkedApp s leaf in
+    whole_kept (AllByRecursion P) c.args.apps.now.len items c.args.apps.now.items same c.args.apps.now.ok.0 (c.loop-app.invariant.marks s leaf (subst (AllByRecursion P) (sym value) h))
+
+pub returns-in_err-reserve_at-clause-marks : goal.returns-in_err-reserve_at-clause-marks
+returns-in_err-reserve_at-clause-marks c = λ s leaf h.
+    let P : App → Type 0 = IsMarkedApp s leaf in
+    let items = c.loop-app.app-items in
+    let value = c.deref_mut-app-items.ensures.value in
+    let inside : c.loop-app.app-index < length items = omega arith in
+    let same = length-set items c.loop-app.app-index c.reserve_at.new.app ∙ c.loop-app.auto.app-items ∙ ap length value in
+    let now = c.loop-app.invariant.marks s leaf (subst (AllByRecursion P) (sym value) h) in
+    whole_kept (AllByRecursion P) c.args.apps.now.len (set items c.loop-app.app-index c.reserve_at.new.app) c.args.apps.now.items same c.args.apps.now.ok.0
+    (kept_set P items c.loop-app.app-index c.app-item.result c.reserve_at.new.app inside now (c.reserve_at.ensures.marks s leaf))

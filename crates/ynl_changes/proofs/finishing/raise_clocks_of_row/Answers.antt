@@ -24,5 +24,6 @@ loop-place-preserved c =
           ∙ ap (λ (xs : List Placed). option_map_or (λ k. cond (own k) (clock_rises config now k) now) (slice_get xs place) now) same
           ∙ ap (λ (s : State). option_map_or (λ k. cond (own k) (clock_rises config s k) s) (slice_get ks place) s) c.loop-place.invariant.state
           ∙ sym (fold_more (clock_rises config) own ks place old);
+      leaves = c.raise_clock_at.ensures.leaves ∙ c.loop-place.invariant.leaves;
       kept = λ h. c.raise_clock_at.ensures.kept (c.loop-place.invariant.kept h);
     }

@@ -1,4 +1,4 @@
-use Rattle.std.proofs.Common.{◌<◌, ◌^◌, List, ◌∷◌, length, sym, subst, arith}
+use Rattle.std.proofs.Common.{◌<◌, ◌^◌, List, ◌∷◌, length, refl, sym, subst, arith}
 use Rattle.ynl_resource.specs.Names.{root}
 use Rattle.ynl_resource.specs.declared.paths.Path.{Path}
 use Rattle.ynl_model.specs.declared.uses.Use.{Use}
@@ -7,7 +7,8 @@ use Rattle.ynl_tables.specs.Tables.{leaves_of}
 use Rattle.ynl_resource.specs.Amounts.{IsSmall}
 use Rattle.ynl_model.specs.declared.containers.Placed.{Placed}
 use Rattle.ynl_model.specs.Cluster.{sizes}
-use Rattle.ynl_tables.specs.Filled.{IsFilled}
+use Rattle.ynl_tables.specs.Kept.{AreByUser, stands_on}
+use Rattle.ynl_tables.specs.Sums.{AreSums}
 use Rattle.ynl_changes.proofs.Summing.{small_uses, uses_long, raised_all}
 use Rattle.ynl_changes.proofs.placing.put.Goals as goal
 
@@ -30,5 +31,6 @@ returns-then-is_same-clause-summed c =
     let small : IsSmall (sizes old) = (omega (arith, c.requires.small.0), omega (arith, c.requires.small.1)) in
     record {
       uses = raised_all all leaves c.args.container.now old c.push_copy.new.containers.items c.raise.new.uses.items c.push_copy.ensures.items (c.raise.ensures before c.requires.summed.uses);
-      filled = subst (IsFilled c.fill.new.self) (sym c.push_copy.ensures.items) (c.fill.ensures old small c.requires.summed.filled);
+      users = subst (AreByUser c.args.numbers.now leaves c.change_users.new.users.items) (sym c.push_copy.ensures.items) (c.change_users.ensures old small c.requires.summed.users);
+      filled = subst (AreSums stands_on c.raise-then-is_same.new.self) (sym c.push_copy.ensures.items) (c.raise-then-is_same.ensures stands_on c.args.container.now (record { sized = refl; alone = λ other. refl }) old small c.requires.summed.filled);
     }

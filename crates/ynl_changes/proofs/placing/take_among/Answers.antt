@@ -1,9 +1,26 @@
+use Rattle.std.proofs.Common.{◌<◌, length, sym, ap, subst, ◌∙◌, arith, []}
 use Rattle.ynl_resource.specs.declared.paths.Path.{Path}
 use Rattle.ynl_tables.specs.Tables.{app_of}
 use Rattle.ynl_changes.specs.Placing.{taken_at}
-use Rattle.ynl_changes.proofs.InPlace.{changed_step}
+use Rattle.ynl_changes.proofs.InPlace.{whole_kept, changed_step}
+use Rattle.std.specs.List.{AllByRecursion}
+use Rattle.ynl_tables.specs.declared.rows.App.{App}
+use Rattle.ynl_tables.specs.Marked.{IsMarkedApp}
+use Rattle.ynl_changes.proofs.Marks.{kept_set}
 use Rattle.ynl_changes.proofs.placing.take_among.Goals as goal
 
 pub loop-app-preserved : goal.loop-app-preserved
-loop-app-preserved c = λ (leaf : Path).
-    changed_step (app_of leaf) (taken_at c.args.name.now c.args.label.now c.args.priority) _ _ _ (c.loop-app.invariant leaf) c.app-item.result c.take_at.new.app c.loop-app-test.true c.app-item.is (c.take_at.ensures leaf)
+loop-app-preserved c =
+    let inside : c.loop-app.app-index < length c.loop-app.app-items = omega (arith, (c.loop-app.invariant.changed []).len) in
+    record {
+      changed = λ (leaf : Path). changed_step (app_of leaf) (taken_at c.args.name.now c.args.label.now c.args.priority) _ _ _ (c.loop-app.invariant.changed leaf) c.app-item.result c.take_at.new.app c.loop-app-test.true c.app-item.is (c.take_at.ensures.meaning leaf);
+      marks = λ s leaf h. kept_set (IsMarkedApp s leaf) c.loop-app.app-items c.loop-app.app-index c.app-item.result c.take_at.new.app inside (c.loop-app.invariant.marks s leaf h) (c.take_at.ensures.marks s leaf);
+    }
+
+pub returns-clause-marks : goal.returns-clause-marks
+returns-clause-marks c = λ s leaf h.
+    let items = c.loop-app.app-items in
+    let value = c.deref_mut-app-items.ensures.value in
+    let same = c.loop-app.auto.app-items ∙ ap length value in
+    let P : App → Type 0 = IsMarkedApp s leaf in
+    whole_kept (AllByRecursion P) c.args.apps.now.len items c.args.apps.now.items same c.args.apps.now.ok.0 (c.loop-app.invariant.marks s leaf (subst (AllByRecursion P) (sym value) h))

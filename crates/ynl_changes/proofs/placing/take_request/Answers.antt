@@ -8,8 +8,8 @@ use Rattle.ynl_tables.specs.Tables.{leaves_of}
 use Rattle.ynl_changes.proofs.InPlace.{update_same}
 use Rattle.ynl_changes.proofs.placing.take_request.Goals as goal
 
-pub returns-in-Master : goal.returns-in-Master
-returns-in-Master c =
+pub returns-in-Master-clause-meaning : goal.returns-in-Master-clause-meaning
+returns-in-Master-clause-meaning c =
     let rows : List LeafApps = leaves_of c.args.rows.now.items in
     sym (update_same (λ row. same_path row.leaf c.args.request.now.leaf) (with_app c.args.request.now.app (λ app. app))
     (λ row. ap (λ (apps : List Application). record row { apps = apps }) (update_same (λ app. same_name app.name c.args.request.now.app) (λ app. app) (λ app. refl) row.apps)) rows)

@@ -3,6 +3,7 @@ use Rattle.ynl_model.specs.declared.containers.Placed.{Placed}
 use Rattle.ynl_model.specs.Changes.{next_item}
 use Rattle.ynl_tables.specs.Tables.{state_of, HasCapacity}
 use Rattle.ynl_changes.proofs.InPlace.{less_capacity}
+use Rattle.ynl_changes.proofs.Marks.{placeable_next}
 use Rattle.ynl_changes.proofs.Serves.{beat_none, beat_zero, state_done, placed_done, state_next, placed_next, working_next, tabled_next, stands_next}
 use Rattle.ynl_changes.proofs.serving.serve.Goals as goal
 
@@ -20,6 +21,10 @@ pub place-container-requires-clause-capacity : goal.place-container-requires-cla
 place-container-requires-clause-capacity c =
     let some : 1 ≤ c.args.times - c.loop-i._i = omega arith in
     less_capacity c.args.node.now.label 1 (c.args.times - c.loop-i._i) some c.loop-i.tables.partitions.items c.loop-i.invariant.capacity
+
+pub place-container-requires-clause-placeable : goal.place-container-requires-clause-placeable
+place-container-requires-clause-placeable c =
+    placeable_next c.args.config.now (state_of c.loop-i.tables) c.args.node.now c.in-Some.request c.loop-i.invariant.working c.loop-i.invariant.tabled c.loop-i.invariant.stands (sym c.next_request.ensures ∙ c.in-Some.is)
 
 pub loop-i-preserved : goal.loop-i-preserved
 loop-i-preserved c =

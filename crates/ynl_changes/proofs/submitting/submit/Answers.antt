@@ -1,11 +1,24 @@
-use Rattle.std.proofs.Common.{cond}
+use Rattle.std.proofs.Common.{cond, ◌<◌, length, sym, ap, subst, ◌∙◌, arith}
 use Rattle.ynl_resource.specs.Names.{same_path}
 use Rattle.ynl_model.specs.Applications.{LeafApps, submitted}
 use Rattle.ynl_tables.specs.Tables.{leaf_of_row}
 use Rattle.ynl_changes.specs.Submitting.{application}
-use Rattle.ynl_changes.proofs.InPlace.{changed_step}
+use Rattle.ynl_changes.proofs.InPlace.{whole_kept, changed_step}
+use Rattle.ynl_tables.specs.Marked.{AreMarkedIn, AreMarked}
+use Rattle.ynl_changes.proofs.Marks.{kept_set}
 use Rattle.ynl_changes.proofs.submitting.submit.Goals as goal
 
 pub loop-row-preserved : goal.loop-row-preserved
 loop-row-preserved c =
-    changed_step leaf_of_row (λ (row : LeafApps). cond (same_path row.leaf c.args.new.now.leaf) (submitted (application c.args.new.now) row) row) _ _ _ c.loop-row.invariant c.row-item.result c.submit_on.new.row c.loop-row-test.true c.row-item.is c.submit_on.ensures
+    let inside : c.loop-row.row-index < length c.loop-row.row-items = omega (arith, c.loop-row.invariant.changed.len) in
+    record {
+      changed = changed_step leaf_of_row (λ (row : LeafApps). cond (same_path row.leaf c.args.new.now.leaf) (submitted (application c.args.new.now) row) row) _ _ _ c.loop-row.invariant.changed c.row-item.result c.submit_on.new.row c.loop-row-test.true c.row-item.is c.submit_on.ensures.meaning;
+      marks = λ s new h. kept_set (AreMarkedIn s) c.loop-row.row-items c.loop-row.row-index c.row-item.result c.submit_on.new.row inside (c.loop-row.invariant.marks s new h) (c.submit_on.ensures.marks s new);
+    }
+
+pub returns-clause-marks : goal.returns-clause-marks
+returns-clause-marks c = λ s new h.
+    let items = c.loop-row.row-items in
+    let value = c.deref_mut-row-items.ensures.value in
+    let same = c.loop-row.auto.row-items ∙ ap length value in
+    whole_kept (AreMarked s) c.args.rows.now.len items c.args.rows.now.items same c.args.rows.now.ok.0 (c.loop-row.invariant.marks s new (subst (AreMarked s) (sym value) h))

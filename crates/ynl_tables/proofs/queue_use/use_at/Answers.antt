@@ -13,7 +13,7 @@ index-requires c =
     let found : Some row ≡ find (λ (row : PartitionRow). same_label row.label c.args.label.now) t.partitions.items =
     c.in-Some.ensures ∙ ap (find (λ (row : PartitionRow). same_label row.label c.args.label.now)) c.deref.ensures.value in
     let number : IsNumberOf t.numbers c.args.queue.now (Some c.in-Some-number.number) = c.in-Some-number.ensures in
-    let within = kept_within t.numbers (leaves_of t.leaves.items) row c.in-Some-number.number (summed_row t.numbers (leaves_of t.leaves.items) t.partitions.items c.args.label.now row c.requires.summed found) number.0 in
+    let within = kept_within t.numbers (leaves_of t.leaves.items) row c.in-Some-number.number (summed_row t.numbers (leaves_of t.leaves.items) t.partitions.items c.args.label.now row c.requires.amounts.summed found) number.0 in
     omega (arith, within, row.uses.ok.0)
 
 pub returns-in-Some-number : goal.returns-in-Some-number
@@ -22,4 +22,4 @@ returns-in-Some-number c =
     let row = c.in-Some.row.now in
     let found : Some row ≡ find (λ (row : PartitionRow). same_label row.label c.args.label.now) t.partitions.items =
     c.in-Some.ensures ∙ ap (find (λ (row : PartitionRow). same_label row.label c.args.label.now)) c.deref.ensures.value in
-    kept_use t c.args.label.now c.args.queue.now row c.in-Some-number.number c.index.result.now c.requires.summed found c.in-Some-number.ensures c.index.ensures
+    kept_use t c.args.label.now c.args.queue.now row c.in-Some-number.number c.index.result.now c.requires.amounts.summed found c.in-Some-number.ensures c.index.ensures

@@ -1,4 +1,4 @@
-use Rattle.std.proofs.Common.{◌≡◌, List, Option, Some, None, rules, sym, ap, subst, ◌∙◌}
+use Rattle.std.proofs.Common.{◌≡◌, List, Option, Some, None, rules, refl, sym, ap, subst, ◌∙◌}
 use Rattle.std.specs.Prelude.{option_map}
 use Rattle.std.specs.Option.{option_map_or}
 use Rattle.ynl_resource.specs.declared.paths.Path.{Path}
@@ -8,10 +8,10 @@ use Rattle.ynl_model.specs.declared.replies.Reply.TheVariants.{Done}
 use Rattle.ynl_model.specs.Applications.{Application, LeafApps, find_app, in_leaf, with_app, set_ask}
 use Rattle.ynl_model.specs.Cluster.{State}
 use Rattle.ynl_model.specs.Events.{Outcome, done, step, accepted}
-use Rattle.ynl_laws.proofs.Events.Kept.{with_app-names}
 use Rattle.ynl_tables.specs.Kept.{AreKept}
 use Rattle.ynl_tables.specs.Tables.{state_of, leaves_of, partitions_of}
 use Rattle.ynl_changes.proofs.Summing.{kept_leaf}
+use Rattle.ynl_core.specs.CoreFields.{IsSound}
 use Rattle.ynl_core.specs.World.{World, Answers}
 use Rattle.ynl_core.proofs.Stepping.{taken_in, sound_after}
 use Rattle.ynl_core.proofs.cluster.Core.ask.Goals as goal
@@ -29,7 +29,7 @@ stepped c =
     let s : State = state_of c.self.inside.tables in
     let event : Event = Ask c.args.tenant c.args.name c.args.ask.label c.args.ask.priority c.args.ask.count c.args.ask.size in
     let change : LeafApps → LeafApps = with_app c.args.name (set_ask c.args.ask) in
-    let leaves : leaves_of c.ask_for.new.rows.items ≡ in_leaf c.in-Ok.leaf change s.leaves = c.ask_for.ensures ∙ ap (in_leaf c.in-Ok.leaf change) c.reserve_ask.ensures.meaning in
+    let leaves : leaves_of c.ask_for.new.rows.items ≡ in_leaf c.in-Ok.leaf change s.leaves = c.ask_for.ensures.meaning ∙ ap (in_leaf c.in-Ok.leaf change) c.reserve_ask.ensures.meaning in
     taken_in config s event c.in-Ok.ensures.free
     ∙ by_leaf (find_app s.leaves c.args.tenant c.args.name) c.in-Ok.leaf s (λ (leaf : Path). done (record s { leaves = in_leaf leaf change s.leaves })) c.in-Ok.ensures.leaf
     ∙ (λ i. done (record s { leaves = sym leaves i }))
@@ -39,13 +39,17 @@ invariant_of-self-2 c =
     let config = c.self.inside.config in
     let event : Event = Ask c.args.tenant c.args.name c.args.ask.label c.args.ask.priority c.args.ask.count c.args.ask.size in
     let change : LeafApps → LeafApps = with_app c.args.name (set_ask c.args.ask) in
-    let leaves : leaves_of c.ask_for.new.rows.items ≡ in_leaf c.in-Ok.leaf change (leaves_of c.self.inside.tables.leaves.items) = c.ask_for.ensures ∙ ap (in_leaf c.in-Ok.leaf change) c.reserve_ask.ensures.meaning in
+    let leaves : leaves_of c.ask_for.new.rows.items ≡ in_leaf c.in-Ok.leaf change (leaves_of c.self.inside.tables.leaves.items) = c.ask_for.ensures.meaning ∙ ap (in_leaf c.in-Ok.leaf change) c.reserve_ask.ensures.meaning in
     let numbers = c.self.inside.tables.numbers in
     let rows = c.self.inside.tables.partitions.items in
+    let s : State = state_of c.self.inside.tables in
     record {
       sound = sound_after config (state_of c.self.inside.tables) _ event _ _ (search rules) c.amount-sized.ensures.range (ap (λ (o : Outcome). o.state) (stepped c)) c.self.invariant.sound;
-      kept = subst (λ (leaves : List LeafApps). AreKept numbers leaves rows) (sym leaves)
-          (kept_leaf numbers c.in-Ok.leaf change (with_app-names c.args.name (set_ask c.args.ask)) (leaves_of c.self.inside.tables.leaves.items) rows c.self.invariant.kept);
+      kept = record {
+        amounts = subst (λ (leaves : List LeafApps). AreKept numbers leaves rows) (sym leaves)
+            (kept_leaf numbers c.in-Ok.leaf c.args.name (set_ask c.args.ask) (λ app. refl) (λ app. refl) (leaves_of c.self.inside.tables.leaves.items) rows c.self.invariant.kept.amounts);
+        marks = c.ask_for.ensures.marks s (c.reserve_ask.ensures.marks s c.self.invariant.kept.marks);
+      };
     }
 
 pub returns-clause-ok : goal.returns-clause-ok
@@ -57,3 +61,16 @@ returns-clause-ok c =
       told = sym (ap (λ (o : Outcome). o.reply) (stepped c));
       left = λ i. record { config = c.self.inside.config; state = sym (ap (λ (o : Outcome). o.state) (stepped c)) i };
     })
+
+-- where memory is refused all is as it was
+pub invariant_of-self : goal.invariant_of-self
+invariant_of-self c =
+    let tables = c.self.inside.tables in
+    let P : List LeafApps → Type 0 = λ leaves. IsSound c.self.inside.config (record (state_of tables) { leaves = leaves }) c.self.inside.resting.keys in
+    record {
+      sound = subst P (sym c.reserve_ask.ensures.meaning) c.self.invariant.sound;
+      kept = record {
+        amounts = subst (λ (leaves : List LeafApps). AreKept tables.numbers leaves tables.partitions.items) (sym c.reserve_ask.ensures.meaning) c.self.invariant.kept.amounts;
+        marks = c.reserve_ask.ensures.marks (state_of tables) c.self.invariant.kept.marks;
+      };
+    }

@@ -2,10 +2,12 @@ use Rattle.std.proofs.Common.{◌≡◌, List, rules, sym, subst}
 use Rattle.ynl_model.specs.declared.events.Event.{Event}
 use Rattle.ynl_model.specs.declared.events.Event.TheVariants.{Commit}
 use Rattle.ynl_model.specs.Cluster.{Partition}
-use Rattle.ynl_model.specs.Events.{step, accepted}
+use Rattle.ynl_model.specs.Check.{commit_reasons}
+use Rattle.ynl_model.specs.Events.{reasons, step, accepted}
 use Rattle.ynl_core.specs.CoreFields.{IsSound}
 use Rattle.ynl_tables.specs.Tables.{state_of}
 use Rattle.ynl_changes.proofs.Summing.{readable}
+use Rattle.ynl_core.proofs.Reserved.{reserved, placeable_reserved}
 use Rattle.ynl_core.proofs.Stepping.{sound_after}
 use Rattle.ynl_core.proofs.cluster.Core.commit.Goals as goal
 
@@ -28,8 +30,14 @@ invariant_of-self c =
     let P : List Partition → Type 0 = λ rows. IsSound c.self.inside.config (record (state_of tables) { partitions = rows }) c.self.inside.resting.keys in
     record {
       sound = subst P (sym c.reserve_containers.ensures.meaning) c.self.invariant.sound;
-      kept = record { numbered = c.self.invariant.kept.numbered; summed = c.reserve_containers.ensures.summed _ _ c.self.invariant.kept.summed };
+      kept = (let k = reserved c.self.inside.tables c.reserve_containers.new.rows.items c.reserve_containers.ensures.meaning c.reserve_containers.ensures.summed c.self.invariant.kept in record { amounts = k.0; marks = k.1 });
     }
 
 pub place-container-requires-clause-kept : goal.place-container-requires-clause-kept
-place-container-requires-clause-kept c = record { numbered = c.self.invariant.kept.numbered; summed = c.reserve_containers.ensures.summed _ _ c.self.invariant.kept.summed }
+place-container-requires-clause-kept c = (let k = reserved c.self.inside.tables c.reserve_containers.new.rows.items c.reserve_containers.ensures.meaning c.reserve_containers.ensures.summed c.self.invariant.kept in record { amounts = k.0; marks = k.1 })
+
+pub place-container-requires-clause-placeable : goal.place-container-requires-clause-placeable
+unfolding commit_reasons reasons
+place-container-requires-clause-placeable c =
+    placeable_reserved c.self.inside.config c.self.inside.tables c.reserve_containers.new.rows.items c.args.proposal c.in-Ok.checked.node c.in-Ok.checked.request c.reserve_containers.ensures.meaning c.self.invariant.sound.working c.self.invariant.sound.tabled
+    c.in-Ok.ensures.free c.in-Ok.ensures.node c.in-Ok.ensures.request

@@ -1,10 +1,12 @@
 use Rattle.std.proofs.Common.{◌≡◌, Some, rules, refl, sym, ap, subst, ◌∙◌}
+use Rattle.std.specs.Prelude.{option_map}
 use Rattle.ynl_model.specs.declared.events.Event.{Event}
 use Rattle.ynl_model.specs.declared.events.Event.TheVariants.{Finish}
 use Rattle.ynl_model.specs.declared.replies.Reply.TheVariants.{Done}
 use Rattle.ynl_model.specs.Applications.{Application, find_app}
 use Rattle.ynl_model.specs.Cluster.{State}
 use Rattle.ynl_model.specs.Events.{Outcome, done, step, accepted}
+use Rattle.ynl_changes.proofs.Marks.{finds_found}
 use Rattle.ynl_core.proofs.Stepping.{taken_in, sound_after}
 use Rattle.ynl_tables.specs.Tables.{state_of, app_of}
 use Rattle.ynl_core.specs.World.{World, Answers}
@@ -35,3 +37,9 @@ returns c =
       told = sym (ap (λ (o : Outcome). o.reply) (stepped c));
       left = λ i. record { config = c.self.inside.config; state = sym (ap (λ (o : Outcome). o.state) (stepped c)) i };
     })
+
+pub finish_application-requires-clause-live : goal.finish_application-requires-clause-live
+finish_application-requires-clause-live c =
+    let s : State = state_of c.self.inside.tables in
+    let app : Application = app_of c.in-Ok.live.leaf.now c.in-Ok.live.app.now in
+    ap (option_map (λ (app : Application). app.leaf)) (finds_found s c.args.tenant c.args.name app c.self.invariant.sound.tabled c.in-Ok.ensures.live)

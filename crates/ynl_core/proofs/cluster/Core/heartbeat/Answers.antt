@@ -8,15 +8,15 @@ use Rattle.ynl_model.specs.Changes.{beat}
 use Rattle.ynl_model.specs.Events.{Outcome, step, accepted}
 use Rattle.ynl_laws.proofs.Soundness.Steps.{stands-found}
 use Rattle.ynl_core.specs.CoreFields.{world_of, IsSound}
-use Rattle.ynl_core.specs.Resting.{AreResting}
 use Rattle.ynl_tables.specs.Tables.{state_of, leaves_of, partitions_of}
 use Rattle.ynl_core.specs.World.{World, Answers}
 use Rattle.ynl_core.proofs.Idle.{empty_items, unplaced_more, unplaced_rests, unplaced_same, resting_step}
+use Rattle.ynl_core.proofs.Reserved.{reserved}
 use Rattle.ynl_core.proofs.Stepping.{sound_after}
 use Rattle.ynl_core.proofs.cluster.Core.heartbeat.Goals as goal
 
 pub serve-requires-clause-kept : goal.serve-requires-clause-kept
-serve-requires-clause-kept c = record { numbered = c.self.invariant.kept.numbered; summed = c.reserve_containers.ensures.summed _ _ c.self.invariant.kept.summed }
+serve-requires-clause-kept c = (let k = reserved c.self.inside.tables c.reserve_containers.new.rows.items c.reserve_containers.ensures.meaning c.reserve_containers.ensures.summed c.self.invariant.kept in record { amounts = k.0; marks = k.1 })
 
 pub serve-requires-clause-stands : goal.serve-requires-clause-stands
 serve-requires-clause-stands c = stands-found (state_of c.self.inside.tables) c.args.name c.in-Ok.node (search rules)
@@ -74,5 +74,5 @@ invariant_of-self c =
     let P : List Partition → Type 0 = λ rows. IsSound c.self.inside.config (record (state_of tables) { partitions = rows }) c.self.inside.resting.keys in
     record {
       sound = subst P (sym c.reserve_containers.ensures.meaning) c.self.invariant.sound;
-      kept = record { numbered = c.self.invariant.kept.numbered; summed = c.reserve_containers.ensures.summed _ _ c.self.invariant.kept.summed };
+      kept = (let k = reserved c.self.inside.tables c.reserve_containers.new.rows.items c.reserve_containers.ensures.meaning c.reserve_containers.ensures.summed c.self.invariant.kept in record { amounts = k.0; marks = k.1 });
     }

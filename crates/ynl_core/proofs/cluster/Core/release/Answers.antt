@@ -2,6 +2,7 @@ use Rattle.std.proofs.Common.{◌≡◌, rules}
 use Rattle.ynl_model.specs.declared.events.Event.{Event}
 use Rattle.ynl_model.specs.declared.events.Event.TheVariants.{Release}
 use Rattle.ynl_model.specs.Events.{step, accepted}
+use Rattle.ynl_changes.proofs.Marks.{stands_once}
 use Rattle.ynl_core.proofs.Stepping.{sound_after}
 use Rattle.ynl_tables.specs.Tables.{state_of}
 use Rattle.ynl_core.proofs.cluster.Core.release.Goals as goal
@@ -14,3 +15,6 @@ invariant_of-self c =
     let event : Event = Release c.args.tenant c.args.id in
     let same : (step config (state_of tables) event).state ≡ state_of c.end.new.tables = search rules in
     record { sound = sound_after config (state_of tables) _ event _ _ (search rules) tt same c.self.invariant.sound; kept = c.end.ensures.kept }
+
+pub end-requires-clause-once : goal.end-requires-clause-once
+end-requires-clause-once c = stands_once c.self.inside.config (state_of c.self.inside.tables) c.args.id.label _ c.in-Ok.container c.self.invariant.sound.working.ordered c.in-Ok.ensures.container

@@ -13,10 +13,11 @@ use Rattle.ynl_model.specs.Cluster.{State}
 use Rattle.ynl_model.specs.Applications.{Application, LeafApps, leaf_of, in_leaf, submitted, new_app}
 use Rattle.ynl_model.specs.Events.{Outcome, done, home_of, reasons, step, accepted}
 use Rattle.ynl_laws.proofs.Events.Chosen.{none-holds}
-use Rattle.ynl_laws.proofs.Events.Kept.{submit-extends}
 use Rattle.ynl_tables.specs.Kept.{AreKept}
 use Rattle.ynl_tables.specs.Tables.{state_of, leaves_of, partitions_of}
+use Rattle.ynl_laws.proofs.Totals.Marks.{mark-new}
 use Rattle.ynl_changes.proofs.Summing.{kept_submission}
+use Rattle.ynl_core.specs.CoreFields.{IsSound}
 use Rattle.ynl_core.specs.World.{World, Answers}
 use Rattle.ynl_core.proofs.Stepping.{taken_in, sound_after}
 use Rattle.ynl_core.proofs.cluster.Core.submit.Goals as goal
@@ -34,7 +35,7 @@ stepped c =
     let config = c.self.inside.config in
     let tables = c.self.inside.tables in
     let event : Event = Submit c.args.queue c.args.app c.args.user c.args.label c.args.master in
-    let leaves = c.submit.ensures ∙ (λ i. in_leaf c.args.queue (submitted (new_app c.args.queue c.args.app c.args.user (c.in-Ok.ensures.home i) c.args.master)) (c.reserve_application.ensures.meaning i)) in
+    let leaves = c.submit.ensures.meaning ∙ (λ i. in_leaf c.args.queue (submitted (new_app c.args.queue c.args.app c.args.user (c.in-Ok.ensures.home i) c.args.master)) (c.reserve_application.ensures.meaning i)) in
     taken_in config (state_of tables) event (c.in-Ok.ensures.free c.args.user)
     ∙ (λ i. done (record { nodes = tables.nodes; partitions = partitions_of tables.partitions.items; leaves = sym leaves i; stops = tables.stops; maxima = tables.maxima }))
 
@@ -45,13 +46,17 @@ invariant_of-self-2 c =
     let s : State = state_of c.self.inside.tables in
     let app : Application = new_app c.args.queue c.args.app c.args.user (home_of config c.args.queue c.args.label) c.args.master in
     let leaves : leaves_of c.submit.new.rows.items ≡ in_leaf c.args.queue (submitted app) s.leaves =
-    c.submit.ensures ∙ (λ i. in_leaf c.args.queue (submitted (new_app c.args.queue c.args.app c.args.user (c.in-Ok.ensures.home i) c.args.master)) (c.reserve_application.ensures.meaning i)) in
+    c.submit.ensures.meaning ∙ (λ i. in_leaf c.args.queue (submitted (new_app c.args.queue c.args.app c.args.user (c.in-Ok.ensures.home i) c.args.master)) (c.reserve_application.ensures.meaning i)) in
     let numbers = c.self.inside.tables.numbers in
     let rows = c.self.inside.tables.partitions.items in
+    let free = unused config s c.args.queue c.args.app c.args.user c.args.label c.args.master (c.in-Ok.ensures.free c.args.user) in
     record {
       sound = sound_after config (state_of c.self.inside.tables) _ event _ _ (search rules) c.amount-sized.ensures.range (ap (λ (o : Outcome). o.state) (stepped c)) c.self.invariant.sound;
-      kept = subst (λ (leaves : List LeafApps). AreKept numbers leaves rows) (sym leaves)
-          (kept_submission numbers app s.leaves rows (submit-extends app s.leaves (unused config s c.args.queue c.args.app c.args.user c.args.label c.args.master (c.in-Ok.ensures.free c.args.user))) c.self.invariant.sound.working.kept.uses c.self.invariant.kept);
+      kept = record {
+        amounts = subst (λ (leaves : List LeafApps). AreKept numbers leaves rows) (sym leaves)
+            (kept_submission numbers app s.leaves rows free c.self.invariant.sound.working.kept.uses c.self.invariant.kept.amounts);
+        marks = c.submit.ensures.marks s (mark-new s (new_app c.args.queue c.args.app c.args.user c.in-Ok.home c.args.master) c.self.invariant.sound.working.kept free) (c.reserve_application.ensures.marks s c.self.invariant.kept.marks);
+      };
     }
 
 pub returns-clause-ok : goal.returns-clause-ok
@@ -63,3 +68,16 @@ returns-clause-ok c =
       told = sym (ap (λ (o : Outcome). o.reply) (stepped c));
       left = λ i. record { config = c.self.inside.config; state = sym (ap (λ (o : Outcome). o.state) (stepped c)) i };
     })
+
+-- where memory is refused all is as it was
+pub invariant_of-self : goal.invariant_of-self
+invariant_of-self c =
+    let tables = c.self.inside.tables in
+    let P : List LeafApps → Type 0 = λ leaves. IsSound c.self.inside.config (record (state_of tables) { leaves = leaves }) c.self.inside.resting.keys in
+    record {
+      sound = subst P (sym c.reserve_application.ensures.meaning) c.self.invariant.sound;
+      kept = record {
+        amounts = subst (λ (leaves : List LeafApps). AreKept tables.numbers leaves tables.partitions.items) (sym c.reserve_application.ensures.meaning) c.self.invariant.kept.amounts;
+        marks = c.reserve_application.ensures.marks (state_of tables) c.self.invariant.kept.marks;
+      };
+    }

@@ -1,0 +1,92 @@
+//! The clocks of running masters, as they are kept with their applications.
+
+ghost use Rattle.std.specs.Prelude.{◌≡◌, ◌&&◌, map, if◌then◌else◌};
+ghost use Rattle.ynl_resource.specs.Names.{same_label, same_name};
+ghost use Rattle.ynl_resource.specs.declared.paths.Path.{Path};
+ghost use Rattle.ynl_model.specs.Cluster.{is_master};
+ghost use Rattle.ynl_laws.specs.Marks.{is_master_of};
+ghost use Rattle.ynl_tables.specs.Tables.{app_of, leaf_of_row, leaves_of};
+ghost use Rattle.ynl_changes.specs.Marking.{noted, noted_row, noted_rows, remarked, unmarked};
+
+use ynl_model::Placed;
+use ynl_resource::{Label, Name, Path};
+use ynl_tables::{App, LeafRow, is_master, is_own, is_same, tenant_bytes};
+
+fn is_master_of(container: &Placed, leaf: &Path, app: &App) -> bool
+    ensures { result ≡ is_master_of (app_of leaf.now app.now) container.now }
+{
+    is_master(container) && is_own(container, tenant_bytes(leaf), &app.name)
+}
+
+/// Whether a container on a partition is an application's master, and stands at its home.
+fn is_home_master(container: &Placed, label: &Label, leaf: &Path, app: &App) -> bool
+    ensures { result ≡ (same_label label.now app.now.home && is_master_of (app_of leaf.now app.now) container.now) }
+{
+    is_same(label, &app.home) && is_master_of(container, leaf, app)
+}
+
+/// An application gets a mark, if the container on the partition is its master at its home.
+fn mark_at(app: &mut App, leaf: &Path, label: &Label, container: &Placed, clock: u64)
+    ensures meaning { (path : Path) → app_of path app.new ≡ app_of path app.old }
+    ensures marks { noted leaf.now app.new ≡ remarked label.now container.now clock (noted leaf.now app.old) }
+{
+    if is_home_master(container, label, leaf, app) {
+        app.master_clock = clock;
+    }
+}
+
+fn mark_among(apps: &mut Vec<App>, leaf: &Path, label: &Label, container: &Placed, clock: u64)
+    ensures meaning { (path : Path) → map (app_of path) apps.new.items ≡ map (app_of path) apps.old.items }
+    ensures marks { map (noted leaf.now) apps.new.items ≡ map (remarked label.now container.now clock) (map (noted leaf.now) apps.old.items) }
+{
+    for app in apps.iter_mut() {
+        mark_at(app, leaf, label, container, clock);
+    }
+}
+
+/// Whether a container can be the master of an application of a leaf.
+fn is_master_for(container: &Placed, row: &LeafRow) -> bool
+    ensures { result ≡ (is_master container.now && same_name container.now.tenant row.now.tenant) }
+{
+    is_master(container) && container.tenant == row.tenant
+}
+
+/// That in a row. The rows of other tenants have no such application.
+fn mark_in(row: &mut LeafRow, label: &Label, container: &Placed, clock: u64)
+    ensures meaning { leaf_of_row row.new ≡ leaf_of_row row.old }
+    ensures marks { noted_row row.new ≡ map (remarked label.now container.now clock) (noted_row row.old) }
+{
+    if is_master_for(container, row) {
+        mark_among(&mut row.apps, &row.path, label, container, clock);
+    }
+}
+
+/// The application whose master a container on a partition is, at its home, gets a mark.
+pub fn mark(rows: &mut Vec<LeafRow>, label: &Label, container: &Placed, clock: u64)
+    ensures meaning { leaves_of rows.new.items ≡ leaves_of rows.old.items }
+    ensures marks { noted_rows rows.new.items ≡ map (map (remarked label.now container.now clock)) (noted_rows rows.old.items) }
+{
+    for row in rows.iter_mut() {
+        mark_in(row, label, container, clock);
+    }
+}
+
+/// The mark of a container's application goes, if the container is on the node.
+fn unmark_if(rows: &mut Vec<LeafRow>, label: &Label, node: &Name, container: &Placed)
+    ensures meaning { leaves_of rows.new.items ≡ leaves_of rows.old.items }
+    ensures marks { noted_rows rows.new.items ≡ (if same_name container.now.node node.now then map (map (remarked label.now container.now 0)) (noted_rows rows.old.items) else noted_rows rows.old.items) }
+{
+    if container.node == *node {
+        mark(rows, label, container, 0);
+    }
+}
+
+/// The marks go of the applications whose masters are among the containers of a partition on a node.
+pub fn unmark(rows: &mut Vec<LeafRow>, label: &Label, node: &Name, containers: &[Placed])
+    ensures meaning { leaves_of rows.new.items ≡ leaves_of rows.old.items }
+    ensures marks { noted_rows rows.new.items ≡ map (map (unmarked label.now node.now containers.now)) (noted_rows rows.old.items) }
+{
+    for container in containers {
+        unmark_if(rows, label, node, container);
+    }
+}

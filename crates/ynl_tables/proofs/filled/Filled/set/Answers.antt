@@ -1,9 +1,0 @@
-use Rattle.std.proofs.Common.{Some, sym, subst}
-use Rattle.ynl_tables.specs.Filled.{SetsIn}
-use Rattle.ynl_tables.proofs.Filling.{inserted_sum}
-use Rattle.ynl_tables.proofs.filled.Filled.set.Goals as goal
-
-pub returns-in-Ok : goal.returns-in-Ok
-returns-in-Ok c =
-    subst (λ o. SetsIn o (Some c.insert.new.self) c.args.node.now c.args.sum) (sym c.in-Some.is)
-    (inserted_sum c.in-Some.sums c.insert.new.self c.args.node.now c.args.sum (λ q. c.in-Ok.ensures.updates.0 q))

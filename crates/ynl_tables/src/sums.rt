@@ -1,0 +1,95 @@
+//! What containers come to, by the names for which they count.
+
+ghost use Rattle.std.specs.Prelude.{◌≡◌, Bool, []};
+ghost use Rattle.ynl_resource.specs.declared.names.Name.{Name};
+ghost use Rattle.ynl_model.specs.declared.containers.Placed.{Placed};
+ghost use Rattle.ynl_tables.specs.Sums.{kept_for, AreSums, Sets, Raises, Lowers, IsSumFor};
+
+use std::alloc::Global;
+use std::collections::BTreeMap;
+use ynl_resource::{Name, Resource, Size};
+
+/// What containers come to, by the names for which they count: kept while there is memory for it. Where
+/// that was refused nothing is kept, and each sum has to be worked out.
+#[derive(Drop)]
+pub struct Sums {
+    entries: Option<BTreeMap<Name, Resource>>,
+}
+
+const NOTHING: Resource = Resource {
+    memory: 0,
+    vcores: 0,
+};
+
+fn entry_for(entries: &BTreeMap<Name, Resource>, name: &Name) -> Resource
+    ensures { result ≡ kept_for entries.now name.now }
+{
+    match entries.get(name) {
+        Some(sum) => *sum,
+        None => NOTHING,
+    }
+}
+
+impl Sums {
+    /// There is no container.
+    pub fn new(alloc: Global) -> Sums
+        ensures { (counts : Name → Placed → Bool) → AreSums counts result [] }
+    {
+        Sums {
+            entries: Some(BTreeMap::new(alloc)),
+        }
+    }
+
+    /// What the containers that count for a name come to, where it is kept.
+    pub fn sum_for(&self, name: &Name) -> Option<Resource>
+        ensures { IsSumFor self.now name.now result }
+    {
+        match &self.entries {
+            Some(entries) => Some(entry_for(entries, name)),
+            None => None,
+        }
+    }
+
+    /// The sum of a name is set; where there is no memory for it nothing is kept any more.
+    fn set(&mut self, name: &Name, sum: Resource)
+        ensures { Sets self.old self.new name.now sum }
+    {
+        let Some(entries) = &mut self.entries else {
+            return;
+        };
+        match entries.insert(*name, sum) {
+            Ok(_) => {}
+            Err(_) => self.entries = None,
+        }
+    }
+
+    /// One container more, which counts for one name.
+    pub fn raise(&mut self, name: &Name, size: &Size)
+        ensures { Raises self.old self.new name.now size.now }
+    {
+        let Some(sum) = self.sum_for(name) else {
+            return;
+        };
+        let size = size.amount();
+        let more = Resource {
+            memory: sum.memory.saturating_add(size.memory),
+            vcores: sum.vcores.saturating_add(size.vcores),
+        };
+        self.set(name, more);
+    }
+
+    /// One container less, which counted for one name.
+    pub fn lower(&mut self, name: &Name, size: &Size)
+        ensures { Lowers self.old self.new name.now size.now }
+    {
+        let Some(sum) = self.sum_for(name) else {
+            return;
+        };
+        let size = size.amount();
+        let fewer = Resource {
+            memory: sum.memory.saturating_sub(size.memory),
+            vcores: sum.vcores.saturating_sub(size.vcores),
+        };
+        self.set(name, fewer);
+    }
+}
