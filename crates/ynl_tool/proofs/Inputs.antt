@@ -109,6 +109,7 @@ module _ (a b : Option (List ℕ)) (old new : Lines) (ongoing : old.at_end ≡ f
         one_line = one_whole line 10 gave.plain;
         read = gave.ended.1;
         some = omega (arith, longer);
+        plain = gave.plain;
         used = omega (arith, longer, used);
         count = count;
         ended = inl (inr (line, refl), still);
@@ -129,6 +130,7 @@ module _ (a b : Option (List ℕ)) (old new : Lines) (ongoing : old.at_end ≡ f
         one_line = one_part line gave.plain;
         read = gave.ended.1;
         some = some;
+        plain = gave.plain;
         used = used;
         count = count;
         ended = inr (gave.ended.0, closed);
@@ -329,6 +331,7 @@ module _ (a b d : Option (List ℕ)) (l k l' : Lines) (kept : KeepsPlace (betwee
     one_line = t.one_line;
     read = Consumes-trans a b d [] t.bytes kept.read t.read;
     some = t.some;
+    plain = t.plain;
     used = t.used ∙ kept.budget;
     count = t.count ∙ ap (λ n. n + 1) kept.count;
     ended = same_end t.bytes t.ended;

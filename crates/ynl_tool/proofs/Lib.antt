@@ -5,6 +5,7 @@ pub mod Fronts
 pub mod Held
 pub mod Idle
 pub mod Inputs
+pub mod Keepings
 pub mod Livings
 pub mod Pieces
 pub mod Readings

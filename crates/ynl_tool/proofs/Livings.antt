@@ -27,7 +27,7 @@ use Rattle.ynl_tool.specs.Telling.{AppendsLines, LeavesLine, LeavesLines, SaysLi
 use Rattle.ynl_tool.specs.Living.{rounds_of, journal_line, journal_lines, session_lines, session_fault, SumsUp, IsLived, LivesWhole, Lives}
 use Rattle.ynl_tool.proofs.Fronts.{part_after}
 use Rattle.ynl_tool.proofs.Runs.{of_some}
-use Rattle.ynl_tool.proofs.Tellings.{all_of_more, leaves_more, leaves_after, one_more}
+use Rattle.ynl_tool.proofs.Tellings.{leaves_after, one_more}
 
 -- ---- entries, one after another
 
@@ -57,20 +57,3 @@ module _ (a b c : Option (List ℕ)) (entries : List Entry) (i : ℕ) (so : Entr
 
   pub entry_failed : (e : ToolFault) → LeavesLine b c (journal_line i x) e → LeavesLines a c (journal_lines 0 entries) e
   entry_failed e h = subst (λ ls. LeavesLines a c ls e) (sym next) (leaves_after a b c so.done (journal_line i x) _ e so.written h)
-
--- ---- lines, and then more
-
--- lines, and then some of more
-some_after : (a b c : Option (List ℕ)) (xs ys : List (List ℕ)) → Appends a b (concat xs) → AppendsLines b c ys → AppendsLines a c (xs ++ ys)
-some_after a b c xs ys before h = record {
-  count = length xs + h.count;
-  bound = omega (arith, h.bound, length-append xs ys);
-  appended = subst (λ ls. Appends a c ls) (sym (ap concat (take-append-add xs ys h.count) ∙ concat-append xs (take h.count ys))) (Appends-trans a b c (concat xs) (concat (take h.count ys)) before h.appended);
-}
-
-pub says_after : {A : Type 0} (a b c : Option (List ℕ)) (xs ys : List (List ℕ)) (r : Result A ToolFault) → Appends a b (concat xs) → SaysLines b c ys r → SaysLines a c (xs ++ ys) r
-says_after a b c xs ys (Ok x) before h = subst (Appends a c) (sym (concat-append xs ys)) (Appends-trans a b c (concat xs) (concat ys) before h)
-says_after a b c xs ys (Err Read) before h = h
-says_after a b c xs ys (Err Unclosed) before h = h
-says_after a b c xs ys (Err NoMemory) before h = some_after a b c xs ys before h
-says_after a b c xs ys (Err Write) before h = subst (AppendsPart a c) (sym (concat-append xs ys)) (part_after a b c (concat xs) (concat ys) before h)

@@ -1,35 +1,38 @@
 -- Lines of events that are written one after another.
-use Rattle.std.proofs.Common.{◌≡◌, ◌≢◌, ℕ, suc, ◌+◌, ◌<◌, List, [], ◌∷◌, ◌++◌, length, drop, get_or, Bool, Option, Some, None, Result, Ok, Err, refl, sym, ap, subst, ◌∙◌, arith, append-nil, append_assoc, length-append, inr}
+use Rattle.std.proofs.Common.{◌≡◌, ◌≢◌, ℕ, ◌+◌, ◌<◌, List, [], ◌∷◌, ◌++◌, length, take, drop, Bool, Option, Some, None, Result, Ok, Err, refl, sym, ap, subst, ◌∙◌, arith, append-nil, append_assoc, length-append, length-drop, inr}
 use Rattle.std.specs.Prelude.{IsTrue, IfErr, option_map}
 use Rattle.std.specs.List.{concat}
 use Rattle.std.specs.Io.KnownBytes.{Appends}
 use Rattle.std.proofs.KnownBytes.{Appends-nil, Appends-trans}
 use Rattle.std.proofs.lemmas.List.Folds.{concat-append}
 use Rattle.std.proofs.lemmas.List.{take-append-le, take_at}
-use Rattle.std.proofs.Math.Seq.{drop-cons}
+use Rattle.std.proofs.Math.Seq.{take-append-add}
 use Rattle.ynl_resource.specs.declared.names.Name.{Name}
 use Rattle.ynl_resource.specs.declared.labels.Label.{Label}
 use Rattle.ynl_model.specs.declared.events.Event.{Event}
 use Rattle.ynl_model.specs.Queues.{Config}
-use Rattle.ynl_model.specs.Events.{step, replies}
 use Rattle.ynl_model.specs.Accepted.{is_accepted}
-use Rattle.ynl_model.specs.View.{is_sole}
+use Rattle.ynl_model.specs.View.{Viewed, is_sole, seen_of, track_step, view_from, with_seen}
 use Rattle.ynl_laws.proofs.Isolating.Isolated.{is_isolated}
-use Rattle.ynl_core.specs.World.{World, stepped}
+use Rattle.ynl_core.specs.World.{World}
 use Rattle.ynl_tool.specs.declared.run.ToolFault.{ToolFault}
 use Rattle.ynl_tool.specs.declared.run.ToolFault.TheVariants.{Read, Write, NoMemory, Unclosed}
 use Rattle.ynl_lines.specs.declared.faults.LineFault.{LineFault}
 use Rattle.ynl_lines.specs.declared.faults.InputFault.TheVariants.{Script as InScript}
+use Rattle.ynl_lines.specs.Reading.{event_of_line}
 use Rattle.ynl_lines.specs.Writing.{fault_text}
 use Rattle.ynl_tool.specs.declared.run.Summary.{Summary}
-use Rattle.ynl_tool.specs.Lines.{AppendsPart}
+use Rattle.ynl_tool.specs.declared.tenant.Stand.{Stand}
+use Rattle.ynl_tool.specs.Lines.{IsPlain, AppendsPart}
 use Rattle.ynl_tool.specs.Input.{Stream, between}
+use Rattle.ynl_tool.specs.Keeping.{Keeps}
 use Rattle.ynl_tool.specs.Run.{line_of, faulty, fault_lines_of, fault_lines}
 use Rattle.ynl_tool.specs.Running.{Writes}
 use Rattle.ynl_tool.specs.Readings.{ReadsTo}
 use Rattle.ynl_tool.specs.Script.{Script, script_way, script_of}
-use Rattle.ynl_tool.specs.Telling.{entry_lines, entry_line, view_lines, tenant_lines, AppendsLines, LeavesLine, LeavesLines, SaysLines, TellsEvent, IsToldOf, TellsAll, TellsWhole, TellsTenant}
+use Rattle.ynl_tool.specs.Telling.{entry_line, lines_from, seen_lines_from, sight_lines, stepped_by, view_lines, tenant_lines, AppendsLines, IsOpened, LeavesLine, LeavesLines, MovesOn, SaysLines, TellsSight, IsToldOf, TellsAll, TellsWhole, TellsTenant}
 use Rattle.ynl_tool.proofs.Fronts.{part_of_more, part_after}
+use Rattle.ynl_tool.proofs.Keepings.{NextKept, next_kept, after_line, none_kept}
 use Rattle.ynl_tool.proofs.Runs.{of_some}
 
 -- ---- lines, and more lines
@@ -73,69 +76,113 @@ pub one_more : (a b c : Option (List ℕ)) (done : List (List ℕ)) (line : List
 one_more a b c done line before h =
     subst (Appends a c) (sym (concat-append done (line ∷ []) ∙ ap (λ l. concat done ++ l) (append-nil line))) (Appends-trans a b c (concat done) line before h)
 
+-- lines, and then some of more
+some_after : (a b c : Option (List ℕ)) (xs ys : List (List ℕ)) → Appends a b (concat xs) → AppendsLines b c ys → AppendsLines a c (xs ++ ys)
+some_after a b c xs ys before h = record {
+  count = length xs + h.count;
+  bound = omega (arith, h.bound, length-append xs ys);
+  appended = subst (λ ls. Appends a c ls) (sym (ap concat (take-append-add xs ys h.count) ∙ concat-append xs (take h.count ys))) (Appends-trans a b c (concat xs) (concat (take h.count ys)) before h.appended);
+}
+
+-- lines, and then what is said of more
+pub says_after : {A : Type 0} (a b c : Option (List ℕ)) (xs ys : List (List ℕ)) (r : Result A ToolFault) → Appends a b (concat xs) → SaysLines b c ys r → SaysLines a c (xs ++ ys) r
+says_after a b c xs ys (Ok x) before h = subst (Appends a c) (sym (concat-append xs ys)) (Appends-trans a b c (concat xs) (concat ys) before h)
+says_after a b c xs ys (Err Read) before h = h
+says_after a b c xs ys (Err Unclosed) before h = h
+says_after a b c xs ys (Err NoMemory) before h = some_after a b c xs ys before h
+says_after a b c xs ys (Err Write) before h = subst (AppendsPart a c) (sym (concat-append xs ys)) (part_after a b c (concat xs) (concat ys) before h)
+
 -- ---- events, one after another
 
--- The lines of these were written; it goes on with what is left.
-pub record SoFar (core : World) (places : List ℕ) (events : List Event) (now : World) (i : ℕ) (done : List (List ℕ)) : Type 0 where
-  pub same : now.config ≡ core.config
-  pub goes_on :
-      entry_lines places events (replies core.config core.state events)
-      ≡ done ++ entry_lines (drop i places) (drop i events) (replies core.config now.state (drop i events))
+module _ (core : World) (place : ℕ) where
+  -- the line of what is first, if it is seen, and those of the rest
+  found_first : (found : Option Event) (rest : List Viewed) → seen_lines_from core (with_seen place found rest) ≡ sight_lines core place found ++ seen_lines_from (stepped_by core found) rest
+  found_first None rest = refl
+  found_first (Some e) rest = refl
 
-pub at_start : (core : World) (places : List ℕ) (events : List Event) → SoFar core places events core 0 []
-at_start core places events = record { same = refl; goes_on = refl }
-
-module _ (core : World) (places : List ℕ) (events : List Event) (now : World) (i : ℕ) (done : List (List ℕ)) (far : SoFar core places events now i done) where
-  -- the next event is told, and then the rest
-  next : (n : ℕ) (e : Event) → drop i places ≡ n ∷ drop (i + 1) places → drop i events ≡ e ∷ drop (i + 1) events
-      → entry_lines places events (replies core.config core.state events)
-      ≡ done ++ (entry_line now n e ∷ entry_lines (drop (i + 1) places) (drop (i + 1) events) (replies core.config (step core.config now.state e).state (drop (i + 1) events)))
-  next n e p q =
-      far.goes_on
-      ∙ ap (λ ns. done ++ entry_lines ns (drop i events) (replies core.config now.state (drop i events))) p
-      ∙ ap (λ es. done ++ entry_lines (n ∷ drop (i + 1) places) es (replies core.config now.state es)) q
-      ∙ ap (λ k. done ++ (entry_line (record { config = k; state = now.state }) n e ∷ entry_lines (drop (i + 1) places) (drop (i + 1) events) (replies core.config (step core.config now.state e).state (drop (i + 1) events)))) (sym far.same)
-
-  pub told : (n : ℕ) (e : Event) (after : World) → drop i places ≡ n ∷ drop (i + 1) places → drop i events ≡ e ∷ drop (i + 1) events → after ≡ stepped now e
-      → SoFar core places events after (i + 1) (done ++ entry_line now n e ∷ [])
-  told n e after p q left = record {
-    same = ap (λ (w : World). w.config) left ∙ far.same;
-    goes_on =
-        next n e p q
-        ∙ sym (append_assoc done (entry_line now n e ∷ []) (entry_lines (drop (i + 1) places) (drop (i + 1) events) (replies core.config (step core.config now.state e).state (drop (i + 1) events))))
-        ∙ ap (λ s. (done ++ entry_line now n e ∷ []) ++ entry_lines (drop (i + 1) places) (drop (i + 1) events) (replies core.config s (drop (i + 1) events)))
-        (ap (λ k. (step k now.state e).state) (sym far.same) ∙ sym (ap (λ (w : World). w.state) left));
-  }
-
-  pub failed : (a b c : Option (List ℕ)) (n : ℕ) (e : Event) (f : ToolFault) → drop i places ≡ n ∷ drop (i + 1) places → drop i events ≡ e ∷ drop (i + 1) events
-      → Appends a b (concat done) → LeavesLine b c (entry_line now n e) f → LeavesLines a c (entry_lines places events (replies core.config core.state events)) f
-  failed a b c n e f p q before h =
-      subst (λ ls. LeavesLines a c ls f) (sym (next n e p q)) (leaves_after a b c done (entry_line now n e) _ f before h)
-
--- The lines of the events so far were written.
-pub record ToldSoFar (old new : Option (List ℕ)) (core : World) (places : List ℕ) (events : List Event) (now : World) (i : ℕ) : Type 0 where
+-- The lines of the events so far were written, and the text of the others is left.
+pub record ToldSoFar (old new : Option (List ℕ)) (c : Config) (t : Name) (p : Label) (first now : Stand) (events : List Event) (place : ℕ) (text : List ℕ) : Type 0 where
+  pub left : List Event
+  pub kept : Keeps text left
   pub done : List (List ℕ)
-  pub far : SoFar core places events now i done
+  pub goes_on : lines_from c t p first.core 0 first.track events ≡ done ++ lines_from c t p now.core place now.track left
   pub written : Appends old new (concat done)
 
--- what an error leaves of an event's line
-pub event_left : (a b : Option (List ℕ)) (core next : World) (n : ℕ) (e : Event) (f : ToolFault) → TellsEvent {A = Unit {0}} a b core next n e (Err f) → LeavesLine a b (entry_line core n e) f
-event_left a b core next n e Read h = absurd h
-event_left a b core next n e Unclosed h = absurd h
-event_left a b core next n e NoMemory h = h
-event_left a b core next n e Write h = h.1
+pub none_told : (a : Option (List ℕ)) (c : Config) (t : Name) (p : Label) (stand : Stand) (events : List Event) (text : List ℕ) → Keeps text events → ToldSoFar a a c t p stand stand events 0 text
+none_told a c t p stand events text kept = record { left = events; kept = kept; done = []; goes_on = refl; written = Appends-nil a }
 
--- what is left begins with the next
-pub next_number : (xs : List ℕ) (i : ℕ) → i < length xs → drop i xs ≡ get_or xs i 0 ∷ drop (i + 1) xs
-next_number xs i h = let e : suc i ≡ i + 1 = omega arith in drop-cons xs i 0 h ∙ ap (λ k. get_or xs i 0 ∷ drop k xs) e
+module _ (a b d : Option (List ℕ)) (c : Config) (t : Name) (p : Label) (first now after : Stand) (events : List Event) (place : ℕ) (text : List ℕ) (so : ToldSoFar a b c t p first now events place text) where
+  module _ (next : NextKept text so.left) where
+    abbrev found : Option Event
+    found = seen_of t p c now.track next.event
 
-pub next_event : (xs : List Event) (i : ℕ) (x : Event) → i < length xs → x ≡ get_or xs i x → drop i xs ≡ x ∷ drop (i + 1) xs
-next_event xs i x h is = let e : suc i ≡ i + 1 = omega arith in drop-cons xs i x h ∙ ap (λ k. get_or xs i x ∷ drop k xs) e ∙ ap (λ y. y ∷ drop (i + 1) xs) (sym is)
+    abbrev rest : List Viewed
+    rest = view_from t p c (place + 1) (track_step c now.track next.event) next.events
+
+    -- the next event is told, if it is seen, and then the rest
+    then_next : lines_from c t p first.core 0 first.track events ≡ so.done ++ (sight_lines now.core place found ++ seen_lines_from (stepped_by now.core found) rest)
+    then_next =
+        so.goes_on
+        ∙ ap (λ es. so.done ++ lines_from c t p now.core place now.track es) next.is
+        ∙ ap (λ ls. so.done ++ ls) (found_first now.core place found rest)
+
+    pub told_more : MovesOn c t p now after next.event → Appends b d (concat (sight_lines now.core place found)) → ToldSoFar a d c t p first after events (place + 1) next.rest
+    told_more moved told = record {
+      left = next.events;
+      kept = next.kept;
+      done = so.done ++ sight_lines now.core place found;
+      goes_on =
+          then_next
+          ∙ sym (append_assoc so.done (sight_lines now.core place found) (seen_lines_from (stepped_by now.core found) rest))
+          ∙ ap (λ core. (so.done ++ sight_lines now.core place found) ++ seen_lines_from core rest) (sym moved.core)
+          ∙ ap (λ track. (so.done ++ sight_lines now.core place found) ++ lines_from c t p after.core (place + 1) track next.events) (sym moved.track);
+      written = says_after {A = Unit {0}} a b d so.done (sight_lines now.core place found) (Ok tt) so.written told;
+    }
+
+    pub told_failed : (f : ToolFault) → LeavesLines b d (sight_lines now.core place found) f → LeavesLines a d (lines_from c t p first.core 0 first.track events) f
+    told_failed f left =
+        subst (λ ls. LeavesLines a d ls f) (sym then_next)
+        (says_after {A = Unit {0}} a b d so.done (sight_lines now.core place found ++ seen_lines_from (stepped_by now.core found) rest) (Err f) so.written (leaves_more b d (sight_lines now.core place found) (seen_lines_from (stepped_by now.core found) rest) f left))
+
+-- A line that was read again: what stands at a place of the text that is kept.
+module _ {A : Type 0} (a b d : Option (List ℕ)) (c : Config) (t : Name) (p : Label) (first now after : Stand) (events : List Event) (place : ℕ) (text line : List ℕ) (at : ℕ) (r : Result A ToolFault)
+    (so : ToldSoFar a b c t p first now events place (drop at text)) (more : at < length text)
+    (first_line : (line' rest : List ℕ) → IsPlain line' → drop at text ≡ line' ++ 10 ∷ rest → line ≡ line')
+    (tells : (e : Event) → event_of_line line ≡ Ok e → TellsSight b d c t p now after place e r) where
+  next : NextKept (drop at text) so.left
+  next = next_kept (drop at text) so.left (let n = length-drop at text in omega (arith, n, more)) so.kept
+
+  is_line : line ≡ next.begins.line
+  is_line = first_line next.begins.line next.rest next.begins.plain next.begins.is
+
+  tells_next : TellsSight b d c t p now after place next.event r
+  tells_next = tells next.event (ap event_of_line is_line ∙ next.begins.said)
+
+  pub line_told : (x : A) → r ≡ Ok x → ToldSoFar a d c t p first after events (place + 1) (drop (at + (length line + 1)) text)
+  line_told x is =
+      let h = subst (TellsSight b d c t p now after place next.event) is tells_next in
+      subst (ToldSoFar a d c t p first after events (place + 1)) (sym (ap (λ l. drop (at + (length l + 1)) text) is_line ∙ after_line text at next.event next.rest next.begins))
+      (told_more a b d c t p first now after events place (drop at text) so next h.0 h.1)
+
+  pub line_failed : (f : ToolFault) → r ≡ Err f → LeavesLines a d (lines_from c t p first.core 0 first.track events) f
+  line_failed f is = told_failed a b d c t p first now after events place (drop at text) so next f (subst (TellsSight b d c t p now after place next.event) is tells_next)
+
+-- no event is left
+pub told_all : (a b : Option (List ℕ)) (c : Config) (t : Name) (p : Label) (first now : Stand) (events : List Event) (place : ℕ) (text : List ℕ) → ToldSoFar a b c t p first now events place text → length text ≡ 0 → Appends a b (concat (lines_from c t p first.core 0 first.track events))
+told_all a b c t p first now events place text so none =
+    subst (λ ls. Appends a b (concat ls)) (sym (so.goes_on ∙ ap (λ es. so.done ++ lines_from c t p now.core place now.track es) (none_kept text so.left none so.kept) ∙ append-nil so.done)) so.written
+
+-- the lines from the beginning are those of the view
+pub told_of_view : {A : Type 0} (a b : Option (List ℕ)) (c : Config) (t : Name) (p : Label) (stand : Stand) (events : List Event) (r : Result A ToolFault) → IsOpened c t stand
+    → SaysLines a b (lines_from c t p stand.core 0 stand.track events) r → SaysLines a b (view_lines c t p events) r
+told_of_view a b c t p stand events r opened said =
+    subst (λ core. SaysLines a b (lines_from c t p core 0 [] events) r) opened.core
+    (subst (λ track. SaysLines a b (lines_from c t p stand.core 0 track events) r) opened.track said)
 
 -- what was said of these events
-pub said_of : {A : Type 0} (a b : Option (List ℕ)) (c : Config) (t : Name) (p : Label) (events those : List Event) (r is : Result A ToolFault) → events ≡ those → r ≡ is → SaysLines a b (view_lines c t p events) r
-    → SaysLines a b (view_lines c t p those) is
-said_of a b c t p events those r is same e said = subst (SaysLines a b (view_lines c t p those)) e (subst (λ es. SaysLines a b (view_lines c t p es) r) same said)
+pub said_of : {A : Type 0} (a b : Option (List ℕ)) (c : Config) (t : Name) (p : Label) (text those : List ℕ) (r is : Result A ToolFault) → text ≡ those → r ≡ is
+    → ((events : List Event) → Keeps text events → SaysLines a b (view_lines c t p events) r) → (events : List Event) → Keeps those events → SaysLines a b (view_lines c t p events) is
+said_of a b c t p text those r is same e said events kept = subst (SaysLines a b (view_lines c t p events)) e (said events (subst (λ k. Keeps k events) (sym same) kept))
 
 -- ---- a script that was read, and what the tenant is told of it
 

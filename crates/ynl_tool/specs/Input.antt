@@ -97,6 +97,7 @@ pub record TakesLine (reader : Stream) (old new : Lines) : Type 0 where
   pub one_line : IsOneLine bytes
   pub read : Consumes reader.before reader.after bytes
   pub some : 0 < length bytes
+  pub plain : IsPlain new.line.items
   pub used : length bytes + new.budget ≡ old.budget
   pub count : new.count ≡ old.count + 1
   pub ended : EndsBy reader bytes new

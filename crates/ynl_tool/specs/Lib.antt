@@ -3,6 +3,7 @@ pub mod Audited
 pub mod Auditing
 pub mod Input
 pub mod Jobs
+pub mod Keeping
 pub mod Lines
 pub mod Living
 pub mod Readings

@@ -1,21 +1,23 @@
 -- What is told to a tenant: the events that its partition sees, and the replies of the cluster that holds the tenant alone.
-use Rattle.std.specs.Prelude.{◌≡◌, ◌⊎◌, ℕ, ◌≤◌, Bool, IsTrue, List, [], ◌∷◌, ◌++◌, length, take, Option, option_map, IfSome, Result, Ok, Err, IfOk}
+use Rattle.std.specs.Prelude.{◌≡◌, ◌⊎◌, ℕ, ◌≤◌, Bool, IsTrue, List, [], ◌∷◌, ◌++◌, length, take, Option, Some, None, option_map, IfSome, Result, Ok, Err, IfOk}
 use Rattle.std.specs.List.{concat}
 use Rattle.std.specs.Io.KnownBytes.{Appends}
 use Rattle.ynl_resource.specs.declared.names.Name.{Name}
 use Rattle.ynl_resource.specs.declared.labels.Label.{Label}
 use Rattle.ynl_model.specs.declared.events.Event.{Event}
 use Rattle.ynl_model.specs.declared.replies.Reply.{Reply}
+use Rattle.ynl_model.specs.declared.nodes.Tracked.{Tracked}
 use Rattle.ynl_model.specs.Queues.{Config}
-use Rattle.ynl_model.specs.Events.{step, replies_to}
-use Rattle.ynl_model.specs.View.{Viewed, view, events_of, places_of, restrict}
+use Rattle.ynl_model.specs.Events.{step, replies, replies_to}
+use Rattle.ynl_model.specs.View.{Viewed, view, view_from, seen_of, track_step, events_of, places_of, restrict}
 use Rattle.ynl_model.specs.Promises.{HasSameReplies}
-use Rattle.ynl_core.specs.World.{World, stepped}
+use Rattle.ynl_core.specs.World.{World, opened, stepped}
 use Rattle.ynl_lines.specs.declared.faults.InputFault.TheVariants.{Script as InScript}
 use Rattle.ynl_lines.specs.Writing.{line_text}
 use Rattle.ynl_tool.specs.declared.run.ToolFault.{ToolFault}
 use Rattle.ynl_tool.specs.declared.run.ToolFault.TheVariants.{Read, Write, NoMemory, Unclosed}
 use Rattle.ynl_tool.specs.declared.run.Summary.{Summary}
+use Rattle.ynl_tool.specs.declared.tenant.Stand.{Stand}
 use Rattle.ynl_tool.specs.Input.{Stream}
 use Rattle.ynl_tool.specs.Lines.{AppendsPart}
 use Rattle.ynl_tool.specs.Run.{line_of, fault_lines}
@@ -42,6 +44,14 @@ view_lines c t p events = seen_lines (restrict c t) (view c events t p)
 -- what a tenant is told of a script
 abbrev pub tenant_lines : Config → Name → Label → Script → List (List ℕ)
 tenant_lines c t p s = view_lines c t p s.made ++ fault_lines s
+
+-- the lines of what is seen of events from a place on, by the track before them, with the replies of this cluster
+abbrev pub seen_lines_from : World → List Viewed → List (List ℕ)
+seen_lines_from core seen = entry_lines (places_of seen) (events_of seen) (replies core.config core.state (events_of seen))
+
+-- the lines of events from a place on: of what is seen by the track before them, with the replies of the tenant's cluster
+abbrev pub lines_from : Config → Name → Label → World → ℕ → List Tracked → List Event → List (List ℕ)
+lines_from c t p core place nodes events = seen_lines_from core (view_from t p c place nodes events)
 
 -- ---- writing it
 
@@ -82,6 +92,35 @@ TellsEvent old new core next place e (Err Unclosed) = ⊥
 abbrev pub SaysLines : {A : Type 0} → Option (List ℕ) → Option (List ℕ) → List (List ℕ) → Result A ToolFault → Type 0
 SaysLines old new lines (Ok x) = Appends old new (concat lines)
 SaysLines old new lines (Err e) = LeavesLines old new lines e
+
+-- ---- one event after another
+
+-- nothing was told yet: no node is tracked, and the tenant's cluster is at its beginning
+pub record IsOpened (c : Config) (t : Name) (stand : Stand) : Type 0 where
+  pub track : stand.track ≡ []
+  pub core : stand.core ≡ opened (restrict c t)
+
+-- the line of an event that is seen, and none of one that is not
+abbrev pub sight_lines : World → ℕ → Option Event → List (List ℕ)
+sight_lines core place None = []
+sight_lines core place (Some e) = entry_line core place e ∷ []
+
+-- the tenant's cluster after an event, if it is seen
+abbrev pub stepped_by : World → Option Event → World
+stepped_by core None = core
+stepped_by core (Some e) = stepped core e
+
+-- the track and the cluster are those after an event
+pub record MovesOn (c : Config) (t : Name) (p : Label) (old new : Stand) (e : Event) : Type 0 where
+  pub track : new.track ≡ track_step c old.track e
+  pub core : new.core ≡ stepped_by old.core (seen_of t p c old.track e)
+
+-- what is seen of an event was told, and the telling stands after it; or a fault left a front of its line
+abbrev pub TellsSight : {A : Type 0} → Option (List ℕ) → Option (List ℕ) → Config → Name → Label → Stand → Stand → ℕ → Event → Result A ToolFault → Type 0
+TellsSight old new c t p before after place e (Ok x) = MovesOn c t p before after e × Appends old new (concat (sight_lines before.core place (seen_of t p c before.track e)))
+TellsSight old new c t p before after place e (Err f) = LeavesLines old new (sight_lines before.core place (seen_of t p c before.track e)) f
+
+-- ---- the whole
 
 -- Where a configuration is known to be accepted, the replies that a tenant is told are those of the whole cluster.
 abbrev pub AreThose : Bool → Config → List Event → Name → Label → Type 0

@@ -17,6 +17,7 @@ mod audit;
 pub mod audit_laws;
 mod config_text;
 mod jobs;
+mod kept;
 mod lines_in;
 mod lines_out;
 mod live;

@@ -47,7 +47,7 @@ impl From<AllocError> for ReadFault {
 }
 
 /// The place of the first newline, or the length.
-fn newline_or_end(bytes: &[u8]) -> usize
+pub fn newline_or_end(bytes: &[u8]) -> usize
     ensures bound { result ≤ length bytes.now }
     ensures before { All (λ x. x ≢ 10) (take result bytes.now) }
     ensures at { result < length bytes.now → slice_index bytes.now result ≡ 10 }

@@ -1,24 +1,47 @@
 //! Telling a tenant what its partition sees of a script.
 
-ghost use Rattle.std.specs.Prelude.{◌≡◌, IfOk, IsTrue, length};
+ghost use Rattle.std.specs.Prelude.{◌≡◌, List, Ok, IfOk, IsTrue};
 ghost use Rattle.ynl_core.specs.World.{stepped};
+ghost use Rattle.ynl_lines.specs.Reading.{event_of_line};
+ghost use Rattle.ynl_model.specs.declared.events.Event.{Event};
 ghost use Rattle.ynl_model.specs.Accepted.{is_accepted};
-ghost use Rattle.ynl_model.specs.Events.{replies};
 ghost use Rattle.ynl_model.specs.View.{is_sole};
 ghost use Rattle.ynl_tool.specs.Input.{between};
-ghost use Rattle.ynl_tool.specs.Telling.{entry_line, entry_lines, view_lines, SaysLines, TellsEvent, TellsTenant, TellsWhole};
+ghost use Rattle.ynl_tool.specs.Keeping.{Keeps};
+ghost use Rattle.ynl_tool.specs.Telling.{entry_line, lines_from, view_lines, IsOpened, SaysLines, TellsEvent, TellsSight, TellsTenant, TellsWhole};
 
+use crate::kept::{first_line, keep_script};
 use crate::lines_out::write_text;
 use crate::run::{Summary, ToolFault, report, with_newline};
-use crate::script_in::read_script;
 use std::alloc::Global;
 use std::io::{BufRead, Write};
 use ynl_core::{Core, NoMemory};
-use ynl_lines::{InputFault, write_line};
+use ynl_lines::{InputFault, read_event, write_line};
 use ynl_model::Event;
 use ynl_queues::Config;
 use ynl_resource::{Label, Name};
-use ynl_view::{restrict, view};
+use ynl_view::{Track, restrict, see};
+
+/// How far a telling has come: the track after some events, and the tenant's cluster after those of
+/// them that its partition sees.
+#[derive(Drop)]
+struct Stand {
+    track: Track,
+    core: Core,
+}
+
+impl Stand {
+    /// Before the first event.
+    fn open(alloc: Global, config: &Config, tenant: &Name) -> Result<Stand, NoMemory>
+        ensures { IfOk result (λ stand. IsOpened config.now tenant.now stand) }
+    {
+        let alone = restrict(alloc, config, tenant)?;
+        Ok(Stand {
+            track: Track::new(alloc),
+            core: Core::open(alloc, alone)?,
+        })
+    }
+}
 
 /// Answers an event, and gives its line. Nothing but memory can be wanting here.
 fn answer_event(
@@ -49,43 +72,87 @@ fn tell_event<W: Write>(
     Ok(())
 }
 
-/// Answers the events, and writes the line of each.
-fn tell_events<W: Write>(
+/// Tells of the next event, if the partition sees it.
+fn tell_sight<W: Write>(
     alloc: Global,
-    core: &mut Core,
-    places: &[u64],
-    events: &[Event],
+    config: &Config,
+    tenant: &Name,
+    label: &Label,
+    stand: &mut Stand,
+    place: u64,
+    event: &Event,
     writer: &mut W,
 ) -> Result<(), ToolFault>
-    requires { length events.now ≡ length places.now }
-    ensures { SaysLines (W.contents writer.old) (W.contents writer.new) (entry_lines places.now events.now (replies core.old.config core.old.state events.now)) result }
+    ensures { TellsSight (W.contents writer.old) (W.contents writer.new) config.now tenant.now label.now stand.old stand.new place event.now result }
 {
-    for (i, event) in events.iter().enumerate() {
-        tell_event(alloc, core, places[i], event, writer)?;
+    match see(config, tenant, label, &mut stand.track, event)? {
+        Some(seen) => tell_event(alloc, &mut stand.core, place, &seen, writer),
+        None => Ok(()),
+    }
+}
+
+/// Reads the next line again, and tells of its event.
+fn tell_line<W: Write>(
+    alloc: Global,
+    config: &Config,
+    tenant: &Name,
+    label: &Label,
+    stand: &mut Stand,
+    place: u64,
+    line: &[u8],
+    writer: &mut W,
+) -> Result<(), ToolFault>
+    ensures { (event : Event) → event_of_line line.now ≡ Ok event → TellsSight (W.contents writer.old) (W.contents writer.new) config.now tenant.now label.now stand.old stand.new place event result }
+{
+    match read_event(alloc, line)? {
+        Ok(event) => tell_sight(alloc, config, tenant, label, stand, place, &event, writer),
+        // No line that is kept has a fault.
+        Err(_) => Ok(()),
+    }
+}
+
+/// Goes through the text that was kept, line by line, and tells of the events.
+fn tell_lines<W: Write>(
+    alloc: Global,
+    config: &Config,
+    tenant: &Name,
+    label: &Label,
+    stand: &mut Stand,
+    text: &[u8],
+    writer: &mut W,
+) -> Result<(), ToolFault>
+    ensures { (events : List Event) → Keeps text.now events → SaysLines (W.contents writer.old) (W.contents writer.new) (lines_from config.now tenant.now label.now stand.old.core 0 stand.old.track events) result }
+{
+    let mut at = 0;
+    let mut place = 0u64;
+    while at < text.len() {
+        let line = first_line(&text[at..]);
+        tell_line(alloc, config, tenant, label, stand, place, line, writer)?;
+        at += line.len() + 1;
+        place += 1;
     }
     Ok(())
 }
 
-/// Tells the tenant what its partition sees of the events.
+/// Tells the tenant what its partition sees of the events whose text was kept.
 fn tell_view<W: Write>(
     alloc: Global,
     config: &Config,
     tenant: &Name,
     label: &Label,
-    events: &[Event],
+    text: &[u8],
     writer: &mut W,
 ) -> Result<(), ToolFault>
-    ensures { SaysLines (W.contents writer.old) (W.contents writer.new) (view_lines config.now tenant.now label.now events.now) result }
+    ensures { (events : List Event) → Keeps text.now events → SaysLines (W.contents writer.old) (W.contents writer.new) (view_lines config.now tenant.now label.now events) result }
 {
-    let seen = view(alloc, config, events, tenant, label)?;
-    let alone = restrict(alloc, config, tenant)?;
-    let mut core = Core::open(alloc, alone)?;
-    tell_events(alloc, &mut core, &seen.places, &seen.events, writer)
+    let mut stand = Stand::open(alloc, config, tenant)?;
+    tell_lines(alloc, config, tenant, label, &mut stand, text, writer)
 }
 
 /// Reads the script, and only then writes what the tenant's partition sees of its events: each in a
 /// line with its place in the script and the reply of a cluster that holds the tenant alone. A line
-/// with a fault ends the script, and is reported in the last line written.
+/// with a fault ends the script, and is reported in the last line written. Of the script its text is
+/// kept, and read a second time for what is told.
 ///
 /// After a read fault nothing is written; where memory was refused, whole lines from the front; after
 /// a write fault a front of the text.
@@ -101,8 +168,8 @@ pub fn tenant_lines<R: BufRead, W: Write>(
     ensures whole { TellsWhole (between (R.remaining reader.old) (R.remaining reader.new)) (between (W.contents writer.old) (W.contents writer.new)) (is_accepted config) config tenant.now label.now result }
     ensures steps { TellsTenant (between (R.remaining reader.old) (R.remaining reader.new)) (between (W.contents writer.old) (W.contents writer.new)) (is_accepted config) config tenant.now label.now result }
 {
-    let script = read_script(alloc, reader)?;
-    tell_view(alloc, &config, tenant, label, &script.events, writer)?;
+    let script = keep_script(alloc, reader)?;
+    tell_view(alloc, &config, tenant, label, &script.text, writer)?;
     match script.fault {
         Some(fault) => report(alloc, writer, InputFault::Script(fault), script.lines),
         None => Ok(Summary {

@@ -4,8 +4,9 @@
 pub use exclusivity::sole;
 pub use picking::pick;
 pub use restriction::restrict;
+pub use track::Track;
 pub use tracking::tracked_nodes;
-pub use viewing::view;
+pub use viewing::{see, view};
 pub use views::View;
 
 mod exclusivity;

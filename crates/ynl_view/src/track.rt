@@ -12,7 +12,7 @@ use ynl_model::{Event, Tracked};
 use ynl_queues::Config;
 use ynl_resource::{Label, MOST_NODES, Name, Size};
 
-/// The nodes, in the order of joining. A contract sees their list.
+/// The nodes, in the order of joining, as node events alone tell them. A contract sees their list.
 #[derive(Drop)]
 pub struct Track {
     nodes: Vec<Tracked>,
@@ -38,14 +38,14 @@ impl Track {
     }
 
     /// The node of a name.
-    pub fn node(&self, name: &Name) -> Option<Tracked>
+    pub(crate) fn node(&self, name: &Name) -> Option<Tracked>
         ensures { result ≡ tracked self.now name.now }
     {
         self.nodes.iter().copied().find(|node| node.name == *name)
     }
 
     /// Whether the node is in the partition.
-    pub fn has(&self, name: &Name, label: &Label) -> bool
+    pub(crate) fn has(&self, name: &Name, label: &Label) -> bool
         ensures { result ≡ is_in self.now name.now label.now }
     {
         match self.node(name) {
@@ -55,7 +55,7 @@ impl Track {
     }
 
     /// The names of the nodes, in the order of joining.
-    pub fn names(&self, alloc: Global) -> Result<Vec<Name>, AllocError>
+    pub(crate) fn names(&self, alloc: Global) -> Result<Vec<Name>, AllocError>
         ensures { IfOk result (λ names. names.items ≡ map (λ node. node.name) self.now) }
     {
         self.nodes.iter().map(|node| node.name).collect(alloc)
@@ -79,7 +79,7 @@ impl Track {
 
     /// Whether the node may register: the label is configured, the name is new, and the partition has
     /// a place.
-    pub fn registers(&self, config: &Config, name: &Name, label: &Label) -> bool
+    pub(crate) fn registers(&self, config: &Config, name: &Name, label: &Label) -> bool
         ensures { result ≡ registers config.now self.now name.now label.now }
     {
         config.labels().has(label) && self.node(name).is_none() && self.has_place(label)
@@ -87,7 +87,7 @@ impl Track {
 
     /// Whether the node may be relabelled: the label is configured, the node is there with another,
     /// and the partition has a place.
-    pub fn relabels(&self, config: &Config, name: &Name, label: &Label) -> bool
+    pub(crate) fn relabels(&self, config: &Config, name: &Name, label: &Label) -> bool
         ensures { result ≡ relabels config.now self.now name.now label.now }
     {
         config.labels().has(label)
@@ -153,7 +153,7 @@ impl Track {
 
     /// The track after one more event: only an accepted Register, Lost or Relabel moves it.
     #[tactic(auto, unfolding(ynl_model::specs::View::track_step))]
-    pub fn step(&mut self, config: &Config, event: &Event) -> Result<(), AllocError>
+    pub(crate) fn step(&mut self, config: &Config, event: &Event) -> Result<(), AllocError>
         ensures { OnOk result (self.new ≡ track_step config.now self.old event.now) }
     {
         match event {

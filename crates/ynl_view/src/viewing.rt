@@ -1,7 +1,7 @@
-//! The view of a list of events.
+//! The view of a list of events, and of one event after another.
 
-ghost use Rattle.std.specs.Prelude.{◌≡◌, ◌<◌, length, IfOk, All};
-ghost use Rattle.ynl_model.specs.View.{view, events_of, places_of};
+ghost use Rattle.std.specs.Prelude.{◌≡◌, ◌<◌, length, IfOk, OnOk, All};
+ghost use Rattle.ynl_model.specs.View.{view, events_of, places_of, seen_of, track_step};
 
 use crate::sights::seen_of;
 use crate::track::Track;
@@ -11,6 +11,23 @@ use ynl_core::NoMemory;
 use ynl_model::Event;
 use ynl_queues::Config;
 use ynl_resource::{Label, Name};
+
+/// What the tenant's partition sees of one more event, by the track before it. The track is then the
+/// one after it.
+pub fn see(
+    config: &Config,
+    tenant: &Name,
+    label: &Label,
+    track: &mut Track,
+    event: &Event,
+) -> Result<Option<Event>, NoMemory>
+    ensures seen { IfOk result (λ seen. seen ≡ seen_of tenant.now label.now config.now track.old event.now) }
+    ensures track { OnOk result (track.new ≡ track_step config.now track.old event.now) }
+{
+    let seen = seen_of(tenant, label, config, track, event);
+    track.step(config, event)?;
+    Ok(seen)
+}
 
 /// What the tenant's partition sees of the events, in order and with their places.
 pub fn view(
@@ -28,11 +45,10 @@ pub fn view(
     let mut seen = Vec::new(alloc);
     let mut places = Vec::new(alloc);
     for (i, event) in events.iter().enumerate() {
-        if let Some(event) = seen_of(tenant, label, config, &track, event) {
+        if let Some(event) = see(config, tenant, label, &mut track, event)? {
             seen.push(event)?;
             places.push(i as u64)?;
         }
-        track.step(config, event)?;
     }
     Ok(View {
         events: seen,

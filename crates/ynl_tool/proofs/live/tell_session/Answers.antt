@@ -4,8 +4,7 @@ use Rattle.ynl_tool.specs.Living.{journal_lines, session_lines}
 use Rattle.ynl_tool.specs.Run.{fault_lines}
 use Rattle.ynl_tool.specs.Script.{script_read}
 use Rattle.ynl_tool.specs.Telling.{SaysLines}
-use Rattle.ynl_tool.proofs.Tellings.{leaves_more}
-use Rattle.ynl_tool.proofs.Livings.{says_after}
+use Rattle.ynl_tool.proofs.Tellings.{leaves_more, says_after}
 use Rattle.ynl_tool.proofs.live.tell_session.Goals as goal
 
 -- the entries were not told to their end
