@@ -1,5 +1,5 @@
 -- Rows changed in place, one after another.
-use Rattle.std.proofs.Common.{◌≡◌, ℕ, zero, suc, ◌+◌, ◌<◌, ◌≤◌, List, [], ◌∷◌, ◌++◌, length, get_or, take, drop, map, refl, sym, ap, subst, ◌∙◌, arith, add-one, append-nil, Bool, true, false, cond}
+use Rattle.std.proofs.Common.{◌≡◌, ℕ, zero, suc, ◌+◌, ◌<◌, ◌≤◌, List, [], ◌∷◌, ◌++◌, length, get_or, take, drop, map, refl, sym, ap, subst, ◌∙◌, arith, append-nil, Bool, true, false, cond}
 use Rattle.ynl_resource.specs.Tables.{update}
 use Rattle.ynl_resource.specs.declared.labels.Label.{Label}
 use Rattle.ynl_tables.specs.declared.rows.PartitionRow.{PartitionRow}
@@ -7,6 +7,7 @@ use Rattle.ynl_tables.specs.Tables.{HasCapacity}
 use Rattle.std.specs.List.{AllByRecursion}
 use Rattle.std.proofs.Math.ListN.{set, drop_of_length-le}
 use Rattle.std.proofs.lemmas.List.{take_more, take_more_set, take_all, map_push, length-set}
+use Rattle.ynl_waiting.proofs.Rest.{rest_is, rest_set}
 use Rattle.ynl_laws.proofs.Lists.{Each-append}
 
 -- the first rows mean what is wanted, and the rest stand as they were
@@ -15,28 +16,10 @@ pub record IsChanged {X Y : Type 0} (m : X → Y) (g : Y → Y) (xs ys : List X)
   pub done : map m (take i ys) ≡ map g (map m (take i xs))
   pub rest : drop i ys ≡ drop i xs
 
-drop-set : {X : Type 0} (xs : List X) (i : ℕ) (y : X) → drop (suc i) (set xs i y) ≡ drop (suc i) xs
-drop-set [] i y = refl
-drop-set (x ∷ xs) zero y = refl
-drop-set (x ∷ xs) (suc i) y = drop-set xs i y
-
-drop-next : {X : Type 0} (xs ys : List X) (i : ℕ) → drop i xs ≡ drop i ys → drop (suc i) xs ≡ drop (suc i) ys
-drop-next xs ys i e = more xs i ∙ ap (drop 1) e ∙ sym (more ys i)
-  where
-    more : {X : Type 0} (xs : List X) (i : ℕ) → drop (suc i) xs ≡ drop 1 (drop i xs)
-    more xs zero = refl
-    more [] (suc i) = refl
-    more (x ∷ xs) (suc i) = more xs i
-
-get-rest : {X : Type 0} (xs : List X) (i : ℕ) (d : X) → get_or xs i d ≡ get_or (drop i xs) 0 d
-get-rest xs zero d = refl
-get-rest [] (suc i) d = refl
-get-rest (x ∷ xs) (suc i) d = get-rest xs i d
-
 module _ {X Y : Type 0} (m : X → Y) (g : Y → Y) (xs ys : List X) (i : ℕ) (h : IsChanged m g xs ys i) where
   -- the row that comes next is as it was
   pub next_is : (x : X) → x ≡ get_or ys i x → x ≡ get_or xs i x
-  next_is x e = e ∙ get-rest ys i x ∙ ap (λ zs. get_or zs 0 x) h.rest ∙ sym (get-rest xs i x)
+  next_is x e = rest_is ys xs i x h.rest e
 
   pub changed_step : (x y : X) → i < length xs → x ≡ get_or ys i x → m y ≡ g (m (get_or ys i x)) → IsChanged m g xs (set ys i y) (i + 1)
   changed_step x y inside e given =
@@ -51,7 +34,7 @@ module _ {X Y : Type 0} (m : X → Y) (g : Y → Y) (xs ys : List X) (i : ℕ) (
             ∙ sym (map_push g (map m (take i xs)) (m x))
             ∙ ap (map g) (sym (map_push m (take i xs) x))
             ∙ ap (λ zs. map g (map m zs)) (ap (λ z. take i xs ++ z ∷ []) (next_is x e) ∙ sym (take_more xs i x inside));
-        rest = rw add-one (drop-set ys i y ∙ drop-next ys xs i h.rest);
+        rest = rest_set ys xs i y h.rest;
       }
 
   pub changed_end : length xs ≤ i → map m ys ≡ map g (map m xs)

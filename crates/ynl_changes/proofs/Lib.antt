@@ -6,3 +6,7 @@ pub mod Put
 pub mod Summing
 pub mod Moving
 pub mod Marks
+pub mod Requests
+pub mod Requeued
+pub mod Apart
+pub mod Sharers

@@ -90,11 +90,11 @@ raised_all queues leaves k old new uses pushed e =
     e ∙ map_each (λ queue. raised_in leaves queue k (use_by leaves queue old)) (λ queue. use_by leaves queue new)
     (λ queue. sym (ap (use_by leaves queue) pushed ∙ use-with leaves queue old [] k ∙ ap (λ xs. raised_in leaves queue k (use_by leaves queue xs)) (append-nil old))) queues
 
--- the first containers without those that go, and the rest
-abbrev pub so_far : (Placed → Bool) → List Placed → ℕ → List Placed
+-- the first things without those that go, and the rest
+abbrev pub so_far : {X : Type 0} → (X → Bool) → List X → ℕ → List X
 so_far goes xs i = without goes (take i xs) ++ drop i xs
 
-drop_next : (xs : List Placed) (i : ℕ) (x : Placed) → i < length xs → x ≡ get_or xs i x → drop i xs ≡ x ∷ drop (i + 1) xs
+drop_next : {X : Type 0} (xs : List X) (i : ℕ) (x : X) → i < length xs → x ≡ get_or xs i x → drop i xs ≡ x ∷ drop (i + 1) xs
 drop_next xs i x inside e = drop_more xs i x inside ∙ ap (λ z. z ∷ drop (i + 1) xs) (sym e)
 
 pub less_one : (leaves : List LeafApps) (queue : Path) (goes : Placed → Bool) (xs : List Placed) (i : ℕ) (x : Placed) → i < length xs → x ≡ get_or xs i x
@@ -111,21 +111,21 @@ less_one leaves queue goes xs i x inside e =
     go true front rest = use-without leaves queue front rest x ∙ ap (use_by leaves queue) (ap (λ ys. ys ++ rest) (sym (append-nil front)))
     go false front rest = ap (use_by leaves queue) (sym (append_assoc front (x ∷ []) rest))
 
--- what was so of the containers so far is so in another way with one more of them gone over
-pub left_one : (Was Is : List Placed → Type 0) (goes : Placed → Bool) (xs : List Placed) (i : ℕ) (x : Placed) → i < length xs → x ≡ get_or xs i x → LeavesIf (goes x) x Was Is → Was (so_far goes xs i) → Is (so_far goes xs (i + 1))
-left_one Was Is goes xs i x inside e leaves was =
-    let front : List Placed = without goes (take i xs) in
-    let rest : List Placed = drop (i + 1) xs in
+-- what was so of the things so far is so in another way with one more of them gone over
+pub left_one : {X : Type 0} (Was Is : List X → Type 0) (goes : X → Bool) (xs : List X) (i : ℕ) (x : X) → i < length xs → x ≡ get_or xs i x → LeavesIf (goes x) x Was Is → Was (so_far goes xs i) → Is (so_far goes xs (i + 1))
+left_one {X} Was Is goes xs i x inside e leaves was =
+    let front : List X = without goes (take i xs) in
+    let rest : List X = drop (i + 1) xs in
     let here : so_far goes xs i ≡ front ++ x ∷ rest = ap (λ ys. front ++ ys) (drop_next xs i x inside e) in
     let next : so_far goes xs (i + 1) ≡ (front ++ cond (not (goes x)) (x ∷ []) []) ++ rest =
     ap (λ ys. without goes ys ++ rest) (take_more xs i x inside ∙ ap (λ z. take i xs ++ z ∷ []) (sym e)) ∙ ap (λ ys. ys ++ rest) (filter-append (λ k. not (goes k)) (take i xs) (x ∷ [])) in
     subst Is (sym next) (go (goes x) front rest leaves (subst Was here was))
   where
-    go : (b : Bool) (front rest : List Placed) → LeavesIf b x Was Is → Was (front ++ x ∷ rest) → Is ((front ++ cond (not b) (x ∷ []) []) ++ rest)
+    go : (b : Bool) (front rest : List X) → LeavesIf b x Was Is → Was (front ++ x ∷ rest) → Is ((front ++ cond (not b) (x ∷ []) []) ++ rest)
     go true front rest leaves was = subst Is (ap (λ ys. ys ++ rest) (sym (append-nil front))) (leaves front rest was)
     go false front rest leaves was = subst Is (sym (append_assoc front (x ∷ []) rest)) (leaves (front ++ x ∷ rest) was)
 
-pub all_gone : (goes : Placed → Bool) (xs : List Placed) (i : ℕ) → length xs ≤ i → so_far goes xs i ≡ without goes xs
+pub all_gone : {X : Type 0} (goes : X → Bool) (xs : List X) (i : ℕ) → length xs ≤ i → so_far goes xs i ≡ without goes xs
 all_gone goes xs i past = ap (λ ys. without goes (take i xs) ++ ys) (drop_all i xs past) ∙ append-nil (without goes (take i xs)) ∙ ap (without goes) (take_all i xs past)
 
 -- ---- leaves that change

@@ -1,13 +1,18 @@
 -- What an ask changes in one row, and capacity for it.
-use Rattle.std.specs.Prelude.{◌≡◌, ℕ, ◌+◌, ◌<◌, ◌≤◌, true, vec_len, vec_capacity, if◌then◌else◌}
+use Rattle.std.specs.Prelude.{◌≡◌, ℕ, ◌==◌, List, ◌+◌, ◌<◌, ◌≤◌, true, vec_len, vec_capacity, if◌then◌else◌}
 use Rattle.std.specs.List.{AllByRecursion}
 use Rattle.ynl_resource.specs.Names.{same_name, same_path}
 use Rattle.ynl_resource.specs.declared.names.Name.{Name}
 use Rattle.ynl_resource.specs.declared.paths.Path.{Path}
-use Rattle.ynl_model.specs.Applications.{Application, LeafApps, with_app, set_ask}
+use Rattle.ynl_resource.specs.Tables.{without, put}
+use Rattle.ynl_model.specs.Applications.{Application, LeafApps, is_ask_of, with_app, set_ask}
 use Rattle.ynl_model.specs.declared.applications.AskRow.{AskRow}
 use Rattle.ynl_tables.specs.declared.rows.App.{App}
 use Rattle.ynl_tables.specs.declared.rows.LeafRow.{LeafRow}
+
+-- the asks of which one is set
+abbrev pub changed_asks : AskRow → List AskRow → List AskRow
+changed_asks ask asks = if ask.count == 0 then without (is_ask_of ask.label ask.priority) asks else put (is_ask_of ask.label ask.priority) ask asks
 
 -- the application of the name has the ask set, and others stay
 abbrev pub asked_at : Name → AskRow → Application → Application

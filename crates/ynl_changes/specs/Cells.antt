@@ -33,7 +33,7 @@ goes (OfId id) container = same_id container.id id.now
 goes (OnNode name) container = same_name container.node name.now
 goes (OfApp tenant app) container = is_of tenant.now app.now container
 
--- what was so of containers is so in another way without one of them, if it goes
-abbrev pub LeavesIf : Bool → Placed → (List Placed → Type 0) → (List Placed → Type 0) → Type 0
-LeavesIf true container Was Is = (before after : List Placed) → Was (before ++ container ∷ after) → Is (before ++ after)
-LeavesIf false container Was Is = (containers : List Placed) → Was containers → Is containers
+-- what was so of some things is so in another way without one of them, if it goes
+abbrev pub LeavesIf : {X : Type 0} → Bool → X → (List X → Type 0) → (List X → Type 0) → Type 0
+LeavesIf {X} true thing Was Is = (before after : List X) → Was (before ++ thing ∷ after) → Is (before ++ after)
+LeavesIf {X} false thing Was Is = (things : List X) → Was things → Is things

@@ -2,6 +2,8 @@ pub mod Cells
 pub mod Marking
 pub mod Placing
 pub mod Rows
+pub mod Sharing
 pub mod Submitting
 pub mod Users
 pub mod Asking
+pub mod Queueing

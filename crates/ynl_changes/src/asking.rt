@@ -7,12 +7,16 @@ ghost use Rattle.ynl_resource.specs.Tables.{without, put};
 ghost use Rattle.ynl_model.specs.Applications.{in_leaf, with_app, is_ask_of, set_ask};
 ghost use Rattle.ynl_tables.specs.Tables.{app_of, leaf_of_row, leaves_of};
 ghost use Rattle.ynl_changes.specs.Marking.{KeepsMark, KeepsMarksAmong, KeepsMarksIn, KeepsMarks};
-ghost use Rattle.ynl_changes.specs.Asking.{asked_at, asked_in, HasAskCapacity, HasAskCapacityIn};
+ghost use Rattle.ynl_changes.specs.Asking.{asked_at, asked_in, changed_asks, HasAskCapacity, HasAskCapacityIn};
+ghost use Rattle.ynl_changes.specs.Queueing.{Requeues, AreRequeued};
+ghost use Rattle.ynl_waiting.specs.declared.waiting.Waiting.{Waiting};
 
+use crate::queueing::{enqueue_asks, withdraw_asks};
 use std::alloc::AllocError;
 use ynl_model::AskRow;
 use ynl_resource::{Label, Name, Path};
 use ynl_tables::{App, LeafRow, is_ask_of};
+use ynl_waiting::Waiting;
 
 fn index_of_ask(asks: &[AskRow], label: &Label, priority: u32) -> usize
     ensures { result ≡ position_or_len (is_ask_of label.now priority) asks.now }
@@ -55,36 +59,48 @@ fn drop_ask(asks: &mut Vec<AskRow>, label: &Label, priority: u32)
     asks.retain(|ask| !is_ask_of(ask, label, priority));
 }
 
+fn change_asks(asks: &mut Vec<AskRow>, ask: &AskRow)
+    requires { 0 < ask.now.count → vec_len asks.old + 1 ≤ vec_capacity asks.old }
+    ensures { asks.new.items ≡ changed_asks ask.now asks.old.items }
+{
+    if ask.count == 0 {
+        drop_ask(asks, &ask.label, ask.priority);
+    } else {
+        put_ask(asks, ask);
+    }
+}
+
 /// The ask takes the place of the one of its label and priority; with count 0 that one goes.
-fn set_ask(app: &mut App, ask: &AskRow)
+fn set_ask(app: &mut App, asks: &mut Waiting, ask: &AskRow)
     requires { 0 < ask.now.count → vec_len app.old.asks + 1 ≤ vec_capacity app.old.asks }
     ensures marks { KeepsMark app.old app.new }
     ensures meaning { (leaf : Path) → app_of leaf app.new ≡ set_ask ask.now (app_of leaf app.old) }
+    ensures queued { (masters : Waiting) → Requeues app.old app.new masters masters asks.old asks.new }
 {
-    if ask.count == 0 {
-        drop_ask(&mut app.asks, &ask.label, ask.priority);
-    } else {
-        put_ask(&mut app.asks, ask);
-    }
+    withdraw_asks(app, asks);
+    change_asks(&mut app.asks, ask);
+    enqueue_asks(app, asks);
 }
 
-fn ask_at(app: &mut App, name: &Name, ask: &AskRow)
+fn ask_at(app: &mut App, asks: &mut Waiting, name: &Name, ask: &AskRow)
     requires { HasAskCapacity name.now ask.now.count app.old }
     ensures marks { KeepsMark app.old app.new }
     ensures meaning { (leaf : Path) → app_of leaf app.new ≡ asked_at name.now ask.now (app_of leaf app.old) }
+    ensures queued { (masters : Waiting) → Requeues app.old app.new masters masters asks.old asks.new }
 {
     if app.name == *name {
-        set_ask(app, ask);
+        set_ask(app, asks, ask);
     }
 }
 
-fn ask_among(apps: &mut Vec<App>, name: &Name, ask: &AskRow)
+fn ask_among(apps: &mut Vec<App>, asks: &mut Waiting, name: &Name, ask: &AskRow)
     requires { AllByRecursion (HasAskCapacity name.now ask.now.count) apps.old.items }
     ensures marks { KeepsMarksAmong apps.old.items apps.new.items }
     ensures meaning { (leaf : Path) → map (app_of leaf) apps.new.items ≡ map (asked_at name.now ask.now) (map (app_of leaf) apps.old.items) }
+    ensures queued { (masters : Waiting) → AreRequeued apps.old.items apps.new.items masters masters asks.old asks.new }
 {
     for app in apps.iter_mut() {
-        ask_at(app, name, ask);
+        ask_at(app, asks, name, ask);
     }
 }
 
@@ -94,7 +110,7 @@ fn ask_in(row: &mut LeafRow, leaf: &Path, name: &Name, ask: &AskRow)
     ensures meaning { leaf_of_row row.new ≡ asked_in leaf.now name.now ask.now (leaf_of_row row.old) }
 {
     if row.path == *leaf {
-        ask_among(&mut row.apps, name, ask);
+        ask_among(&mut row.apps, &mut row.asks, name, ask);
     }
 }
 
@@ -111,6 +127,7 @@ pub fn ask_for(rows: &mut Vec<LeafRow>, leaf: &Path, name: &Name, ask: &AskRow)
 
 fn reserve_at(app: &mut App, name: &Name, count: u32) -> Result<(), AllocError>
     ensures meaning { (leaf : Path) → app_of leaf app.new ≡ app_of leaf app.old }
+    ensures queued { (masters asks : Waiting) → Requeues app.old app.new masters masters asks asks }
     ensures marks { KeepsMark app.old app.new }
     ensures capacity { OnOk result (HasAskCapacity name.now count app.new) }
     ensures sure { count ≡ 0 → IsOk result }
@@ -123,6 +140,7 @@ fn reserve_at(app: &mut App, name: &Name, count: u32) -> Result<(), AllocError>
 
 fn reserve_among(apps: &mut Vec<App>, name: &Name, count: u32) -> Result<(), AllocError>
     ensures meaning { (leaf : Path) → map (app_of leaf) apps.new.items ≡ map (app_of leaf) apps.old.items }
+    ensures queued { (masters asks : Waiting) → AreRequeued apps.old.items apps.new.items masters masters asks asks }
     ensures marks { KeepsMarksAmong apps.old.items apps.new.items }
     ensures capacity { OnOk result (AllByRecursion (HasAskCapacity name.now count) apps.new.items) }
     ensures sure { count ≡ 0 → IsOk result }

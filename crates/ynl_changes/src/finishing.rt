@@ -1,7 +1,7 @@
 //! Applications that finish: the clocks rise once for each of their containers, and then the
 //! containers go. So no list of them is needed.
 
-ghost use Rattle.std.specs.Prelude.{◌≡◌, Some, map, filter, option_map, slice_get, if◌then◌else◌};
+ghost use Rattle.std.specs.Prelude.{◌≡◌, true, false, IsTrue, Some, map, filter, option_map, slice_get, if◌then◌else◌};
 ghost use Rattle.std.specs.Option.{option_map_or};
 ghost use Rattle.ynl_resource.specs.Names.{same_name, same_path, tenant_of};
 ghost use Rattle.ynl_resource.specs.declared.paths.Path.{Path};
@@ -16,16 +16,22 @@ ghost use Rattle.ynl_tables.specs.Kept.{AreKept, IsKept, IsSummed};
 ghost use Rattle.ynl_tables.specs.Numbers.{AreNumbered};
 ghost use Rattle.ynl_tables.specs.Tables.{state_of, app_of, leaf_of_row, leaves_of, partition_of, partitions_of};
 ghost use Rattle.ynl_changes.specs.Marking.{KeepsMarksAmong, KeepsMarksIn, KeepsMarks};
+ghost use Rattle.ynl_tables.specs.Queued.{are_in_turn, masters_waiting, asks_waiting};
+ghost use Rattle.ynl_waiting.specs.Waiting.{Keeps};
+ghost use Rattle.ynl_changes.specs.Queueing.{AreRequeued, Leaves, own_master, own_asks};
 ghost use Rattle.ynl_changes.specs.Rows.{KeepsAmounts, containers_at_place};
 
 use crate::ending::{Going, drop_going};
 use crate::placing::set_clock;
+use crate::queueing::{withdraw_asks, withdraw_master};
+use crate::sharing::uncount_users;
 use ynl_model::Placed;
 use ynl_queues::Config;
 use ynl_resource::{Name, Path};
 use ynl_tables::{
     App, LeafRow, PartitionRow, QueueNumbers, Tables, is_own, next_clock, tenant_bytes,
 };
+use ynl_waiting::Waiting;
 
 /// The clock of a container's partition rises, and is the stamp of its node.
 #[tactic(auto, unfolding(ynl_model::specs::Changes::changed_at))]
@@ -133,10 +139,35 @@ fn drop_all_own(
     }
 }
 
-fn drop_app(apps: &mut Vec<App>, name: &Name)
+/// What an application waits for waits no more, if it is of the name.
+fn withdraw_if(app: &App, masters: &mut Waiting, asks: &mut Waiting, name: &Name)
+    ensures masters { same_name app.now.name name.now ≡ true → Leaves app.now.number (own_master app.now) masters.old masters.new }
+    ensures asks { same_name app.now.name name.now ≡ true → Leaves app.now.number (own_asks app.now) asks.old asks.new }
+    ensures others { same_name app.now.name name.now ≡ false → (masters.new ≡ masters.old) × (asks.new ≡ asks.old) }
+{
+    if app.name == *name {
+        withdraw_master(app, masters);
+        withdraw_asks(app, asks);
+    }
+}
+
+/// What the applications of a name wait for waits no more.
+fn withdraw(apps: &[App], masters: &mut Waiting, asks: &mut Waiting, name: &Name)
+    ensures masters { IsTrue (are_in_turn apps.now) → Keeps (masters_waiting apps.now) masters.old → Keeps (masters_waiting (without (λ app. same_name app.name name.now) apps.now)) masters.new }
+    ensures asks { IsTrue (are_in_turn apps.now) → Keeps (asks_waiting apps.now) asks.old → Keeps (asks_waiting (without (λ app. same_name app.name name.now) apps.now)) asks.new }
+{
+    for app in apps {
+        withdraw_if(app, masters, asks, name);
+    }
+}
+
+fn drop_app(apps: &mut Vec<App>, masters: &mut Waiting, asks: &mut Waiting, name: &Name)
+    ensures items { apps.new.items ≡ without (λ app. same_name app.name name.now) apps.old.items }
     ensures marks { KeepsMarksAmong apps.old.items apps.new.items }
     ensures meaning { (leaf : Path) → map (app_of leaf) apps.new.items ≡ without (λ app. same_name app.name name.now) (map (app_of leaf) apps.old.items) }
+    ensures queued { AreRequeued apps.old.items apps.new.items masters.old masters.new asks.old asks.new }
 {
+    withdraw(apps, masters, asks, name);
     apps.retain(|app| app.name != *name);
 }
 
@@ -146,7 +177,8 @@ fn finish_on(row: &mut LeafRow, leaf: &Path, name: &Name)
     ensures meaning { leaf_of_row row.new ≡ (if same_path row.old.path leaf.now then finished name.now (leaf_of_row row.old) else leaf_of_row row.old) }
 {
     if row.path == *leaf {
-        drop_app(&mut row.apps, name);
+        uncount_users(&mut row.parts, &row.apps, name);
+        drop_app(&mut row.apps, &mut row.masters, &mut row.asks, name);
     }
 }
 

@@ -19,6 +19,8 @@ mod marking;
 mod nodes;
 mod opening;
 mod placing;
+mod queueing;
 mod serving;
+mod sharing;
 mod submitting;
 mod users;

@@ -7,10 +7,13 @@ ghost use Rattle.ynl_model.specs.Cluster.{is_master};
 ghost use Rattle.ynl_laws.specs.Marks.{is_master_of};
 ghost use Rattle.ynl_tables.specs.Tables.{app_of, leaf_of_row, leaves_of};
 ghost use Rattle.ynl_changes.specs.Marking.{noted, noted_row, noted_rows, remarked, unmarked};
+ghost use Rattle.ynl_changes.specs.Queueing.{Requeues, AreRequeued};
 
+use crate::queueing::{enqueue_asks, enqueue_master, withdraw_asks, withdraw_master};
 use ynl_model::Placed;
 use ynl_resource::{Label, Name, Path};
 use ynl_tables::{App, LeafRow, is_master, is_own, is_same, tenant_bytes};
+use ynl_waiting::Waiting;
 
 fn is_master_of(container: &Placed, leaf: &Path, app: &App) -> bool
     ensures { result ≡ is_master_of (app_of leaf.now app.now) container.now }
@@ -25,22 +28,54 @@ fn is_home_master(container: &Placed, label: &Label, leaf: &Path, app: &App) -> 
     is_same(label, &app.home) && is_master_of(container, leaf, app)
 }
 
+/// An application's clock is set: what waited waits no more where its master runs now, and the asks of
+/// those that run wait.
+fn set_mark(app: &mut App, masters: &mut Waiting, asks: &mut Waiting, clock: u64)
+    ensures meaning { (path : Path) → app_of path app.new ≡ app_of path app.old }
+    ensures mark { app.new.master_clock ≡ clock }
+    ensures queued { Requeues app.old app.new masters.old masters.new asks.old asks.new }
+{
+    withdraw_master(app, masters);
+    withdraw_asks(app, asks);
+    app.master_clock = clock;
+    enqueue_master(app, masters);
+    enqueue_asks(app, asks);
+}
+
 /// An application gets a mark, if the container on the partition is its master at its home.
-fn mark_at(app: &mut App, leaf: &Path, label: &Label, container: &Placed, clock: u64)
+fn mark_at(
+    app: &mut App,
+    masters: &mut Waiting,
+    asks: &mut Waiting,
+    leaf: &Path,
+    label: &Label,
+    container: &Placed,
+    clock: u64,
+)
     ensures meaning { (path : Path) → app_of path app.new ≡ app_of path app.old }
     ensures marks { noted leaf.now app.new ≡ remarked label.now container.now clock (noted leaf.now app.old) }
+    ensures queued { Requeues app.old app.new masters.old masters.new asks.old asks.new }
 {
     if is_home_master(container, label, leaf, app) {
-        app.master_clock = clock;
+        set_mark(app, masters, asks, clock);
     }
 }
 
-fn mark_among(apps: &mut Vec<App>, leaf: &Path, label: &Label, container: &Placed, clock: u64)
+fn mark_among(
+    apps: &mut Vec<App>,
+    masters: &mut Waiting,
+    asks: &mut Waiting,
+    leaf: &Path,
+    label: &Label,
+    container: &Placed,
+    clock: u64,
+)
     ensures meaning { (path : Path) → map (app_of path) apps.new.items ≡ map (app_of path) apps.old.items }
     ensures marks { map (noted leaf.now) apps.new.items ≡ map (remarked label.now container.now clock) (map (noted leaf.now) apps.old.items) }
+    ensures queued { AreRequeued apps.old.items apps.new.items masters.old masters.new asks.old asks.new }
 {
     for app in apps.iter_mut() {
-        mark_at(app, leaf, label, container, clock);
+        mark_at(app, masters, asks, leaf, label, container, clock);
     }
 }
 
@@ -57,7 +92,15 @@ fn mark_in(row: &mut LeafRow, label: &Label, container: &Placed, clock: u64)
     ensures marks { noted_row row.new ≡ map (remarked label.now container.now clock) (noted_row row.old) }
 {
     if is_master_for(container, row) {
-        mark_among(&mut row.apps, &row.path, label, container, clock);
+        mark_among(
+            &mut row.apps,
+            &mut row.masters,
+            &mut row.asks,
+            &row.path,
+            label,
+            container,
+            clock,
+        );
     }
 }
 

@@ -7,6 +7,7 @@ ghost use Rattle.ynl_model.specs.Cluster.{opening, no_containers};
 ghost use Rattle.ynl_laws.specs.Uses.{use_by};
 ghost use Rattle.ynl_tables.specs.Kept.{AreByUser, AreSummed, IsKept};
 ghost use Rattle.ynl_tables.specs.Tables.{state_of, leaves_of, partitions_of};
+ghost use Rattle.ynl_changes.specs.Sharing.{AreCountedParts};
 
 use std::alloc::{AllocError, Global};
 use ynl_controls::{Maxima, Stops};
@@ -15,7 +16,8 @@ use ynl_model::Use;
 use ynl_nodes::Nodes;
 use ynl_queues::Config;
 use ynl_resource::{Label, Resource};
-use ynl_tables::{Known, LeafRow, PartitionRow, QueueNumbers, Sums, Tables};
+use ynl_tables::{Known, LeafPart, LeafRow, PartitionRow, QueueNumbers, Sums, Tables, UserCounts};
+use ynl_waiting::Waiting;
 
 const NO_USE: Use = Use {
     used: Resource {
@@ -96,6 +98,28 @@ fn partitions(
     Ok(rows)
 }
 
+fn push_part(parts: &mut Vec<LeafPart>, alloc: Global, label: Label) -> Result<(), AllocError>
+    ensures { OnOk result (AreCountedParts parts.old.items [] → AreCountedParts parts.new.items []) }
+{
+    parts.push(LeafPart {
+        label,
+        users: UserCounts::new(alloc),
+    })?;
+    Ok(())
+}
+
+/// A leaf's parts of all partitions, where no application shares them.
+fn no_sharers(alloc: Global, labels: &Labels) -> Result<Vec<LeafPart>, AllocError>
+    ensures { IfOk result (λ parts. AreCountedParts parts.items []) }
+{
+    let mut parts = Vec::new(alloc);
+    push_part(&mut parts, alloc, Label::Unlabelled)?;
+    for row in labels.rows() {
+        push_part(&mut parts, alloc, Label::Named(row.name))?;
+    }
+    Ok(parts)
+}
+
 /// A row for each leaf, where nothing was submitted yet.
 fn leaves(alloc: Global, config: &Config) -> Result<Vec<LeafRow>, AllocError>
     ensures { IfOk result (λ rows. leaves_of rows.items ≡ no_apps config.now) }
@@ -109,6 +133,9 @@ fn leaves(alloc: Global, config: &Config) -> Result<Vec<LeafRow>, AllocError>
                 names: Vec::new(alloc),
                 known: Known::new(alloc),
                 apps: Vec::new(alloc),
+                masters: Waiting::new(alloc),
+                asks: Waiting::new(alloc),
+                parts: no_sharers(alloc, config.labels())?,
             })?;
         }
     }

@@ -7,7 +7,7 @@ ghost use Rattle.ynl_resource.specs.Tables.{update, without};
 ghost use Rattle.ynl_model.specs.Applications.{in_leaf, with_app, is_ask_of, take_one};
 ghost use Rattle.ynl_model.specs.Cluster.{in_partition, sizes};
 ghost use Rattle.ynl_model.specs.Changes.{place, container_of, taken};
-ghost use Rattle.std.specs.List.{AllByRecursion};
+ghost use Rattle.std.specs.List.{AllByRecursion, list_any};
 ghost use Rattle.ynl_laws.specs.Working.{IsWorking};
 ghost use Rattle.ynl_laws.specs.Tabled.{Tabled};
 ghost use Rattle.ynl_tables.specs.Bounds.{IsTotal};
@@ -15,11 +15,14 @@ ghost use Rattle.ynl_tables.specs.Kept.{AreKept, IsKept, IsSummed};
 ghost use Rattle.ynl_tables.specs.Numbers.{AreNumbered};
 ghost use Rattle.ynl_tables.specs.Tables.{state_of, app_of, leaf_of_row, leaves_of, partition_of, partitions_of, HasCapacity};
 ghost use Rattle.ynl_changes.specs.Marking.{KeepsMark, KeepsMarksAmong, KeepsMarksIn, KeepsMarks, IsPlaceable};
-ghost use Rattle.ynl_changes.specs.Placing.{put_on, taken_from, taken_at};
+ghost use Rattle.ynl_changes.specs.Placing.{put_on, taken_from, taken_at, taken_asks, is_last_of};
+ghost use Rattle.ynl_changes.specs.Queueing.{Requeues, AreRequeued};
 ghost use Rattle.ynl_changes.specs.Rows.{KeepsSum, KeepsSums};
+ghost use Rattle.ynl_waiting.specs.declared.waiting.Waiting.{Waiting};
 
 use crate::cells::raise;
 use crate::marking::mark;
+use crate::queueing::{enqueue_asks, withdraw_asks};
 use crate::users::{Change, change_users};
 use std::alloc::AllocError;
 use ynl_choice::Request;
@@ -29,6 +32,7 @@ use ynl_resource::{Id, Label, Name, Path};
 use ynl_tables::{
     App, LeafRow, PartitionRow, QueueNumbers, Tables, is_ask_of, is_same, next_clock, push_copy,
 };
+use ynl_waiting::Waiting;
 
 /// A container comes last on the row of its partition, whose clock is set; its queues, its user and its
 /// node use more.
@@ -144,30 +148,52 @@ fn drop_spent(asks: &mut Vec<AskRow>, label: &Label, priority: u32)
     asks.retain(|ask| is_kept(ask, label, priority));
 }
 
-/// One container of an ask was placed: its count falls by 1, and at 0 the ask goes.
-fn take_one(app: &mut App, label: &Label, priority: u32)
-    ensures meaning { (leaf : Path) → app_of leaf app.new ≡ take_one label.now priority (app_of leaf app.old) }
-    ensures marks { KeepsMark app.old app.new }
+fn take_from(asks: &mut Vec<AskRow>, label: &Label, priority: u32)
+    ensures { asks.new.items ≡ taken_asks label.now priority asks.old.items }
 {
-    lower(&mut app.asks, label, priority);
-    drop_spent(&mut app.asks, label, priority);
+    lower(asks, label, priority);
+    drop_spent(asks, label, priority);
 }
 
-fn take_at(app: &mut App, name: &Name, label: &Label, priority: u32)
-    ensures marks { KeepsMark app.old app.new }
-    ensures meaning { (leaf : Path) → app_of leaf app.new ≡ taken_at name.now label.now priority (app_of leaf app.old) }
+fn is_last(asks: &[AskRow], label: &Label, priority: u32) -> bool
+    ensures { result ≡ list_any (is_last_of label.now priority) asks.now }
 {
-    if app.name == *name {
-        take_one(app, label, priority);
+    asks.iter()
+        .any(|ask| is_ask_of(ask, label, priority) && ask.count == 1)
+}
+
+/// One container of an ask was placed: its count falls by 1, and at 0 the ask goes, and waits no more.
+fn take_one(app: &mut App, asks: &mut Waiting, label: &Label, priority: u32)
+    ensures meaning { (leaf : Path) → app_of leaf app.new ≡ take_one label.now priority (app_of leaf app.old) }
+    ensures marks { KeepsMark app.old app.new }
+    ensures queued { (masters : Waiting) → Requeues app.old app.new masters masters asks.old asks.new }
+{
+    if is_last(&app.asks, label, priority) {
+        withdraw_asks(app, asks);
+        take_from(&mut app.asks, label, priority);
+        enqueue_asks(app, asks);
+    } else {
+        take_from(&mut app.asks, label, priority);
     }
 }
 
-fn take_among(apps: &mut Vec<App>, name: &Name, label: &Label, priority: u32)
+fn take_at(app: &mut App, asks: &mut Waiting, name: &Name, label: &Label, priority: u32)
+    ensures marks { KeepsMark app.old app.new }
+    ensures meaning { (leaf : Path) → app_of leaf app.new ≡ taken_at name.now label.now priority (app_of leaf app.old) }
+    ensures queued { (masters : Waiting) → Requeues app.old app.new masters masters asks.old asks.new }
+{
+    if app.name == *name {
+        take_one(app, asks, label, priority);
+    }
+}
+
+fn take_among(apps: &mut Vec<App>, asks: &mut Waiting, name: &Name, label: &Label, priority: u32)
     ensures marks { KeepsMarksAmong apps.old.items apps.new.items }
     ensures meaning { (leaf : Path) → map (app_of leaf) apps.new.items ≡ map (taken_at name.now label.now priority) (map (app_of leaf) apps.old.items) }
+    ensures queued { (masters : Waiting) → AreRequeued apps.old.items apps.new.items masters masters asks.old asks.new }
 {
     for app in apps.iter_mut() {
-        take_at(app, name, label, priority);
+        take_at(app, asks, name, label, priority);
     }
 }
 
@@ -176,7 +202,7 @@ fn take_in(row: &mut LeafRow, leaf: &Path, name: &Name, label: &Label, priority:
     ensures meaning { leaf_of_row row.new ≡ taken_from leaf.now name.now label.now priority (leaf_of_row row.old) }
 {
     if row.path == *leaf {
-        take_among(&mut row.apps, name, label, priority);
+        take_among(&mut row.apps, &mut row.asks, name, label, priority);
     }
 }
 

@@ -11,6 +11,8 @@ ghost use Rattle.ynl_tables.specs.Tables.{leaf_of_row, leaves_of};
 ghost use Rattle.ynl_changes.specs.Marking.{KeepsMarksIn, KeepsMarks};
 ghost use Rattle.ynl_changes.specs.Submitting.{application, HasAppCapacity};
 
+use crate::queueing::enqueue_master;
+use crate::sharing::count_user;
 use std::alloc::{AllocError, Global};
 use ynl_resource::{Label, Name, Path, Size};
 use ynl_tables::{App, LeafRow};
@@ -50,23 +52,27 @@ pub fn reserve_application(rows: &mut Vec<LeafRow>, leaf: &Path) -> Result<(), A
     Ok(())
 }
 
-/// The application comes last on a row, if it is that of its leaf.
+/// The application comes last on a row, if it is that of its leaf. Its number is how many names there are.
 fn submit_on(row: &mut LeafRow, new: &Submission, alloc: Global)
     requires { HasAppCapacity new.now.leaf row.old }
     ensures marks { (s : State) → IsMarked s (application new.now) 0 → AreMarkedIn s row.old → AreMarkedIn s row.new }
     ensures meaning { leaf_of_row row.new ≡ (if same_path row.old.path new.now.leaf then submitted (application new.now) (leaf_of_row row.old) else leaf_of_row row.old) }
 {
     if row.path == new.leaf {
-        row.known.add(&new.name);
-        row.names.push_reserved(new.name);
-        row.apps.push_reserved(App {
+        let app = App {
+            number: row.names.len() as u64,
             name: new.name,
             user: new.user,
             home: new.home,
             master: new.master,
             master_clock: 0,
             asks: Vec::new(alloc),
-        });
+        };
+        enqueue_master(&app, &mut row.masters);
+        row.known.add(&new.name);
+        count_user(&mut row.parts, &new.home, &new.user);
+        row.names.push_reserved(new.name);
+        row.apps.push_reserved(app);
     }
 }
 

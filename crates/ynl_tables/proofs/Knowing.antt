@@ -1,5 +1,5 @@
 -- Names that are found in few steps, with one more.
-use Rattle.std.proofs.Common.{◌≡◌, Bool, true, false, ◌||◌, cond, List, [], ◌∷◌, ◌++◌, refl, sym, ap, subst, ◌∙◌}
+use Rattle.std.proofs.Common.{◌≡◌, Bool, true, false, ◌||◌, cond, List, [], ◌∷◌, ◌++◌, refl, sym, ap, ◌∙◌}
 use Rattle.std.specs.BTreeMap.{is_at}
 use Rattle.std.specs.BTreeSet.{BTreeSet, contains}
 use Rattle.std.specs.Cmp.Lexicographic.{texts_ties}
@@ -8,10 +8,10 @@ use Rattle.std.proofs.lemmas.List.Folds.{list_any-append}
 use Rattle.ynl_resource.specs.Names.{name_order, same_name}
 use Rattle.ynl_resource.specs.declared.names.Name.{Name}
 use Rattle.ynl_tables.specs.Known.{AreListed}
-use Rattle.ynl_laws.proofs.Names.{same-name_sym, same-name_self}
+use Rattle.ynl_laws.proofs.Names.{same-name_sym}
 
 -- whichever of two names is looked at first
-same-name_turned : (a b : Name) → same_name a b ≡ same_name b a
+pub same-name_turned : (a b : Name) → same_name a b ≡ same_name b a
 same-name_turned a b = go (same_name a b) (same_name b a) refl refl
   where
     go : (p q : Bool) → same_name a b ≡ p → same_name b a ≡ q → same_name a b ≡ same_name b a

@@ -9,3 +9,4 @@ pub mod Sorted
 pub mod Knowing
 pub mod Changing
 pub mod Counting
+pub mod CountingUsers

@@ -12,7 +12,7 @@ use Rattle.ynl_tables.specs.declared.rows.App.{App}
 use Rattle.ynl_tables.specs.Sharing.{shares, users_in}
 use Rattle.ynl_tables.specs.Tables.{app_of}
 
-meant : (leaf : Path) (label : Label) (apps : List App) → map (λ app. app.user) (filter (λ app. is_default label || same_label app.home label) (map (app_of leaf) apps)) ≡ users_in label apps
+pub meant : (leaf : Path) (label : Label) (apps : List App) → map (λ app. app.user) (filter (λ app. is_default label || same_label app.home label) (map (app_of leaf) apps)) ≡ users_in label apps
 meant leaf label [] = refl
 meant leaf label (app ∷ apps) = go (shares label app) (meant leaf label apps)
   where

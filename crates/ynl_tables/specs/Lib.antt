@@ -7,4 +7,6 @@ pub mod Numbers
 pub mod Sharing
 pub mod Sums
 pub mod Tables
+pub mod UserCounts
 pub mod Uses
+pub mod Queued

@@ -12,13 +12,14 @@ pub use live::{Live, live_at};
 pub use numbers::{QueueNumbers, way_of_app};
 pub use polling::{own_containers, pending_on};
 pub use queue_use::{free, guests, masters_used, no_master_in, runs, used, user_used};
-pub use rows::{App, LeafRow, PartitionRow};
-pub use sharing::users;
+pub use rows::{App, LeafPart, LeafRow, PartitionRow};
+pub use sharing::{shares, users};
 pub use sums::Sums;
 pub use tables::{
     Tables, apps_at, clock_at, containers_at, is_same, leaf_row_of, risen, tenant_bytes,
 };
 pub use usage::usage_of;
+pub use user_counts::UserCounts;
 pub use uses::{Owner, is_guest_on, is_master, owner_of};
 
 mod applications;
@@ -35,4 +36,5 @@ mod sharing;
 mod sums;
 mod tables;
 mod usage;
+mod user_counts;
 mod uses;

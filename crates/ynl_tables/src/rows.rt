@@ -1,20 +1,28 @@
 //! The rows of a cluster's state, as they are kept.
 
-ghost use Rattle.std.specs.Prelude.{◌≡◌, IsTrue};
+ghost use Rattle.std.specs.Prelude.{◌≡◌, IsTrue, length};
+ghost use Rattle.std.specs.List.{AllByRecursion, list_all};
 ghost use Rattle.ynl_resource.specs.Names.{same_name, tenant_of};
 ghost use Rattle.std.proofs.Props.{props};
 ghost use Rattle.ynl_tables.specs.Known.{IsKnown};
+ghost use Rattle.ynl_tables.specs.Queued.{are_apart, are_in_turn, are_below, masters_waiting, asks_waiting};
+ghost use Rattle.ynl_tables.specs.Sharing.{IsCountedPart};
+ghost use Rattle.ynl_waiting.specs.Waiting.{Keeps};
 
 use crate::known::Known;
 use crate::sums::Sums;
+use crate::user_counts::UserCounts;
 use std::marker::Model;
 use ynl_model::{AskRow, Placed, Use};
 use ynl_resource::{Label, Name, Path, Size};
+use ynl_waiting::Waiting;
 
-/// A live application of a leaf; the leaf's path stands in the leaf's row. While it runs, the clock of its
-/// master's container is kept, and 0 while it waits.
+/// A live application of a leaf; the leaf's path stands in the leaf's row. Its number is how many were
+/// submitted to the leaf before it. While it runs, the clock of its master's container is kept, and 0
+/// while it waits.
 #[derive(Drop)]
 pub struct App {
+    pub number: u64,
     pub name: Name,
     pub user: Name,
     pub home: Label,
@@ -23,8 +31,16 @@ pub struct App {
     pub asks: Vec<AskRow>,
 }
 
+/// A leaf's part of a partition: how many live applications each user has that share it.
+#[derive(Drop)]
+pub struct LeafPart {
+    pub label: Label,
+    pub users: UserCounts,
+}
+
 /// A leaf: its path, its tenant, the names of all applications that were ever submitted there, with a search
-/// in them, and those of them that are live, both in the order of submission.
+/// in them, and those of them that are live, both in the order of submission; of these what waits, the
+/// masters of those that wait and the asks of those that run; and who shares its part of each partition.
 #[derive(Drop)]
 pub struct LeafRow {
     pub path: Path,
@@ -32,8 +48,17 @@ pub struct LeafRow {
     pub names: Vec<Name>,
     pub known: Known,
     pub apps: Vec<App>,
+    pub masters: Waiting,
+    pub asks: Waiting,
+    pub parts: Vec<LeafPart>,
     ghost of_tenant: { IsTrue (same_name tenant (tenant_of path)) },
     ghost all_known: { IsKnown known names.items } by { Prim.hlevel props },
+    ghost apart: { IsTrue (list_all (λ app. are_apart app.asks.items) apps.items) },
+    ghost in_turn: { IsTrue (are_in_turn apps.items) },
+    ghost numbered: { IsTrue (are_below (length names.items) apps.items) },
+    ghost masters_wait: { Keeps (masters_waiting apps.items) masters } by { Prim.hlevel props },
+    ghost asks_wait: { Keeps (asks_waiting apps.items) asks } by { Prim.hlevel props },
+    ghost all_counted: { AllByRecursion (IsCountedPart apps.items) parts.items } by { Prim.hlevel props },
 }
 
 /// A partition: its clock, the containers on it in the order in which they were placed, what each queue

@@ -1,27 +1,29 @@
 //! How many users share a leaf's part of a partition.
 
-ghost use Rattle.std.specs.Prelude.{◌≡◌, ◌≤◌, length};
+ghost use Rattle.std.specs.Prelude.{◌≡◌, ◌≤◌, IfSome, length};
 ghost use Rattle.std.specs.List.{list_any};
 ghost use Rattle.ynl_resource.specs.Names.{same_name};
 ghost use Rattle.ynl_model.specs.Limits.{distinct, users};
 ghost use Rattle.ynl_tables.specs.Tables.{state_of};
-ghost use Rattle.ynl_tables.specs.Sharing.{shares, users_in};
+ghost use Rattle.ynl_tables.specs.declared.rows.App.{App};
+ghost use Rattle.ynl_tables.specs.Sharing.{shares, users_in, IsCountedPart};
 
-use crate::rows::App;
-use crate::tables::{Tables, apps_at};
+use crate::rows::{App, LeafPart, LeafRow};
+use crate::tables::{Tables, leaf_row_at};
 use ynl_resource::{Label, Name, Path};
 
-fn shares(app: &App, label: &Label) -> bool
-    ensures { result ≡ shares label.now app.now }
+/// Whether an application of that home shares its leaf's part of a partition.
+pub fn shares(home: &Label, label: &Label) -> bool
+    ensures { (app : App) → app.home ≡ home.now → result ≡ shares label.now app }
 {
-    *label == Label::Unlabelled || app.home == *label
+    *label == Label::Unlabelled || *home == *label
 }
 
 fn has_user(apps: &[App], label: &Label, user: &Name) -> bool
     ensures { result ≡ list_any (same_name user.now) (users_in label.now apps.now) }
 {
     apps.iter()
-        .filter(|app| shares(app, label))
+        .filter(|app| shares(&app.home, label))
         .map(|app| app.user)
         .any(|other| *user == other)
 }
@@ -35,11 +37,38 @@ fn count_users(apps: &[App], label: &Label) -> usize
     let mut count = 0;
     for i in 0..apps.len() {
         let app = &apps[i];
-        if shares(app, label) && !has_user(&apps[i + 1..], label, &app.user) {
+        if shares(&app.home, label) && !has_user(&apps[i + 1..], label, &app.user) {
             count += 1;
         }
     }
     count
+}
+
+/// What is kept of a leaf's part of a partition.
+fn part_of<'a>(row: &'a LeafRow, label: &Label) -> Option<&'a LeafPart>
+    ensures counted { IfSome result (λ part. IsCountedPart row.now.apps.items part.now) }
+    ensures label { IfSome result (λ part. part.now.label ≡ label.now) }
+{
+    row.parts.iter().find(|part| part.label == *label)
+}
+
+/// How many users share a leaf's part of a partition, where it is kept.
+fn kept_users(row: &LeafRow, label: &Label) -> Option<u64>
+    ensures { IfSome result (λ number. number ≡ length (distinct (users_in label.now row.now.apps.items))) }
+{
+    match part_of(row, label) {
+        Some(part) => part.users.number(),
+        None => None,
+    }
+}
+
+fn users_of_row(row: &LeafRow, label: &Label) -> usize
+    ensures { result ≡ length (distinct (users_in label.now row.now.apps.items)) }
+{
+    match kept_users(row, label) {
+        Some(number) => number as usize,
+        None => count_users(&row.apps, label),
+    }
 }
 
 /// How many users share the leaf's part of a partition, and 1 where there is none.
@@ -48,8 +77,10 @@ pub fn users(tables: &Tables, leaf: &Path, label: &Label) -> usize
     ensures value { result ≡ users (state_of tables.now) leaf.now label.now }
     ensures some { 1 ≤ result }
 {
-    let apps = apps_at(&tables.leaves, leaf);
-    let count = count_users(apps, label);
+    let count = match leaf_row_at(&tables.leaves, leaf) {
+        Some(row) => users_of_row(row, label),
+        None => 0,
+    };
     let least = 1usize;
     least.max(count)
 }

@@ -110,7 +110,8 @@ fn leaf_row<'a>(rows: &'a [LeafRow], leaf: &Path) -> Option<&'a LeafRow>
     rows.iter().find(|row| row.path == *leaf)
 }
 
-fn leaf_row_at<'a>(rows: &'a [LeafRow], leaf: &Path) -> Option<&'a LeafRow>
+/// The row of a leaf.
+pub(crate) fn leaf_row_at<'a>(rows: &'a [LeafRow], leaf: &Path) -> Option<&'a LeafRow>
     ensures meaning { option_map (λ r. leaf_of_row r.now) result ≡ find (λ row. same_path row.leaf leaf.now) (leaves_of rows.now) }
     ensures path { IfSome result (λ r. r.now.path ≡ leaf.now) }
 {

@@ -1,4 +1,4 @@
-use Rattle.std.proofs.Common.{◌≡◌, [], sym, subst, get_or, ◌<◌, length, ap, ◌∙◌, arith}
+use Rattle.std.proofs.Common.{◌≡◌, List, [], sym, subst, get_or, ◌<◌, length, ap, ◌∙◌, arith}
 use Rattle.std.specs.List.{AllByRecursion}
 use Rattle.ynl_resource.specs.declared.paths.Path.{Path}
 use Rattle.ynl_tables.specs.declared.rows.App.{App}
@@ -7,6 +7,8 @@ use Rattle.ynl_changes.specs.Asking.{asked_at, HasAskCapacity}
 use Rattle.ynl_changes.proofs.InPlace.{whole_kept, changed_step, next_is, each_at}
 use Rattle.ynl_tables.specs.Marked.{IsMarkedApp}
 use Rattle.ynl_changes.proofs.Marks.{kept_set}
+use Rattle.ynl_changes.specs.Queueing.{AreRequeued}
+use Rattle.ynl_changes.proofs.Requeued.{next-requeued}
 use Rattle.ynl_changes.proofs.asking.ask_among.Goals as goal
 
 pub ask_at-requires : goal.ask_at-requires
@@ -25,6 +27,9 @@ loop-app-preserved c =
     record {
       changed = λ (leaf : Path). changed_step (app_of leaf) (asked_at c.args.name.now c.args.ask.now) _ _ _ (c.loop-app.invariant.changed leaf) c.app-item.result c.ask_at.new.app c.loop-app-test.true c.app-item.is (c.ask_at.ensures.meaning leaf);
       marks = λ s leaf h. kept_set (IsMarkedApp s leaf) c.loop-app.app-items c.loop-app.app-index c.app-item.result c.ask_at.new.app inside (c.loop-app.invariant.marks s leaf h) (c.ask_at.ensures.marks s leaf);
+      queued = λ masters.
+          next-requeued c.deref_mut-app-items.result.now c.loop-app.app-items c.loop-app.app-index c.app-item.result c.ask_at.new.app masters masters masters c.args.asks.now c.loop-app.asks c.ask_at.new.asks inside
+          (c.loop-app.invariant.queued masters) (c.ask_at.ensures.queued masters);
     }
 
 pub returns-clause-marks : goal.returns-clause-marks
@@ -34,3 +39,11 @@ returns-clause-marks c = λ s leaf h.
     let same = c.loop-app.auto.app-items ∙ ap length value in
     let P : App → Type 0 = IsMarkedApp s leaf in
     whole_kept (AllByRecursion P) c.args.apps.now.len items c.args.apps.now.items same c.args.apps.now.ok.0 (c.loop-app.invariant.marks s leaf (subst (AllByRecursion P) (sym value) h))
+
+pub returns-clause-queued : goal.returns-clause-queued
+returns-clause-queued c = λ masters.
+    let items = c.loop-app.app-items in
+    let value = c.deref_mut-app-items.ensures.value in
+    let same = c.loop-app.auto.app-items ∙ ap length value in
+    whole_kept (λ (apps : List App). AreRequeued c.args.apps.now.items apps masters masters c.args.asks.now c.loop-app.asks) c.args.apps.now.len items c.args.apps.now.items same c.args.apps.now.ok.0
+    (subst (λ (apps : List App). AreRequeued apps items masters masters c.args.asks.now c.loop-app.asks) value (c.loop-app.invariant.queued masters))

@@ -1,0 +1,52 @@
+//! Classes of requests, and their turns.
+
+ghost use Rattle.std.specs.Prelude.{◌≡◌, true};
+ghost use Rattle.std.specs.BTreeSet.{contains};
+ghost use Rattle.ynl_laws.specs.First.{IsFirst};
+ghost use Rattle.ynl_waiting.specs.Waiting.{same_class, same_turn, turn_order, is_turn_later};
+
+use std::collections::BTreeSet;
+use ynl_resource::{Label, Name, Size};
+
+/// What requests of a leaf have in common that may be placed together: the partition that they are for,
+/// their user and their size.
+#[derive(Clone, Copy)]
+pub struct Class {
+    pub label: Label,
+    pub user: Name,
+    pub size: Size,
+}
+
+/// When a request has its turn in its leaf: first by its application's number there, and then by its
+/// priority; a master's is 0.
+#[derive(Clone, Copy, PartialEq, Eq, PartialOrd, Ord)]
+pub struct Turn {
+    pub number: u64,
+    pub priority: u32,
+}
+
+/// The turns of the requests of one class.
+#[derive(Drop)]
+pub struct ClassRow {
+    pub class: Class,
+    pub turns: BTreeSet<Turn>,
+}
+
+impl ClassRow {
+    /// The first turn of the class.
+    pub fn first(&self) -> Option<Turn>
+        ensures { IsFirst is_turn_later (λ turn. contains turn_order self.now.turns turn ≡ true) result }
+    {
+        match self.turns.first() {
+            Some(turn) => Some(*turn),
+            None => None,
+        }
+    }
+}
+
+/// Whether two classes are the same.
+pub fn is_same_class(a: &Class, b: &Class) -> bool
+    ensures { result ≡ same_class a.now b.now }
+{
+    a.label == b.label && a.user == b.user && a.size == b.size
+}

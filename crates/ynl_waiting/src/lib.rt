@@ -1,0 +1,9 @@
+//! What waits in a leaf: requests by classes, and within a class by turns.
+#![tactic(auto)]
+
+pub use classes::{Class, ClassRow, Turn};
+pub use waiting::Waiting;
+
+mod classes;
+mod keeping;
+mod waiting;
