@@ -4,3 +4,9 @@ pub mod Considering
 pub mod Placed
 pub mod Choices
 pub mod Checks
+mod Waits
+mod Foremost
+mod Classed
+mod FirstTurn
+mod FirstAsk
+mod Swapped

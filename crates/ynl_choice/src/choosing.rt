@@ -1,269 +1,30 @@
 //! The choice on a node: of the eligible requests the first in the order of service, or else the
-//! first guest. The requests are gone through once, and the first so far is held.
+//! first guest. The leaves are gone through once, and the first so far is held.
 
-ghost use Rattle.std.specs.Prelude.{◌≡◌, [], ◌∷◌, ◌&&◌, IfSome, None, filter, if◌then◌else◌};
+ghost use Rattle.std.specs.Prelude.{◌≡◌, None, filter};
 ghost use Rattle.ynl_resource.specs.declared.labels.Label.TheVariants.{Unlabelled};
 ghost use Rattle.ynl_model.specs.Cluster.{free as free_on};
-ghost use Rattle.ynl_model.specs.Service.{Item, item_of as request_item, place_in_leaf, first_of, key, eligible, has_room, asks_for, some_eligible, takes_guests, choice};
+ghost use Rattle.ynl_model.specs.Service.{first_of, key, eligible, has_room, asks_for, some_eligible, takes_guests, choice};
 ghost use Rattle.ynl_tables.specs.Bounds.{IsReadable};
-ghost use Rattle.ynl_tables.specs.Marked.{IsMarkedApp, AreMarkedIn};
-ghost use Rattle.ynl_tables.specs.Tables.{state_of, app_of};
-ghost use Rattle.ynl_choice.specs.Choosing.{state_in, key_in, item_of, passes, overtakes, wants, ArePlaced, IsScene, IsDesk, IsKeyed, HoldsBest, masters_of as masters_in, wanted_of, asks_in, all_masters, all_asks};
-ghost use Rattle.ynl_choice.specs.Candidates.{next_key};
-ghost use Rattle.ynl_choice.specs.LeafUses.{IsModest, IsLeafUse};
-ghost use Rattle.ynl_choice.specs.declared.scenes.Scene.{Scene};
+ghost use Rattle.ynl_tables.specs.Tables.{state_of};
+ghost use Rattle.ynl_choice.specs.Choosing.{item_of, IsScene, HoldsBest, all_asks, all_wanted};
 
-use crate::eligible::is_eligible;
-use crate::leaf_use::{LeafUse, use_of_leaf};
-use crate::order::{Next, is_overtaken};
-use crate::ranking::standings_on;
-use crate::requests::{Request, request_of};
-use crate::scenes::{Desk, Scene};
+use crate::leaves::{add_asks, add_leaf};
+use crate::requests::Request;
+use crate::scenes::Scene;
 use crate::standings::Candidate;
-use ynl_model::{AskRow, Node, What};
+use ynl_model::Node;
 use ynl_queues::Config;
-use ynl_resource::{Label, Name, Path, Resource, Size};
-use ynl_tables::{App, LeafRow, Tables, free, is_same, runs};
+use ynl_resource::{Label, Resource};
+use ynl_tables::{Tables, free};
 
-/// What is worked out of a leaf for all its requests. Its limits are worked out by the first request that
-/// is tested against them.
-fn desk_of(scene: &Scene<'_>, row: &LeafRow) -> Desk
+/// What is wanted on the partition, leaf by leaf.
+fn add_all(scene: &Scene<'_>, held: &mut Option<Candidate>)
     requires { IsScene scene.now }
-    ensures { IsDesk scene.now row.now.path result }
-{
-    let names = row.path.names();
-    let standings = standings_on(
-        scene.config,
-        scene.tables,
-        names,
-        &row.tenant,
-        &scene.label,
-        &scene.total,
-    );
-    Desk {
-        standings,
-        limits: None,
-    }
-}
-
-/// What the requests of a leaf are tested against.
-fn limits_at(scene: &Scene<'_>, desk: &mut Desk, leaf: &Path) -> LeafUse
-    requires scene { IsScene scene.now }
-    requires desk { IsDesk scene.now leaf.now desk.old }
-    ensures meaning { IsLeafUse scene.now.config.now (state_in scene.now) scene.now.label leaf.now result }
-    ensures modest { IsModest result }
-    ensures desk { IsDesk scene.now leaf.now desk.new }
-{
-    if let Some(limits) = desk.limits {
-        return limits;
-    }
-    let limits = use_of_leaf(scene.config, scene.tables, leaf, &scene.label, &scene.total);
-    desk.limits = Some(limits);
-    limits
-}
-
-/// Whether an application wants such a request: while it waits its master, and while it runs what it asks
-/// for.
-fn is_wanted(scene: &Scene<'_>, row: &LeafRow, app: &App, request: &Request) -> bool
-    requires { IsMarkedApp (state_in scene.now) row.now.path app.now }
-    ensures { result ≡ wants (state_in scene.now) (app_of row.now.path app.now) request.now.what }
-{
-    let runs = runs(scene.tables, &row.path, app);
-    match request.what {
-        What::Master => !runs,
-        What::Ask(_, _) => runs,
-    }
-}
-
-/// Whether a request is wanted and may be placed on the node; a guest wants room alone. Room is looked at
-/// first, since it takes no sum, and the leaf's limits and its user's use last.
-fn may_be_placed(
-    scene: &Scene<'_>,
-    desk: &mut Desk,
-    row: &LeafRow,
-    app: &App,
-    request: &Request,
-) -> bool
-    requires scene { IsScene scene.now }
-    requires desk { IsDesk scene.now request.now.leaf desk.old }
-    requires marked { IsMarkedApp (state_in scene.now) row.now.path app.now }
-    ensures passes { result ≡ (wants (state_in scene.now) (app_of row.now.path app.now) request.now.what && passes scene.now request.now) }
-    ensures desk { IsDesk scene.now request.now.leaf desk.new }
-{
-    if !request.size.amount().fits_in(scene.free) {
-        return false;
-    }
-    if !is_wanted(scene, row, app, request) {
-        return false;
-    }
-    if scene.as_guests {
-        return true;
-    }
-    let limits = limits_at(scene, desk, &request.leaf);
-    is_eligible(scene.tables, &scene.node, &scene.free, &limits, request)
-}
-
-/// Whether a request that comes up is before the one that is held.
-fn overtakes(held: &Option<Candidate>, next: &Next<'_>) -> bool
-    ensures { (scene : Scene) (item : Item) → IfSome held.now (IsKeyed scene) → next_key next.now ≡ key_in scene item → result ≡ overtakes (key_in scene) (item_of held.now) item }
-{
-    match held {
-        None => true,
-        Some(best) => is_overtaken(best, next),
-    }
-}
-
-/// One request more, if its application wants it. The order is looked at first, and only a request that
-/// would be first is made.
-fn add_request(
-    scene: &Scene<'_>,
-    desk: &mut Desk,
-    row: &LeafRow,
-    app: &App,
-    place: u64,
-    what: &What,
-    size: &Size,
-    held: &mut Option<Candidate>,
-)
-    requires scene { IsScene scene.now }
-    requires desk { IsDesk scene.now row.now.path desk.old }
-    requires place { place ≡ place_in_leaf (state_in scene.now) row.now.path app.now.name }
-    requires marked { IsMarkedApp (state_in scene.now) row.now.path app.now }
-    ensures best { HoldsBest scene.now held.old (if wants (state_in scene.now) (app_of row.now.path app.now) what.now then request_item (app_of row.now.path app.now) what.now size.now ∷ [] else []) held.new }
-    ensures desk { IsDesk scene.now row.now.path desk.new }
-{
-    let standings = desk.standings;
-    let next = Next {
-        standings: &standings,
-        place,
-        what: *what,
-    };
-    if !overtakes(held, &next) {
-        return;
-    }
-    let request = request_of(row, app, what, size);
-    if may_be_placed(scene, desk, row, app, &request) {
-        *held = Some(Candidate {
-            request,
-            standings,
-            place,
-        });
-    }
-}
-
-/// An application's master, if it is wanted on the partition.
-fn add_master(
-    scene: &Scene<'_>,
-    desk: &mut Desk,
-    row: &LeafRow,
-    app: &App,
-    place: u64,
-    held: &mut Option<Candidate>,
-)
-    requires scene { IsScene scene.now }
-    requires desk { IsDesk scene.now row.now.path desk.old }
-    requires place { place ≡ place_in_leaf (state_in scene.now) row.now.path app.now.name }
-    requires marked { IsMarkedApp (state_in scene.now) row.now.path app.now }
-    ensures best { HoldsBest scene.now held.old (masters_in scene.now row.now.path (app.now ∷ [])) held.new }
-    ensures desk { IsDesk scene.now row.now.path desk.new }
-{
-    if is_same(&app.home, &scene.label) {
-        add_request(
-            scene,
-            desk,
-            row,
-            app,
-            place,
-            &What::Master,
-            &app.master,
-            held,
-        );
-    }
-}
-
-/// The masters wanted on the partition by the applications of a leaf.
-fn add_masters(scene: &Scene<'_>, row: &LeafRow, held: &mut Option<Candidate>)
-    requires scene { IsScene scene.now }
-    requires placed { ArePlaced (state_in scene.now) row.now }
-    requires marked { AreMarkedIn (state_in scene.now) row.now }
-    ensures { HoldsBest scene.now held.old (masters_in scene.now row.now.path row.now.apps.items) held.new }
-{
-    if row.apps.is_empty() {
-        return;
-    }
-    let mut desk = desk_of(scene, row);
-    for i in 0..row.apps.len() {
-        add_master(scene, &mut desk, row, &row.apps[i], i as u64, held);
-    }
-}
-
-/// One ask of an application, if it is for the partition and the application runs.
-fn add_ask(
-    scene: &Scene<'_>,
-    desk: &mut Desk,
-    row: &LeafRow,
-    app: &App,
-    place: u64,
-    ask: &AskRow,
-    held: &mut Option<Candidate>,
-)
-    requires scene { IsScene scene.now }
-    requires desk { IsDesk scene.now row.now.path desk.old }
-    requires place { place ≡ place_in_leaf (state_in scene.now) row.now.path app.now.name }
-    requires marked { IsMarkedApp (state_in scene.now) row.now.path app.now }
-    ensures best { HoldsBest scene.now held.old (wanted_of scene.now (app_of row.now.path app.now) (ask.now ∷ [])) held.new }
-    ensures desk { IsDesk scene.now row.now.path desk.new }
-{
-    if is_same(&ask.label, &scene.label) && ask.count > 0 {
-        let what = What::Ask(ask.label, ask.priority);
-        add_request(scene, desk, row, app, place, &what, &ask.size, held);
-    }
-}
-
-/// What an application asks for on the partition, if it runs.
-fn add_asks_of(
-    scene: &Scene<'_>,
-    desk: &mut Desk,
-    row: &LeafRow,
-    app: &App,
-    place: u64,
-    held: &mut Option<Candidate>,
-)
-    requires scene { IsScene scene.now }
-    requires desk { IsDesk scene.now row.now.path desk.old }
-    requires place { place ≡ place_in_leaf (state_in scene.now) row.now.path app.now.name }
-    requires marked { IsMarkedApp (state_in scene.now) row.now.path app.now }
-    ensures best { HoldsBest scene.now held.old (asks_in scene.now row.now.path (app.now ∷ [])) held.new }
-    ensures desk { IsDesk scene.now row.now.path desk.new }
-{
-    for ask in &app.asks {
-        add_ask(scene, desk, row, app, place, ask, held);
-    }
-}
-
-/// What the running applications of a leaf ask for on the partition.
-fn add_asks(scene: &Scene<'_>, row: &LeafRow, held: &mut Option<Candidate>)
-    requires scene { IsScene scene.now }
-    requires placed { ArePlaced (state_in scene.now) row.now }
-    requires marked { AreMarkedIn (state_in scene.now) row.now }
-    ensures { HoldsBest scene.now held.old (asks_in scene.now row.now.path row.now.apps.items) held.new }
-{
-    if row.apps.is_empty() {
-        return;
-    }
-    let mut desk = desk_of(scene, row);
-    for i in 0..row.apps.len() {
-        add_asks_of(scene, &mut desk, row, &row.apps[i], i as u64, held);
-    }
-}
-
-/// The masters wanted on the partition.
-fn add_all_masters(scene: &Scene<'_>, held: &mut Option<Candidate>)
-    requires { IsScene scene.now }
-    ensures { HoldsBest scene.now held.old (all_masters scene.now scene.now.tables.now.leaves.items) held.new }
+    ensures { HoldsBest scene.now held.old (all_wanted scene.now scene.now.tables.now.leaves.items) held.new }
 {
     for row in &scene.tables.leaves {
-        add_masters(scene, row, held);
+        add_leaf(scene, row, held);
     }
 }
 
@@ -273,7 +34,8 @@ fn add_all_asks(scene: &Scene<'_>, held: &mut Option<Candidate>)
     ensures { HoldsBest scene.now held.old (all_asks scene.now scene.now.tables.now.leaves.items) held.new }
 {
     for row in &scene.tables.leaves {
-        add_asks(scene, row, held);
+        let mut desk = None;
+        add_asks(scene, &mut desk, row, held);
     }
 }
 
@@ -294,8 +56,7 @@ fn first_eligible(config: &Config, tables: &Tables, node: &Node, free: &Resource
         total,
     };
     let mut held = None;
-    add_all_masters(&scene, &mut held);
-    add_all_asks(&scene, &mut held);
+    add_all(&scene, &mut held);
     request_in(&held)
 }
 

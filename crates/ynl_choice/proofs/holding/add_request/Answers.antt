@@ -5,7 +5,7 @@ use Rattle.ynl_tables.specs.Tables.{app_of}
 use Rattle.ynl_choice.specs.declared.standings.Candidate.{Candidate}
 use Rattle.ynl_choice.specs.Choosing.{state_in, item_of, passes, wants, Holds, considered}
 use Rattle.ynl_choice.proofs.Considering.{keyed, taken_as_wanted, behind}
-use Rattle.ynl_choice.proofs.choosing.add_request.Goals as goal
+use Rattle.ynl_choice.proofs.holding.add_request.Goals as goal
 
 pub returns-then-not-overtakes-clause-best : goal.returns-then-not-overtakes-clause-best
 returns-then-not-overtakes-clause-best c = λ h.

@@ -6,7 +6,7 @@ use Rattle.ynl_model.specs.Service.{Item}
 use Rattle.ynl_tables.specs.Tables.{app_of}
 use Rattle.ynl_choice.specs.Choosing.{HoldsBest, wanted_of}
 use Rattle.ynl_choice.proofs.Considering.{then, wanted_more, wanted_all}
-use Rattle.ynl_choice.proofs.choosing.add_asks_of.Goals as goal
+use Rattle.ynl_choice.proofs.holding.add_asks_of.Goals as goal
 
 pub loop-ask-preserved : goal.loop-ask-preserved
 loop-ask-preserved c =

@@ -1,0 +1,174 @@
+-- The first turn of classes, one class after another, and the application of its number.
+use Rattle.std.proofs.Common.{◌≡◌, ℕ, zero, suc, ◌+◌, ◌<◌, ◌≤◌, ◌≢◌, Bool, true, false, ◌&&◌, ◌||◌, ◌⊎◌, inl, inr, List, [], ◌∷◌, length, take, take_all, get_or, Option, Some, None, Ok, Err, refl, sym, ap, subst, ◌∙◌, arith}
+use Rattle.std.specs.BTreeSet.{contains}
+use Rattle.std.specs.Cmp.{IsTotalOrder, nat_cmp_total, then_total, on_total}
+use Rattle.std.specs.List.{AllByRecursion, list_any}
+use Rattle.std.specs.List.Sorted.{IsBinarySearchResult, IsNonDecreasingBy}
+use Rattle.std.specs.Ordering.{is_gt, nat_cmp, ordering_index, ordering_reverse}
+use Rattle.std.specs.declared.cmp.Ordering.{Ordering}
+use Rattle.std.specs.declared.cmp.Ordering.TheVariants.{Less, Equal, Greater}
+use Rattle.std.proofs.lemmas.Bool.{and_from, and_parts}
+use Rattle.std.proofs.lemmas.Bool.Decides.{nat_tests}
+use Rattle.std.proofs.lemmas.Cmp.{upto, ranked}
+use Rattle.std.proofs.lemmas.List.Folds.{list_any_more}
+use mathlib.Core.Bool.{true≢false}
+use Rattle.ynl_resource.specs.Names.{same_label}
+use Rattle.ynl_resource.specs.declared.paths.Path.{Path}
+use Rattle.ynl_model.specs.declared.proposals.What.{What}
+use Rattle.ynl_model.specs.Service.{has_room}
+use Rattle.ynl_laws.specs.First.{IsFirst}
+use Rattle.ynl_laws.proofs.Lists.{each-of}
+use Rattle.ynl_tables.specs.declared.rows.App.{App}
+use Rattle.ynl_tables.specs.Queued.{are_in_turn}
+use Rattle.ynl_waiting.specs.declared.classes.Class.{Class}
+use Rattle.ynl_waiting.specs.declared.classes.ClassRow.{ClassRow}
+use Rattle.ynl_waiting.specs.declared.classes.Turn.{Turn}
+use Rattle.ynl_waiting.specs.Waiting.{turn_order, is_turn_later}
+use Rattle.ynl_choice.specs.declared.scenes.Scene.{Scene}
+use Rattle.ynl_choice.specs.Choosing.{state_in, passes}
+use Rattle.ynl_choice.specs.Waits.{item_for, is_open, is_placeable, is_before, has_turn, IsFirstTurn, IsPlaceOf}
+use Rattle.ynl_choice.proofs.Considering.{no_room}
+use Rattle.ynl_choice.proofs.Placed.{each_at}
+
+turn_order_total : IsTotalOrder turn_order
+turn_order_total = then_total (on_total (λ (s : Turn). s.number) nat_cmp_total) (on_total (λ (s : Turn). s.priority) nat_cmp_total)
+
+chained : (x y z : Turn) → is_turn_later x y ≡ false → is_turn_later y z ≡ false → is_turn_later x z ≡ false
+chained x y z h k = upto turn_order_total x y z h k
+
+turned : (x y : Turn) → is_turn_later x y ≡ true → is_turn_later y x ≡ false
+turned x y h = ap is_gt (turn_order_total.antisymm y x) ∙ go (turn_order x y) h
+  where
+    go : (o : Ordering) → is_gt o ≡ true → is_gt (ordering_reverse o) ≡ false
+    go Less h = absurd (true≢false (sym h))
+    go Equal h = refl
+    go Greater h = refl
+
+-- ---- one class more
+
+-- of a class that is for another partition or has no room nothing may be placed
+pub closed : (scene : Scene) (leaf : Path) (what : What) (class : Class) → (same_label class.label scene.label && has_room (state_in scene) scene.node class.size) ≡ false → is_placeable scene leaf what class ≡ false
+closed scene leaf what class h = go (same_label class.label scene.label) h
+  where
+    go : (b : Bool) → (b && has_room (state_in scene) scene.node class.size) ≡ false → (b && passes scene (item_for leaf what class)) ≡ false
+    go true h = no_room scene (item_for leaf what class) h
+    go false h = refl
+
+-- and of one that is not allowed
+pub barred : (scene : Scene) (leaf : Path) (what : What) (class : Class) → passes scene (item_for leaf what class) ≡ false → is_placeable scene leaf what class ≡ false
+barred scene leaf what class h = ap (λ b. same_label class.label scene.label && b) h ∙ none (same_label class.label scene.label)
+  where
+    none : (a : Bool) → (a && false) ≡ false
+    none true = refl
+    none false = refl
+
+-- of one that is for the partition and is allowed something may be placed
+pub opened : (scene : Scene) (leaf : Path) (what : What) (class : Class) → (same_label class.label scene.label && has_room (state_in scene) scene.node class.size) ≡ true → passes scene (item_for leaf what class) ≡ true
+    → is_placeable scene leaf what class ≡ true
+opened scene leaf what class h k = and_from (same_label class.label scene.label) (passes scene (item_for leaf what class)) (and_parts (same_label class.label scene.label) (has_room (state_in scene) scene.node class.size) h).0 k
+
+-- what waits so far, and the turns of a class where it may be placed
+
+abbrev Waits : (Turn → Bool) → Option Turn → Type 0
+Waits waits first = IsFirst is_turn_later (λ turn. waits turn ≡ true) first
+
+abbrev More : (Turn → Bool) → Bool → (Turn → Bool) → Option Turn → Type 0
+More waits may own first = Waits (λ turn. waits turn || (may && own turn)) first
+
+left : (a b c : Bool) → a ≡ true → (a || (b && c)) ≡ true
+left true b c h = refl
+left false b c h = absurd (true≢false (sym h))
+
+right : (a b c : Bool) → b ≡ true → c ≡ true → (a || (b && c)) ≡ true
+right true b c h k = refl
+right false b c h k = and_from b c h k
+
+parted : (a b c : Bool) → (a || (b && c)) ≡ true → (a ≡ true) ⊎ ((b ≡ true) × (c ≡ true))
+parted true b c h = inl refl
+parted false b c h = inr (and_parts b c h)
+
+-- what is held stays where nothing of the class may be placed before it
+stays : (waits own : Turn → Bool) (may : Bool) (held : Option Turn) → ((turn : Turn) → may ≡ true → own turn ≡ true → (best : Turn) → held ≡ Some best → is_turn_later best turn ≡ false)
+    → ((turn : Turn) → may ≡ true → own turn ≡ true → held ≡ None → ⊥) → Waits waits held → More waits may own held
+stays waits own may None behind none first = λ turn h. go turn (parted (waits turn) may (own turn) h)
+  where
+    go : (turn : Turn) → (waits turn ≡ true) ⊎ ((may ≡ true) × (own turn ≡ true)) → ⊥
+    go turn (inl h) = first turn h
+    go turn (inr h) = none turn h.0 h.1 refl
+stays waits own may (Some best) behind none first = (left (waits best) may (own best) first.0, λ turn h. go turn (parted (waits turn) may (own turn) h))
+  where
+    go : (turn : Turn) → (waits turn ≡ true) ⊎ ((may ≡ true) × (own turn ≡ true)) → is_turn_later best turn ≡ false
+    go turn (inl h) = first.1 turn h
+    go turn (inr h) = behind turn h.0 h.1 best refl
+
+pub stays-closed : (waits own : Turn → Bool) (may : Bool) (held : Option Turn) → may ≡ false → Waits waits held → More waits may own held
+stays-closed waits own may held off first = stays waits own may held (λ turn h k best e. absurd (true≢false (sym h ∙ off))) (λ turn h k e. true≢false (sym h ∙ off)) first
+
+pub stays-none : (waits own : Turn → Bool) (may : Bool) (held : Option Turn) → Waits own None → Waits waits held → More waits may own held
+stays-none waits own may held none first = stays waits own may held (λ turn h k best e. absurd (none turn k)) (λ turn h k e. none turn k) first
+
+pub stays-before : (waits own : Turn → Bool) (may : Bool) (held : Option Turn) (turn : Turn) → Waits own (Some turn) → is_before held turn ≡ false → Waits waits held → More waits may own held
+stays-before waits own may None turn top late first = absurd (true≢false late)
+stays-before waits own may (Some best) turn top late first =
+    stays waits own may (Some best) (λ next h k other e. let same : best ≡ other = cc in subst (λ b. is_turn_later b next ≡ false) same (chained best turn next late (top.1 next k))) (λ next h k e. absurd (cc)) first
+
+pub taken : (waits own : Turn → Bool) (may : Bool) (held : Option Turn) (turn : Turn) → may ≡ true → Waits own (Some turn) → is_before held turn ≡ true → Waits waits held → More waits may own (Some turn)
+taken waits own may held turn on top soon first = (right (waits turn) may (own turn) on top.0, λ next h. go held soon first next (parted (waits next) may (own next) h))
+  where
+    go : (held : Option Turn) → is_before held turn ≡ true → Waits waits held → (next : Turn) → (waits next ≡ true) ⊎ ((may ≡ true) × (own next ≡ true)) → is_turn_later turn next ≡ false
+    go held soon first next (inr h) = top.1 next h.1
+    go None soon first next (inl h) = absurd (first next h)
+    go (Some best) soon first next (inl h) = chained turn best next (turned best turn soon) (first.1 next h)
+
+-- so with one row of classes more
+pub row-more : (test : Class → Bool) (rows : List ClassRow) (i : ℕ) (row : ClassRow) (first : Option Turn) → i < length rows → row ≡ get_or rows i row
+    → More (has_turn test (take i rows)) (test row.class) (contains turn_order row.turns) first → IsFirstTurn test (take (i + 1) rows) first
+row-more test rows i row first inside at more = subst (λ (waits : Turn → Bool). Waits waits first) (λ j turn. sym (same turn) j) more
+  where
+    same : (turn : Turn) → has_turn test (take (i + 1) rows) turn ≡ (has_turn test (take i rows) turn || (test row.class && contains turn_order row.turns turn))
+    same turn =
+        list_any_more (λ row. test row.class && contains turn_order row.turns turn) rows i row inside
+        ∙ ap (λ (r : ClassRow). has_turn test (take i rows) turn || (test r.class && contains turn_order r.turns turn)) (sym at)
+
+-- where no class is open nothing may be placed
+pub none-open : (scene : Scene) (leaf : Path) (what : What) (rows : List ClassRow) → list_any (λ row. is_open scene row.class) rows ≡ false → IsFirstTurn (is_placeable scene leaf what) rows None
+none-open scene leaf what [] h turn there = true≢false (sym there)
+none-open scene leaf what (row ∷ rows) h turn there = go (is_open scene row.class) refl h (is_placeable scene leaf what row.class) refl there (λ k. none-open scene leaf what rows k turn)
+  where
+    go : (a : Bool) → is_open scene row.class ≡ a → (a || list_any (λ row. is_open scene row.class) rows) ≡ false → (b : Bool) → is_placeable scene leaf what row.class ≡ b
+        → ((b && contains turn_order row.turns turn) || has_turn (is_placeable scene leaf what) rows turn) ≡ true → (list_any (λ row. is_open scene row.class) rows ≡ false → has_turn (is_placeable scene leaf what) rows turn ≡ true → ⊥) → ⊥
+    go true e h b f there rest = true≢false h
+    go false e h true f there rest = true≢false (sym f ∙ closed scene leaf what row.class e)
+    go false e h false f there rest = rest h there
+
+pub rows-all : (test : Class → Bool) (rows : List ClassRow) (i : ℕ) (first : Option Turn) → length rows ≤ i → IsFirstTurn test (take i rows) first → IsFirstTurn test rows first
+rows-all test rows i first end h = subst (λ (some : List ClassRow). IsFirstTurn test some first) (take_all i rows end) h
+
+-- ---- numbers that rise
+
+pub rise : (apps : List App) → are_in_turn apps ≡ true → (i j : ℕ) (d : App) → i < j → j < length apps → (get_or apps i d).number < (get_or apps j d).number
+rise [] h i j d below inside = absurd (omega arith)
+rise (app ∷ apps) h i zero d below inside = absurd (omega arith)
+rise (app ∷ apps) h zero (suc j) d below inside =
+    let less : j < length apps = omega arith in
+    let test = each_at _ apps j d less (each-of _ apps (and_parts _ _ h).0) in
+    grind (arith, nat_tests, test)
+rise (app ∷ apps) h (suc i) (suc j) d below inside = rise apps (and_parts _ _ h).1 i j d (omega arith) (omega arith)
+
+no_higher : (apps : List App) → are_in_turn apps ≡ true → (i j : ℕ) (d : App) → i ≤ j → j < length apps → (get_or apps i d).number ≤ (get_or apps j d).number
+no_higher apps h i j d below inside = grind (arith, rise apps h i j d, λ (e : i ≡ j). ap (λ k. (get_or apps k d).number) e)
+
+compared_rise : (apps : List App) → are_in_turn apps ≡ true → (n : ℕ) → IsNonDecreasingBy (λ app. ordering_index (nat_cmp app.number n)) apps
+compared_rise apps h n i j d below inside = let up = no_higher apps h i j d below inside in grind (arith, nat_tests)
+
+pub each_from : {X : Type 0} (P : X → Type 0) (xs : List X) → ((i : ℕ) (d : X) → i < length xs → P (get_or xs i d)) → AllByRecursion P xs
+each_from P [] h = tt
+each_from P (x ∷ xs) h = (h 0 x (omega arith), each_from P xs (λ i d inside. h (suc i) d (omega arith)))
+
+pub search_found : (apps : List App) (n i : ℕ) → i < length apps → IsBinarySearchResult (λ app. nat_cmp app.number n) apps (Ok i) → IsPlaceOf n apps i
+search_found apps n i inside r = record { within = inside; same = λ d. ranked _ n _ (sym (r d)) }
+
+pub search_absent : (apps : List App) → are_in_turn apps ≡ true → (n i : ℕ) → i ≤ length apps → IsBinarySearchResult (λ app. nat_cmp app.number n) apps (Err i) → AllByRecursion (λ app. app.number ≢ n) apps
+search_absent apps h n i inside r =
+    let parted = r (compared_rise apps h n) in
+    each_from (λ app. app.number ≢ n) apps (λ k d lt e. grind (arith, λ (below : k < i). ranked _ n _ (sym (parted.0 k d (omega arith) below)), λ (from : i ≤ k). ranked _ n _ (sym (parted.1 k d from lt))))

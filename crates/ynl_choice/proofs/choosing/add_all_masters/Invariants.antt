@@ -1,6 +1,0 @@
-use Rattle.std.proofs.Common.{take}
-use Rattle.ynl_choice.specs.Choosing.{HoldsBest, all_masters}
-use Rattle.ynl_choice.proofs.choosing.add_all_masters.Given as goal
-
-abbrev pub invariant-loop-row : goal.invariant-loop-row
-invariant-loop-row l = HoldsBest l.scene l.initial.held (all_masters l.scene (take l.row-index l.scene.tables.now.leaves.items)) l.held

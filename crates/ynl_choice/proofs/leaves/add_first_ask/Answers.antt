@@ -1,0 +1,39 @@
+use Rattle.std.proofs.Common.{sym, ◌∙◌}
+use Rattle.ynl_model.specs.declared.proposals.What.TheVariants.{Ask as Asked}
+use Rattle.ynl_tables.specs.Queued.{ask_waits}
+use Rattle.ynl_choice.specs.Choosing.{asks_in}
+use Rattle.ynl_choice.proofs.Classed.{asks-told, asks-gathered}
+use Rattle.ynl_choice.proofs.FirstAsk.{ask-held}
+use Rattle.ynl_choice.proofs.FirstTurn.{none-held, one-held, is-numbered, held-ahead}
+use Rattle.ynl_choice.proofs.leaves.add_first_ask.Goals as goal
+
+pub returns-then-is_ahead-clause-best : goal.returns-then-is_ahead-clause-best
+returns-then-is_ahead-clause-best c =
+    let scene = c.args.scene.now in
+    let row = c.args.row.now in
+    held-ahead scene row.path c.args.desk.now c.requires.desk (asks_in scene row.path) row.apps.items c.args.held.now (asks-gathered scene row.path) (sym c.is_ahead.ensures ∙ c.if-is_ahead.true)
+
+pub returns-in_default-clause-best : goal.returns-in_default-clause-best
+returns-in_default-clause-best c =
+    let scene = c.args.scene.now in
+    let row = c.args.row.now in
+    none-held scene row (Asked scene.label 0) ask_waits (asks_in scene row.path) c.args.classes.now (asks-told scene row.path 0) (asks-gathered scene row.path) c.requires.placed c.requires.marked row.in_turn c.requires.classes
+    c.args.held.now c.in_default.ensures.first
+
+pub returns-in-Some-place_of-clause-best : goal.returns-in-Some-place_of-clause-best
+returns-in-Some-place_of-clause-best c =
+    let scene = c.args.scene.now in
+    let row = c.args.row.now in
+    let app = c.index-app.result.now in
+    one-held scene row (Asked scene.label 0) ask_waits (asks_in scene row.path) c.args.classes.now (asks-told scene row.path 0) (asks-gathered scene row.path) c.requires.placed c.requires.marked row.in_turn c.requires.classes
+    c.in-Some.turn c.in-Some-place_of.place app c.args.held.now c.add_ask_at.new.held c.in-Some.ensures.first c.in-Some-place_of.ensures.found c.index-app.ensures
+    (ask-held scene row c.args.classes.now c.requires.placed c.requires.marked c.requires.classes c.in-Some.turn c.in-Some-place_of.place app c.in-Some.ensures.first c.in-Some-place_of.ensures.found c.index-app.ensures
+    c.args.held.now c.add_ask_at.new.held c.add_ask_at.ensures.best)
+
+pub returns-in_default-place_of-clause-best : goal.returns-in_default-place_of-clause-best
+returns-in_default-place_of-clause-best c =
+    let scene = c.args.scene.now in
+    let row = c.args.row.now in
+    absurd
+    (is-numbered scene row (Asked scene.label 0) ask_waits (asks_in scene row.path) c.args.classes.now (asks-told scene row.path 0) (asks-gathered scene row.path) c.requires.placed c.requires.marked row.in_turn c.requires.classes
+    c.in-Some.turn c.in-Some.ensures.first c.in_default-place_of.ensures.absent)

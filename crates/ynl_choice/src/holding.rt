@@ -1,0 +1,226 @@
+//! Requests that come up one after another, of which the first so far is held.
+
+ghost use Rattle.std.specs.Prelude.{◌≡◌, [], ◌∷◌, ◌&&◌, IfSome, if◌then◌else◌};
+ghost use Rattle.ynl_model.specs.Service.{Item, item_of as request_item, place_in_leaf};
+ghost use Rattle.ynl_tables.specs.Marked.{IsMarkedApp};
+ghost use Rattle.ynl_tables.specs.Tables.{app_of};
+ghost use Rattle.ynl_choice.specs.Choosing.{state_in, key_in, item_of, passes, overtakes, wants, IsScene, IsDesk, IsKeyed, HoldsBest, masters_of as masters_in, wanted_of, asks_in};
+ghost use Rattle.ynl_choice.specs.Candidates.{next_key};
+ghost use Rattle.ynl_choice.specs.Waits.{asked_at};
+ghost use Rattle.ynl_choice.specs.declared.scenes.Scene.{Scene};
+
+use crate::eligible::is_eligible;
+use crate::order::{Next, is_overtaken};
+use crate::ranking::standings_on;
+use crate::requests::{Request, request_of};
+use crate::scenes::{Desk, Scene, limits_at};
+use crate::standings::Candidate;
+use ynl_model::{AskRow, What};
+use ynl_resource::Size;
+use ynl_tables::{App, LeafRow, ask_of, is_same, runs};
+
+/// What is worked out of a leaf for all its requests. Its limits are worked out by the first request that
+/// is tested against them.
+pub fn desk_of(scene: &Scene<'_>, row: &LeafRow) -> Desk
+    requires { IsScene scene.now }
+    ensures { IsDesk scene.now row.now.path result }
+{
+    let names = row.path.names();
+    let standings = standings_on(
+        scene.config,
+        scene.tables,
+        names,
+        &row.tenant,
+        &scene.label,
+        &scene.total,
+    );
+    Desk {
+        standings,
+        limits: None,
+    }
+}
+
+/// Whether an application wants such a request: while it waits its master, and while it runs what it asks
+/// for.
+fn is_wanted(scene: &Scene<'_>, row: &LeafRow, app: &App, request: &Request) -> bool
+    requires { IsMarkedApp (state_in scene.now) row.now.path app.now }
+    ensures { result ≡ wants (state_in scene.now) (app_of row.now.path app.now) request.now.what }
+{
+    let runs = runs(scene.tables, &row.path, app);
+    match request.what {
+        What::Master => !runs,
+        What::Ask(_, _) => runs,
+    }
+}
+
+/// Whether a request is wanted and may be placed on the node; a guest wants room alone. Room is looked at
+/// first, since it takes no sum, and the leaf's limits and its user's use last.
+fn may_be_placed(
+    scene: &Scene<'_>,
+    desk: &mut Desk,
+    row: &LeafRow,
+    app: &App,
+    request: &Request,
+) -> bool
+    requires scene { IsScene scene.now }
+    requires desk { IsDesk scene.now request.now.leaf desk.old }
+    requires marked { IsMarkedApp (state_in scene.now) row.now.path app.now }
+    ensures passes { result ≡ (wants (state_in scene.now) (app_of row.now.path app.now) request.now.what && passes scene.now request.now) }
+    ensures desk { IsDesk scene.now request.now.leaf desk.new }
+{
+    if !request.size.amount().fits_in(scene.free) {
+        return false;
+    }
+    if !is_wanted(scene, row, app, request) {
+        return false;
+    }
+    if scene.as_guests {
+        return true;
+    }
+    let limits = limits_at(scene, &mut desk.limits, &request.leaf);
+    is_eligible(scene.tables, &scene.node, &scene.free, &limits, request)
+}
+
+/// Whether a request that comes up is before the one that is held.
+fn overtakes(held: &Option<Candidate>, next: &Next<'_>) -> bool
+    ensures { (scene : Scene) (item : Item) → IfSome held.now (IsKeyed scene) → next_key next.now ≡ key_in scene item → result ≡ overtakes (key_in scene) (item_of held.now) item }
+{
+    match held {
+        None => true,
+        Some(best) => is_overtaken(best, next),
+    }
+}
+
+/// One request more, if its application wants it. The order is looked at first, and only a request that
+/// would be first is made.
+fn add_request(
+    scene: &Scene<'_>,
+    desk: &mut Desk,
+    row: &LeafRow,
+    app: &App,
+    place: u64,
+    what: &What,
+    size: &Size,
+    held: &mut Option<Candidate>,
+)
+    requires scene { IsScene scene.now }
+    requires desk { IsDesk scene.now row.now.path desk.old }
+    requires place { place ≡ place_in_leaf (state_in scene.now) row.now.path app.now.name }
+    requires marked { IsMarkedApp (state_in scene.now) row.now.path app.now }
+    ensures best { HoldsBest scene.now held.old (if wants (state_in scene.now) (app_of row.now.path app.now) what.now then request_item (app_of row.now.path app.now) what.now size.now ∷ [] else []) held.new }
+    ensures desk { IsDesk scene.now row.now.path desk.new }
+{
+    let standings = desk.standings;
+    let next = Next {
+        standings: &standings,
+        place,
+        what: *what,
+    };
+    if !overtakes(held, &next) {
+        return;
+    }
+    let request = request_of(row, app, what, size);
+    if may_be_placed(scene, desk, row, app, &request) {
+        *held = Some(Candidate {
+            request,
+            standings,
+            place,
+        });
+    }
+}
+
+/// An application's master, if it is wanted on the partition.
+pub fn add_master(
+    scene: &Scene<'_>,
+    desk: &mut Desk,
+    row: &LeafRow,
+    app: &App,
+    place: u64,
+    held: &mut Option<Candidate>,
+)
+    requires scene { IsScene scene.now }
+    requires desk { IsDesk scene.now row.now.path desk.old }
+    requires place { place ≡ place_in_leaf (state_in scene.now) row.now.path app.now.name }
+    requires marked { IsMarkedApp (state_in scene.now) row.now.path app.now }
+    ensures best { HoldsBest scene.now held.old (masters_in scene.now row.now.path (app.now ∷ [])) held.new }
+    ensures desk { IsDesk scene.now row.now.path desk.new }
+{
+    if is_same(&app.home, &scene.label) {
+        add_request(
+            scene,
+            desk,
+            row,
+            app,
+            place,
+            &What::Master,
+            &app.master,
+            held,
+        );
+    }
+}
+
+/// One ask of an application, if it is for the partition and the application runs.
+fn add_ask(
+    scene: &Scene<'_>,
+    desk: &mut Desk,
+    row: &LeafRow,
+    app: &App,
+    place: u64,
+    ask: &AskRow,
+    held: &mut Option<Candidate>,
+)
+    requires scene { IsScene scene.now }
+    requires desk { IsDesk scene.now row.now.path desk.old }
+    requires place { place ≡ place_in_leaf (state_in scene.now) row.now.path app.now.name }
+    requires marked { IsMarkedApp (state_in scene.now) row.now.path app.now }
+    ensures best { HoldsBest scene.now held.old (wanted_of scene.now (app_of row.now.path app.now) (ask.now ∷ [])) held.new }
+    ensures desk { IsDesk scene.now row.now.path desk.new }
+{
+    if is_same(&ask.label, &scene.label) && ask.count > 0 {
+        let what = What::Ask(ask.label, ask.priority);
+        add_request(scene, desk, row, app, place, &what, &ask.size, held);
+    }
+}
+
+/// What an application asks for on the partition, if it runs.
+pub fn add_asks_of(
+    scene: &Scene<'_>,
+    desk: &mut Desk,
+    row: &LeafRow,
+    app: &App,
+    place: u64,
+    held: &mut Option<Candidate>,
+)
+    requires scene { IsScene scene.now }
+    requires desk { IsDesk scene.now row.now.path desk.old }
+    requires place { place ≡ place_in_leaf (state_in scene.now) row.now.path app.now.name }
+    requires marked { IsMarkedApp (state_in scene.now) row.now.path app.now }
+    ensures best { HoldsBest scene.now held.old (asks_in scene.now row.now.path (app.now ∷ [])) held.new }
+    ensures desk { IsDesk scene.now row.now.path desk.new }
+{
+    for ask in &app.asks {
+        add_ask(scene, desk, row, app, place, ask, held);
+    }
+}
+
+/// What an application asks for on the partition with a priority, if it runs.
+pub fn add_ask_at(
+    scene: &Scene<'_>,
+    desk: &mut Desk,
+    row: &LeafRow,
+    app: &App,
+    place: u64,
+    priority: u32,
+    held: &mut Option<Candidate>,
+)
+    requires scene { IsScene scene.now }
+    requires desk { IsDesk scene.now row.now.path desk.old }
+    requires place { place ≡ place_in_leaf (state_in scene.now) row.now.path app.now.name }
+    requires marked { IsMarkedApp (state_in scene.now) row.now.path app.now }
+    ensures best { HoldsBest scene.now held.old (asked_at scene.now (app_of row.now.path app.now) priority) held.new }
+    ensures desk { IsDesk scene.now row.now.path desk.new }
+{
+    if let Some(ask) = ask_of(&app.asks, &scene.label, priority) {
+        add_ask(scene, desk, row, app, place, &ask, held);
+    }
+}

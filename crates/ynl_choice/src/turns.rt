@@ -1,0 +1,151 @@
+//! The first turn of what waits in a leaf that may be placed. One request of each class is looked at,
+//! since those of one class may be placed together.
+
+ghost use Rattle.std.specs.Prelude.{◌≡◌, ◌≢◌, Bool, true, false, None, ◌&&◌, ◌||◌, IfSome, IfNone};
+ghost use Rattle.std.specs.BTreeSet.{contains};
+ghost use Rattle.std.specs.List.{AllByRecursion, list_any};
+ghost use Rattle.ynl_resource.specs.Names.{same_label};
+ghost use Rattle.ynl_resource.specs.declared.paths.Path.{Path};
+ghost use Rattle.ynl_model.specs.declared.proposals.What.{What};
+ghost use Rattle.ynl_model.specs.Service.{has_room};
+ghost use Rattle.ynl_tables.specs.declared.rows.App.{App};
+ghost use Rattle.ynl_laws.specs.First.{IsFirst};
+ghost use Rattle.ynl_waiting.specs.declared.classes.Turn.{Turn};
+ghost use Rattle.ynl_waiting.specs.Waiting.{turn_order, is_turn_later};
+ghost use Rattle.ynl_choice.specs.Choosing.{state_in, passes, IsScene, AreLimits};
+ghost use Rattle.ynl_choice.specs.Waits.{item_for, is_open, is_placeable, is_before, IsFirstTurn, IsPlaceOf};
+
+use crate::eligible::is_eligible;
+use crate::leaf_use::LeafUse;
+use crate::requests::Request;
+use crate::scenes::{Scene, limits_at};
+use ynl_model::What;
+use ynl_tables::{LeafRow, is_same};
+use ynl_waiting::{Class, ClassRow, Turn};
+
+/// The request that stands for those of a class. What it is tested for does not read an application's name,
+/// so the user's stands in its place.
+fn request_for(row: &LeafRow, what: &What, class: &Class) -> Request
+    ensures { result ≡ item_for row.now.path what.now class.now }
+{
+    Request {
+        leaf: row.path,
+        tenant: row.tenant,
+        app: class.user,
+        user: class.user,
+        what: *what,
+        size: class.size,
+    }
+}
+
+/// Whether what waits of a class has room and is for the partition. It takes no sum.
+fn is_open(scene: &Scene<'_>, class: &Class) -> bool
+    requires { IsScene scene.now }
+    ensures { result ≡ is_open scene.now class.now }
+{
+    class.size.amount().fits_in(scene.free) && is_same(&class.label, &scene.label)
+}
+
+/// Whether any class is for the partition and has room. Where none is, nothing may be placed.
+pub fn is_any_open(scene: &Scene<'_>, classes: &[ClassRow]) -> bool
+    requires { IsScene scene.now }
+    ensures { result ≡ list_any (λ row. is_open scene.now row.class) classes.now }
+{
+    for row in classes {
+        if is_open(scene, &row.class) {
+            return true;
+        }
+    }
+    false
+}
+
+/// Whether what waits of a class may be placed; a guest wants room alone.
+fn is_allowed(
+    scene: &Scene<'_>,
+    limits: &mut Option<LeafUse>,
+    row: &LeafRow,
+    what: &What,
+    class: &Class,
+) -> bool
+    requires scene { IsScene scene.now }
+    requires limits { AreLimits scene.now row.now.path limits.old }
+    requires room { has_room (state_in scene.now) scene.now.node class.now.size ≡ true }
+    ensures passes { result ≡ passes scene.now (item_for row.now.path what.now class.now) }
+    ensures limits { AreLimits scene.now row.now.path limits.new }
+{
+    if scene.as_guests {
+        return true;
+    }
+    let limits = limits_at(scene, limits, &row.path);
+    let request = request_for(row, what, class);
+    is_eligible(scene.tables, &scene.node, &scene.free, &limits, &request)
+}
+
+/// Whether a turn is before the one that is held.
+fn is_before(held: &Option<Turn>, turn: &Turn) -> bool
+    ensures { result ≡ is_before held.now turn.now }
+{
+    match held {
+        None => true,
+        Some(best) => best > turn,
+    }
+}
+
+/// Looks at one class more: its first turn is held, if it is before the one that is and may be placed.
+fn add_class(
+    scene: &Scene<'_>,
+    limits: &mut Option<LeafUse>,
+    row: &LeafRow,
+    what: &What,
+    class: &ClassRow,
+    held: &mut Option<Turn>,
+)
+    requires scene { IsScene scene.now }
+    requires limits { AreLimits scene.now row.now.path limits.old }
+    ensures first { (waits : Turn → Bool) → IsFirst is_turn_later (λ turn. waits turn ≡ true) held.old → IsFirst is_turn_later (λ turn. (waits turn || (is_placeable scene.now row.now.path what.now class.now.class && contains turn_order class.now.turns turn)) ≡ true) held.new }
+    ensures limits { AreLimits scene.now row.now.path limits.new }
+{
+    if !is_open(scene, &class.class) {
+        return;
+    }
+    let Some(turn) = class.first() else {
+        return;
+    };
+    if !is_before(held, &turn) {
+        return;
+    }
+    if is_allowed(scene, limits, row, what, &class.class) {
+        *held = Some(turn);
+    }
+}
+
+/// The first turn of some classes that may be placed.
+pub fn first_turn(
+    scene: &Scene<'_>,
+    limits: &mut Option<LeafUse>,
+    row: &LeafRow,
+    what: &What,
+    classes: &[ClassRow],
+) -> Option<Turn>
+    requires scene { IsScene scene.now }
+    requires limits { AreLimits scene.now row.now.path limits.old }
+    ensures first { IsFirstTurn (is_placeable scene.now row.now.path what.now) classes.now result }
+    ensures limits { AreLimits scene.now row.now.path limits.new }
+{
+    let mut held = None;
+    for class in classes {
+        add_class(scene, limits, row, what, class, &mut held);
+    }
+    held
+}
+
+/// The place of the application of a number.
+pub fn place_of(row: &LeafRow, number: u64) -> Option<usize>
+    ensures found { IfSome result (IsPlaceOf number row.now.apps.items) }
+    ensures absent { IfNone result (AllByRecursion (λ app. app.number ≢ number) row.now.apps.items) }
+{
+    match row.apps.binary_search_by_key(&number, |app| app.number) {
+        Ok(place) => Some(place),
+        Err(_) => None,
+    }
+}
