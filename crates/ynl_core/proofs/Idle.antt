@@ -68,12 +68,25 @@ pub unplaced_same : (c : Config) (node : Node) (times : ℕ) (s : State) → 0 <
 unplaced_same c node times s inside e = ap (λ (b : Beat). b.state) (beat_none c node times s (unplaced_none c node times s inside e))
 
 -- from then on its node rests
-pub unplaced_rests : (c : Config) (s : State) (name : Name) (node : Node) (times : ℕ) → find_node s.nodes name ≡ Some node → 0 < times → (beat c node times s).placed ≡ [] → Rests c s name
-unplaced_rests c s name node times found inside e other h =
-    subst (λ n. next_item c s n ≡ None) (some-same node other (find_node s.nodes name) found h) (unplaced_none c node times s inside e)
+pub unplaced_rests : (c : Config) (s : State) (name : Name) (node : Node) (times : ℕ) → first_that_holds (reasons c s (Heartbeat name)) ≡ None → find_node s.nodes name ≡ Some node
+    → 0 < times → (beat c node times s).placed ≡ [] → Rests c s name
+unplaced_rests c s name node times free found inside e =
+    (free, λ other h. subst (λ n. next_item c s n ≡ None) (some-same node other (find_node s.nodes name) found h) (unplaced_none c node times s inside e))
+
+-- a node that there is not is refused
+unknown : (c : Config) (s : State) (name : Name) → find_node s.nodes name ≡ None → first_that_holds (reasons c s (Heartbeat name)) ≡ None → ⊥
+unfolding reasons
+unknown c s name lost free = let refused = rw lost at free in cc
 
 -- the heartbeat of a node that rests
-pub resting_step : (c : Config) (s : State) (name : Name) (node : Node) → first_that_holds (reasons c s (Heartbeat name)) ≡ None → find_node s.nodes name ≡ Some node → next_item c s node ≡ None
+found_step : (c : Config) (s : State) (name : Name) (node : Node) → first_that_holds (reasons c s (Heartbeat name)) ≡ None → find_node s.nodes name ≡ Some node → next_item c s node ≡ None
     → step c s (Heartbeat name) ≡ served (record { placed = []; state = s })
 unfolding accepted
-resting_step c s name node free found none = taken_in c s (Heartbeat name) free ∙ rw found (ap served (beat_none c node c.containers_per_heartbeat s none))
+found_step c s name node free found none = taken_in c s (Heartbeat name) free ∙ rw found (ap served (beat_none c node c.containers_per_heartbeat s none))
+
+pub resting_step : (c : Config) (s : State) (name : Name) → Rests c s name → step c s (Heartbeat name) ≡ served (record { placed = []; state = s })
+resting_step c s name h = go (find_node s.nodes name) refl
+  where
+    go : (o : Option Node) → find_node s.nodes name ≡ o → step c s (Heartbeat name) ≡ served (record { placed = []; state = s })
+    go (Some node) found = found_step c s name node h.0 found (h.1 node found)
+    go None lost = absurd (unknown c s name lost h.0)

@@ -7,10 +7,15 @@ use Rattle.ynl_model.specs.Queues.{Config}
 use Rattle.ynl_model.specs.Nodes.{find_node}
 use Rattle.ynl_model.specs.Cluster.{State}
 use Rattle.ynl_model.specs.Changes.{next_item}
+use Rattle.ynl_model.specs.declared.events.Event.TheVariants.{Heartbeat}
+use Rattle.ynl_model.specs.Events.{reasons}
+use Rattle.ynl_resource.specs.Refusals.{first_that_holds}
 
--- nothing is to be placed on the node of this name
+-- a heartbeat of the node of this name is not refused, and nothing is to be placed on the node
 abbrev pub Rests : Config → State → Name → Type 0
-Rests c s name = (node : Node) → find_node s.nodes name ≡ Some node → next_item c s node ≡ None
+Rests c s name =
+    (first_that_holds (reasons c s (Heartbeat name)) ≡ None)
+    × ((node : Node) → find_node s.nodes name ≡ Some node → next_item c s node ≡ None)
 
 -- nor on the nodes of these names
 abbrev pub AreResting : Config → State → List Name → Type 0

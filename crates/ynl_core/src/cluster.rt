@@ -54,6 +54,7 @@ impl Model for Core {
 
 impl Core {
     #[tactic(auto, unfolding(ynl_model::specs::Events::step, ynl_model::specs::Events::accepted))]
+    #[inline(never)]
     fn register(&mut self, name: Name, label: Label, size: Size) -> Result<Reply, NoMemory>
         ensures ok { IfOk result (λ reply. Answers self.old (Register name label size) self.new reply) }
         ensures err { OnErr result (self.new ≡ self.old) }
@@ -69,6 +70,7 @@ impl Core {
     }
 
     #[tactic(auto, unfolding(ynl_model::specs::Events::step, ynl_model::specs::Events::accepted))]
+    #[inline(never)]
     fn lost(&mut self, name: Name) -> Reply
         ensures { Answers self.old (Lost name) self.new result }
     {
@@ -82,6 +84,7 @@ impl Core {
     }
 
     #[tactic(auto, unfolding(ynl_model::specs::Events::step, ynl_model::specs::Events::accepted))]
+    #[inline(never)]
     fn relabel(&mut self, name: Name, label: Label) -> Result<Reply, NoMemory>
         ensures ok { IfOk result (λ reply. Answers self.old (Relabel name label) self.new reply) }
         ensures err { OnErr result (self.new ≡ self.old) }
@@ -97,6 +100,7 @@ impl Core {
     }
 
     #[tactic(auto, unfolding(ynl_model::specs::Events::step, ynl_model::specs::Events::accepted))]
+    #[inline(never)]
     fn exited(&mut self, name: Name, id: Id) -> Reply
         ensures { Answers self.old (Exited name id) self.new result }
     {
@@ -110,6 +114,7 @@ impl Core {
     }
 
     #[tactic(auto, unfolding(ynl_model::specs::Events::step, ynl_model::specs::Events::accepted))]
+    #[inline(never)]
     fn ask(&mut self, tenant: Name, name: Name, ask: AskRow) -> Result<Reply, NoMemory>
         ensures ok { IfOk result (λ reply. Answers self.old (event.Ask tenant name ask.label ask.priority ask.count ask.size) self.new reply) }
         ensures err { OnErr result (self.new ≡ self.old) }
@@ -127,6 +132,7 @@ impl Core {
     }
 
     #[tactic(auto, unfolding(ynl_model::specs::Events::step, ynl_model::specs::Events::accepted))]
+    #[inline(never)]
     fn release(&mut self, tenant: Name, id: Id) -> Reply
         ensures { Answers self.old (Release tenant id) self.new result }
     {
@@ -140,6 +146,7 @@ impl Core {
     }
 
     #[tactic(auto, unfolding(ynl_model::specs::Events::step, ynl_model::specs::Events::accepted))]
+    #[inline(never)]
     fn submit(
         &mut self,
         queue: Path,
@@ -172,19 +179,20 @@ impl Core {
     }
 
     #[tactic(auto, unfolding(ynl_model::specs::Events::step, ynl_model::specs::Events::accepted))]
+    #[inline(never)]
     fn heartbeat(&mut self, name: Name) -> Result<Reply, NoMemory>
         ensures ok { IfOk result (λ reply. Answers self.old (Heartbeat name) self.new reply) }
         ensures err { OnErr result (self.new ≡ self.old) }
         ensures sure { IsTrue (is_refused self.old (Heartbeat name)) → IsOk result }
     {
-        let node = match refuse_heartbeat(&self.config, &self.tables, &name) {
-            Ok(node) => node,
-            Err(refusal) => return Ok(Reply::Refused(refusal)),
-        };
         let alloc = *self.tables.leaves.allocator();
         if rests(&self.resting, &name) {
             return Ok(Reply::Placed(Items::new(Vec::new(alloc))));
         }
+        let node = match refuse_heartbeat(&self.config, &self.tables, &name) {
+            Ok(node) => node,
+            Err(refusal) => return Ok(Reply::Refused(refusal)),
+        };
         let count = self.config.containers_per_heartbeat() as usize;
         let mut placed = Vec::with_capacity(alloc, count)?;
         reserve_containers(&mut self.tables.partitions, &node.label, count)?;
@@ -198,6 +206,7 @@ impl Core {
     }
 
     #[tactic(auto, unfolding(ynl_model::specs::Events::step, ynl_model::specs::Events::accepted))]
+    #[inline(never)]
     fn finish(&mut self, tenant: Name, name: Name) -> Reply
         ensures { Answers self.old (Finish tenant name) self.new result }
     {
@@ -213,6 +222,7 @@ impl Core {
     }
 
     #[tactic(auto, unfolding(ynl_model::specs::Events::step, ynl_model::specs::Events::accepted))]
+    #[inline(never)]
     fn stop(&mut self, queue: Path) -> Reply
         ensures { Answers self.old (Stop queue) self.new result }
     {
@@ -225,6 +235,7 @@ impl Core {
     }
 
     #[tactic(auto, unfolding(ynl_model::specs::Events::step, ynl_model::specs::Events::accepted))]
+    #[inline(never)]
     fn start(&mut self, queue: Path) -> Reply
         ensures { Answers self.old (Start queue) self.new result }
     {
@@ -237,6 +248,7 @@ impl Core {
     }
 
     #[tactic(auto, unfolding(ynl_model::specs::Events::step, ynl_model::specs::Events::accepted))]
+    #[inline(never)]
     fn maximum(&mut self, queue: Path, label: Label, share: Hundredths) -> Reply
         ensures { Answers self.old (Maximum queue label share) self.new result }
     {
@@ -249,6 +261,7 @@ impl Core {
     }
 
     #[tactic(auto, unfolding(ynl_model::specs::Events::step, ynl_model::specs::Events::accepted, ynl_model::specs::Events::held))]
+    #[inline(never)]
     fn poll(&self, tenant: Name, name: Name, label: Label) -> Result<Reply, NoMemory>
         ensures ok { IfOk result (λ reply. Answers self.now (Poll tenant name label) self.now reply) }
         ensures sure { IsTrue (is_refused self.now (Poll tenant name label)) → IsOk result }
@@ -267,6 +280,7 @@ impl Core {
     }
 
     #[tactic(auto, unfolding(ynl_model::specs::Events::step, ynl_model::specs::Events::accepted))]
+    #[inline(never)]
     fn usage(&self, queue: Path, label: Label) -> Reply
         ensures { Answers self.now (Usage queue label) self.now result }
     {
@@ -277,6 +291,7 @@ impl Core {
     }
 
     #[tactic(auto, unfolding(ynl_model::specs::Events::step, ynl_model::specs::Events::accepted))]
+    #[inline(never)]
     fn propose(&self, name: Name) -> Reply
         ensures { Answers self.now (Propose name) self.now result }
     {
@@ -288,6 +303,7 @@ impl Core {
     }
 
     #[tactic(auto, unfolding(ynl_model::specs::Events::step, ynl_model::specs::Events::accepted))]
+    #[inline(never)]
     fn commit(&mut self, proposal: Proposal) -> Result<Reply, NoMemory>
         ensures ok { IfOk result (λ reply. Answers self.old (Commit proposal) self.new reply) }
         ensures err { OnErr result (self.new ≡ self.old) }
@@ -318,12 +334,9 @@ impl Core {
         })
     }
 
-    /// One event is one step of the model. Where memory is refused, nothing has changed; a refused
-    /// event changes nothing either. An event that takes no memory is answered whatever memory there
-    /// is: one that is refused; one that ends something (`Lost`, `Exited`, `Release`, `Finish`), sets
-    /// it (`Stop`, `Start`, `Maximum`), or takes it back (`Ask` of count 0); and one that asks for use
-    /// or a proposal (`Usage`, `Propose`).
-    pub fn apply(&mut self, event: Event) -> Result<Reply, NoMemory>
+    /// Takes an event, whatever kind it is of.
+    #[inline(never)]
+    fn apply_any(&mut self, event: Event) -> Result<Reply, NoMemory>
         ensures ok { IfOk result (λ reply. Answers self.old event self.new reply) }
         ensures err { OnErr result (self.new ≡ self.old) }
         ensures sure { IsTrue (takes_no_memory self.old event) → IsOk result }
@@ -372,6 +385,23 @@ impl Core {
                 maximum,
             } => Ok(self.maximum(queue, label, maximum)),
         }
+    }
+
+    /// One event is one step of the model. Where memory is refused, nothing has changed; a refused
+    /// event changes nothing either. An event that takes no memory is answered whatever memory there
+    /// is: one that is refused; one that ends something (`Lost`, `Exited`, `Release`, `Finish`), sets
+    /// it (`Stop`, `Start`, `Maximum`), or takes it back (`Ask` of count 0); and one that asks for use
+    /// or a proposal (`Usage`, `Propose`).
+    pub fn apply(&mut self, event: Event) -> Result<Reply, NoMemory>
+        ensures ok { IfOk result (λ reply. Answers self.old event self.new reply) }
+        ensures err { OnErr result (self.new ≡ self.old) }
+        ensures sure { IsTrue (takes_no_memory self.old event) → IsOk result }
+    {
+        // A match over all kinds has room for the parts of each, and the commonest kind goes past it.
+        if let Event::Heartbeat { node } = event {
+            return self.heartbeat(node);
+        }
+        self.apply_any(event)
     }
 
     /// The containers on a partition, in the order of placement, which is that of their ids.

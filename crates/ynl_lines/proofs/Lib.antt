@@ -7,3 +7,4 @@ pub mod Rows
 pub mod ProposalTrip
 pub mod Lists
 pub mod ReplyTrip
+pub mod Sent

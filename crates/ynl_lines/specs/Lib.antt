@@ -1,4 +1,5 @@
 pub mod Fields
 pub mod Reading
 pub mod ReadingReplies
+pub mod Sending
 pub mod Writing

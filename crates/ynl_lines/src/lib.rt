@@ -8,6 +8,7 @@ pub use read::read_event;
 pub use read_lines::read_line;
 pub use write::{write_audit, write_event, write_fault, write_line, write_reply};
 
+mod answers;
 mod events;
 mod faults;
 mod keys;
@@ -22,4 +23,5 @@ mod read_proposals;
 mod read_queues;
 mod read_replies;
 mod replies;
+mod sending;
 mod write;

@@ -4,16 +4,29 @@ ghost use Rattle.std.specs.Prelude.{◌≡◌, IfOk};
 ghost use Rattle.serde_json.specs.Data.{object as json_object, put, no_members};
 ghost use Rattle.serde_json.specs.View.{view, members_view};
 ghost use Rattle.ynl_lines.specs.Fields.{field_data, members_after};
+ghost use Rattle.ynl_lines.specs.Writing.{amount_data};
 
 use serde_json::{Map, Value};
 use std::alloc::{AllocError, Global};
+use ynl_resource::Resource;
 
-/// A value with nothing inside it: a text, a fixed word or a number.
+/// A value of one member: a text, a fixed word, a number or an amount.
 #[derive(Clone, Copy)]
 pub enum Field<'a> {
     Text(&'a str),
     Word(&'static str),
     Number(u64),
+    Amount(Resource),
+}
+
+/// The object of an amount: MB of memory, and virtual cores.
+fn amount_value(alloc: Global, amount: Resource) -> Result<Value, AllocError>
+    ensures { IfOk result (λ v. view v ≡ amount_data amount) }
+{
+    let mut map = Map::new(alloc);
+    serde_json::put(&mut map, alloc, "memory", Value::from(amount.memory))?;
+    serde_json::put(&mut map, alloc, "vcores", Value::from(amount.vcores))?;
+    Ok(Value::Object(map))
 }
 
 fn field_value(alloc: Global, field: Field<'_>) -> Result<Value, AllocError>
@@ -23,6 +36,7 @@ fn field_value(alloc: Global, field: Field<'_>) -> Result<Value, AllocError>
         Field::Text(text) => Value::try_from_str(alloc, text),
         Field::Word(word) => Value::try_from_str(alloc, word),
         Field::Number(number) => Ok(Value::from(number)),
+        Field::Amount(amount) => amount_value(alloc, amount),
     }
 }
 

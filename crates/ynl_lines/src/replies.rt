@@ -1,67 +1,65 @@
 //! JSON values of replies.
 
-ghost use Rattle.std.specs.Prelude.{◌≡◌, All, IfOk, fold, map};
-ghost use Rattle.serde_json.specs.Data.{put};
+ghost use Rattle.std.specs.Prelude.{◌≡◌, All, IfOk, map};
+ghost use Rattle.serde_json.specs.Data.{object as json_object, no_members};
 ghost use Rattle.serde_json.specs.View.{view, members_view};
 ghost use Rattle.ynl_resource.specs.Texts.{read_id, id_text};
 ghost use Rattle.ynl_model.specs.declared.proposals.What.TheVariants.{Master, Ask as Asked};
+ghost use Rattle.ynl_lines.specs.Fields.{members_after, fields_before};
 ghost use Rattle.ynl_lines.specs.Reading.{HasClock};
 ghost use Rattle.ynl_lines.specs.ReadingReplies.{ReadsPlaced, ReadsPending, ReadsProposed, PartsRead};
 ghost use Rattle.ynl_lines.specs.Writing as spec;
 
 use crate::object::{Field, members, object, with};
 use crate::proposals::proposal_value;
-use serde_json::{Map, Value};
+use serde_json::Value;
 use std::alloc::{AllocError, Global};
 use ynl_model::{Pending, Placed, Proposal, Reply, What};
 use ynl_resource::{Label, Refusal, Resource};
 
-fn master_value<'a>(alloc: Global, placed: &'a Placed, id: &'a str) -> Result<Value, AllocError>
-    ensures value { IfOk result (λ v. view v ≡ spec.master_data id.now placed.now) }
+/// The members of a container that is a master.
+pub fn master_fields<'a>(placed: &'a Placed, id: &'a str) -> [(&'static str, Field<'a>); 7]
+    ensures any_order { json_object (members_after result no_members) ≡ spec.master_data id.now placed.now }
+    ensures in_order { json_object (fields_before result no_members) ≡ spec.master_data id.now placed.now }
     ensures reads { placed.now.what ≡ Master → id.now ≡ id_text placed.now.id → (HasClock placed.now.id → read_id id.now ≡ Ok placed.now.id)
-        → IfOk result (λ _. ReadsPlaced placed.now) }
+        → ReadsPlaced placed.now }
 {
     let size = placed.size.amount();
-    object(
-        alloc,
-        &[
-            ("app", Field::Text(placed.app.as_str())),
-            ("id", Field::Text(id)),
-            ("memory", Field::Number(size.memory)),
-            ("node", Field::Text(placed.node.as_str())),
-            ("tenant", Field::Text(placed.tenant.as_str())),
-            ("vcores", Field::Number(size.vcores)),
-            ("what", Field::Word("master")),
-        ],
-    )
+    [
+        ("app", Field::Text(placed.app.as_str())),
+        ("id", Field::Text(id)),
+        ("memory", Field::Number(size.memory)),
+        ("node", Field::Text(placed.node.as_str())),
+        ("tenant", Field::Text(placed.tenant.as_str())),
+        ("vcores", Field::Number(size.vcores)),
+        ("what", Field::Word("master")),
+    ]
 }
 
-fn asked_value<'a>(
-    alloc: Global,
+/// The members of a container that was asked for.
+pub fn asked_fields<'a>(
     placed: &'a Placed,
     id: &'a str,
     label: &'a Label,
     priority: u32,
-) -> Result<Value, AllocError>
-    ensures value { IfOk result (λ v. view v ≡ spec.asked_data id.now placed.now label.now priority) }
+) -> [(&'static str, Field<'a>); 9]
+    ensures any_order { json_object (members_after result no_members) ≡ spec.asked_data id.now placed.now label.now priority }
+    ensures in_order { json_object (fields_before result no_members) ≡ spec.asked_data id.now placed.now label.now priority }
     ensures reads { placed.now.what ≡ Asked label.now priority → id.now ≡ id_text placed.now.id
-        → (HasClock placed.now.id → read_id id.now ≡ Ok placed.now.id) → IfOk result (λ _. ReadsPlaced placed.now) }
+        → (HasClock placed.now.id → read_id id.now ≡ Ok placed.now.id) → ReadsPlaced placed.now }
 {
     let size = placed.size.amount();
-    object(
-        alloc,
-        &[
-            ("app", Field::Text(placed.app.as_str())),
-            ("id", Field::Text(id)),
-            ("label", Field::Text(label.as_str())),
-            ("memory", Field::Number(size.memory)),
-            ("node", Field::Text(placed.node.as_str())),
-            ("priority", Field::Number(u64::from(priority))),
-            ("tenant", Field::Text(placed.tenant.as_str())),
-            ("vcores", Field::Number(size.vcores)),
-            ("what", Field::Word("ask")),
-        ],
-    )
+    [
+        ("app", Field::Text(placed.app.as_str())),
+        ("id", Field::Text(id)),
+        ("label", Field::Text(label.as_str())),
+        ("memory", Field::Number(size.memory)),
+        ("node", Field::Text(placed.node.as_str())),
+        ("priority", Field::Number(u64::from(priority))),
+        ("tenant", Field::Text(placed.tenant.as_str())),
+        ("vcores", Field::Number(size.vcores)),
+        ("what", Field::Word("ask")),
+    ]
 }
 
 /// The object of a container.
@@ -71,8 +69,10 @@ fn placed_value(alloc: Global, placed: &Placed) -> Result<Value, AllocError>
 {
     let id = placed.id.text(alloc)?;
     match &placed.what {
-        What::Master => master_value(alloc, placed, id.as_str()),
-        What::Ask(label, priority) => { asked_value(alloc, placed, id.as_str(), label, *priority) }
+        What::Master => object(alloc, &master_fields(placed, id.as_str())),
+        What::Ask(label, priority) => {
+            object(alloc, &asked_fields(placed, id.as_str(), label, *priority))
+        }
     }
 }
 
@@ -87,21 +87,27 @@ fn placed_list(alloc: Global, placed: &[Placed]) -> Result<Vec<Value>, AllocErro
     Ok(values)
 }
 
+/// The members of what is still asked for.
+pub fn pending_fields(pending: &Pending) -> [(&'static str, Field<'static>); 4]
+    ensures any_order { json_object (members_after result no_members) ≡ spec.pending_data pending.now }
+    ensures in_order { json_object (fields_before result no_members) ≡ spec.pending_data pending.now }
+    ensures reads { ReadsPending pending.now }
+{
+    let size = pending.size.amount();
+    [
+        ("count", Field::Number(u64::from(pending.count))),
+        ("memory", Field::Number(size.memory)),
+        ("priority", Field::Number(u64::from(pending.priority))),
+        ("vcores", Field::Number(size.vcores)),
+    ]
+}
+
 /// The object of what is still asked for.
 fn pending_value(alloc: Global, pending: &Pending) -> Result<Value, AllocError>
     ensures value { IfOk result (λ v. view v ≡ spec.pending_data pending.now) }
     ensures reads { IfOk result (λ _. ReadsPending pending.now) }
 {
-    let size = pending.size.amount();
-    object(
-        alloc,
-        &[
-            ("count", Field::Number(u64::from(pending.count))),
-            ("memory", Field::Number(size.memory)),
-            ("priority", Field::Number(u64::from(pending.priority))),
-            ("vcores", Field::Number(size.vcores)),
-        ],
-    )
+    object(alloc, &pending_fields(pending))
 }
 
 fn pending_list(alloc: Global, pendings: &[Pending]) -> Result<Vec<Value>, AllocError>
@@ -115,35 +121,21 @@ fn pending_list(alloc: Global, pendings: &[Pending]) -> Result<Vec<Value>, Alloc
     Ok(values)
 }
 
-/// The object of an amount: MB of memory, and virtual cores.
-fn amount_value(alloc: Global, amount: Resource) -> Result<Value, AllocError>
-    ensures { IfOk result (λ v. view v ≡ spec.amount_data amount) }
-{
-    object(
-        alloc,
-        &[
-            ("memory", Field::Number(amount.memory)),
-            ("vcores", Field::Number(amount.vcores)),
-        ],
-    )
-}
-
 fn word_value(alloc: Global, word: &'static str) -> Result<Value, AllocError>
     ensures { IfOk result (λ v. view v ≡ spec.word_data word.now) }
 {
     object(alloc, &[("reply", Field::Word(word))])
 }
 
-fn refused_value(alloc: Global, refusal: Refusal) -> Result<Value, AllocError>
-    ensures { IfOk result (λ v. view v ≡ spec.refused_data refusal) }
+/// The members of a refusal.
+pub fn refused_fields(refusal: Refusal) -> [(&'static str, Field<'static>); 2]
+    ensures any_order { json_object (members_after result no_members) ≡ spec.refused_data refusal }
+    ensures in_order { json_object (fields_before result no_members) ≡ spec.refused_data refusal }
 {
-    object(
-        alloc,
-        &[
-            ("refused", Field::Word(refusal.word())),
-            ("reply", Field::Word("refused")),
-        ],
-    )
+    [
+        ("refused", Field::Word(refusal.word())),
+        ("reply", Field::Word("refused")),
+    ]
 }
 
 /// The object of a reply that is one value under a key.
@@ -173,42 +165,25 @@ fn held_value(alloc: Global, containers: &[Placed], asks: &[Pending]) -> Result<
     Ok(Value::Object(map))
 }
 
-/// The members with one more for each amount.
-fn with_amounts(
-    alloc: Global,
-    map: Map<String, Value>,
-    amounts: &[(&'static str, Resource)],
-) -> Result<Map<String, Value>, AllocError>
-    ensures { IfOk result (λ m. members_view m.entries ≡ fold (λ ms row. put row.0.now (spec.amount_data row.1) ms) (members_view map.entries) amounts.now) }
-{
-    let mut map = map;
-    for (key, amount) in amounts {
-        let value = amount_value(alloc, *amount)?;
-        map = with(alloc, map, key, value)?;
-    }
-    Ok(map)
-}
-
-fn usage_value(
-    alloc: Global,
+/// The members of what a queue uses, is guaranteed and may use, and what its masters and its guests use.
+pub fn usage_fields(
     used: Resource,
     guaranteed: Resource,
     maximum: Resource,
     masters: Resource,
     guests: Resource,
-) -> Result<Value, AllocError>
-    ensures { IfOk result (λ v. view v ≡ spec.usage_data used guaranteed maximum masters guests) }
+) -> [(&'static str, Field<'static>); 6]
+    ensures any_order { json_object (members_after result no_members) ≡ spec.usage_data used guaranteed maximum masters guests }
+    ensures in_order { json_object (fields_before result no_members) ≡ spec.usage_data used guaranteed maximum masters guests }
 {
-    let map = members(alloc, &[("reply", Field::Word("usage"))])?;
-    let amounts = [
-        ("guaranteed", guaranteed),
-        ("guests", guests),
-        ("masters", masters),
-        ("maximum", maximum),
-        ("used", used),
-    ];
-    let map = with_amounts(alloc, map, &amounts)?;
-    Ok(Value::Object(map))
+    [
+        ("guaranteed", Field::Amount(guaranteed)),
+        ("guests", Field::Amount(guests)),
+        ("masters", Field::Amount(masters)),
+        ("maximum", Field::Amount(maximum)),
+        ("reply", Field::Word("usage")),
+        ("used", Field::Amount(used)),
+    ]
 }
 
 fn proposed_value(alloc: Global, proposed: &Option<Proposal>) -> Result<Value, AllocError>
@@ -231,7 +206,7 @@ pub fn reply_value(alloc: Global, reply: &Reply) -> Result<Value, AllocError>
 {
     match reply {
         Reply::Done => word_value(alloc, "done"),
-        Reply::Refused(refusal) => refused_value(alloc, *refusal),
+        Reply::Refused(refusal) => object(alloc, &refused_fields(*refusal)),
         Reply::Placed(placed) => {
             let values = placed_list(alloc, placed.as_slice())?;
             keyed_value(alloc, "placed", Value::Array(values), "placed")
@@ -250,6 +225,9 @@ pub fn reply_value(alloc: Global, reply: &Reply) -> Result<Value, AllocError>
             maximum,
             masters,
             guests,
-        } => usage_value(alloc, *used, *guaranteed, *maximum, *masters, *guests),
+        } => object(
+            alloc,
+            &usage_fields(*used, *guaranteed, *maximum, *masters, *guests),
+        ),
     }
 }

@@ -8,6 +8,7 @@ ghost use Rattle.ynl_lines.specs.Reading.{reading, event_of_line, IsInRange};
 ghost use Rattle.ynl_lines.specs.ReadingReplies.{line_of_text, answered_entry, IsReplyInRange};
 ghost use Rattle.ynl_lines.specs.Writing as spec;
 
+use crate::answers::Answer;
 use crate::events::event_value;
 use crate::faults::InputFault;
 use crate::object::{Field, members, object, with};
@@ -39,12 +40,13 @@ pub fn write_event(alloc: Global, event: &Event) -> Result<Vec<u8>, AllocError>
 }
 
 /// The text of a reply, with memory in MB, without the newline of its line.
-#[tactic(auto, using(crate::proofs::Texts::plain_reply, crate::proofs::Texts::flat_reply))]
 pub fn write_reply(alloc: Global, reply: &Reply) -> Result<Vec<u8>, AllocError>
     ensures text { IfOk result (λ text. text.items ≡ spec.reply_text reply.now) }
 {
-    let value = reply_value(alloc, reply)?;
-    text_of(alloc, &value)
+    match serde_json::to_vec(alloc, &Answer { alloc, reply }) {
+        Ok(text) => Ok(text),
+        Err(_) => Err(AllocError),
+    }
 }
 
 fn fault_value(alloc: Global, fault: InputFault, line: u64) -> Result<Value, AllocError>

@@ -239,6 +239,24 @@ fn answers_at_the_second_try(rt: HostRuntime) -> Result<(), Fail> {
     Ok(())
 }
 
+#[test]
+fn tells_a_tenant_at_the_second_try(rt: HostRuntime) -> Result<(), Fail> {
+    let alloc = rt.alloc();
+    let mut first = SCRIPT;
+    let mut out = Vec::with_capacity(alloc, 512)?;
+    let tried = tell_built_in(&rt, alloc, &mut first, &mut out)?;
+    if tried == Err(ToolFault::NoMemory) {
+        println!(rt; "refused")?;
+        assert!(rt; TOLD.starts_with(&out));
+        out.clear();
+        let mut second = SCRIPT;
+        let ended = tell_built_in(&rt, alloc, &mut second, &mut out)?;
+        assert!(rt; ended.is_ok());
+    }
+    assert!(rt; out.as_slice() == TOLD);
+    Ok(())
+}
+
 const JOURNAL: &[u8] =
     b"{\"event\":{\"event\":\"register\",\"label\":\"gpu\",\"memory\":1,\"node\":\"g1\",\"vcores\":1},\"place\":0,\"reply\":{\"reply\":\"done\"}}\n";
 

@@ -1,11 +1,12 @@
-use Rattle.std.proofs.Common.{◌≡◌, ◌<◌, List, [], Some, rules, sym, ap, subst, ◌∙◌}
+use Rattle.std.proofs.Common.{◌≡◌, ◌<◌, List, [], None, Some, rules, sym, ap, subst, ◌∙◌}
 use Rattle.ynl_model.specs.declared.events.Event.{Event}
 use Rattle.ynl_model.specs.declared.events.Event.TheVariants.{Heartbeat}
 use Rattle.ynl_model.specs.declared.replies.Reply.TheVariants.{Placed}
 use Rattle.ynl_model.specs.Nodes.{find_node}
 use Rattle.ynl_model.specs.Cluster.{State, Partition}
 use Rattle.ynl_model.specs.Changes.{beat}
-use Rattle.ynl_model.specs.Events.{Outcome, step, accepted}
+use Rattle.ynl_model.specs.Events.{Outcome, reasons, step, accepted}
+use Rattle.ynl_resource.specs.Refusals.{first_that_holds}
 use Rattle.ynl_laws.proofs.Soundness.Steps.{stands-found}
 use Rattle.ynl_core.specs.CoreFields.{world_of, IsSound}
 use Rattle.ynl_tables.specs.Tables.{state_of, leaves_of, partitions_of}
@@ -42,13 +43,14 @@ invariant_of-self-then-count-gt0 c =
     let nothing : c.serve.new.placed.items ≡ [] = empty_items c.serve.new.placed.items (search rules) in
     let unplaced : (beat config node times reserved).placed ≡ [] = unplaced_more (beat config node times reserved) c.in_ok-placed.placed.items c.serve.new.placed.items c.in_ok-placed.ensures.items c.serve.ensures.placed nothing in
     let inside : 0 < times = search rules in
+    let free = subst (λ s. first_that_holds (reasons config s (Heartbeat c.args.name)) ≡ None) as_before c.in-Ok.ensures.free in
     let sound : IsSound config reserved c.self.inside.resting.keys = subst (λ s. IsSound config s c.self.inside.resting.keys) as_before c.self.invariant.sound in
     let same : state_of c.serve.new.tables ≡ reserved = c.serve.ensures.state ∙ unplaced_same config node times reserved inside unplaced in
     record {
       sound = subst (λ s. IsSound config s c.rest.new.names.keys) (sym same) (record {
         working = sound.working;
         tabled = sound.tabled;
-        resting = c.rest.ensures config reserved (unplaced_rests config reserved c.args.name node times found inside unplaced) sound.resting;
+        resting = c.rest.ensures config reserved (unplaced_rests config reserved c.args.name node times free found inside unplaced) sound.resting;
       });
       kept = c.serve.ensures.kept;
     }
@@ -56,11 +58,8 @@ invariant_of-self-then-count-gt0 c =
 pub returns-then-rests-clause-ok : goal.returns-then-rests-clause-ok
 returns-then-rests-clause-ok c =
     let old = world_of c.self.inside in
-    let node = c.in-Ok.node in
     let event : Event = Heartbeat c.args.name in
-    let found : find_node old.state.nodes c.args.name ≡ Some node = search rules in
-    let none = c.rests.ensures (search rules) old.config old.state c.self.invariant.sound.resting node found in
-    let same = resting_step old.config old.state c.args.name node c.in-Ok.ensures.free found none in
+    let same = resting_step old.config old.state c.args.name (c.rests.ensures (search rules) old.config old.state c.self.invariant.sound.resting) in
     let P : World → Type 0 = λ w. Answers w event w (Placed c.new-then-rests.result) in
     subst P c.self.view_is (record {
       told = ap Placed (c.new-then-rests.ensures ∙ c.new.ensures.items) ∙ sym (ap (λ (o : Outcome). o.reply) same);
