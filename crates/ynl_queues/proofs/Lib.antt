@@ -3,6 +3,8 @@ pub mod Dots
 pub mod Faultless
 pub mod Gathered
 pub mod Paths
+pub mod PlaceMaps
+pub mod Places
 pub mod Prefixes
 pub mod Shares
 pub mod Told

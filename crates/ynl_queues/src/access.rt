@@ -73,6 +73,9 @@ impl Config {
     pub fn may_use(&self, queue: &[Name], label: &Label) -> bool
         ensures { result ≡ may_use self.now queue.now label.now }
     {
-        reaches(self.labels(), self.reach(queue), label)
+        match label {
+            Label::Unlabelled => true,
+            Label::Named(_) => reaches(self.labels(), self.reach(queue), label),
+        }
     }
 }

@@ -1,6 +1,6 @@
 //! What a queue gets of a partition's total.
 
-ghost use Rattle.std.specs.Prelude.{◌≡◌, ℕ, IsTrue};
+ghost use Rattle.std.specs.Prelude.{◌≡◌, ℕ, IsTrue, IfSome};
 ghost use Rattle.ynl_queues.specs.Shares.{IsShareOf};
 ghost use Rattle.ynl_resource.specs.declared.paths.Path.{Path};
 ghost use Rattle.ynl_model.specs.Queues.{setting, written_capacity, written_maximum, capacity_on, configured_maximum, nested_floor, guaranteed};
@@ -66,11 +66,24 @@ impl Config {
         }
     }
 
+    /// The queue's capacity on a partition, where that is kept.
+    fn kept_capacity(&self, queue: &[Name], label: &Label) -> Option<Hundredths>
+        ensures { IfSome result (λ share. share ≡ capacity_on self.now queue.now label.now) }
+    {
+        let place = self.index()?.place(queue)?;
+        let capacities = self.capacities(label)?;
+        let share = capacities.get(place)?;
+        Some(*share)
+    }
+
     /// The queue's capacity on a partition, and nothing on a label that it may not use.
     #[tactic(auto, unfolding(ynl_model::specs::Queues::capacity_on))]
     pub fn capacity_on(&self, queue: &[Name], label: &Label) -> Hundredths
         ensures { result ≡ capacity_on self.now queue.now label.now }
     {
+        if let Some(share) = self.kept_capacity(queue, label) {
+            return share;
+        }
         if self.may_use(queue, label) {
             self.written_capacity(queue, label)
         } else {

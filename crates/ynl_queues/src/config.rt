@@ -1,27 +1,29 @@
 //! The configuration, and its rows.
 
-ghost use Rattle.std.specs.Prelude.{◌≡◌, option_map, ◌&&◌, not, IfOk, None, if◌then◌else◌};
-ghost use Rattle.std.specs.List.{list_any};
+ghost use Rattle.std.specs.Prelude.{◌≡◌, option_map, IfOk, IfSome, None, if◌then◌else◌};
+ghost use Rattle.std.specs.List.{All};
 ghost use Rattle.ynl_model.specs.Queues.{queue_row, is_queue, is_leaf, setting};
-ghost use Rattle.ynl_resource.specs.Names.{is_within, same_path};
 ghost use Rattle.ynl_resource.specs.declared.labels.Label.TheVariants.{Unlabelled};
+ghost use Rattle.ynl_queues.specs.Index.{IsIndexOf, IsKeptOf, AreShares, has_below};
 
+use crate::index::{IndexRow, LabelShares, QueueIndex, all_shares, has_below};
 use crate::rows::QueueRow;
 use crate::tree::QueueTree;
-use crate::ways::is_within;
 use std::alloc::{AllocError, Global};
 use std::marker::Model;
 use ynl_labels::Labels;
 use ynl_resource::{Hundredths, Label, Name, Size};
 
 /// What does not change while a cluster runs: the labels, the queues below root, the most containers
-/// that a heartbeat places, and the largest request.
+/// that a heartbeat places, and the largest request. An index of the queues may be kept beside them,
+/// which no contract sees.
 #[derive(Drop)]
 pub struct Config {
     labels: Labels,
     tree: QueueTree,
     containers_per_heartbeat: u32,
     maximum_allocation: Size,
+    index: Option<QueueIndex>,
 }
 
 impl Model for Config {
@@ -29,7 +31,11 @@ impl Model for Config {
 
     ghost Value = { Configured };
 
-    ghost view = { λ c. record { labels = c.labels; queues = c.tree; containers_per_heartbeat = c.containers_per_heartbeat; maximum_allocation = c.maximum_allocation } };
+    ghost use Rattle.ynl_queues.specs.ConfigFields.{config_of, IsIndexed};
+
+    ghost view = { config_of };
+
+    ghost invariant = { IsIndexed };
 }
 
 impl Config {
@@ -47,6 +53,7 @@ impl Config {
             tree,
             containers_per_heartbeat,
             maximum_allocation,
+            index: None,
         }
     }
 
@@ -78,7 +85,53 @@ impl Config {
         self.tree
     }
 
-    /// The same configuration once more.
+    /// The same configuration with an index of its queues.
+    pub fn indexed(self, alloc: Global) -> Result<Config, AllocError>
+        ensures { IfOk result (λ indexed. indexed ≡ self) }
+    {
+        let index = QueueIndex::new(alloc, &self)?;
+        let config = self.with(index);
+        let shares = all_shares(alloc, &config)?;
+        Ok(config.with_shares(shares))
+    }
+
+    fn with(self, index: QueueIndex) -> Config
+        requires { IsIndexOf self index }
+        ensures { result ≡ self }
+    {
+        Config {
+            labels: self.labels,
+            tree: self.tree,
+            containers_per_heartbeat: self.containers_per_heartbeat,
+            maximum_allocation: self.maximum_allocation,
+            index: Some(index),
+        }
+    }
+
+    fn with_shares(self, shares: Vec<LabelShares>) -> Config
+        requires { All (AreShares self) shares.items }
+        ensures { result ≡ self }
+    {
+        Config {
+            labels: self.labels,
+            tree: self.tree,
+            containers_per_heartbeat: self.containers_per_heartbeat,
+            maximum_allocation: self.maximum_allocation,
+            index: match self.index {
+                Some(index) => Some(index.with_shares(shares)),
+                None => None,
+            },
+        }
+    }
+
+    /// The index, where there is one.
+    pub(crate) fn index(&self) -> Option<&QueueIndex>
+        ensures { IfSome result (λ index. IsIndexOf self.now index.now) }
+    {
+        self.index.as_ref()
+    }
+
+    /// The same configuration once more, without an index.
     pub fn copy(&self, alloc: Global) -> Result<Config, AllocError>
         ensures { IfOk result (λ copy. copy ≡ self.now) }
     {
@@ -87,6 +140,7 @@ impl Config {
             tree: self.tree.copy(alloc)?,
             containers_per_heartbeat: self.containers_per_heartbeat,
             maximum_allocation: self.maximum_allocation,
+            index: None,
         })
     }
 
@@ -108,7 +162,13 @@ impl Config {
     pub fn row(&self, queue: &[Name]) -> Option<&QueueRow>
         ensures { option_map (λ r. r.now) result ≡ queue_row self.now queue.now }
     {
-        self.tree.find(queue)
+        let Some(index) = self.index() else {
+            return self.tree.find(queue);
+        };
+        match index.place(queue) {
+            Some(place) => Some(self.row_at(place)),
+            None => None,
+        }
     }
 
     /// Whether there is such a queue; root is one.
@@ -118,11 +178,30 @@ impl Config {
         queue.is_empty() || self.row(queue).is_some()
     }
 
-    fn has_below(&self, queue: &[Name]) -> bool
-        ensures { result ≡ list_any (λ row. is_within queue.now row.path && not (same_path queue.now row.path)) self.now.queues }
+    /// What is kept of the queue at a place, where there is an index and that is its path.
+    pub(crate) fn kept_at(&self, place: usize, queue: &[Name]) -> Option<&IndexRow>
+        ensures kept { IfSome result (λ row. IsKeptOf self.now.queues row.now) }
+        ensures path { IfSome result (λ row. row.now.path ≡ queue.now) }
     {
-        self.queues().iter().any(|row| is_within(queue, row.path.names())
-            && queue != row.path.names())
+        self.index()?.row(place, queue)
+    }
+
+    /// What is kept of a queue, where there is an index and a row of the queue.
+    fn kept(&self, queue: &[Name]) -> Option<&IndexRow>
+        ensures kept { IfSome result (λ row. IsKeptOf self.now.queues row.now) }
+        ensures path { IfSome result (λ row. row.now.path ≡ queue.now) }
+    {
+        let place = self.index()?.place(queue)?;
+        self.kept_at(place, queue)
+    }
+
+    fn has_below(&self, queue: &[Name]) -> bool
+        ensures { result ≡ has_below self.now.queues queue.now }
+    {
+        match self.kept(queue) {
+            Some(row) => row.has_below,
+            None => has_below(self.queues(), queue),
+        }
     }
 
     /// Whether the queue is a leaf: no other queue is below it. Root is none, whatever is below it.
@@ -137,11 +216,8 @@ impl Config {
     pub fn leaf(&self, queue: &[Name]) -> Option<&QueueRow>
         ensures { option_map (λ r. r.now) result ≡ (if is_leaf self.now queue.now then queue_row self.now queue.now else None) }
     {
-        if self.is_leaf(queue) {
-            self.row(queue)
-        } else {
-            None
-        }
+        let row = self.row(queue)?;
+        if self.is_leaf(queue) { Some(row) } else { None }
     }
 
     /// The leaf's label for applications that name none.

@@ -17,6 +17,8 @@ mod checks;
 mod children;
 mod config;
 mod grants;
+mod index;
+mod indexed;
 mod rows;
 mod sums;
 mod texts;

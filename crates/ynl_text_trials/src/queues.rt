@@ -77,3 +77,21 @@ fn a_copy_has_the_queues(rt: HostRuntime) -> Result<(), Fail> {
     assert!(rt; has_one_queue(&copy)?);
     Ok(())
 }
+
+/// Whether the one queue is found by its place, and what it has of DEFAULT.
+fn has_its_place(config: &Config) -> Result<bool, Fail> {
+    let eng = Path::parse("root.eng")?;
+    let is_step = config.steps(0, eng.names()) == Some([0].as_slice());
+    let has_share = match config.capacities(&Label::Unlabelled) {
+        Some(shares) => shares.len() == 1 && shares[0].number() == 10000,
+        None => false,
+    };
+    Ok(is_step && has_share && config.steps(0, &[]).is_none())
+}
+
+#[test]
+fn an_index_has_the_queues(rt: HostRuntime) -> Result<(), Fail> {
+    let config = built_in(rt.alloc())?.indexed(rt.alloc())?;
+    assert!(rt; has_one_queue(&config)? && has_its_place(&config)?);
+    Ok(())
+}
