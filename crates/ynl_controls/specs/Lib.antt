@@ -1,1 +1,2 @@
 pub mod Opening
+pub mod Alike

@@ -12,10 +12,12 @@ use ynl_model::MaximumRow;
 use ynl_queues::{Config, nested_floor};
 use ynl_resource::{Hundredths, Label, Name, Path, Resource};
 
-/// A maximum for each queue and each partition. A contract sees the list of rows.
+/// A maximum for each queue and each partition: the queues in the order of the configuration, and for each
+/// the partitions, of which it is kept how many there are. A contract sees the list of rows.
 #[derive(Drop)]
 pub struct Maxima {
     rows: Vec<MaximumRow>,
+    partitions: usize,
 }
 
 impl Model for Maxima {
@@ -25,6 +27,10 @@ impl Model for Maxima {
     ghost Value = { List MaximumRow };
 
     ghost view = { λ m. m.rows.items };
+
+    ghost use Rattle.ynl_controls.specs.Alike.{AreAlike};
+
+    ghost invariant = { λ m. AreAlike m.rows.items };
 }
 
 /// One more row: the configured maximum of a queue on a partition.
@@ -94,7 +100,10 @@ impl Maxima {
         for queue in config.queues() {
             push_maxima(&mut rows, config, &queue.path)?;
         }
-        Ok(Maxima { rows })
+        Ok(Maxima {
+            rows,
+            partitions: config.labels().rows().len() + 1,
+        })
     }
 
     /// The queue's maximum on a partition is this share of its parent's; where there is no such queue
@@ -120,6 +129,26 @@ impl Maxima {
             Some(row) => row.share,
             None => Hundredths::NOTHING,
         }
+    }
+
+    /// A place that is near the row of a queue and a partition, each by its place, DEFAULT first.
+    pub fn near(&self, queue: usize, partition: usize) -> usize {
+        queue
+            .saturating_mul(self.partitions)
+            .saturating_add(partition)
+    }
+
+    /// The queue's present maximum on a partition, as a share of its parent's. It is looked for where the
+    /// row is thought to stand, and only then among all.
+    pub fn maximum_near(&self, near: usize, queue: &[Name], label: &Label) -> Hundredths
+        ensures { result ≡ maximum_on self.now queue.now label.now }
+    {
+        if let Some(row) = self.rows.get(near) {
+            if is_of(row, queue, label) {
+                return row.share;
+            }
+        }
+        self.maximum_on(queue, label)
     }
 
     /// The most that the queue may use of a partition's total.
