@@ -8,7 +8,7 @@ use Rattle.ynl_resource.specs.Tables.{update, without, put}
 use Rattle.ynl_resource.specs.declared.labels.Label.{Label}
 use Rattle.ynl_resource.specs.Names.{same_label}
 use Rattle.ynl_laws.proofs.Lists.{all-filter}
-use Rattle.ynl_laws.proofs.Names.{same-label_path}
+use Rattle.ynl_laws.proofs.Names.{same-label_path, same-label_self}
 use Rattle.ynl_model.specs.Applications.{is_ask_of}
 use Rattle.ynl_model.specs.declared.applications.AskRow.{AskRow}
 use Rattle.ynl_tables.specs.declared.rows.App.{App}
@@ -130,3 +130,56 @@ apart-changed ask asks h = go (ask.count == 0)
     go : (b : Bool) → are_apart (cond b (without (is_ask_of ask.label ask.priority) asks) (put (is_ask_of ask.label ask.priority) ask asks)) ≡ true
     go true = apart-filter (λ other. not (is_ask_of ask.label ask.priority other)) asks h
     go false = apart-put ask asks h
+
+-- ---- asks that are not meant
+
+module _ (label : Label) (priority : ℕ) (p : AskRow → Bool) where
+  -- whether an ask of another label or priority passes a test
+  abbrev other : AskRow → Bool
+  other ask = not (is_ask_of label priority ask) && p ask
+
+  none-of : (b : Bool) → b ≡ true → (x : Bool) → (not b && x) ≡ false
+  none-of true e x = refl
+  none-of false e x = absurd (true≢false (sym e))
+
+  pub rest-without : (asks : List AskRow) → list_any other (without (is_ask_of label priority) asks) ≡ list_any other asks
+  rest-without [] = refl
+  rest-without (ask ∷ asks) = go (is_ask_of label priority ask) refl (rest-without asks)
+    where
+      go : (b : Bool) → is_ask_of label priority ask ≡ b → list_any other (without (is_ask_of label priority) asks) ≡ list_any other asks → list_any other (cond (not b) (ask ∷ without (is_ask_of label priority) asks) (without (is_ask_of label priority) asks)) ≡ ((not b && p ask) || list_any other asks)
+      go true e same = same
+      go false e same = (λ i. (not (e i) && p ask) || same i)
+
+  pub rest-put : (new : AskRow) (asks : List AskRow) → is_ask_of label priority new ≡ true → list_any other (put (is_ask_of label priority) new asks) ≡ list_any other asks
+  rest-put new [] is = λ i. none-of (is_ask_of label priority new) is (p new) i || false
+  rest-put new (ask ∷ asks) is = go (is_ask_of label priority ask) refl (rest-put new asks is)
+    where
+      go : (b : Bool) → is_ask_of label priority ask ≡ b → list_any other (put (is_ask_of label priority) new asks) ≡ list_any other asks → list_any other (cond b (new ∷ asks) (ask ∷ put (is_ask_of label priority) new asks)) ≡ ((not b && p ask) || list_any other asks)
+      go true e same = λ i. none-of (is_ask_of label priority new) is (p new) i || list_any other asks
+      go false e same = λ i. (not (e i) && p ask) || same i
+
+  rest-one : (ask : AskRow) (after rest : List AskRow) → list_any other after ≡ list_any other rest → (b : Bool) → is_ask_of label priority ask ≡ b
+      → list_any other (cond (not (is_ask_of label priority (lowered label priority b ask) && ((lowered label priority b ask).count == 0))) (lowered label priority b ask ∷ after) after) ≡ ((not b && p ask) || list_any other rest)
+  unfolding lowered
+  rest-one ask after rest same false e = ap (λ (v : Bool). list_any other (cond (not (v && (ask.count == 0))) (ask ∷ after) after)) e ∙ (λ i. (not (e i) && p ask) || same i)
+  rest-one ask after rest same true e = spent-or ((is_ask_of label priority ask) && ((ask.count - 1) == 0))
+    where
+      spent-or : (d : Bool) → list_any other (cond (not d) (record ask { count = ask.count - 1 } ∷ after) after) ≡ list_any other rest
+      spent-or true = same
+      spent-or false = λ i. none-of (is_ask_of label priority ask) e (p (record ask { count = ask.count - 1 })) i || same i
+
+  pub rest-taken : (asks : List AskRow) → list_any other (taken_asks label priority asks) ≡ list_any other asks
+  unfolding lowered
+  rest-taken [] = refl
+  rest-taken (ask ∷ asks) = rest-one ask (taken_asks label priority asks) asks (rest-taken asks) (is_ask_of label priority ask) refl
+
+-- setting an ask leaves those of other labels and priorities
+pub rest-changed : (ask : AskRow) (p : AskRow → Bool) (asks : List AskRow) → list_any (λ other. not (is_ask_of ask.label ask.priority other) && p other) (changed_asks ask asks) ≡ list_any (λ other. not (is_ask_of ask.label ask.priority other) && p other) asks
+rest-changed ask p asks = go (ask.count == 0)
+  where
+    self : is_ask_of ask.label ask.priority ask ≡ true
+    self = and_from (same_label ask.label ask.label) (ask.priority == ask.priority) (same-label_self ask.label) (grind (arith, nat_tests))
+
+    go : (b : Bool) → list_any (λ other. not (is_ask_of ask.label ask.priority other) && p other) (cond b (without (is_ask_of ask.label ask.priority) asks) (put (is_ask_of ask.label ask.priority) ask asks)) ≡ list_any (λ other. not (is_ask_of ask.label ask.priority other) && p other) asks
+    go true = rest-without ask.label ask.priority p asks
+    go false = rest-put ask.label ask.priority p ask asks self

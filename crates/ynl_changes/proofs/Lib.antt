@@ -10,3 +10,4 @@ pub mod Requests
 pub mod Requeued
 pub mod Apart
 pub mod Sharers
+pub mod Named

@@ -1,17 +1,22 @@
 -- Applications of a leaf that change one after another, and what is kept of what they wait for.
 use Rattle.std.proofs.Common.{◌≡◌, ℕ, zero, suc, ◌+◌, ◌<◌, ◌≤◌, ◌==◌, nat_lt, ◌&&◌, ◌||◌, not, Bool, true, false, cond, List, [], ◌∷◌, ◌++◌, length, get_or, take, drop, append-nil, add-one, refl, sym, ap, subst, ◌∙◌, arith}
-use Rattle.std.specs.List.{list_all, list_any, filter}
-use Rattle.std.proofs.Math.ListN.{set, drop_of_length-le}
+use Rattle.std.specs.List.{list_all, list_any, filter, remove}
+use Rattle.std.proofs.Math.ListN.{set, drop_of_length-le, get_or-append}
+use Rattle.std.proofs.Math.Seq.{get_or-append_seam}
 use Rattle.std.proofs.lemmas.List.{take_more, take_all}
 use Rattle.std.proofs.lemmas.List.Folds.{list_any-append}
 use Rattle.std.proofs.lemmas.Bool.{and_from, and_parts}
 use Rattle.std.proofs.lemmas.Bool.Decides.{nat_tests}
 use mathlib.Core.Bool.{true≢false}
 use Rattle.ynl_laws.proofs.Lists.{all-weaker, all-filter, any-other}
+use Rattle.ynl_laws.proofs.Names.{same-name_self}
+use Rattle.ynl_resource.specs.Names.{same_name}
+use Rattle.ynl_resource.specs.declared.names.Name.{Name}
 use Rattle.ynl_resource.specs.Tables.{without}
 use Rattle.ynl_model.specs.declared.applications.AskRow.{AskRow}
 use Rattle.ynl_tables.specs.declared.rows.App.{App}
-use Rattle.ynl_tables.specs.Queued.{are_apart, are_in_turn, are_below, master_class, master_turn, ask_class, ask_turn, is_ask_at, master_waits, ask_waits, masters_waiting, asks_waiting}
+use Rattle.ynl_tables.specs.Queued.{number_of, are_apart, are_in_turn, are_below, is_named, are_named, master_class, master_turn, ask_class, ask_turn, is_ask_at, master_waits, ask_waits, masters_waiting, asks_waiting}
+use Rattle.ynl_tables.proofs.Searching.{rise_filter}
 use Rattle.ynl_waiting.specs.Waiting.{Keeps, same_class, same_turn}
 use Rattle.ynl_waiting.specs.declared.classes.Class.{Class}
 use Rattle.ynl_waiting.specs.declared.classes.Turn.{Turn}
@@ -23,15 +28,16 @@ use Rattle.ynl_changes.proofs.Requests.{keeps-same}
 -- ---- nothing changed, and one change after another
 
 pub same-app : (app : App) (m a : Waiting) → Requeues app app m m a a
-same-app app m a = record { number = refl; apart = λ h. h; master = λ others o h. h; asked = λ others o h. h }
+same-app app m a = record { number = refl; name = refl; apart = λ h. h; master = λ others o h. h; asked = λ others o h. h }
 
 pub same-apps : (apps : List App) (m a : Waiting) → AreRequeued apps apps m m a a
-same-apps apps m a = record { in_turn = λ h. h; below = λ n h. h; apart = λ h. h; masters = λ t h. h; asks = λ t h. h }
+same-apps apps m a = record { in_turn = λ h. h; below = λ n h. h; named = λ names h. h; apart = λ h. h; masters = λ t h. h; asks = λ t h. h }
 
 pub then-requeued : (apps more most : List App) (m m' m'' a a' a'' : Waiting) → AreRequeued apps more m m' a a' → AreRequeued more most m' m'' a' a'' → AreRequeued apps most m m'' a a''
 then-requeued apps more most m m' m'' a a' a'' f g = record {
   in_turn = λ h. g.in_turn (f.in_turn h);
   below = λ n h. g.below n (f.below n h);
+  named = λ names h. g.named names (f.named names h);
   apart = λ h. g.apart (f.apart h);
   masters = λ t h. g.masters (f.in_turn t) (f.masters t h);
   asks = λ t h. g.asks (f.in_turn t) (f.asks t h);
@@ -62,11 +68,6 @@ ask-own c t app h = go app.asks.items (and_parts (not (app.master_clock == 0)) (
 
 -- ---- one of some applications, and the others
 
-pub without_at : List App → ℕ → List App
-without_at [] i = []
-without_at (x ∷ xs) zero = xs
-without_at (x ∷ xs) (suc i) = x ∷ without_at xs i
-
 or-turned : (a b : Bool) → (a || b) ≡ (b || a)
 or-turned true true = refl
 or-turned true false = refl
@@ -77,17 +78,15 @@ or-within : (a b d e : Bool) → b ≡ (d || e) → (a || b) ≡ ((a || d) || e)
 or-within true b d e h = refl
 or-within false b d e h = h
 
-any-split : (p : App → Bool) (apps : List App) (i : ℕ) (d : App) → i < length apps → list_any p apps ≡ (list_any p (without_at apps i) || p (get_or apps i d))
-unfolding without_at
+any-split : (p : App → Bool) (apps : List App) (i : ℕ) (d : App) → i < length apps → list_any p apps ≡ (list_any p (remove apps i) || p (get_or apps i d))
 any-split p [] i d h = absurd (omega arith)
 any-split p (x ∷ xs) zero d h = or-turned (p x) (list_any p xs)
-any-split p (x ∷ xs) (suc i) d h = or-within (p x) (list_any p xs) (list_any p (without_at xs i)) (p (get_or xs i d)) (any-split p xs i d (omega arith))
+any-split p (x ∷ xs) (suc i) d h = or-within (p x) (list_any p xs) (list_any p (remove xs i)) (p (get_or xs i d)) (any-split p xs i d (omega arith))
 
-any-set : (p : App → Bool) (apps : List App) (i : ℕ) (new : App) → i < length apps → list_any p (set apps i new) ≡ (list_any p (without_at apps i) || p new)
-unfolding without_at
+any-set : (p : App → Bool) (apps : List App) (i : ℕ) (new : App) → i < length apps → list_any p (set apps i new) ≡ (list_any p (remove apps i) || p new)
 any-set p [] i new h = absurd (omega arith)
 any-set p (x ∷ xs) zero new h = or-turned (p new) (list_any p xs)
-any-set p (x ∷ xs) (suc i) new h = or-within (p x) (list_any p (set xs i new)) (list_any p (without_at xs i)) (p new) (any-set p xs i new (omega arith))
+any-set p (x ∷ xs) (suc i) new h = or-within (p x) (list_any p (set xs i new)) (list_any p (remove xs i)) (p new) (any-set p xs i new (omega arith))
 
 -- a test of all, by one of them
 pub all-at : (p : App → Bool) (apps : List App) (i : ℕ) (d : App) → i < length apps → list_all p apps ≡ true → p (get_or apps i d) ≡ true
@@ -107,15 +106,14 @@ unfolding is_other
 below-other n x h = grind (arith, nat_tests, h)
 
 -- the numbers of the others are others
-pub others-differ : (apps : List App) (i : ℕ) (d : App) → i < length apps → are_in_turn apps ≡ true → list_all (is_other (get_or apps i d).number) (without_at apps i) ≡ true
-unfolding without_at
+pub others-differ : (apps : List App) (i : ℕ) (d : App) → i < length apps → are_in_turn apps ≡ true → list_all (is_other (get_or apps i d).number) (remove apps i) ≡ true
 others-differ [] i d h t = absurd (omega arith)
 others-differ (x ∷ xs) zero d h t =
     all-weaker (λ (other : App). nat_lt x.number other.number) (is_other x.number) (above-other x.number) xs (and_parts (list_all (λ other. nat_lt x.number other.number) xs) (are_in_turn xs) t).0
 others-differ (x ∷ xs) (suc i) d h t =
     let inside : i < length xs = omega arith in
     let parts = and_parts (list_all (λ other. nat_lt x.number other.number) xs) (are_in_turn xs) t in
-    and_from (is_other (get_or xs i d).number x) (list_all (is_other (get_or xs i d).number) (without_at xs i))
+    and_from (is_other (get_or xs i d).number x) (list_all (is_other (get_or xs i d).number) (remove xs i))
     (below-other (get_or xs i d).number x (all-at (λ other. nat_lt x.number other.number) xs i d inside parts.0)) (others-differ xs i d inside parts.1)
 
 module _ (waits : Class → Turn → App → Bool) (own : (c : Class) (t : Turn) (app : App) → waits c t app ≡ true → app.number ≡ t.number) where
@@ -135,10 +133,17 @@ module _ (waits : Class → Turn → App → Bool) (own : (c : Class) (t : Turn)
   set-waits : (apps : List App) (i : ℕ) (d new : App) (a b : Waiting) → i < length apps → are_in_turn apps ≡ true → Turns (get_or apps i d).number (λ c t. waits c t (get_or apps i d)) (λ c t. waits c t new) a b → Keeps (λ c t. list_any (waits c t) apps) a
       → Keeps (λ c t. list_any (waits c t) (set apps i new)) b
   set-waits apps i d new a b h t turns k =
-      let others : Class → Turn → Bool = λ c t. list_any (waits c t) (without_at apps i) in
+      let others : Class → Turn → Bool = λ c t. list_any (waits c t) (remove apps i) in
       keeps-same (with_own others (λ c t. waits c t new)) (λ c t. list_any (waits c t) (set apps i new)) b (λ c t. sym (any-set (waits c t) apps i new h))
-      (turns others (are-others (get_or apps i d).number (without_at apps i) (others-differ apps i d h t))
+      (turns others (are-others (get_or apps i d).number (remove apps i) (others-differ apps i d h t))
       (keeps-same (λ c t. list_any (waits c t) apps) (with_own others (λ c t. waits c t (get_or apps i d))) a (λ c t. any-split (waits c t) apps i d h) k))
+
+  -- one goes, and what it waits for is kept no more
+  pub less-waits : (apps : List App) (i : ℕ) (d : App) (a b : Waiting) → i < length apps → are_in_turn apps ≡ true → Leaves (get_or apps i d).number (λ c t. waits c t (get_or apps i d)) a b → Keeps (λ c t. list_any (waits c t) apps) a
+      → Keeps (λ c t. list_any (waits c t) (remove apps i)) b
+  less-waits apps i d a b h t leaves k =
+      leaves (λ c t. list_any (waits c t) (remove apps i)) (are-others (get_or apps i d).number (remove apps i) (others-differ apps i d h t))
+      (keeps-same (λ c t. list_any (waits c t) apps) (with_own (λ c t. list_any (waits c t) (remove apps i)) (λ c t. waits c t (get_or apps i d))) a (λ c t. any-split (waits c t) apps i d h) k)
 
 -- ---- numbers that stay
 
@@ -161,6 +166,7 @@ pub set-requeued : (apps : List App) (i : ℕ) (d new : App) (m m' a a' : Waitin
 set-requeued apps i d new m m' a a' h r = record {
   in_turn = λ k. turn-set apps i d new r.number h k;
   below = λ n k. all-set (λ app. nat_lt app.number n) apps i d new (λ f. subst (λ (x : ℕ). nat_lt x n ≡ true) (sym r.number) f) h k;
+  named = λ names k. all-set (is_named names) apps i d new (λ f. (λ j. same_name (r.name j) (get_or names (r.number j) (r.name j))) ∙ f) h k;
   apart = λ k. all-set is_apart apps i d new r.apart h k;
   masters = λ t k. set-waits master_waits master-own apps i d new m m' h t r.master k;
   asks = λ t k. set-waits ask_waits ask-own apps i d new a a' h t r.asked k;
@@ -179,13 +185,6 @@ all-last p (x ∷ xs) new h e = let parts = and_parts (p x) (list_all p xs) h in
 pub apart-last : (apps : List App) (new : App) → list_all is_apart apps ≡ true → new.asks.items ≡ [] → list_all is_apart (apps ++ new ∷ []) ≡ true
 apart-last apps new h e = all-last is_apart apps new h (ap are_apart e)
 
-pub turn-last : (apps : List App) (new : App) → are_in_turn apps ≡ true → are_below new.number apps ≡ true → are_in_turn (apps ++ new ∷ []) ≡ true
-turn-last [] new h k = refl
-turn-last (x ∷ xs) new h k =
-    let parts = and_parts (list_all (λ other. nat_lt x.number other.number) xs) (are_in_turn xs) h in
-    let below = and_parts (nat_lt x.number new.number) (are_below new.number xs) k in
-    and_from (list_all (λ other. nat_lt x.number other.number) (xs ++ new ∷ [])) (are_in_turn (xs ++ new ∷ [])) (all-last (λ other. nat_lt x.number other.number) xs new parts.0 below.0) (turn-last xs new parts.1 below.1)
-
 below-step : (n m k : ℕ) → m ≡ n + 1 → nat_lt k n ≡ true → nat_lt k m ≡ true
 below-step n m k e h = grind (arith, nat_tests, e, h)
 
@@ -196,6 +195,21 @@ pub below-last : (apps : List App) (new : App) (count more : ℕ) → new.number
 below-last apps new count more is e h =
     all-last (λ app. nat_lt app.number more) apps new (all-weaker (λ (app : App). nat_lt app.number count) (λ app. nat_lt app.number more) (λ app k. below-step count more app.number e k) apps h)
     (subst (λ (n : ℕ). nat_lt n more ≡ true) (sym is) (itself-below count more e))
+
+-- its name stands last among the names
+pub named-last : (names : List Name) (apps : List App) (new : App) → new.number ≡ length names → are_below (length names) apps ≡ true → are_named names apps ≡ true → are_named (names ++ new.name ∷ []) (apps ++ new ∷ []) ≡ true
+named-last names apps new e below h = all-last (is_named (names ++ new.name ∷ [])) apps new (others apps below h) own
+  where
+    others : (apps : List App) → are_below (length names) apps ≡ true → are_named names apps ≡ true → are_named (names ++ new.name ∷ []) apps ≡ true
+    others [] below h = refl
+    others (x ∷ xs) below h =
+        let parts = and_parts (is_named names x) (are_named names xs) h in
+        let under = and_parts (nat_lt x.number (length names)) (are_below (length names) xs) below in
+        let inside : x.number < length names = let test = under.0 in grind (arith, nat_tests, test) in
+        and_from (is_named (names ++ new.name ∷ []) x) (are_named (names ++ new.name ∷ []) xs) (ap (same_name x.name) (get_or-append names (new.name ∷ []) x.name x.number inside) ∙ parts.0) (others xs under.1 parts.1)
+
+    own : is_named (names ++ new.name ∷ []) new ≡ true
+    own = ap (λ n. same_name new.name (get_or (names ++ new.name ∷ []) n new.name)) e ∙ ap (same_name new.name) (get_or-append_seam names new.name [] new.name) ∙ same-name_self new.name
 
 pub masters-last : (apps : List App) (new : App) (a b : Waiting) → Comes (own_master new) a b → Keeps (masters_waiting apps) a → Keeps (masters_waiting (apps ++ new ∷ [])) b
 masters-last apps new a b comes h =
@@ -280,12 +294,14 @@ module _ (waits : Class → Turn → App → Bool) (own : (c : Class) (t : Turn)
   all-gone apps i a past k =
       subst (λ (xs : List App). Keeps (λ c t. list_any (waits c t) xs) a) ((λ j. without goes (take_all i apps past j) ++ drop_of_length-le apps past j) ∙ append-nil (without goes apps)) k
 
-pub turn-filter : (p : App → Bool) (apps : List App) → are_in_turn apps ≡ true → are_in_turn (filter p apps) ≡ true
-turn-filter p [] h = refl
-turn-filter p (x ∷ xs) h =
-    let parts = and_parts (list_all (λ other. nat_lt x.number other.number) xs) (are_in_turn xs) h in
-    go (p x) (all-filter (λ (other : App). nat_lt x.number other.number) p xs parts.0) (turn-filter p xs parts.1)
-  where
-    go : (b : Bool) → list_all (λ other. nat_lt x.number other.number) (filter p xs) ≡ true → are_in_turn (filter p xs) ≡ true → are_in_turn (cond b (x ∷ filter p xs) (filter p xs)) ≡ true
-    go true here rest = and_from (list_all (λ other. nat_lt x.number other.number) (filter p xs)) (are_in_turn (filter p xs)) here rest
-    go false here rest = rest
+-- some go, and what they wait for is kept no more
+pub gone-requeued : (goes : App → Bool) (apps news : List App) (m m' a a' : Waiting) → news ≡ without goes apps → (are_in_turn apps ≡ true → Keeps (masters_waiting apps) m → Keeps (masters_waiting news) m') → (are_in_turn apps ≡ true → Keeps (asks_waiting apps) a → Keeps (asks_waiting news) a')
+    → AreRequeued apps news m m' a a'
+gone-requeued goes apps news m m' a a' e masters asks = record {
+  in_turn = λ h. subst (λ (xs : List App). are_in_turn xs ≡ true) (sym e) (rise_filter number_of (λ app. not (goes app)) apps h);
+  below = λ n h. subst (λ (xs : List App). are_below n xs ≡ true) (sym e) (all-filter (λ (app : App). nat_lt app.number n) (λ app. not (goes app)) apps h);
+  named = λ names h. subst (λ (xs : List App). are_named names xs ≡ true) (sym e) (all-filter (is_named names) (λ app. not (goes app)) apps h);
+  apart = λ h. subst (λ (xs : List App). list_all is_apart xs ≡ true) (sym e) (all-filter is_apart (λ app. not (goes app)) apps h);
+  masters = masters;
+  asks = asks;
+}

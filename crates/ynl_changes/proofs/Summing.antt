@@ -1,11 +1,15 @@
 -- What is kept of the use of queues, where containers come and go and leaves change.
-use Rattle.std.proofs.Common.{◌≡◌, ℕ, ◌+◌, ◌<◌, ◌≤◌, ◌^◌, Bool, true, false, not, cond, ◌||◌, List, [], ◌∷◌, ◌++◌, map, length, take, drop, get_or, filter, find, is_some, option_map, Some, refl, sym, ap, subst, ◌∙◌, arith, append-nil, append_assoc}
-use Rattle.std.specs.List.{AllByRecursion, list_any}
+use Rattle.std.proofs.Common.{◌≡◌, ℕ, zero, suc, ◌+◌, ◌<◌, ◌≤◌, ◌^◌, Bool, true, false, not, cond, ◌||◌, List, [], ◌∷◌, ◌++◌, map, length, take, drop, get_or, filter, find, is_some, option_map, Option, Some, refl, sym, ap, subst, ◌∙◌, arith, append-nil, append_assoc}
+use Rattle.std.specs.Prelude.{nat_le, nat_lt}
+use Rattle.std.specs.List.{AllByRecursion, list_all, list_any}
+use Rattle.std.proofs.lemmas.Bool.{and_from}
+use Rattle.std.proofs.lemmas.Bool.Decides.{nat_tests}
 use Rattle.std.specs.Option.{option_map_or}
 use Rattle.std.proofs.lemmas.List.{take_more, take_all, drop_more, drop_all, length-map}
 use Rattle.std.proofs.lemmas.List.Elements.{filter-append}
 use Rattle.ynl_resource.specs.declared.amounts.Resource.{Resource}
-use Rattle.ynl_resource.specs.Names.{root, same_path, tenant_of}
+use Rattle.ynl_resource.specs.Names.{root, same_label, same_path, tenant_of}
+use Rattle.ynl_resource.specs.declared.labels.Label.{Label}
 use Rattle.ynl_resource.specs.declared.names.Name.{Name}
 use Rattle.ynl_resource.specs.declared.paths.Path.{Path}
 use Rattle.ynl_resource.specs.Tables.{without}
@@ -13,8 +17,9 @@ use Rattle.ynl_model.specs.declared.containers.Placed.{Placed}
 use Rattle.ynl_model.specs.declared.uses.Use.{Use}
 use Rattle.ynl_model.specs.Queues.{Config, QueueRow, is_leaf}
 use Rattle.ynl_model.specs.Applications.{Application, LeafApps, leaf_of, in_leaf, submitted, with_app, finished, no_apps}
-use Rattle.ynl_model.specs.Cluster.{Partition, is_partition, sizes, is_master, is_of}
-use Rattle.ynl_laws.specs.Working.{IsWorking, UsesAll, EachUses}
+use Rattle.ynl_model.specs.Nodes.{clock_limit}
+use Rattle.ynl_model.specs.Cluster.{Partition, clock, is_partition, is_spent, next_clock, sizes, is_master, is_of}
+use Rattle.ynl_laws.specs.Working.{IsWorking, UsesAll, EachUses, clock_in}
 use Rattle.ynl_laws.specs.Tabled.{Tabled}
 use Rattle.ynl_laws.specs.Finishing.{without_own}
 use Rattle.ynl_laws.specs.Owners.{owner}
@@ -22,6 +27,7 @@ use Rattle.ynl_laws.specs.Uses.{counts, counts_as_guest, use_by, raised_in, lowe
 use Rattle.ynl_laws.proofs.Amounts.{fits-filter, fits-trans}
 use Rattle.ynl_laws.proofs.Events.Kept.{KeepsNames, Extends, leaf_of-kept, with_app-names, finished-names, submit-extends}
 use Rattle.ynl_laws.proofs.Lists.{Each-all, Each-filter, Each-map, Each-unmap, Each-weaker, Each-with, any-later, filter-passes, map-update}
+use Rattle.ynl_laws.proofs.Names.{same-label_path}
 use Rattle.ynl_laws.proofs.Totals.Owners.{owner-changed, find-finished, find-submitted}
 use Rattle.ynl_laws.proofs.Totals.Used.{use-with, use-without, use-same, use-extends}
 use Rattle.ynl_tables.specs.declared.rows.PartitionRow.{PartitionRow}
@@ -29,6 +35,7 @@ use Rattle.ynl_tables.specs.declared.tables.Tables.{Tables}
 use Rattle.ynl_tables.specs.Bounds.{IsReadable, IsTotal}
 use Rattle.ynl_tables.specs.Kept.{IsSummed, AreKept, IsKept}
 use Rattle.ynl_tables.specs.Numbers.{AreNumbered}
+use Rattle.ynl_tables.specs.Rising.{clock_of}
 use Rattle.ynl_tables.specs.Tables.{partition_of, partitions_of, state_of}
 use Rattle.ynl_tables.proofs.Adding.{small_part}
 use Rattle.ynl_tables.proofs.Numbering.{path_self}
@@ -79,6 +86,39 @@ rows_small c t w =
     (λ row found. subst (λ o. IsTotal (sizes (option_map_or (λ (row : Partition). row.containers) o []))) found ((bounded c (state_of t) w).sizes row.label))
     (partitions_of t.partitions.items) w.ordered.found)
 
+each-below : (ks : List Placed) (p : Label) (shown next : ℕ) → AllByRecursion (λ k. (k.id.label ≡ p) × (k.id.clock ≤ shown)) ks → shown < next → list_all (λ k. nat_lt (clock_of k) next) ks ≡ true
+each-below [] p shown next h less = refl
+each-below (k ∷ ks) p shown next h less = and_from (nat_lt (clock_of k) next) (list_all (λ k. nat_lt (clock_of k) next) ks) (under k.id.clock shown next h.0.1 less) (each-below ks p shown next h.1 less)
+  where
+    under : (a b n : ℕ) → a ≤ b → b < n → nat_lt a n ≡ true
+    under a b n at less = grind (arith, nat_tests, at, less)
+
+risen-above : (limit shown next : ℕ) → nat_le limit shown ≡ false → next ≡ cond (nat_lt shown limit) (shown + 1) shown → shown < next
+risen-above limit shown next fresh is = go (nat_lt shown limit) refl is
+  where
+    go : (b : Bool) → nat_lt shown limit ≡ b → next ≡ cond b (shown + 1) shown → shown < next
+    go true e is = omega (arith, is)
+    go false e is = absurd (grind (arith, nat_tests, fresh, e))
+
+-- and where the clock of a partition is not spent its next is above those of its containers
+pub rows_below : (c : Config) (t : Tables) (label : Label) (next : ℕ) → IsWorking c (state_of t) → is_spent c.labels (state_of t) label ≡ false → next ≡ next_clock c.labels (state_of t) label
+    → AllByRecursion (λ row. same_label row.label label ≡ true → list_all (λ k. nat_lt (clock_of k) next) row.containers.items ≡ true) t.partitions.items
+unfolding next_clock is_spent clock
+rows_below c t label next w fresh is =
+    Each-unmap partition_of (λ row. same_label row.label label ≡ true → list_all (λ k. nat_lt (clock_of k) next) row.containers ≡ true) t.partitions.items
+    (Each-weaker (λ row. find (is_partition row.label) rows ≡ Some row) (λ row. same_label row.label label ≡ true → list_all (λ k. nat_lt (clock_of k) next) row.containers ≡ true)
+    (λ row found same.
+    let here = subst (λ (p : Label). find (is_partition p) rows ≡ Some row) (same-label_path row.label label same) found in
+    let own = subst (λ (o : Option Partition). AllByRecursion (λ k. (k.id.label ≡ label) × (k.id.clock ≤ shown)) (option_map_or (λ row. row.containers) o [])) here (w.ordered.ids label).own in
+    each-below row.containers label shown next own (risen-above (clock_limit c.labels label) shown next fresh is))
+    rows w.ordered.found)
+  where
+    rows : List Partition
+    rows = partitions_of t.partitions.items
+
+    shown : ℕ
+    shown = clock_in rows label
+
 -- what is read of tables in a state that works
 pub readable : (c : Config) (t : Tables) → IsWorking c (state_of t) → Tabled (state_of t) → IsKept t → IsReadable t
 readable c t w tabled h = record { bounded = bounded c (state_of t) w; tabled = tabled; kept = h }
@@ -127,6 +167,12 @@ left_one {X} Was Is goes xs i x inside e leaves was =
 
 pub all_gone : {X : Type 0} (goes : X → Bool) (xs : List X) (i : ℕ) → length xs ≤ i → so_far goes xs i ≡ without goes xs
 all_gone goes xs i past = ap (λ ys. without goes (take i xs) ++ ys) (drop_all i xs past) ∙ append-nil (without goes (take i xs)) ∙ ap (without goes) (take_all i xs past)
+
+-- a thing at a place stands between those before and those after it
+pub split_at : {X : Type 0} (xs : List X) (i : ℕ) (x : X) → i < length xs → x ≡ get_or xs i x → xs ≡ take i xs ++ x ∷ drop (suc i) xs
+split_at [] i x h e = absurd (omega arith)
+split_at (y ∷ ys) zero x h e = ap (λ z. z ∷ ys) (sym e)
+split_at (y ∷ ys) (suc i) x h e = ap (λ zs. y ∷ zs) (split_at ys i x (omega arith) e)
 
 -- ---- leaves that change
 

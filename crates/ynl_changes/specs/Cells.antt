@@ -1,6 +1,6 @@
 -- What is kept of use, with a container more or less. The queues that are named here are those below root.
 use Rattle.std.specs.Prelude.{◌≡◌, ◌<◌, ◌^◌, Bool, true, false, List, ◌∷◌, ◌++◌, map, if◌then◌else◌}
-use Rattle.ynl_resource.specs.Names.{root, same_id, same_name}
+use Rattle.ynl_resource.specs.Names.{root, same_name}
 use Rattle.ynl_resource.specs.declared.paths.Path.{Path}
 use Rattle.ynl_model.specs.declared.containers.Placed.{Placed}
 use Rattle.ynl_model.specs.declared.uses.Use.{Use}
@@ -9,7 +9,7 @@ use Rattle.ynl_model.specs.Cluster.{is_of}
 use Rattle.ynl_laws.specs.Uses.{raised_in, lowered_in}
 use Rattle.ynl_tables.specs.Bounds.{IsTotal}
 use Rattle.ynl_changes.specs.declared.ending.Going.{Going}
-use Rattle.ynl_changes.specs.declared.ending.Going.TheVariants.{OfId, OnNode, OfApp}
+use Rattle.ynl_changes.specs.declared.ending.Going.TheVariants.{OnNode, OfApp}
 
 -- small enough for one more container
 pub record IsSmallUse (u : Use) : Type 0 where
@@ -29,7 +29,6 @@ LowersAll queues leaves goes container old new =
 
 -- whether a container is one of those that go
 abbrev pub goes : Going → Placed → Bool
-goes (OfId id) container = same_id container.id id.now
 goes (OnNode name) container = same_name container.node name.now
 goes (OfApp tenant app) container = is_of tenant.now app.now container
 

@@ -3,19 +3,21 @@
 ghost use Rattle.std.specs.Prelude.{◌≡◌, ◌≤◌, ◌<◌, ◌+◌, map, vec_len, vec_capacity, OnOk, IsOk};
 ghost use Rattle.std.specs.List.{AllByRecursion, position_or_len};
 ghost use Rattle.ynl_resource.specs.declared.paths.Path.{Path};
+ghost use Rattle.ynl_resource.specs.Names.{same_name};
 ghost use Rattle.ynl_resource.specs.Tables.{without, put};
 ghost use Rattle.ynl_model.specs.Applications.{in_leaf, with_app, is_ask_of, set_ask};
+ghost use Rattle.ynl_tables.specs.Known.{IsSpot};
 ghost use Rattle.ynl_tables.specs.Tables.{app_of, leaf_of_row, leaves_of};
 ghost use Rattle.ynl_changes.specs.Marking.{KeepsMark, KeepsMarksAmong, KeepsMarksIn, KeepsMarks};
 ghost use Rattle.ynl_changes.specs.Asking.{asked_at, asked_in, changed_asks, HasAskCapacity, HasAskCapacityIn};
 ghost use Rattle.ynl_changes.specs.Queueing.{Requeues, AreRequeued};
 ghost use Rattle.ynl_waiting.specs.declared.waiting.Waiting.{Waiting};
 
-use crate::queueing::{enqueue_asks, withdraw_asks};
+use crate::queueing::{Which, enqueue_asks, withdraw_asks};
 use std::alloc::AllocError;
 use ynl_model::AskRow;
 use ynl_resource::{Label, Name, Path};
-use ynl_tables::{App, LeafRow, is_ask_of};
+use ynl_tables::{App, LeafRow, Spot, is_ask_of, spot_of};
 use ynl_waiting::Waiting;
 
 fn index_of_ask(asks: &[AskRow], label: &Label, priority: u32) -> usize
@@ -77,9 +79,9 @@ fn set_ask(app: &mut App, asks: &mut Waiting, ask: &AskRow)
     ensures meaning { (leaf : Path) → app_of leaf app.new ≡ set_ask ask.now (app_of leaf app.old) }
     ensures queued { (masters : Waiting) → Requeues app.old app.new masters masters asks.old asks.new }
 {
-    withdraw_asks(app, asks);
+    withdraw_asks(app, Which::Of(&ask.label, ask.priority), asks);
     change_asks(&mut app.asks, ask);
-    enqueue_asks(app, asks);
+    enqueue_asks(app, Which::Of(&ask.label, ask.priority), asks);
 }
 
 fn ask_at(app: &mut App, asks: &mut Waiting, name: &Name, ask: &AskRow)
@@ -93,7 +95,8 @@ fn ask_at(app: &mut App, asks: &mut Waiting, name: &Name, ask: &AskRow)
     }
 }
 
-fn ask_among(apps: &mut Vec<App>, asks: &mut Waiting, name: &Name, ask: &AskRow)
+/// All applications of the name ask.
+fn ask_each(apps: &mut Vec<App>, asks: &mut Waiting, name: &Name, ask: &AskRow)
     requires { AllByRecursion (HasAskCapacity name.now ask.now.count) apps.old.items }
     ensures marks { KeepsMarksAmong apps.old.items apps.new.items }
     ensures meaning { (leaf : Path) → map (app_of leaf) apps.new.items ≡ map (asked_at name.now ask.now) (map (app_of leaf) apps.old.items) }
@@ -104,13 +107,29 @@ fn ask_among(apps: &mut Vec<App>, asks: &mut Waiting, name: &Name, ask: &AskRow)
     }
 }
 
+/// The application of the name asks. Where it is not known which one that is, all are gone through.
+fn ask_among(apps: &mut Vec<App>, asks: &mut Waiting, spot: Spot, name: &Name, ask: &AskRow)
+    requires spot { IsSpot (λ app. same_name app.name name.now) apps.old.items spot }
+    requires capacity { AllByRecursion (HasAskCapacity name.now ask.now.count) apps.old.items }
+    ensures marks { KeepsMarksAmong apps.old.items apps.new.items }
+    ensures meaning { (leaf : Path) → map (app_of leaf) apps.new.items ≡ map (asked_at name.now ask.now) (map (app_of leaf) apps.old.items) }
+    ensures queued { (masters : Waiting) → AreRequeued apps.old.items apps.new.items masters masters asks.old asks.new }
+{
+    match spot {
+        Spot::At(place) => ask_at(&mut apps[place], asks, name, ask),
+        Spot::Nowhere => {}
+        Spot::Unknown => ask_each(apps, asks, name, ask),
+    }
+}
+
 fn ask_in(row: &mut LeafRow, leaf: &Path, name: &Name, ask: &AskRow)
     requires { HasAskCapacityIn leaf.now name.now ask.now.count row.old }
     ensures marks { KeepsMarksIn row.old row.new }
     ensures meaning { leaf_of_row row.new ≡ asked_in leaf.now name.now ask.now (leaf_of_row row.old) }
 {
     if row.path == *leaf {
-        ask_among(&mut row.apps, &mut row.asks, name, ask);
+        let spot = spot_of(row, name);
+        ask_among(&mut row.apps, &mut row.asks, spot, name, ask);
     }
 }
 
@@ -138,7 +157,8 @@ fn reserve_at(app: &mut App, name: &Name, count: u32) -> Result<(), AllocError>
     Ok(())
 }
 
-fn reserve_among(apps: &mut Vec<App>, name: &Name, count: u32) -> Result<(), AllocError>
+/// All applications of the name get capacity.
+fn reserve_each(apps: &mut Vec<App>, name: &Name, count: u32) -> Result<(), AllocError>
     ensures meaning { (leaf : Path) → map (app_of leaf) apps.new.items ≡ map (app_of leaf) apps.old.items }
     ensures queued { (masters asks : Waiting) → AreRequeued apps.old.items apps.new.items masters masters asks asks }
     ensures marks { KeepsMarksAmong apps.old.items apps.new.items }
@@ -151,6 +171,22 @@ fn reserve_among(apps: &mut Vec<App>, name: &Name, count: u32) -> Result<(), All
     Ok(())
 }
 
+/// The application of the name gets capacity. Where it is not known which one that is, all are gone through.
+fn reserve_among(apps: &mut Vec<App>, spot: Spot, name: &Name, count: u32) -> Result<(), AllocError>
+    requires { IsSpot (λ app. same_name app.name name.now) apps.old.items spot }
+    ensures meaning { (leaf : Path) → map (app_of leaf) apps.new.items ≡ map (app_of leaf) apps.old.items }
+    ensures queued { (masters asks : Waiting) → AreRequeued apps.old.items apps.new.items masters masters asks asks }
+    ensures marks { KeepsMarksAmong apps.old.items apps.new.items }
+    ensures capacity { OnOk result (AllByRecursion (HasAskCapacity name.now count) apps.new.items) }
+    ensures sure { count ≡ 0 → IsOk result }
+{
+    match spot {
+        Spot::At(place) => reserve_at(&mut apps[place], name, count),
+        Spot::Nowhere => Ok(()),
+        Spot::Unknown => reserve_each(apps, name, count),
+    }
+}
+
 fn reserve_in(row: &mut LeafRow, leaf: &Path, name: &Name, count: u32) -> Result<(), AllocError>
     ensures meaning { leaf_of_row row.new ≡ leaf_of_row row.old }
     ensures marks { KeepsMarksIn row.old row.new }
@@ -158,7 +194,8 @@ fn reserve_in(row: &mut LeafRow, leaf: &Path, name: &Name, count: u32) -> Result
     ensures sure { count ≡ 0 → IsOk result }
 {
     if row.path == *leaf {
-        reserve_among(&mut row.apps, name, count)?;
+        let spot = spot_of(row, name);
+        reserve_among(&mut row.apps, spot, name, count)?;
     }
     Ok(())
 }

@@ -1,6 +1,7 @@
 //! Containers that end.
 
-ghost use Rattle.std.specs.Prelude.{◌≡◌, [], ◌∷◌, filter, length, map};
+ghost use Rattle.std.specs.Prelude.{◌≡◌, ◌<◌, [], ◌∷◌, filter, length, map};
+ghost use Rattle.std.specs.List.{remove};
 ghost use Rattle.ynl_resource.specs.Names.{root, same_id};
 ghost use Rattle.ynl_resource.specs.Tables.{without};
 ghost use Rattle.ynl_model.specs.Cluster.{containers_on, in_partition};
@@ -21,13 +22,12 @@ use ynl_queues::Config;
 use ynl_resource::{Id, Label, Name};
 use ynl_tables::{
     LeafRow, PartitionRow, QueueNumbers, Sums, Tables, is_own, is_same, is_same_id, next_clock,
+    place_at,
 };
 
 /// Which containers go.
 #[derive(Clone, Copy)]
 pub enum Going<'a> {
-    /// The one of an id.
-    OfId(&'a Id),
     /// Those on a node.
     OnNode(&'a Name),
     /// Those of an application; its tenant is given by the bytes of its name.
@@ -38,7 +38,6 @@ fn goes(going: Going<'_>, container: &Placed) -> bool
     ensures { result ≡ goes going.entry container.now }
 {
     match going {
-        Going::OfId(id) => is_same_id(&container.id, id),
         Going::OnNode(name) => container.node == *name,
         Going::OfApp(tenant, app) => is_own(container, tenant, app),
     }
@@ -129,6 +128,13 @@ fn lower_users_by(
     }
 }
 
+/// Those of some containers go that are to go.
+fn drop_from(containers: &mut Vec<Placed>, going: Going<'_>)
+    ensures { containers.new.items ≡ without (goes going.entry) containers.old.items }
+{
+    containers.retain(|container| !goes(going, container));
+}
+
 /// Containers go from a row, and its queues, their users and its nodes use less by them.
 pub fn drop_going(
     row: &mut PartitionRow,
@@ -144,7 +150,37 @@ pub fn drop_going(
     lower_by(&mut row.uses, numbers, leaves, &row.containers, going);
     lower_users_by(&mut row.users, numbers, leaves, &row.containers, going);
     free_by(&mut row.filled, &row.containers, going);
-    row.containers.retain(|container| !goes(going, container));
+    drop_from(&mut row.containers, going);
+}
+
+/// The container at a place goes from a row, and its queues, its user and its node use less by it.
+fn drop_at(row: &mut PartitionRow, numbers: &QueueNumbers, leaves: &[LeafRow], place: usize)
+    requires place { place < length row.old.containers.items }
+    requires numbered { AreNumbered numbers.now (leaves_of leaves.now) }
+    requires summed { IsSummed numbers.now (leaves_of leaves.now) row.old }
+    ensures meaning { partition_of row.new ≡ record (partition_of row.old) { containers = remove row.old.containers.items place } }
+    ensures summed { IsSummed numbers.now (leaves_of leaves.now) row.new }
+{
+    let container = row.containers[place];
+    lower(&mut row.uses, numbers, leaves, &container);
+    change_users(&mut row.users, numbers, leaves, Change::Less, &container);
+    row.filled.lower(&container.node, &container.size);
+    let _container = row.containers.remove(place);
+}
+
+/// The container of an id goes from a row.
+fn drop_of_id(row: &mut PartitionRow, numbers: &QueueNumbers, leaves: &[LeafRow], id: &Id)
+    requires numbered { AreNumbered numbers.now (leaves_of leaves.now) }
+    requires summed { IsSummed numbers.now (leaves_of leaves.now) row.old }
+    ensures meaning { partition_of row.new ≡ record (partition_of row.old) { containers = without (λ other. same_id other.id id.now) row.old.containers.items } }
+    ensures summed { IsSummed numbers.now (leaves_of leaves.now) row.new }
+{
+    let Some(place) = place_at(&row.containers, id.clock) else {
+        return;
+    };
+    if is_same_id(&row.containers[place].id, id) {
+        drop_at(row, numbers, leaves, place);
+    }
 }
 
 /// The container of an id goes from a row whose clock is set, if it is that of the partition.
@@ -163,7 +199,7 @@ fn end_in(
 {
     if is_same(&row.label, label) {
         row.clock = clock;
-        drop_going(row, numbers, leaves, Going::OfId(id));
+        drop_of_id(row, numbers, leaves, id);
     }
 }
 
@@ -192,6 +228,7 @@ pub fn end(config: &Config, tables: &mut Tables, container: &Placed)
     requires kept { IsKept tables.old }
     ensures state { state_of tables.new ≡ end config.now (state_of tables.old) container.now }
     ensures kept { IsKept tables.new }
+    ensures numbers { tables.new.numbers ≡ tables.old.numbers }
 {
     let label = container.id.label;
     let clock = next_clock(config, tables, &label);

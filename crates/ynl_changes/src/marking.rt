@@ -5,14 +5,15 @@ ghost use Rattle.ynl_resource.specs.Names.{same_label, same_name};
 ghost use Rattle.ynl_resource.specs.declared.paths.Path.{Path};
 ghost use Rattle.ynl_model.specs.Cluster.{is_master};
 ghost use Rattle.ynl_laws.specs.Marks.{is_master_of};
+ghost use Rattle.ynl_tables.specs.Known.{IsSpot};
 ghost use Rattle.ynl_tables.specs.Tables.{app_of, leaf_of_row, leaves_of};
 ghost use Rattle.ynl_changes.specs.Marking.{noted, noted_row, noted_rows, remarked, unmarked};
 ghost use Rattle.ynl_changes.specs.Queueing.{Requeues, AreRequeued};
 
-use crate::queueing::{enqueue_asks, enqueue_master, withdraw_asks, withdraw_master};
+use crate::queueing::{Which, enqueue_asks, enqueue_master, withdraw_asks, withdraw_master};
 use ynl_model::Placed;
 use ynl_resource::{Label, Name, Path};
-use ynl_tables::{App, LeafRow, is_master, is_own, is_same, tenant_bytes};
+use ynl_tables::{App, LeafRow, Spot, is_master, is_own, is_same, spot_of, tenant_bytes};
 use ynl_waiting::Waiting;
 
 fn is_master_of(container: &Placed, leaf: &Path, app: &App) -> bool
@@ -36,10 +37,10 @@ fn set_mark(app: &mut App, masters: &mut Waiting, asks: &mut Waiting, clock: u64
     ensures queued { Requeues app.old app.new masters.old masters.new asks.old asks.new }
 {
     withdraw_master(app, masters);
-    withdraw_asks(app, asks);
+    withdraw_asks(app, Which::All, asks);
     app.master_clock = clock;
     enqueue_master(app, masters);
-    enqueue_asks(app, asks);
+    enqueue_asks(app, Which::All, asks);
 }
 
 /// An application gets a mark, if the container on the partition is its master at its home.
@@ -61,7 +62,8 @@ fn mark_at(
     }
 }
 
-fn mark_among(
+/// Each application whose master the container on the partition is, at its home, gets a mark.
+fn mark_each(
     apps: &mut Vec<App>,
     masters: &mut Waiting,
     asks: &mut Waiting,
@@ -79,6 +81,33 @@ fn mark_among(
     }
 }
 
+/// The application of the container's name gets a mark, if the container on the partition is its master at its
+/// home. Where it is not known which one has the name, all are gone through.
+fn mark_among(
+    apps: &mut Vec<App>,
+    masters: &mut Waiting,
+    asks: &mut Waiting,
+    spot: Spot,
+    leaf: &Path,
+    label: &Label,
+    container: &Placed,
+    clock: u64,
+)
+    requires { IsSpot (λ app. same_name app.name container.now.app) apps.old.items spot }
+    ensures meaning { (path : Path) → map (app_of path) apps.new.items ≡ map (app_of path) apps.old.items }
+    ensures marks { map (noted leaf.now) apps.new.items ≡ map (remarked label.now container.now clock) (map (noted leaf.now) apps.old.items) }
+    ensures queued { AreRequeued apps.old.items apps.new.items masters.old masters.new asks.old asks.new }
+{
+    match spot {
+        Spot::At(place) => {
+            let app = &mut apps[place];
+            mark_at(app, masters, asks, leaf, label, container, clock);
+        }
+        Spot::Nowhere => {}
+        Spot::Unknown => mark_each(apps, masters, asks, leaf, label, container, clock),
+    }
+}
+
 /// Whether a container can be the master of an application of a leaf.
 fn is_master_for(container: &Placed, row: &LeafRow) -> bool
     ensures { result ≡ (is_master container.now && same_name container.now.tenant row.now.tenant) }
@@ -92,10 +121,12 @@ fn mark_in(row: &mut LeafRow, label: &Label, container: &Placed, clock: u64)
     ensures marks { noted_row row.new ≡ map (remarked label.now container.now clock) (noted_row row.old) }
 {
     if is_master_for(container, row) {
+        let spot = spot_of(row, &container.app);
         mark_among(
             &mut row.apps,
             &mut row.masters,
             &mut row.asks,
+            spot,
             &row.path,
             label,
             container,

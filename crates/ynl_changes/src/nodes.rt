@@ -33,6 +33,7 @@ pub fn join(
     ensures ok { OnOk result (state_of tables.new ≡ node_joins config.now name.now label.now size.now (state_of tables.old)) }
     ensures err { OnErr result (state_of tables.new ≡ state_of tables.old) }
     ensures kept { IsKept tables.old → IsKept tables.new }
+    ensures numbers { tables.new.numbers ≡ tables.old.numbers }
 {
     let stamp = next_clock(config, tables, label);
     tables.nodes.join(Node {
@@ -86,6 +87,7 @@ pub fn leave(tables: &mut Tables, node: &Node)
     requires { IsKept tables.old }
     ensures state { state_of tables.new ≡ node_leaves node.now (state_of tables.old) }
     ensures kept { IsKept tables.new }
+    ensures numbers { tables.new.numbers ≡ tables.old.numbers }
 {
     unmark(
         &mut tables.leaves,
@@ -118,6 +120,7 @@ pub fn relabel(
     ensures ok { OnOk result (state_of tables.new ≡ node_joins config.now name.now label.now node.now.size (node_leaves node.now (state_of tables.old))) }
     ensures err { OnErr result (state_of tables.new ≡ state_of tables.old) }
     ensures kept { IsKept tables.new }
+    ensures numbers { tables.new.numbers ≡ tables.old.numbers }
 {
     let clock = next_clock(config, tables, label);
     tables.nodes.rejoin(node, label, clock)?;

@@ -1,11 +1,13 @@
 //! The tables of a cluster at first.
 
 ghost use Rattle.std.specs.Prelude.{◌≡◌, List, [], ◌∷◌, ◌++◌, map, IfOk, OnOk};
-ghost use Rattle.ynl_resource.specs.Names.{root};
+ghost use Rattle.std.specs.List.{position};
+ghost use Rattle.ynl_resource.specs.Names.{root, same_path};
 ghost use Rattle.ynl_model.specs.Applications.{LeafApps, no_apps};
 ghost use Rattle.ynl_model.specs.Cluster.{opening, no_containers};
 ghost use Rattle.ynl_laws.specs.Uses.{use_by};
 ghost use Rattle.ynl_tables.specs.Kept.{AreByUser, AreSummed, IsKept};
+ghost use Rattle.ynl_tables.specs.Numbers.{AreQueuesOf};
 ghost use Rattle.ynl_tables.specs.Tables.{state_of, leaves_of, partitions_of};
 ghost use Rattle.ynl_changes.specs.Sharing.{AreCountedParts};
 
@@ -14,8 +16,8 @@ use ynl_controls::{Maxima, Stops};
 use ynl_labels::Labels;
 use ynl_model::Use;
 use ynl_nodes::Nodes;
-use ynl_queues::Config;
-use ynl_resource::{Label, Resource};
+use ynl_queues::{Config, QueueRow};
+use ynl_resource::{Label, Path, Resource};
 use ynl_tables::{Known, LeafPart, LeafRow, PartitionRow, QueueNumbers, Sums, Tables, UserCounts};
 use ynl_waiting::Waiting;
 
@@ -120,6 +122,13 @@ fn no_sharers(alloc: Global, labels: &Labels) -> Result<Vec<LeafPart>, AllocErro
     Ok(parts)
 }
 
+/// The place of a queue in the configuration.
+fn place_of(rows: &[QueueRow], queue: &Path) -> Option<usize>
+    ensures { result ≡ position (λ row. same_path row.path queue.now) rows.now }
+{
+    rows.iter().position(|row| row.path == *queue)
+}
+
 /// A row for each leaf, where nothing was submitted yet.
 fn leaves(alloc: Global, config: &Config) -> Result<Vec<LeafRow>, AllocError>
     ensures { IfOk result (λ rows. leaves_of rows.items ≡ no_apps config.now) }
@@ -129,6 +138,7 @@ fn leaves(alloc: Global, config: &Config) -> Result<Vec<LeafRow>, AllocError>
         if config.is_leaf(queue.path.names()) {
             rows.push(LeafRow {
                 path: queue.path,
+                place: place_of(config.queues(), &queue.path).unwrap_or(0),
                 tenant: queue.tenant(),
                 names: Vec::new(alloc),
                 known: Known::new(alloc),
@@ -147,6 +157,7 @@ fn leaves(alloc: Global, config: &Config) -> Result<Vec<LeafRow>, AllocError>
 pub fn opening_tables(alloc: Global, config: &Config) -> Result<Tables, AllocError>
     ensures state { IfOk result (λ tables. state_of tables ≡ opening config.now) }
     ensures kept { IfOk result (λ tables. IsKept tables) }
+    ensures numbered { IfOk result (λ tables. AreQueuesOf config.now tables.numbers) }
 {
     let numbers = QueueNumbers::new(alloc, config)?;
     Ok(Tables {

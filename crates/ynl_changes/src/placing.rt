@@ -1,18 +1,20 @@
 //! Placing a request on a node.
 
-ghost use Rattle.std.specs.Prelude.{◌≡◌, ◌≤◌, ◌+◌, ◌-◌, ◌++◌, ◌∷◌, [], ℕ, true, ◌==◌, ◌&&◌, not, map, vec_len, vec_capacity, if◌then◌else◌, OnOk};
-ghost use Rattle.ynl_resource.specs.Names.{same_label};
+ghost use Rattle.std.specs.Prelude.{◌≡◌, ◌≤◌, ◌+◌, ◌-◌, ◌++◌, ◌∷◌, [], ℕ, true, ◌==◌, ◌&&◌, not, nat_lt, map, vec_len, vec_capacity, if◌then◌else◌, OnOk};
+ghost use Rattle.ynl_resource.specs.Names.{same_label, same_name};
 ghost use Rattle.ynl_resource.specs.declared.paths.Path.{Path};
 ghost use Rattle.ynl_resource.specs.Tables.{update, without};
 ghost use Rattle.ynl_model.specs.Applications.{in_leaf, with_app, is_ask_of, take_one};
 ghost use Rattle.ynl_model.specs.Cluster.{in_partition, sizes};
 ghost use Rattle.ynl_model.specs.Changes.{place, container_of, taken};
-ghost use Rattle.std.specs.List.{AllByRecursion, list_any};
+ghost use Rattle.std.specs.List.{AllByRecursion, list_all, list_any};
 ghost use Rattle.ynl_laws.specs.Working.{IsWorking};
 ghost use Rattle.ynl_laws.specs.Tabled.{Tabled};
 ghost use Rattle.ynl_tables.specs.Bounds.{IsTotal};
+ghost use Rattle.ynl_tables.specs.Known.{IsSpot};
 ghost use Rattle.ynl_tables.specs.Kept.{AreKept, IsKept, IsSummed};
 ghost use Rattle.ynl_tables.specs.Numbers.{AreNumbered};
+ghost use Rattle.ynl_tables.specs.Rising.{clock_of};
 ghost use Rattle.ynl_tables.specs.Tables.{state_of, app_of, leaf_of_row, leaves_of, partition_of, partitions_of, HasCapacity};
 ghost use Rattle.ynl_changes.specs.Marking.{KeepsMark, KeepsMarksAmong, KeepsMarksIn, KeepsMarks, IsPlaceable};
 ghost use Rattle.ynl_changes.specs.Placing.{put_on, taken_from, taken_at, taken_asks, is_last_of};
@@ -22,7 +24,7 @@ ghost use Rattle.ynl_waiting.specs.declared.waiting.Waiting.{Waiting};
 
 use crate::cells::raise;
 use crate::marking::mark;
-use crate::queueing::{enqueue_asks, withdraw_asks};
+use crate::queueing::{Which, enqueue_asks, withdraw_asks};
 use crate::users::{Change, change_users};
 use std::alloc::AllocError;
 use ynl_choice::Request;
@@ -30,7 +32,8 @@ use ynl_model::{AskRow, Node, Placed, What};
 use ynl_queues::Config;
 use ynl_resource::{Id, Label, Name, Path};
 use ynl_tables::{
-    App, LeafRow, PartitionRow, QueueNumbers, Tables, is_ask_of, is_same, next_clock, push_copy,
+    App, LeafRow, PartitionRow, QueueNumbers, Spot, Tables, is_ask_of, is_same, next_clock,
+    push_copy, spot_of,
 };
 use ynl_waiting::Waiting;
 
@@ -47,6 +50,7 @@ fn put(
     requires numbered { AreNumbered numbers.now (leaves_of leaves.now) }
     requires summed { IsSummed numbers.now (leaves_of leaves.now) row.old }
     requires small { IsTotal (sizes row.old.containers.items) }
+    requires last { same_label row.old.label label.now ≡ true → list_all (λ k. nat_lt (clock_of k) container.now.id.clock) row.old.containers.items ≡ true }
     requires capacity { same_label row.old.label label.now ≡ true → vec_len row.old.containers + 1 ≤ vec_capacity row.old.containers }
     ensures meaning { partition_of row.new ≡ put_on label.now clock container.now (partition_of row.old) }
     ensures capacity { (n : ℕ) → (same_label row.old.label label.now ≡ true → vec_len row.old.containers + (n + 1) ≤ vec_capacity row.old.containers) → (same_label row.new.label label.now ≡ true → vec_len row.new.containers + n ≤ vec_capacity row.new.containers) }
@@ -72,6 +76,7 @@ fn put_container(
 )
     requires kept { AreKept numbers.now (leaves_of leaves.now) rows.old.items }
     requires small { AllByRecursion (λ row. IsTotal (sizes row.containers.items)) rows.old.items }
+    requires last { AllByRecursion (λ row. same_label row.label label.now ≡ true → list_all (λ k. nat_lt (clock_of k) container.now.id.clock) row.containers.items ≡ true) rows.old.items }
     requires capacity { HasCapacity label.now 1 rows.old.items }
     ensures meaning { partitions_of rows.new.items ≡ in_partition label.now (λ row. record row { clock = clock; containers = row.containers ++ container.now ∷ [] }) (partitions_of rows.old.items) }
     ensures capacity { (n : ℕ) → HasCapacity label.now (n + 1) rows.old.items → HasCapacity label.now n rows.new.items }
@@ -169,9 +174,9 @@ fn take_one(app: &mut App, asks: &mut Waiting, label: &Label, priority: u32)
     ensures queued { (masters : Waiting) → Requeues app.old app.new masters masters asks.old asks.new }
 {
     if is_last(&app.asks, label, priority) {
-        withdraw_asks(app, asks);
+        withdraw_asks(app, Which::Of(label, priority), asks);
         take_from(&mut app.asks, label, priority);
-        enqueue_asks(app, asks);
+        enqueue_asks(app, Which::Of(label, priority), asks);
     } else {
         take_from(&mut app.asks, label, priority);
     }
@@ -187,7 +192,8 @@ fn take_at(app: &mut App, asks: &mut Waiting, name: &Name, label: &Label, priori
     }
 }
 
-fn take_among(apps: &mut Vec<App>, asks: &mut Waiting, name: &Name, label: &Label, priority: u32)
+/// All applications of the name ask for one less.
+fn take_each(apps: &mut Vec<App>, asks: &mut Waiting, name: &Name, label: &Label, priority: u32)
     ensures marks { KeepsMarksAmong apps.old.items apps.new.items }
     ensures meaning { (leaf : Path) → map (app_of leaf) apps.new.items ≡ map (taken_at name.now label.now priority) (map (app_of leaf) apps.old.items) }
     ensures queued { (masters : Waiting) → AreRequeued apps.old.items apps.new.items masters masters asks.old asks.new }
@@ -197,12 +203,35 @@ fn take_among(apps: &mut Vec<App>, asks: &mut Waiting, name: &Name, label: &Labe
     }
 }
 
+/// The application of the name asks for one less. Where it is not known which one that is, all are gone
+/// through.
+fn take_among(
+    apps: &mut Vec<App>,
+    asks: &mut Waiting,
+    spot: Spot,
+    name: &Name,
+    label: &Label,
+    priority: u32,
+)
+    requires { IsSpot (λ app. same_name app.name name.now) apps.old.items spot }
+    ensures marks { KeepsMarksAmong apps.old.items apps.new.items }
+    ensures meaning { (leaf : Path) → map (app_of leaf) apps.new.items ≡ map (taken_at name.now label.now priority) (map (app_of leaf) apps.old.items) }
+    ensures queued { (masters : Waiting) → AreRequeued apps.old.items apps.new.items masters masters asks.old asks.new }
+{
+    match spot {
+        Spot::At(place) => take_at(&mut apps[place], asks, name, label, priority),
+        Spot::Nowhere => {}
+        Spot::Unknown => take_each(apps, asks, name, label, priority),
+    }
+}
+
 fn take_in(row: &mut LeafRow, leaf: &Path, name: &Name, label: &Label, priority: u32)
     ensures marks { KeepsMarksIn row.old row.new }
     ensures meaning { leaf_of_row row.new ≡ taken_from leaf.now name.now label.now priority (leaf_of_row row.old) }
 {
     if row.path == *leaf {
-        take_among(&mut row.apps, &mut row.asks, name, label, priority);
+        let spot = spot_of(row, name);
+        take_among(&mut row.apps, &mut row.asks, spot, name, label, priority);
     }
 }
 
@@ -240,6 +269,7 @@ pub fn place(config: &Config, tables: &mut Tables, node: &Node, request: &Reques
     ensures state { state_of tables.new ≡ place config.now node.now request.now (state_of tables.old) }
     ensures capacity { (n : ℕ) → HasCapacity node.now.label (n + 1) tables.old.partitions.items → HasCapacity node.now.label n tables.new.partitions.items }
     ensures kept { IsKept tables.new }
+    ensures numbers { tables.new.numbers ≡ tables.old.numbers }
 {
     let clock = next_clock(config, tables, &node.label);
     let container = Placed {

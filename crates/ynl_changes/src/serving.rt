@@ -5,6 +5,7 @@ ghost use Rattle.ynl_model.specs.Changes.{next_item, beat};
 ghost use Rattle.ynl_laws.specs.Working.{IsWorking, Stands};
 ghost use Rattle.ynl_laws.specs.Tabled.{Tabled};
 ghost use Rattle.ynl_tables.specs.Kept.{IsKept};
+ghost use Rattle.ynl_tables.specs.Numbers.{AreQueuesOf};
 ghost use Rattle.ynl_tables.specs.Tables.{state_of, HasCapacity};
 
 use crate::placing::place;
@@ -18,6 +19,7 @@ fn next_request(config: &Config, tables: &Tables, node: &Node) -> Option<Request
     requires working { IsWorking config.now (state_of tables.now) }
     requires tabled { Tabled (state_of tables.now) }
     requires kept { IsKept tables.now }
+    requires numbered { AreQueuesOf config.now tables.now.numbers }
     ensures { result ≡ next_item config.now (state_of tables.now) node.now }
 {
     if is_spent(config, tables, &node.label) {
@@ -37,12 +39,14 @@ pub fn serve(
     requires working { IsWorking config.now (state_of tables.old) }
     requires tabled { Tabled (state_of tables.old) }
     requires kept { IsKept tables.old }
+    requires numbered { AreQueuesOf config.now tables.old.numbers }
     requires stands { Stands (state_of tables.old) node.now }
     requires capacity { HasCapacity node.now.label times tables.old.partitions.items }
     requires reply_capacity { vec_len placed.old + times ≤ vec_capacity placed.old }
     ensures state { state_of tables.new ≡ (beat config.now node.now times (state_of tables.old)).state }
     ensures placed { placed.new.items ≡ placed.old.items ++ (beat config.now node.now times (state_of tables.old)).placed }
     ensures kept { IsKept tables.new }
+    ensures numbers { tables.new.numbers ≡ tables.old.numbers }
 {
     for _i in 0..times {
         let Some(request) = next_request(config, tables, node) else {

@@ -5,12 +5,13 @@ ghost use Rattle.std.specs.List.{AllByRecursion};
 ghost use Rattle.ynl_resource.specs.Names.{same_name};
 ghost use Rattle.ynl_resource.specs.Tables.{without};
 ghost use Rattle.ynl_tables.specs.declared.rows.App.{App};
+ghost use Rattle.ynl_tables.specs.Known.{IsSpot};
 ghost use Rattle.ynl_tables.specs.Sharing.{IsCountedPart};
 ghost use Rattle.ynl_changes.specs.Cells.{LeavesIf};
 ghost use Rattle.ynl_changes.specs.Sharing.{AreCountedParts};
 
 use ynl_resource::{Label, Name};
-use ynl_tables::{App, LeafPart, shares};
+use ynl_tables::{App, LeafPart, Spot, shares};
 
 /// The user of an application of that home counts once more in a part that it shares.
 fn count_in(part: &mut LeafPart, home: &Label, user: &Name)
@@ -60,11 +61,24 @@ fn uncount_if(parts: &mut Vec<LeafPart>, app: &App, name: &Name)
 }
 
 /// That for each application of a name.
-pub fn uncount_users(parts: &mut Vec<LeafPart>, apps: &[App], name: &Name)
+fn uncount_users(parts: &mut Vec<LeafPart>, apps: &[App], name: &Name)
     requires { AreCountedParts parts.old.items apps.now }
     ensures { AreCountedParts parts.new.items (without (λ app. same_name app.name name.now) apps.now) }
 {
     for app in apps {
         uncount_if(parts, app, name);
+    }
+}
+
+/// That for the application of a name. Where it is not known which one that is, all are gone through.
+pub fn uncount_named(parts: &mut Vec<LeafPart>, apps: &[App], spot: Spot, name: &Name)
+    requires spot { IsSpot (λ app. same_name app.name name.now) apps.now spot }
+    requires counted { AreCountedParts parts.old.items apps.now }
+    ensures { AreCountedParts parts.new.items (without (λ app. same_name app.name name.now) apps.now) }
+{
+    match spot {
+        Spot::At(place) => uncount_user(parts, &apps[place]),
+        Spot::Nowhere => {}
+        Spot::Unknown => uncount_users(parts, apps, name),
     }
 }

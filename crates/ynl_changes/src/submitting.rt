@@ -59,8 +59,9 @@ fn submit_on(row: &mut LeafRow, new: &Submission, alloc: Global)
     ensures meaning { leaf_of_row row.new ≡ (if same_path row.old.path new.now.leaf then submitted (application new.now) (leaf_of_row row.old) else leaf_of_row row.old) }
 {
     if row.path == new.leaf {
+        let place = row.names.len();
         let app = App {
-            number: row.names.len() as u64,
+            number: place as u64,
             name: new.name,
             user: new.user,
             home: new.home,
@@ -69,7 +70,7 @@ fn submit_on(row: &mut LeafRow, new: &Submission, alloc: Global)
             asks: Vec::new(alloc),
         };
         enqueue_master(&app, &mut row.masters);
-        row.known.add(&new.name);
+        row.known.add(&new.name, place);
         count_user(&mut row.parts, &new.home, &new.user);
         row.names.push_reserved(new.name);
         row.apps.push_reserved(app);

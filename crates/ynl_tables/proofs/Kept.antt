@@ -1,5 +1,5 @@
 -- What is kept of use, as it is read.
-use Rattle.std.proofs.Common.{◌≡◌, ℕ, ◌<◌, Bool, true, false, cond, ◌||◌, List, [], ◌∷◌, length, get_or, filter, find, Option, Some, None, IfSome, option_map, refl, sym, ap, ◌∙◌, arith}
+use Rattle.std.proofs.Common.{◌≡◌, ℕ, ◌<◌, Bool, true, false, cond, ◌||◌, List, [], ◌∷◌, length, get_or, map, filter, find, Option, Some, None, IfSome, option_map, refl, sym, ap, ◌∙◌, arith}
 use Rattle.std.specs.Prelude.{nat_lt}
 use Rattle.std.specs.List.{list_any}
 use Rattle.std.specs.Option.{option_map_or}
@@ -87,6 +87,15 @@ kept_use t label queue row number kept h e n read =
     let summed : IsSummed t.numbers leaves row = summed_row t.numbers leaves t.partitions.items label row h e in
     let there : containers_on (state_of t) label ≡ row.containers.items = row_holds t label row e in
     read ∙ ap (λ us. get_or us number kept) summed.uses ∙ get_or-map of all number root kept n.0 ∙ ap of (n.1 root) ∙ sym (ap (use_by leaves queue) there) ∙ sym (use-is (state_of t) label queue)
+
+-- what is kept of all queues is what they use
+pub kept_uses : (t : Tables) (label : Label) (row : PartitionRow) → AreSummed t.numbers (leaves_of t.leaves.items) t.partitions.items → Some row ≡ find (λ row. same_label row.label label) t.partitions.items
+    → row.uses.items ≡ map (use_of (state_of t) label) (root ∷ t.numbers)
+kept_uses t label row h e =
+    let leaves : List LeafApps = leaves_of t.leaves.items in
+    let there : containers_on (state_of t) label ≡ row.containers.items = row_holds t label row e in
+    (summed_row t.numbers leaves t.partitions.items label row h e).uses
+    ∙ (λ i. map (λ queue. (sym (ap (use_by leaves queue) there) ∙ sym (use-is (state_of t) label queue)) i) (root ∷ t.numbers))
 
 -- what is kept of use is small
 pub used_small : (s : State) (p : Label) (queue : Path) (kept : Use) → IsBounded s → kept ≡ use_of s p queue → IsTotal kept.used

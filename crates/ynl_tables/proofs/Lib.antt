@@ -10,3 +10,5 @@ pub mod Knowing
 pub mod Changing
 pub mod Counting
 pub mod CountingUsers
+pub mod Searching
+pub mod Naming

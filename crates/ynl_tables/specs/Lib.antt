@@ -4,6 +4,7 @@ pub mod Known
 pub mod Marked
 pub mod NumberFields
 pub mod Numbers
+pub mod Rising
 pub mod Sharing
 pub mod Sums
 pub mod Tables

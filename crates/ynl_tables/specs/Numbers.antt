@@ -5,6 +5,7 @@ use Rattle.std.specs.Option.{option_map_or}
 use Rattle.ynl_resource.specs.Names.{is_within, root, same_path}
 use Rattle.ynl_resource.specs.declared.names.Name.{Name}
 use Rattle.ynl_resource.specs.declared.paths.Path.{Path}
+use Rattle.ynl_model.specs.Queues.{Config}
 use Rattle.ynl_model.specs.Applications.{LeafApps, leaf_of}
 use Rattle.ynl_laws.specs.Ways.{IsWay}
 use Rattle.ynl_tables.specs.declared.rows.Way.{Way}
@@ -29,6 +30,10 @@ IsWayTo queues way = IsWay (root ∷ queues) (is_above way.queue) way.numbers.it
 abbrev pub IsNumberOf : List Path → Path → Option ℕ → Type 0
 IsNumberOf queues queue None = ⊤
 IsNumberOf queues queue (Some number) = (number < length (root ∷ queues)) × ((d : Path) → slice_index_or (root ∷ queues) number d ≡ queue)
+
+-- queues are those of a configuration, in its order
+abbrev pub AreQueuesOf : Config → List Path → Type 0
+AreQueuesOf c queues = queues ≡ map (λ row. row.path) c.queues
 
 -- each leaf has a number
 abbrev pub AreNumbered : List Path → List LeafApps → Type 0

@@ -1,9 +1,12 @@
 -- What waits in a leaf, as it is told from the applications there: the masters of those that wait, and the asks of those that run.
-use Rattle.std.specs.Prelude.{ℕ, Bool, true, not, List, [], ◌∷◌, ◌&&◌, ◌==◌, nat_lt}
+use Rattle.std.specs.Prelude.{ℕ, Bool, true, not, List, [], ◌∷◌, ◌&&◌, ◌==◌, nat_lt, slice_index_or}
 use Rattle.std.specs.List.{list_all, list_any}
 use Rattle.ynl_model.specs.Applications.{is_ask_of}
 use Rattle.ynl_model.specs.declared.applications.AskRow.{AskRow}
+use Rattle.ynl_resource.specs.Names.{same_name}
+use Rattle.ynl_resource.specs.declared.names.Name.{Name}
 use Rattle.ynl_tables.specs.declared.rows.App.{App}
+use Rattle.ynl_tables.specs.Rising.{numbers_rise}
 use Rattle.ynl_waiting.specs.Waiting.{same_class, same_turn}
 use Rattle.ynl_waiting.specs.declared.classes.Class.{Class}
 use Rattle.ynl_waiting.specs.declared.classes.Turn.{Turn}
@@ -14,13 +17,22 @@ are_apart [] = true
 are_apart (ask ∷ asks) = list_all (λ other. not (is_ask_of other.label other.priority ask)) asks && are_apart asks
 
 -- the numbers of applications rise
+abbrev pub number_of : App → ℕ
+number_of app = app.number
+
 abbrev pub are_in_turn : List App → Bool
-are_in_turn [] = true
-are_in_turn (app ∷ apps) = list_all (λ other. nat_lt app.number other.number) apps && are_in_turn apps
+are_in_turn apps = numbers_rise number_of apps
 
 -- and are below a number
 abbrev pub are_below : ℕ → List App → Bool
 are_below count apps = list_all (λ app. nat_lt app.number count) apps
+
+-- and at its number an application's name stands among the names of the leaf
+abbrev pub is_named : List Name → App → Bool
+is_named names app = same_name app.name (slice_index_or names app.number app.name)
+
+abbrev pub are_named : List Name → List App → Bool
+are_named names apps = list_all (is_named names) apps
 
 -- the class of an application's master, and its turn
 abbrev pub master_class : App → Class

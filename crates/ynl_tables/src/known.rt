@@ -1,20 +1,28 @@
 //! Names that are found in few steps.
 
-ghost use Rattle.std.specs.Prelude.{◌≡◌, List, [], ◌∷◌, ◌++◌};
+ghost use Rattle.std.specs.Prelude.{◌≡◌, List, [], ◌∷◌, ◌++◌, length};
 ghost use Rattle.std.specs.List.{list_any};
 ghost use Rattle.ynl_resource.specs.Names.{same_name};
 ghost use Rattle.ynl_resource.specs.declared.names.Name.{Name};
-ghost use Rattle.ynl_tables.specs.Known.{IsKnown};
+ghost use Rattle.ynl_tables.specs.Known.{IsKnown, IsSpot};
 
 use std::alloc::Global;
-use std::collections::BTreeSet;
+use std::collections::BTreeMap;
 use ynl_resource::Name;
 
-/// The names of a list, in an order of their own: kept while there is memory for them. Where that was
-/// refused nothing is kept, and the list has to be searched.
+/// Where the only thing of a name stands in a list, or that nothing has it; or that this is not known.
+#[derive(Clone, Copy)]
+pub enum Spot {
+    At(usize),
+    Nowhere,
+    Unknown,
+}
+
+/// The places of the names of a list in which none stands twice: kept while there is memory for them.
+/// Where that was refused nothing is kept, and the list has to be searched.
 #[derive(Drop)]
 pub struct Known {
-    names: Option<BTreeSet<Name>>,
+    places: Option<BTreeMap<Name, usize>>,
 }
 
 impl Known {
@@ -23,7 +31,7 @@ impl Known {
         ensures { IsKnown result [] }
     {
         Known {
-            names: Some(BTreeSet::new(alloc)),
+            places: Some(BTreeMap::new(alloc)),
         }
     }
 
@@ -32,22 +40,36 @@ impl Known {
         requires { IsKnown self.now listed.now }
         ensures { result ≡ list_any (same_name name.now) listed.now }
     {
-        match &self.names {
-            Some(names) => names.contains(name),
+        match &self.places {
+            Some(places) => places.contains_key(name),
             None => listed.iter().any(|other| *name == *other),
         }
     }
 
-    /// One name more.
-    pub fn add(&mut self, name: &Name)
-        ensures { (listed : List Name) → IsKnown self.old listed → IsKnown self.new (listed ++ name.now ∷ []) }
+    /// Where a name stands in the list.
+    pub fn spot(&self, name: &Name) -> Spot
+        ensures { (listed : List Name) → IsKnown self.now listed → IsSpot (same_name name.now) listed result }
     {
-        let Some(names) = &mut self.names else {
+        let Some(places) = &self.places else {
+            return Spot::Unknown;
+        };
+        match places.get(name) {
+            Some(place) => Spot::At(*place),
+            None => Spot::Nowhere,
+        }
+    }
+
+    /// One name more, after so many others. Where it is there already the places are given up, since then
+    /// it would stand twice.
+    pub fn add(&mut self, name: &Name, place: usize)
+        ensures { (listed : List Name) → length listed ≡ place → IsKnown self.old listed → IsKnown self.new (listed ++ name.now ∷ []) }
+    {
+        let Some(places) = &mut self.places else {
             return;
         };
-        match names.insert(*name) {
-            Ok(_) => {}
-            Err(_) => self.names = None,
+        match places.insert(*name, place) {
+            Ok(None) => {}
+            Ok(Some(_)) | Err(_) => self.places = None,
         }
     }
 }

@@ -6,17 +6,19 @@
 pub use applications::{has_most_apps, home_of, is_used};
 pub use asks::{ask_of, is_ask_of, is_foreign, is_one_too_many};
 pub use clocks::{is_spent, next_clock};
-pub use containers::{container_of_tenant, container_on, is_own, is_same_id, push_copy};
-pub use known::Known;
+pub use containers::{container_of_tenant, container_on, is_own, is_same_id, place_at, push_copy};
+pub use known::{Known, Spot};
 pub use live::{Live, live_at};
+pub use named::{place_of, spot_of};
 pub use numbers::{QueueNumbers, way_of_app};
 pub use polling::{own_containers, pending_on};
-pub use queue_use::{free, guests, masters_used, no_master_in, runs, used, user_used};
+pub use queue_use::{free, guests, masters_used, no_master_in, runs, used, user_used, uses_on};
 pub use rows::{App, LeafPart, LeafRow, PartitionRow};
 pub use sharing::{shares, users};
 pub use sums::Sums;
 pub use tables::{
-    Tables, apps_at, clock_at, containers_at, is_same, leaf_row_of, risen, tenant_bytes,
+    Tables, apps_at, clock_at, containers_at, is_same, leaf_row_of, partition_place, risen,
+    tenant_bytes,
 };
 pub use usage::usage_of;
 pub use user_counts::UserCounts;
@@ -28,6 +30,7 @@ mod clocks;
 mod containers;
 mod known;
 mod live;
+mod named;
 mod numbers;
 mod polling;
 mod queue_use;

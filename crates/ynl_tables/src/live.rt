@@ -6,15 +6,16 @@ ghost use Rattle.ynl_model.specs.Cluster.{State};
 ghost use Rattle.ynl_tables.specs.Marked.{IsMarkedApp, AreMarked};
 ghost use Rattle.ynl_tables.specs.Tables.{app_of, leaves_of};
 
+use crate::named::app_named;
 use crate::rows::{App, LeafRow};
 use crate::tables::leaf_row_of;
-use crate::uses::app_named;
 use ynl_resource::{Name, Path};
 
-/// A live application, and the leaf that holds it.
+/// A live application, and the leaf that holds it, with a hint where the leaf stands in the configuration.
 #[derive(Clone, Copy)]
 pub struct Live<'a> {
     pub leaf: &'a Path,
+    pub place: usize,
     pub app: &'a App,
 }
 
@@ -25,9 +26,10 @@ pub fn live_at<'a>(rows: &'a [LeafRow], tenant: &[u8], name: &Name) -> Option<Li
     ensures marks { (s : State) → AreMarked s rows.now → IfSome result (λ live. IsMarkedApp s live.leaf.now live.app.now) }
 {
     match leaf_row_of(rows, tenant, name) {
-        Some(row) => match app_named(&row.apps, name) {
+        Some(row) => match app_named(row, name) {
             Some(app) => Some(Live {
                 leaf: &row.path,
+                place: row.place,
                 app,
             }),
             None => None,

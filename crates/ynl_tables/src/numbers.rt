@@ -72,6 +72,18 @@ impl QueueNumbers {
         }
     }
 
+    /// The number of a queue, which is looked for first at the place where it is thought to stand.
+    pub fn number_near(&self, place: usize, queue: &[Name]) -> Option<usize>
+        ensures { IsNumberOf self.now queue.now result }
+    {
+        if place < self.queues.len() {
+            if self.queues[place].names() == queue {
+                return Some(place + 1);
+            }
+        }
+        self.number(queue)
+    }
+
     /// Whether the queue of a number is on the way to a queue, or is that queue.
     pub fn is_above(&self, number: usize, queue: &Path) -> bool
         ensures { result ≡ is_within (queue_at self.now number) queue.now }

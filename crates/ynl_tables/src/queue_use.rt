@@ -1,9 +1,9 @@
 //! What a queue, its users and its masters use of a partition. It is kept, and summed only for a path that
 //! is no queue of the configuration, and for users where there was no memory to keep it.
 
-ghost use Rattle.std.specs.Prelude.{◌≡◌, filter, IfSome};
+ghost use Rattle.std.specs.Prelude.{◌≡◌, ◌∷◌, filter, map, IfSome};
 ghost use Rattle.std.specs.List.{list_any};
-ghost use Rattle.ynl_resource.specs.Names.{same_name};
+ghost use Rattle.ynl_resource.specs.Names.{root, same_name};
 ghost use Rattle.ynl_model.specs.Cluster.{used, user_used, masters_used, guests, is_master, runs, free, counted, containers_on, sizes};
 ghost use Rattle.ynl_model.specs.Service.{no_master_in};
 ghost use Rattle.ynl_tables.specs.Tables.{state_of, app_of};
@@ -18,6 +18,18 @@ use crate::tables::{Tables, containers_at, partition_row};
 use crate::uses::{Counted, counts, is_master, used_by, used_on};
 use ynl_model::{Node, Use};
 use ynl_resource::{Label, Name, Path, Resource};
+
+/// What is kept of the use of a partition by all queues: root's first, and then that of each queue below in
+/// the order of their numbers. Nothing where the configuration has no such partition.
+pub fn uses_on<'a>(tables: &'a Tables, label: &Label) -> Option<&'a [Use]>
+    requires { IsKept tables.now }
+    ensures { IfSome result (λ uses. uses.now ≡ map (use_of (state_of tables.now) label.now) (root ∷ tables.now.numbers)) }
+{
+    match partition_row(&tables.partitions, label) {
+        Some(row) => Some(&row.uses),
+        None => None,
+    }
+}
 
 /// What is kept of a queue's use of a partition: nothing where the configuration has no such queue or
 /// no such partition.
@@ -60,12 +72,18 @@ pub fn used(tables: &Tables, queue: &[Name], label: &Label) -> Resource
 
 /// What is kept of a user's use of a partition in a queue; nothing where none is kept, or the
 /// configuration has no such queue or no such partition.
-fn kept_for(tables: &Tables, queue: &[Name], user: &Name, label: &Label) -> Option<Resource>
+fn kept_for(
+    tables: &Tables,
+    place: usize,
+    queue: &[Name],
+    user: &Name,
+    label: &Label,
+) -> Option<Resource>
     requires { IsKept tables.now }
     ensures { IfSome result (λ used. used ≡ user_used (state_of tables.now) queue.now user.now label.now) }
 {
     match partition_row(&tables.partitions, label) {
-        Some(row) => match tables.numbers.number(queue) {
+        Some(row) => match tables.numbers.number_near(place, queue) {
             Some(number) => row.users[number].sum_for(user),
             None => None,
         },
@@ -73,14 +91,20 @@ fn kept_for(tables: &Tables, queue: &[Name], user: &Name, label: &Label) -> Opti
     }
 }
 
-/// What a user uses of a partition in a queue.
+/// What a user uses of a partition in a queue; the place is a hint where the queue stands in the configuration.
 #[tactic(auto, unfolding(ynl_model::specs::Cluster::user_used))]
-pub fn user_used(tables: &Tables, queue: &[Name], user: &Name, label: &Label) -> Resource
+pub fn user_used(
+    tables: &Tables,
+    place: usize,
+    queue: &[Name],
+    user: &Name,
+    label: &Label,
+) -> Resource
     requires { IsReadable tables.now }
     ensures value { result ≡ user_used (state_of tables.now) queue.now user.now label.now }
     ensures small { IsTotal result }
 {
-    match kept_for(tables, queue, user, label) {
+    match kept_for(tables, place, queue, user, label) {
         Some(kept) => kept,
         None => sum_of(tables, queue, Counted::User(user), label),
     }

@@ -5,7 +5,8 @@ ghost use Rattle.std.specs.List.{AllByRecursion, list_all};
 ghost use Rattle.ynl_resource.specs.Names.{same_name, tenant_of};
 ghost use Rattle.std.proofs.Props.{props};
 ghost use Rattle.ynl_tables.specs.Known.{IsKnown};
-ghost use Rattle.ynl_tables.specs.Queued.{are_apart, are_in_turn, are_below, masters_waiting, asks_waiting};
+ghost use Rattle.ynl_tables.specs.Queued.{are_apart, are_in_turn, are_below, are_named, masters_waiting, asks_waiting};
+ghost use Rattle.ynl_tables.specs.Rising.{numbers_rise, clock_of};
 ghost use Rattle.ynl_tables.specs.Sharing.{IsCountedPart};
 ghost use Rattle.ynl_waiting.specs.Waiting.{Keeps};
 
@@ -38,12 +39,13 @@ pub struct LeafPart {
     pub users: UserCounts,
 }
 
-/// A leaf: its path, its tenant, the names of all applications that were ever submitted there, with a search
+/// A leaf: its path, a hint where it stands in the configuration, its tenant, the names of all applications that were ever submitted there, with a search
 /// in them, and those of them that are live, both in the order of submission; of these what waits, the
 /// masters of those that wait and the asks of those that run; and who shares its part of each partition.
 #[derive(Drop)]
 pub struct LeafRow {
     pub path: Path,
+    pub place: usize,
     pub tenant: Name,
     pub names: Vec<Name>,
     pub known: Known,
@@ -56,12 +58,14 @@ pub struct LeafRow {
     ghost apart: { IsTrue (list_all (λ app. are_apart app.asks.items) apps.items) },
     ghost in_turn: { IsTrue (are_in_turn apps.items) },
     ghost numbered: { IsTrue (are_below (length names.items) apps.items) },
+    ghost named: { IsTrue (are_named names.items apps.items) },
     ghost masters_wait: { Keeps (masters_waiting apps.items) masters } by { Prim.hlevel props },
     ghost asks_wait: { Keeps (asks_waiting apps.items) asks } by { Prim.hlevel props },
     ghost all_counted: { AllByRecursion (IsCountedPart apps.items) parts.items } by { Prim.hlevel props },
 }
 
-/// A partition: its clock, the containers on it in the order in which they were placed, what each queue
+/// A partition: its clock, the containers on it in the order in which they were placed, which is that of their
+/// clocks, what each queue
 /// and each user in it uses by them, by the queue's number, and what they use of each node.
 #[derive(Drop)]
 pub struct PartitionRow {
@@ -71,6 +75,7 @@ pub struct PartitionRow {
     pub uses: Vec<Use>,
     pub users: Vec<Sums>,
     pub filled: Sums,
+    ghost rising: { IsTrue (numbers_rise clock_of containers.items) },
 }
 
 /// The numbers of root and of the queues on the way to a queue, itself among them.

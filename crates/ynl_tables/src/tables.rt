@@ -1,13 +1,14 @@
 //! The tables of a cluster, and what is read of them.
 
-ghost use Rattle.std.specs.Prelude.{◌≡◌, ◌&&◌, [], IfSome, option_map, find, map};
-ghost use Rattle.std.specs.List.{list_any};
+ghost use Rattle.std.specs.Prelude.{◌≡◌, ◌&&◌, [], IsTrue, IfSome, option_map, find, map};
+ghost use Rattle.std.specs.List.{list_any, position};
 ghost use Rattle.std.specs.Option.{option_map_or};
 ghost use Rattle.ynl_resource.specs.Names.{same_name, same_path, same_label, tenant_of};
 ghost use Rattle.ynl_model.specs.Nodes.{rises};
 ghost use Rattle.ynl_model.specs.Applications.{row_of, apps_of};
 ghost use Rattle.ynl_model.specs.Cluster.{State, is_partition};
 ghost use Rattle.ynl_tables.specs.Marked.{AreMarkedIn, AreMarked};
+ghost use Rattle.ynl_tables.specs.Rising.{numbers_rise, clock_of};
 ghost use Rattle.ynl_tables.specs.Tables.{leaf_of_row, leaves_of, partition_of, partitions_of, app_of};
 
 use crate::numbers::QueueNumbers;
@@ -50,6 +51,13 @@ fn partition_at<'a>(rows: &'a [PartitionRow], label: &Label) -> Option<&'a Parti
     partition_row(rows, label)
 }
 
+/// Where the row of a partition stands.
+pub fn partition_place(rows: &[PartitionRow], label: &Label) -> Option<usize>
+    ensures { result ≡ position (λ row. same_label row.label label.now) rows.now }
+{
+    rows.iter().position(|row| row.label == *label)
+}
+
 /// What a partition's clock shows; 0 where there is no such partition.
 pub fn clock_at(rows: &[PartitionRow], label: &Label) -> u64
     ensures { result ≡ option_map_or (λ row. row.clock) (find (is_partition label.now) (partitions_of rows.now)) 0 }
@@ -62,7 +70,8 @@ pub fn clock_at(rows: &[PartitionRow], label: &Label) -> u64
 
 /// The containers on a partition, in the order of placement.
 pub fn containers_at<'a>(rows: &'a [PartitionRow], label: &Label) -> &'a [Placed]
-    ensures { result.now ≡ option_map_or (λ row. row.containers) (find (is_partition label.now) (partitions_of rows.now)) [] }
+    ensures rising { IsTrue (numbers_rise clock_of result.now) }
+    ensures meaning { result.now ≡ option_map_or (λ row. row.containers) (find (is_partition label.now) (partitions_of rows.now)) [] }
 {
     match partition_at(rows, label) {
         Some(row) => &row.containers,

@@ -1,6 +1,6 @@
 //! What containers use: sums over the containers of a partition.
 
-ghost use Rattle.std.specs.Prelude.{◌≡◌, IsTrue, filter, find, option_map, if◌then◌else◌};
+ghost use Rattle.std.specs.Prelude.{◌≡◌, IsTrue, filter, if◌then◌else◌};
 ghost use Rattle.ynl_resource.specs.Amounts.{plus, fits_in};
 ghost use Rattle.ynl_resource.specs.Names.{same_name};
 ghost use Rattle.ynl_model.specs.Cluster.{is_master, is_guest_on, is_below, sizes};
@@ -9,7 +9,8 @@ ghost use Rattle.ynl_tables.specs.Bounds.{IsTotal};
 ghost use Rattle.ynl_laws.specs.Uses.{counts};
 ghost use Rattle.ynl_tables.specs.Uses.{is_of_other, of_user, is_counted, IsOwner};
 
-use crate::rows::{App, LeafRow};
+use crate::named::app_named;
+use crate::rows::LeafRow;
 use crate::tables::leaf_row_of;
 use ynl_model::{Placed, What};
 use ynl_queues::is_within;
@@ -88,20 +89,13 @@ pub fn counts(leaves: &[LeafRow], queue: &[Name], container: &Placed) -> bool
     !is_guest_on(&container.id.label, &container.what) && is_below(leaves, queue, container)
 }
 
-/// The application of a name among those of a leaf.
-pub fn app_named<'a>(apps: &'a [App], name: &Name) -> Option<&'a App>
-    ensures { option_map (λ r. r.now) result ≡ find (λ app. same_name app.name name.now) apps.now }
-{
-    apps.iter().find(|app| app.name == *name)
-}
-
 /// Whether the container is that of a live application of the user.
 #[tactic(auto, unfolding(ynl_model::specs::Applications::find_app))]
 fn is_of_user(leaves: &[LeafRow], user: &Name, container: &Placed) -> bool
     ensures { result ≡ of_user user.now (leaves_of leaves.now) container.now }
 {
     match leaf_row_of(leaves, container.tenant.as_bytes(), &container.app) {
-        Some(row) => match app_named(&row.apps, &container.app) {
+        Some(row) => match app_named(row, &container.app) {
             Some(app) => app.user == *user,
             None => false,
         },
@@ -118,7 +112,7 @@ pub fn owner_of<'a>(leaves: &'a [LeafRow], container: &Placed) -> Option<Owner<'
         return None;
     }
     match leaf_row_of(leaves, container.tenant.as_bytes(), &container.app) {
-        Some(row) => match app_named(&row.apps, &container.app) {
+        Some(row) => match app_named(row, &container.app) {
             Some(app) => Some(Owner {
                 leaf: &row.path,
                 user: &app.user,

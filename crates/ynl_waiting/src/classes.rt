@@ -44,9 +44,12 @@ impl ClassRow {
     }
 }
 
-/// Whether two classes are the same.
+/// Whether two classes are the same. Sizes are compared first, since they differ most and cost least.
 pub fn is_same_class(a: &Class, b: &Class) -> bool
     ensures { result ≡ same_class a.now b.now }
 {
-    a.label == b.label && a.user == b.user && a.size == b.size
+    if a.size != b.size {
+        return false;
+    }
+    a.label == b.label && a.user == b.user
 }

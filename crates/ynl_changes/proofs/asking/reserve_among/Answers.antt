@@ -1,75 +1,48 @@
-use Rattle.std.proofs.Common.{List, ◌<◌, length, map, ap, ◌∙◌, arith, sym, subst}
-use Rattle.std.proofs.Math.ListN.{set}
-use Rattle.std.proofs.lemmas.List.{length-set}
+use Rattle.std.proofs.Common.{subst, sym, ap, ◌∙◌}
+use Rattle.std.proofs.lemmas.Result.{on_ok_weaker}
 use Rattle.ynl_resource.specs.declared.paths.Path.{Path}
-use Rattle.ynl_tables.specs.Tables.{app_of}
-use Rattle.ynl_changes.specs.Asking.{HasAskCapacity}
-use Rattle.ynl_changes.proofs.InPlace.{whole_kept, each_step, same_set, whole_again}
-use Rattle.std.specs.List.{AllByRecursion}
+use Rattle.ynl_resource.specs.Names.{same_name}
 use Rattle.ynl_tables.specs.declared.rows.App.{App}
 use Rattle.ynl_tables.specs.Marked.{IsMarkedApp}
+use Rattle.ynl_tables.specs.Tables.{app_of}
+use Rattle.ynl_changes.specs.Asking.{HasAskCapacity}
+use Rattle.ynl_changes.specs.Queueing.{Requeues}
+use Rattle.ynl_changes.proofs.InPlace.{same_set}
 use Rattle.ynl_changes.proofs.Marks.{kept_set}
-use Rattle.ynl_changes.specs.Queueing.{AreRequeued}
-use Rattle.ynl_changes.proofs.Requeued.{next-requeued}
+use Rattle.ynl_changes.proofs.Named.{only-at, nowhere-of, each-only, each-none, unwanted}
+use Rattle.ynl_changes.proofs.Requeued.{same-apps, set-requeued}
 use Rattle.ynl_changes.proofs.asking.reserve_among.Goals as goal
 
-pub loop-app-preserved : goal.loop-app-preserved
-loop-app-preserved c =
-    let inside : c.loop-app.app-index < length c.loop-app.app-items = omega arith in
-    record {
-      meaning = λ (leaf : Path). same_set (app_of leaf) c.loop-app.app-items c.loop-app.app-index c.app-item.result c.reserve_at.new.app inside (c.reserve_at.ensures.meaning leaf) ∙ c.loop-app.invariant.meaning leaf;
-      capacity = each_step (HasAskCapacity c.args.name.now c.args.count) c.loop-app.app-items c.loop-app.app-index c.reserve_at.new.app inside c.loop-app.invariant.capacity c.in_ok-reserve_at.ensures.capacity;
-      marks = λ s leaf h. kept_set (IsMarkedApp s leaf) c.loop-app.app-items c.loop-app.app-index c.app-item.result c.reserve_at.new.app inside (c.loop-app.invariant.marks s leaf h) (c.reserve_at.ensures.marks s leaf);
-      queued = λ masters asks.
-          next-requeued c.deref_mut-app-items.result.now c.loop-app.app-items c.loop-app.app-index c.app-item.result c.reserve_at.new.app masters masters masters asks asks asks inside (c.loop-app.invariant.queued masters asks)
-          (c.reserve_at.ensures.queued masters asks);
-    }
+pub returns-in-At-clause-meaning : goal.returns-in-At-clause-meaning
+returns-in-At-clause-meaning c = λ (leaf : Path).
+    let only = only-at (λ (app : App). same_name app.name c.args.name.now) c.args.apps.now.items c.args.spot c.in-At.place c.in-At.is c.requires in
+    same_set (app_of leaf) c.args.apps.now.items c.in-At.place c.index_mut.result.now c.reserve_at.new.app only.within (c.reserve_at.ensures.meaning leaf ∙ ap (app_of leaf) c.index_mut.ensures.value)
 
-pub returns-in_err-reserve_at-clause-meaning : goal.returns-in_err-reserve_at-clause-meaning
-returns-in_err-reserve_at-clause-meaning c = λ (leaf : Path).
-    let items = c.loop-app.app-items in
-    let value = c.deref_mut-app-items.ensures.value in
-    let inside : c.loop-app.app-index < length items = omega arith in
-    let same = length-set items c.loop-app.app-index c.reserve_at.new.app ∙ c.loop-app.auto.app-items ∙ ap length value in
-    ap (map (app_of leaf)) (whole_again c.args.apps.now.len (set items c.loop-app.app-index c.reserve_at.new.app) c.args.apps.now.items same c.args.apps.now.ok.0)
-    ∙ same_set (app_of leaf) items c.loop-app.app-index c.app-item.result c.reserve_at.new.app inside (c.reserve_at.ensures.meaning leaf)
-    ∙ c.loop-app.invariant.meaning leaf
-    ∙ ap (map (app_of leaf)) value
+pub returns-in-At-clause-queued : goal.returns-in-At-clause-queued
+returns-in-At-clause-queued c = λ masters asks.
+    let only = only-at (λ (app : App). same_name app.name c.args.name.now) c.args.apps.now.items c.args.spot c.in-At.place c.in-At.is c.requires in
+    let app : App = c.index_mut.result.now in
+    set-requeued c.args.apps.now.items c.in-At.place app c.reserve_at.new.app masters masters asks asks only.within
+    (subst (λ (old : App). Requeues old c.reserve_at.new.app masters masters asks asks) c.index_mut.ensures.value (c.reserve_at.ensures.queued masters asks))
 
-pub returns-clause-marks : goal.returns-clause-marks
-returns-clause-marks c = λ s leaf h.
-    let items = c.loop-app.app-items in
-    let value = c.deref_mut-app-items.ensures.value in
-    let same = c.loop-app.auto.app-items ∙ ap length value in
-    let P : App → Type 0 = IsMarkedApp s leaf in
-    whole_kept (AllByRecursion P) c.args.apps.now.len items c.args.apps.now.items same c.args.apps.now.ok.0 (c.loop-app.invariant.marks s leaf (subst (AllByRecursion P) (sym value) h))
+pub returns-in-At-clause-marks : goal.returns-in-At-clause-marks
+returns-in-At-clause-marks c = λ s leaf h.
+    let only = only-at (λ (app : App). same_name app.name c.args.name.now) c.args.apps.now.items c.args.spot c.in-At.place c.in-At.is c.requires in
+    let app : App = c.index_mut.result.now in
+    kept_set (IsMarkedApp s leaf) c.args.apps.now.items c.in-At.place app c.reserve_at.new.app only.within h
+    (λ k. c.reserve_at.ensures.marks s leaf (subst (IsMarkedApp s leaf) (sym c.index_mut.ensures.value) k))
 
-pub returns-in_err-reserve_at-clause-marks : goal.returns-in_err-reserve_at-clause-marks
-returns-in_err-reserve_at-clause-marks c = λ s leaf h.
-    let P : App → Type 0 = IsMarkedApp s leaf in
-    let items = c.loop-app.app-items in
-    let value = c.deref_mut-app-items.ensures.value in
-    let inside : c.loop-app.app-index < length items = omega arith in
-    let same = length-set items c.loop-app.app-index c.reserve_at.new.app ∙ c.loop-app.auto.app-items ∙ ap length value in
-    let now = c.loop-app.invariant.marks s leaf (subst (AllByRecursion P) (sym value) h) in
-    whole_kept (AllByRecursion P) c.args.apps.now.len (set items c.loop-app.app-index c.reserve_at.new.app) c.args.apps.now.items same c.args.apps.now.ok.0
-    (kept_set P items c.loop-app.app-index c.app-item.result c.reserve_at.new.app inside now (c.reserve_at.ensures.marks s leaf))
+pub returns-in-At-clause-capacity : goal.returns-in-At-clause-capacity
+returns-in-At-clause-capacity c =
+    let only = only-at (λ (app : App). same_name app.name c.args.name.now) c.args.apps.now.items c.args.spot c.in-At.place c.in-At.is c.requires in
+    let name = c.args.name.now in
+    on_ok_weaker c.reserve_at.result
+    (each-only (HasAskCapacity name c.args.count) (λ (app : App). same_name app.name name) (unwanted name c.args.count) c.args.apps.now.items c.in-At.place c.reserve_at.new.app only) c.reserve_at.ensures.capacity
 
-pub returns-clause-queued : goal.returns-clause-queued
-returns-clause-queued c = λ masters asks.
-    let items = c.loop-app.app-items in
-    let value = c.deref_mut-app-items.ensures.value in
-    let same = c.loop-app.auto.app-items ∙ ap length value in
-    whole_kept (λ (apps : List App). AreRequeued c.args.apps.now.items apps masters masters asks asks) c.args.apps.now.len items c.args.apps.now.items same c.args.apps.now.ok.0
-    (subst (λ (apps : List App). AreRequeued apps items masters masters asks asks) value (c.loop-app.invariant.queued masters asks))
+pub returns-in-Nowhere-clause-queued : goal.returns-in-Nowhere-clause-queued
+returns-in-Nowhere-clause-queued c = λ masters asks. same-apps c.args.apps.now.items masters asks
 
-pub returns-in_err-reserve_at-clause-queued : goal.returns-in_err-reserve_at-clause-queued
-returns-in_err-reserve_at-clause-queued c = λ masters asks.
-    let items = c.loop-app.app-items in
-    let app = c.reserve_at.new.app in
-    let value = c.deref_mut-app-items.ensures.value in
-    let inside : c.loop-app.app-index < length items = omega arith in
-    let same = length-set items c.loop-app.app-index app ∙ c.loop-app.auto.app-items ∙ ap length value in
-    let now = next-requeued c.deref_mut-app-items.result.now items c.loop-app.app-index c.app-item.result app masters masters masters asks asks asks inside (c.loop-app.invariant.queued masters asks) (c.reserve_at.ensures.queued masters asks) in
-    whole_kept (λ (apps : List App). AreRequeued c.args.apps.now.items apps masters masters asks asks) c.args.apps.now.len (set items c.loop-app.app-index app) c.args.apps.now.items same c.args.apps.now.ok.0
-    (subst (λ (apps : List App). AreRequeued apps (set items c.loop-app.app-index app) masters masters asks asks) value now)
+pub returns-in-Nowhere-clause-capacity : goal.returns-in-Nowhere-clause-capacity
+returns-in-Nowhere-clause-capacity c =
+    let name = c.args.name.now in
+    each-none (HasAskCapacity name c.args.count) (λ (app : App). same_name app.name name) (unwanted name c.args.count) c.args.apps.now.items (nowhere-of (λ (app : App). same_name app.name c.args.name.now) c.args.apps.now.items c.args.spot c.in-Nowhere.is c.requires)

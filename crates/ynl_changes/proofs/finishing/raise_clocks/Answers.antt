@@ -24,5 +24,6 @@ loop-row-preserved c =
           ∙ ap (clocks_rise config (filter own (containers_at_place old.partitions i))) c.loop-row.invariant.state
           ∙ sym (rows_more (clock_rises config) own old.partitions i old);
       leaves = c.raise_clocks_of_row.ensures.leaves ∙ c.loop-row.invariant.leaves;
+      numbers = c.raise_clocks_of_row.ensures.numbers ∙ c.loop-row.invariant.numbers;
       kept = λ h. c.raise_clocks_of_row.ensures.kept (c.loop-row.invariant.kept h);
     }

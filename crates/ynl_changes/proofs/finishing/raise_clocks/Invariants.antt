@@ -9,5 +9,6 @@ abbrev pub invariant-loop-row : goal.invariant-loop-row
 invariant-loop-row l = record {
   state : state_of l.tables ≡ clocks_rise l.config (flat_map (λ row. filter (is_of l.tenant l.app) row.containers) (take l.row (state_of l.initial.tables).partitions)) (state_of l.initial.tables);
   leaves : l.tables.leaves.items ≡ l.initial.tables.leaves.items;
+  numbers : l.tables.numbers ≡ l.initial.tables.numbers;
   kept : KeepsAmounts l.initial.tables l.tables;
 }

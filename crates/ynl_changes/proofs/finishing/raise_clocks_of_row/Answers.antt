@@ -25,5 +25,6 @@ loop-place-preserved c =
           ∙ ap (λ (s : State). option_map_or (λ k. cond (own k) (clock_rises config s k) s) (slice_get ks place) s) c.loop-place.invariant.state
           ∙ sym (fold_more (clock_rises config) own ks place old);
       leaves = c.raise_clock_at.ensures.leaves ∙ c.loop-place.invariant.leaves;
+      numbers = c.raise_clock_at.ensures.numbers ∙ c.loop-place.invariant.numbers;
       kept = λ h. c.raise_clock_at.ensures.kept (c.loop-place.invariant.kept h);
     }

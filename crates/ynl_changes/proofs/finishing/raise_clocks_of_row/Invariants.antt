@@ -9,5 +9,6 @@ abbrev pub invariant-loop-place : goal.invariant-loop-place
 invariant-loop-place l = record {
   state : state_of l.tables ≡ clocks_rise l.config (filter (is_of l.tenant l.app) (take l.place (containers_at_place (state_of l.initial.tables).partitions l.row))) (state_of l.initial.tables);
   leaves : l.tables.leaves.items ≡ l.initial.tables.leaves.items;
+  numbers : l.tables.numbers ≡ l.initial.tables.numbers;
   kept : KeepsAmounts l.initial.tables l.tables;
 }

@@ -1,28 +1,42 @@
-use Rattle.std.proofs.Common.{List, ap, subst, ◌<◌, length, ◌∙◌, arith}
+use Rattle.std.proofs.Common.{subst, ap, ◌∙◌}
 use Rattle.ynl_resource.specs.declared.paths.Path.{Path}
+use Rattle.ynl_resource.specs.Names.{same_name}
+use Rattle.ynl_tables.specs.declared.rows.App.{App}
 use Rattle.ynl_tables.specs.Tables.{app_of}
 use Rattle.ynl_changes.specs.Marking.{noted, remarked}
-use Rattle.ynl_changes.proofs.InPlace.{changed_step, same_set, whole_kept}
-use Rattle.ynl_tables.specs.declared.rows.App.{App}
-use Rattle.ynl_changes.specs.Queueing.{AreRequeued}
-use Rattle.ynl_changes.proofs.Requeued.{next-requeued}
+use Rattle.ynl_changes.specs.Queueing.{Requeues}
+use Rattle.ynl_changes.proofs.InPlace.{same_set}
+use Rattle.ynl_changes.proofs.Named.{only-at, nowhere-of, only-changed, none-changed, marked-other}
+use Rattle.ynl_changes.proofs.Requeued.{same-apps, set-requeued}
 use Rattle.ynl_changes.proofs.marking.mark_among.Goals as goal
 
-pub loop-app-preserved : goal.loop-app-preserved
-loop-app-preserved c =
-    let inside : c.loop-app.app-index < length c.loop-app.app-items = omega (arith, c.loop-app.invariant.changed.len) in
-    record {
-      changed = changed_step (noted c.args.leaf.now) (remarked c.args.label.now c.args.container.now c.args.clock) _ _ _ c.loop-app.invariant.changed c.app-item.result c.mark_at.new.app c.loop-app-test.true c.app-item.is c.mark_at.ensures.marks;
-      meaning = λ (path : Path). same_set (app_of path) c.loop-app.app-items c.loop-app.app-index c.app-item.result c.mark_at.new.app inside (c.mark_at.ensures.meaning path) ∙ c.loop-app.invariant.meaning path;
-      queued =
-          next-requeued c.deref_mut-app-items.result.now c.loop-app.app-items c.loop-app.app-index c.app-item.result c.mark_at.new.app c.args.masters.now c.loop-app.masters c.mark_at.new.masters c.args.asks.now c.loop-app.asks c.mark_at.new.asks
-          inside c.loop-app.invariant.queued c.mark_at.ensures.queued;
-    }
+pub returns-in-At-clause-meaning : goal.returns-in-At-clause-meaning
+returns-in-At-clause-meaning c = λ (path : Path).
+    let only = only-at (λ (app : App). same_name app.name c.args.container.now.app) c.args.apps.now.items c.args.spot c.in-At.place c.in-At.is c.requires in
+    let app : App = c.index_mut-app.result.now in
+    same_set (app_of path) c.args.apps.now.items c.in-At.place app c.mark_at.new.app only.within (c.mark_at.ensures.meaning path ∙ ap (app_of path) c.index_mut-app.ensures.value)
 
-pub returns-clause-queued : goal.returns-clause-queued
-returns-clause-queued c =
-    let items = c.loop-app.app-items in
-    let value = c.deref_mut-app-items.ensures.value in
-    let same = c.loop-app.auto.app-items ∙ ap length value in
-    whole_kept (λ (apps : List App). AreRequeued c.args.apps.now.items apps c.args.masters.now c.loop-app.masters c.args.asks.now c.loop-app.asks) c.args.apps.now.len items c.args.apps.now.items same c.args.apps.now.ok.0
-    (subst (λ (apps : List App). AreRequeued apps items c.args.masters.now c.loop-app.masters c.args.asks.now c.loop-app.asks) value c.loop-app.invariant.queued)
+pub returns-in-At-clause-marks : goal.returns-in-At-clause-marks
+returns-in-At-clause-marks c =
+    let only = only-at (λ (app : App). same_name app.name c.args.container.now.app) c.args.apps.now.items c.args.spot c.in-At.place c.in-At.is c.requires in
+    let leaf = c.args.leaf.now in
+    let label = c.args.label.now in
+    let k = c.args.container.now in
+    only-changed (noted leaf) (remarked label k c.args.clock) (λ (app : App). same_name app.name k.app) (marked-other label k c.args.clock leaf) c.args.apps.now.items c.in-At.place c.index_mut-app.result.now c.mark_at.new.app only
+    c.index_mut-app.ensures.value c.mark_at.ensures.marks
+
+pub returns-in-At-clause-queued : goal.returns-in-At-clause-queued
+returns-in-At-clause-queued c =
+    let only = only-at (λ (app : App). same_name app.name c.args.container.now.app) c.args.apps.now.items c.args.spot c.in-At.place c.in-At.is c.requires in
+    let app : App = c.index_mut-app.result.now in
+    set-requeued c.args.apps.now.items c.in-At.place app c.mark_at.new.app c.args.masters.now c.mark_at.new.masters c.args.asks.now c.mark_at.new.asks only.within
+    (subst (λ (old : App). Requeues old c.mark_at.new.app c.args.masters.now c.mark_at.new.masters c.args.asks.now c.mark_at.new.asks) c.index_mut-app.ensures.value c.mark_at.ensures.queued)
+
+pub returns-in-Nowhere-clause-marks : goal.returns-in-Nowhere-clause-marks
+returns-in-Nowhere-clause-marks c =
+    let leaf = c.args.leaf.now in
+    let k = c.args.container.now in
+    none-changed (noted leaf) (remarked c.args.label.now k c.args.clock) (λ (app : App). same_name app.name k.app) (marked-other c.args.label.now k c.args.clock leaf) c.args.apps.now.items (nowhere-of (λ (app : App). same_name app.name c.args.container.now.app) c.args.apps.now.items c.args.spot c.in-Nowhere.is c.requires)
+
+pub returns-in-Nowhere-clause-queued : goal.returns-in-Nowhere-clause-queued
+returns-in-Nowhere-clause-queued c = same-apps c.args.apps.now.items c.args.masters.now c.args.asks.now

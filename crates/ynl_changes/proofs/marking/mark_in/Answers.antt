@@ -17,6 +17,7 @@ invariant_of-row c =
       apart = q.apart row.apart;
       in_turn = q.in_turn row.in_turn;
       numbered = q.below (length row.names.items) row.numbered;
+      named = q.named row.names.items row.named;
       masters_wait = q.masters row.in_turn row.masters_wait;
       asks_wait = q.asks row.in_turn row.asks_wait;
       all_counted = same_stays row.parts.items row.path row.apps.items c.mark_among.new.apps.items (c.mark_among.ensures.meaning row.path) row.all_counted;

@@ -28,7 +28,7 @@ returns-clause-kept c =
     let old = c.args.tables.now.leaves.items in
     let new = c.unmark.new.rows.items in
     let there : c.containers_at.result.now ≡ containers_on s node.label =
-    c.containers_at.ensures ∙ ap (λ (rows : List PartitionRow). containers_on (record s { partitions = partitions_of rows }) node.label) c.deref.ensures.value in
+    c.containers_at.ensures.meaning ∙ ap (λ (rows : List PartitionRow). containers_on (record s { partitions = partitions_of rows }) node.label) c.deref.ensures.value in
     let marks = c.unmark.ensures.marks ∙ ap (λ (ks : List Placed). map (map (unmarked node.label node.name ks)) (noted_rows old)) there in
     record {
       amounts = subst (λ (leaves : List LeafRow). AreKept numbers (leaves_of leaves) rows) c.deref-2.ensures.value c.drop_containers.ensures.kept;

@@ -3,7 +3,7 @@ use Rattle.std.specs.List.{list_all}
 use Rattle.ynl_resource.specs.declared.names.Name.{Name}
 use Rattle.ynl_tables.specs.Known.{IsKnown}
 use Rattle.ynl_tables.specs.declared.rows.App.{App}
-use Rattle.ynl_tables.specs.Queued.{are_in_turn, are_below, masters_waiting, asks_waiting}
+use Rattle.ynl_tables.specs.Queued.{are_in_turn, are_below, are_named, masters_waiting, asks_waiting}
 use Rattle.ynl_waiting.specs.Waiting.{Keeps}
 use Rattle.ynl_changes.specs.Queueing.{is_apart}
 use Rattle.ynl_changes.specs.Sharing.{AreCountedParts}
@@ -20,6 +20,9 @@ invariant_of-push-clause-in_turn c = subst (λ (xs : List App). are_in_turn xs �
 
 pub invariant_of-push-clause-numbered : goal.invariant_of-push-clause-numbered
 invariant_of-push-clause-numbered c = subst (λ (xs : List App). are_below (length c.new.result.items) xs ≡ true) (sym c.new-then-is_leaf-2.ensures.items) refl
+
+pub invariant_of-push-clause-named : goal.invariant_of-push-clause-named
+invariant_of-push-clause-named c = subst (λ (xs : List App). are_named c.new.result.items xs ≡ true) (sym c.new-then-is_leaf-2.ensures.items) refl
 
 pub invariant_of-push-clause-masters_wait : goal.invariant_of-push-clause-masters_wait
 invariant_of-push-clause-masters_wait c = subst (λ (xs : List App). Keeps (masters_waiting xs) c.new-then-is_leaf-3.result) (sym c.new-then-is_leaf-2.ensures.items) c.new-then-is_leaf-3.ensures

@@ -11,11 +11,14 @@ use Rattle.ynl_tables.specs.declared.rows.LeafRow.{LeafRow}
 use Rattle.ynl_tables.specs.Kept.{AreKept}
 use Rattle.ynl_tables.specs.Tables.{leaves_of, partitions_of, state_of}
 use Rattle.ynl_changes.proofs.Marks.{by_partitions, marks_placed}
-use Rattle.ynl_changes.proofs.Summing.{rows_small, kept_leaf}
+use Rattle.ynl_changes.proofs.Summing.{rows_small, rows_below, kept_leaf}
 use Rattle.ynl_changes.proofs.placing.place.Goals as goal
 
 pub put_container-requires-clause-small : goal.put_container-requires-clause-small
 put_container-requires-clause-small c = rows_small c.args.config.now c.args.tables.now c.requires.working
+
+pub put_container-requires-clause-last : goal.put_container-requires-clause-last
+put_container-requires-clause-last c = rows_below c.args.config.now c.args.tables.now c.args.node.now.label c.next_clock-clock.result c.requires.working c.requires.placeable.fresh c.next_clock-clock.ensures
 
 pub put_container-requires-clause-kept : goal.put_container-requires-clause-kept
 put_container-requires-clause-kept c = subst (λ (leaves : List LeafRow). AreKept c.args.tables.now.numbers (leaves_of leaves) c.args.tables.now.partitions.items) (sym c.deref.ensures.value) c.requires.kept.amounts

@@ -1,4 +1,4 @@
-use Rattle.std.proofs.Common.{◌<◌, ◌^◌, List, ◌∷◌, length, refl, sym, subst, arith}
+use Rattle.std.proofs.Common.{◌≡◌, ◌<◌, ◌^◌, true, List, ◌∷◌, length, refl, sym, subst, arith}
 use Rattle.ynl_resource.specs.Names.{root}
 use Rattle.ynl_resource.specs.declared.paths.Path.{Path}
 use Rattle.ynl_model.specs.declared.uses.Use.{Use}
@@ -8,6 +8,8 @@ use Rattle.ynl_resource.specs.Amounts.{IsSmall}
 use Rattle.ynl_model.specs.declared.containers.Placed.{Placed}
 use Rattle.ynl_model.specs.Cluster.{sizes}
 use Rattle.ynl_tables.specs.Kept.{AreByUser, stands_on}
+use Rattle.ynl_tables.specs.Rising.{clock_of, numbers_rise}
+use Rattle.ynl_tables.proofs.Searching.{rise_last}
 use Rattle.ynl_tables.specs.Sums.{AreSums}
 use Rattle.ynl_changes.proofs.Summing.{small_uses, uses_long, raised_all}
 use Rattle.ynl_changes.proofs.placing.put.Goals as goal
@@ -34,3 +36,9 @@ returns-then-is_same-clause-summed c =
       users = subst (AreByUser c.args.numbers.now leaves c.change_users.new.users.items) (sym c.push_copy.ensures.items) (c.change_users.ensures old small c.requires.summed.users);
       filled = subst (AreSums stands_on c.raise-then-is_same.new.self) (sym c.push_copy.ensures.items) (c.raise-then-is_same.ensures stands_on c.args.container.now (record { sized = refl; alone = λ other. refl }) old small c.requires.summed.filled);
     }
+
+-- the container's clock is above those of the others
+pub invariant_of-row : goal.invariant_of-row
+invariant_of-row c =
+    let row = c.args.row.now in
+    record { rising = subst (λ (ks : List Placed). numbers_rise clock_of ks ≡ true) (sym c.push_copy.ensures.items) (rise_last clock_of row.containers.items c.args.container.now row.rising (c.requires.last (sym c.if-is_same.ensures))) }

@@ -1,5 +1,7 @@
 use Rattle.std.proofs.Common.{◌≡◌, ℕ, ◌+◌, ◌<◌, ◌≤◌, length, take, sym, ap, subst, ◌∙◌, arith, true, vec_len, vec_capacity}
-use Rattle.std.specs.List.{AllByRecursion}
+use Rattle.std.specs.Prelude.{nat_lt}
+use Rattle.std.specs.List.{AllByRecursion, list_all}
+use Rattle.ynl_tables.specs.Rising.{clock_of}
 use Rattle.std.proofs.lemmas.List.{take_all}
 use Rattle.ynl_resource.specs.Names.{same_label}
 use Rattle.ynl_tables.specs.declared.rows.PartitionRow.{PartitionRow}
@@ -26,6 +28,13 @@ put-requires-clause-small c =
     let all = subst (AllByRecursion P) (sym c.deref_mut-row-items.ensures.value) c.requires.small in
     let held : P x = subst P (sym was) (all-of P c.deref_mut-row-items.result.now all c.loop-row.row-index x c.loop-row-test.true) in
     subst P c.row-item.is held
+
+pub put-requires-clause-last : goal.put-requires-clause-last
+put-requires-clause-last c =
+    let P : PartitionRow → Type 0 = λ row. same_label row.label c.args.label.now ≡ true → list_all (λ k. nat_lt (clock_of k) c.args.container.now.id.clock) row.containers.items ≡ true in
+    let was = next_is partition_of (put_on c.args.label.now c.args.clock c.args.container.now) _ _ _ c.loop-row.invariant.changed c.row-item.result c.row-item.is in
+    let all = subst (AllByRecursion P) (sym c.deref_mut-row-items.ensures.value) c.requires.last in
+    subst P c.row-item.is (subst P (sym was) (all-of P c.deref_mut-row-items.result.now all c.loop-row.row-index c.row-item.result c.loop-row-test.true))
 
 pub loop-row-preserved : goal.loop-row-preserved
 loop-row-preserved c =

@@ -16,6 +16,7 @@ invariant_of-row c =
       apart = q.apart row.apart;
       in_turn = q.in_turn row.in_turn;
       numbered = q.below (length row.names.items) row.numbered;
+      named = q.named row.names.items row.named;
       masters_wait = q.masters row.in_turn row.masters_wait;
       asks_wait = q.asks row.in_turn row.asks_wait;
       all_counted = parts_stay row.parts.items row.path (taken_at c.args.name.now c.args.label.now c.args.priority) row.apps.items c.take_among.new.apps.items (taken_stays c.args.name.now c.args.label.now c.args.priority) (c.take_among.ensures.meaning row.path) row.all_counted;

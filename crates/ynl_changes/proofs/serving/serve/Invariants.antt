@@ -11,6 +11,7 @@ invariant-loop-i l = record {
   working : IsWorking l.config (state_of l.tables);
   tabled : Tabled (state_of l.tables);
   kept : IsKept l.tables;
+  numbers : l.tables.numbers ≡ l.initial.tables.numbers;
   stands : Stands (state_of l.tables) l.node;
   capacity : HasCapacity l.node.label (l.times - l._i) l.tables.partitions.items;
   reply_capacity : vec_len l.placed + (l.times - l._i) ≤ vec_capacity l.placed;

@@ -1,7 +1,7 @@
-use Rattle.std.proofs.Common.{◌≡◌, ◌∷◌, ◌++◌, List, Bool, sym, ap, subst, ◌∙◌}
+use Rattle.std.proofs.Common.{◌∷◌, ◌++◌, sym, subst, ◌∙◌}
 use Rattle.ynl_resource.specs.declared.names.Name.{Name}
 use Rattle.ynl_tables.specs.UserCounts.{AreCounted}
-use Rattle.ynl_changes.proofs.Sharers.{one_more, apart}
+use Rattle.ynl_changes.proofs.Sharers.{one_more}
 use Rattle.ynl_changes.proofs.sharing.count_in.Goals as goal
 
 pub returns-then-shares-clause-counted : goal.returns-then-shares-clause-counted

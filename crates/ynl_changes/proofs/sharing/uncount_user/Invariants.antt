@@ -1,4 +1,4 @@
-use Rattle.std.proofs.Common.{◌≡◌, ◌<◌, ◌^◌, List, ◌∷◌, ◌++◌, length, take}
+use Rattle.std.proofs.Common.{List, ◌∷◌, ◌++◌, take}
 use Rattle.ynl_tables.specs.declared.rows.App.{App}
 use Rattle.ynl_changes.specs.Sharing.{AreCountedParts}
 use Rattle.ynl_changes.proofs.InPlace.{IsChanged}

@@ -12,14 +12,14 @@ index-requires c =
     let row = c.in-Some.row.now in
     let found : Some row ≡ find (λ (row : PartitionRow). same_label row.label c.args.label.now) t.partitions.items =
     c.in-Some.ensures ∙ ap (find (λ (row : PartitionRow). same_label row.label c.args.label.now)) c.deref.ensures.value in
-    let number : IsNumberOf t.numbers c.args.queue.now (Some c.in-Some-number.number) = c.in-Some-number.ensures in
-    let within = users_within t.numbers (leaves_of t.leaves.items) row c.in-Some-number.number (summed_row t.numbers (leaves_of t.leaves.items) t.partitions.items c.args.label.now row c.requires.amounts.summed found) number.0 in
+    let number : IsNumberOf t.numbers c.args.queue.now (Some c.in-Some-number_near.number) = c.in-Some-number_near.ensures in
+    let within = users_within t.numbers (leaves_of t.leaves.items) row c.in-Some-number_near.number (summed_row t.numbers (leaves_of t.leaves.items) t.partitions.items c.args.label.now row c.requires.amounts.summed found) number.0 in
     omega (arith, within, row.users.ok.0)
 
-pub returns-in-Some-number : goal.returns-in-Some-number
-returns-in-Some-number c =
+pub returns-in-Some-number_near : goal.returns-in-Some-number_near
+returns-in-Some-number_near c =
     let t = c.args.tables.now in
     let row = c.in-Some.row.now in
     let found : Some row ≡ find (λ (row : PartitionRow). same_label row.label c.args.label.now) t.partitions.items =
     c.in-Some.ensures ∙ ap (find (λ (row : PartitionRow). same_label row.label c.args.label.now)) c.deref.ensures.value in
-    kept_user t c.args.label.now c.args.queue.now c.args.user.now row c.in-Some-number.number c.index.result.now c.sum_for.result c.requires.amounts.summed found c.in-Some-number.ensures c.index.ensures c.sum_for.ensures
+    kept_user t c.args.label.now c.args.queue.now c.args.user.now row c.in-Some-number_near.number c.index.result.now c.sum_for.result c.requires.amounts.summed found c.in-Some-number_near.ensures c.index.ensures c.sum_for.ensures

@@ -12,10 +12,10 @@ returns-in-Some-app_named c =
     c.eq.ensures
     ∙ sym (user_found (leaves_of c.args.leaves.now) c.args.container.now.tenant c.args.container.now.app c.args.user.now c.in-Some.row.now (Some c.in-Some-app_named.app)
     (c.in-Some.ensures.meaning ∙ ap (λ t. row_of (leaves_of c.args.leaves.now) t c.args.container.now.app) c.as_bytes.ensures.text)
-    (c.in-Some-app_named.ensures ∙ ap (find (λ (app : App). same_name app.name c.args.container.now.app)) c.deref.ensures.value))
+    c.in-Some-app_named.ensures)
 
 pub returns-in-None-app_named : goal.returns-in-None-app_named
 returns-in-None-app_named c =
     sym (user_found (leaves_of c.args.leaves.now) c.args.container.now.tenant c.args.container.now.app c.args.user.now c.in-Some.row.now None
     (c.in-Some.ensures.meaning ∙ ap (λ t. row_of (leaves_of c.args.leaves.now) t c.args.container.now.app) c.as_bytes.ensures.text)
-    (c.in-None-app_named.ensures ∙ ap (find (λ (app : App). same_name app.name c.args.container.now.app)) c.deref.ensures.value))
+    c.in-None-app_named.ensures)

@@ -12,7 +12,7 @@ returns-in-Some-app_named c = λ queue user.
     found_for (leaves_of c.args.leaves.now) k queue user c.in-Some.row.now (Some c.in-Some-app_named.app)
     (sym c.is_guest_on.ensures ∙ c.if-is_guest_on.false)
     (c.in-Some.ensures.meaning ∙ ap (λ t. row_of (leaves_of c.args.leaves.now) t k.app) c.as_bytes.ensures.text)
-    (c.in-Some-app_named.ensures ∙ ap (find (λ (app : App). same_name app.name k.app)) c.deref.ensures.value)
+    c.in-Some-app_named.ensures
 
 pub returns-in-None-app_named : goal.returns-in-None-app_named
 returns-in-None-app_named c = λ queue user.
@@ -20,4 +20,4 @@ returns-in-None-app_named c = λ queue user.
     finished_for_none (leaves_of c.args.leaves.now) k queue user c.in-Some.row.now
     (sym c.is_guest_on.ensures ∙ c.if-is_guest_on.false)
     (c.in-Some.ensures.meaning ∙ ap (λ t. row_of (leaves_of c.args.leaves.now) t k.app) c.as_bytes.ensures.text)
-    (c.in-None-app_named.ensures ∙ ap (find (λ (app : App). same_name app.name k.app)) c.deref.ensures.value)
+    c.in-None-app_named.ensures

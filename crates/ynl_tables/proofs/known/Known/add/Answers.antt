@@ -1,7 +1,8 @@
-use Rattle.std.proofs.Common.{IfSome, subst}
-use Rattle.ynl_tables.specs.Known.{AreListed}
-use Rattle.ynl_tables.proofs.Knowing.{known_more}
+use Rattle.std.proofs.Common.{IfSome, sym, subst, ◌∙◌}
+use Rattle.ynl_tables.specs.Known.{ArePlaced}
+use Rattle.ynl_tables.proofs.Knowing.{known-more}
 use Rattle.ynl_tables.proofs.known.Known.add.Goals as goal
 
-pub returns-in-Ok : goal.returns-in-Ok
-returns-in-Ok c listed known = known_more c.in-Some.names c.insert.new.self listed c.args.name.now (λ q. c.in-Ok.ensures.updates.0 q) (subst (λ o. IfSome o (AreListed listed)) c.in-Some.is known)
+pub returns-in-Ok-None : goal.returns-in-Ok-None
+returns-in-Ok-None c listed here known =
+    known-more c.in-Some.places c.insert.new.self listed c.args.name.now c.args.place c.in-Ok-None.ensures.updates.0 (sym c.in-Ok-None.ensures.old ∙ c.in-Ok-None.field-0-is) here (subst (λ o. IfSome o (ArePlaced listed)) c.in-Some.is known)

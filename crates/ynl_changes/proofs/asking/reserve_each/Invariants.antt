@@ -6,7 +6,7 @@ use Rattle.ynl_changes.specs.Asking.{HasAskCapacity}
 use Rattle.ynl_changes.specs.Marking.{KeepsMarksAmong}
 use Rattle.ynl_changes.specs.Queueing.{AreRequeued}
 use Rattle.ynl_waiting.specs.declared.waiting.Waiting.{Waiting}
-use Rattle.ynl_changes.proofs.asking.reserve_among.Given as goal
+use Rattle.ynl_changes.proofs.asking.reserve_each.Given as goal
 
 abbrev pub invariant-loop-app : goal.invariant-loop-app
 invariant-loop-app l = record {

@@ -4,7 +4,7 @@ use Rattle.ynl_tables.specs.Tables.{app_of}
 use Rattle.ynl_changes.specs.Queueing.{AreRequeued}
 use Rattle.ynl_changes.specs.Marking.{noted, remarked}
 use Rattle.ynl_changes.proofs.InPlace.{IsChanged}
-use Rattle.ynl_changes.proofs.marking.mark_among.Given as goal
+use Rattle.ynl_changes.proofs.marking.mark_each.Given as goal
 
 abbrev pub invariant-loop-app : goal.invariant-loop-app
 invariant-loop-app l = record {
