@@ -28,9 +28,10 @@ use Rattle.ynl_laws.proofs.Service.OrderTotal.{key_order_total}
 use Rattle.ynl_laws.specs.Working.{Pairs}
 use Rattle.ynl_model.specs.declared.proposals.What.TheVariants.{Ask as Asked}
 use Rattle.ynl_tables.specs.declared.rows.App.{App}
+use Rattle.ynl_tables.specs.Rising.{IsPlaceAt}
 use Rattle.ynl_tables.specs.declared.rows.LeafRow.{LeafRow}
 use Rattle.ynl_tables.specs.Marked.{IsMarkedApp, AreMarkedIn}
-use Rattle.ynl_tables.specs.Queued.{are_apart, ask_class, ask_turn, is_ask_at, ask_waits}
+use Rattle.ynl_tables.specs.Queued.{number_of, are_apart, ask_class, ask_turn, is_ask_at, ask_waits}
 use Rattle.ynl_tables.specs.Tables.{app_of}
 use Rattle.ynl_waiting.specs.declared.classes.Class.{Class}
 use Rattle.ynl_waiting.specs.declared.classes.ClassRow.{ClassRow}
@@ -40,12 +41,12 @@ use Rattle.ynl_waiting.specs.Waiting.{has, is_turn_later, same_class, same_turn}
 use Rattle.ynl_choice.specs.declared.standings.Candidate.{Candidate}
 use Rattle.ynl_choice.specs.declared.scenes.Scene.{Scene}
 use Rattle.ynl_choice.specs.Choosing.{state_in, key_in, item_of, passes, considered, wanted, wanted_of, asks_in, ArePlaced, HoldsBest}
-use Rattle.ynl_choice.specs.Waits.{item_for, is_placeable, asked_at, IsFirstTurn, IsPlaceOf}
+use Rattle.ynl_choice.specs.Waits.{item_for, is_placeable, asked_at, IsFirstTurn}
 use Rattle.ynl_choice.proofs.Classed.{nat_same, three, all-three, class-self, turn-self, any-with, busy, ask-alike, asks-told, asks-gathered}
 use Rattle.ynl_choice.proofs.Considering.{wanted_all}
 use Rattle.ynl_choice.proofs.FirstTurn.{waits-at, none-before}
 use Rattle.ynl_choice.proofs.Placed.{each_at}
-use Rattle.ynl_choice.proofs.Waits.{each_from}
+use Rattle.ynl_tables.proofs.Searching.{each_from}
 use Rattle.ynl_choice.proofs.Foremost.{chained, turned, stays}
 
 -- ---- one pass over requests of which one is before all others
@@ -195,7 +196,7 @@ no-higher a b h same = grind (arith, nat_tests, h, same)
 
 module _ (scene : Scene) (row : LeafRow) (rows : List ClassRow) (placed : ArePlaced (state_in scene) row) (marked : AreMarkedIn (state_in scene) row)
     (kept : (class : Class) (turn : Turn) → has rows class turn ≡ list_any (ask_waits class turn) row.apps.items)
-    (turn : Turn) (i : ℕ) (app : App) (first : IsFirstTurn (is_placeable scene row.path (Asked scene.label 0)) rows (Some turn)) (place : IsPlaceOf turn.number row.apps.items i) (at : app ≡ get_or row.apps.items i app) where
+    (turn : Turn) (i : ℕ) (app : App) (first : IsFirstTurn (is_placeable scene row.path (Asked scene.label 0)) rows (Some turn)) (place : IsPlaceAt number_of turn.number row.apps.items i) (at : app ≡ get_or row.apps.items i app) where
   abbrev found_app : Application
   found_app = app_of row.path app
 

@@ -15,9 +15,10 @@ use Rattle.ynl_model.specs.Service.{Item, key, key_order, standing, standing_ord
 use Rattle.ynl_laws.specs.First.{is_later}
 use Rattle.ynl_laws.proofs.Lists.{Each-weaker}
 use Rattle.ynl_tables.specs.declared.rows.App.{App}
+use Rattle.ynl_tables.specs.Rising.{IsPlaceAt}
 use Rattle.ynl_tables.specs.declared.rows.LeafRow.{LeafRow}
 use Rattle.ynl_tables.specs.Marked.{IsMarkedApp, AreMarkedIn}
-use Rattle.ynl_tables.specs.Queued.{are_in_turn}
+use Rattle.ynl_tables.specs.Queued.{number_of, are_in_turn}
 use Rattle.ynl_waiting.specs.declared.classes.Class.{Class}
 use Rattle.ynl_waiting.specs.declared.classes.ClassRow.{ClassRow}
 use Rattle.ynl_waiting.specs.declared.classes.Turn.{Turn}
@@ -27,11 +28,11 @@ use Rattle.ynl_choice.specs.declared.standings.Candidate.{Candidate}
 use Rattle.ynl_choice.specs.Choosing.{state_in, key_in, item_of, considered, HoldsBest, IsDesk, IsKeyed, ArePlaced}
 use Rattle.ynl_choice.specs.declared.scenes.Desk.{Desk}
 use Rattle.ynl_choice.specs.Candidates.{is_ahead, key_of, standings_of}
-use Rattle.ynl_choice.specs.Waits.{is_placeable, has_turn, IsFirstTurn, IsPlaceOf}
+use Rattle.ynl_choice.specs.Waits.{is_placeable, has_turn, IsFirstTurn}
 use Rattle.ynl_choice.proofs.Classed.{IsToldBy, turn-found, found-turn, any-at, any-none}
 use Rattle.ynl_choice.proofs.Foremost.{any_passes, IsGathered, nothing, all-behind, decided-at}
 use Rattle.ynl_choice.proofs.Placed.{each_at}
-use Rattle.ynl_choice.proofs.Waits.{rise, each_from}
+use Rattle.ynl_tables.proofs.Searching.{rise, each_from}
 
 -- a turn that is not later has no higher number
 no-higher : (a b : Turn) → is_turn_later a b ≡ false → a.number ≤ b.number
@@ -78,10 +79,10 @@ module _ (scene : Scene) (row : LeafRow) (what : What) (waits : Class → Turn �
       (Each-weaker (λ app. app.number ≢ turn.number) _ (λ app other h. other (told.number found.0 turn app h)) row.apps.items absent) (sym (kept found.0 turn) ∙ found.2)
 
   one-number : (i k : ℕ) (d : App) → i < length row.apps.items → k < length row.apps.items → (get_or row.apps.items k d).number ≡ (get_or row.apps.items i d).number → k ≡ i
-  one-number i k d inside within same = grind (arith, λ (h : i < k). rise row.apps.items rising i k d h within, λ (h : k < i). rise row.apps.items rising k i d h inside, same)
+  one-number i k d inside within same = grind (arith, λ (h : i < k). rise number_of row.apps.items rising i k d h within, λ (h : k < i). rise number_of row.apps.items rising k i d h inside, same)
 
   -- the application of a turn's number waits for that turn
-  pub waits-at : (turn : Turn) (i : ℕ) (d : App) → has_turn (is_placeable scene row.path what) rows turn ≡ true → IsPlaceOf turn.number row.apps.items i
+  pub waits-at : (turn : Turn) (i : ℕ) (d : App) → has_turn (is_placeable scene row.path what) rows turn ≡ true → IsPlaceAt number_of turn.number row.apps.items i
       → (class : Class) × (is_placeable scene row.path what class ≡ true) × (waits class turn (get_or row.apps.items i d) ≡ true)
   waits-at turn i d h place =
       let found = turn-found (is_placeable scene row.path what) rows turn h in
@@ -96,7 +97,7 @@ module _ (scene : Scene) (row : LeafRow) (what : What) (waits : Class → Turn �
       first.1 other (found-turn (is_placeable scene row.path what) rows class other (kept class other ∙ list_any_at (waits class other) row.apps.items i d inside h) may)
 
   -- the application of the first turn is the only one that has to be considered
-  pub first-decides : (turn : Turn) (i : ℕ) (d : App) (held : Option Item) → IsFirstTurn (is_placeable scene row.path what) rows (Some turn) → IsPlaceOf turn.number row.apps.items i
+  pub first-decides : (turn : Turn) (i : ℕ) (d : App) (held : Option Item) → IsFirstTurn (is_placeable scene row.path what) rows (Some turn) → IsPlaceAt number_of turn.number row.apps.items i
       → considered scene held (gather row.apps.items) ≡ considered scene held (gather (get_or row.apps.items i d ∷ []))
   first-decides turn i d held first place =
       decided-at scene row gather i d held gathered placed place.within (λ k less. before k less (of_app k d) refl) here
@@ -107,7 +108,7 @@ module _ (scene : Scene) (row : LeafRow) (what : What) (waits : Class → Turn �
           let within : k < length row.apps.items = let inside = place.within in omega arith in
           let at = turn-of k d within e in
           let up = no-higher turn at.0 (first.1 at.0 at.1) in
-          let lower = rise row.apps.items rising k i d less place.within in
+          let lower = rise number_of row.apps.items rising k i d less place.within in
           let same = place.same d in
           let own = at.2 in
           absurd (omega (arith, up, lower, same, own))
@@ -122,7 +123,7 @@ module _ (scene : Scene) (row : LeafRow) (what : What) (waits : Class → Turn �
   pub none-held : (held : Option Candidate) → IsFirstTurn (is_placeable scene row.path what) rows None → HoldsBest scene held (gather row.apps.items) held
   none-held held none h = record { is = sym (none-waits (item_of held) none); keyed = h }
 
-  pub one-held : (turn : Turn) (i : ℕ) (app : App) (held new : Option Candidate) → IsFirstTurn (is_placeable scene row.path what) rows (Some turn) → IsPlaceOf turn.number row.apps.items i
+  pub one-held : (turn : Turn) (i : ℕ) (app : App) (held new : Option Candidate) → IsFirstTurn (is_placeable scene row.path what) rows (Some turn) → IsPlaceAt number_of turn.number row.apps.items i
       → app ≡ get_or row.apps.items i app → HoldsBest scene held (gather (app ∷ [])) new → HoldsBest scene held (gather row.apps.items) new
   one-held turn i app held new first place at best h =
       let b = best h in

@@ -10,3 +10,4 @@ mod Classed
 mod FirstTurn
 mod FirstAsk
 mod Swapped
+pub mod Placing

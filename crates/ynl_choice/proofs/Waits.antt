@@ -1,15 +1,13 @@
 -- The first turn of classes, one class after another, and the application of its number.
-use Rattle.std.proofs.Common.{◌≡◌, ℕ, zero, suc, ◌+◌, ◌<◌, ◌≤◌, ◌≢◌, Bool, true, false, ◌&&◌, ◌||◌, ◌⊎◌, inl, inr, List, [], ◌∷◌, length, take, take_all, get_or, Option, Some, None, Ok, Err, refl, sym, ap, subst, ◌∙◌, arith}
+use Rattle.std.proofs.Common.{◌≡◌, ℕ, ◌+◌, ◌<◌, ◌≤◌, Bool, true, false, ◌&&◌, ◌||◌, ◌⊎◌, inl, inr, List, [], ◌∷◌, length, take, take_all, get_or, Option, Some, None, refl, sym, ap, subst, ◌∙◌}
 use Rattle.std.specs.BTreeSet.{contains}
 use Rattle.std.specs.Cmp.{IsTotalOrder, nat_cmp_total, then_total, on_total}
-use Rattle.std.specs.List.{AllByRecursion, list_any}
-use Rattle.std.specs.List.Sorted.{IsBinarySearchResult, IsNonDecreasingBy}
-use Rattle.std.specs.Ordering.{is_gt, nat_cmp, ordering_index, ordering_reverse}
+use Rattle.std.specs.List.{list_any}
+use Rattle.std.specs.Ordering.{is_gt, ordering_reverse}
 use Rattle.std.specs.declared.cmp.Ordering.{Ordering}
 use Rattle.std.specs.declared.cmp.Ordering.TheVariants.{Less, Equal, Greater}
 use Rattle.std.proofs.lemmas.Bool.{and_from, and_parts}
-use Rattle.std.proofs.lemmas.Bool.Decides.{nat_tests}
-use Rattle.std.proofs.lemmas.Cmp.{upto, ranked}
+use Rattle.std.proofs.lemmas.Cmp.{upto}
 use Rattle.std.proofs.lemmas.List.Folds.{list_any_more}
 use mathlib.Core.Bool.{true≢false}
 use Rattle.ynl_resource.specs.Names.{same_label}
@@ -17,18 +15,14 @@ use Rattle.ynl_resource.specs.declared.paths.Path.{Path}
 use Rattle.ynl_model.specs.declared.proposals.What.{What}
 use Rattle.ynl_model.specs.Service.{has_room}
 use Rattle.ynl_laws.specs.First.{IsFirst}
-use Rattle.ynl_laws.proofs.Lists.{each-of}
-use Rattle.ynl_tables.specs.declared.rows.App.{App}
-use Rattle.ynl_tables.specs.Queued.{are_in_turn}
 use Rattle.ynl_waiting.specs.declared.classes.Class.{Class}
 use Rattle.ynl_waiting.specs.declared.classes.ClassRow.{ClassRow}
 use Rattle.ynl_waiting.specs.declared.classes.Turn.{Turn}
 use Rattle.ynl_waiting.specs.Waiting.{turn_order, is_turn_later}
 use Rattle.ynl_choice.specs.declared.scenes.Scene.{Scene}
 use Rattle.ynl_choice.specs.Choosing.{state_in, passes}
-use Rattle.ynl_choice.specs.Waits.{item_for, is_open, is_placeable, is_before, has_turn, IsFirstTurn, IsPlaceOf}
+use Rattle.ynl_choice.specs.Waits.{item_for, is_open, is_placeable, is_before, has_turn, IsFirstTurn}
 use Rattle.ynl_choice.proofs.Considering.{no_room}
-use Rattle.ynl_choice.proofs.Placed.{each_at}
 
 turn_order_total : IsTotalOrder turn_order
 turn_order_total = then_total (on_total (λ (s : Turn). s.number) nat_cmp_total) (on_total (λ (s : Turn). s.priority) nat_cmp_total)
@@ -143,32 +137,3 @@ none-open scene leaf what (row ∷ rows) h turn there = go (is_open scene row.cl
 
 pub rows-all : (test : Class → Bool) (rows : List ClassRow) (i : ℕ) (first : Option Turn) → length rows ≤ i → IsFirstTurn test (take i rows) first → IsFirstTurn test rows first
 rows-all test rows i first end h = subst (λ (some : List ClassRow). IsFirstTurn test some first) (take_all i rows end) h
-
--- ---- numbers that rise
-
-pub rise : (apps : List App) → are_in_turn apps ≡ true → (i j : ℕ) (d : App) → i < j → j < length apps → (get_or apps i d).number < (get_or apps j d).number
-rise [] h i j d below inside = absurd (omega arith)
-rise (app ∷ apps) h i zero d below inside = absurd (omega arith)
-rise (app ∷ apps) h zero (suc j) d below inside =
-    let less : j < length apps = omega arith in
-    let test = each_at _ apps j d less (each-of _ apps (and_parts _ _ h).0) in
-    grind (arith, nat_tests, test)
-rise (app ∷ apps) h (suc i) (suc j) d below inside = rise apps (and_parts _ _ h).1 i j d (omega arith) (omega arith)
-
-no_higher : (apps : List App) → are_in_turn apps ≡ true → (i j : ℕ) (d : App) → i ≤ j → j < length apps → (get_or apps i d).number ≤ (get_or apps j d).number
-no_higher apps h i j d below inside = grind (arith, rise apps h i j d, λ (e : i ≡ j). ap (λ k. (get_or apps k d).number) e)
-
-compared_rise : (apps : List App) → are_in_turn apps ≡ true → (n : ℕ) → IsNonDecreasingBy (λ app. ordering_index (nat_cmp app.number n)) apps
-compared_rise apps h n i j d below inside = let up = no_higher apps h i j d below inside in grind (arith, nat_tests)
-
-pub each_from : {X : Type 0} (P : X → Type 0) (xs : List X) → ((i : ℕ) (d : X) → i < length xs → P (get_or xs i d)) → AllByRecursion P xs
-each_from P [] h = tt
-each_from P (x ∷ xs) h = (h 0 x (omega arith), each_from P xs (λ i d inside. h (suc i) d (omega arith)))
-
-pub search_found : (apps : List App) (n i : ℕ) → i < length apps → IsBinarySearchResult (λ app. nat_cmp app.number n) apps (Ok i) → IsPlaceOf n apps i
-search_found apps n i inside r = record { within = inside; same = λ d. ranked _ n _ (sym (r d)) }
-
-pub search_absent : (apps : List App) → are_in_turn apps ≡ true → (n i : ℕ) → i ≤ length apps → IsBinarySearchResult (λ app. nat_cmp app.number n) apps (Err i) → AllByRecursion (λ app. app.number ≢ n) apps
-search_absent apps h n i inside r =
-    let parted = r (compared_rise apps h n) in
-    each_from (λ app. app.number ≢ n) apps (λ k d lt e. grind (arith, λ (below : k < i). ranked _ n _ (sym (parted.0 k d (omega arith) below)), λ (from : i ≤ k). ranked _ n _ (sym (parted.1 k d from lt))))

@@ -3,3 +3,4 @@ pub mod Choosing
 pub mod LeafUses
 pub mod Checking
 pub mod Waits
+pub mod Boards

@@ -1,5 +1,5 @@
 -- What waits in a leaf, by classes and turns, and which turn is the first that may be placed.
-use Rattle.std.specs.Prelude.{◌≡◌, ℕ, ◌<◌, Bool, true, ◌&&◌, List, length, slice_index_or, Option, Some, None, [], ◌∷◌}
+use Rattle.std.specs.Prelude.{ℕ, Bool, true, ◌≡◌, ◌&&◌, List, Option, Some, None, [], ◌∷◌}
 use Rattle.std.specs.BTreeSet.{contains}
 use Rattle.std.specs.List.{list_any}
 use Rattle.std.specs.Option.{option_map_or}
@@ -9,7 +9,6 @@ use Rattle.ynl_model.specs.declared.proposals.What.{What}
 use Rattle.ynl_model.specs.Applications.{Application, find_ask}
 use Rattle.ynl_model.specs.Service.{Item, has_room}
 use Rattle.ynl_laws.specs.First.{IsFirst}
-use Rattle.ynl_tables.specs.declared.rows.App.{App}
 use Rattle.ynl_waiting.specs.declared.classes.Class.{Class}
 use Rattle.ynl_waiting.specs.declared.classes.ClassRow.{ClassRow}
 use Rattle.ynl_waiting.specs.declared.classes.Turn.{Turn}
@@ -41,11 +40,6 @@ IsFirstTurn test rows first = IsFirst is_turn_later (λ turn. has_turn test rows
 abbrev pub is_before : Option Turn → Turn → Bool
 is_before None turn = true
 is_before (Some best) turn = is_turn_later best turn
-
--- the application at a place has the number
-pub record IsPlaceOf (number : ℕ) (apps : List App) (place : ℕ) : Type 0 where
-  pub within : place < length apps
-  pub same : (d : App) → (slice_index_or apps place d).number ≡ number
 
 -- what an application asks for with a priority
 abbrev pub asked_at : Scene → Application → ℕ → List Item

@@ -6,9 +6,11 @@ ghost use Rattle.ynl_resource.specs.declared.labels.Label.TheVariants.{Unlabelle
 ghost use Rattle.ynl_model.specs.Cluster.{free as free_on};
 ghost use Rattle.ynl_model.specs.Service.{first_of, key, eligible, has_room, asks_for, some_eligible, takes_guests, choice};
 ghost use Rattle.ynl_tables.specs.Bounds.{IsReadable};
+ghost use Rattle.ynl_tables.specs.Numbers.{AreQueuesOf};
 ghost use Rattle.ynl_tables.specs.Tables.{state_of};
 ghost use Rattle.ynl_choice.specs.Choosing.{item_of, IsScene, HoldsBest, all_asks, all_wanted};
 
+use crate::boards::board_of;
 use crate::leaves::{add_asks, add_leaf};
 use crate::requests::Request;
 use crate::scenes::Scene;
@@ -42,6 +44,7 @@ fn add_all_asks(scene: &Scene<'_>, held: &mut Option<Candidate>)
 /// The first of the eligible requests.
 fn first_eligible(config: &Config, tables: &Tables, node: &Node, free: &Resource) -> Option<Request>
     requires readable { IsReadable tables.now }
+    requires numbered { AreQueuesOf config.now tables.now.numbers }
     requires free { free.now ≡ free_on (state_of tables.now) node.now }
     ensures { result ≡ first_of (key config.now (state_of tables.now) node.now.label) (eligible config.now (state_of tables.now) node.now) }
 {
@@ -54,6 +57,7 @@ fn first_eligible(config: &Config, tables: &Tables, node: &Node, free: &Resource
         label: node.label,
         free: *free,
         total,
+        board: board_of(config, tables, &node.label),
     };
     let mut held = None;
     add_all(&scene, &mut held);
@@ -63,6 +67,7 @@ fn first_eligible(config: &Config, tables: &Tables, node: &Node, free: &Resource
 /// The first of the asks for DEFAULT that have room, as guests.
 fn first_guest(config: &Config, tables: &Tables, node: &Node, free: &Resource) -> Option<Request>
     requires readable { IsReadable tables.now }
+    requires numbered { AreQueuesOf config.now tables.now.numbers }
     requires free { free.now ≡ free_on (state_of tables.now) node.now }
     ensures { result ≡ first_of (key config.now (state_of tables.now) Unlabelled) (filter (λ item. has_room (state_of tables.now) node.now item.size) (asks_for (state_of tables.now) Unlabelled)) }
 {
@@ -75,6 +80,7 @@ fn first_guest(config: &Config, tables: &Tables, node: &Node, free: &Resource) -
         label: Label::Unlabelled,
         free: *free,
         total,
+        board: board_of(config, tables, &Label::Unlabelled),
     };
     let mut held = None;
     add_all_asks(&scene, &mut held);
@@ -92,7 +98,8 @@ fn request_in(held: &Option<Candidate>) -> Option<Request>
 
 /// Whether any request is eligible on a node.
 pub fn some_eligible(config: &Config, tables: &Tables, node: &Node) -> bool
-    requires { IsReadable tables.now }
+    requires readable { IsReadable tables.now }
+    requires numbered { AreQueuesOf config.now tables.now.numbers }
     ensures { result ≡ some_eligible config.now (state_of tables.now) node.now }
 {
     let free = free(tables, node);
@@ -112,7 +119,8 @@ pub fn takes_guests(config: &Config, label: &Label) -> bool
 /// The request that is served next on a node: the first of the eligible ones, or else the first
 /// guest. It does not look at the clock.
 pub fn choose(config: &Config, tables: &Tables, node: &Node) -> Option<Request>
-    requires { IsReadable tables.now }
+    requires readable { IsReadable tables.now }
+    requires numbered { AreQueuesOf config.now tables.now.numbers }
     ensures { result ≡ choice config.now (state_of tables.now) node.now }
 {
     let free = free(tables, node);

@@ -1,23 +1,45 @@
 //! Requests that come up one after another, of which the first so far is held.
 
-ghost use Rattle.std.specs.Prelude.{◌≡◌, [], ◌∷◌, ◌&&◌, IfSome, if◌then◌else◌};
-ghost use Rattle.ynl_model.specs.Service.{Item, item_of as request_item, place_in_leaf};
+ghost use Rattle.std.specs.Prelude.{◌≡◌, [], ◌∷◌, ◌&&◌, map, IfSome, if◌then◌else◌};
+ghost use Rattle.ynl_resource.specs.Names.{way_to};
+ghost use Rattle.ynl_model.specs.Service.{Item, item_of as request_item, place_in_leaf, standing};
 ghost use Rattle.ynl_tables.specs.Marked.{IsMarkedApp};
 ghost use Rattle.ynl_tables.specs.Tables.{app_of};
 ghost use Rattle.ynl_choice.specs.Choosing.{state_in, key_in, item_of, passes, overtakes, wants, IsScene, IsDesk, IsKeyed, HoldsBest, masters_of as masters_in, wanted_of, asks_in};
-ghost use Rattle.ynl_choice.specs.Candidates.{next_key};
+ghost use Rattle.ynl_choice.specs.Candidates.{next_key, standings_of};
 ghost use Rattle.ynl_choice.specs.Waits.{asked_at};
 ghost use Rattle.ynl_choice.specs.declared.scenes.Scene.{Scene};
 
 use crate::eligible::is_eligible;
 use crate::order::{Next, is_overtaken};
-use crate::ranking::standings_on;
+use crate::ranking::{standings_by, standings_on};
 use crate::requests::{Request, request_of};
 use crate::scenes::{Desk, Scene, limits_at};
-use crate::standings::Candidate;
+use crate::standings::{Candidate, Standings};
 use ynl_model::{AskRow, What};
 use ynl_resource::Size;
 use ynl_tables::{App, LeafRow, ask_of, is_same, runs};
+
+/// How the queues on the way to a leaf stand, found by their places where the configuration has an index.
+fn standings_to(scene: &Scene<'_>, row: &LeafRow) -> Standings
+    requires { IsScene scene.now }
+    ensures { standings_of result ≡ map (standing scene.now.config.now (state_in scene.now) scene.now.label) (way_to row.now.path) }
+{
+    let names = row.path.names();
+    if let Some(board) = &scene.board {
+        if let Some(steps) = scene.config.steps(row.place, names) {
+            return standings_by(scene, board, steps, names, &row.tenant);
+        }
+    }
+    standings_on(
+        scene.config,
+        scene.tables,
+        names,
+        &row.tenant,
+        &scene.label,
+        &scene.total,
+    )
+}
 
 /// What is worked out of a leaf for all its requests. Its limits are worked out by the first request that
 /// is tested against them.
@@ -25,17 +47,8 @@ pub fn desk_of(scene: &Scene<'_>, row: &LeafRow) -> Desk
     requires { IsScene scene.now }
     ensures { IsDesk scene.now row.now.path result }
 {
-    let names = row.path.names();
-    let standings = standings_on(
-        scene.config,
-        scene.tables,
-        names,
-        &row.tenant,
-        &scene.label,
-        &scene.total,
-    );
     Desk {
-        standings,
+        standings: standings_to(scene, row),
         limits: None,
     }
 }
@@ -77,7 +90,7 @@ fn may_be_placed(
     if scene.as_guests {
         return true;
     }
-    let limits = limits_at(scene, &mut desk.limits, &request.leaf);
+    let limits = limits_at(scene, &mut desk.limits, &request.leaf, row.place);
     is_eligible(scene.tables, &scene.node, &scene.free, &limits, request)
 }
 

@@ -14,9 +14,9 @@ use crate::holding::{add_ask_at, add_asks_of, add_master, desk_of};
 use crate::order::is_leaf_behind;
 use crate::scenes::{Desk, Scene};
 use crate::standings::{Candidate, Standings};
-use crate::turns::{first_turn, is_any_open, place_of};
+use crate::turns::{first_turn, is_any_open};
 use ynl_model::What;
-use ynl_tables::LeafRow;
+use ynl_tables::{LeafRow, place_of};
 use ynl_waiting::ClassRow;
 
 /// What is worked out of a leaf, if it was not yet.

@@ -9,6 +9,7 @@ pub use proposing::propose;
 pub use requests::Request;
 
 mod access;
+mod boards;
 mod checking;
 mod choosing;
 mod eligible;

@@ -6,10 +6,15 @@ ghost use Rattle.ynl_model.specs.Cluster.{total as total_on};
 ghost use Rattle.ynl_model.specs.Service.{standing, last_name};
 ghost use Rattle.ynl_tables.specs.Tables.{state_of};
 ghost use Rattle.ynl_tables.specs.Bounds.{IsReadable};
+ghost use Rattle.ynl_queues.specs.Index.{AreSteps};
+ghost use Rattle.ynl_choice.specs.Boards.{IsBoard};
 ghost use Rattle.ynl_choice.specs.Candidates.{standings_of};
+ghost use Rattle.ynl_choice.specs.Choosing.{state_in, IsScene};
 
+use crate::boards::Board;
+use crate::scenes::Scene;
 use crate::standings::{Standing, Standings};
-use ynl_queues::{Config, step_at};
+use ynl_queues::{Config, share_of, step_at};
 use ynl_resource::{Label, Name, Resource};
 use ynl_tables::{Tables, used};
 
@@ -64,6 +69,42 @@ pub fn standings_on(
     for depth in 0..leaf.len() {
         let step = step_at(leaf, depth + 1);
         places[depth] = standing_of(config, tables, step, label, total);
+    }
+    Standings {
+        places,
+        depth: leaf.len(),
+    }
+}
+
+/// How the queues on the way to a leaf stand on the scene's partition, each found by its place; what each is
+/// guaranteed is its part of what its parent is.
+pub fn standings_by(
+    scene: &Scene<'_>,
+    board: &Board<'_>,
+    steps: &[usize],
+    leaf: &[Name],
+    tenant: &Name,
+) -> Standings
+    requires scene { IsScene scene.now }
+    requires board { IsBoard scene.now.config.now (state_in scene.now) scene.now.label board.now }
+    requires steps { AreSteps scene.now.config.now.queues leaf.now steps.now }
+    requires depth { length leaf.now ≤ 7 }
+    ensures { standings_of result ≡ map (standing scene.now.config.now (state_in scene.now) scene.now.label) (way_to leaf.now) }
+{
+    let mut places = [Standing {
+        used: 0,
+        guaranteed: 0,
+        name: *tenant,
+    }; 7];
+    let mut above = scene.total;
+    for depth in 0..leaf.len() {
+        let place = steps[depth];
+        above = share_of(&above, &board.capacities[place]);
+        places[depth] = Standing {
+            used: board.uses[place + 1].used.memory,
+            guaranteed: above.memory,
+            name: leaf[depth],
+        };
     }
     Standings {
         places,

@@ -1,19 +1,18 @@
 //! The first turn of what waits in a leaf that may be placed. One request of each class is looked at,
 //! since those of one class may be placed together.
 
-ghost use Rattle.std.specs.Prelude.{◌≡◌, ◌≢◌, Bool, true, false, None, ◌&&◌, ◌||◌, IfSome, IfNone};
+ghost use Rattle.std.specs.Prelude.{◌≡◌, Bool, true, false, None, ◌&&◌, ◌||◌};
 ghost use Rattle.std.specs.BTreeSet.{contains};
-ghost use Rattle.std.specs.List.{AllByRecursion, list_any};
+ghost use Rattle.std.specs.List.{list_any};
 ghost use Rattle.ynl_resource.specs.Names.{same_label};
 ghost use Rattle.ynl_resource.specs.declared.paths.Path.{Path};
 ghost use Rattle.ynl_model.specs.declared.proposals.What.{What};
 ghost use Rattle.ynl_model.specs.Service.{has_room};
-ghost use Rattle.ynl_tables.specs.declared.rows.App.{App};
 ghost use Rattle.ynl_laws.specs.First.{IsFirst};
 ghost use Rattle.ynl_waiting.specs.declared.classes.Turn.{Turn};
 ghost use Rattle.ynl_waiting.specs.Waiting.{turn_order, is_turn_later};
 ghost use Rattle.ynl_choice.specs.Choosing.{state_in, passes, IsScene, AreLimits};
-ghost use Rattle.ynl_choice.specs.Waits.{item_for, is_open, is_placeable, is_before, IsFirstTurn, IsPlaceOf};
+ghost use Rattle.ynl_choice.specs.Waits.{item_for, is_open, is_placeable, is_before, IsFirstTurn};
 
 use crate::eligible::is_eligible;
 use crate::leaf_use::LeafUse;
@@ -76,7 +75,7 @@ fn is_allowed(
     if scene.as_guests {
         return true;
     }
-    let limits = limits_at(scene, limits, &row.path);
+    let limits = limits_at(scene, limits, &row.path, row.place);
     let request = request_for(row, what, class);
     is_eligible(scene.tables, &scene.node, &scene.free, &limits, &request)
 }
@@ -137,15 +136,4 @@ pub fn first_turn(
         add_class(scene, limits, row, what, class, &mut held);
     }
     held
-}
-
-/// The place of the application of a number.
-pub fn place_of(row: &LeafRow, number: u64) -> Option<usize>
-    ensures found { IfSome result (IsPlaceOf number row.now.apps.items) }
-    ensures absent { IfNone result (AllByRecursion (λ app. app.number ≢ number) row.now.apps.items) }
-{
-    match row.apps.binary_search_by_key(&number, |app| app.number) {
-        Ok(place) => Some(place),
-        Err(_) => None,
-    }
 }

@@ -8,6 +8,7 @@ use Rattle.ynl_laws.specs.Tabled.{Tabled}
 use Rattle.ynl_core.specs.declared.cluster.Core.TheInside.{Inside}
 use Rattle.ynl_core.specs.Resting.{AreResting}
 use Rattle.ynl_tables.specs.Kept.{IsKept}
+use Rattle.ynl_tables.specs.Numbers.{AreQueuesOf}
 use Rattle.ynl_tables.specs.Tables.{state_of}
 use Rattle.ynl_core.specs.World.{World}
 
@@ -22,7 +23,8 @@ pub record IsSound (c : Config) (s : State) (names : List Name) : Type 0 where
   pub tabled : Tabled s
   pub resting : AreResting c s names
 
--- that is so of the state and the resting nodes that a core keeps, and what it keeps of use is right
+-- that is so of the state and the resting nodes that a core keeps, and what it keeps of use is right, by the numbers of the configuration's queues
 pub record IsWorkingCore (a : Inside) : Type 0 where
   pub sound : IsSound a.config (state_of a.tables) a.resting.keys
   pub kept : IsKept a.tables
+  pub numbered : AreQueuesOf a.config a.tables.numbers

@@ -325,6 +325,7 @@ impl Core {
     pub fn open(alloc: Global, config: Config) -> Result<Core, NoMemory>
         ensures { IfOk result (λ core. core ≡ opened config) }
     {
+        let config = config.indexed(alloc)?;
         let tables = opening_tables(alloc, &config)?;
         let resting = BTreeSet::new(alloc);
         Ok(Core {

@@ -9,6 +9,7 @@ ghost use Rattle.ynl_model.specs.Check.{proposed_item};
 ghost use Rattle.ynl_model.specs.Events.{container_at, container_for, reasons};
 ghost use Rattle.ynl_model.specs.declared.events.Event.TheVariants.{Exited, Release, Commit};
 ghost use Rattle.ynl_tables.specs.Bounds.{IsReadable};
+ghost use Rattle.ynl_tables.specs.Numbers.{AreQueuesOf};
 ghost use Rattle.ynl_tables.specs.Tables.{state_of};
 
 use ynl_choice::{Checked, check};
@@ -58,7 +59,8 @@ pub(crate) fn refuse_commit(
     tables: &Tables,
     proposal: &Proposal,
 ) -> Result<Checked, Refusal>
-    requires { IsReadable tables.now }
+    requires readable { IsReadable tables.now }
+    requires numbered { AreQueuesOf config.now tables.now.numbers }
     ensures refused { IfErr result (λ refusal. first_that_holds (reasons config.now (state_of tables.now) (Commit proposal.now)) ≡ Some refusal) }
     ensures free { IfOk result (λ _. first_that_holds (reasons config.now (state_of tables.now) (Commit proposal.now)) ≡ None) }
     ensures node { IfOk result (λ checked. node_of (state_of tables.now) proposal.now.node ≡ Some checked.node) }

@@ -50,6 +50,7 @@ invariant_of-self-2 c =
             (kept_leaf numbers c.in-Ok.leaf c.args.name (set_ask c.args.ask) (λ app. refl) (λ app. refl) (leaves_of c.self.inside.tables.leaves.items) rows c.self.invariant.kept.amounts);
         marks = c.ask_for.ensures.marks s (c.reserve_ask.ensures.marks s c.self.invariant.kept.marks);
       };
+      numbered = c.self.invariant.numbered;
     }
 
 pub returns-clause-ok : goal.returns-clause-ok
@@ -73,4 +74,5 @@ invariant_of-self c =
         amounts = subst (λ (leaves : List LeafApps). AreKept tables.numbers leaves tables.partitions.items) (sym c.reserve_ask.ensures.meaning) c.self.invariant.kept.amounts;
         marks = c.reserve_ask.ensures.marks (state_of tables) c.self.invariant.kept.marks;
       };
+      numbered = c.self.invariant.numbered;
     }

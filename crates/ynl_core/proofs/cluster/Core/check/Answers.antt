@@ -1,5 +1,5 @@
 use Rattle.ynl_changes.proofs.Summing.{readable}
 use Rattle.ynl_core.proofs.cluster.Core.check.Goals as goal
 
-pub refuse_commit-requires : goal.refuse_commit-requires
-refuse_commit-requires c = readable c.self.inside.config c.self.inside.tables c.self.invariant.sound.working c.self.invariant.sound.tabled c.self.invariant.kept
+pub refuse_commit-requires-clause-readable : goal.refuse_commit-requires-clause-readable
+refuse_commit-requires-clause-readable c = readable c.self.inside.config c.self.inside.tables c.self.invariant.sound.working c.self.invariant.sound.tabled c.self.invariant.kept

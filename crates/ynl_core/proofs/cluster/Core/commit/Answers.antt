@@ -1,4 +1,4 @@
-use Rattle.std.proofs.Common.{◌≡◌, List, rules, sym, subst}
+use Rattle.std.proofs.Common.{◌≡◌, List, rules, sym, subst, ◌∙◌}
 use Rattle.ynl_model.specs.declared.events.Event.{Event}
 use Rattle.ynl_model.specs.declared.events.Event.TheVariants.{Commit}
 use Rattle.ynl_model.specs.Cluster.{Partition}
@@ -11,8 +11,8 @@ use Rattle.ynl_core.proofs.Reserved.{reserved, placeable_reserved}
 use Rattle.ynl_core.proofs.Stepping.{sound_after}
 use Rattle.ynl_core.proofs.cluster.Core.commit.Goals as goal
 
-pub refuse_commit-requires : goal.refuse_commit-requires
-refuse_commit-requires c = readable c.self.inside.config c.self.inside.tables c.self.invariant.sound.working c.self.invariant.sound.tabled c.self.invariant.kept
+pub refuse_commit-requires-clause-readable : goal.refuse_commit-requires-clause-readable
+refuse_commit-requires-clause-readable c = readable c.self.inside.config c.self.inside.tables c.self.invariant.sound.working c.self.invariant.sound.tabled c.self.invariant.kept
 
 pub invariant_of-self-2 : goal.invariant_of-self-2
 unfolding step accepted
@@ -21,7 +21,7 @@ invariant_of-self-2 c =
     let config = c.self.inside.config in
     let event : Event = Commit c.args.proposal in
     let same : (step config (state_of tables) event).state ≡ state_of c.place-container.new.tables = search rules in
-    record { sound = sound_after config (state_of tables) _ event _ _ (search rules) c.amount-sized.ensures.range same c.self.invariant.sound; kept = c.place-container.ensures.kept }
+    record { sound = sound_after config (state_of tables) _ event _ _ (search rules) c.amount-sized.ensures.range same c.self.invariant.sound; kept = c.place-container.ensures.kept; numbered = c.place-container.ensures.numbers ∙ c.self.invariant.numbered }
 
 -- where memory is refused all is as it was
 pub invariant_of-self : goal.invariant_of-self
@@ -31,6 +31,7 @@ invariant_of-self c =
     record {
       sound = subst P (sym c.reserve_containers.ensures.meaning) c.self.invariant.sound;
       kept = (let k = reserved c.self.inside.tables c.reserve_containers.new.rows.items c.reserve_containers.ensures.meaning c.reserve_containers.ensures.summed c.self.invariant.kept in record { amounts = k.0; marks = k.1 });
+      numbered = c.self.invariant.numbered;
     }
 
 pub place-container-requires-clause-kept : goal.place-container-requires-clause-kept

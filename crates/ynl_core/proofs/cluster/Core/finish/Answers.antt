@@ -26,7 +26,7 @@ pub invariant_of-self : goal.invariant_of-self
 invariant_of-self c =
     let config = c.self.inside.config in
     let event : Event = Finish c.args.tenant c.args.name in
-    record { sound = sound_after config (state_of c.self.inside.tables) _ event _ _ (search rules) tt (ap (λ (o : Outcome). o.state) (stepped c)) c.self.invariant.sound; kept = c.finish_application.ensures.kept }
+    record { sound = sound_after config (state_of c.self.inside.tables) _ event _ _ (search rules) tt (ap (λ (o : Outcome). o.state) (stepped c)) c.self.invariant.sound; kept = c.finish_application.ensures.kept; numbered = c.finish_application.ensures.numbers ∙ c.self.invariant.numbered }
 
 pub returns : goal.returns
 returns c =

@@ -29,7 +29,7 @@ invariant_of-self-else-is_empty c =
     let config = c.self.inside.config in
     let event : Event = Heartbeat c.args.name in
     let same : (step config old event).state ≡ state_of c.serve.new.tables = search rules in
-    record { sound = sound_after config old _ event _ _ (search rules) tt same c.self.invariant.sound; kept = c.serve.ensures.kept }
+    record { sound = sound_after config old _ event _ _ (search rules) tt same c.self.invariant.sound; kept = c.serve.ensures.kept; numbered = c.serve.ensures.numbers ∙ c.self.invariant.numbered }
 
 pub invariant_of-self-then-count-gt0 : goal.invariant_of-self-then-count-gt0
 invariant_of-self-then-count-gt0 c =
@@ -53,6 +53,7 @@ invariant_of-self-then-count-gt0 c =
         resting = c.rest.ensures config reserved (unplaced_rests config reserved c.args.name node times free found inside unplaced) sound.resting;
       });
       kept = c.serve.ensures.kept;
+      numbered = c.serve.ensures.numbers ∙ c.self.invariant.numbered;
     }
 
 pub returns-then-rests-clause-ok : goal.returns-then-rests-clause-ok
@@ -74,4 +75,5 @@ invariant_of-self c =
     record {
       sound = subst P (sym c.reserve_containers.ensures.meaning) c.self.invariant.sound;
       kept = (let k = reserved c.self.inside.tables c.reserve_containers.new.rows.items c.reserve_containers.ensures.meaning c.reserve_containers.ensures.summed c.self.invariant.kept in record { amounts = k.0; marks = k.1 });
+      numbered = c.self.invariant.numbered;
     }

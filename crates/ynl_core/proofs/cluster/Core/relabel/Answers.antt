@@ -1,4 +1,4 @@
-use Rattle.std.proofs.Common.{◌≡◌, rules}
+use Rattle.std.proofs.Common.{◌≡◌, rules, ◌∙◌}
 use Rattle.ynl_model.specs.declared.events.Event.{Event}
 use Rattle.ynl_model.specs.declared.events.Event.TheVariants.{Relabel}
 use Rattle.ynl_model.specs.Events.{step, accepted}
@@ -13,4 +13,4 @@ invariant_of-self-2 c =
     let config = c.self.inside.config in
     let event : Event = Relabel c.args.name c.args.label in
     let same : (step config (state_of tables) event).state ≡ state_of c.relabel.new.tables = search rules in
-    record { sound = sound_after config (state_of tables) _ event _ _ (search rules) tt same c.self.invariant.sound; kept = c.relabel.ensures.kept }
+    record { sound = sound_after config (state_of tables) _ event _ _ (search rules) tt same c.self.invariant.sound; kept = c.relabel.ensures.kept; numbered = c.relabel.ensures.numbers ∙ c.self.invariant.numbered }

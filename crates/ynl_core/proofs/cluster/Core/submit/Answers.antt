@@ -57,6 +57,7 @@ invariant_of-self-2 c =
             (kept_submission numbers app s.leaves rows free c.self.invariant.sound.working.kept.uses c.self.invariant.kept.amounts);
         marks = c.submit.ensures.marks s (mark-new s (new_app c.args.queue c.args.app c.args.user c.in-Ok.home c.args.master) c.self.invariant.sound.working.kept free) (c.reserve_application.ensures.marks s c.self.invariant.kept.marks);
       };
+      numbered = c.self.invariant.numbered;
     }
 
 pub returns-clause-ok : goal.returns-clause-ok
@@ -80,4 +81,5 @@ invariant_of-self c =
         amounts = subst (λ (leaves : List LeafApps). AreKept tables.numbers leaves tables.partitions.items) (sym c.reserve_application.ensures.meaning) c.self.invariant.kept.amounts;
         marks = c.reserve_application.ensures.marks (state_of tables) c.self.invariant.kept.marks;
       };
+      numbered = c.self.invariant.numbered;
     }
