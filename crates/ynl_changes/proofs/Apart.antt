@@ -13,7 +13,7 @@ use Rattle.ynl_model.specs.Applications.{is_ask_of}
 use Rattle.ynl_model.specs.declared.applications.AskRow.{AskRow}
 use Rattle.ynl_tables.specs.declared.rows.App.{App}
 use Rattle.ynl_tables.specs.Queued.{are_apart, ask_class, ask_turn, is_ask_at}
-use Rattle.ynl_waiting.specs.Waiting.{same_class, same_turn}
+use Rattle.ynl_waiting.specs.Classes.{same_class, same_turn}
 use Rattle.ynl_waiting.specs.declared.classes.Class.{Class}
 use Rattle.ynl_waiting.specs.declared.classes.Turn.{Turn}
 use Rattle.ynl_changes.specs.Placing.{taken_asks, is_last_of}

@@ -9,9 +9,11 @@ use mathlib.Core.Bool.{true≢false}
 use Rattle.ynl_model.specs.declared.applications.AskRow.{AskRow}
 use Rattle.ynl_tables.specs.declared.rows.App.{App}
 use Rattle.ynl_tables.specs.Queued.{master_class, master_turn, ask_class, ask_turn, is_ask_at}
-use Rattle.ynl_waiting.specs.Waiting.{Keeps, has, same_class, same_turn, same_size, with_one, without_one}
+use Rattle.ynl_waiting.specs.Classes.{has, same_class, same_turn, same_size}
+use Rattle.ynl_waiting.specs.Waiting.{Keeps, with_one, without_one}
 use Rattle.ynl_waiting.specs.declared.classes.Class.{Class}
 use Rattle.ynl_waiting.specs.declared.classes.Turn.{Turn}
+use Rattle.ynl_waiting.specs.declared.rows.Rows.{Rows}
 use Rattle.ynl_waiting.specs.declared.waiting.Waiting.{Waiting}
 use Rattle.ynl_waiting.proofs.Having.{same-number}
 use Rattle.ynl_resource.specs.declared.labels.Label.{Label}
@@ -74,7 +76,7 @@ weaker P Q (Some x) f h = f x h
 
 -- it tells what waits, however that is said
 pub keeps-same : (f g : Class → Turn → Bool) (w : Waiting) → ((c : Class) (t : Turn) → f c t ≡ g c t) → Keeps f w → Keeps g w
-keeps-same f g w e h = weaker (λ rows. (c : Class) (t : Turn) → has rows.items c t ≡ f c t) (λ rows. (c : Class) (t : Turn) → has rows.items c t ≡ g c t) w.rows (λ rows k c t. k c t ∙ e c t) h
+keeps-same f g w e h = weaker (λ rows. (c : Class) (t : Turn) → has rows.classes.items c t ≡ f c t) (λ rows. (c : Class) (t : Turn) → has rows.classes.items c t ≡ g c t) w.rows (λ rows k c t. k c t ∙ e c t) h
 
 pub turned : (n : ℕ) (own now : Class → Turn → Bool) (a b d : Waiting) → Leaves n own a b → Comes now b d → Turns n own now a d
 turned n own now a b d leaves comes = λ others o h. comes others (leaves others o h)

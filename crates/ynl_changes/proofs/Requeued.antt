@@ -17,7 +17,8 @@ use Rattle.ynl_model.specs.declared.applications.AskRow.{AskRow}
 use Rattle.ynl_tables.specs.declared.rows.App.{App}
 use Rattle.ynl_tables.specs.Queued.{number_of, are_apart, are_in_turn, are_below, is_named, are_named, master_class, master_turn, ask_class, ask_turn, is_ask_at, master_waits, ask_waits, masters_waiting, asks_waiting}
 use Rattle.ynl_tables.proofs.Searching.{rise_filter}
-use Rattle.ynl_waiting.specs.Waiting.{Keeps, same_class, same_turn}
+use Rattle.ynl_waiting.specs.Classes.{same_class, same_turn}
+use Rattle.ynl_waiting.specs.Waiting.{Keeps}
 use Rattle.ynl_waiting.specs.declared.classes.Class.{Class}
 use Rattle.ynl_waiting.specs.declared.classes.Turn.{Turn}
 use Rattle.ynl_waiting.specs.declared.waiting.Waiting.{Waiting}

@@ -25,7 +25,7 @@ use Rattle.ynl_waiting.specs.declared.classes.Class.{Class}
 use Rattle.ynl_waiting.specs.declared.classes.ClassRow.{ClassRow}
 use Rattle.ynl_waiting.specs.declared.classes.Turn.{Turn}
 use Rattle.ynl_waiting.proofs.Having.{class-is}
-use Rattle.ynl_waiting.specs.Waiting.{same_class, same_size, same_turn, turn_order, has}
+use Rattle.ynl_waiting.specs.Classes.{same_class, same_size, same_turn, turn_order, has}
 use Rattle.ynl_choice.specs.declared.scenes.Scene.{Scene}
 use Rattle.ynl_choice.specs.Choosing.{state_in, passes, masters_of, asks_in}
 use Rattle.ynl_choice.specs.Waits.{item_for, is_placeable, has_turn}

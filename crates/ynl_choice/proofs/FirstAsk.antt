@@ -37,7 +37,7 @@ use Rattle.ynl_waiting.specs.declared.classes.Class.{Class}
 use Rattle.ynl_waiting.specs.declared.classes.ClassRow.{ClassRow}
 use Rattle.ynl_waiting.specs.declared.classes.Turn.{Turn}
 use Rattle.ynl_waiting.proofs.Having.{class-is}
-use Rattle.ynl_waiting.specs.Waiting.{has, is_turn_later, same_class, same_turn}
+use Rattle.ynl_waiting.specs.Classes.{has, is_turn_later, same_class, same_turn}
 use Rattle.ynl_choice.specs.declared.standings.Candidate.{Candidate}
 use Rattle.ynl_choice.specs.declared.scenes.Scene.{Scene}
 use Rattle.ynl_choice.specs.Choosing.{state_in, key_in, item_of, passes, considered, wanted, wanted_of, asks_in, ArePlaced, HoldsBest}

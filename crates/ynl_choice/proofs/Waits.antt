@@ -13,12 +13,16 @@ use mathlib.Core.Bool.{true≢false}
 use Rattle.ynl_resource.specs.Names.{same_label}
 use Rattle.ynl_resource.specs.declared.paths.Path.{Path}
 use Rattle.ynl_model.specs.declared.proposals.What.{What}
+use Rattle.ynl_resource.specs.Amounts.{fits_in}
+use Rattle.ynl_resource.specs.declared.amounts.Resource.{Resource}
+use Rattle.ynl_model.specs.Cluster.{free}
 use Rattle.ynl_model.specs.Service.{has_room}
+use Rattle.ynl_laws.proofs.Amounts.{fits-trans}
 use Rattle.ynl_laws.specs.First.{IsFirst}
 use Rattle.ynl_waiting.specs.declared.classes.Class.{Class}
 use Rattle.ynl_waiting.specs.declared.classes.ClassRow.{ClassRow}
 use Rattle.ynl_waiting.specs.declared.classes.Turn.{Turn}
-use Rattle.ynl_waiting.specs.Waiting.{turn_order, is_turn_later}
+use Rattle.ynl_waiting.specs.Classes.{turn_order, is_turn_later, are_above}
 use Rattle.ynl_choice.specs.declared.scenes.Scene.{Scene}
 use Rattle.ynl_choice.specs.Choosing.{state_in, passes}
 use Rattle.ynl_choice.specs.Waits.{item_for, is_open, is_placeable, is_before, has_turn, IsFirstTurn}
@@ -134,6 +138,19 @@ none-open scene leaf what (row ∷ rows) h turn there = go (is_open scene row.cl
     go true e h b f there rest = true≢false h
     go false e h true f there rest = true≢false (sym f ∙ closed scene leaf what row.class e)
     go false e h false f there rest = rest h there
+
+-- and no class is open where there is no room for less than all of them take
+pub none-fits : (scene : Scene) (least : Resource) (rows : List ClassRow) → scene.free ≡ free (state_in scene) scene.node → are_above least rows ≡ true → fits_in least scene.free ≡ false → list_any (λ row. is_open scene row.class) rows ≡ false
+none-fits scene least [] is above full = refl
+none-fits scene least (row ∷ rows) is above full =
+    let parts = and_parts (fits_in least row.class.size) (are_above least rows) above in
+    go (is_open scene row.class) refl parts.0 (none-fits scene least rows is parts.1 full)
+  where
+    go : (b : Bool) → is_open scene row.class ≡ b → fits_in least row.class.size ≡ true → list_any (λ row. is_open scene row.class) rows ≡ false → (b || list_any (λ row. is_open scene row.class) rows) ≡ false
+    go false e h rest = rest
+    go true e h rest =
+        let room = (and_parts (same_label row.class.label scene.label) (has_room (state_in scene) scene.node row.class.size) e).1 in
+        absurd (true≢false (sym (fits-trans least row.class.size scene.free h (ap (fits_in row.class.size) is ∙ room)) ∙ full))
 
 pub rows-all : (test : Class → Bool) (rows : List ClassRow) (i : ℕ) (first : Option Turn) → length rows ≤ i → IsFirstTurn test (take i rows) first → IsFirstTurn test rows first
 rows-all test rows i first end h = subst (λ (some : List ClassRow). IsFirstTurn test some first) (take_all i rows end) h

@@ -12,7 +12,7 @@ use Rattle.ynl_laws.specs.First.{IsFirst}
 use Rattle.ynl_waiting.specs.declared.classes.Class.{Class}
 use Rattle.ynl_waiting.specs.declared.classes.ClassRow.{ClassRow}
 use Rattle.ynl_waiting.specs.declared.classes.Turn.{Turn}
-use Rattle.ynl_waiting.specs.Waiting.{turn_order, is_turn_later}
+use Rattle.ynl_waiting.specs.Classes.{turn_order, is_turn_later}
 use Rattle.ynl_choice.specs.declared.scenes.Scene.{Scene}
 use Rattle.ynl_choice.specs.Choosing.{state_in, passes, wanted_of}
 

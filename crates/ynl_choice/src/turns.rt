@@ -10,7 +10,7 @@ ghost use Rattle.ynl_model.specs.declared.proposals.What.{What};
 ghost use Rattle.ynl_model.specs.Service.{has_room};
 ghost use Rattle.ynl_laws.specs.First.{IsFirst};
 ghost use Rattle.ynl_waiting.specs.declared.classes.Turn.{Turn};
-ghost use Rattle.ynl_waiting.specs.Waiting.{turn_order, is_turn_later};
+ghost use Rattle.ynl_waiting.specs.Classes.{turn_order, is_turn_later};
 ghost use Rattle.ynl_choice.specs.Choosing.{state_in, passes, IsScene, AreLimits};
 ghost use Rattle.ynl_choice.specs.Waits.{item_for, is_open, is_placeable, is_before, IsFirstTurn};
 
@@ -20,7 +20,7 @@ use crate::requests::Request;
 use crate::scenes::{Scene, limits_at};
 use ynl_model::What;
 use ynl_tables::{LeafRow, is_same};
-use ynl_waiting::{Class, ClassRow, Turn};
+use ynl_waiting::{Class, ClassRow, Rows, Turn};
 
 /// The request that stands for those of a class. What it is tested for does not read an application's name,
 /// so the user's stands in its place.
@@ -45,8 +45,8 @@ fn is_open(scene: &Scene<'_>, class: &Class) -> bool
     class.size.amount().fits_in(scene.free) && is_same(&class.label, &scene.label)
 }
 
-/// Whether any class is for the partition and has room. Where none is, nothing may be placed.
-pub fn is_any_open(scene: &Scene<'_>, classes: &[ClassRow]) -> bool
+/// Whether any class is for the partition and has room.
+fn is_any_open(scene: &Scene<'_>, classes: &[ClassRow]) -> bool
     requires { IsScene scene.now }
     ensures { result ≡ list_any (λ row. is_open scene.now row.class) classes.now }
 {
@@ -56,6 +56,18 @@ pub fn is_any_open(scene: &Scene<'_>, classes: &[ClassRow]) -> bool
         }
     }
     false
+}
+
+/// Whether any of what waits is for the partition and has room. Where nothing has, nothing may be placed; and
+/// where there is no room for the least that waits, no class is looked at.
+pub fn has_candidates(scene: &Scene<'_>, waiting: &Rows) -> bool
+    requires { IsScene scene.now }
+    ensures { result ≡ list_any (λ row. is_open scene.now row.class) waiting.now.classes.items }
+{
+    if !waiting.least.fits_in(scene.free) {
+        return false;
+    }
+    is_any_open(scene, &waiting.classes)
 }
 
 /// Whether what waits of a class may be placed; a guest wants room alone.

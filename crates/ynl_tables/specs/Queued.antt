@@ -7,7 +7,7 @@ use Rattle.ynl_resource.specs.Names.{same_name}
 use Rattle.ynl_resource.specs.declared.names.Name.{Name}
 use Rattle.ynl_tables.specs.declared.rows.App.{App}
 use Rattle.ynl_tables.specs.Rising.{numbers_rise}
-use Rattle.ynl_waiting.specs.Waiting.{same_class, same_turn}
+use Rattle.ynl_waiting.specs.Classes.{same_class, same_turn}
 use Rattle.ynl_waiting.specs.declared.classes.Class.{Class}
 use Rattle.ynl_waiting.specs.declared.classes.Turn.{Turn}
 

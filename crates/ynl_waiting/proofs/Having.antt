@@ -11,7 +11,8 @@ use Rattle.ynl_laws.proofs.Names.{same-name_sym, same-label_path}
 use Rattle.ynl_waiting.specs.declared.classes.Class.{Class}
 use Rattle.ynl_waiting.specs.declared.classes.ClassRow.{ClassRow}
 use Rattle.ynl_waiting.specs.declared.classes.Turn.{Turn}
-use Rattle.ynl_waiting.specs.Waiting.{turn_order, same_turn, same_size, same_class, has_in, has, with_one, without_one}
+use Rattle.ynl_waiting.specs.Classes.{turn_order, same_turn, same_size, same_class, has_in, has}
+use Rattle.ynl_waiting.specs.Waiting.{with_one, without_one}
 
 pub same-number : (m n : ℕ) → (m == n) ≡ true → m ≡ n
 same-number m n h = grind (arith, nat_tests, h)

@@ -1,2 +1,3 @@
 pub mod Having
+pub mod Least
 pub mod Rest

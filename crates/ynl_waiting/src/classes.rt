@@ -3,7 +3,7 @@
 ghost use Rattle.std.specs.Prelude.{◌≡◌, true};
 ghost use Rattle.std.specs.BTreeSet.{contains};
 ghost use Rattle.ynl_laws.specs.First.{IsFirst};
-ghost use Rattle.ynl_waiting.specs.Waiting.{same_class, same_turn, turn_order, is_turn_later};
+ghost use Rattle.ynl_waiting.specs.Classes.{same_class, turn_order, is_turn_later};
 
 use std::collections::BTreeSet;
 use ynl_resource::{Label, Name, Size};

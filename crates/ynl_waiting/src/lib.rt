@@ -2,8 +2,10 @@
 #![tactic(auto)]
 
 pub use classes::{Class, ClassRow, Turn};
+pub use rows::Rows;
 pub use waiting::Waiting;
 
 mod classes;
 mod keeping;
+mod rows;
 mod waiting;

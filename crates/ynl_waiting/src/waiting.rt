@@ -1,12 +1,14 @@
 //! Requests that wait, found by class and turn.
 
 ghost use Rattle.std.specs.Prelude.{◌≡◌, Bool, false, IfSome};
-ghost use Rattle.ynl_waiting.specs.Waiting.{Keeps, has, with_one, without_one};
+ghost use Rattle.ynl_waiting.specs.Classes.{has};
+ghost use Rattle.ynl_waiting.specs.Waiting.{Keeps, with_one, without_one};
 ghost use Rattle.ynl_waiting.specs.declared.classes.Class.{Class};
 ghost use Rattle.ynl_waiting.specs.declared.classes.Turn.{Turn};
 
-use crate::classes::{Class, ClassRow, Turn};
-use crate::keeping::{add_to, drop_empty, remove_from};
+use crate::classes::{Class, Turn};
+use crate::keeping::{add_to, take_from};
+use crate::rows::Rows;
 use std::alloc::Global;
 
 /// Requests that wait, by their classes and turns: kept while there is memory for them. Where that was
@@ -14,7 +16,7 @@ use std::alloc::Global;
 #[derive(Drop)]
 pub struct Waiting {
     alloc: Global,
-    rows: Option<Vec<ClassRow>>,
+    rows: Option<Rows>,
 }
 
 impl Waiting {
@@ -24,13 +26,13 @@ impl Waiting {
     {
         Waiting {
             alloc,
-            rows: Some(Vec::new(alloc)),
+            rows: Some(Rows::new(alloc)),
         }
     }
 
     /// The rows of the classes of which something waits, where any are kept.
-    pub fn rows(&self) -> Option<&[ClassRow]>
-        ensures { IfSome result (λ rows. (waits : Class → Turn → Bool) → Keeps waits self.now → (class : Class) (turn : Turn) → has rows.now class turn ≡ waits class turn) }
+    pub fn rows(&self) -> Option<&Rows>
+        ensures { IfSome result (λ rows. (waits : Class → Turn → Bool) → Keeps waits self.now → (class : Class) (turn : Turn) → has rows.now.classes.items class turn ≡ waits class turn) }
     {
         match &self.rows {
             Some(rows) => Some(rows),
@@ -57,8 +59,7 @@ impl Waiting {
         ensures { (waits : Class → Turn → Bool) → Keeps waits self.old → Keeps (without_one waits class.now turn.now) self.new }
     {
         if let Some(rows) = &mut self.rows {
-            remove_from(rows, class, turn);
-            drop_empty(rows);
+            take_from(rows, class, turn);
         }
     }
 }

@@ -1,6 +1,6 @@
 use Rattle.std.proofs.Common.{sym, ◌∙◌}
 use Rattle.std.specs.BTreeSet.{contains}
-use Rattle.ynl_waiting.specs.Waiting.{turn_order}
+use Rattle.ynl_waiting.specs.Classes.{turn_order}
 use Rattle.ynl_choice.specs.Waits.{is_placeable}
 use Rattle.ynl_choice.proofs.Waits.{closed, stays-closed}
 use Rattle.ynl_choice.proofs.turns.add_class.Goals as goal

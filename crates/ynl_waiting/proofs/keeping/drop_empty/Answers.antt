@@ -1,7 +1,7 @@
 use Rattle.std.proofs.Common.{rules, not, Bool, List, length, ap, ◌∙◌, ◌==◌}
 use Rattle.std.proofs.lemmas.Fn.{filter_same}
 use Rattle.ynl_waiting.specs.declared.classes.ClassRow.{ClassRow}
-use Rattle.ynl_waiting.specs.Waiting.{has}
+use Rattle.ynl_waiting.specs.Classes.{has}
 use Rattle.ynl_waiting.proofs.Having.{filter-has, no-turns}
 use Rattle.ynl_waiting.proofs.keeping.drop_empty.Goals as goal
 

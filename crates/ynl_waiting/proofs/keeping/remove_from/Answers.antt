@@ -1,7 +1,8 @@
 use Rattle.std.proofs.Common.{◌≡◌, ◌<◌, List, [], ◌∷◌, ◌++◌, length, get_or, take, sym, ap, ◌∙◌, arith}
 use Rattle.std.proofs.lemmas.List.{take_more, take_more_set, length-set}
 use Rattle.ynl_waiting.specs.declared.classes.ClassRow.{ClassRow}
-use Rattle.ynl_waiting.specs.Waiting.{has, has_in, without_one}
+use Rattle.ynl_waiting.specs.Classes.{has, has_in}
+use Rattle.ynl_waiting.specs.Waiting.{without_one}
 use Rattle.ynl_waiting.proofs.Having.{front-less}
 use Rattle.ynl_waiting.proofs.Rest.{rest_is, rest_set}
 use Rattle.ynl_waiting.proofs.keeping.remove_from.Goals as goal

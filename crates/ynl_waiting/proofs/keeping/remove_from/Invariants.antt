@@ -1,7 +1,8 @@
 use Rattle.std.proofs.Common.{◌≡◌, length, take, drop}
 use Rattle.ynl_waiting.specs.declared.classes.Class.{Class}
 use Rattle.ynl_waiting.specs.declared.classes.Turn.{Turn}
-use Rattle.ynl_waiting.specs.Waiting.{has, without_one}
+use Rattle.ynl_waiting.specs.Classes.{has}
+use Rattle.ynl_waiting.specs.Waiting.{without_one}
 use Rattle.ynl_waiting.proofs.keeping.remove_from.Given as goal
 
 abbrev pub invariant-loop-row : goal.invariant-loop-row
