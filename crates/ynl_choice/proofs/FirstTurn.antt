@@ -1,5 +1,5 @@
 -- The application of the first turn decides.
-use Rattle.std.proofs.Common.{◌≡◌, ℕ, ◌<◌, ◌≤◌, ◌≢◌, Bool, true, false, List, [], ◌∷◌, length, get_or, map, Option, Some, None, refl, sym, ap, subst, ◌∙◌, arith}
+use Rattle.std.proofs.Common.{◌≡◌, ℕ, ◌<◌, ◌≤◌, ◌≢◌, Bool, true, false, List, [], ◌∷◌, length, get_or, Option, Some, None, refl, sym, ap, subst, ◌∙◌, arith}
 use Rattle.std.specs.List.{AllByRecursion, list_any}
 use Rattle.std.specs.Ordering.{is_gt, is_lt, nat_cmp, ordering_then}
 use Rattle.std.specs.declared.cmp.Ordering.{Ordering}
@@ -9,9 +9,8 @@ use Rattle.std.proofs.lemmas.Bool.Decides.{nat_tests}
 use Rattle.std.proofs.lemmas.List.Folds.{list_any_at}
 use mathlib.Core.Bool.{true≢false}
 use Rattle.ynl_model.specs.declared.proposals.What.{What}
-use Rattle.ynl_resource.specs.Names.{way_to}
 use Rattle.ynl_resource.specs.declared.paths.Path.{Path}
-use Rattle.ynl_model.specs.Service.{Item, key, key_order, standing, standing_order}
+use Rattle.ynl_model.specs.Service.{Item, key, key_order, standing_order}
 use Rattle.ynl_laws.specs.First.{is_later}
 use Rattle.ynl_laws.proofs.Lists.{Each-weaker}
 use Rattle.ynl_tables.specs.declared.rows.App.{App}
@@ -22,11 +21,10 @@ use Rattle.ynl_tables.specs.Queued.{number_of, are_in_turn}
 use Rattle.ynl_waiting.specs.declared.classes.Class.{Class}
 use Rattle.ynl_waiting.specs.declared.classes.ClassRow.{ClassRow}
 use Rattle.ynl_waiting.specs.declared.classes.Turn.{Turn}
-use Rattle.ynl_waiting.specs.Waiting.{has, is_turn_later}
+use Rattle.ynl_waiting.specs.Classes.{has, is_turn_later}
 use Rattle.ynl_choice.specs.declared.scenes.Scene.{Scene}
 use Rattle.ynl_choice.specs.declared.standings.Candidate.{Candidate}
-use Rattle.ynl_choice.specs.Choosing.{state_in, key_in, item_of, considered, HoldsBest, IsDesk, IsKeyed, ArePlaced}
-use Rattle.ynl_choice.specs.declared.scenes.Desk.{Desk}
+use Rattle.ynl_choice.specs.Choosing.{state_in, key_in, item_of, considered, HoldsBest, IsKeyed, ArePlaced, standings_to}
 use Rattle.ynl_choice.specs.Candidates.{is_ahead, key_of, standings_of}
 use Rattle.ynl_choice.specs.Waits.{is_placeable, has_turn, IsFirstTurn}
 use Rattle.ynl_choice.proofs.Classed.{IsToldBy, turn-found, found-turn, any-at, any-none}
@@ -130,22 +128,19 @@ module _ (scene : Scene) (row : LeafRow) (what : What) (waits : Class → Turn �
       record { is = b.is ∙ ap (λ (x : App). considered scene (item_of held) (gather (x ∷ []))) at ∙ sym (first-decides turn i app (item_of held) first place); keyed = b.keyed }
 
 -- a leaf that stands behind the candidate that is held has nothing before it
-module _ (scene : Scene) (leaf : Path) (desk : Desk) (worked_out : IsDesk scene leaf desk) where
-  late : (best : Candidate) (item : Item) → item.leaf ≡ leaf → IsKeyed scene best → is_ahead (Some best) desk.standings ≡ true → is_later (key_in scene) best.request item ≡ false
+module _ (scene : Scene) (leaf : Path) where
+  late : (best : Candidate) (item : Item) → item.leaf ≡ leaf → IsKeyed scene best → is_ahead (Some best) (standings_to scene leaf) ≡ true → is_later (key_in scene) best.request item ≡ false
   unfolding key
   late best item of keyed ahead =
       ap (λ k. is_gt (key_order k (key_in scene item))) (sym keyed)
-      ∙ ap (λ ways. is_gt (ordering_then (slice_cmp standing_order (standings_of best.standings) ways) (slice_cmp nat_cmp (key_of best).turn (key_in scene item).turn))) (way ∙ sym worked_out.standings)
-      ∙ less (slice_cmp standing_order (standings_of best.standings) (standings_of desk.standings)) ahead
+      ∙ ap (λ (path : Path). is_gt (ordering_then (slice_cmp standing_order (standings_of best.standings) (standings_to scene path)) (slice_cmp nat_cmp (key_of best).turn (key_in scene item).turn))) of
+      ∙ less (slice_cmp standing_order (standings_of best.standings) (standings_to scene leaf)) ahead
     where
-      way : map (standing scene.config.now (state_in scene) scene.label) (way_to item.leaf) ≡ map (standing scene.config.now (state_in scene) scene.label) (way_to leaf)
-      way = ap (λ (path : Path). map (standing scene.config.now (state_in scene) scene.label) (way_to path)) of
-
       less : (o : Ordering) → is_lt o ≡ true → is_gt (ordering_then o (slice_cmp nat_cmp (key_of best).turn (key_in scene item).turn)) ≡ false
       less Less h = refl
       less Equal h = absurd (true≢false (sym h))
       less Greater h = absurd (true≢false (sym h))
 
-  pub held-ahead : (gather : List App → List Item) (apps : List App) (held : Option Candidate) → IsGathered leaf gather → is_ahead held desk.standings ≡ true → HoldsBest scene held (gather apps) held
+  pub held-ahead : (gather : List App → List Item) (apps : List App) (held : Option Candidate) → IsGathered leaf gather → is_ahead held (standings_to scene leaf) ≡ true → HoldsBest scene held (gather apps) held
   held-ahead gather apps None gathered ahead h = absurd (true≢false (sym ahead))
   held-ahead gather apps (Some best) gathered ahead h = record { is = sym (all-behind scene leaf gather gathered apps best.request (λ item of. late best item of h ahead)); keyed = h }

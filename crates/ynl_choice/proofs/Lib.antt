@@ -11,3 +11,4 @@ mod FirstTurn
 mod FirstAsk
 mod Swapped
 pub mod Placing
+mod Before

@@ -4,7 +4,7 @@ use Rattle.std.specs.Option.{option_map_or}
 use Rattle.std.proofs.lemmas.List.{get_or-map, length-map, take-map}
 use Rattle.ynl_resource.specs.Amounts.{scale_floor}
 use Rattle.ynl_resource.specs.Ranges.{whole}
-use Rattle.ynl_resource.specs.Names.{root, way_to, top_level}
+use Rattle.ynl_resource.specs.Names.{way_to, top_level}
 use Rattle.ynl_resource.specs.declared.amounts.Resource.{Resource}
 use Rattle.ynl_resource.specs.declared.labels.Label.{Label}
 use Rattle.ynl_resource.specs.declared.names.Name.{Name}

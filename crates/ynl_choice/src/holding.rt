@@ -1,11 +1,10 @@
 //! Requests that come up one after another, of which the first so far is held.
 
-ghost use Rattle.std.specs.Prelude.{◌≡◌, [], ◌∷◌, ◌&&◌, map, IfSome, if◌then◌else◌};
-ghost use Rattle.ynl_resource.specs.Names.{way_to};
-ghost use Rattle.ynl_model.specs.Service.{Item, item_of as request_item, place_in_leaf, standing};
+ghost use Rattle.std.specs.Prelude.{◌≡◌, [], ◌∷◌, ◌&&◌, IfSome, if◌then◌else◌};
+ghost use Rattle.ynl_model.specs.Service.{Item, item_of as request_item, place_in_leaf};
 ghost use Rattle.ynl_tables.specs.Marked.{IsMarkedApp};
 ghost use Rattle.ynl_tables.specs.Tables.{app_of};
-ghost use Rattle.ynl_choice.specs.Choosing.{state_in, key_in, item_of, passes, overtakes, wants, IsScene, IsDesk, IsKeyed, HoldsBest, masters_of as masters_in, wanted_of, asks_in};
+ghost use Rattle.ynl_choice.specs.Choosing.{state_in, standings_to as standings_in, key_in, item_of, passes, overtakes, wants, IsScene, IsDesk, IsKeyed, HoldsBest, masters_of as masters_in, wanted_of, asks_in};
 ghost use Rattle.ynl_choice.specs.Candidates.{next_key, standings_of};
 ghost use Rattle.ynl_choice.specs.Waits.{asked_at};
 ghost use Rattle.ynl_choice.specs.declared.scenes.Scene.{Scene};
@@ -23,7 +22,7 @@ use ynl_tables::{App, LeafRow, ask_of, is_same, runs};
 /// How the queues on the way to a leaf stand, found by their places where the configuration has an index.
 fn standings_to(scene: &Scene<'_>, row: &LeafRow) -> Standings
     requires { IsScene scene.now }
-    ensures { standings_of result ≡ map (standing scene.now.config.now (state_in scene.now) scene.now.label) (way_to row.now.path) }
+    ensures { standings_of result ≡ standings_in scene.now row.now.path }
 {
     let names = row.path.names();
     if let Some(board) = &scene.board {

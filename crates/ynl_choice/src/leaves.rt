@@ -1,20 +1,22 @@
 //! The first request of a leaf. Where what waits there is kept, it is found by classes and turns, and else
 //! the applications are gone through.
 
-ghost use Rattle.std.specs.Prelude.{◌≡◌};
+ghost use Rattle.std.specs.Prelude.{◌≡◌, true, Some};
+ghost use Rattle.std.specs.Bool.{OnTrue};
 ghost use Rattle.ynl_tables.specs.Marked.{AreMarkedIn};
 ghost use Rattle.ynl_tables.specs.Queued.{masters_waiting, asks_waiting};
-ghost use Rattle.ynl_waiting.specs.Waiting.{has};
+ghost use Rattle.ynl_waiting.specs.Classes.{has};
 ghost use Rattle.ynl_waiting.specs.declared.classes.Class.{Class};
 ghost use Rattle.ynl_waiting.specs.declared.classes.Turn.{Turn};
-ghost use Rattle.ynl_choice.specs.Choosing.{state_in, ArePlaced, IsScene, IsDesk, AreDesks, HoldsBest, masters_of as masters_in, asks_in, wanted_in};
+ghost use Rattle.ynl_choice.specs.Choosing.{state_in, standings_to, ArePlaced, IsScene, IsDesk, AreDesks, HoldsBest, masters_of as masters_in, asks_in, wanted_in};
 ghost use Rattle.ynl_choice.specs.Candidates.{is_ahead};
 
 use crate::holding::{add_ask_at, add_asks_of, add_master, desk_of};
 use crate::order::is_leaf_behind;
+use crate::ranking::come_before;
 use crate::scenes::{Desk, Scene};
-use crate::standings::{Candidate, Standings};
-use crate::turns::{first_turn, is_any_open};
+use crate::standings::Candidate;
+use crate::turns::{first_turn, has_candidates};
 use ynl_model::What;
 use ynl_tables::{LeafRow, place_of};
 use ynl_waiting::ClassRow;
@@ -31,13 +33,39 @@ fn desk_at(scene: &Scene<'_>, row: &LeafRow, desk: &Option<Desk>) -> Desk
     }
 }
 
-/// Whether the one that is held is before all requests of a leaf that stands so.
-fn is_ahead(held: &Option<Candidate>, standings: &Standings) -> bool
-    ensures { result ≡ is_ahead held.now standings.now }
+/// Whether a candidate is known to be before all requests of a leaf, by the first of the queues on the way to it
+/// that decide. Where the configuration has no index it is not known.
+fn is_behind(scene: &Scene<'_>, row: &LeafRow, best: &Candidate) -> bool
+    requires { IsScene scene.now }
+    ensures { OnTrue result (is_ahead (Some best.now) (standings_to scene.now row.now.path) ≡ true) }
 {
-    match held {
-        None => false,
-        Some(best) => is_leaf_behind(best, standings),
+    let names = row.path.names();
+    let Some(board) = &scene.board else {
+        return false;
+    };
+    let Some(steps) = scene.config.steps(row.place, names) else {
+        return false;
+    };
+    come_before(&best.standings, scene, board, steps, names)
+}
+
+/// Whether the request that is held is known to be before all of a leaf.
+fn is_passed(
+    scene: &Scene<'_>,
+    desk: &Option<Desk>,
+    row: &LeafRow,
+    held: &Option<Candidate>,
+) -> bool
+    requires scene { IsScene scene.now }
+    requires desk { AreDesks scene.now row.now.path desk.now }
+    ensures { OnTrue result (is_ahead held.now (standings_to scene.now row.now.path) ≡ true) }
+{
+    let Some(best) = held else {
+        return false;
+    };
+    match desk {
+        Some(known) => is_leaf_behind(best, &known.standings),
+        None => is_behind(scene, row, best),
     }
 }
 
@@ -57,8 +85,7 @@ fn add_each_master(scene: &Scene<'_>, row: &LeafRow, held: &mut Option<Candidate
     }
 }
 
-/// The first of the masters that wait in a leaf, by their classes. Where the request that is held is before
-/// all of them, no limits are worked out.
+/// The first of the masters that wait in a leaf, by their classes.
 fn add_first_master(
     scene: &Scene<'_>,
     desk: &mut Desk,
@@ -74,9 +101,6 @@ fn add_first_master(
     ensures best { HoldsBest scene.now held.old (masters_in scene.now row.now.path row.now.apps.items) held.new }
     ensures desk { IsDesk scene.now row.now.path desk.new }
 {
-    if is_ahead(held, &desk.standings) {
-        return;
-    }
     let Some(turn) = first_turn(scene, &mut desk.limits, row, &What::Master, classes) else {
         return;
     };
@@ -86,7 +110,8 @@ fn add_first_master(
 }
 
 /// The masters wanted on the partition by the applications of a leaf. Where what waits is kept, the first of
-/// them is looked for, and no other is considered.
+/// them is looked for, and no other is considered; and nothing is worked out of the leaf where none has room, or
+/// the request that is held is before all of them.
 fn add_masters(
     scene: &Scene<'_>,
     desk: &mut Option<Desk>,
@@ -100,15 +125,18 @@ fn add_masters(
     ensures best { HoldsBest scene.now held.old (masters_in scene.now row.now.path row.now.apps.items) held.new }
     ensures desk { AreDesks scene.now row.now.path desk.new }
 {
-    let Some(classes) = row.masters.rows() else {
+    let Some(waiting) = row.masters.rows() else {
         add_each_master(scene, row, held);
         return;
     };
-    if !is_any_open(scene, classes) {
+    if !has_candidates(scene, waiting) {
+        return;
+    }
+    if is_passed(scene, desk, row, held) {
         return;
     }
     let mut known = desk_at(scene, row, desk);
-    add_first_master(scene, &mut known, row, classes, held);
+    add_first_master(scene, &mut known, row, &waiting.classes, held);
     *desk = Some(known);
 }
 
@@ -128,8 +156,7 @@ fn add_each_ask(scene: &Scene<'_>, row: &LeafRow, held: &mut Option<Candidate>)
     }
 }
 
-/// The first of what is asked for in a leaf, by classes. Where the request that is held is before all of it,
-/// no limits are worked out.
+/// The first of what is asked for in a leaf, by classes.
 fn add_first_ask(
     scene: &Scene<'_>,
     desk: &mut Desk,
@@ -145,9 +172,6 @@ fn add_first_ask(
     ensures best { HoldsBest scene.now held.old (asks_in scene.now row.now.path row.now.apps.items) held.new }
     ensures desk { IsDesk scene.now row.now.path desk.new }
 {
-    if is_ahead(held, &desk.standings) {
-        return;
-    }
     let what = What::Ask(scene.label, 0);
     let Some(turn) = first_turn(scene, &mut desk.limits, row, &what, classes) else {
         return;
@@ -159,7 +183,8 @@ fn add_first_ask(
 }
 
 /// What the running applications of a leaf ask for on the partition. Where what waits is kept, the first
-/// of it is looked for, and nothing else is considered.
+/// of it is looked for, and nothing else is considered; and nothing is worked out of the leaf where none of it has
+/// room, or the request that is held is before all of it.
 pub fn add_asks(
     scene: &Scene<'_>,
     desk: &mut Option<Desk>,
@@ -173,15 +198,18 @@ pub fn add_asks(
     ensures best { HoldsBest scene.now held.old (asks_in scene.now row.now.path row.now.apps.items) held.new }
     ensures desk { AreDesks scene.now row.now.path desk.new }
 {
-    let Some(classes) = row.asks.rows() else {
+    let Some(waiting) = row.asks.rows() else {
         add_each_ask(scene, row, held);
         return;
     };
-    if !is_any_open(scene, classes) {
+    if !has_candidates(scene, waiting) {
+        return;
+    }
+    if is_passed(scene, desk, row, held) {
         return;
     }
     let mut known = desk_at(scene, row, desk);
-    add_first_ask(scene, &mut known, row, classes, held);
+    add_first_ask(scene, &mut known, row, &waiting.classes, held);
     *desk = Some(known);
 }
 

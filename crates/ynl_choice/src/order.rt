@@ -35,7 +35,8 @@ fn ratio_order(a: &Standing, b: &Standing) -> Ordering
     left.cmp(&right)
 }
 
-fn standing_order(a: &Standing, b: &Standing) -> Ordering
+/// The smaller ratio first, and of equal ones the name that comes first.
+pub fn standing_order(a: &Standing, b: &Standing) -> Ordering
     ensures { result ≡ standing_order a.now b.now }
 {
     match ratio_order(a, b) {

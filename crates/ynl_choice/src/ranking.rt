@@ -1,19 +1,24 @@
 //! What the queues on the way to a leaf stand like on a partition.
 
-ghost use Rattle.std.specs.Prelude.{◌≡◌, ◌<◌, ◌≤◌, length, map};
+ghost use Rattle.std.specs.Prelude.{◌≡◌, ◌<◌, ◌≤◌, ◌+◌, IsTrue, length, map, take};
+ghost use Rattle.std.specs.Ordering.{is_lt};
+ghost use Rattle.std.specs.Cmp.Lexicographic.{slice_cmp};
+ghost use Rattle.ynl_resource.specs.Amounts.{fits_in};
 ghost use Rattle.ynl_resource.specs.Names.{way_to};
 ghost use Rattle.ynl_model.specs.Cluster.{total as total_on};
-ghost use Rattle.ynl_model.specs.Service.{standing, last_name};
+ghost use Rattle.ynl_model.specs.Service.{standing, standing_order, last_name};
 ghost use Rattle.ynl_tables.specs.Tables.{state_of};
 ghost use Rattle.ynl_tables.specs.Bounds.{IsReadable};
 ghost use Rattle.ynl_queues.specs.Index.{AreSteps};
 ghost use Rattle.ynl_choice.specs.Boards.{IsBoard};
 ghost use Rattle.ynl_choice.specs.Candidates.{standings_of};
-ghost use Rattle.ynl_choice.specs.Choosing.{state_in, IsScene};
+ghost use Rattle.ynl_choice.specs.Choosing.{state_in, standings_to, guaranteed_after, IsScene};
 
 use crate::boards::Board;
+use crate::order::standing_order;
 use crate::scenes::Scene;
 use crate::standings::{Standing, Standings};
+use std::cmp::Ordering;
 use ynl_queues::{Config, share_of, step_at};
 use ynl_resource::{Label, Name, Resource};
 use ynl_tables::{Tables, used};
@@ -76,6 +81,46 @@ pub fn standings_on(
     }
 }
 
+/// How a queue on the way to a leaf stands, and what it is guaranteed, of which the queues below it are
+/// guaranteed their parts.
+#[derive(Clone, Copy)]
+struct Footing {
+    standing: Standing,
+    guaranteed: Resource,
+}
+
+/// How the next queue on the way to a leaf stands, of what the one above it is guaranteed; it is found by its
+/// place.
+fn footing_of(
+    scene: &Scene<'_>,
+    board: &Board<'_>,
+    steps: &[usize],
+    leaf: &[Name],
+    depth: usize,
+    above: &Resource,
+) -> Footing
+    requires scene { IsScene scene.now }
+    requires board { IsBoard scene.now.config.now (state_in scene.now) scene.now.label board.now }
+    requires steps { AreSteps scene.now.config.now.queues leaf.now steps.now }
+    requires depth { depth < length leaf.now }
+    requires above { above.now ≡ guaranteed_after scene.now leaf.now depth }
+    requires within { IsTrue (fits_in above.now scene.now.total) }
+    ensures standing { result.standing ≡ standing scene.now.config.now (state_in scene.now) scene.now.label (take (depth + 1) leaf.now) }
+    ensures guaranteed { result.guaranteed ≡ guaranteed_after scene.now leaf.now (depth + 1) }
+    ensures within { IsTrue (fits_in result.guaranteed scene.now.total) }
+{
+    let place = steps[depth];
+    let guaranteed = share_of(above, &board.capacities[place]);
+    Footing {
+        standing: Standing {
+            used: board.uses[place + 1].used.memory,
+            guaranteed: guaranteed.memory,
+            name: leaf[depth],
+        },
+        guaranteed,
+    }
+}
+
 /// How the queues on the way to a leaf stand on the scene's partition, each found by its place; what each is
 /// guaranteed is its part of what its parent is.
 pub fn standings_by(
@@ -89,7 +134,7 @@ pub fn standings_by(
     requires board { IsBoard scene.now.config.now (state_in scene.now) scene.now.label board.now }
     requires steps { AreSteps scene.now.config.now.queues leaf.now steps.now }
     requires depth { length leaf.now ≤ 7 }
-    ensures { standings_of result ≡ map (standing scene.now.config.now (state_in scene.now) scene.now.label) (way_to leaf.now) }
+    ensures { standings_of result ≡ standings_to scene.now leaf.now }
 {
     let mut places = [Standing {
         used: 0,
@@ -98,16 +143,42 @@ pub fn standings_by(
     }; 7];
     let mut above = scene.total;
     for depth in 0..leaf.len() {
-        let place = steps[depth];
-        above = share_of(&above, &board.capacities[place]);
-        places[depth] = Standing {
-            used: board.uses[place + 1].used.memory,
-            guaranteed: above.memory,
-            name: leaf[depth],
-        };
+        let footing = footing_of(scene, board, steps, leaf, depth, &above);
+        places[depth] = footing.standing;
+        above = footing.guaranteed;
     }
     Standings {
         places,
         depth: leaf.len(),
     }
+}
+
+/// Whether some standings come before those of the queues on the way to a leaf. Of these no more are worked out
+/// than decide it.
+pub fn come_before(
+    standings: &Standings,
+    scene: &Scene<'_>,
+    board: &Board<'_>,
+    steps: &[usize],
+    leaf: &[Name],
+) -> bool
+    requires scene { IsScene scene.now }
+    requires board { IsBoard scene.now.config.now (state_in scene.now) scene.now.label board.now }
+    requires steps { AreSteps scene.now.config.now.queues leaf.now steps.now }
+    ensures { result ≡ is_lt (slice_cmp standing_order (standings_of standings.now) (standings_to scene.now leaf.now)) }
+{
+    let held = &standings.places[..standings.depth];
+    let mut above = scene.total;
+    for depth in 0..leaf.len() {
+        if depth >= held.len() {
+            return true;
+        }
+        let footing = footing_of(scene, board, steps, leaf, depth, &above);
+        match standing_order(&held[depth], &footing.standing) {
+            Ordering::Less => return true,
+            Ordering::Greater => return false,
+            Ordering::Equal => above = footing.guaranteed,
+        }
+    }
+    false
 }

@@ -1,4 +1,4 @@
-use Rattle.std.proofs.Common.{◌≡◌, ℕ, ◌∷◌, not, rules, ap, ◌∙◌}
+use Rattle.std.proofs.Common.{ℕ, ◌∷◌, not, rules, ap, ◌∙◌}
 use Rattle.std.specs.Prelude.{nat_lt}
 use Rattle.std.specs.List.{list_all}
 use Rattle.ynl_resource.specs.Amounts.{scale_floor}
@@ -8,7 +8,7 @@ use Rattle.ynl_resource.specs.declared.amounts.Resource.{Resource}
 use Rattle.ynl_resource.specs.declared.paths.Path.{Path}
 use Rattle.ynl_model.specs.declared.uses.Use.{Use}
 use Rattle.ynl_model.specs.Queues.{QueueRow}
-use Rattle.ynl_model.specs.Cluster.{used, masters_used, guaranteed, maximum, is_master, counted}
+use Rattle.ynl_model.specs.Cluster.{guaranteed, maximum, is_master, counted}
 use Rattle.ynl_model.specs.Limits.{master_limit}
 use Rattle.ynl_laws.specs.Uses.{use_of}
 use Rattle.ynl_queues.specs.Index.{IsPlaceOf}

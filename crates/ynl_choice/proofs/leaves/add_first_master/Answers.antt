@@ -1,16 +1,9 @@
-use Rattle.std.proofs.Common.{sym, ◌∙◌}
 use Rattle.ynl_model.specs.declared.proposals.What.TheVariants.{Master}
 use Rattle.ynl_tables.specs.Queued.{master_waits}
 use Rattle.ynl_choice.specs.Choosing.{masters_of}
 use Rattle.ynl_choice.proofs.Classed.{masters-told, masters-gathered}
-use Rattle.ynl_choice.proofs.FirstTurn.{none-held, one-held, is-numbered, held-ahead}
+use Rattle.ynl_choice.proofs.FirstTurn.{none-held, one-held, is-numbered}
 use Rattle.ynl_choice.proofs.leaves.add_first_master.Goals as goal
-
-pub returns-then-is_ahead-clause-best : goal.returns-then-is_ahead-clause-best
-returns-then-is_ahead-clause-best c =
-    let scene = c.args.scene.now in
-    let row = c.args.row.now in
-    held-ahead scene row.path c.args.desk.now c.requires.desk (masters_of scene row.path) row.apps.items c.args.held.now (masters-gathered scene row.path) (sym c.is_ahead.ensures ∙ c.if-is_ahead.true)
 
 pub returns-in_default-clause-best : goal.returns-in_default-clause-best
 returns-in_default-clause-best c =
