@@ -6,7 +6,7 @@ pub use amounts::{Hundredths, Resource, Size};
 pub use ids::Id;
 pub use labels::Label;
 pub use names::{BadName, Name};
-pub use paths::{Path, PathFault};
+pub use paths::{Path, PathFault, same_path};
 pub use ranges::{
     MOST_ASKS, MOST_CHILDREN, MOST_CLOCK, MOST_COUNT, MOST_LABELS, MOST_MEMORY, MOST_NAMES,
     MOST_NODES, MOST_QUEUES, MOST_VCORES, WHOLE,

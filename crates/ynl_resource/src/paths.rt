@@ -6,7 +6,7 @@ ghost use Rattle.std.specs.String.{string_bytes};
 ghost use Rattle.std.specs.Cmp.{partial_equiv_from_equiv};
 ghost use Rattle.std.specs.Cmp.Lexicographic.{pointwise, lists_equiv, nat_list_eq_equiv};
 ghost use Rattle.ynl_resource.specs.NameText.{is_name};
-ghost use Rattle.ynl_resource.specs.Names.{tenant_of};
+ghost use Rattle.ynl_resource.specs.Names.{same_path, tenant_of};
 ghost use Rattle.ynl_resource.specs.Texts.{is_dot, read_path, path_text};
 
 use crate::cuts::cut;
@@ -128,13 +128,25 @@ impl Path {
     }
 }
 
+/// Whether two paths, given by their names below root, name the same queue. The last names are compared
+/// first: queues that differ mostly differ there, and many share the first.
+pub fn same_path(path: &[Name], other: &[Name]) -> bool
+    ensures { result ≡ same_path path.now other.now }
+{
+    match (path.split_last(), other.split_last()) {
+        (Some((name, above)), Some((end, over))) => name == end && above == over,
+        (None, None) => true,
+        _ => false,
+    }
+}
+
 impl PartialEq for Path {
     ghost eq = { pointwise (pointwise nat_eq) };
 
     ghost laws = { partial_equiv_from_equiv (lists_equiv nat_list_eq_equiv) };
 
     fn eq(&self, other: &Path) -> bool {
-        self.names() == other.names()
+        same_path(self.names(), other.names())
     }
 }
 
