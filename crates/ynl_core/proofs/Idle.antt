@@ -1,14 +1,8 @@
 -- Nodes that rest, and a heartbeat that places nothing.
 use Rattle.std.proofs.Common.{◌≡◌, ℕ, zero, suc, ◌<◌, Bool, true, false, ◌||◌, List, [], ◌∷◌, ◌++◌, length, Option, None, Some, refl, sym, ap, subst, ◌∙◌, arith}
-use Rattle.std.specs.List.{list_any}
 use Rattle.ynl_resource.specs.declared.names.Name.{Name}
-use Rattle.std.specs.BTreeMap.{is_at}
-use Rattle.std.specs.BTreeSet.{insert_key}
-use Rattle.std.specs.Ordering.{match_ordering}
-use Rattle.std.specs.Cmp.Lexicographic.{texts_ties}
-use Rattle.std.specs.declared.cmp.Ordering.{Ordering}
-use Rattle.std.specs.declared.cmp.Ordering.TheVariants.{Less, Equal, Greater}
-use Rattle.ynl_resource.specs.Names.{name_order}
+use Rattle.ynl_resource.specs.Names.{same_name}
+use Rattle.ynl_nodes.specs.Members.{is_among}
 use Rattle.ynl_model.specs.declared.nodes.Node.{Node}
 use Rattle.ynl_model.specs.declared.containers.Placed.{Placed}
 use Rattle.ynl_model.specs.Queues.{Config}
@@ -25,24 +19,13 @@ use Rattle.ynl_changes.proofs.Serves.{beat_next, beat_none}
 use Rattle.ynl_laws.proofs.Logic.{some-same}
 use Rattle.ynl_laws.proofs.Names.{same-name_sym}
 
--- a node that is listed rests
-pub listed_rests : (c : Config) (s : State) (names : List Name) (name : Name) → list_any (is_at (name_order name)) names ≡ true → AreResting c s names → Rests c s name
-listed_rests c s [] name e h = absurd (cc)
-listed_rests c s (x ∷ xs) name e h = go (is_at (name_order name) x) refl e (λ more. listed_rests c s xs name more h.1)
+-- one more rests
+pub rests_more : (c : Config) (s : State) (names new : List Name) (name : Name) → Rests c s name → ((other : Name) → is_among new other ≡ true → (same_name other name || is_among names other) ≡ true) → AreResting c s names → AreResting c s new
+rests_more c s names new name h only each other on = go (same_name other name) refl (only other on)
   where
-    go : (b : Bool) → is_at (name_order name) x ≡ b → (b || list_any (is_at (name_order name)) xs) ≡ true → (list_any (is_at (name_order name)) xs ≡ true → Rests c s name) → Rests c s name
-    go true f g later = subst (Rests c s) (sym (same-name_sym name x (texts_ties name x ∙ f))) h.0
-    go false f g later = later g
-
--- one more that rests is listed
-pub rests_more : (c : Config) (s : State) (names : List Name) (name : Name) → Rests c s name → AreResting c s names → AreResting c s (insert_key name_order names name)
-rests_more c s [] name h each = (h, tt)
-rests_more c s (x ∷ xs) name h each = go (name_order name x) (rests_more c s xs name h each.1)
-  where
-    go : (o : Ordering) → AreResting c s (insert_key name_order xs name) → AreResting c s (match_ordering o (name ∷ x ∷ xs) (x ∷ xs) (x ∷ insert_key name_order xs name))
-    go Less rest = (h, each)
-    go Equal rest = each
-    go Greater rest = (each.0, rest)
+    go : (b : Bool) → same_name other name ≡ b → (b || is_among names other) ≡ true → Rests c s other
+    go true same k = subst (Rests c s) (sym (same-name_sym other name same)) h
+    go false away k = each other k
 
 -- a heartbeat that places nothing finds nothing to place
 pub unplaced_none : (c : Config) (node : Node) (times : ℕ) (s : State) → 0 < times → (beat c node times s).placed ≡ [] → next_item c s node ≡ None

@@ -1,5 +1,6 @@
 -- A step, by the first reason that holds.
 use Rattle.std.proofs.Common.{◌≡◌, List, [], Some, None, sym, ap, subst}
+use mathlib.Core.Bool.{true≢false}
 use Rattle.std.specs.Option.{option_map_or}
 use Rattle.ynl_resource.specs.Refusals.{first_that_holds}
 use Rattle.ynl_resource.specs.declared.refusals.Refusal.{Refusal}
@@ -34,7 +35,7 @@ answers_refused old event refusal e =
 
 -- after a change no node rests
 pub none_rests : (c : Config) (s : State) (names : List Name) → names ≡ [] → IsWorking c s → Tabled s → IsSound c s names
-none_rests c s names e w tabled = subst (IsSound c s) (sym e) (record { working = w; tabled = tabled; resting = tt })
+none_rests c s names e w tabled = subst (IsSound c s) (sym e) (record { working = w; tabled = tabled; resting = λ name on. absurd (true≢false (sym on)) })
 
 -- and so after an event
 pub sound_after : (c : Config) (s new : State) (event : Event) (old names : List Name) → names ≡ [] → IsRanged event → (step c s event).state ≡ new → IsSound c s old → IsSound c new names

@@ -25,6 +25,6 @@ pub record IsSound (c : Config) (s : State) (names : List Name) : Type 0 where
 
 -- that is so of the state and the resting nodes that a core keeps, and what it keeps of use is right, by the numbers of the configuration's queues
 pub record IsWorkingCore (a : Inside) : Type 0 where
-  pub sound : IsSound a.config (state_of a.tables) a.resting.keys
+  pub sound : IsSound a.config (state_of a.tables) a.tables.nodes.resting
   pub kept : IsKept a.tables
   pub numbered : AreQueuesOf a.config a.tables.numbers

@@ -17,9 +17,7 @@ use crate::refusals::{
     refuse_maximum, refuse_poll, refuse_propose, refuse_register, refuse_relabel, refuse_release,
     refuse_start, refuse_stop, refuse_submit, refuse_usage,
 };
-use crate::resting::{rest, rests};
 use std::alloc::Global;
-use std::collections::BTreeSet;
 use std::marker::Model;
 use ynl_changes::{
     Submission, ask_for, end, finish_application, join, leave, opening_tables, place, relabel,
@@ -29,15 +27,16 @@ use ynl_choice::{master_limit_of, propose, user_limit_of};
 use ynl_model::{AskRow, Event, Items, Placed, Proposal, Reply};
 use ynl_queues::Config;
 use ynl_resource::{Hundredths, Id, Label, Name, Path, Refusal, Resource, Size};
-use ynl_tables::{Tables, containers_at, own_containers, pending_on, push_copy, usage_of};
+use ynl_tables::{
+    Tables, containers_at, list_live, own_containers, pending_on, rest, usage_of, wake,
+};
 
-/// A cluster: what it is configured with, and its state. The names of nodes that rest are kept
-/// beside it, so that their heartbeats take no search; a change of the cluster strikes them all.
+/// A cluster: what it is configured with, and its state. A node on which nothing is to be placed rests, so that
+/// its heartbeats take no search; a change of the cluster wakes all nodes.
 #[derive(Drop)]
 pub struct Core {
     config: Config,
     tables: Tables,
-    resting: BTreeSet<Name>,
 }
 
 impl Model for Core {
@@ -65,7 +64,7 @@ impl Core {
         }
         let _sized = size.amount();
         join(&self.config, &mut self.tables, &name, &label, &size)?;
-        self.resting.clear();
+        wake(&mut self.tables);
         Ok(Reply::Done)
     }
 
@@ -79,7 +78,7 @@ impl Core {
             Err(refusal) => return Reply::Refused(refusal),
         };
         leave(&mut self.tables, &node);
-        self.resting.clear();
+        wake(&mut self.tables);
         Reply::Done
     }
 
@@ -95,7 +94,7 @@ impl Core {
             Err(refusal) => return Ok(Reply::Refused(refusal)),
         };
         relabel(&self.config, &mut self.tables, &name, &node, &label)?;
-        self.resting.clear();
+        wake(&mut self.tables);
         Ok(Reply::Done)
     }
 
@@ -109,7 +108,7 @@ impl Core {
             Err(refusal) => return Reply::Refused(refusal),
         };
         end(&self.config, &mut self.tables, &container);
-        self.resting.clear();
+        wake(&mut self.tables);
         Reply::Done
     }
 
@@ -127,7 +126,7 @@ impl Core {
         let _sized = ask.size.amount();
         reserve_ask(&mut self.tables.leaves, &leaf, &name, ask.count)?;
         ask_for(&mut self.tables.leaves, &leaf, &name, &ask);
-        self.resting.clear();
+        wake(&mut self.tables);
         Ok(Reply::Done)
     }
 
@@ -141,7 +140,7 @@ impl Core {
             Err(refusal) => return Reply::Refused(refusal),
         };
         end(&self.config, &mut self.tables, &container);
-        self.resting.clear();
+        wake(&mut self.tables);
         Reply::Done
     }
 
@@ -174,7 +173,7 @@ impl Core {
         };
         let alloc = *self.tables.leaves.allocator();
         submit(&mut self.tables.leaves, &new, alloc);
-        self.resting.clear();
+        wake(&mut self.tables);
         Ok(Reply::Done)
     }
 
@@ -186,7 +185,7 @@ impl Core {
         ensures sure { IsTrue (is_refused self.old (Heartbeat name)) → IsOk result }
     {
         let alloc = *self.tables.leaves.allocator();
-        if rests(&self.resting, &name) {
+        if self.tables.nodes.rests(&name) {
             return Ok(Reply::Placed(Items::new(Vec::new(alloc))));
         }
         let node = match refuse_heartbeat(&self.config, &self.tables, &name) {
@@ -198,9 +197,9 @@ impl Core {
         reserve_containers(&mut self.tables.partitions, &node.label, count)?;
         serve(&self.config, &mut self.tables, &node, count, &mut placed);
         if placed.is_empty() && count > 0 {
-            rest(&mut self.resting, &name);
+            rest(&mut self.tables, &name);
         } else {
-            self.resting.clear();
+            wake(&mut self.tables);
         }
         Ok(Reply::Placed(Items::new(placed)))
     }
@@ -217,7 +216,7 @@ impl Core {
         let leaf = *live.leaf;
         let app = live.app.name;
         finish_application(&self.config, &mut self.tables, &leaf, &app);
-        self.resting.clear();
+        wake(&mut self.tables);
         Reply::Done
     }
 
@@ -230,7 +229,7 @@ impl Core {
             return Reply::Refused(refusal);
         }
         self.tables.stops.stop(queue.names());
-        self.resting.clear();
+        wake(&mut self.tables);
         Reply::Done
     }
 
@@ -243,7 +242,7 @@ impl Core {
             return Reply::Refused(refusal);
         }
         self.tables.stops.start(queue.names());
-        self.resting.clear();
+        wake(&mut self.tables);
         Reply::Done
     }
 
@@ -256,7 +255,7 @@ impl Core {
             return Reply::Refused(refusal);
         }
         self.tables.maxima.set(queue.names(), &label, share);
-        self.resting.clear();
+        wake(&mut self.tables);
         Reply::Done
     }
 
@@ -317,7 +316,7 @@ impl Core {
         let node = checked.node;
         reserve_containers(&mut self.tables.partitions, &node.label, 1)?;
         let container = place(&self.config, &mut self.tables, &node, &checked.request);
-        self.resting.clear();
+        wake(&mut self.tables);
         Ok(Reply::Committed(container))
     }
 
@@ -327,12 +326,7 @@ impl Core {
     {
         let config = config.indexed(alloc)?;
         let tables = opening_tables(alloc, &config)?;
-        let resting = BTreeSet::new(alloc);
-        Ok(Core {
-            config,
-            tables,
-            resting,
-        })
+        Ok(Core { config, tables })
     }
 
     /// Takes an event, whatever kind it is of.
@@ -409,12 +403,8 @@ impl Core {
     pub fn containers(&self, alloc: Global, label: &Label) -> Result<Vec<Placed>, NoMemory>
         ensures { IfOk result (λ list. list.items ≡ containers_on self.now.state label.now) }
     {
-        let containers = containers_at(&self.tables.partitions, label);
-        let mut list = Vec::with_capacity(alloc, containers.len())?;
-        for container in containers {
-            push_copy(&mut list, container);
-        }
-        Ok(list)
+        let rows = containers_at(&self.tables.partitions, label);
+        Ok(list_live(alloc, rows)?)
     }
 
     /// What would be placed on the node next, with its stamp; nothing where there is no such node. It

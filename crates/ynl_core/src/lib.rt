@@ -9,6 +9,5 @@ pub use runs::{Answer, Run};
 mod cluster;
 mod memory;
 mod refusals;
-mod resting;
 mod running;
 mod runs;

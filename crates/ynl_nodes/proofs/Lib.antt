@@ -2,3 +2,4 @@ pub mod Indexed
 pub mod Places
 pub mod Summed
 pub mod Whole
+pub mod Resting

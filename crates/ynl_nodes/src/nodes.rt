@@ -1,7 +1,12 @@
 //! The nodes of a cluster.
 
-ghost use Rattle.std.specs.Prelude.{◌≡◌, [], Some, None, false, OnOk, OnErr};
+ghost use Rattle.std.specs.Prelude.{◌≡◌, ◌||◌, [], Some, None, true, false, OnOk, OnErr};
+ghost use Rattle.std.specs.Bool.{OnTrue};
+ghost use Rattle.ynl_resource.specs.Names.{same_name};
+ghost use Rattle.ynl_resource.specs.declared.names.Name.{Name};
 ghost use Rattle.ynl_model.specs.Nodes.{find_node, total, is_full, stamped, joined, left};
+ghost use Rattle.ynl_nodes.specs.Members.{is_among};
+ghost use Rattle.ynl_nodes.specs.Wakings.{CountsOn};
 
 use crate::spots::spot_of;
 use crate::sums::{SumRow, lower, open_row, raise, sum_at};
@@ -12,43 +17,62 @@ use ynl_model::Node;
 use ynl_resource::{Label, MOST_NODES, Name, Resource};
 use ynl_roster::Roster;
 
-/// The nodes of a cluster in the order of joining, no two of one name. A node is found by its name
-/// in few steps, and what the nodes of a label come to is kept. A contract sees the list.
+/// The nodes of a cluster in the order of joining, no two of one name, and which of them rest. A node is found by
+/// its name in few steps, and what the nodes of a label come to is kept. That a node rests is a mark under
+/// its number: the count of wakings at which it came to rest. So to wake all is to count once more, and past the
+/// last count none rests any more. A contract sees the list, and the names of those that rest.
 #[derive(Drop)]
 pub struct Nodes {
     roster: Roster<Node>,
     numbers: BTreeMap<Name, u64>,
     sums: Vec<SumRow>,
+    marks: Roster<u64>,
+    wakings: Option<u64>,
 }
 
 impl Model for Nodes {
-    ghost use Rattle.std.specs.Prelude.{List};
-    ghost use Rattle.ynl_model.specs.declared.nodes.Node.{Node};
+    ghost use Rattle.ynl_nodes.specs.Members.{Members};
 
-    ghost Value = { List Node };
+    ghost Value = { Members };
 
-    ghost use Rattle.ynl_nodes.specs.NodeFields.{nodes_in, AreKept};
+    ghost use Rattle.ynl_nodes.specs.NodeFields.{members_of, AreKept};
 
-    ghost view = { nodes_in };
+    ghost view = { members_of };
 
     ghost invariant = { AreKept };
+}
+
+/// The mark of a node that does not rest.
+const AWAKE: u64 = 0;
+
+/// The next count of wakings, and none past the last.
+fn count_on(wakings: Option<u64>) -> Option<u64>
+    ensures { CountsOn wakings result }
+{
+    match wakings {
+        Some(wakings) => wakings.checked_add(1),
+        None => None,
+    }
 }
 
 impl Nodes {
     /// No node.
     pub fn new(alloc: Global) -> Nodes
-        ensures { result ≡ [] }
+        ensures list { result.list ≡ [] }
+        ensures resting { result.resting ≡ [] }
     {
         Nodes {
             roster: Roster::new(alloc),
             numbers: BTreeMap::new(alloc),
             sums: Vec::new(alloc),
+            marks: Roster::new(alloc),
+            wakings: Some(AWAKE + 1),
         }
     }
 
     /// The node of a name.
     pub fn find(&self, name: &Name) -> Option<Node>
-        ensures { result ≡ find_node self.now name.now }
+        ensures { result ≡ find_node self.now.list name.now }
     {
         match spot_of(&self.numbers, &self.roster, name) {
             Some(spot) => Some(spot.node),
@@ -59,7 +83,7 @@ impl Nodes {
     /// What the nodes of a partition come to.
     #[tactic(auto, unfolding(ynl_model::specs::Nodes::total))]
     pub fn total(&self, label: &Label) -> Resource
-        ensures { result ≡ total self.now label.now }
+        ensures { result ≡ total self.now.list label.now }
     {
         sum_at(&self.sums, label).total
     }
@@ -67,7 +91,7 @@ impl Nodes {
     /// Whether a partition has no place for one more node.
     #[tactic(auto, unfolding(ynl_model::specs::Nodes::is_full))]
     pub fn is_full(&self, label: &Label) -> bool
-        ensures { result ≡ is_full self.now label.now }
+        ensures { result ≡ is_full self.now.list label.now }
     {
         sum_at(&self.sums, label).count >= MOST_NODES
     }
@@ -75,7 +99,8 @@ impl Nodes {
     /// A node gets a stamp, if it stands on this partition.
     #[tactic(auto, unfolding(ynl_model::specs::Nodes::stamped))]
     pub fn stamp(&mut self, name: &Name, label: &Label, stamp: u64)
-        ensures { self.new ≡ stamped name.now label.now stamp self.old }
+        ensures list { self.new.list ≡ stamped name.now label.now stamp self.old.list }
+        ensures resting { self.new.resting ≡ self.old.resting }
     {
         let Some(spot) = spot_of(&self.numbers, &self.roster, name) else {
             return;
@@ -93,10 +118,47 @@ impl Nodes {
         }
     }
 
+    /// Whether a node is known to rest.
+    pub fn rests(&self, name: &Name) -> bool
+        ensures { OnTrue result (is_among self.now.resting name.now ≡ true) }
+    {
+        let Some(wakings) = self.wakings else {
+            return false;
+        };
+        let Some(spot) = spot_of(&self.numbers, &self.roster, name) else {
+            return false;
+        };
+        match self.marks.get(spot.number) {
+            Some(mark) => *mark == wakings,
+            None => false,
+        }
+    }
+
+    /// A node rests until all are woken; where it is not here, nothing changes.
+    pub fn rest(&mut self, name: &Name)
+        ensures list { self.new.list ≡ self.old.list }
+        ensures resting { (other : Name) → is_among self.new.resting other ≡ true → (same_name other name.now || is_among self.old.resting other) ≡ true }
+    {
+        let Some(wakings) = self.wakings else {
+            return;
+        };
+        if let Some(spot) = spot_of(&self.numbers, &self.roster, name) {
+            self.marks.set(spot.number, wakings);
+        }
+    }
+
+    /// No node rests any more.
+    pub fn wake(&mut self)
+        ensures list { self.new.list ≡ self.old.list }
+        ensures resting { self.new.resting ≡ [] }
+    {
+        self.wakings = count_on(self.wakings);
+    }
+
     /// A node leaves, if it stands on the partition that it is said to stand on.
     #[tactic(auto, unfolding(ynl_model::specs::Nodes::left))]
     pub fn leave(&mut self, node: &Node)
-        ensures { self.new ≡ left node.now self.old }
+        ensures { self.new.list ≡ left node.now self.old.list }
     {
         let Some(spot) = spot_of(&self.numbers, &self.roster, &node.name) else {
             return;
@@ -104,6 +166,7 @@ impl Nodes {
         if spot.node.label == node.label {
             let _number = self.numbers.remove(&node.name);
             let _node = self.roster.remove(spot.number);
+            let _mark = self.marks.remove(spot.number);
             lower(&mut self.sums, &node.label, spot.node.size.amount());
         }
     }
@@ -111,10 +174,10 @@ impl Nodes {
     /// A node comes last. Where memory is refused, nothing has changed.
     #[tactic(auto, unfolding(ynl_model::specs::Nodes::joined, ynl_model::specs::Nodes::is_full))]
     pub fn join(&mut self, node: Node) -> Result<(), AllocError>
-        requires new { find_node self.old node.name ≡ None }
-        requires room { is_full self.old node.label ≡ false }
-        ensures ok { OnOk result (self.new ≡ joined node self.old) }
-        ensures err { OnErr result (self.new ≡ self.old) }
+        requires new { find_node self.old.list node.name ≡ None }
+        requires room { is_full self.old.list node.label ≡ false }
+        ensures ok { OnOk result (self.new.list ≡ joined node self.old.list) }
+        ensures err { OnErr result ((self.new.list ≡ self.old.list) × (self.new.resting ≡ self.old.resting)) }
     {
         let Some(number) = self.roster.top().checked_add(1) else {
             return Err(AllocError);
@@ -122,9 +185,11 @@ impl Nodes {
         let size = node.size.amount();
         open_row(&mut self.sums, &node.label)?;
         self.roster.reserve(1)?;
+        self.marks.reserve(1)?;
         match self.numbers.insert(node.name, number) {
             Ok(_) => {
                 self.roster.push_reserved(number, node);
+                self.marks.push_reserved(number, AWAKE);
                 raise(&mut self.sums, &node.label, size);
                 Ok(())
             }
@@ -136,10 +201,10 @@ impl Nodes {
     /// Where memory is refused, nothing has changed.
     #[tactic(auto, unfolding(ynl_model::specs::Nodes::joined, ynl_model::specs::Nodes::left, ynl_model::specs::Nodes::is_full))]
     pub fn rejoin(&mut self, node: &Node, label: &Label, stamp: u64) -> Result<(), AllocError>
-        requires here { find_node self.old node.now.name ≡ Some node.now }
-        requires room { is_full self.old label.now ≡ false }
-        ensures ok { OnOk result (self.new ≡ joined (record { name = node.now.name; label = label.now; size = node.now.size; stamp = stamp }) (left node.now self.old)) }
-        ensures err { OnErr result (self.new ≡ self.old) }
+        requires here { find_node self.old.list node.now.name ≡ Some node.now }
+        requires room { is_full self.old.list label.now ≡ false }
+        ensures ok { OnOk result (self.new.list ≡ joined (record { name = node.now.name; label = label.now; size = node.now.size; stamp = stamp }) (left node.now self.old.list)) }
+        ensures err { OnErr result ((self.new.list ≡ self.old.list) × (self.new.resting ≡ self.old.resting)) }
     {
         let Some(spot) = spot_of(&self.numbers, &self.roster, &node.name) else {
             return Err(AllocError);
@@ -150,9 +215,11 @@ impl Nodes {
         let size = node.size.amount();
         open_row(&mut self.sums, label)?;
         self.roster.reserve(1)?;
+        self.marks.reserve(1)?;
         match self.numbers.insert(node.name, number) {
             Ok(_) => {
                 let _node = self.roster.remove(spot.number);
+                let _mark = self.marks.remove(spot.number);
                 self.roster.push_reserved(
                     number,
                     Node {
@@ -162,6 +229,7 @@ impl Nodes {
                         stamp,
                     },
                 );
+                self.marks.push_reserved(number, AWAKE);
                 lower(&mut self.sums, &node.label, size);
                 raise(&mut self.sums, label, size);
                 Ok(())

@@ -25,8 +25,8 @@ pub(crate) fn refuse_register(
     label: &Label,
 ) -> Option<Refusal>
     ensures value { (size : Resource) → result ≡ first_that_holds (reasons config.now (state_of tables.now) (Register name.now label.now size)) }
-    ensures new { IfNone result (find_node tables.now.nodes name.now ≡ None) }
-    ensures room { IfNone result (is_full tables.now.nodes label.now ≡ false) }
+    ensures new { IfNone result (find_node tables.now.nodes.list name.now ≡ None) }
+    ensures room { IfNone result (is_full tables.now.nodes.list label.now ≡ false) }
 {
     if !config.labels().has(label) {
         return Some(Refusal::NoSuchLabel);
@@ -63,7 +63,7 @@ pub(crate) fn refuse_relabel(
 ) -> Result<Node, Refusal>
     ensures refused { IfErr result (λ refusal. first_that_holds (reasons config.now (state_of tables.now) (Relabel name.now label.now)) ≡ Some refusal) }
     ensures free { IfOk result (λ _. first_that_holds (reasons config.now (state_of tables.now) (Relabel name.now label.now)) ≡ None) }
-    ensures room { IfOk result (λ _. is_full tables.now.nodes label.now ≡ false) }
+    ensures room { IfOk result (λ _. is_full tables.now.nodes.list label.now ≡ false) }
     ensures node { IfOk result (λ node. node_of (state_of tables.now) name.now ≡ Some node) }
 {
     if !config.labels().has(label) {

@@ -21,8 +21,8 @@ by_leaf None leaf s outcome e = absurd (cc)
 by_leaf (Some app) leaf s outcome e = let same : app.leaf ≡ leaf = cc in ap outcome same
 
 -- the step is that the application asks
-stepped : (c : goal.After-clear) → step c.self.inside.config (state_of c.self.inside.tables) (Ask c.args.tenant c.args.name c.args.ask.label c.args.ask.priority c.args.ask.count c.args.ask.size)
-    ≡ done (record { nodes = c.self.inside.tables.nodes; partitions = partitions_of c.self.inside.tables.partitions.items; leaves = leaves_of c.ask_for.new.rows.items; stops = c.self.inside.tables.stops; maxima = c.self.inside.tables.maxima })
+stepped : (c : goal.After-wake) → step c.self.inside.config (state_of c.self.inside.tables) (Ask c.args.tenant c.args.name c.args.ask.label c.args.ask.priority c.args.ask.count c.args.ask.size)
+    ≡ done (record { nodes = c.self.inside.tables.nodes.list; partitions = partitions_of c.self.inside.tables.partitions.items; leaves = leaves_of c.ask_for.new.rows.items; stops = c.self.inside.tables.stops; maxima = c.self.inside.tables.maxima })
 unfolding accepted
 stepped c =
     let config = c.self.inside.config in
@@ -44,30 +44,30 @@ invariant_of-self-2 c =
     let rows = c.self.inside.tables.partitions.items in
     let s : State = state_of c.self.inside.tables in
     record {
-      sound = sound_after config (state_of c.self.inside.tables) _ event _ _ (search rules) c.amount-sized.ensures.range (ap (λ (o : Outcome). o.state) (stepped c)) c.self.invariant.sound;
-      kept = record {
+      sound = sound_after config (state_of c.self.inside.tables) _ event _ _ c.wake.ensures.resting c.amount-sized.ensures.range ((ap (λ (o : Outcome). o.state) (stepped c)) ∙ sym c.wake.ensures.before.state) c.self.invariant.sound;
+      kept = c.wake.ensures.before.kept (record {
         amounts = subst (λ (leaves : List LeafApps). AreKept numbers leaves rows) (sym leaves)
             (kept_leaf numbers c.in-Ok.leaf c.args.name (set_ask c.args.ask) (λ app. refl) (λ app. refl) (leaves_of c.self.inside.tables.leaves.items) rows c.self.invariant.kept.amounts);
         marks = c.ask_for.ensures.marks s (c.reserve_ask.ensures.marks s c.self.invariant.kept.marks);
-      };
-      numbered = c.self.invariant.numbered;
+      });
+      numbered = c.wake.ensures.before.numbers ∙ c.self.invariant.numbered;
     }
 
 pub returns-clause-ok : goal.returns-clause-ok
 returns-clause-ok c =
     let event : Event = Ask c.args.tenant c.args.name c.args.ask.label c.args.ask.priority c.args.ask.count c.args.ask.size in
-    let new : World = record { config = c.self.inside.config; state = (done (record (state_of c.self.inside.tables) { leaves = leaves_of c.ask_for.new.rows.items })).state } in
+    let new : World = record { config = c.self.inside.config; state = state_of c.wake.new.tables } in
     let P : World → Type 0 = λ w. Answers w event new Done in
     subst P c.self.view_is (record {
       told = sym (ap (λ (o : Outcome). o.reply) (stepped c));
-      left = λ i. record { config = c.self.inside.config; state = sym (ap (λ (o : Outcome). o.state) (stepped c)) i };
+      left = λ i. record { config = c.self.inside.config; state = (c.wake.ensures.before.state ∙ sym (ap (λ (o : Outcome). o.state) (stepped c))) i };
     })
 
 -- where memory is refused all is as it was
 pub invariant_of-self : goal.invariant_of-self
 invariant_of-self c =
     let tables = c.self.inside.tables in
-    let P : List LeafApps → Type 0 = λ leaves. IsSound c.self.inside.config (record (state_of tables) { leaves = leaves }) c.self.inside.resting.keys in
+    let P : List LeafApps → Type 0 = λ leaves. IsSound c.self.inside.config (record (state_of tables) { leaves = leaves }) c.self.inside.tables.nodes.resting in
     record {
       sound = subst P (sym c.reserve_ask.ensures.meaning) c.self.invariant.sound;
       kept = record {

@@ -21,13 +21,13 @@ invariant_of-self-2 c =
     let config = c.self.inside.config in
     let event : Event = Commit c.args.proposal in
     let same : (step config (state_of tables) event).state ≡ state_of c.place-container.new.tables = search rules in
-    record { sound = sound_after config (state_of tables) _ event _ _ (search rules) c.amount-sized.ensures.range same c.self.invariant.sound; kept = c.place-container.ensures.kept; numbered = c.place-container.ensures.numbers ∙ c.self.invariant.numbered }
+    record { sound = sound_after config (state_of tables) _ event _ _ c.wake.ensures.resting c.amount-sized.ensures.range (same ∙ sym c.wake.ensures.before.state) c.self.invariant.sound; kept = c.wake.ensures.before.kept (c.place-container.ensures.kept); numbered = c.wake.ensures.before.numbers ∙ c.place-container.ensures.numbers ∙ c.self.invariant.numbered }
 
 -- where memory is refused all is as it was
 pub invariant_of-self : goal.invariant_of-self
 invariant_of-self c =
     let tables = c.self.inside.tables in
-    let P : List Partition → Type 0 = λ rows. IsSound c.self.inside.config (record (state_of tables) { partitions = rows }) c.self.inside.resting.keys in
+    let P : List Partition → Type 0 = λ rows. IsSound c.self.inside.config (record (state_of tables) { partitions = rows }) c.self.inside.tables.nodes.resting in
     record {
       sound = subst P (sym c.reserve_containers.ensures.meaning) c.self.invariant.sound;
       kept = (let k = reserved c.self.inside.tables c.reserve_containers.new.rows.items c.reserve_containers.ensures.meaning c.reserve_containers.ensures.summed c.self.invariant.kept in record { amounts = k.0; marks = k.1 });

@@ -13,7 +13,7 @@ use Rattle.ynl_core.specs.World.{World, Answers}
 use Rattle.ynl_core.proofs.cluster.Core.finish.Goals as goal
 
 -- the step is that the application finishes
-stepped : (c : goal.After-clear) → step c.self.inside.config (state_of c.self.inside.tables) (Finish c.args.tenant c.args.name) ≡ done (state_of c.finish_application.new.tables)
+stepped : (c : goal.After-wake) → step c.self.inside.config (state_of c.self.inside.tables) (Finish c.args.tenant c.args.name) ≡ done (state_of c.finish_application.new.tables)
 unfolding accepted
 stepped c =
     let s : State = state_of c.self.inside.tables in
@@ -26,16 +26,16 @@ pub invariant_of-self : goal.invariant_of-self
 invariant_of-self c =
     let config = c.self.inside.config in
     let event : Event = Finish c.args.tenant c.args.name in
-    record { sound = sound_after config (state_of c.self.inside.tables) _ event _ _ (search rules) tt (ap (λ (o : Outcome). o.state) (stepped c)) c.self.invariant.sound; kept = c.finish_application.ensures.kept; numbered = c.finish_application.ensures.numbers ∙ c.self.invariant.numbered }
+    record { sound = sound_after config (state_of c.self.inside.tables) _ event _ _ c.wake.ensures.resting tt ((ap (λ (o : Outcome). o.state) (stepped c)) ∙ sym c.wake.ensures.before.state) c.self.invariant.sound; kept = c.wake.ensures.before.kept (c.finish_application.ensures.kept); numbered = c.wake.ensures.before.numbers ∙ c.finish_application.ensures.numbers ∙ c.self.invariant.numbered }
 
 pub returns : goal.returns
 returns c =
     let event : Event = Finish c.args.tenant c.args.name in
-    let new : World = record { config = c.self.inside.config; state = state_of c.finish_application.new.tables } in
+    let new : World = record { config = c.self.inside.config; state = state_of c.wake.new.tables } in
     let P : World → Type 0 = λ w. Answers w event new Done in
     subst P c.self.view_is (record {
       told = sym (ap (λ (o : Outcome). o.reply) (stepped c));
-      left = λ i. record { config = c.self.inside.config; state = sym (ap (λ (o : Outcome). o.state) (stepped c)) i };
+      left = λ i. record { config = c.self.inside.config; state = (c.wake.ensures.before.state ∙ sym (ap (λ (o : Outcome). o.state) (stepped c))) i };
     })
 
 pub finish_application-requires-clause-live : goal.finish_application-requires-clause-live

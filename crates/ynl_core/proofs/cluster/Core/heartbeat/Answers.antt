@@ -1,4 +1,4 @@
-use Rattle.std.proofs.Common.{◌≡◌, ◌<◌, List, [], None, Some, rules, sym, ap, subst, ◌∙◌}
+use Rattle.std.proofs.Common.{◌≡◌, true, ◌<◌, List, [], None, Some, rules, sym, ap, subst, ◌∙◌}
 use Rattle.ynl_model.specs.declared.events.Event.{Event}
 use Rattle.ynl_model.specs.declared.events.Event.TheVariants.{Heartbeat}
 use Rattle.ynl_model.specs.declared.replies.Reply.TheVariants.{Placed}
@@ -11,7 +11,10 @@ use Rattle.ynl_laws.proofs.Soundness.Steps.{stands-found}
 use Rattle.ynl_core.specs.CoreFields.{world_of, IsSound}
 use Rattle.ynl_tables.specs.Tables.{state_of, leaves_of, partitions_of}
 use Rattle.ynl_core.specs.World.{World, Answers}
-use Rattle.ynl_core.proofs.Idle.{empty_items, unplaced_more, unplaced_rests, unplaced_same, resting_step}
+use Rattle.std.specs.Bool.{OnTrue}
+use Rattle.ynl_nodes.specs.Members.{is_among}
+use Rattle.ynl_core.specs.Resting.{AreResting}
+use Rattle.ynl_core.proofs.Idle.{empty_items, rests_more, unplaced_more, unplaced_rests, unplaced_same, resting_step}
 use Rattle.ynl_core.proofs.Reserved.{reserved}
 use Rattle.ynl_core.proofs.Stepping.{sound_after}
 use Rattle.ynl_core.proofs.cluster.Core.heartbeat.Goals as goal
@@ -29,7 +32,7 @@ invariant_of-self-else-is_empty c =
     let config = c.self.inside.config in
     let event : Event = Heartbeat c.args.name in
     let same : (step config old event).state ≡ state_of c.serve.new.tables = search rules in
-    record { sound = sound_after config old _ event _ _ (search rules) tt same c.self.invariant.sound; kept = c.serve.ensures.kept; numbered = c.serve.ensures.numbers ∙ c.self.invariant.numbered }
+    record { sound = sound_after config old _ event _ _ c.wake.ensures.resting tt (same ∙ sym c.wake.ensures.before.state) c.self.invariant.sound; kept = c.wake.ensures.before.kept (c.serve.ensures.kept); numbered = c.wake.ensures.before.numbers ∙ c.serve.ensures.numbers ∙ c.self.invariant.numbered }
 
 pub invariant_of-self-then-count-gt0 : goal.invariant_of-self-then-count-gt0
 invariant_of-self-then-count-gt0 c =
@@ -37,30 +40,31 @@ invariant_of-self-then-count-gt0 c =
     let config = c.self.inside.config in
     let node = c.in-Ok.node in
     let times = c.containers_per_heartbeat-count.result in
-    let reserved : State = record { nodes = tables.nodes; partitions = partitions_of c.reserve_containers.new.rows.items; leaves = leaves_of tables.leaves.items; stops = tables.stops; maxima = tables.maxima } in
-    let as_before : state_of tables ≡ reserved = λ i. record { nodes = tables.nodes; partitions = sym c.reserve_containers.ensures.meaning i; leaves = leaves_of tables.leaves.items; stops = tables.stops; maxima = tables.maxima } in
+    let reserved : State = record { nodes = tables.nodes.list; partitions = partitions_of c.reserve_containers.new.rows.items; leaves = leaves_of tables.leaves.items; stops = tables.stops; maxima = tables.maxima } in
+    let as_before : state_of tables ≡ reserved = λ i. record { nodes = tables.nodes.list; partitions = sym c.reserve_containers.ensures.meaning i; leaves = leaves_of tables.leaves.items; stops = tables.stops; maxima = tables.maxima } in
     let found : find_node reserved.nodes c.args.name ≡ Some node = search rules in
     let nothing : c.serve.new.placed.items ≡ [] = empty_items c.serve.new.placed.items (search rules) in
     let unplaced : (beat config node times reserved).placed ≡ [] = unplaced_more (beat config node times reserved) c.in_ok-placed.placed.items c.serve.new.placed.items c.in_ok-placed.ensures.items c.serve.ensures.placed nothing in
     let inside : 0 < times = search rules in
     let free = subst (λ s. first_that_holds (reasons config s (Heartbeat c.args.name)) ≡ None) as_before c.in-Ok.ensures.free in
-    let sound : IsSound config reserved c.self.inside.resting.keys = subst (λ s. IsSound config s c.self.inside.resting.keys) as_before c.self.invariant.sound in
-    let same : state_of c.serve.new.tables ≡ reserved = c.serve.ensures.state ∙ unplaced_same config node times reserved inside unplaced in
+    let sound : IsSound config reserved c.self.inside.tables.nodes.resting = subst (λ s. IsSound config s c.self.inside.tables.nodes.resting) as_before c.self.invariant.sound in
+    let same : state_of c.rest.new.tables ≡ reserved = c.rest.ensures.before.state ∙ c.serve.ensures.state ∙ unplaced_same config node times reserved inside unplaced in
     record {
-      sound = subst (λ s. IsSound config s c.rest.new.names.keys) (sym same) (record {
+      sound = subst (λ s. IsSound config s c.rest.new.tables.nodes.resting) (sym same) (record {
         working = sound.working;
         tabled = sound.tabled;
-        resting = c.rest.ensures config reserved (unplaced_rests config reserved c.args.name node times free found inside unplaced) sound.resting;
+        resting = rests_more config reserved c.serve.new.tables.nodes.resting c.rest.new.tables.nodes.resting c.args.name (unplaced_rests config reserved c.args.name node times free found inside unplaced) c.rest.ensures.resting
+            (subst (AreResting config reserved) (sym c.serve.ensures.resting) sound.resting);
       });
-      kept = c.serve.ensures.kept;
-      numbered = c.serve.ensures.numbers ∙ c.self.invariant.numbered;
+      kept = c.rest.ensures.before.kept c.serve.ensures.kept;
+      numbered = c.rest.ensures.before.numbers ∙ c.serve.ensures.numbers ∙ c.self.invariant.numbered;
     }
 
 pub returns-then-rests-clause-ok : goal.returns-then-rests-clause-ok
 returns-then-rests-clause-ok c =
     let old = world_of c.self.inside in
     let event : Event = Heartbeat c.args.name in
-    let same = resting_step old.config old.state c.args.name (c.rests.ensures (search rules) old.config old.state c.self.invariant.sound.resting) in
+    let same = resting_step old.config old.state c.args.name (c.self.invariant.sound.resting c.args.name (subst (λ b. OnTrue b (is_among c.self.inside.tables.nodes.resting c.args.name ≡ true)) c.if-rests.true c.rests.ensures)) in
     let P : World → Type 0 = λ w. Answers w event w (Placed c.new-then-rests.result) in
     subst P c.self.view_is (record {
       told = ap Placed (c.new-then-rests.ensures ∙ c.new.ensures.items) ∙ sym (ap (λ (o : Outcome). o.reply) same);
@@ -71,7 +75,7 @@ returns-then-rests-clause-ok c =
 pub invariant_of-self : goal.invariant_of-self
 invariant_of-self c =
     let tables = c.self.inside.tables in
-    let P : List Partition → Type 0 = λ rows. IsSound c.self.inside.config (record (state_of tables) { partitions = rows }) c.self.inside.resting.keys in
+    let P : List Partition → Type 0 = λ rows. IsSound c.self.inside.config (record (state_of tables) { partitions = rows }) c.self.inside.tables.nodes.resting in
     record {
       sound = subst P (sym c.reserve_containers.ensures.meaning) c.self.invariant.sound;
       kept = (let k = reserved c.self.inside.tables c.reserve_containers.new.rows.items c.reserve_containers.ensures.meaning c.reserve_containers.ensures.summed c.self.invariant.kept in record { amounts = k.0; marks = k.1 });

@@ -8,7 +8,7 @@ use Rattle.ynl_core.proofs.cluster.Core.open.Goals as goal
 
 pub invariant_of-result : goal.invariant_of-result
 invariant_of-result c = record {
-  sound = none_rests c.in_ok-config.config _ _ (search rules) (subst (IsWorking c.in_ok-config.config) (sym c.in_ok-tables.ensures.state) (working-opening c.in_ok-config.config)) (subst Tabled (sym c.in_ok-tables.ensures.state) (are-tabled c.in_ok-config.config []));
+  sound = none_rests c.in_ok-config.config _ _ c.in_ok-tables.ensures.resting (subst (IsWorking c.in_ok-config.config) (sym c.in_ok-tables.ensures.state) (working-opening c.in_ok-config.config)) (subst Tabled (sym c.in_ok-tables.ensures.state) (are-tabled c.in_ok-config.config []));
   kept = c.in_ok-tables.ensures.kept;
   numbered = c.in_ok-tables.ensures.numbered;
 }

@@ -1,4 +1,4 @@
-use Rattle.std.proofs.Common.{◌≡◌, rules, ◌∙◌}
+use Rattle.std.proofs.Common.{◌≡◌, rules, ◌∙◌, sym}
 use Rattle.ynl_model.specs.declared.events.Event.{Event}
 use Rattle.ynl_model.specs.declared.events.Event.TheVariants.{Release}
 use Rattle.ynl_model.specs.Events.{step, accepted}
@@ -14,7 +14,7 @@ invariant_of-self c =
     let config = c.self.inside.config in
     let event : Event = Release c.args.tenant c.args.id in
     let same : (step config (state_of tables) event).state ≡ state_of c.end.new.tables = search rules in
-    record { sound = sound_after config (state_of tables) _ event _ _ (search rules) tt same c.self.invariant.sound; kept = c.end.ensures.kept; numbered = c.end.ensures.numbers ∙ c.self.invariant.numbered }
+    record { sound = sound_after config (state_of tables) _ event _ _ c.wake.ensures.resting tt (same ∙ sym c.wake.ensures.before.state) c.self.invariant.sound; kept = c.wake.ensures.before.kept (c.end.ensures.kept); numbered = c.wake.ensures.before.numbers ∙ c.end.ensures.numbers ∙ c.self.invariant.numbered }
 
 pub end-requires-clause-once : goal.end-requires-clause-once
 end-requires-clause-once c = stands_once c.self.inside.config (state_of c.self.inside.tables) c.args.id.label _ c.in-Ok.container c.self.invariant.sound.working.ordered c.in-Ok.ensures.container

@@ -28,8 +28,8 @@ unfolding reasons
 unused c s queue app user label master none = (none-holds (reasons c s (Submit queue app user label master)) none).1.1.1.1.1.1.0
 
 -- the step is the submission
-stepped : (c : goal.After-clear) → (step c.self.inside.config (state_of c.self.inside.tables) (Submit c.args.queue c.args.app c.args.user c.args.label c.args.master))
-    ≡ done (record { nodes = c.self.inside.tables.nodes; partitions = partitions_of c.self.inside.tables.partitions.items; leaves = leaves_of c.submit.new.rows.items; stops = c.self.inside.tables.stops; maxima = c.self.inside.tables.maxima })
+stepped : (c : goal.After-wake) → (step c.self.inside.config (state_of c.self.inside.tables) (Submit c.args.queue c.args.app c.args.user c.args.label c.args.master))
+    ≡ done (record { nodes = c.self.inside.tables.nodes.list; partitions = partitions_of c.self.inside.tables.partitions.items; leaves = leaves_of c.submit.new.rows.items; stops = c.self.inside.tables.stops; maxima = c.self.inside.tables.maxima })
 unfolding accepted
 stepped c =
     let config = c.self.inside.config in
@@ -37,7 +37,7 @@ stepped c =
     let event : Event = Submit c.args.queue c.args.app c.args.user c.args.label c.args.master in
     let leaves = c.submit.ensures.meaning ∙ (λ i. in_leaf c.args.queue (submitted (new_app c.args.queue c.args.app c.args.user (c.in-Ok.ensures.home i) c.args.master)) (c.reserve_application.ensures.meaning i)) in
     taken_in config (state_of tables) event (c.in-Ok.ensures.free c.args.user)
-    ∙ (λ i. done (record { nodes = tables.nodes; partitions = partitions_of tables.partitions.items; leaves = sym leaves i; stops = tables.stops; maxima = tables.maxima }))
+    ∙ (λ i. done (record { nodes = tables.nodes.list; partitions = partitions_of tables.partitions.items; leaves = sym leaves i; stops = tables.stops; maxima = tables.maxima }))
 
 pub invariant_of-self-2 : goal.invariant_of-self-2
 invariant_of-self-2 c =
@@ -51,30 +51,30 @@ invariant_of-self-2 c =
     let rows = c.self.inside.tables.partitions.items in
     let free = unused config s c.args.queue c.args.app c.args.user c.args.label c.args.master (c.in-Ok.ensures.free c.args.user) in
     record {
-      sound = sound_after config (state_of c.self.inside.tables) _ event _ _ (search rules) c.amount-sized.ensures.range (ap (λ (o : Outcome). o.state) (stepped c)) c.self.invariant.sound;
-      kept = record {
+      sound = sound_after config (state_of c.self.inside.tables) _ event _ _ c.wake.ensures.resting c.amount-sized.ensures.range ((ap (λ (o : Outcome). o.state) (stepped c)) ∙ sym c.wake.ensures.before.state) c.self.invariant.sound;
+      kept = c.wake.ensures.before.kept (record {
         amounts = subst (λ (leaves : List LeafApps). AreKept numbers leaves rows) (sym leaves)
             (kept_submission numbers app s.leaves rows free c.self.invariant.sound.working.kept.uses c.self.invariant.kept.amounts);
         marks = c.submit.ensures.marks s (mark-new s (new_app c.args.queue c.args.app c.args.user c.in-Ok.home c.args.master) c.self.invariant.sound.working.kept free) (c.reserve_application.ensures.marks s c.self.invariant.kept.marks);
-      };
-      numbered = c.self.invariant.numbered;
+      });
+      numbered = c.wake.ensures.before.numbers ∙ c.self.invariant.numbered;
     }
 
 pub returns-clause-ok : goal.returns-clause-ok
 returns-clause-ok c =
     let event : Event = Submit c.args.queue c.args.app c.args.user c.args.label c.args.master in
-    let new : World = record { config = c.self.inside.config; state = (done (record { nodes = c.self.inside.tables.nodes; partitions = partitions_of c.self.inside.tables.partitions.items; leaves = leaves_of c.submit.new.rows.items; stops = c.self.inside.tables.stops; maxima = c.self.inside.tables.maxima })).state } in
+    let new : World = record { config = c.self.inside.config; state = state_of c.wake.new.tables } in
     let P : World → Type 0 = λ w. Answers w event new Done in
     subst P c.self.view_is (record {
       told = sym (ap (λ (o : Outcome). o.reply) (stepped c));
-      left = λ i. record { config = c.self.inside.config; state = sym (ap (λ (o : Outcome). o.state) (stepped c)) i };
+      left = λ i. record { config = c.self.inside.config; state = (c.wake.ensures.before.state ∙ sym (ap (λ (o : Outcome). o.state) (stepped c))) i };
     })
 
 -- where memory is refused all is as it was
 pub invariant_of-self : goal.invariant_of-self
 invariant_of-self c =
     let tables = c.self.inside.tables in
-    let P : List LeafApps → Type 0 = λ leaves. IsSound c.self.inside.config (record (state_of tables) { leaves = leaves }) c.self.inside.resting.keys in
+    let P : List LeafApps → Type 0 = λ leaves. IsSound c.self.inside.config (record (state_of tables) { leaves = leaves }) c.self.inside.tables.nodes.resting in
     record {
       sound = subst P (sym c.reserve_application.ensures.meaning) c.self.invariant.sound;
       kept = record {

@@ -1,4 +1,4 @@
-use Rattle.std.proofs.Common.{◌<◌, ◌++◌, ◌∷◌, [], cond, refl, ap, ◌∙◌, map, nat_eq, arith}
+use Rattle.std.proofs.Common.{sym, subst, not, ◌<◌, ◌++◌, ◌∷◌, [], cond, refl, ap, ◌∙◌, map, nat_eq, arith}
 use Rattle.std.specs.BTreeMap.{get}
 use Rattle.std.specs.Map.{remove_entry}
 use Rattle.std.proofs.lemmas.Bool.Decides.{nat_tests}
@@ -6,9 +6,11 @@ use Rattle.ynl_resource.specs.Names.{name_order, same_label}
 use Rattle.ynl_resource.specs.Tables.{without}
 use Rattle.ynl_model.specs.Nodes.{is_full, joined, left}
 use Rattle.ynl_model.specs.declared.nodes.Node.{Node}
+use Rattle.ynl_nodes.specs.Members.{Members}
 use Rattle.ynl_nodes.specs.Sums.{sum_at, raised, lowered}
 use Rattle.ynl_nodes.proofs.Indexed.{rejoined_index}
 use Rattle.ynl_nodes.proofs.Summed.{label_self, small_at, fewer_left, not_full, summed_opened, summed_left, summed_joined}
+use Rattle.ynl_nodes.proofs.Resting.{Below, below_less, below_more}
 use Rattle.ynl_nodes.proofs.Whole.{pushed_nodes, spot_same, spot_left}
 use Rattle.ynl_nodes.proofs.nodes.Nodes.rejoin.Goals as goal
 
@@ -22,10 +24,10 @@ raise-requires-clause-small c =
     let entries = c.remove-node.new.self.entries in
     let opened = c.open_row.new.rows.items in
     let lowered_rows = c.lower.new.rows.items in
-    let spot = spot_same c.self.inside.numbers roster c.self.invariant.indexed c.args.self.now c.self.view_is node.name n c.in-Some.spot.node c.in-Some.ensures.found node c.requires.here in
+    let spot = spot_same c.self.inside.numbers roster c.self.invariant.indexed c.args.self.now.list (ap (λ (m : Members). m.list) c.self.view_is) node.name n c.in-Some.spot.node c.in-Some.ensures.found node c.requires.here in
     let first = c.remove-node.ensures.first ∙ ap (λ es. remove_entry (nat_eq n) es) c.reserve.ensures.entries in
     let gone = c.remove-node.ensures.entries ∙ ap (λ es. without (λ e. nat_eq n e.0) es) c.reserve.ensures.entries in
-    let few = fewer_left n node roster.entries entries spot.there first label (not_full (map (λ e. e.1) roster.entries) label (rw c.self.view_is c.requires.room)) in
+    let few = fewer_left n node roster.entries entries spot.there first label (not_full (map (λ e. e.1) roster.entries) label (rw (ap (λ (m : Members). m.list) c.self.view_is) c.requires.room)) in
     let summed = summed_left opened lowered_rows n node node.label roster.entries entries (summed_opened c.self.inside.sums.items opened (map (λ e. e.1) roster.entries) c.self.invariant.summed c.open_row.ensures.sums) spot.there (label_self node.label) first gone
     (λ p. c.lower.ensures.sums p ∙ (λ i. cond (same_label node.label p) (lowered (c.amount-size.ensures.value i) (sum_at opened p)) (sum_at opened p))) in
     small_at lowered_rows (map (λ e. e.1) entries) label node.size summed c.amount-size.ensures.range few c.amount-size.result c.amount-size.ensures.value
@@ -40,10 +42,10 @@ invariant_of-self-in-Ok c =
     let entries = c.remove-node.new.self.entries in
     let opened = c.open_row.new.rows.items in
     let lowered_rows = c.lower.new.rows.items in
-    let spot = spot_same c.self.inside.numbers roster c.self.invariant.indexed c.args.self.now c.self.view_is node.name n c.in-Some.spot.node c.in-Some.ensures.found node c.requires.here in
+    let spot = spot_same c.self.inside.numbers roster c.self.invariant.indexed c.args.self.now.list (ap (λ (m : Members). m.list) c.self.view_is) node.name n c.in-Some.spot.node c.in-Some.ensures.found node c.requires.here in
     let first = c.remove-node.ensures.first ∙ ap (λ es. remove_entry (nat_eq n) es) c.reserve.ensures.entries in
     let gone = c.remove-node.ensures.entries ∙ ap (λ es. without (λ e. nat_eq n e.0) es) c.reserve.ensures.entries in
-    let few = fewer_left n node roster.entries entries spot.there first label (not_full (map (λ e. e.1) roster.entries) label (rw c.self.view_is c.requires.room)) in
+    let few = fewer_left n node roster.entries entries spot.there first label (not_full (map (λ e. e.1) roster.entries) label (rw (ap (λ (m : Members). m.list) c.self.view_is) c.requires.room)) in
     let summed = summed_left opened lowered_rows n node node.label roster.entries entries (summed_opened c.self.inside.sums.items opened (map (λ e. e.1) roster.entries) c.self.invariant.summed c.open_row.ensures.sums) spot.there (label_self node.label) first gone
     (λ p. c.lower.ensures.sums p ∙ (λ i. cond (same_label node.label p) (lowered (c.amount-size.ensures.value i) (sum_at opened p)) (sum_at opened p))) in
     let number = c.in-Some-checked_add.number in
@@ -56,6 +58,12 @@ invariant_of-self-in-Ok c =
       summed = summed_joined lowered_rows c.raise.new.rows.items (map (λ e. e.1) entries) (map (λ e. e.1) c.push_reserved.new.self.entries) next summed c.amount-size.ensures.range few
           (pushed_nodes entries c.push_reserved.new.self.entries number next (map (λ e. e.1) entries) pushed refl)
           (λ p. c.raise.ensures p ∙ (λ i. cond (same_label label p) (raised (c.amount-size.ensures.value i) (sum_at lowered_rows p)) (sum_at lowered_rows p)));
+      marks = record {
+        below = subst (Below c.self.inside.wakings)
+            (sym (c.push_reserved-in-Ok.ensures.entries ∙ ap (λ es. es ++ (number, 0) ∷ []) (c.remove-mark.ensures.entries ∙ ap (λ es. without (λ e. nat_eq n e.0) es) c.reserve-2.ensures.entries)))
+            (below_more c.self.inside.wakings number (without (λ e. nat_eq n e.0) c.self.inside.marks.entries) (below_less c.self.inside.wakings (λ e. not (nat_eq n e.0)) c.self.inside.marks.entries c.self.invariant.marks.below));
+        tops = (let same = c.push_reserved.ensures.top in let own = c.push_reserved-in-Ok.ensures.top in omega (arith, same, own));
+      };
     }
 
 pub returns-in-Ok-clause-ok : goal.returns-in-Ok-clause-ok
@@ -65,7 +73,7 @@ returns-in-Ok-clause-ok c =
     let n = c.in-Some.spot.number in
     let roster = c.self.inside.roster in
     let next : Node = record { name = node.name; label = c.args.label.now; size = node.size; stamp = c.args.stamp } in
-    let spot = spot_same c.self.inside.numbers roster c.self.invariant.indexed c.args.self.now c.self.view_is node.name n c.in-Some.spot.node c.in-Some.ensures.found node c.requires.here in
+    let spot = spot_same c.self.inside.numbers roster c.self.invariant.indexed c.args.self.now.list (ap (λ (m : Members). m.list) c.self.view_is) node.name n c.in-Some.spot.node c.in-Some.ensures.found node c.requires.here in
     let gone = c.remove-node.ensures.entries ∙ ap (λ es. without (λ e. nat_eq n e.0) es) c.reserve.ensures.entries in
-    pushed_nodes c.remove-node.new.self.entries c.push_reserved.new.self.entries c.in-Some-checked_add.number next (left node c.args.self.now) c.push_reserved.ensures.entries
-    (spot_left c.self.inside.numbers roster c.self.invariant.indexed c.args.self.now c.self.view_is node.name n node spot node.label (label_self node.label) c.remove-node.new.self.entries gone)
+    pushed_nodes c.remove-node.new.self.entries c.push_reserved.new.self.entries c.in-Some-checked_add.number next (left node c.args.self.now.list) c.push_reserved.ensures.entries
+    (spot_left c.self.inside.numbers roster c.self.invariant.indexed c.args.self.now.list (ap (λ (m : Members). m.list) c.self.view_is) node.name n node spot node.label (label_self node.label) c.remove-node.new.self.entries gone)
