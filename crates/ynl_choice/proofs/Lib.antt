@@ -11,4 +11,5 @@ mod FirstTurn
 mod FirstAsk
 mod Swapped
 pub mod Placing
+mod Users
 mod Before

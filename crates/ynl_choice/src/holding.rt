@@ -5,14 +5,14 @@ ghost use Rattle.ynl_model.specs.Service.{Item, item_of as request_item, place_i
 ghost use Rattle.ynl_tables.specs.Marked.{IsMarkedApp};
 ghost use Rattle.ynl_tables.specs.Tables.{app_of};
 ghost use Rattle.ynl_choice.specs.Choosing.{state_in, standings_to as standings_in, key_in, item_of, passes, overtakes, wants, IsScene, IsDesk, IsKeyed, HoldsBest, masters_of as masters_in, wanted_of, asks_in};
-ghost use Rattle.ynl_choice.specs.Candidates.{next_key, standings_of};
+ghost use Rattle.ynl_choice.specs.Candidates.{item_by, next_key, standings_of};
 ghost use Rattle.ynl_choice.specs.Waits.{asked_at};
 ghost use Rattle.ynl_choice.specs.declared.scenes.Scene.{Scene};
 
 use crate::eligible::is_eligible;
 use crate::order::{Next, is_overtaken};
 use crate::ranking::{standings_by, standings_on};
-use crate::requests::{Request, request_of};
+use crate::requests::{RequestParts, parts_of, request_of};
 use crate::scenes::{Desk, Scene, limits_at};
 use crate::standings::{Candidate, Standings};
 use ynl_model::{AskRow, What};
@@ -54,12 +54,12 @@ pub fn desk_of(scene: &Scene<'_>, row: &LeafRow) -> Desk
 
 /// Whether an application wants such a request: while it waits its master, and while it runs what it asks
 /// for.
-fn is_wanted(scene: &Scene<'_>, row: &LeafRow, app: &App, request: &Request) -> bool
+fn is_wanted(scene: &Scene<'_>, row: &LeafRow, app: &App, what: &What) -> bool
     requires { IsMarkedApp (state_in scene.now) row.now.path app.now }
-    ensures { result ≡ wants (state_in scene.now) (app_of row.now.path app.now) request.now.what }
+    ensures { result ≡ wants (state_in scene.now) (app_of row.now.path app.now) what.now }
 {
     let runs = runs(scene.tables, &row.path, app);
-    match request.what {
+    match what {
         What::Master => !runs,
         What::Ask(_, _) => runs,
     }
@@ -72,24 +72,24 @@ fn may_be_placed(
     desk: &mut Desk,
     row: &LeafRow,
     app: &App,
-    request: &Request,
+    request: &RequestParts<'_>,
 ) -> bool
     requires scene { IsScene scene.now }
-    requires desk { IsDesk scene.now request.now.leaf desk.old }
+    requires desk { IsDesk scene.now request.now.leaf.now desk.old }
     requires marked { IsMarkedApp (state_in scene.now) row.now.path app.now }
-    ensures passes { result ≡ (wants (state_in scene.now) (app_of row.now.path app.now) request.now.what && passes scene.now request.now) }
-    ensures desk { IsDesk scene.now request.now.leaf desk.new }
+    ensures passes { result ≡ (wants (state_in scene.now) (app_of row.now.path app.now) request.now.what.now && passes scene.now (item_by request.now)) }
+    ensures desk { IsDesk scene.now request.now.leaf.now desk.new }
 {
     if !request.size.amount().fits_in(scene.free) {
         return false;
     }
-    if !is_wanted(scene, row, app, request) {
+    if !is_wanted(scene, row, app, request.what) {
         return false;
     }
     if scene.as_guests {
         return true;
     }
-    let limits = limits_at(scene, &mut desk.limits, &request.leaf, row.place);
+    let limits = limits_at(scene, &mut desk.limits, request.leaf, row.place);
     is_eligible(scene.tables, &scene.node, &scene.free, &limits, request)
 }
 
@@ -122,20 +122,18 @@ fn add_request(
     ensures best { HoldsBest scene.now held.old (if wants (state_in scene.now) (app_of row.now.path app.now) what.now then request_item (app_of row.now.path app.now) what.now size.now ∷ [] else []) held.new }
     ensures desk { IsDesk scene.now row.now.path desk.new }
 {
-    let standings = desk.standings;
     let next = Next {
-        standings: &standings,
+        standings: &desk.standings,
         place,
         what: *what,
     };
     if !overtakes(held, &next) {
         return;
     }
-    let request = request_of(row, app, what, size);
-    if may_be_placed(scene, desk, row, app, &request) {
+    if may_be_placed(scene, desk, row, app, &parts_of(row, app, what, size)) {
         *held = Some(Candidate {
-            request,
-            standings,
+            request: request_of(row, app, what, size),
+            standings: desk.standings,
             place,
         });
     }

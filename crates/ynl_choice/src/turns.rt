@@ -11,12 +11,13 @@ ghost use Rattle.ynl_model.specs.Service.{has_room};
 ghost use Rattle.ynl_laws.specs.First.{IsFirst};
 ghost use Rattle.ynl_waiting.specs.declared.classes.Turn.{Turn};
 ghost use Rattle.ynl_waiting.specs.Classes.{turn_order, is_turn_later};
+ghost use Rattle.ynl_choice.specs.Candidates.{item_by};
 ghost use Rattle.ynl_choice.specs.Choosing.{state_in, passes, IsScene, AreLimits};
 ghost use Rattle.ynl_choice.specs.Waits.{item_for, is_open, is_placeable, is_before, IsFirstTurn};
 
 use crate::eligible::is_eligible;
 use crate::leaf_use::LeafUse;
-use crate::requests::Request;
+use crate::requests::RequestParts;
 use crate::scenes::{Scene, limits_at};
 use ynl_model::What;
 use ynl_tables::{LeafRow, is_same};
@@ -24,16 +25,15 @@ use ynl_waiting::{Class, ClassRow, Rows, Turn};
 
 /// The request that stands for those of a class. What it is tested for does not read an application's name,
 /// so the user's stands in its place.
-fn request_for(row: &LeafRow, what: &What, class: &Class) -> Request
-    ensures { result ≡ item_for row.now.path what.now class.now }
+fn request_for<'a>(row: &'a LeafRow, what: &'a What, class: &'a Class) -> RequestParts<'a>
+    ensures { item_by result ≡ item_for row.now.path what.now class.now }
 {
-    Request {
-        leaf: row.path,
-        tenant: row.tenant,
-        app: class.user,
-        user: class.user,
-        what: *what,
-        size: class.size,
+    RequestParts {
+        leaf: &row.path,
+        app: &class.user,
+        user: &class.user,
+        what,
+        size: &class.size,
     }
 }
 
