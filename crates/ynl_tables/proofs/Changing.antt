@@ -36,6 +36,14 @@ inserted_sum old new name sum updates other =
     go true = refl
     go false = refl
 
+-- a name without an entry is as one whose sum is nothing
+pub absent_sum : (entries : BTreeMap Name Resource) (name : Name) → get name_order entries name ≡ None → (other : Name) → kept_for entries other ≡ cond (same_name name other) nothing (kept_for entries other)
+absent_sum entries name none other = go (same_name name other) refl
+  where
+    go : (b : Bool) → same_name name other ≡ b → kept_for entries other ≡ cond b nothing (kept_for entries other)
+    go true e = ap (kept_for entries) (sym (same-name_sym name other e)) ∙ ap (λ o. option_map_or (λ (r : Resource). r) o nothing) none
+    go false e = refl
+
 -- where each name has the same sum by other containers, or where others count for it, what is kept is right of those
 pub same_sums : (counts others : Name → Placed → Bool) (sums : Sums) (cs ds : List Placed) → ((name : Name) → sizes_for counts name cs ≡ sizes_for others name ds) → AreSums counts sums cs → AreSums others sums ds
 same_sums counts others sums cs ds same kept = go sums.entries kept

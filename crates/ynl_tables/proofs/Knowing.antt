@@ -1,5 +1,5 @@
 -- Names that are found in few steps, with one more.
-use Rattle.std.proofs.Common.{◌≡◌, ◌≢◌, ℕ, zero, suc, ◌+◌, ◌<◌, ◌≤◌, Bool, true, false, ◌||◌, ◌⊎◌, inl, inr, cond, List, [], ◌∷◌, ◌++◌, length, length-append, get_or, Option, Some, None, is_some, refl, sym, ap, subst, ◌∙◌, arith}
+use Rattle.std.proofs.Common.{◌≡◌, ◌≢◌, ℕ, zero, suc, ◌<◌, ◌≤◌, Bool, true, false, ◌||◌, ◌⊎◌, inl, inr, cond, List, [], ◌∷◌, ◌++◌, length, length-append, get_or, Option, Some, None, is_some, refl, sym, ap, subst, ◌∙◌, arith}
 use Rattle.std.specs.BTreeMap.{BTreeMap, get, is_at}
 use Rattle.std.specs.Cmp.Lexicographic.{texts_ties}
 use Rattle.std.specs.List.{list_any}
@@ -22,7 +22,7 @@ same-name_turned a b = go (same_name a b) (same_name b a) refl refl
     go false false e f = e ∙ sym f
     go false true e f = ap (λ n. same_name n b) (sym (same-name_sym b a f)) ∙ ap (same_name b) (same-name_sym b a f)
 
-some-is_some : {X : Type 0} (x : X) → None ≡ Some x → ⊥
+pub some-is_some : {X : Type 0} (x : X) → None ≡ Some x → ⊥
 some-is_some x e = true≢false (sym (ap is_some e))
 
 same-some : (d n m : ℕ) → Some n ≡ Some m → n ≡ m

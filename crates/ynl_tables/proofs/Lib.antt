@@ -11,4 +11,7 @@ pub mod Changing
 pub mod Counting
 pub mod CountingUsers
 pub mod Searching
+pub mod Living
 pub mod Naming
+pub mod Listing
+pub mod Held

@@ -1,5 +1,5 @@
 -- Things whose numbers rise, searched by a number.
-use Rattle.std.proofs.Common.{◌≡◌, ◌≢◌, ℕ, zero, suc, ◌+◌, ◌<◌, ◌≤◌, Bool, true, false, cond, not, ◌&&◌, List, [], ◌∷◌, ◌++◌, filter, length, get_or, find, Option, Some, None, Ok, Err, refl, sym, ap, subst, ◌∙◌, arith}
+use Rattle.std.proofs.Common.{◌≡◌, ◌≢◌, ℕ, zero, suc, ◌<◌, ◌≤◌, Bool, true, false, cond, not, List, [], ◌∷◌, ◌++◌, filter, length, get_or, find, Option, Some, None, Ok, Err, refl, sym, ap, subst, ◌∙◌, arith}
 use Rattle.std.specs.Prelude.{nat_lt}
 use Rattle.std.specs.List.{AllByRecursion, list_all, remove}
 use Rattle.ynl_resource.specs.Tables.{without}
@@ -8,7 +8,6 @@ use Rattle.std.specs.Ordering.{nat_cmp, ordering_index}
 use Rattle.std.proofs.lemmas.Bool.{and_from, and_parts}
 use Rattle.std.proofs.lemmas.Bool.Decides.{nat_tests}
 use Rattle.std.proofs.lemmas.Cmp.{ranked}
-use mathlib.Core.Bool.{true≢false}
 use Rattle.ynl_laws.proofs.Lists.{each-of, all-filter}
 use Rattle.ynl_tables.specs.Rising.{numbers_rise, IsPlaceAt, IsAlone}
 
@@ -31,7 +30,7 @@ module _ {X : Type 0} (key : X → ℕ) where
       grind (arith, nat_tests, test)
   rise (x ∷ xs) h (suc i) (suc j) d below inside = rise xs (and_parts _ _ h).1 i j d (omega arith) (omega arith)
 
-  no_higher : (xs : List X) → numbers_rise key xs ≡ true → (i j : ℕ) (d : X) → i ≤ j → j < length xs → key (get_or xs i d) ≤ key (get_or xs j d)
+  pub no_higher : (xs : List X) → numbers_rise key xs ≡ true → (i j : ℕ) (d : X) → i ≤ j → j < length xs → key (get_or xs i d) ≤ key (get_or xs j d)
   no_higher xs h i j d below inside = grind (arith, rise xs h i j d, λ (e : i ≡ j). ap (λ k. key (get_or xs k d)) e)
 
   compared_rise : (xs : List X) → numbers_rise key xs ≡ true → (n : ℕ) → IsNonDecreasingBy (λ x. ordering_index (nat_cmp (key x) n)) xs
@@ -115,6 +114,17 @@ module _ {X : Type 0} (key : X → ℕ) where
   rise_less (x ∷ xs) (suc i) h =
       let parts = and_parts (list_all (λ y. nat_lt (key x) (key y)) xs) (numbers_rise key xs) h in
       and_from (list_all (λ y. nat_lt (key x) (key y)) (remove xs i)) (numbers_rise key (remove xs i)) (less_all (λ y. nat_lt (key x) (key y)) xs i parts.0) (rise_less xs i parts.1)
+
+  -- and without one between others
+  pub rise_split : (before after : List X) (x : X) → numbers_rise key (before ++ x ∷ after) ≡ true → numbers_rise key (before ++ after) ≡ true
+  rise_split [] after x h = (and_parts (list_all (λ y. nat_lt (key x) (key y)) after) (numbers_rise key after) h).1
+  rise_split (y ∷ before) after x h =
+      let parts = and_parts (list_all (λ z. nat_lt (key y) (key z)) (before ++ x ∷ after)) (numbers_rise key (before ++ x ∷ after)) h in
+      and_from (list_all (λ z. nat_lt (key y) (key z)) (before ++ after)) (numbers_rise key (before ++ after)) (all_split (λ z. nat_lt (key y) (key z)) before parts.0) (rise_split before after x parts.1)
+    where
+      all_split : (p : X → Bool) (before : List X) → list_all p (before ++ x ∷ after) ≡ true → list_all p (before ++ after) ≡ true
+      all_split p [] h = (and_parts (p x) (list_all p after) h).1
+      all_split p (z ∷ before) h = let parts = and_parts (p z) (list_all p (before ++ x ∷ after)) h in and_from (p z) (list_all p (before ++ after)) parts.0 (all_split p before parts.1)
 
   others_stay : (test : X → Bool) (n : ℕ) → ((x : X) → test x ≡ true → key x ≡ n) → (xs : List X) → AllByRecursion (λ x. key x ≢ n) xs → without test xs ≡ xs
   others_stay test n of [] h = refl

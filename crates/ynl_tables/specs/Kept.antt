@@ -1,4 +1,4 @@
--- What is kept beside the state: what each queue and each user in it uses of each partition, by the queue's number, what is used of each node, and which master of each
+-- What is kept beside the state: what each queue and each user in it uses of each partition, by the queue's number, what is used of each node, the clocks of each application's containers, and which master of each
 -- application runs. The queues that are named here are those below root.
 use Rattle.std.specs.Prelude.{◌≡◌, ℕ, ◌<◌, Bool, List, ◌∷◌, length, map, slice_index_or}
 use Rattle.std.specs.List.{AllByRecursion}
@@ -11,6 +11,8 @@ use Rattle.ynl_laws.specs.Uses.{use_by}
 use Rattle.ynl_tables.specs.declared.rows.PartitionRow.{PartitionRow}
 use Rattle.ynl_tables.specs.declared.sums.Sums.{Sums}
 use Rattle.ynl_tables.specs.declared.tables.Tables.{Tables}
+use Rattle.ynl_tables.specs.Listed.{AreListed}
+use Rattle.ynl_tables.specs.Living.{live_in}
 use Rattle.ynl_tables.specs.Marked.{AreMarked}
 use Rattle.ynl_tables.specs.Numbers.{AreNumbered, queue_at}
 use Rattle.ynl_tables.specs.Sums.{AreSums}
@@ -26,11 +28,12 @@ pub record AreByUser (queues : List Path) (leaves : List LeafApps) (users : List
   pub len : length users ≡ length (root ∷ queues)
   pub each : (number : ℕ) (sums : Sums) → number < length users → sums ≡ slice_index_or users number sums → AreSums (counts_for leaves (queue_at queues number)) sums containers
 
--- what is kept of each queue, and of each user in it, is what they use by the containers of the row, and what is kept of each node what they use of it
+-- what is kept of each queue, and of each user in it, is what they use by the containers of the row, what is kept of each node what they use of it, and what is listed of each application are the clocks of its own
 pub record IsSummed (queues : List Path) (leaves : List LeafApps) (row : PartitionRow) : Type 0 where
-  pub uses : row.uses.items ≡ map (λ queue. use_by leaves queue row.containers.items) (root ∷ queues)
-  pub users : AreByUser queues leaves row.users.items row.containers.items
-  pub filled : AreSums stands_on row.filled row.containers.items
+  pub uses : row.uses.items ≡ map (λ queue. use_by leaves queue (live_in row.containers.items)) (root ∷ queues)
+  pub users : AreByUser queues leaves row.users.items (live_in row.containers.items)
+  pub filled : AreSums stands_on row.filled (live_in row.containers.items)
+  pub listed : AreListed row.listed (live_in row.containers.items)
 
 -- and so in each row
 abbrev pub AreSummed : List Path → List LeafApps → List PartitionRow → Type 0

@@ -1,6 +1,9 @@
 pub mod Bounds
 pub mod Kept
+pub mod Resting
 pub mod Known
+pub mod Listed
+pub mod Living
 pub mod Marked
 pub mod NumberFields
 pub mod Numbers

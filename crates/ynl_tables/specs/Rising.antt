@@ -21,3 +21,7 @@ pub record IsPlaceAt {X : Type 0} (key : X → ℕ) (number : ℕ) (things : Lis
 abbrev pub IsAlone : {X : Type 0} → (X → ℕ) → ℕ → List X → Option X → Type 0
 IsAlone {X} key number things None = (test : X → Bool) → ((x : X) → test x ≡ true → key x ≡ number) → find test things ≡ None
 IsAlone {X} key number things (Some x) = (test : X → Bool) → ((y : X) → test y ≡ true → key y ≡ number) → find test things ≡ (if test x then Some x else None)
+
+-- the thing of a number, whatever was found of it
+abbrev pub IsOnly : {X : Type 0} → (X → ℕ) → ℕ → List X → X → Type 0
+IsOnly {X} key number things x = (found : Option X) → IsAlone key number things found → found ≡ Some x

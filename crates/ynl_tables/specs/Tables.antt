@@ -10,6 +10,7 @@ use Rattle.ynl_tables.specs.declared.rows.App.{App}
 use Rattle.ynl_tables.specs.declared.rows.LeafRow.{LeafRow}
 use Rattle.ynl_tables.specs.declared.rows.PartitionRow.{PartitionRow}
 use Rattle.ynl_tables.specs.declared.tables.Tables.{Tables}
+use Rattle.ynl_tables.specs.Living.{live_in}
 
 -- an application of a leaf
 abbrev pub app_of : Path → App → Application
@@ -20,7 +21,7 @@ abbrev pub leaf_of_row : LeafRow → LeafApps
 leaf_of_row row = record { leaf = row.path; names = row.names.items; apps = map (app_of row.path) row.apps.items }
 
 abbrev pub partition_of : PartitionRow → Partition
-partition_of row = record { label = row.label; clock = row.clock; containers = row.containers.items }
+partition_of row = record { label = row.label; clock = row.clock; containers = live_in row.containers.items }
 
 abbrev pub leaves_of : List LeafRow → List LeafApps
 leaves_of rows = map leaf_of_row rows
@@ -30,8 +31,8 @@ partitions_of rows = map partition_of rows
 
 -- the state that the tables stand for
 abbrev pub state_of : Tables → State
-state_of t = record { nodes = t.nodes; partitions = partitions_of t.partitions.items; leaves = leaves_of t.leaves.items; stops = t.stops; maxima = t.maxima }
+state_of t = record { nodes = t.nodes.list; partitions = partitions_of t.partitions.items; leaves = leaves_of t.leaves.items; stops = t.stops; maxima = t.maxima }
 
--- there is capacity for so many more containers on a partition
+-- there is capacity for so many more rows of containers on a partition, beside all that are there, dead ones too
 abbrev pub HasCapacity : Label → ℕ → List PartitionRow → Type 0
 HasCapacity label count rows = AllByRecursion (λ row. same_label row.label label ≡ true → vec_len row.containers + count ≤ vec_capacity row.containers) rows

@@ -1,6 +1,6 @@
 //! The asks of an application.
 
-ghost use Rattle.std.specs.Prelude.{◌≡◌, find, count_by};
+ghost use Rattle.std.specs.Prelude.{◌≡◌, find, count_by, option_map};
 ghost use Rattle.ynl_resource.specs.Names.{same_label};
 ghost use Rattle.ynl_model.specs.Applications.{is_ask_of};
 ghost use Rattle.ynl_model.specs.Events.{is_foreign, is_one_too_many};
@@ -11,20 +11,27 @@ use crate::tables::is_same;
 use ynl_model::AskRow;
 use ynl_resource::{Label, MOST_ASKS};
 
-/// Whether an ask is that of a label and a priority.
+/// Whether an ask is that of a label and a priority. Priorities are numbers, so they are compared first.
 pub fn is_ask_of(ask: &AskRow, label: &Label, priority: u32) -> bool
     ensures { result ≡ is_ask_of label.now priority ask.now }
 {
-    is_same(&ask.label, label) && ask.priority == priority
+    ask.priority == priority && is_same(&ask.label, label)
+}
+
+fn find_ask<'a>(asks: &'a [AskRow], label: &Label, priority: u32) -> Option<&'a AskRow>
+    ensures { option_map (λ r. r.now) result ≡ find (is_ask_of label.now priority) asks.now }
+{
+    asks.iter().find(|ask| is_ask_of(ask, label, priority))
 }
 
 /// The ask of a label and a priority.
 pub fn ask_of(asks: &[AskRow], label: &Label, priority: u32) -> Option<AskRow>
     ensures { result ≡ find (is_ask_of label.now priority) asks.now }
 {
-    asks.iter()
-        .copied()
-        .find(|ask| is_ask_of(ask, label, priority))
+    match find_ask(asks, label, priority) {
+        Some(ask) => Some(*ask),
+        None => None,
+    }
 }
 
 /// Whether a label is neither DEFAULT nor the application's home.

@@ -5,9 +5,12 @@ ghost use Rattle.std.specs.List.{AllByRecursion};
 ghost use Rattle.ynl_resource.specs.Names.{same_id, same_name};
 ghost use Rattle.ynl_model.specs.Cluster.{is_of};
 ghost use Rattle.ynl_model.specs.Events.{container_for};
+ghost use Rattle.ynl_tables.specs.Living.{live_in, row_clock};
 ghost use Rattle.ynl_tables.specs.Rising.{numbers_rise, clock_of, IsPlaceAt, IsAlone};
 ghost use Rattle.ynl_tables.specs.Tables.{state_of};
 
+use crate::ended::live_of;
+use crate::rows::ContainerRow;
 use crate::tables::{Tables, containers_at, is_same};
 use ynl_model::Placed;
 use ynl_resource::{Id, Name};
@@ -16,45 +19,45 @@ use ynl_resource::{Id, Name};
 pub fn is_same_id(id: &Id, other: &Id) -> bool
     ensures { result ≡ same_id id.now other.now }
 {
-    is_same(&id.label, &other.label) && id.clock == other.clock
+    id.clock == other.clock && is_same(&id.label, &other.label)
 }
 
 /// Whether a container is an application's; its tenant is given by the bytes of its name.
 pub fn is_own(container: &Placed, tenant: &[u8], app: &Name) -> bool
     ensures { result ≡ is_of tenant.now app.now container.now }
 {
-    container.tenant.as_bytes() == tenant && container.app == *app
+    container.app == *app && container.tenant.as_bytes() == tenant
 }
 
-/// The place of the container of a clock, of containers whose clocks rise.
-pub fn place_at(containers: &[Placed], clock: u64) -> Option<usize>
-    requires { IsTrue (numbers_rise clock_of containers.now) }
-    ensures found { IfSome result (IsPlaceAt clock_of clock containers.now) }
-    ensures absent { IfNone result (AllByRecursion (λ k. k.id.clock ≢ clock) containers.now) }
+/// The place of the row of a clock, of rows whose clocks rise; it may be dead.
+pub fn place_at(rows: &[ContainerRow], clock: u64) -> Option<usize>
+    requires { IsTrue (numbers_rise row_clock rows.now) }
+    ensures found { IfSome result (IsPlaceAt row_clock clock rows.now) }
+    ensures absent { IfNone result (AllByRecursion (λ row. row_clock row ≢ clock) rows.now) }
 {
-    match containers.binary_search_by_key(&clock, |k| k.id.clock) {
+    match rows.binary_search_by_key(&clock, |row| row.container.id.clock) {
         Ok(place) => Some(place),
         Err(_) => None,
     }
 }
 
-/// The container of a clock, of containers whose clocks rise.
-fn container_at(containers: &[Placed], clock: u64) -> Option<Placed>
-    requires { IsTrue (numbers_rise clock_of containers.now) }
-    ensures { IsAlone clock_of clock containers.now result }
+/// The container of a clock, of rows whose clocks rise.
+pub fn container_at(rows: &[ContainerRow], clock: u64) -> Option<Placed>
+    requires { IsTrue (numbers_rise row_clock rows.now) }
+    ensures { IsAlone clock_of clock (live_in rows.now) result }
 {
-    match place_at(containers, clock) {
-        Some(place) => Some(containers[place]),
+    match place_at(rows, clock) {
+        Some(place) => live_of(&rows[place]),
         None => None,
     }
 }
 
 /// The container of an id on a node, of those on the node's partition.
-pub fn container_on(containers: &[Placed], node: &Name, id: &Id) -> Option<Placed>
-    requires { IsTrue (numbers_rise clock_of containers.now) }
-    ensures { result ≡ find (λ container. same_id container.id id.now && same_name container.node node.now) containers.now }
+pub fn container_on(rows: &[ContainerRow], node: &Name, id: &Id) -> Option<Placed>
+    requires { IsTrue (numbers_rise row_clock rows.now) }
+    ensures { result ≡ find (λ container. same_id container.id id.now && same_name container.node node.now) (live_in rows.now) }
 {
-    let Some(other) = container_at(containers, id.clock) else {
+    let Some(other) = container_at(rows, id.clock) else {
         return None;
     };
     if is_same_id(&other.id, id) && other.node == *node {
@@ -68,8 +71,8 @@ pub fn container_on(containers: &[Placed], node: &Name, id: &Id) -> Option<Place
 pub fn container_of_tenant(tables: &Tables, tenant: &Name, id: &Id) -> Option<Placed>
     ensures { result ≡ container_for (state_of tables.now) tenant.now id.now }
 {
-    let containers = containers_at(&tables.partitions, &id.label);
-    let Some(other) = container_at(containers, id.clock) else {
+    let rows = containers_at(&tables.partitions, &id.label);
+    let Some(other) = container_at(rows, id.clock) else {
         return None;
     };
     if is_same_id(&other.id, id) && other.tenant == *tenant {

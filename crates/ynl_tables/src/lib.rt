@@ -6,14 +6,19 @@
 pub use applications::{has_most_apps, home_of, is_used};
 pub use asks::{ask_of, is_ask_of, is_foreign, is_one_too_many};
 pub use clocks::{is_spent, next_clock};
-pub use containers::{container_of_tenant, container_on, is_own, is_same_id, place_at, push_copy};
+pub use containers::{
+    container_at, container_of_tenant, container_on, is_own, is_same_id, place_at, push_copy,
+};
+pub use ended::{clear_ended, end_at, list_live, live_of, make_last, push_live};
 pub use known::{Known, Spot};
+pub use listed::{Holder, Listed};
 pub use live::{Live, live_at};
 pub use named::{place_of, spot_of};
 pub use numbers::{QueueNumbers, way_of_app};
 pub use polling::{own_containers, pending_on};
 pub use queue_use::{free, guests, masters_used, no_master_in, runs, used, user_used, uses_on};
-pub use rows::{App, LeafPart, LeafRow, PartitionRow};
+pub use resting::{rest, wake};
+pub use rows::{App, ContainerRow, LeafPart, LeafRow, PartitionRow};
 pub use sharing::{shares, users};
 pub use sums::Sums;
 pub use tables::{
@@ -22,18 +27,21 @@ pub use tables::{
 };
 pub use usage::usage_of;
 pub use user_counts::UserCounts;
-pub use uses::{Owner, is_guest_on, is_master, owner_of};
+pub use uses::{Owner, is_guest_on, is_live_on, is_master, owner_of};
 
 mod applications;
 mod asks;
 mod clocks;
 mod containers;
+mod ended;
 mod known;
+mod listed;
 mod live;
 mod named;
 mod numbers;
 mod polling;
 mod queue_use;
+mod resting;
 mod rows;
 mod sharing;
 mod sums;

@@ -2,9 +2,9 @@
 
 ghost use Rattle.std.specs.Prelude.{◌≡◌, ◌<◌, ◌^◌, ◌++◌, ◌∷◌, [], true, length, map, find, option_map, IfOk, IfSome, OnOk, if◌then◌else◌};
 ghost use Rattle.std.specs.List.{AllByRecursion, list_any, position};
-ghost use Rattle.ynl_resource.specs.Names.{is_within, root, same_path};
+ghost use Rattle.ynl_resource.specs.Names.{root, same_path};
 ghost use Rattle.ynl_laws.specs.Ways.{IsWay};
-ghost use Rattle.ynl_tables.specs.Numbers.{AreNumbered, is_above, is_above_app, IsNumberOf, IsWayTo, queue_at};
+ghost use Rattle.ynl_tables.specs.Numbers.{AreNumbered, is_above, is_above_app, IsNumberOf, IsWayTo};
 ghost use Rattle.ynl_tables.specs.Tables.{leaves_of};
 
 use crate::rows::{LeafRow, Way};
@@ -84,27 +84,27 @@ impl QueueNumbers {
         self.number(queue)
     }
 
-    /// Whether the queue of a number is on the way to a queue, or is that queue.
-    pub fn is_above(&self, number: usize, queue: &Path) -> bool
-        ensures { result ≡ is_within (queue_at self.now number) queue.now }
-    {
-        if number == 0 {
-            return true;
-        }
-        match self.queues.get(number - 1) {
-            Some(above) => is_within(above.names(), queue.names()),
-            None => true,
-        }
-    }
-
     /// The numbers of root and of the queues on the way to a queue, itself among them.
-    pub fn way(&self, queue: &Path) -> &[usize]
+    fn way(&self, queue: &Path) -> &[usize]
         ensures { list_any (same_path queue.now) self.now ≡ true → IsWay (root ∷ self.now) (is_above queue.now) result.now }
     {
         match way_to(&self.ways, queue) {
             Some(way) => &way.numbers,
             None => &[],
         }
+    }
+
+    /// The same as `way`; the queue is looked for first at the place where it is thought to stand.
+    pub fn way_near(&self, place: usize, queue: &Path) -> &[usize]
+        ensures { list_any (same_path queue.now) self.now ≡ true → IsWay (root ∷ self.now) (is_above queue.now) result.now }
+    {
+        if place < self.ways.len() {
+            let way = &self.ways[place];
+            if way.queue == *queue {
+                return &way.numbers;
+            }
+        }
+        self.way(queue)
     }
 }
 
@@ -189,7 +189,7 @@ pub fn way_of_app<'a>(
     ensures { IsWay (root ∷ numbers.now) (is_above_app (leaves_of leaves.now) tenant.now app.now) result.now }
 {
     match leaf_row_of(leaves, tenant, app) {
-        Some(row) => numbers.way(&row.path),
+        Some(row) => numbers.way_near(row.place, &row.path),
         None => &[],
     }
 }

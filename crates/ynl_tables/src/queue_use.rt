@@ -1,19 +1,20 @@
 //! What a queue, its users and its masters use of a partition. It is kept, and summed only for a path that
 //! is no queue of the configuration, and for users where there was no memory to keep it.
 
-ghost use Rattle.std.specs.Prelude.{◌≡◌, ◌∷◌, filter, map, IfSome};
+ghost use Rattle.std.specs.Prelude.{◌≡◌, ◌∷◌, ◌&&◌, filter, map, IfSome};
 ghost use Rattle.std.specs.List.{list_any};
 ghost use Rattle.ynl_resource.specs.Names.{root, same_name};
 ghost use Rattle.ynl_model.specs.Cluster.{used, user_used, masters_used, guests, is_master, runs, free, counted, containers_on, sizes};
 ghost use Rattle.ynl_model.specs.Service.{no_master_in};
-ghost use Rattle.ynl_tables.specs.Tables.{state_of, app_of};
-ghost use Rattle.ynl_laws.specs.Uses.{use_of};
+ghost use Rattle.ynl_tables.specs.Living.{is_live_and};
+ghost use Rattle.ynl_tables.specs.Tables.{state_of, app_of, leaves_of};
+ghost use Rattle.ynl_laws.specs.Uses.{counts, use_of};
 ghost use Rattle.ynl_tables.specs.Bounds.{IsBounded, IsReadable, IsTotal};
 ghost use Rattle.ynl_tables.specs.Kept.{IsKept};
 ghost use Rattle.ynl_tables.specs.Marked.{IsMarkedApp};
 ghost use Rattle.ynl_tables.specs.Uses.{is_counted};
 
-use crate::rows::App;
+use crate::rows::{App, ContainerRow, LeafRow};
 use crate::tables::{Tables, containers_at, partition_row};
 use crate::uses::{Counted, counts, is_master, used_by, used_on};
 use ynl_model::{Node, Use};
@@ -53,8 +54,8 @@ fn sum_of(tables: &Tables, queue: &[Name], counted: Counted<'_>, label: &Label) 
     ensures value { result ≡ sizes (filter (is_counted (state_of tables.now).leaves queue.now counted.entry) (containers_on (state_of tables.now) label.now)) }
     ensures small { IsTotal result }
 {
-    let containers = containers_at(&tables.partitions, label);
-    used_by(&tables.leaves, queue, counted, containers)
+    let rows = containers_at(&tables.partitions, label);
+    used_by(&tables.leaves, queue, counted, rows)
 }
 
 /// What a queue uses of a partition.
@@ -135,14 +136,25 @@ pub fn guests(tables: &Tables, queue: &[Name], label: &Label) -> Resource
     }
 }
 
-/// Whether any of the containers on a partition is a master that counts in the use of a leaf.
+/// Whether a row is live, and its container a master that counts in the use of a leaf.
+fn is_live_master(leaves: &[LeafRow], leaf: &[Name], row: &ContainerRow) -> bool
+    ensures { result ≡ is_live_and (λ k. counts (leaves_of leaves.now) leaf.now k && is_master k) row.now }
+{
+    row.is_live && counts(leaves, leaf, &row.container) && is_master(&row.container)
+}
+
+fn has_live_master(leaves: &[LeafRow], leaf: &[Name], rows: &[ContainerRow]) -> bool
+    ensures { result ≡ list_any (is_live_and (λ k. counts (leaves_of leaves.now) leaf.now k && is_master k)) rows.now }
+{
+    rows.iter().any(|row| is_live_master(leaves, leaf, row))
+}
+
+/// Whether any of the live containers on a partition is a master that counts in the use of a leaf.
 fn any_master(tables: &Tables, leaf: &[Name], label: &Label) -> bool
     ensures { result ≡ list_any is_master (counted (state_of tables.now) leaf.now label.now) }
 {
-    containers_at(&tables.partitions, label)
-        .iter()
-        .filter(|k| counts(&tables.leaves, leaf, k))
-        .any(is_master)
+    let rows = containers_at(&tables.partitions, label);
+    has_live_master(&tables.leaves, leaf, rows)
 }
 
 fn has_counted_master(tables: &Tables, leaf: &[Name], label: &Label) -> bool

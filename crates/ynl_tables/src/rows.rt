@@ -6,11 +6,13 @@ ghost use Rattle.ynl_resource.specs.Names.{same_name, tenant_of};
 ghost use Rattle.std.proofs.Props.{props};
 ghost use Rattle.ynl_tables.specs.Known.{IsKnown};
 ghost use Rattle.ynl_tables.specs.Queued.{are_apart, are_in_turn, are_below, are_named, masters_waiting, asks_waiting};
-ghost use Rattle.ynl_tables.specs.Rising.{numbers_rise, clock_of};
+ghost use Rattle.ynl_tables.specs.Rising.{numbers_rise};
+ghost use Rattle.ynl_tables.specs.Living.{row_clock};
 ghost use Rattle.ynl_tables.specs.Sharing.{IsCountedPart};
 ghost use Rattle.ynl_waiting.specs.Waiting.{Keeps};
 
 use crate::known::Known;
+use crate::listed::Listed;
 use crate::sums::Sums;
 use crate::user_counts::UserCounts;
 use std::marker::Model;
@@ -64,18 +66,28 @@ pub struct LeafRow {
     ghost all_counted: { AllByRecursion (IsCountedPart apps.items) parts.items } by { Prim.hlevel props },
 }
 
-/// A partition: its clock, the containers on it in the order in which they were placed, which is that of their
-/// clocks, what each queue
-/// and each user in it uses by them, by the queue's number, and what they use of each node.
+/// A row of a container. One that has ended is dead: it stands for nothing, and keeps its place among the
+/// others until the dead are cleared.
+#[derive(Clone, Copy)]
+pub struct ContainerRow {
+    pub container: Placed,
+    pub is_live: bool,
+}
+
+/// A partition: its clock, the rows of the containers on it in the order in which they were placed, which is
+/// that of their clocks, about how many of them are dead, what each queue and each user in it uses by those that
+/// are live, by the queue's number, what they use of each node, and the clocks of each application's.
 #[derive(Drop)]
 pub struct PartitionRow {
     pub label: Label,
     pub clock: u64,
-    pub containers: Vec<Placed>,
+    pub containers: Vec<ContainerRow>,
+    pub ended: usize,
     pub uses: Vec<Use>,
     pub users: Vec<Sums>,
     pub filled: Sums,
-    ghost rising: { IsTrue (numbers_rise clock_of containers.items) },
+    pub listed: Listed,
+    ghost rising: { IsTrue (numbers_rise row_clock containers.items) },
 }
 
 /// The numbers of root and of the queues on the way to a queue, itself among them.

@@ -1,6 +1,7 @@
 //! What containers come to, by the names for which they count.
 
 ghost use Rattle.std.specs.Prelude.{◌≡◌, Bool, []};
+ghost use Rattle.ynl_resource.specs.Amounts.{plus, less, IsSmall};
 ghost use Rattle.ynl_resource.specs.declared.names.Name.{Name};
 ghost use Rattle.ynl_model.specs.declared.containers.Placed.{Placed};
 ghost use Rattle.ynl_tables.specs.Sums.{kept_for, AreSums, Sets, Raises, Lowers, IsSumFor};
@@ -27,6 +28,26 @@ fn entry_for(entries: &BTreeMap<Name, Resource>, name: &Name) -> Resource
     match entries.get(name) {
         Some(sum) => *sum,
         None => NOTHING,
+    }
+}
+
+fn with(sum: &Resource, size: &Size) -> Resource
+    ensures { IsSmall sum.now → result ≡ plus sum.now size.now }
+{
+    let size = size.amount();
+    Resource {
+        memory: sum.memory.saturating_add(size.memory),
+        vcores: sum.vcores.saturating_add(size.vcores),
+    }
+}
+
+fn without(sum: &Resource, size: &Size) -> Resource
+    ensures { result ≡ less sum.now size.now }
+{
+    let size = size.amount();
+    Resource {
+        memory: sum.memory.saturating_sub(size.memory),
+        vcores: sum.vcores.saturating_sub(size.vcores),
     }
 }
 
@@ -67,29 +88,25 @@ impl Sums {
     pub fn raise(&mut self, name: &Name, size: &Size)
         ensures { Raises self.old self.new name.now size.now }
     {
-        let Some(sum) = self.sum_for(name) else {
+        let Some(entries) = &mut self.entries else {
             return;
         };
-        let size = size.amount();
-        let more = Resource {
-            memory: sum.memory.saturating_add(size.memory),
-            vcores: sum.vcores.saturating_add(size.vcores),
-        };
-        self.set(name, more);
+        if let Some(sum) = entries.get_mut(name) {
+            *sum = with(sum, size);
+            return;
+        }
+        self.set(name, size.amount());
     }
 
     /// One container less, which counted for one name.
     pub fn lower(&mut self, name: &Name, size: &Size)
         ensures { Lowers self.old self.new name.now size.now }
     {
-        let Some(sum) = self.sum_for(name) else {
+        let Some(entries) = &mut self.entries else {
             return;
         };
-        let size = size.amount();
-        let fewer = Resource {
-            memory: sum.memory.saturating_sub(size.memory),
-            vcores: sum.vcores.saturating_sub(size.vcores),
-        };
-        self.set(name, fewer);
+        if let Some(sum) = entries.get_mut(name) {
+            *sum = without(sum, size);
+        }
     }
 }

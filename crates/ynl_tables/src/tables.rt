@@ -7,14 +7,14 @@ ghost use Rattle.ynl_resource.specs.Names.{same_name, same_path, same_label, ten
 ghost use Rattle.ynl_model.specs.Nodes.{rises};
 ghost use Rattle.ynl_model.specs.Applications.{row_of, apps_of};
 ghost use Rattle.ynl_model.specs.Cluster.{State, is_partition};
+ghost use Rattle.ynl_tables.specs.Living.{live_in, row_clock};
 ghost use Rattle.ynl_tables.specs.Marked.{AreMarkedIn, AreMarked};
-ghost use Rattle.ynl_tables.specs.Rising.{numbers_rise, clock_of};
+ghost use Rattle.ynl_tables.specs.Rising.{numbers_rise};
 ghost use Rattle.ynl_tables.specs.Tables.{leaf_of_row, leaves_of, partition_of, partitions_of, app_of};
 
 use crate::numbers::QueueNumbers;
-use crate::rows::{App, LeafRow, PartitionRow};
+use crate::rows::{App, ContainerRow, LeafRow, PartitionRow};
 use ynl_controls::{Maxima, Stops};
-use ynl_model::Placed;
 use ynl_nodes::Nodes;
 use ynl_resource::{Label, Name, Path};
 
@@ -68,10 +68,10 @@ pub fn clock_at(rows: &[PartitionRow], label: &Label) -> u64
     }
 }
 
-/// The containers on a partition, in the order of placement.
-pub fn containers_at<'a>(rows: &'a [PartitionRow], label: &Label) -> &'a [Placed]
-    ensures rising { IsTrue (numbers_rise clock_of result.now) }
-    ensures meaning { result.now ≡ option_map_or (λ row. row.containers) (find (is_partition label.now) (partitions_of rows.now)) [] }
+/// The rows of the containers on a partition, in the order of placement.
+pub fn containers_at<'a>(rows: &'a [PartitionRow], label: &Label) -> &'a [ContainerRow]
+    ensures rising { IsTrue (numbers_rise row_clock result.now) }
+    ensures meaning { live_in result.now ≡ option_map_or (λ row. row.containers) (find (is_partition label.now) (partitions_of rows.now)) [] }
 {
     match partition_at(rows, label) {
         Some(row) => &row.containers,

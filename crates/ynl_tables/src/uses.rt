@@ -1,16 +1,20 @@
 //! What containers use: sums over the containers of a partition.
 
-ghost use Rattle.std.specs.Prelude.{◌≡◌, IsTrue, filter, if◌then◌else◌};
+ghost use Rattle.std.specs.Prelude.{◌≡◌, IsTrue, List, true, filter, IfSome, if◌then◌else◌};
+ghost use Rattle.std.specs.List.{list_any};
 ghost use Rattle.ynl_resource.specs.Amounts.{plus, fits_in};
-ghost use Rattle.ynl_resource.specs.Names.{same_name};
+ghost use Rattle.ynl_resource.specs.Names.{same_name, same_path};
+ghost use Rattle.ynl_resource.specs.declared.paths.Path.{Path as Names};
 ghost use Rattle.ynl_model.specs.Cluster.{is_master, is_guest_on, is_below, sizes};
+ghost use Rattle.ynl_tables.specs.Numbers.{AreNumbered};
+ghost use Rattle.ynl_tables.specs.Living.{is_live_and, live_in};
 ghost use Rattle.ynl_tables.specs.Tables.{leaves_of};
 ghost use Rattle.ynl_tables.specs.Bounds.{IsTotal};
 ghost use Rattle.ynl_laws.specs.Uses.{counts};
 ghost use Rattle.ynl_tables.specs.Uses.{is_of_other, of_user, is_counted, IsOwner};
 
 use crate::named::app_named;
-use crate::rows::LeafRow;
+use crate::rows::{ContainerRow, LeafRow};
 use crate::tables::leaf_row_of;
 use ynl_model::{Placed, What};
 use ynl_queues::is_within;
@@ -25,10 +29,12 @@ pub enum Counted<'a> {
     Guests,
 }
 
-/// Whose use a container counts in: the leaf of its application, and the application's user.
+/// Whose use a container counts in: the leaf of its application, with a hint where it stands in the
+/// configuration, and the application's user.
 #[derive(Clone, Copy)]
 pub struct Owner<'a> {
     pub leaf: &'a Path,
+    pub place: usize,
     pub user: &'a Name,
 }
 
@@ -106,7 +112,8 @@ fn is_of_user(leaves: &[LeafRow], user: &Name, container: &Placed) -> bool
 /// Whose use a container counts in; none for a guest, and where the application is not live.
 #[tactic(auto, unfolding(ynl_model::specs::Applications::leaf_of, ynl_model::specs::Applications::find_app))]
 pub fn owner_of<'a>(leaves: &'a [LeafRow], container: &Placed) -> Option<Owner<'a>>
-    ensures { IsOwner (leaves_of leaves.now) container.now result }
+    ensures owner { IsOwner (leaves_of leaves.now) container.now result }
+    ensures numbered { (queues : List Names) → AreNumbered queues (leaves_of leaves.now) → IfSome result (λ owner. list_any (same_path owner.leaf.now) queues ≡ true) }
 {
     if is_guest_on(&container.id.label, &container.what) {
         return None;
@@ -115,6 +122,7 @@ pub fn owner_of<'a>(leaves: &'a [LeafRow], container: &Placed) -> Option<Owner<'
         Some(row) => match app_named(row, &container.app) {
             Some(app) => Some(Owner {
                 leaf: &row.path,
+                place: row.place,
                 user: &app.user,
             }),
             None => None,
@@ -138,6 +146,25 @@ fn is_counted(leaves: &[LeafRow], queue: &[Name], counted: Counted<'_>, containe
     }
 }
 
+/// Whether a row is live, and its container counts.
+fn is_live_counted(
+    leaves: &[LeafRow],
+    queue: &[Name],
+    counted: Counted<'_>,
+    row: &ContainerRow,
+) -> bool
+    ensures { result ≡ is_live_and (is_counted (leaves_of leaves.now) queue.now counted.entry) row.now }
+{
+    row.is_live && is_counted(leaves, queue, counted, &row.container)
+}
+
+/// Whether a row is live, and its container stands on a node.
+pub fn is_live_on(node: &Name, row: &ContainerRow) -> bool
+    ensures { result ≡ is_live_and (λ k. same_name k.node node.now) row.now }
+{
+    row.is_live && row.container.node == *node
+}
+
 /// The sum, with the size where it counts.
 fn added(sum: &Resource, size: &Size, counts: bool) -> Resource
     requires { IsTotal sum.now }
@@ -146,34 +173,35 @@ fn added(sum: &Resource, size: &Size, counts: bool) -> Resource
     if counts { sum.add(size.amount()) } else { *sum }
 }
 
-/// What a queue uses of a partition, or one user, the masters or the guests in it, by the containers
+/// What a queue uses of a partition, or one user, the masters or the guests in it, by the live containers
 /// there.
 pub fn used_by(
     leaves: &[LeafRow],
     queue: &[Name],
     counted: Counted<'_>,
-    containers: &[Placed],
+    rows: &[ContainerRow],
 ) -> Resource
-    requires { IsTotal (sizes containers.now) }
-    ensures value { result ≡ sizes (filter (is_counted (leaves_of leaves.now) queue.now counted.entry) containers.now) }
-    ensures within { IsTrue (fits_in result (sizes containers.now)) }
+    requires { IsTotal (sizes (live_in rows.now)) }
+    ensures value { result ≡ sizes (filter (is_counted (leaves_of leaves.now) queue.now counted.entry) (live_in rows.now)) }
+    ensures within { IsTrue (fits_in result (sizes (live_in rows.now))) }
 {
     let mut sum = NOTHING;
-    for container in containers {
-        let is_counted = is_counted(leaves, queue, counted, container);
-        sum = added(&sum, &container.size, is_counted);
+    for row in rows {
+        let is_counted = is_live_counted(leaves, queue, counted, row);
+        sum = added(&sum, &row.container.size, is_counted);
     }
     sum
 }
 
-/// What the containers on a node come to, of those on its partition.
-pub fn used_on(node: &Name, containers: &[Placed]) -> Resource
-    requires { IsTotal (sizes containers.now) }
-    ensures { result ≡ sizes (filter (λ k. same_name k.node node.now) containers.now) }
+/// What the live containers on a node come to, of those on its partition.
+pub fn used_on(node: &Name, rows: &[ContainerRow]) -> Resource
+    requires { IsTotal (sizes (live_in rows.now)) }
+    ensures { result ≡ sizes (filter (λ k. same_name k.node node.now) (live_in rows.now)) }
 {
     let mut sum = NOTHING;
-    for container in containers {
-        sum = added(&sum, &container.size, container.node == *node);
+    for row in rows {
+        let is_on = is_live_on(node, row);
+        sum = added(&sum, &row.container.size, is_on);
     }
     sum
 }

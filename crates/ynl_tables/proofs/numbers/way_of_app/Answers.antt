@@ -10,4 +10,4 @@ returns-in-Some c =
     let leaves : List LeafApps = leaves_of c.args.leaves.now in
     let row : LeafApps = leaf_of_row c.in-Some.row.now in
     let found : Some row ≡ row_of leaves c.args.tenant.now c.args.app.now = c.in-Some.ensures.meaning in
-    app_way queues leaves c.args.tenant.now c.args.app.now row c.way.result.now found (c.way.ensures (leaf_numbered queues leaves c.args.tenant.now c.args.app.now row c.requires found))
+    app_way queues leaves c.args.tenant.now c.args.app.now row c.way_near.result.now found (c.way_near.ensures (leaf_numbered queues leaves c.args.tenant.now c.args.app.now row c.requires found))

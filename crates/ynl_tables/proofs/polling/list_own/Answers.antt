@@ -1,15 +1,21 @@
-use Rattle.std.proofs.Common.{[], ◌∷◌, ◌++◌, filter, ap, ◌∙◌, arith}
+use Rattle.std.proofs.Common.{[], ◌∷◌, ◌++◌, filter, take, sym, ap, ◌∙◌, arith}
+use Rattle.std.proofs.lemmas.List.Elements.{filter-append}
 use Rattle.ynl_model.specs.Cluster.{is_of}
-use Rattle.ynl_tables.proofs.Filters.{filter_more}
+use Rattle.ynl_tables.specs.Living.{live_in}
+use Rattle.ynl_tables.proofs.Living.{live_more}
 use Rattle.ynl_tables.proofs.polling.list_own.Goals as goal
 
-pub loop-container-preserved : goal.loop-container-preserved
-loop-container-preserved c =
+pub loop-row-preserved : goal.loop-row-preserved
+loop-row-preserved c =
     let own = is_of c.args.tenant.now c.args.app.now in
+    let rows = c.args.rows.now in
+    let i = c.loop-row.row-index in
+    let row = c.row-item.result in
     record {
       so_far =
           c.push_own.ensures.items
-          ∙ ap (λ xs. xs ++ filter own (c.container-item.result ∷ [])) c.loop-container.invariant.so_far
-          ∙ filter_more own c.args.containers.now c.loop-container.container-index c.container-item.result c.loop-container-test.true c.container-item.is;
+          ∙ ap (λ xs. xs ++ filter own (live_in (row ∷ []))) c.loop-row.invariant.so_far
+          ∙ sym (filter-append own (live_in (take i rows)) (live_in (row ∷ [])))
+          ∙ ap (filter own) (sym (live_more rows i row c.loop-row-test.true c.row-item.is));
       capacity = omega arith;
     }

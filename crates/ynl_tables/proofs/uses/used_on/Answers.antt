@@ -1,19 +1,29 @@
-use Rattle.std.proofs.Common.{Bool, cond, sym, ◌∙◌}
-use Rattle.ynl_resource.specs.Amounts.{plus}
+use Rattle.std.proofs.Common.{List, filter, Bool, cond, sym, ap, ◌∙◌}
+use Rattle.std.proofs.lemmas.List.{take_all}
+use Rattle.ynl_resource.specs.Amounts.{plus, total_of}
 use Rattle.ynl_resource.specs.Names.{same_name}
 use Rattle.ynl_model.specs.declared.containers.Placed.{Placed}
-use Rattle.ynl_tables.proofs.Adding.{sum_more, some_within, small_part}
+use Rattle.ynl_tables.specs.declared.rows.ContainerRow.{ContainerRow}
+use Rattle.ynl_tables.specs.Living.{is_live_and}
+use Rattle.ynl_tables.proofs.Adding.{sum_more, small_part}
+use Rattle.ynl_tables.proofs.Living.{live_within, live_sum}
 use Rattle.ynl_tables.proofs.uses.used_on.Goals as goal
 
 pub added-sum-requires : goal.added-sum-requires
 added-sum-requires c =
     let p : Placed → Bool = λ k. same_name k.node c.args.node.now in
-    small_part _ _ _ c.loop-container.invariant (some_within (λ k. k.size) p c.args.containers.now c.loop-container.container-index) c.requires
+    small_part _ _ _ c.loop-row.invariant (live_within p c.args.rows.now c.loop-row.row-index) c.requires
 
-pub loop-container-preserved : goal.loop-container-preserved
-loop-container-preserved c =
-    let p : Placed → Bool = λ k. same_name k.node c.args.node.now in
-    let x = c.container-item.result in
+pub loop-row-preserved : goal.loop-row-preserved
+loop-row-preserved c =
+    let p : ContainerRow → Bool = is_live_and (λ k. same_name k.node c.args.node.now) in
+    let x = c.row-item.result in
     c.added-sum.ensures
-    ∙ (λ i. cond (c.eq.ensures i) (plus (c.loop-container.invariant i) x.size) (c.loop-container.invariant i))
-    ∙ sym (sum_more (λ k. k.size) p c.args.containers.now c.loop-container.container-index x c.loop-container-test.true c.container-item.is)
+    ∙ (λ i. cond (c.is_live_on-is_on.ensures i) (plus (c.loop-row.invariant i) x.container.size) (c.loop-row.invariant i))
+    ∙ sym (sum_more (λ (row : ContainerRow). row.container.size) p c.args.rows.now c.loop-row.row-index x c.loop-row-test.true c.row-item.is)
+
+pub returns : goal.returns
+returns c =
+    let p : Placed → Bool = λ k. same_name k.node c.args.node.now in
+    let all = ap (λ (rows : List ContainerRow). total_of (λ row. row.container.size) (filter (is_live_and p) rows)) (take_all c.loop-row.row-index c.args.rows.now c.loop-row-test.false) in
+    c.loop-row.invariant ∙ all ∙ live_sum p c.args.rows.now

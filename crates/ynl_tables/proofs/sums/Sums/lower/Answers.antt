@@ -1,17 +1,40 @@
-use Rattle.std.proofs.Common.{◌≡◌, ◌++◌, rules}
-use Rattle.ynl_resource.specs.Amounts.{less}
+use Rattle.std.proofs.Common.{◌≡◌, ◌-◌, Some, None, IsSome, ◌∷◌, ◌++◌, refl, sym, ap, subst, ◌∙◌, arith}
+use Rattle.std.specs.BTreeMap.{BTreeMap, get}
+use Rattle.std.specs.Option.{IfSome, option_copied_mut, option_map_or}
+use Rattle.ynl_resource.specs.Amounts.{less, nothing}
+use Rattle.ynl_resource.specs.Names.{name_order}
 use Rattle.ynl_resource.specs.declared.amounts.Resource.{Resource}
-use Rattle.ynl_tables.proofs.Changing.{set_fewer, unkept}
+use Rattle.ynl_resource.specs.declared.names.Name.{Name}
+use Rattle.ynl_tables.specs.Sums.{kept_for, sizes_for, SetsIn}
+use Rattle.ynl_tables.proofs.Changing.{inserted_sum, absent_sum, set_fewer}
 use Rattle.ynl_tables.proofs.sums.Sums.lower.Goals as goal
 
-pub returns-in_default : goal.returns-in_default
-returns-in_default c = λ counts k for before after kept. unkept counts c.args.self.now (before ++ after) (search rules)
-
-pub returns : goal.returns
-returns c = λ counts k for before after kept.
+pub returns-in-Some-get_mut : goal.returns-in-Some-get_mut
+returns-in-Some-get_mut c = λ counts k for before after kept.
     let name = c.args.name.now in
     let size = c.args.size.now in
-    let sum = c.in-Some.sum in
-    let fewer : Resource = record { memory = c.saturating_sub.result; vcores = c.saturating_sub-2.result } in
-    let takes : fewer ≡ less sum size = search rules in
-    set_fewer counts c.args.self.now c.set.new.self k name size sum fewer before after for c.set.ensures kept (c.in-Some.ensures counts _ kept) takes
+    let was : BTreeMap Name Resource = c.in-Some.entries in
+    let sum : Resource = c.in-Some-get_mut.sum.now in
+    let fewer : Resource = c.without.result in
+    let is : BTreeMap Name Resource = c.get_mut.follows.lender fewer in
+    let found : get name_order was name ≡ Some sum = sym c.get_mut.ensures.value ∙ ap option_copied_mut c.in-Some-get_mut.is in
+    let updates = ((c.get_mut.follows.holds fewer).3 (subst IsSome (sym found) refl)).0 in
+    let sets = subst (λ o. SetsIn o (Some is) name fewer) (sym c.in-Some.is) (inserted_sum was is name fewer updates) in
+    let sums : (n : Name) → kept_for was n ≡ sizes_for counts n (before ++ k ∷ after) = subst (λ o. IfSome o (λ entries. (n : Name) → kept_for entries n ≡ sizes_for counts n (before ++ k ∷ after))) c.in-Some.is kept in
+    let known = ap (λ o. option_map_or (λ (r : Resource). r) o nothing) (sym found) ∙ sums name in
+    set_fewer counts c.args.self.now (record { entries = Some is }) k name size sum fewer before after for sets kept known c.without.ensures
+
+pub returns-in_default-get_mut : goal.returns-in_default-get_mut
+returns-in_default-get_mut c = λ counts k for before after kept.
+    let name = c.args.name.now in
+    let size : Resource = c.args.size.now in
+    let was : BTreeMap Name Resource = c.in-Some.entries in
+    let none : get name_order was name ≡ None = sym c.get_mut.ensures.value ∙ ap option_copied_mut c.in_default-get_mut.is in
+    let sets = subst (λ o. SetsIn o (Some was) name nothing) (sym c.in-Some.is) (absent_sum was name none) in
+    let sums : (n : Name) → kept_for was n ≡ sizes_for counts n (before ++ k ∷ after) = subst (λ o. IfSome o (λ entries. (n : Name) → kept_for entries n ≡ sizes_for counts n (before ++ k ∷ after))) c.in-Some.is kept in
+    let known = ap (λ o. option_map_or (λ (r : Resource). r) o nothing) (sym none) ∙ sums name in
+    let memory : 0 ≡ 0 - size.memory = omega arith in
+    let vcores : 0 ≡ 0 - size.vcores = omega arith in
+    let takes : nothing ≡ less nothing size = λ i. record { memory = memory i; vcores = vcores i } in
+    let after_all = set_fewer counts c.args.self.now (record { entries = Some was }) k name size nothing nothing before after for sets kept known takes in
+    subst (λ (es : BTreeMap Name Resource). (n : Name) → kept_for es n ≡ sizes_for counts n (before ++ after)) (sym c.get_mut.follows.holds-at-none) after_all
