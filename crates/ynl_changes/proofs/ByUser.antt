@@ -21,7 +21,7 @@ use Rattle.ynl_tables.specs.Uses.{counts_for}
 use Rattle.ynl_tables.proofs.Changing.{one_for, same_sums}
 use Rattle.ynl_changes.specs.declared.users.Change.{Change}
 use Rattle.ynl_changes.specs.declared.users.Change.TheVariants.{More, Less}
-use Rattle.ynl_changes.specs.Users.{ChangesIf, ChangesEach, ChangesUsers}
+use Rattle.ynl_changes.specs.Users.{ChangesIf, ChangesAbove, ChangesUsers}
 
 -- ---- one container more, or less
 
@@ -58,7 +58,7 @@ module _ (queues : List Path) (leaves : List LeafApps) (k : Placed) where
     alone queue e = record { sized = refl; alone = λ user. counts queue user ∙ ap (λ b. b && same_name mine user) e }
 
     -- one that counts for its owner
-    owned_more : ChangesEach queues More leaf mine k.size old new → (cs : List Placed) → IsSmall (sizes cs) → AreByUser queues leaves old cs → AreByUser queues leaves new (cs ++ k ∷ [])
+    owned_more : ChangesAbove queues More leaf mine k.size old new → (cs : List Placed) → IsSmall (sizes cs) → AreByUser queues leaves old cs → AreByUser queues leaves new (cs ++ k ∷ [])
     owned_more changes cs small h = record {
       len = changes.len ∙ h.len;
       each = λ n sums inside read.
@@ -74,7 +74,7 @@ module _ (queues : List Path) (leaves : List LeafApps) (k : Placed) where
             subst (λ (z : Sums). AreSums (counts_for leaves queue) z (cs ++ k ∷ [])) (sym same)
             (same_sums (counts_for leaves queue) (counts_for leaves queue) was cs (cs ++ k ∷ []) (passed_last (counts_for leaves queue) cs k (off queue e)) sums)
 
-    owned_less : ChangesEach queues Less leaf mine k.size old new → (before after : List Placed) → AreByUser queues leaves old (before ++ k ∷ after) → AreByUser queues leaves new (before ++ after)
+    owned_less : ChangesAbove queues Less leaf mine k.size old new → (before after : List Placed) → AreByUser queues leaves old (before ++ k ∷ after) → AreByUser queues leaves new (before ++ after)
     owned_less changes before after h = record {
       len = changes.len ∙ h.len;
       each = λ n sums inside read.
@@ -92,7 +92,7 @@ module _ (queues : List Path) (leaves : List LeafApps) (k : Placed) where
 
 -- one that counts for its owner changes what is kept as is wanted
 pub owned_users : (kind : Change) (queues : List Path) (leaves : List LeafApps) (k : Placed) (leaf : Path) (mine : Name) → ((queue : Path) (user : Name) → counts_for leaves queue user k ≡ (is_within queue leaf && same_name mine user))
-    → (old new : List Sums) → ChangesEach queues kind leaf mine k.size old new → ChangesUsers kind queues leaves k old new
+    → (old new : List Sums) → ChangesAbove queues kind leaf mine k.size old new → ChangesUsers kind queues leaves k old new
 owned_users More queues leaves k leaf mine counts old new changes = owned_more queues leaves k leaf mine counts old new changes
 owned_users Less queues leaves k leaf mine counts old new changes = owned_less queues leaves k leaf mine counts old new changes
 

@@ -1,4 +1,6 @@
 pub mod InPlace
+pub mod Along
+pub mod ListedRows
 pub mod ByUser
 pub mod Serves
 pub mod Own

@@ -1,5 +1,5 @@
 -- The marks of applications through the changes of their rows.
-use Rattle.std.proofs.Common.{◌≡◌, ℕ, ◌+◌, ◌<◌, ◌≤◌, Bool, true, false, cond, not, List, [], ◌∷◌, ◌++◌, length, take, get_or, map, filter, find, Option, Some, None, refl, sym, ap, subst, ◌∙◌, arith}
+use Rattle.std.proofs.Common.{append-nil, ◌≡◌, ℕ, ◌+◌, ◌<◌, ◌≤◌, Bool, true, false, cond, not, List, [], ◌∷◌, ◌++◌, length, take, get_or, map, filter, find, Option, Some, None, refl, sym, ap, subst, ◌∙◌, arith}
 use Rattle.std.specs.Prelude.{◌&&◌, ◌||◌, ◌==◌, option_map}
 use Rattle.std.proofs.lemmas.Bool.Decides.{nat_tests}
 use Rattle.std.specs.List.{AllByRecursion, list_any}
@@ -38,6 +38,9 @@ use Rattle.ynl_laws.proofs.Events.Chosen.{none-holds}
 use Rattle.ynl_laws.proofs.Soundness.Steps.{stands-found}
 use Rattle.ynl_laws.proofs.Totals.Waiting.{master-chosen, master-committed}
 use Rattle.ynl_laws.proofs.Totals.Marks.{mark-end, mark-finish, mark-joined, mark-left, mark-place}
+use Rattle.ynl_tables.specs.declared.rows.ContainerRow.{ContainerRow}
+use Rattle.ynl_tables.specs.Living.{is_live_and, live_in}
+use Rattle.ynl_tables.proofs.Living.{live_more}
 use Rattle.ynl_tables.specs.declared.rows.App.{App}
 use Rattle.ynl_tables.specs.declared.rows.LeafRow.{LeafRow}
 use Rattle.ynl_tables.specs.Marked.{IsMarkedApp, AreMarkedIn, AreMarked}
@@ -180,30 +183,43 @@ unmarked_none label node (row ∷ rows) = λ i. in_row row i ∷ unmarked_none l
     in_row [] = refl
     in_row (n ∷ ns) = λ i. record { app = n.app; mark = none (same_label label n.app.home) n.mark i } ∷ in_row ns i
 
-pub unmarked_more : (label : Label) (node : Name) (ks : List Placed) (i : ℕ) (k : Placed) (before now start : List (List Noted)) → i < length ks → k ≡ get_or ks i k
-    → now ≡ cond (same_name k.node node) (map (map (remarked label k 0)) before) before → before ≡ map (map (unmarked label node (take i ks))) start → now ≡ map (map (unmarked label node (take (i + 1) ks))) start
-unmarked_more label node ks i k before now start inside at e so_far =
+unmarked_more : (label : Label) (node : Name) (first : List Placed) (k : Placed) (before now start : List (List Noted))
+    → now ≡ cond (same_name k.node node) (map (map (remarked label k 0)) before) before → before ≡ map (map (unmarked label node first)) start → now ≡ map (map (unmarked label node (first ++ k ∷ []))) start
+unmarked_more label node first k before now start e so_far =
     e ∙ ap (λ (rows : List (List Noted)). cond (same_name k.node node) (map (map (remarked label k 0)) rows) rows) so_far ∙ go (same_name k.node node) refl
   where
-    first : List Placed
-    first = take i ks
-
     on : Application → Placed → Bool
     on app other = same_name other.node node && is_master_of app other
 
-    more : (app : Application) → (list_any (on app) first || on app k) ≡ list_any (on app) (take (i + 1) ks)
-    more app = sym (ap (list_any (on app)) (take_more ks i k inside ∙ ap (λ (z : Placed). first ++ z ∷ []) (sym at)) ∙ any_push (on app) first k)
+    more : (app : Application) → (list_any (on app) first || on app k) ≡ list_any (on app) (first ++ k ∷ [])
+    more app = sym (any_push (on app) first k)
 
     marks : (b : Bool) → same_name k.node node ≡ b → (n : Noted) → cond b (cond (same_label label n.app.home && is_master_of n.app k) 0 (cond (same_label label n.app.home && list_any (on n.app) first) 0 n.mark)) (cond (same_label label n.app.home && list_any (on n.app) first) 0 n.mark)
-        ≡ cond (same_label label n.app.home && list_any (on n.app) (take (i + 1) ks)) 0 n.mark
+        ≡ cond (same_label label n.app.home && list_any (on n.app) (first ++ k ∷ [])) 0 n.mark
     marks b here n =
         unmark_one b (same_label label n.app.home) (is_master_of n.app k) (list_any (on n.app) first) n.mark
         ∙ ap (λ b. cond (same_label label n.app.home && (list_any (on n.app) first || (b && is_master_of n.app k))) 0 n.mark) (sym here)
         ∙ ap (λ b. cond (same_label label n.app.home && b) 0 n.mark) (more n.app)
 
-    go : (b : Bool) → same_name k.node node ≡ b → cond b (map (map (remarked label k 0)) (map (map (unmarked label node first)) start)) (map (map (unmarked label node first)) start) ≡ map (map (unmarked label node (take (i + 1) ks))) start
-    go true here = same_rows (remarked label k 0) (unmarked label node first) (unmarked label node (take (i + 1) ks)) (λ n. λ j. record { app = n.app; mark = marks true here n j }) start
-    go false here = map_each (map (unmarked label node first)) (map (unmarked label node (take (i + 1) ks))) (map_each (unmarked label node first) (unmarked label node (take (i + 1) ks)) (λ n. λ j. record { app = n.app; mark = marks false here n j })) start
+    go : (b : Bool) → same_name k.node node ≡ b → cond b (map (map (remarked label k 0)) (map (map (unmarked label node first)) start)) (map (map (unmarked label node first)) start) ≡ map (map (unmarked label node (first ++ k ∷ []))) start
+    go true here = same_rows (remarked label k 0) (unmarked label node first) (unmarked label node (first ++ k ∷ [])) (λ n. λ j. record { app = n.app; mark = marks true here n j }) start
+    go false here = map_each (map (unmarked label node first)) (map (unmarked label node (first ++ k ∷ []))) (map_each (unmarked label node first) (unmarked label node (first ++ k ∷ [])) (λ n. λ j. record { app = n.app; mark = marks false here n j })) start
+
+-- one more row is gone over
+pub unmarked_row : (label : Label) (node : Name) (rows : List ContainerRow) (i : ℕ) (row : ContainerRow) (before now start : List (List Noted)) → i < length rows → row ≡ get_or rows i row
+    → now ≡ cond (is_live_and (λ k. same_name k.node node) row) (map (map (remarked label row.container 0)) before) before
+    → before ≡ map (map (unmarked label node (live_in (take i rows)))) start → now ≡ map (map (unmarked label node (live_in (take (i + 1) rows)))) start
+unmarked_row label node rows i row before now start inside at e so_far = go row.is_live refl e
+  where
+    first : List Placed
+    first = live_in (take i rows)
+
+    next : live_in (take (i + 1) rows) ≡ first ++ cond row.is_live (row.container ∷ []) []
+    next = live_more rows i row inside at
+
+    go : (b : Bool) → row.is_live ≡ b → now ≡ cond (b && same_name row.container.node node) (map (map (remarked label row.container 0)) before) before → now ≡ map (map (unmarked label node (live_in (take (i + 1) rows)))) start
+    go true live e = unmarked_more label node first row.container before now start e so_far ∙ ap (λ (ks : List Placed). map (map (unmarked label node ks)) start) (sym (next ∙ ap (λ b. first ++ cond b (row.container ∷ []) []) live))
+    go false dead e = e ∙ so_far ∙ ap (λ (ks : List Placed). map (map (unmarked label node ks)) start) (sym (next ∙ ap (λ b. first ++ cond b (row.container ∷ []) []) dead ∙ append-nil first))
 
 -- ---- the changes of a state
 

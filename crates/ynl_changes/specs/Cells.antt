@@ -6,8 +6,16 @@ use Rattle.ynl_model.specs.declared.containers.Placed.{Placed}
 use Rattle.ynl_model.specs.declared.uses.Use.{Use}
 use Rattle.ynl_model.specs.Applications.{LeafApps}
 use Rattle.ynl_model.specs.Cluster.{is_of}
-use Rattle.ynl_laws.specs.Uses.{raised_in, lowered_in}
+use Rattle.ynl_laws.specs.Uses.{use_by, raised_in, lowered_in}
+use Rattle.ynl_tables.specs.declared.rows.ContainerRow.{ContainerRow}
+use Rattle.ynl_tables.specs.declared.sums.Sums.{Sums}
 use Rattle.ynl_tables.specs.Bounds.{IsTotal}
+use Rattle.ynl_tables.specs.Kept.{AreByUser, stands_on}
+use Rattle.ynl_tables.specs.Listed.{AreListed}
+use Rattle.ynl_tables.specs.Living.{live_in}
+use Rattle.ynl_tables.specs.Rising.{numbers_rise, clock_of}
+use Rattle.ynl_tables.specs.declared.listed.Listed.{Listed}
+use Rattle.ynl_tables.specs.Sums.{AreSums}
 use Rattle.ynl_changes.specs.declared.ending.Going.{Going}
 use Rattle.ynl_changes.specs.declared.ending.Going.TheVariants.{OnNode, OfApp}
 
@@ -22,10 +30,19 @@ pub record IsSmallUse (u : Use) : Type 0 where
 abbrev pub RaisesAll : List Path → List LeafApps → Placed → List Use → List Use → Type 0
 RaisesAll queues leaves container old new = (used : Path → Use) → old ≡ map used (root ∷ queues) → new ≡ map (λ queue. raised_in leaves queue container (used queue)) (root ∷ queues)
 
--- or as much less, if the container goes
-abbrev pub LowersAll : List Path → List LeafApps → Bool → Placed → List Use → List Use → Type 0
-LowersAll queues leaves goes container old new =
-    (used : Path → Use) → old ≡ map used (root ∷ queues) → new ≡ map (λ queue. if goes then lowered_in leaves queue container (used queue) else used queue) (root ∷ queues)
+-- or as much less
+abbrev pub LowersAll : List Path → List LeafApps → Placed → List Use → List Use → Type 0
+LowersAll queues leaves container old new = (used : Path → Use) → old ≡ map used (root ∷ queues) → new ≡ map (λ queue. lowered_in leaves queue container (used queue)) (root ∷ queues)
+
+-- it is kept of each queue what it uses by the live containers of some rows, and so of each user in it, and of each node
+abbrev pub AreUses : List Path → List LeafApps → List Use → List ContainerRow → Type 0
+AreUses queues leaves uses rows = uses ≡ map (λ queue. use_by leaves queue (live_in rows)) (root ∷ queues)
+
+abbrev pub AreUserUses : List Path → List LeafApps → List Sums → List ContainerRow → Type 0
+AreUserUses queues leaves users rows = AreByUser queues leaves users (live_in rows)
+
+abbrev pub AreFilled : Sums → List ContainerRow → Type 0
+AreFilled filled rows = AreSums stands_on filled (live_in rows)
 
 -- whether a container is one of those that go
 abbrev pub goes : Going → Placed → Bool
@@ -36,3 +53,7 @@ goes (OfApp tenant app) container = is_of tenant.now app.now container
 abbrev pub LeavesIf : {X : Type 0} → Bool → X → (List X → Type 0) → (List X → Type 0) → Type 0
 LeavesIf {X} true thing Was Is = (before after : List X) → Was (before ++ thing ∷ after) → Is (before ++ after)
 LeavesIf {X} false thing Was Is = (things : List X) → Was things → Is things
+
+-- the clocks of the live containers of some rows rise, and what is listed are theirs
+abbrev pub IsListing : Listed → List ContainerRow → Type 0
+IsListing listed rows = (numbers_rise clock_of (live_in rows) ≡ true) × AreListed listed (live_in rows)

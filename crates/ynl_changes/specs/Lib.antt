@@ -1,4 +1,5 @@
 pub mod Cells
+pub mod Finishing
 pub mod Marking
 pub mod Placing
 pub mod Rows

@@ -1,5 +1,5 @@
 -- How one row of a table is changed.
-use Rattle.std.specs.Prelude.{ℕ, List, [], slice_get, if◌then◌else◌}
+use Rattle.std.specs.Prelude.{ℕ, List, [], map, slice_get, if◌then◌else◌}
 use Rattle.std.specs.Option.{option_map_or}
 use Rattle.ynl_resource.specs.declared.ids.Id.{Id}
 use Rattle.ynl_resource.specs.declared.labels.Label.{Label}
@@ -10,6 +10,8 @@ use Rattle.ynl_model.specs.declared.containers.Placed.{Placed}
 use Rattle.ynl_resource.specs.declared.paths.Path.{Path}
 use Rattle.ynl_model.specs.Applications.{LeafApps}
 use Rattle.ynl_model.specs.Cluster.{Partition}
+use Rattle.ynl_tables.specs.declared.listed.Listed.{Listed}
+use Rattle.ynl_tables.specs.declared.rows.ContainerRow.{ContainerRow}
 use Rattle.ynl_tables.specs.declared.rows.PartitionRow.{PartitionRow}
 use Rattle.ynl_tables.specs.declared.tables.Tables.{Tables}
 use Rattle.ynl_tables.specs.Kept.{IsSummed, AreSummed, AreKept}
@@ -30,6 +32,14 @@ without_id id clock row = record row { clock = clock; containers = without (λ o
 -- the containers of the row at a place, and none past the last
 abbrev pub containers_at_place : List Partition → ℕ → List Placed
 containers_at_place rows place = option_map_or (λ row. row.containers) (slice_get rows place) []
+
+-- what is listed in each row
+abbrev pub lists_of : List PartitionRow → List Listed
+lists_of rows = map (λ row. row.listed) rows
+
+-- the rows of containers of the partition at a place, dead ones too, and none past the last
+abbrev pub rows_at : List PartitionRow → ℕ → List ContainerRow
+rows_at rows place = option_map_or (λ row. row.containers.items) (slice_get rows place) []
 
 -- where what was kept of use was right, it is so still, whatever the queues and the leaves
 abbrev pub KeepsSum : PartitionRow → PartitionRow → Type 0

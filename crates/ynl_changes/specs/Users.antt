@@ -25,10 +25,14 @@ abbrev pub ChangesIf : Bool → Change → Sums → Sums → Name → Resource �
 ChangesIf true kind old new name size = Changes kind old new name size
 ChangesIf false kind old new name size = new ≡ old
 
--- that, for each queue above a leaf
-pub record ChangesEach (queues : List Path) (kind : Change) (leaf : Path) (user : Name) (size : Resource) (old new : List Sums) : Type 0 where
+-- that, for each number that passes a test
+pub record ChangesEach (test : ℕ → Bool) (kind : Change) (user : Name) (size : Resource) (old new : List Sums) : Type 0 where
   pub len : length new ≡ length old
-  pub each : (number : ℕ) (was is : Sums) → number < length old → was ≡ slice_index_or old number was → is ≡ slice_index_or new number is → ChangesIf (is_within (queue_at queues number) leaf) kind was is user size
+  pub each : (number : ℕ) (was is : Sums) → number < length old → was ≡ slice_index_or old number was → is ≡ slice_index_or new number is → ChangesIf (test number) kind was is user size
+
+-- that, for each queue above a leaf
+abbrev pub ChangesAbove : List Path → Change → Path → Name → Resource → List Sums → List Sums → Type 0
+ChangesAbove queues kind leaf user size old new = ChangesEach (λ number. is_within (queue_at queues number) leaf) kind user size old new
 
 -- whatever the containers are, what is kept of users is right with one more, or one less
 abbrev pub ChangesUsers : Change → List Path → List LeafApps → Placed → List Sums → List Sums → Type 0

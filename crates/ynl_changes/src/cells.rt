@@ -122,7 +122,7 @@ pub fn raise(uses: &mut Vec<Use>, numbers: &QueueNumbers, leaves: &[LeafRow], co
 pub fn lower(uses: &mut Vec<Use>, numbers: &QueueNumbers, leaves: &[LeafRow], container: &Placed)
     requires numbered { AreNumbered numbers.now (leaves_of leaves.now) }
     requires len { length uses.old.items ≡ length (root ∷ numbers.now) }
-    ensures uses { LowersAll numbers.now (leaves_of leaves.now) true container.now uses.old.items uses.new.items }
+    ensures uses { LowersAll numbers.now (leaves_of leaves.now) container.now uses.old.items uses.new.items }
     ensures len { length uses.new.items ≡ length (root ∷ numbers.now) }
 {
     let way = way_of_app(numbers, leaves, container.tenant.as_bytes(), &container.app);

@@ -1,6 +1,6 @@
 //! Containers that end.
 
-ghost use Rattle.std.specs.Prelude.{◌≡◌, ◌<◌, [], ◌∷◌, filter, length, map};
+ghost use Rattle.std.specs.Prelude.{◌≡◌, ◌<◌, [], ◌∷◌, true, not, filter, length, map, slice_index_or};
 ghost use Rattle.std.specs.List.{remove};
 ghost use Rattle.ynl_resource.specs.Names.{root, same_id};
 ghost use Rattle.ynl_resource.specs.Tables.{without};
@@ -8,11 +8,14 @@ ghost use Rattle.ynl_model.specs.Cluster.{containers_on, in_partition};
 ghost use Rattle.ynl_model.specs.Changes.{end};
 ghost use Rattle.ynl_laws.specs.Uses.{use_by};
 ghost use Rattle.ynl_tables.specs.Kept.{AreByUser, AreKept, IsKept, IsSummed, stands_on};
+ghost use Rattle.ynl_tables.specs.Listed.{AreListed};
+ghost use Rattle.ynl_tables.specs.Living.{is_live_and, live_in, row_clock};
 ghost use Rattle.ynl_tables.specs.Numbers.{AreNumbered};
+ghost use Rattle.ynl_tables.specs.Rising.{numbers_rise};
 ghost use Rattle.ynl_tables.specs.Sums.{AreSums};
 ghost use Rattle.ynl_tables.specs.Tables.{state_of, leaves_of, partition_of, partitions_of};
-ghost use Rattle.ynl_changes.specs.Cells.{LowersAll, LeavesIf, goes};
-ghost use Rattle.ynl_changes.specs.Rows.{in_row, without_id};
+ghost use Rattle.ynl_changes.specs.Cells.{AreUses, AreUserUses, AreFilled, LeavesIf, IsListing, goes};
+ghost use Rattle.ynl_changes.specs.Rows.{KeepsSum, in_row, without_id};
 
 use crate::cells::lower;
 use crate::marking::mark;
@@ -21,8 +24,8 @@ use ynl_model::{Placed, Use};
 use ynl_queues::Config;
 use ynl_resource::{Id, Label, Name};
 use ynl_tables::{
-    LeafRow, PartitionRow, QueueNumbers, Sums, Tables, is_own, is_same, is_same_id, next_clock,
-    place_at,
+    ContainerRow, LeafRow, Listed, PartitionRow, QueueNumbers, Sums, Tables, clear_ended, end_at,
+    is_own, is_same, is_same_id, next_clock, place_at,
 };
 
 /// Which containers go.
@@ -43,21 +46,34 @@ fn goes(going: Going<'_>, container: &Placed) -> bool
     }
 }
 
-/// What queues use is lowered by a container, if it goes.
+/// Whether a row is live, and its container goes.
+fn row_goes(going: Going<'_>, row: &ContainerRow) -> bool
+    ensures { result ≡ is_live_and (goes going.entry) row.now }
+{
+    row.is_live && goes(going, &row.container)
+}
+
+/// Whether a row is live, and its container does not go.
+fn row_stays(going: Going<'_>, row: &ContainerRow) -> bool
+    ensures { result ≡ is_live_and (λ container. not (goes going.entry container)) row.now }
+{
+    row.is_live && !goes(going, &row.container)
+}
+
+/// What queues use is lowered by a row's container, if it goes.
 fn lower_if(
     uses: &mut Vec<Use>,
     numbers: &QueueNumbers,
     leaves: &[LeafRow],
-    container: &Placed,
+    row: &ContainerRow,
     going: Going<'_>,
 )
     requires numbered { AreNumbered numbers.now (leaves_of leaves.now) }
     requires len { length uses.old.items ≡ length (root ∷ numbers.now) }
-    ensures uses { LowersAll numbers.now (leaves_of leaves.now) (goes going.entry container.now) container.now uses.old.items uses.new.items }
-    ensures len { length uses.new.items ≡ length (root ∷ numbers.now) }
+    ensures { LeavesIf (is_live_and (goes going.entry) row.now) row.now (AreUses numbers.now (leaves_of leaves.now) uses.old.items) (AreUses numbers.now (leaves_of leaves.now) uses.new.items) }
 {
-    if goes(going, container) {
-        lower(uses, numbers, leaves, container);
+    if row_goes(going, row) {
+        lower(uses, numbers, leaves, &row.container);
     }
 }
 
@@ -66,49 +82,51 @@ fn lower_by(
     uses: &mut Vec<Use>,
     numbers: &QueueNumbers,
     leaves: &[LeafRow],
-    containers: &[Placed],
+    rows: &[ContainerRow],
     going: Going<'_>,
 )
     requires numbered { AreNumbered numbers.now (leaves_of leaves.now) }
-    requires uses { uses.old.items ≡ map (λ queue. use_by (leaves_of leaves.now) queue containers.now) (root ∷ numbers.now) }
-    ensures { uses.new.items ≡ map (λ queue. use_by (leaves_of leaves.now) queue (without (goes going.entry) containers.now)) (root ∷ numbers.now) }
+    requires uses { AreUses numbers.now (leaves_of leaves.now) uses.old.items rows.now }
+    ensures { uses.new.items ≡ map (λ queue. use_by (leaves_of leaves.now) queue (without (goes going.entry) (live_in rows.now))) (root ∷ numbers.now) }
 {
-    for container in containers {
-        lower_if(uses, numbers, leaves, container, going);
+    for row in rows {
+        lower_if(uses, numbers, leaves, row, going);
     }
 }
 
-/// What is used of a node is lowered by a container, if it goes.
-fn free_if(filled: &mut Sums, container: &Placed, going: Going<'_>)
-    ensures { LeavesIf (goes going.entry container.now) container.now (AreSums stands_on filled.old) (AreSums stands_on filled.new) }
+/// What is used of a node is lowered by a row's container, if it goes.
+fn free_if(filled: &mut Sums, row: &ContainerRow, going: Going<'_>)
+    ensures { LeavesIf (is_live_and (goes going.entry) row.now) row.now (AreFilled filled.old) (AreFilled filled.new) }
 {
-    if goes(going, container) {
-        filled.lower(&container.node, &container.size);
+    if row_goes(going, row) {
+        filled.lower(&row.container.node, &row.container.size);
     }
 }
 
 /// What is used of nodes is lowered by each of the containers that goes.
-fn free_by(filled: &mut Sums, containers: &[Placed], going: Going<'_>)
-    requires { AreSums stands_on filled.old containers.now }
-    ensures { AreSums stands_on filled.new (without (goes going.entry) containers.now) }
+fn free_by(filled: &mut Sums, rows: &[ContainerRow], going: Going<'_>)
+    requires { AreFilled filled.old rows.now }
+    ensures { AreSums stands_on filled.new (without (goes going.entry) (live_in rows.now)) }
 {
-    for container in containers {
-        free_if(filled, container, going);
+    for row in rows {
+        free_if(filled, row, going);
     }
 }
 
-/// What users use is lowered by a container, if it goes.
+/// What users use is lowered by a row's container, if it goes.
 fn lower_users_if(
     users: &mut Vec<Sums>,
     numbers: &QueueNumbers,
     leaves: &[LeafRow],
-    container: &Placed,
+    row: &ContainerRow,
     going: Going<'_>,
 )
-    ensures { LeavesIf (goes going.entry container.now) container.now (AreByUser numbers.now (leaves_of leaves.now) users.old.items) (AreByUser numbers.now (leaves_of leaves.now) users.new.items) }
+    requires numbered { AreNumbered numbers.now (leaves_of leaves.now) }
+    requires len { length users.old.items ≡ length (root ∷ numbers.now) }
+    ensures { LeavesIf (is_live_and (goes going.entry) row.now) row.now (AreUserUses numbers.now (leaves_of leaves.now) users.old.items) (AreUserUses numbers.now (leaves_of leaves.now) users.new.items) }
 {
-    if goes(going, container) {
-        change_users(users, numbers, leaves, Change::Less, container);
+    if row_goes(going, row) {
+        change_users(users, numbers, leaves, Change::Less, &row.container);
     }
 }
 
@@ -117,22 +135,43 @@ fn lower_users_by(
     users: &mut Vec<Sums>,
     numbers: &QueueNumbers,
     leaves: &[LeafRow],
-    containers: &[Placed],
+    rows: &[ContainerRow],
     going: Going<'_>,
 )
-    requires { AreByUser numbers.now (leaves_of leaves.now) users.old.items containers.now }
-    ensures { AreByUser numbers.now (leaves_of leaves.now) users.new.items (without (goes going.entry) containers.now) }
+    requires numbered { AreNumbered numbers.now (leaves_of leaves.now) }
+    requires users { AreUserUses numbers.now (leaves_of leaves.now) users.old.items rows.now }
+    ensures { AreByUser numbers.now (leaves_of leaves.now) users.new.items (without (goes going.entry) (live_in rows.now)) }
 {
-    for container in containers {
-        lower_users_if(users, numbers, leaves, container, going);
+    for row in rows {
+        lower_users_if(users, numbers, leaves, row, going);
     }
 }
 
-/// Those of some containers go that are to go.
-fn drop_from(containers: &mut Vec<Placed>, going: Going<'_>)
-    ensures { containers.new.items ≡ without (goes going.entry) containers.old.items }
+/// A row's container's clock is listed no more, if it goes.
+fn unlist_if(listed: &mut Listed, row: &ContainerRow, going: Going<'_>)
+    ensures { LeavesIf (is_live_and (goes going.entry) row.now) row.now (IsListing listed.old) (IsListing listed.new) }
 {
-    containers.retain(|container| !goes(going, container));
+    if row_goes(going, row) {
+        listed.remove(&row.container);
+    }
+}
+
+/// The clocks of those of the containers that go are listed no more.
+fn unlist_by(listed: &mut Listed, rows: &[ContainerRow], going: Going<'_>)
+    requires { IsListing listed.old rows.now }
+    ensures { AreListed listed.new (without (goes going.entry) (live_in rows.now)) }
+{
+    for row in rows {
+        unlist_if(listed, row, going);
+    }
+}
+
+/// The rows of those containers go that are to go, and the dead with them.
+fn drop_from(rows: &mut Vec<ContainerRow>, going: Going<'_>)
+    ensures live { live_in rows.new.items ≡ without (goes going.entry) (live_in rows.old.items) }
+    ensures rising { numbers_rise row_clock rows.old.items ≡ true → numbers_rise row_clock rows.new.items ≡ true }
+{
+    rows.retain(|row| row_stays(going, row));
 }
 
 /// Containers go from a row, and its queues, their users and its nodes use less by them.
@@ -144,42 +183,67 @@ pub fn drop_going(
 )
     requires numbered { AreNumbered numbers.now (leaves_of leaves.now) }
     requires summed { IsSummed numbers.now (leaves_of leaves.now) row.old }
-    ensures meaning { partition_of row.new ≡ record (partition_of row.old) { containers = without (goes going.entry) row.old.containers.items } }
+    ensures meaning { partition_of row.new ≡ record (partition_of row.old) { containers = without (goes going.entry) (live_in row.old.containers.items) } }
     ensures summed { IsSummed numbers.now (leaves_of leaves.now) row.new }
 {
     lower_by(&mut row.uses, numbers, leaves, &row.containers, going);
     lower_users_by(&mut row.users, numbers, leaves, &row.containers, going);
     free_by(&mut row.filled, &row.containers, going);
+    unlist_by(&mut row.listed, &row.containers, going);
     drop_from(&mut row.containers, going);
+    row.ended = 0;
 }
 
-/// The container at a place goes from a row, and its queues, its user and its node use less by it.
-fn drop_at(row: &mut PartitionRow, numbers: &QueueNumbers, leaves: &[LeafRow], place: usize)
+/// The live container at a place ends, and its queues, its user and its node use less by it. Its row stays,
+/// so that those after it need not move.
+pub fn drop_at(row: &mut PartitionRow, numbers: &QueueNumbers, leaves: &[LeafRow], place: usize)
     requires place { place < length row.old.containers.items }
+    requires live { (other : ContainerRow) → (slice_index_or row.old.containers.items place other).is_live ≡ true }
     requires numbered { AreNumbered numbers.now (leaves_of leaves.now) }
     requires summed { IsSummed numbers.now (leaves_of leaves.now) row.old }
-    ensures meaning { partition_of row.new ≡ record (partition_of row.old) { containers = remove row.old.containers.items place } }
+    ensures meaning { partition_of row.new ≡ record (partition_of row.old) { containers = live_in (remove row.old.containers.items place) } }
     ensures summed { IsSummed numbers.now (leaves_of leaves.now) row.new }
 {
-    let container = row.containers[place];
+    let container = row.containers[place].container;
     lower(&mut row.uses, numbers, leaves, &container);
     change_users(&mut row.users, numbers, leaves, Change::Less, &container);
     row.filled.lower(&container.node, &container.size);
-    let _container = row.containers.remove(place);
+    row.listed.remove(&container);
+    end_at(&mut row.containers, place);
+    row.ended = row.ended.saturating_add(1);
+}
+
+/// The dead rows go where they are more than half of all: each end pays for moving two rows at most.
+pub fn clear_if_many(row: &mut PartitionRow)
+    ensures meaning { partition_of row.new ≡ partition_of row.old }
+    ensures summed { KeepsSum row.old row.new }
+{
+    if row.ended > row.containers.len() / 2 {
+        clear_ended(&mut row.containers);
+        row.ended = 0;
+    }
+}
+
+/// Whether a row is live, and its container has an id.
+fn is_live_with(row: &ContainerRow, id: &Id) -> bool
+    ensures { result ≡ is_live_and (λ other. same_id other.id id.now) row.now }
+{
+    row.is_live && is_same_id(&row.container.id, id)
 }
 
 /// The container of an id goes from a row.
 fn drop_of_id(row: &mut PartitionRow, numbers: &QueueNumbers, leaves: &[LeafRow], id: &Id)
     requires numbered { AreNumbered numbers.now (leaves_of leaves.now) }
     requires summed { IsSummed numbers.now (leaves_of leaves.now) row.old }
-    ensures meaning { partition_of row.new ≡ record (partition_of row.old) { containers = without (λ other. same_id other.id id.now) row.old.containers.items } }
+    ensures meaning { partition_of row.new ≡ record (partition_of row.old) { containers = without (λ other. same_id other.id id.now) (live_in row.old.containers.items) } }
     ensures summed { IsSummed numbers.now (leaves_of leaves.now) row.new }
 {
     let Some(place) = place_at(&row.containers, id.clock) else {
         return;
     };
-    if is_same_id(&row.containers[place].id, id) {
+    if is_live_with(&row.containers[place], id) {
         drop_at(row, numbers, leaves, place);
+        clear_if_many(row);
     }
 }
 

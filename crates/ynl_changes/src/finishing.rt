@@ -1,7 +1,8 @@
 //! Applications that finish: the clocks rise once for each of their containers, and then the
-//! containers go. So no list of them is needed.
+//! containers go. Both find them by their clocks, where these are listed.
 
-ghost use Rattle.std.specs.Prelude.{◌≡◌, ◌<◌, true, false, IsTrue, Some, length, map, filter, option_map, slice_get, if◌then◌else◌};
+ghost use Rattle.std.specs.Prelude.{◌≡◌, ℕ, ◌<◌, true, false, IsTrue, IfSome, Some, [], length, map, filter, option_map, slice_get, slice_index_or, if◌then◌else◌};
+ghost use Rattle.std.specs.Bool.{OnTrue};
 ghost use Rattle.std.specs.List.{remove};
 ghost use Rattle.std.specs.Option.{option_map_or};
 ghost use Rattle.ynl_resource.specs.Names.{same_name, same_path, tenant_of};
@@ -15,15 +16,19 @@ ghost use Rattle.ynl_laws.specs.Tabled.{Tabled};
 ghost use Rattle.ynl_laws.specs.Finishing.{clock_rises, clocks_rise, without_own};
 ghost use Rattle.ynl_tables.specs.Known.{IsSpot};
 ghost use Rattle.ynl_tables.specs.Kept.{AreKept, IsKept, IsSummed};
+ghost use Rattle.ynl_tables.specs.Living.{live_at, live_in, row_clock};
 ghost use Rattle.ynl_tables.specs.Numbers.{AreNumbered};
+ghost use Rattle.ynl_tables.specs.Listed.{holds, AreListed};
+ghost use Rattle.ynl_tables.specs.Rising.{numbers_rise};
 ghost use Rattle.ynl_tables.specs.Tables.{state_of, app_of, leaf_of_row, leaves_of, partition_of, partitions_of};
 ghost use Rattle.ynl_changes.specs.Marking.{KeepsMarksAmong, KeepsMarksIn, KeepsMarks};
 ghost use Rattle.ynl_tables.specs.Queued.{are_in_turn, masters_waiting, asks_waiting};
 ghost use Rattle.ynl_waiting.specs.Waiting.{Keeps};
 ghost use Rattle.ynl_changes.specs.Queueing.{AreRequeued, Leaves, own_master, own_asks};
-ghost use Rattle.ynl_changes.specs.Rows.{KeepsAmounts, containers_at_place};
+ghost use Rattle.ynl_changes.specs.Finishing.{IsHolder, IsListedAt, clocks_at_place};
+ghost use Rattle.ynl_changes.specs.Rows.{KeepsAmounts, containers_at_place, lists_of, rows_at};
 
-use crate::ending::{Going, drop_going};
+use crate::ending::{Going, clear_if_many, drop_at, drop_going};
 use crate::placing::set_clock;
 use crate::queueing::{Which, withdraw_asks, withdraw_master};
 use crate::sharing::uncount_named;
@@ -31,8 +36,8 @@ use ynl_model::Placed;
 use ynl_queues::Config;
 use ynl_resource::{Name, Path};
 use ynl_tables::{
-    App, LeafRow, PartitionRow, QueueNumbers, Spot, Tables, is_own, next_clock, spot_of,
-    tenant_bytes,
+    App, ContainerRow, Holder, LeafRow, PartitionRow, QueueNumbers, Spot, Tables, container_at,
+    is_own, live_of, next_clock, place_at, spot_of, tenant_bytes,
 };
 use ynl_waiting::Waiting;
 
@@ -40,8 +45,10 @@ use ynl_waiting::Waiting;
 #[tactic(auto, unfolding(ynl_model::specs::Changes::changed_at))]
 fn raise_clock(config: &Config, tables: &mut Tables, container: &Placed)
     ensures state { state_of tables.new ≡ clock_rises config.now (state_of tables.old) container.now }
+    ensures containers { (place : ℕ) → rows_at tables.new.partitions.items place ≡ rows_at tables.old.partitions.items place }
     ensures leaves { tables.new.leaves.items ≡ tables.old.leaves.items }
     ensures kept { KeepsAmounts tables.old tables.new }
+    ensures lists { lists_of tables.new.partitions.items ≡ lists_of tables.old.partitions.items }
     ensures numbers { tables.new.numbers ≡ tables.old.numbers }
 {
     let label = container.id.label;
@@ -50,9 +57,10 @@ fn raise_clock(config: &Config, tables: &mut Tables, container: &Placed)
     set_clock(&mut tables.partitions, &label, clock);
 }
 
-/// The containers of the row at a place, and none past the last.
-fn containers_of(rows: &[PartitionRow], row: usize) -> &[Placed]
-    ensures { result.now ≡ containers_at_place (partitions_of rows.now) row }
+/// The rows of containers of the partition at a place, and none past the last.
+fn containers_of(rows: &[PartitionRow], row: usize) -> &[ContainerRow]
+    ensures rising { IsTrue (numbers_rise row_clock result.now) }
+    ensures meaning { result.now ≡ rows_at rows.now row }
 {
     match rows.get(row) {
         Some(row) => &row.containers,
@@ -60,14 +68,70 @@ fn containers_of(rows: &[PartitionRow], row: usize) -> &[Placed]
     }
 }
 
-/// The container at a place of a row.
-fn container_at(rows: &[PartitionRow], row: usize, place: usize) -> Option<Placed>
-    ensures { result ≡ slice_get (containers_at_place (partitions_of rows.now) row) place }
+/// The container at a place of a partition, if it is live.
+fn container_at_place(rows: &[PartitionRow], row: usize, place: usize) -> Option<Placed>
+    ensures { result ≡ live_at (rows_at rows.now row) place }
 {
-    containers_of(rows, row).get(place).copied()
+    match containers_of(rows, row).get(place) {
+        Some(row) => live_of(row),
+        None => None,
+    }
 }
 
-/// The clock rises for the container at a place of a row, if it is the application's.
+/// The clocks that are listed of an application in the row at a place.
+fn clocks_at<'a>(rows: &'a [PartitionRow], row: usize, holder: &Holder) -> Option<&'a [u64]>
+    ensures { option_map (λ r. r.now) result ≡ clocks_at_place (lists_of rows.now) row holder.now }
+{
+    match rows.get(row) {
+        Some(row) => row.listed.clocks(holder),
+        None => None,
+    }
+}
+
+/// The container of an application at a place among those that are listed in a row.
+fn listed_at(rows: &[PartitionRow], row: usize, holder: &Holder, place: usize) -> Option<Placed>
+    requires { IsListedAt rows.now row holder.now }
+    ensures { result ≡ slice_get (filter (holds holder.now) (containers_at_place (partitions_of rows.now) row)) place }
+{
+    let Some(clocks) = clocks_at(rows, row, holder) else {
+        return None;
+    };
+    if place < clocks.len() {
+        container_at(containers_of(rows, row), clocks[place])
+    } else {
+        None
+    }
+}
+
+/// The clock rises for the container of an application at a place among those that are listed in a row.
+fn raise_listed_at(config: &Config, tables: &mut Tables, row: usize, holder: &Holder, place: usize)
+    requires { IsListedAt tables.old.partitions.items row holder.now }
+    ensures state { state_of tables.new ≡ option_map_or (clock_rises config.now (state_of tables.old)) (slice_get (filter (holds holder.now) (containers_at_place (state_of tables.old).partitions row)) place) (state_of tables.old) }
+    ensures leaves { tables.new.leaves.items ≡ tables.old.leaves.items }
+    ensures kept { KeepsAmounts tables.old tables.new }
+    ensures lists { lists_of tables.new.partitions.items ≡ lists_of tables.old.partitions.items }
+    ensures numbers { tables.new.numbers ≡ tables.old.numbers }
+{
+    if let Some(container) = listed_at(&tables.partitions, row, holder, place) {
+        raise_clock(config, tables, &container);
+    }
+}
+
+/// The clock rises for each container of an application that is listed in a row.
+fn raise_listed(config: &Config, tables: &mut Tables, row: usize, holder: &Holder, count: usize)
+    requires listed { IsListedAt tables.old.partitions.items row holder.now }
+    requires count { count ≡ length (filter (holds holder.now) (containers_at_place (state_of tables.old).partitions row)) }
+    ensures state { state_of tables.new ≡ clocks_rise config.now (filter (holds holder.now) (containers_at_place (state_of tables.old).partitions row)) (state_of tables.old) }
+    ensures leaves { tables.new.leaves.items ≡ tables.old.leaves.items }
+    ensures kept { KeepsAmounts tables.old tables.new }
+    ensures numbers { tables.new.numbers ≡ tables.old.numbers }
+{
+    for place in 0..count {
+        raise_listed_at(config, tables, row, holder, place);
+    }
+}
+
+/// The clock rises for the container at a place of a partition, if it is live, and the application's.
 fn raise_clock_at(
     config: &Config,
     tables: &mut Tables,
@@ -76,20 +140,21 @@ fn raise_clock_at(
     tenant: &[u8],
     app: &Name,
 )
-    ensures state { state_of tables.new ≡ option_map_or (λ container. if is_of tenant.now app.now container then clock_rises config.now (state_of tables.old) container else state_of tables.old) (slice_get (containers_at_place (state_of tables.old).partitions row) place) (state_of tables.old) }
+    ensures state { state_of tables.new ≡ option_map_or (λ container. if is_of tenant.now app.now container then clock_rises config.now (state_of tables.old) container else state_of tables.old) (live_at (rows_at tables.old.partitions.items row) place) (state_of tables.old) }
+    ensures containers { rows_at tables.new.partitions.items row ≡ rows_at tables.old.partitions.items row }
     ensures leaves { tables.new.leaves.items ≡ tables.old.leaves.items }
     ensures kept { KeepsAmounts tables.old tables.new }
     ensures numbers { tables.new.numbers ≡ tables.old.numbers }
 {
-    if let Some(container) = container_at(&tables.partitions, row, place) {
+    if let Some(container) = container_at_place(&tables.partitions, row, place) {
         if is_own(&container, tenant, app) {
             raise_clock(config, tables, &container);
         }
     }
 }
 
-/// The clock rises for each container of a row that is the application's.
-fn raise_clocks_of_row(config: &Config, tables: &mut Tables, row: usize, tenant: &[u8], app: &Name)
+/// The clock rises for each container of a row that is the application's, where they are not listed.
+fn raise_each(config: &Config, tables: &mut Tables, row: usize, tenant: &[u8], app: &Name)
     ensures state { state_of tables.new ≡ clocks_rise config.now (filter (is_of tenant.now app.now) (containers_at_place (state_of tables.old).partitions row)) (state_of tables.old) }
     ensures leaves { tables.new.leaves.items ≡ tables.old.leaves.items }
     ensures kept { KeepsAmounts tables.old tables.new }
@@ -101,8 +166,41 @@ fn raise_clocks_of_row(config: &Config, tables: &mut Tables, row: usize, tenant:
     }
 }
 
+/// The clock rises for each container of a row that is the application's.
+fn raise_clocks_of_row(
+    config: &Config,
+    tables: &mut Tables,
+    row: usize,
+    holder: &Option<Holder>,
+    tenant: &[u8],
+    app: &Name,
+)
+    requires kept { AreKept tables.old.numbers (leaves_of tables.old.leaves.items) tables.old.partitions.items }
+    requires holder { IsHolder tenant.now app.now holder.now }
+    ensures state { state_of tables.new ≡ clocks_rise config.now (filter (is_of tenant.now app.now) (containers_at_place (state_of tables.old).partitions row)) (state_of tables.old) }
+    ensures leaves { tables.new.leaves.items ≡ tables.old.leaves.items }
+    ensures kept { KeepsAmounts tables.old tables.new }
+    ensures numbers { tables.new.numbers ≡ tables.old.numbers }
+{
+    if let Some(holder) = holder {
+        if let Some(clocks) = clocks_at(&tables.partitions, row, holder) {
+            let count = clocks.len();
+            return raise_listed(config, tables, row, holder, count);
+        }
+    }
+    raise_each(config, tables, row, tenant, app);
+}
+
 /// The clocks rise for all containers of an application, in the order of their ids.
-fn raise_clocks(config: &Config, tables: &mut Tables, tenant: &[u8], app: &Name)
+fn raise_clocks(
+    config: &Config,
+    tables: &mut Tables,
+    holder: &Option<Holder>,
+    tenant: &[u8],
+    app: &Name,
+)
+    requires kept { AreKept tables.old.numbers (leaves_of tables.old.leaves.items) tables.old.partitions.items }
+    requires holder { IsHolder tenant.now app.now holder.now }
     ensures state { state_of tables.new ≡ clocks_rise config.now (all_own (state_of tables.old) tenant.now app.now) (state_of tables.old) }
     ensures leaves { tables.new.leaves.items ≡ tables.old.leaves.items }
     ensures kept { KeepsAmounts tables.old tables.new }
@@ -110,22 +208,105 @@ fn raise_clocks(config: &Config, tables: &mut Tables, tenant: &[u8], app: &Name)
 {
     let count = tables.partitions.len();
     for row in 0..count {
-        raise_clocks_of_row(config, tables, row, tenant, app);
+        raise_clocks_of_row(config, tables, row, holder, tenant, app);
     }
 }
 
+/// The place of a row, if it is live and its container is an application's.
+fn own_at(rows: &[ContainerRow], place: usize, holder: &Holder) -> Option<usize>
+    requires { place < length rows.now }
+    ensures within { IfSome result (λ place. place < length rows.now) }
+    ensures live { IfSome result (λ place. (d : ContainerRow) → (slice_index_or rows.now place d).is_live ≡ true) }
+    ensures own { IfSome result (λ place. (d : ContainerRow) → holds holder.now (slice_index_or rows.now place d).container ≡ true) }
+{
+    let row = &rows[place];
+    if row.is_live && is_own(&row.container, holder.tenant.as_bytes(), &holder.app) {
+        Some(place)
+    } else {
+        None
+    }
+}
+
+/// Where the last container stands that is listed of an application in a row. That it is the application's is
+/// looked at once more, so nothing need be known of the list.
+fn place_of_last(row: &PartitionRow, holder: &Holder) -> Option<usize>
+    ensures within { IfSome result (λ place. place < length row.now.containers.items) }
+    ensures live { IfSome result (λ place. (d : ContainerRow) → (slice_index_or row.now.containers.items place d).is_live ≡ true) }
+    ensures own { IfSome result (λ place. (d : ContainerRow) → holds holder.now (slice_index_or row.now.containers.items place d).container ≡ true) }
+{
+    let Some(clocks) = row.listed.clocks(holder) else {
+        return None;
+    };
+    if clocks.is_empty() {
+        return None;
+    }
+    match place_at(&row.containers, clocks[clocks.len() - 1]) {
+        Some(place) => own_at(&row.containers, place, holder),
+        None => None,
+    }
+}
+
+/// The last container goes from a row that is listed of an application.
+fn drop_last(row: &mut PartitionRow, numbers: &QueueNumbers, leaves: &[LeafRow], holder: &Holder)
+    requires numbered { AreNumbered numbers.now (leaves_of leaves.now) }
+    requires summed { IsSummed numbers.now (leaves_of leaves.now) row.old }
+    ensures others { without_own holder.now.tenant holder.now.app (partition_of row.new) ≡ without_own holder.now.tenant holder.now.app (partition_of row.old) }
+    ensures summed { IsSummed numbers.now (leaves_of leaves.now) row.new }
+{
+    if let Some(place) = place_of_last(row, holder) {
+        drop_at(row, numbers, leaves, place);
+    }
+}
+
+/// Those containers go from a row that are listed of an application, one by one from the last.
+fn drop_listed(row: &mut PartitionRow, numbers: &QueueNumbers, leaves: &[LeafRow], holder: &Holder)
+    requires numbered { AreNumbered numbers.now (leaves_of leaves.now) }
+    requires summed { IsSummed numbers.now (leaves_of leaves.now) row.old }
+    ensures others { without_own holder.now.tenant holder.now.app (partition_of row.new) ≡ without_own holder.now.tenant holder.now.app (partition_of row.old) }
+    ensures summed { IsSummed numbers.now (leaves_of leaves.now) row.new }
+{
+    let count = match row.listed.clocks(holder) {
+        Some(clocks) => clocks.len(),
+        None => 0,
+    };
+    for _ in 0..count {
+        drop_last(row, numbers, leaves, holder);
+    }
+}
+
+/// Whether no container of an application is left in a row, as its list says.
+fn has_none(row: &PartitionRow, holder: &Holder) -> bool
+    requires { AreListed row.now.listed (live_in row.now.containers.items) }
+    ensures { OnTrue result (filter (holds holder.now) (live_in row.now.containers.items) ≡ []) }
+{
+    match row.listed.clocks(holder) {
+        Some(clocks) => clocks.is_empty(),
+        None => false,
+    }
+}
+
+/// The containers of an application go from a row. Where they are not listed, all are gone over.
 fn drop_own(
     row: &mut PartitionRow,
     numbers: &QueueNumbers,
     leaves: &[LeafRow],
+    holder: &Option<Holder>,
     tenant: &[u8],
     app: &Name,
 )
     requires numbered { AreNumbered numbers.now (leaves_of leaves.now) }
     requires summed { IsSummed numbers.now (leaves_of leaves.now) row.old }
+    requires holder { IsHolder tenant.now app.now holder.now }
     ensures meaning { partition_of row.new ≡ without_own tenant.now app.now (partition_of row.old) }
     ensures summed { IsSummed numbers.now (leaves_of leaves.now) row.new }
 {
+    if let Some(holder) = holder {
+        drop_listed(row, numbers, leaves, holder);
+        if has_none(row, holder) {
+            clear_if_many(row);
+            return;
+        }
+    }
     drop_going(row, numbers, leaves, Going::OfApp(tenant, app));
 }
 
@@ -134,15 +315,17 @@ fn drop_all_own(
     rows: &mut Vec<PartitionRow>,
     numbers: &QueueNumbers,
     leaves: &[LeafRow],
+    holder: &Option<Holder>,
     tenant: &[u8],
     app: &Name,
 )
-    requires { AreKept numbers.now (leaves_of leaves.now) rows.old.items }
+    requires kept { AreKept numbers.now (leaves_of leaves.now) rows.old.items }
+    requires holder { IsHolder tenant.now app.now holder.now }
     ensures meaning { partitions_of rows.new.items ≡ map (without_own tenant.now app.now) (partitions_of rows.old.items) }
     ensures kept { AreKept numbers.now (leaves_of leaves.now) rows.new.items }
 {
     for row in rows.iter_mut() {
-        drop_own(row, numbers, leaves, tenant, app);
+        drop_own(row, numbers, leaves, holder, tenant, app);
     }
 }
 
@@ -235,6 +418,16 @@ fn finish_in(rows: &mut Vec<LeafRow>, leaf: &Path, name: &Name)
     }
 }
 
+/// An application of a leaf, as its containers name it. Root has no tenant.
+fn holder_of(leaf: &Path, name: &Name) -> Option<Holder>
+    ensures { IsHolder (tenant_of leaf.now) name.now result }
+{
+    match leaf.tenant() {
+        Some(tenant) => Some(Holder { app: *name, tenant }),
+        None => None,
+    }
+}
+
 /// An application finishes: its containers end in the order of their ids, and of it only the name
 /// stays.
 #[tactic(auto, unfolding(ynl_model::specs::Changes::app_finishes))]
@@ -248,11 +441,13 @@ pub fn finish_application(config: &Config, tables: &mut Tables, leaf: &Path, nam
     ensures numbers { tables.new.numbers ≡ tables.old.numbers }
 {
     let tenant = tenant_bytes(leaf);
-    raise_clocks(config, tables, tenant, name);
+    let holder = holder_of(leaf, name);
+    raise_clocks(config, tables, &holder, tenant, name);
     drop_all_own(
         &mut tables.partitions,
         &tables.numbers,
         &tables.leaves,
+        &holder,
         tenant,
         name,
     );

@@ -28,10 +28,11 @@ pub fn join(
     label: &Label,
     size: &Size,
 ) -> Result<(), AllocError>
-    requires new { find_node tables.old.nodes name.now ≡ None }
-    requires room { is_full tables.old.nodes label.now ≡ false }
+    requires new { find_node tables.old.nodes.list name.now ≡ None }
+    requires room { is_full tables.old.nodes.list label.now ≡ false }
     ensures ok { OnOk result (state_of tables.new ≡ node_joins config.now name.now label.now size.now (state_of tables.old)) }
     ensures err { OnErr result (state_of tables.new ≡ state_of tables.old) }
+    ensures resting { OnErr result (tables.new.nodes.resting ≡ tables.old.nodes.resting) }
     ensures kept { IsKept tables.old → IsKept tables.new }
     ensures numbers { tables.new.numbers ≡ tables.old.numbers }
 {
@@ -114,11 +115,12 @@ pub fn relabel(
     node: &Node,
     label: &Label,
 ) -> Result<(), AllocError>
-    requires here { find_node tables.old.nodes name.now ≡ Some node.now }
-    requires room { is_full tables.old.nodes label.now ≡ false }
+    requires here { find_node tables.old.nodes.list name.now ≡ Some node.now }
+    requires room { is_full tables.old.nodes.list label.now ≡ false }
     requires kept { IsKept tables.old }
     ensures ok { OnOk result (state_of tables.new ≡ node_joins config.now name.now label.now node.now.size (node_leaves node.now (state_of tables.old))) }
     ensures err { OnErr result (state_of tables.new ≡ state_of tables.old) }
+    ensures resting { OnErr result (tables.new.nodes.resting ≡ tables.old.nodes.resting) }
     ensures kept { IsKept tables.new }
     ensures numbers { tables.new.numbers ≡ tables.old.numbers }
 {

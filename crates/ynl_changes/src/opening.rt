@@ -18,7 +18,9 @@ use ynl_model::Use;
 use ynl_nodes::Nodes;
 use ynl_queues::{Config, QueueRow};
 use ynl_resource::{Label, Path, Resource};
-use ynl_tables::{Known, LeafPart, LeafRow, PartitionRow, QueueNumbers, Sums, Tables, UserCounts};
+use ynl_tables::{
+    Known, LeafPart, LeafRow, Listed, PartitionRow, QueueNumbers, Sums, Tables, UserCounts,
+};
 use ynl_waiting::Waiting;
 
 const NO_USE: Use = Use {
@@ -76,9 +78,11 @@ fn push_partition(
         label,
         clock: 0,
         containers: Vec::new(alloc),
+        ended: 0,
         uses,
         users,
         filled: Sums::new(alloc),
+        listed: Listed::new(alloc),
     })?;
     Ok(())
 }
@@ -158,6 +162,7 @@ pub fn opening_tables(alloc: Global, config: &Config) -> Result<Tables, AllocErr
     ensures state { IfOk result (λ tables. state_of tables ≡ opening config.now) }
     ensures kept { IfOk result (λ tables. IsKept tables) }
     ensures numbered { IfOk result (λ tables. AreQueuesOf config.now tables.numbers) }
+    ensures resting { IfOk result (λ tables. tables.nodes.resting ≡ []) }
 {
     let numbers = QueueNumbers::new(alloc, config)?;
     Ok(Tables {

@@ -13,13 +13,14 @@ ghost use Rattle.ynl_laws.specs.Tabled.{Tabled};
 ghost use Rattle.ynl_tables.specs.Bounds.{IsTotal};
 ghost use Rattle.ynl_tables.specs.Known.{IsSpot};
 ghost use Rattle.ynl_tables.specs.Kept.{AreKept, IsKept, IsSummed};
+ghost use Rattle.ynl_tables.specs.Living.{live_in};
 ghost use Rattle.ynl_tables.specs.Numbers.{AreNumbered};
 ghost use Rattle.ynl_tables.specs.Rising.{clock_of};
 ghost use Rattle.ynl_tables.specs.Tables.{state_of, app_of, leaf_of_row, leaves_of, partition_of, partitions_of, HasCapacity};
 ghost use Rattle.ynl_changes.specs.Marking.{KeepsMark, KeepsMarksAmong, KeepsMarksIn, KeepsMarks, IsPlaceable};
 ghost use Rattle.ynl_changes.specs.Placing.{put_on, taken_from, taken_at, taken_asks, is_last_of};
 ghost use Rattle.ynl_changes.specs.Queueing.{Requeues, AreRequeued};
-ghost use Rattle.ynl_changes.specs.Rows.{KeepsSum, KeepsSums};
+ghost use Rattle.ynl_changes.specs.Rows.{KeepsSum, KeepsSums, lists_of, rows_at};
 ghost use Rattle.ynl_waiting.specs.declared.waiting.Waiting.{Waiting};
 
 use crate::cells::raise;
@@ -32,8 +33,8 @@ use ynl_model::{AskRow, Node, Placed, What};
 use ynl_queues::Config;
 use ynl_resource::{Id, Label, Name, Path};
 use ynl_tables::{
-    App, LeafRow, PartitionRow, QueueNumbers, Spot, Tables, is_ask_of, is_same, next_clock,
-    push_copy, spot_of,
+    App, LeafRow, PartitionRow, QueueNumbers, Spot, Tables, is_ask_of, is_same, make_last,
+    next_clock, push_live, spot_of,
 };
 use ynl_waiting::Waiting;
 
@@ -49,8 +50,8 @@ fn put(
 )
     requires numbered { AreNumbered numbers.now (leaves_of leaves.now) }
     requires summed { IsSummed numbers.now (leaves_of leaves.now) row.old }
-    requires small { IsTotal (sizes row.old.containers.items) }
-    requires last { same_label row.old.label label.now ≡ true → list_all (λ k. nat_lt (clock_of k) container.now.id.clock) row.old.containers.items ≡ true }
+    requires small { IsTotal (sizes (live_in row.old.containers.items)) }
+    requires last { same_label row.old.label label.now ≡ true → list_all (λ k. nat_lt (clock_of k) container.now.id.clock) (live_in row.old.containers.items) ≡ true }
     requires capacity { same_label row.old.label label.now ≡ true → vec_len row.old.containers + 1 ≤ vec_capacity row.old.containers }
     ensures meaning { partition_of row.new ≡ put_on label.now clock container.now (partition_of row.old) }
     ensures capacity { (n : ℕ) → (same_label row.old.label label.now ≡ true → vec_len row.old.containers + (n + 1) ≤ vec_capacity row.old.containers) → (same_label row.new.label label.now ≡ true → vec_len row.new.containers + n ≤ vec_capacity row.new.containers) }
@@ -61,7 +62,9 @@ fn put(
         raise(&mut row.uses, numbers, leaves, container);
         change_users(&mut row.users, numbers, leaves, Change::More, container);
         row.filled.raise(&container.node, &container.size);
-        push_copy(&mut row.containers, container);
+        row.listed.add(container);
+        make_last(&mut row.containers, container.id.clock);
+        push_live(&mut row.containers, container);
     }
 }
 
@@ -75,8 +78,8 @@ fn put_container(
     container: &Placed,
 )
     requires kept { AreKept numbers.now (leaves_of leaves.now) rows.old.items }
-    requires small { AllByRecursion (λ row. IsTotal (sizes row.containers.items)) rows.old.items }
-    requires last { AllByRecursion (λ row. same_label row.label label.now ≡ true → list_all (λ k. nat_lt (clock_of k) container.now.id.clock) row.containers.items ≡ true) rows.old.items }
+    requires small { AllByRecursion (λ row. IsTotal (sizes (live_in row.containers.items))) rows.old.items }
+    requires last { AllByRecursion (λ row. same_label row.label label.now ≡ true → list_all (λ k. nat_lt (clock_of k) container.now.id.clock) (live_in row.containers.items) ≡ true) rows.old.items }
     requires capacity { HasCapacity label.now 1 rows.old.items }
     ensures meaning { partitions_of rows.new.items ≡ in_partition label.now (λ row. record row { clock = clock; containers = row.containers ++ container.now ∷ [] }) (partitions_of rows.old.items) }
     ensures capacity { (n : ℕ) → HasCapacity label.now (n + 1) rows.old.items → HasCapacity label.now n rows.new.items }
@@ -270,6 +273,7 @@ pub fn place(config: &Config, tables: &mut Tables, node: &Node, request: &Reques
     ensures capacity { (n : ℕ) → HasCapacity node.now.label (n + 1) tables.old.partitions.items → HasCapacity node.now.label n tables.new.partitions.items }
     ensures kept { IsKept tables.new }
     ensures numbers { tables.new.numbers ≡ tables.old.numbers }
+    ensures resting { tables.new.nodes.resting ≡ tables.old.nodes.resting }
 {
     let clock = next_clock(config, tables, &node.label);
     let container = Placed {
@@ -299,6 +303,8 @@ pub fn place(config: &Config, tables: &mut Tables, node: &Node, request: &Reques
 
 fn set_on(row: &mut PartitionRow, label: &Label, clock: u64)
     ensures meaning { partition_of row.new ≡ (if same_label row.old.label label.now then record (partition_of row.old) { clock = clock } else partition_of row.old) }
+    ensures listed { row.new.listed ≡ row.old.listed }
+    ensures containers { row.new.containers.items ≡ row.old.containers.items }
     ensures summed { KeepsSum row.old row.new }
 {
     if is_same(&row.label, label) {
@@ -306,9 +312,11 @@ fn set_on(row: &mut PartitionRow, label: &Label, clock: u64)
     }
 }
 
-/// A partition's clock is set.
+/// A partition's clock is set, and no row of a container moves.
 pub fn set_clock(rows: &mut Vec<PartitionRow>, label: &Label, clock: u64)
     ensures meaning { partitions_of rows.new.items ≡ in_partition label.now (λ row. record row { clock = clock }) (partitions_of rows.old.items) }
+    ensures lists { lists_of rows.new.items ≡ lists_of rows.old.items }
+    ensures containers { (place : ℕ) → rows_at rows.new.items place ≡ rows_at rows.old.items place }
     ensures summed { KeepsSums rows.old.items rows.new.items }
 {
     for row in rows.iter_mut() {

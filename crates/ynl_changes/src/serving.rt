@@ -47,6 +47,7 @@ pub fn serve(
     ensures placed { placed.new.items ≡ placed.old.items ++ (beat config.now node.now times (state_of tables.old)).placed }
     ensures kept { IsKept tables.new }
     ensures numbers { tables.new.numbers ≡ tables.old.numbers }
+    ensures resting { tables.new.nodes.resting ≡ tables.old.nodes.resting }
 {
     for _i in 0..times {
         let Some(request) = next_request(config, tables, node) else {

@@ -1,10 +1,15 @@
-use Rattle.std.proofs.Common.{Bool, refl, sym, subst, ◌∙◌}
+use Rattle.std.proofs.Common.{◌≡◌, Bool, true, refl, sym, subst, ◌∙◌}
+use Rattle.std.proofs.lemmas.Bool.{and_parts}
 use Rattle.ynl_tables.specs.Kept.{stands_on}
 use Rattle.ynl_tables.specs.Sums.{AreSums}
-use Rattle.ynl_changes.specs.Cells.{LeavesIf}
+use Rattle.ynl_changes.specs.Cells.{AreFilled, LeavesIf, goes}
+use Rattle.ynl_changes.proofs.Summing.{leaves_row}
 use Rattle.ynl_changes.proofs.ending.free_if.Goals as goal
 
-pub returns-then-goes : goal.returns-then-goes
-returns-then-goes c =
-    subst (λ (b : Bool). LeavesIf b c.args.container.now (AreSums stands_on c.args.filled.now) (AreSums stands_on c.lower.new.self)) (sym (sym c.goes.ensures ∙ c.if-goes.true))
-    (c.lower.ensures stands_on c.args.container.now (record { sized = refl; alone = λ other. refl }))
+pub returns-then-row_goes : goal.returns-then-row_goes
+returns-then-row_goes c =
+    let row = c.args.row.now in
+    let passes = sym c.row_goes.ensures ∙ c.if-row_goes.true in
+    let live : row.is_live ≡ true = (and_parts row.is_live (goes c.args.going row.container) passes).0 in
+    subst (λ (b : Bool). LeavesIf b row (AreFilled c.args.filled.now) (AreFilled c.lower.new.self)) (sym passes)
+    (leaves_row (AreSums stands_on c.args.filled.now) (AreSums stands_on c.lower.new.self) row live (c.lower.ensures stands_on row.container (record { sized = refl; alone = λ other. refl })))

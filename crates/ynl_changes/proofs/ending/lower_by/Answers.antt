@@ -1,33 +1,22 @@
-use Rattle.std.proofs.Common.{◌+◌, Bool, List, ◌∷◌, cond, length, map, ap, ◌∙◌}
+use Rattle.std.proofs.Common.{List, ◌∷◌, length, map, ap, ◌∙◌}
 use Rattle.std.proofs.lemmas.List.{length-map}
 use Rattle.ynl_resource.specs.Names.{root}
-use Rattle.ynl_resource.specs.declared.paths.Path.{Path}
 use Rattle.ynl_model.specs.declared.containers.Placed.{Placed}
-use Rattle.ynl_model.specs.declared.uses.Use.{Use}
-use Rattle.ynl_model.specs.Applications.{LeafApps}
-use Rattle.ynl_laws.specs.Uses.{use_by, lowered_in}
+use Rattle.ynl_laws.specs.Uses.{use_by}
+use Rattle.ynl_tables.specs.Living.{is_live_and}
 use Rattle.ynl_tables.specs.Tables.{leaves_of}
-use Rattle.ynl_changes.specs.Cells.{goes}
-use Rattle.ynl_changes.proofs.Summing.{so_far, less_one, all_gone, map_each}
+use Rattle.ynl_changes.specs.Cells.{AreUses, goes}
+use Rattle.ynl_changes.proofs.Summing.{left_one, all_ended}
 use Rattle.ynl_changes.proofs.ending.lower_by.Goals as goal
 
 pub lower_if-requires-clause-len : goal.lower_if-requires-clause-len
-lower_if-requires-clause-len c = ap length c.loop-container.invariant ∙ length-map (root ∷ c.args.numbers.now) _
+lower_if-requires-clause-len c = ap length c.loop-row.invariant ∙ length-map (root ∷ c.args.numbers.now) _
 
-pub loop-container-preserved : goal.loop-container-preserved
-loop-container-preserved c =
-    let leaves : List LeafApps = leaves_of c.args.leaves.now in
-    let all : List Path = root ∷ c.args.numbers.now in
-    let test : Placed → Bool = goes c.args.going in
-    let xs : List Placed = c.args.containers.now in
-    let i = c.loop-container.container-index in
-    let x : Placed = c.container-item.result in
-    let used : Path → Use = λ queue. use_by leaves queue (so_far test xs i) in
-    c.lower_if.ensures.uses used c.loop-container.invariant
-    ∙ map_each (λ queue. cond (test x) (lowered_in leaves queue x (used queue)) (used queue)) (λ queue. use_by leaves queue (so_far test xs (i + 1))) (λ queue. less_one leaves queue test xs i x c.loop-container-test.true c.container-item.is) all
+pub loop-row-preserved : goal.loop-row-preserved
+loop-row-preserved c =
+    left_one (AreUses c.args.numbers.now (leaves_of c.args.leaves.now) c.loop-row.uses.items) (AreUses c.args.numbers.now (leaves_of c.args.leaves.now) c.lower_if.new.uses.items) (is_live_and (goes c.args.going)) c.args.rows.now c.loop-row.row-index c.row-item.result c.loop-row-test.true c.row-item.is c.lower_if.ensures c.loop-row.invariant
 
 pub returns : goal.returns
 returns c =
-    let test : Placed → Bool = goes c.args.going in
-    c.loop-container.invariant
-    ∙ ap (λ (xs : List Placed). map (λ queue. use_by (leaves_of c.args.leaves.now) queue xs) (root ∷ c.args.numbers.now)) (all_gone test c.args.containers.now c.loop-container.container-index c.loop-container-test.false)
+    c.loop-row.invariant
+    ∙ ap (λ (ks : List Placed). map (λ queue. use_by (leaves_of c.args.leaves.now) queue ks) (root ∷ c.args.numbers.now)) (all_ended (goes c.args.going) c.args.rows.now c.loop-row.row-index c.loop-row-test.false)

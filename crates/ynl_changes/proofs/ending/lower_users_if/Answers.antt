@@ -1,11 +1,17 @@
-use Rattle.std.proofs.Common.{Bool, sym, subst, ◌∙◌}
+use Rattle.std.proofs.Common.{◌≡◌, Bool, true, sym, subst, ◌∙◌}
+use Rattle.std.proofs.lemmas.Bool.{and_parts}
 use Rattle.ynl_tables.specs.Kept.{AreByUser}
 use Rattle.ynl_tables.specs.Tables.{leaves_of}
-use Rattle.ynl_changes.specs.Cells.{LeavesIf}
+use Rattle.ynl_changes.specs.Cells.{AreUserUses, LeavesIf, goes}
+use Rattle.ynl_changes.proofs.Summing.{leaves_row}
 use Rattle.ynl_changes.proofs.ending.lower_users_if.Goals as goal
 
-pub returns-then-goes : goal.returns-then-goes
-returns-then-goes c =
+pub returns-then-row_goes : goal.returns-then-row_goes
+returns-then-row_goes c =
+    let row = c.args.row.now in
+    let passes = sym c.row_goes.ensures ∙ c.if-row_goes.true in
+    let live : row.is_live ≡ true = (and_parts row.is_live (goes c.args.going row.container) passes).0 in
     let numbers = c.args.numbers.now in
     let leaves = leaves_of c.args.leaves.now in
-    subst (λ (b : Bool). LeavesIf b c.args.container.now (AreByUser numbers leaves c.args.users.now.items) (AreByUser numbers leaves c.change_users.new.users.items)) (sym (sym c.goes.ensures ∙ c.if-goes.true)) c.change_users.ensures
+    subst (λ (b : Bool). LeavesIf b row (AreUserUses numbers leaves c.args.users.now.items) (AreUserUses numbers leaves c.change_users.new.users.items)) (sym passes)
+    (leaves_row (AreByUser numbers leaves c.args.users.now.items) (AreByUser numbers leaves c.change_users.new.users.items) row live c.change_users.ensures)

@@ -34,8 +34,8 @@ returns-clause-state c = λ (app : Application) leaf name.
     (λ i. record (risen i) { partitions = rows i; leaves = leaves i })
     ∙ (λ i. record (sym ended i) { leaves = in_leaf app.leaf (finished app.name) (leaves_stay config (all_own s tenant app.name) s i) })
 
-pub drop_all_own-requires : goal.drop_all_own-requires
-drop_all_own-requires c =
+pub drop_all_own-requires-clause-kept : goal.drop_all_own-requires-clause-kept
+drop_all_own-requires-clause-kept c =
     let tables = c.raise_clocks.new.tables in
     subst (λ (rows : List LeafRow). AreKept tables.numbers (leaves_of rows) tables.partitions.items) (sym c.deref.ensures.value) (c.raise_clocks.ensures.kept c.requires.kept.amounts)
 

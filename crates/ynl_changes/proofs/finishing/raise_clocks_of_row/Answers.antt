@@ -1,30 +1,26 @@
-use Rattle.std.proofs.Common.{◌≡◌, Bool, cond, List, take, filter, slice_get, sym, ap, ◌∙◌}
-use Rattle.std.specs.Option.{option_map_or}
-use Rattle.ynl_model.specs.declared.containers.Placed.{Placed}
-use Rattle.ynl_model.specs.Cluster.{State, is_of}
-use Rattle.ynl_laws.specs.Finishing.{clock_rises}
-use Rattle.ynl_tables.specs.Tables.{state_of}
-use Rattle.ynl_changes.specs.Rows.{containers_at_place}
-use Rattle.ynl_changes.proofs.Own.{fold_more, places_stay}
+use Rattle.std.proofs.Common.{ℕ, List, length, filter, sym, ap, ◌∙◌}
+use Rattle.std.proofs.lemmas.List.{length-map}
+use Rattle.ynl_tables.specs.declared.rows.PartitionRow.{PartitionRow}
+use Rattle.ynl_tables.specs.Listed.{holds}
+use Rattle.ynl_tables.specs.Rising.{clock_of}
+use Rattle.ynl_tables.specs.Tables.{leaves_of, partitions_of}
+use Rattle.ynl_changes.specs.Finishing.{clocks_at_place}
+use Rattle.ynl_changes.specs.Rows.{containers_at_place, lists_of}
+use Rattle.ynl_changes.proofs.ListedRows.{listed_in, same_list}
 use Rattle.ynl_changes.proofs.finishing.raise_clocks_of_row.Goals as goal
 
-pub loop-place-preserved : goal.loop-place-preserved
-loop-place-preserved c =
-    let config = c.args.config.now in
-    let own : Placed → Bool = is_of c.args.tenant.now c.args.app.now in
-    let old : State = state_of c.args.tables.now in
-    let now : State = state_of c.loop-place.tables in
-    let place = c.loop-place.place in
-    let ks : List Placed = containers_at_place old.partitions c.args.row in
-    let same : containers_at_place now.partitions c.args.row ≡ ks =
-    ap (λ (s : State). containers_at_place s.partitions c.args.row) c.loop-place.invariant.state ∙ places_stay config (filter own (take place ks)) old c.args.row in
-    record {
-      state =
-          c.raise_clock_at.ensures.state
-          ∙ ap (λ (xs : List Placed). option_map_or (λ k. cond (own k) (clock_rises config now k) now) (slice_get xs place) now) same
-          ∙ ap (λ (s : State). option_map_or (λ k. cond (own k) (clock_rises config s k) s) (slice_get ks place) s) c.loop-place.invariant.state
-          ∙ sym (fold_more (clock_rises config) own ks place old);
-      leaves = c.raise_clock_at.ensures.leaves ∙ c.loop-place.invariant.leaves;
-      numbers = c.raise_clock_at.ensures.numbers ∙ c.loop-place.invariant.numbers;
-      kept = λ h. c.raise_clock_at.ensures.kept (c.loop-place.invariant.kept h);
-    }
+pub raise_listed-requires-clause-listed : goal.raise_listed-requires-clause-listed
+raise_listed-requires-clause-listed c =
+    let t = c.args.tables.now in
+    let holder = c.in-Some.holder in
+    let clocks : List ℕ = c.in-Some-clocks_at.clocks.now in
+    listed_in t.numbers (leaves_of t.leaves.items) t.partitions.items c.requires.kept.summed c.args.row holder clocks
+    (sym (c.in-Some-clocks_at.ensures ∙ ap (λ (rows : List PartitionRow). clocks_at_place (lists_of rows) c.args.row holder) c.deref.ensures.value))
+
+pub raise_listed-requires-clause-count : goal.raise_listed-requires-clause-count
+raise_listed-requires-clause-count c =
+    let rows = c.args.tables.now.partitions.items in
+    let holder = c.in-Some.holder in
+    let clocks : List ℕ = c.in-Some-clocks_at.clocks.now in
+    let read = c.in-Some-clocks_at.ensures ∙ ap (λ (rows : List PartitionRow). clocks_at_place (lists_of rows) c.args.row holder) c.deref.ensures.value in
+    ap length (same_list clocks _ (read ∙ raise_listed-requires-clause-listed c)) ∙ length-map (filter (holds holder) (containers_at_place (partitions_of rows) c.args.row)) clock_of

@@ -12,7 +12,7 @@ use Rattle.ynl_changes.proofs.Moving.{clock-emptied, found_name}
 use Rattle.ynl_changes.proofs.nodes.relabel.Goals as goal
 
 pub rejoin-requires-clause-here : goal.rejoin-requires-clause-here
-rejoin-requires-clause-here c = let node = c.args.node.now in ap (λ name. find_node c.args.tables.now.nodes name) (found_name c.args.tables.now.nodes c.args.name.now node c.requires.here) ∙ c.requires.here
+rejoin-requires-clause-here c = let node = c.args.node.now in ap (λ name. find_node c.args.tables.now.nodes.list name) (found_name c.args.tables.now.nodes.list c.args.name.now node c.requires.here) ∙ c.requires.here
 
 pub returns-clause-ok : goal.returns-clause-ok
 unfolding node_joins node_leaves next_clock clock

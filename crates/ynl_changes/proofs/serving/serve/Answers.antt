@@ -42,6 +42,7 @@ loop-i-preserved c =
       tabled = tabled_next config s new node c.in-Some.request c.loop-i.invariant.working c.loop-i.invariant.tabled f moved;
       kept = c.place-container.ensures.kept;
       numbers = c.place-container.ensures.numbers ∙ c.loop-i.invariant.numbers;
+      resting = c.place-container.ensures.resting ∙ c.loop-i.invariant.resting;
       stands = stands_next config s new node c.in-Some.request c.loop-i.invariant.stands moved;
       capacity = c.place-container.ensures.capacity k (subst (λ (n : ℕ). HasCapacity node.label n c.loop-i.tables.partitions.items) (let g : m ≡ k + 1 = omega arith in g) c.loop-i.invariant.capacity);
       reply_capacity = omega arith;

@@ -12,6 +12,7 @@ invariant-loop-i l = record {
   tabled : Tabled (state_of l.tables);
   kept : IsKept l.tables;
   numbers : l.tables.numbers ≡ l.initial.tables.numbers;
+  resting : l.tables.nodes.resting ≡ l.initial.tables.nodes.resting;
   stands : Stands (state_of l.tables) l.node;
   capacity : HasCapacity l.node.label (l.times - l._i) l.tables.partitions.items;
   reply_capacity : vec_len l.placed + (l.times - l._i) ≤ vec_capacity l.placed;

@@ -1,0 +1,79 @@
+-- What is listed in rows, as clocks rise and containers go.
+use Rattle.std.proofs.Common.{◌≡◌, ℕ, zero, suc, ◌+◌, ◌≤◌, Bool, true, false, not, cond, get_or, List, [], ◌∷◌, length, take, Option, Some, None, IfSome, Vec, Global, option_map, refl, sym, ap, ◌∙◌, arith, add-one}
+use Rattle.std.specs.Prelude.{slice_get, fold}
+use Rattle.std.specs.BTreeMap.{BTreeMap}
+use Rattle.std.specs.List.{remove}
+use Rattle.std.specs.Option.{option_map_or}
+use Rattle.ynl_resource.specs.Tables.{without}
+use Rattle.ynl_model.specs.declared.containers.Placed.{Placed}
+use Rattle.ynl_tables.specs.declared.listed.Listed.{Listed}
+use Rattle.ynl_resource.specs.declared.paths.Path.{Path}
+use Rattle.ynl_model.specs.Applications.{LeafApps}
+use Rattle.ynl_tables.specs.declared.listed.Holder.{Holder}
+use Rattle.ynl_tables.specs.declared.rows.ContainerRow.{ContainerRow}
+use Rattle.ynl_tables.specs.declared.rows.PartitionRow.{PartitionRow}
+use Rattle.ynl_tables.specs.Living.{live_in}
+use Rattle.ynl_tables.specs.Kept.{AreSummed}
+use Rattle.ynl_tables.specs.Listed.{AreEntries, AreListed, clocks_for, clocks_held, clocks_of}
+use Rattle.ynl_tables.proofs.Knowing.{some-is_some}
+use Rattle.ynl_changes.specs.Finishing.{IsListedAt, clocks_at_place}
+use Rattle.ynl_changes.specs.Rows.{lists_of}
+
+-- what is listed in a row is right
+pub listed_in : (queues : List Path) (leaves : List LeafApps) (rows : List PartitionRow) → AreSummed queues leaves rows → (place : ℕ) (holder : Holder) (clocks : List ℕ) → clocks_at_place (lists_of rows) place holder ≡ Some clocks → IsListedAt rows place holder
+listed_in queues leaves [] h zero holder clocks e = absurd (some-is_some clocks e)
+listed_in queues leaves [] h (suc place) holder clocks e = absurd (some-is_some clocks e)
+listed_in queues leaves (row ∷ rows) h zero holder clocks e = go row.listed.entries h.0.listed e
+  where
+    go : (o : Option (BTreeMap Holder (Vec ℕ Global))) → IfSome o (AreEntries (live_in row.containers.items)) → option_map (λ entries. clocks_for entries holder) o ≡ Some clocks → option_map (λ entries. clocks_for entries holder) o ≡ Some (clocks_held holder (live_in row.containers.items))
+    go None right e = absurd (some-is_some clocks e)
+    go (Some entries) right e = ap (λ (ns : List ℕ). Some ns) (right holder)
+listed_in queues leaves (row ∷ rows) h (suc place) holder clocks e = listed_in queues leaves rows h.1 place holder clocks e
+
+-- one more thing is counted in
+fold_next : {X S : Type 0} (f : S → X → S) (xs : List X) (i : ℕ) (s : S) → fold f s (take (suc i) xs) ≡ option_map_or (f (fold f s (take i xs))) (slice_get xs i) (fold f s (take i xs))
+fold_next f [] zero s = refl
+fold_next f [] (suc i) s = refl
+fold_next f (x ∷ xs) zero s = refl
+fold_next f (x ∷ xs) (suc i) s = fold_next f xs i (f s x)
+
+pub fold_taken : {X S : Type 0} (f : S → X → S) (xs : List X) (i : ℕ) (s : S) → fold f s (take (i + 1) xs) ≡ option_map_or (f (fold f s (take i xs))) (slice_get xs i) (fold f s (take i xs))
+fold_taken f xs i s = ap (λ n. fold f s (take n xs)) (add-one i) ∙ fold_next f xs i s
+
+-- nothing stands past the last
+pub none_past : {X : Type 0} (xs : List X) (i : ℕ) → length xs ≤ i → slice_get xs i ≡ None
+none_past [] zero h = refl
+none_past [] (suc i) h = refl
+none_past (x ∷ xs) zero h = absurd (omega arith)
+none_past (x ∷ xs) (suc i) h = none_past xs i (omega arith)
+
+-- a list of one value alone
+pub same_list : (ns ms : List ℕ) → Some ns ≡ Some ms → ns ≡ ms
+same_list ns ms e = ap value e
+  where
+    value : Option (List ℕ) → List ℕ
+    value None = []
+    value (Some ks) = ks
+
+-- the clocks that are listed are those of the application's containers
+pub listed_of : (listed : Listed) (containers : List Placed) (holder : Holder) (clocks : List ℕ) → AreListed listed containers → clocks_of listed holder ≡ Some clocks → clocks ≡ clocks_held holder containers
+listed_of listed containers holder clocks h e = go listed.entries h e
+  where
+    go : (o : Option (BTreeMap Holder (Vec ℕ Global))) → IfSome o (AreEntries containers) → option_map (λ entries. clocks_for entries holder) o ≡ Some clocks → clocks ≡ clocks_held holder containers
+    go None right e = absurd (some-is_some clocks e)
+    go (Some entries) right e = sym (same_list (clocks_for entries holder) clocks e) ∙ right holder
+
+-- the others are left where one of those goes that are to go
+pub without_ended : (p : Placed → Bool) (rows : List ContainerRow) (i : ℕ) → ((d : ContainerRow) → p (get_or rows i d).container ≡ true) → without p (live_in (remove rows i)) ≡ without p (live_in rows)
+without_ended p [] zero h = refl
+without_ended p [] (suc i) h = refl
+without_ended p (row ∷ rows) zero h = go row.is_live
+  where
+    go : (b : Bool) → without p (live_in rows) ≡ without p (cond b (row.container ∷ live_in rows) (live_in rows))
+    go true = λ k. cond (not (sym (h row) k)) (row.container ∷ without p (live_in rows)) (without p (live_in rows))
+    go false = refl
+without_ended p (row ∷ rows) (suc i) h = go row.is_live (without_ended p rows i h)
+  where
+    go : (b : Bool) → without p (live_in (remove rows i)) ≡ without p (live_in rows) → without p (cond b (row.container ∷ live_in (remove rows i)) (live_in (remove rows i))) ≡ without p (cond b (row.container ∷ live_in rows) (live_in rows))
+    go true rest = λ k. cond (not (p row.container)) (row.container ∷ rest k) (rest k)
+    go false rest = rest
