@@ -1,13 +1,17 @@
--- Standings that are compared one step of a way after another.
-use Rattle.std.proofs.Common.{◌≡◌, ℕ, zero, suc, ◌+◌, ◌<◌, ◌≤◌, false, List, [], ◌∷◌, length, get_or, take, drop, map, refl, sym, ap, ◌∙◌, arith, add-one}
+-- Standings that are compared one step of a way after another, and what is behind a queue.
+use Rattle.std.proofs.Common.{◌≡◌, ℕ, zero, suc, ◌+◌, ◌<◌, ◌≤◌, true, false, List, [], ◌∷◌, ◌++◌, length, get_or, take, drop, map, refl, sym, ap, ◌∙◌, arith, add-one, take-take}
 use Rattle.std.specs.Cmp.Lexicographic.{slice_cmp}
 use Rattle.std.specs.Ordering.{is_lt, ordering_then}
 use Rattle.std.specs.declared.cmp.Ordering.{Ordering}
-use Rattle.std.specs.declared.cmp.Ordering.TheVariants.{Less}
-use Rattle.std.proofs.lemmas.List.{drop_more, get_or-map, length-map}
+use Rattle.std.specs.declared.cmp.Ordering.TheVariants.{Less, Equal, Greater}
+use Rattle.std.proofs.lemmas.Bool.{and_from}
+use Rattle.std.proofs.lemmas.List.{drop_more, get_or-map, length-map, map-append}
 use Rattle.std.proofs.Math.ListN.{drop_of_length-le}
+use mathlib.Core.Bool.{true≢false}
 use Rattle.ynl_resource.specs.declared.paths.Path.{Path}
-use Rattle.ynl_resource.specs.Names.{way_to}
+use Rattle.ynl_resource.specs.Names.{same_name, is_within, way_to}
+use Rattle.ynl_laws.proofs.Names.{same-name_self}
+use Rattle.ynl_laws.proofs.Service.Decided.{way-below}
 use Rattle.ynl_queues.proofs.Prefixes.{length_way}
 
 -- the queue at a step of a way
@@ -55,3 +59,33 @@ module _ {X : Type 0} (order : X → X → Ordering) (f : Path → X) (xs : List
 
   pub past : length path ≤ k → is_lt (slice_cmp order (drop k xs) (drop k (map f (way_to path)))) ≡ false
   past end = other-ends order xs (map f (way_to path)) k (omega (arith, steps, end))
+
+-- ---- what is behind a queue
+
+-- the queue at a step, by the names of a queue further down the way
+pub step-of : {X : Type 0} (f : Path → X) (path : Path) (k n : ℕ) (y : X) → k < n → y ≡ f (take (k + 1) path) → y ≡ f (take (k + 1) (take n path))
+step-of f path k n y h e = e ∙ ap f (sym (take-take (k + 1) n path (omega (arith, h))))
+
+-- a queue on the way to a leaf has it within it
+pub taken-within : (n : ℕ) (path : Path) → is_within (take n path) path ≡ true
+taken-within zero path = refl
+taken-within (suc n) [] = refl
+taken-within (suc n) (name ∷ path) = and_from (same_name name name) (is_within (take n path) path) (same-name_self name) (taken-within n path)
+
+-- what is before some standings is before those with more after them
+before-more : {X : Type 0} (order : X → X → Ordering) (xs ys more : List X) → is_lt (slice_cmp order xs ys) ≡ true → is_lt (slice_cmp order xs (ys ++ more)) ≡ true
+before-more order [] [] more h = absurd (true≢false (sym h))
+before-more order [] (y ∷ ys) more h = refl
+before-more order (x ∷ xs) [] more h = absurd (true≢false (sym h))
+before-more order (x ∷ xs) (y ∷ ys) more h = go (order x y) h (before-more order xs ys more)
+  where
+    go : (o : Ordering) → is_lt (ordering_then o (slice_cmp order xs ys)) ≡ true → (is_lt (slice_cmp order xs ys) ≡ true → is_lt (slice_cmp order xs (ys ++ more)) ≡ true) → is_lt (ordering_then o (slice_cmp order xs (ys ++ more))) ≡ true
+    go Less h rest = refl
+    go Equal h rest = rest h
+    go Greater h rest = absurd (true≢false (sym h))
+
+-- and what is before a queue is before what is below it
+pub before-below : {X : Type 0} (order : X → X → Ordering) (f : Path → X) (xs : List X) (queue leaf : Path) → is_within queue leaf ≡ true → is_lt (slice_cmp order xs (map f (way_to queue))) ≡ true → is_lt (slice_cmp order xs (map f (way_to leaf))) ≡ true
+before-below order f xs queue leaf within ahead =
+    let more = way-below queue leaf within in
+    ap (λ way. is_lt (slice_cmp order xs way)) (ap (map f) more.1 ∙ map-append f (way_to queue) more.0) ∙ before-more order xs (map f (way_to queue)) (map f more.0) ahead

@@ -13,3 +13,4 @@ mod Swapped
 pub mod Placing
 mod Users
 mod Before
+mod Passed

@@ -1,5 +1,6 @@
 -- The first turn of classes, one class after another, and the application of its number.
 use Rattle.std.proofs.Common.{◌≡◌, ℕ, ◌+◌, ◌<◌, ◌≤◌, Bool, true, false, ◌&&◌, ◌||◌, ◌⊎◌, inl, inr, List, [], ◌∷◌, length, take, take_all, get_or, Option, Some, None, refl, sym, ap, subst, ◌∙◌}
+use Rattle.std.specs.Bool.{OnFalse}
 use Rattle.std.specs.BTreeSet.{contains}
 use Rattle.std.specs.Cmp.{IsTotalOrder, nat_cmp_total, then_total, on_total}
 use Rattle.std.specs.List.{list_any}
@@ -140,7 +141,7 @@ none-open scene leaf what (row ∷ rows) h turn there = go (is_open scene row.cl
     go false e h false f there rest = rest h there
 
 -- and no class is open where there is no room for less than all of them take
-pub none-fits : (scene : Scene) (least : Resource) (rows : List ClassRow) → scene.free ≡ free (state_in scene) scene.node → are_above least rows ≡ true → fits_in least scene.free ≡ false → list_any (λ row. is_open scene row.class) rows ≡ false
+none-fits : (scene : Scene) (least : Resource) (rows : List ClassRow) → scene.free ≡ free (state_in scene) scene.node → are_above least rows ≡ true → fits_in least scene.free ≡ false → list_any (λ row. is_open scene row.class) rows ≡ false
 none-fits scene least [] is above full = refl
 none-fits scene least (row ∷ rows) is above full =
     let parts = and_parts (fits_in least row.class.size) (are_above least rows) above in
@@ -151,6 +152,10 @@ none-fits scene least (row ∷ rows) is above full =
     go true e h rest =
         let room = (and_parts (same_label row.class.label scene.label) (has_room (state_in scene) scene.node row.class.size) e).1 in
         absurd (true≢false (sym (fits-trans least row.class.size scene.free h (ap (fits_in row.class.size) is ∙ room)) ∙ full))
+
+pub none-unless : (scene : Scene) (least : Resource) (rows : List ClassRow) → scene.free ≡ free (state_in scene) scene.node → are_above least rows ≡ true → (fits : Bool) → fits ≡ fits_in least scene.free → OnFalse fits (list_any (λ row. is_open scene row.class) rows ≡ false)
+none-unless scene least rows is above true e = tt
+none-unless scene least rows is above false e = none-fits scene least rows is above (sym e)
 
 pub rows-all : (test : Class → Bool) (rows : List ClassRow) (i : ℕ) (first : Option Turn) → length rows ≤ i → IsFirstTurn test (take i rows) first → IsFirstTurn test rows first
 rows-all test rows i first end h = subst (λ (some : List ClassRow). IsFirstTurn test some first) (take_all i rows end) h

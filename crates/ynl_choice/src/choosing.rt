@@ -20,13 +20,15 @@ use ynl_queues::Config;
 use ynl_resource::{Label, Resource};
 use ynl_tables::{Tables, free};
 
-/// What is wanted on the partition, leaf by leaf.
+/// What is wanted on the partition, leaf by leaf. What is below a queue that the request that is held is before is
+/// passed over.
 fn add_all(scene: &Scene<'_>, held: &mut Option<Candidate>)
     requires { IsScene scene.now }
     ensures { HoldsBest scene.now held.old (all_wanted scene.now scene.now.tables.now.leaves.items) held.new }
 {
+    let mut passed = None;
     for row in &scene.tables.leaves {
-        add_leaf(scene, row, held);
+        add_leaf(scene, row, &mut passed, held);
     }
 }
 
@@ -35,9 +37,10 @@ fn add_all_asks(scene: &Scene<'_>, held: &mut Option<Candidate>)
     requires { IsScene scene.now }
     ensures { HoldsBest scene.now held.old (all_asks scene.now scene.now.tables.now.leaves.items) held.new }
 {
+    let mut passed = None;
     for row in &scene.tables.leaves {
         let mut desk = None;
-        add_asks(scene, &mut desk, row, held);
+        add_asks(scene, &mut desk, row, &mut passed, held);
     }
 }
 

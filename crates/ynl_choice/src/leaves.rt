@@ -1,23 +1,26 @@
 //! The first request of a leaf. Where what waits there is kept, it is found by classes and turns, and else
 //! the applications are gone through.
 
-ghost use Rattle.std.specs.Prelude.{◌≡◌, true, Some};
-ghost use Rattle.std.specs.Bool.{OnTrue};
+ghost use Rattle.std.specs.Prelude.{◌≡◌, true, Option, None, IfSome};
+ghost use Rattle.std.specs.Bool.{OnTrue, OnFalse};
 ghost use Rattle.ynl_tables.specs.Marked.{AreMarkedIn};
 ghost use Rattle.ynl_tables.specs.Queued.{masters_waiting, asks_waiting};
 ghost use Rattle.ynl_waiting.specs.Classes.{has};
 ghost use Rattle.ynl_waiting.specs.declared.classes.Class.{Class};
 ghost use Rattle.ynl_waiting.specs.declared.classes.Turn.{Turn};
-ghost use Rattle.ynl_choice.specs.Choosing.{state_in, standings_to, ArePlaced, IsScene, IsDesk, AreDesks, HoldsBest, masters_of as masters_in, asks_in, wanted_in};
+ghost use Rattle.ynl_choice.specs.Choosing.{state_in, standings_to, ArePlaced, IsScene, IsDesk, AreDesks, IsPassed, HoldsBest, masters_of as masters_in, asks_in, wanted_in};
 ghost use Rattle.ynl_choice.specs.Candidates.{is_ahead};
+ghost use Rattle.ynl_choice.specs.declared.scenes.Scene.{Scene};
+ghost use Rattle.ynl_choice.specs.declared.standings.Candidate.{Candidate};
 
 use crate::holding::{add_ask_at, add_asks_of, add_master, desk_of};
-use crate::order::is_leaf_behind;
-use crate::ranking::come_before;
+use crate::ranking::first_behind;
 use crate::scenes::{Desk, Scene};
 use crate::standings::Candidate;
-use crate::turns::{first_turn, has_candidates};
+use crate::turns::{first_turn, is_any_open, may_fit};
 use ynl_model::What;
+use ynl_queues::is_within;
+use ynl_resource::Name;
 use ynl_tables::{LeafRow, place_of};
 use ynl_waiting::ClassRow;
 
@@ -33,40 +36,59 @@ fn desk_at(scene: &Scene<'_>, row: &LeafRow, desk: &Option<Desk>) -> Desk
     }
 }
 
-/// Whether a candidate is known to be before all requests of a leaf, by the first of the queues on the way to it
-/// that decide. Where the configuration has no index it is not known.
-fn is_behind(scene: &Scene<'_>, row: &LeafRow, best: &Candidate) -> bool
-    requires { IsScene scene.now }
-    ensures { OnTrue result (is_ahead (Some best.now) (standings_to scene.now row.now.path) ≡ true) }
+/// Whether a leaf is within a queue that is passed over.
+fn is_below(passed: &Option<&[Name]>, row: &LeafRow) -> bool
+    ensures { (scene : Scene) (held : Option Candidate) → IsPassed scene held passed.now → OnTrue result (is_ahead held (standings_to scene row.now.path) ≡ true) }
 {
-    let names = row.path.names();
-    let Some(board) = &scene.board else {
-        return false;
-    };
-    let Some(steps) = scene.config.steps(row.place, names) else {
-        return false;
-    };
-    come_before(&best.standings, scene, board, steps, names)
+    match passed {
+        Some(queue) => is_within(queue, row.path.names()),
+        None => false,
+    }
 }
 
-/// Whether the request that is held is known to be before all of a leaf.
-fn is_passed(
+/// The first queue on the way to a leaf that the request that is held is before, if one is known: it is before
+/// all that is wanted below that queue. Where the configuration has no index none is known.
+fn queue_behind<'a>(
+    scene: &Scene<'_>,
+    row: &'a LeafRow,
+    held: &Option<Candidate>,
+) -> Option<&'a [Name]>
+    requires { IsScene scene.now }
+    ensures passed { IsPassed scene.now held.now result }
+    ensures behind { IfSome result (λ queue. is_ahead held.now (standings_to scene.now row.now.path) ≡ true) }
+{
+    let names = row.path.names();
+    let Some(best) = held else {
+        return None;
+    };
+    let Some(board) = &scene.board else {
+        return None;
+    };
+    let Some(steps) = scene.config.steps(row.place, names) else {
+        return None;
+    };
+    first_behind(&best.standings, scene, board, steps, names)
+}
+
+/// Whether the request that is held is known to be before all of a leaf: then a queue on the way to it is passed
+/// over, and else none is any more. What was worked out of a leaf was so because it is not.
+fn is_passed<'a>(
     scene: &Scene<'_>,
     desk: &Option<Desk>,
-    row: &LeafRow,
+    row: &'a LeafRow,
+    passed: &mut Option<&'a [Name]>,
     held: &Option<Candidate>,
 ) -> bool
-    requires scene { IsScene scene.now }
-    requires desk { AreDesks scene.now row.now.path desk.now }
-    ensures { OnTrue result (is_ahead held.now (standings_to scene.now row.now.path) ≡ true) }
+    requires { IsScene scene.now }
+    ensures ahead { OnTrue result (is_ahead held.now (standings_to scene.now row.now.path) ≡ true) }
+    ensures passed { IsPassed scene.now held.now passed.new }
+    ensures none { OnFalse result (passed.new ≡ None) }
 {
-    let Some(best) = held else {
-        return false;
+    *passed = match desk {
+        Some(_) => None,
+        None => queue_behind(scene, row, held),
     };
-    match desk {
-        Some(known) => is_leaf_behind(best, &known.standings),
-        None => is_behind(scene, row, best),
-    }
+    passed.is_some()
 }
 
 /// The masters wanted on the partition by the applications of a leaf, one after another.
@@ -110,29 +132,40 @@ fn add_first_master(
 }
 
 /// The masters wanted on the partition by the applications of a leaf. Where what waits is kept, the first of
-/// them is looked for, and no other is considered; and nothing is worked out of the leaf where none has room, or
-/// the request that is held is before all of them.
-fn add_masters(
+/// them is looked for, and no other is considered. Nothing is worked out of the leaf where it is passed over, where
+/// the request that is held is before all of it, or where none of them has room; what costs least is looked at
+/// first.
+fn add_masters<'a>(
     scene: &Scene<'_>,
     desk: &mut Option<Desk>,
-    row: &LeafRow,
+    row: &'a LeafRow,
+    passed: &mut Option<&'a [Name]>,
     held: &mut Option<Candidate>,
 )
     requires scene { IsScene scene.now }
+    requires passed { IsPassed scene.now held.old passed.old }
     requires desk { AreDesks scene.now row.now.path desk.old }
     requires placed { ArePlaced (state_in scene.now) row.now }
     requires marked { AreMarkedIn (state_in scene.now) row.now }
     ensures best { HoldsBest scene.now held.old (masters_in scene.now row.now.path row.now.apps.items) held.new }
     ensures desk { AreDesks scene.now row.now.path desk.new }
+    ensures passed { IsPassed scene.now held.new passed.new }
 {
+    if is_below(passed, row) {
+        return;
+    }
     let Some(waiting) = row.masters.rows() else {
+        *passed = None;
         add_each_master(scene, row, held);
         return;
     };
-    if !has_candidates(scene, waiting) {
+    if !may_fit(scene, waiting) {
         return;
     }
-    if is_passed(scene, desk, row, held) {
+    if is_passed(scene, desk, row, passed, held) {
+        return;
+    }
+    if !is_any_open(scene, &waiting.classes) {
         return;
     }
     let mut known = desk_at(scene, row, desk);
@@ -183,29 +216,38 @@ fn add_first_ask(
 }
 
 /// What the running applications of a leaf ask for on the partition. Where what waits is kept, the first
-/// of it is looked for, and nothing else is considered; and nothing is worked out of the leaf where none of it has
-/// room, or the request that is held is before all of it.
-pub fn add_asks(
+/// of it is looked for, and nothing else is considered; and the leaf is passed over as for masters.
+pub fn add_asks<'a>(
     scene: &Scene<'_>,
     desk: &mut Option<Desk>,
-    row: &LeafRow,
+    row: &'a LeafRow,
+    passed: &mut Option<&'a [Name]>,
     held: &mut Option<Candidate>,
 )
     requires scene { IsScene scene.now }
+    requires passed { IsPassed scene.now held.old passed.old }
     requires desk { AreDesks scene.now row.now.path desk.old }
     requires placed { ArePlaced (state_in scene.now) row.now }
     requires marked { AreMarkedIn (state_in scene.now) row.now }
     ensures best { HoldsBest scene.now held.old (asks_in scene.now row.now.path row.now.apps.items) held.new }
     ensures desk { AreDesks scene.now row.now.path desk.new }
+    ensures passed { IsPassed scene.now held.new passed.new }
 {
+    if is_below(passed, row) {
+        return;
+    }
     let Some(waiting) = row.asks.rows() else {
+        *passed = None;
         add_each_ask(scene, row, held);
         return;
     };
-    if !has_candidates(scene, waiting) {
+    if !may_fit(scene, waiting) {
         return;
     }
-    if is_passed(scene, desk, row, held) {
+    if is_passed(scene, desk, row, passed, held) {
+        return;
+    }
+    if !is_any_open(scene, &waiting.classes) {
         return;
     }
     let mut known = desk_at(scene, row, desk);
@@ -215,13 +257,20 @@ pub fn add_asks(
 
 /// What is wanted on the partition in a leaf, masters and asks, and the leaf's standings and limits are worked
 /// out once for both.
-pub fn add_leaf(scene: &Scene<'_>, row: &LeafRow, held: &mut Option<Candidate>)
+pub fn add_leaf<'a>(
+    scene: &Scene<'_>,
+    row: &'a LeafRow,
+    passed: &mut Option<&'a [Name]>,
+    held: &mut Option<Candidate>,
+)
     requires scene { IsScene scene.now }
+    requires passed { IsPassed scene.now held.old passed.old }
     requires placed { ArePlaced (state_in scene.now) row.now }
     requires marked { AreMarkedIn (state_in scene.now) row.now }
-    ensures { HoldsBest scene.now held.old (wanted_in scene.now row.now) held.new }
+    ensures best { HoldsBest scene.now held.old (wanted_in scene.now row.now) held.new }
+    ensures passed { IsPassed scene.now held.new passed.new }
 {
     let mut desk = None;
-    add_masters(scene, &mut desk, row, held);
-    add_asks(scene, &mut desk, row, held);
+    add_masters(scene, &mut desk, row, passed, held);
+    add_asks(scene, &mut desk, row, passed, held);
 }

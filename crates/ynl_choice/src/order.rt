@@ -1,7 +1,7 @@
 //! The order of service: which of two requests is first.
 
 ghost use Rattle.std.specs.Prelude.{◌≡◌, ◌*◌};
-ghost use Rattle.std.specs.Ordering.{is_gt, is_lt, nat_cmp};
+ghost use Rattle.std.specs.Ordering.{is_gt, nat_cmp};
 ghost use Rattle.std.specs.Cmp.Lexicographic.{slice_cmp};
 ghost use Rattle.ynl_model.specs.Service.{ratio_order, standing_order, key_order};
 ghost use Rattle.ynl_choice.specs.Candidates.{key_of, next_key, rank_order, standings_of};
@@ -105,13 +105,4 @@ pub fn is_overtaken(candidate: &Candidate, next: &Next<'_>) -> bool
     ensures { result ≡ is_gt (key_order (key_of candidate.now) (next_key next.now)) }
 {
     order(candidate, next) == Ordering::Greater
-}
-
-/// Whether the candidate is before all requests of a leaf that stands so.
-pub fn is_leaf_behind(candidate: &Candidate, standings: &Standings) -> bool
-    ensures { result ≡ is_lt (slice_cmp standing_order (standings_of candidate.now.standings) (standings_of standings.now)) }
-{
-    let here = &candidate.standings.places[..candidate.standings.depth];
-    let there = &standings.places[..standings.depth];
-    standings_order(here, there) == Ordering::Less
 }

@@ -1,17 +1,15 @@
 //! What the queues on the way to a leaf stand like on a partition.
 
-ghost use Rattle.std.specs.Prelude.{◌≡◌, ◌<◌, ◌≤◌, ◌+◌, IsTrue, length, map, take};
-ghost use Rattle.std.specs.Ordering.{is_lt};
-ghost use Rattle.std.specs.Cmp.Lexicographic.{slice_cmp};
+ghost use Rattle.std.specs.Prelude.{◌≡◌, ◌<◌, ◌≤◌, ◌+◌, true, false, IsTrue, IfSome, IfNone, length, map, take};
 ghost use Rattle.ynl_resource.specs.Amounts.{fits_in};
-ghost use Rattle.ynl_resource.specs.Names.{way_to};
+ghost use Rattle.ynl_resource.specs.Names.{is_within, way_to};
 ghost use Rattle.ynl_model.specs.Cluster.{total as total_on};
-ghost use Rattle.ynl_model.specs.Service.{standing, standing_order, last_name};
+ghost use Rattle.ynl_model.specs.Service.{standing, last_name};
 ghost use Rattle.ynl_tables.specs.Tables.{state_of};
 ghost use Rattle.ynl_tables.specs.Bounds.{IsReadable};
 ghost use Rattle.ynl_queues.specs.Index.{AreSteps};
 ghost use Rattle.ynl_choice.specs.Boards.{IsBoard};
-ghost use Rattle.ynl_choice.specs.Candidates.{standings_of};
+ghost use Rattle.ynl_choice.specs.Candidates.{come_before, standings_of};
 ghost use Rattle.ynl_choice.specs.Choosing.{state_in, standings_to, guaranteed_after, IsScene};
 
 use crate::boards::Board;
@@ -153,32 +151,35 @@ pub fn standings_by(
     }
 }
 
-/// Whether some standings come before those of the queues on the way to a leaf. Of these no more are worked out
-/// than decide it.
-pub fn come_before(
+/// The first queue on the way to a leaf by which some standings come before those of the way, where they do: they
+/// come before it, and so before all leaves below it. Of the standings of the way no more are worked out than
+/// decide it.
+pub fn first_behind<'a>(
     standings: &Standings,
     scene: &Scene<'_>,
     board: &Board<'_>,
     steps: &[usize],
-    leaf: &[Name],
-) -> bool
+    leaf: &'a [Name],
+) -> Option<&'a [Name]>
     requires scene { IsScene scene.now }
     requires board { IsBoard scene.now.config.now (state_in scene.now) scene.now.label board.now }
     requires steps { AreSteps scene.now.config.now.queues leaf.now steps.now }
-    ensures { result ≡ is_lt (slice_cmp standing_order (standings_of standings.now) (standings_to scene.now leaf.now)) }
+    ensures some { IfSome result (λ queue. come_before standings.now (standings_to scene.now queue.now) ≡ true) }
+    ensures within { IfSome result (λ queue. is_within queue.now leaf.now ≡ true) }
+    ensures none { IfNone result (come_before standings.now (standings_to scene.now leaf.now) ≡ false) }
 {
     let held = &standings.places[..standings.depth];
     let mut above = scene.total;
     for depth in 0..leaf.len() {
         if depth >= held.len() {
-            return true;
+            return Some(step_at(leaf, depth + 1));
         }
         let footing = footing_of(scene, board, steps, leaf, depth, &above);
         match standing_order(&held[depth], &footing.standing) {
-            Ordering::Less => return true,
-            Ordering::Greater => return false,
+            Ordering::Less => return Some(step_at(leaf, depth + 1)),
+            Ordering::Greater => return None,
             Ordering::Equal => above = footing.guaranteed,
         }
     }
-    false
+    None
 }

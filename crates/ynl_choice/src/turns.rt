@@ -2,6 +2,7 @@
 //! since those of one class may be placed together.
 
 ghost use Rattle.std.specs.Prelude.{◌≡◌, Bool, true, false, None, ◌&&◌, ◌||◌};
+ghost use Rattle.std.specs.Bool.{OnFalse};
 ghost use Rattle.std.specs.BTreeSet.{contains};
 ghost use Rattle.std.specs.List.{list_any};
 ghost use Rattle.ynl_resource.specs.Names.{same_label};
@@ -45,8 +46,8 @@ fn is_open(scene: &Scene<'_>, class: &Class) -> bool
     class.size.amount().fits_in(scene.free) && is_same(&class.label, &scene.label)
 }
 
-/// Whether any class is for the partition and has room.
-fn is_any_open(scene: &Scene<'_>, classes: &[ClassRow]) -> bool
+/// Whether any class is for the partition and has room. Where none is, nothing may be placed.
+pub fn is_any_open(scene: &Scene<'_>, classes: &[ClassRow]) -> bool
     requires { IsScene scene.now }
     ensures { result ≡ list_any (λ row. is_open scene.now row.class) classes.now }
 {
@@ -58,16 +59,13 @@ fn is_any_open(scene: &Scene<'_>, classes: &[ClassRow]) -> bool
     false
 }
 
-/// Whether any of what waits is for the partition and has room. Where nothing has, nothing may be placed; and
-/// where there is no room for the least that waits, no class is looked at.
-pub fn has_candidates(scene: &Scene<'_>, waiting: &Rows) -> bool
+/// Whether there may be room for some of what waits: whether there is for the least of it. Where there is none,
+/// nothing may be placed, and no class is looked at.
+pub fn may_fit(scene: &Scene<'_>, waiting: &Rows) -> bool
     requires { IsScene scene.now }
-    ensures { result ≡ list_any (λ row. is_open scene.now row.class) waiting.now.classes.items }
+    ensures { OnFalse result (list_any (λ row. is_open scene.now row.class) waiting.now.classes.items ≡ false) }
 {
-    if !waiting.least.fits_in(scene.free) {
-        return false;
-    }
-    is_any_open(scene, &waiting.classes)
+    waiting.least.fits_in(scene.free)
 }
 
 /// Whether what waits of a class may be placed; a guest wants room alone.

@@ -40,6 +40,12 @@ within-front (name ∷ queue) (step ∷ leaf) h =
     let at = within-front queue leaf parts.1 in
     (at.0, λ i. sym (same-name_sym name step parts.0) i ∷ at.1 i)
 
+-- the way to what is within a queue: the way to the queue, and more
+pub way-below : (queue leaf : Path) → IsTrue (is_within queue leaf) → (more : List Path) × (way_to leaf ≡ way_to queue ++ more)
+way-below queue leaf h =
+    let at = within-front queue leaf h in
+    (map (λ step. queue ++ step) (way_to at.0), ap way_to at.1 ∙ way-append queue at.0)
+
 -- the way to what is within a child of a queue: the way to the queue, the child, and more
 pub way-child : (queue : Path) (name : Name) (leaf : Path) → IsTrue (is_within (below queue name) leaf) → (more : List Path) × (way_to leaf ≡ way_to queue ++ below queue name ∷ more)
 way-child queue name leaf h =
