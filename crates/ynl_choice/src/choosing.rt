@@ -39,8 +39,8 @@ fn add_all_asks(scene: &Scene<'_>, held: &mut Option<Candidate>)
 {
     let mut passed = None;
     for row in &scene.tables.leaves {
-        let mut desk = None;
-        add_asks(scene, &mut desk, row, &mut passed, held);
+        let mut limits = None;
+        add_asks(scene, &mut limits, row, &mut passed, held);
     }
 }
 

@@ -4,12 +4,13 @@ ghost use Rattle.std.specs.Prelude.{◌≡◌, [], ◌∷◌, ◌&&◌, IfSome, 
 ghost use Rattle.ynl_model.specs.Service.{Item, item_of as request_item, place_in_leaf};
 ghost use Rattle.ynl_tables.specs.Marked.{IsMarkedApp};
 ghost use Rattle.ynl_tables.specs.Tables.{app_of};
-ghost use Rattle.ynl_choice.specs.Choosing.{state_in, standings_to as standings_in, key_in, item_of, passes, overtakes, wants, IsScene, IsDesk, IsKeyed, HoldsBest, masters_of as masters_in, wanted_of, asks_in};
+ghost use Rattle.ynl_choice.specs.Choosing.{state_in, standings_to as standings_in, key_in, item_of, passes, overtakes, wants, IsScene, AreLimits, IsDesk, IsKeyed, HoldsBest, masters_of as masters_in, wanted_of, asks_in};
 ghost use Rattle.ynl_choice.specs.Candidates.{item_by, next_key, standings_of};
 ghost use Rattle.ynl_choice.specs.Waits.{asked_at};
 ghost use Rattle.ynl_choice.specs.declared.scenes.Scene.{Scene};
 
 use crate::eligible::is_eligible;
+use crate::leaf_use::LeafUse;
 use crate::order::{Next, is_overtaken};
 use crate::ranking::{standings_by, standings_on};
 use crate::requests::{RequestParts, parts_of, request_of};
@@ -40,15 +41,16 @@ fn standings_to(scene: &Scene<'_>, row: &LeafRow) -> Standings
     )
 }
 
-/// What is worked out of a leaf for all its requests. Its limits are worked out by the first request that
-/// is tested against them.
-pub fn desk_of(scene: &Scene<'_>, row: &LeafRow) -> Desk
-    requires { IsScene scene.now }
+/// What is worked out of a leaf for its requests: how it stands, and its limits, if they were worked out; else the
+/// first request that is tested against them has them worked out.
+pub fn desk_of(scene: &Scene<'_>, row: &LeafRow, limits: &Option<LeafUse>) -> Desk
+    requires scene { IsScene scene.now }
+    requires limits { AreLimits scene.now row.now.path limits.now }
     ensures { IsDesk scene.now row.now.path result }
 {
     Desk {
         standings: standings_to(scene, row),
-        limits: None,
+        limits: *limits,
     }
 }
 

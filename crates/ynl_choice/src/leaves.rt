@@ -8,14 +8,15 @@ ghost use Rattle.ynl_tables.specs.Queued.{masters_waiting, asks_waiting};
 ghost use Rattle.ynl_waiting.specs.Classes.{has};
 ghost use Rattle.ynl_waiting.specs.declared.classes.Class.{Class};
 ghost use Rattle.ynl_waiting.specs.declared.classes.Turn.{Turn};
-ghost use Rattle.ynl_choice.specs.Choosing.{state_in, standings_to, ArePlaced, IsScene, IsDesk, AreDesks, IsPassed, HoldsBest, masters_of as masters_in, asks_in, wanted_in};
+ghost use Rattle.ynl_choice.specs.Choosing.{state_in, standings_to, ArePlaced, IsScene, AreLimits, IsPassed, HoldsBest, masters_of as masters_in, asks_in, wanted_in};
 ghost use Rattle.ynl_choice.specs.Candidates.{is_ahead};
 ghost use Rattle.ynl_choice.specs.declared.scenes.Scene.{Scene};
 ghost use Rattle.ynl_choice.specs.declared.standings.Candidate.{Candidate};
 
 use crate::holding::{add_ask_at, add_asks_of, add_master, desk_of};
 use crate::ranking::first_behind;
-use crate::scenes::{Desk, Scene};
+use crate::leaf_use::LeafUse;
+use crate::scenes::Scene;
 use crate::standings::Candidate;
 use crate::turns::{first_turn, is_any_open, may_fit};
 use ynl_model::What;
@@ -23,18 +24,6 @@ use ynl_queues::is_within;
 use ynl_resource::Name;
 use ynl_tables::{LeafRow, place_of};
 use ynl_waiting::ClassRow;
-
-/// What is worked out of a leaf, if it was not yet.
-fn desk_at(scene: &Scene<'_>, row: &LeafRow, desk: &Option<Desk>) -> Desk
-    requires scene { IsScene scene.now }
-    requires desk { AreDesks scene.now row.now.path desk.now }
-    ensures { IsDesk scene.now row.now.path result }
-{
-    match desk {
-        Some(known) => *known,
-        None => desk_of(scene, row),
-    }
-}
 
 /// Whether a leaf is within a queue that is passed over.
 fn is_below(passed: &Option<&[Name]>, row: &LeafRow) -> bool
@@ -71,10 +60,9 @@ fn queue_behind<'a>(
 }
 
 /// Whether the request that is held is known to be before all of a leaf: then a queue on the way to it is passed
-/// over, and else none is any more. What was worked out of a leaf was so because it is not.
+/// over, and else none is any more.
 fn is_passed<'a>(
     scene: &Scene<'_>,
-    desk: &Option<Desk>,
     row: &'a LeafRow,
     passed: &mut Option<&'a [Name]>,
     held: &Option<Candidate>,
@@ -84,10 +72,7 @@ fn is_passed<'a>(
     ensures passed { IsPassed scene.now held.now passed.new }
     ensures none { OnFalse result (passed.new ≡ None) }
 {
-    *passed = match desk {
-        Some(_) => None,
-        None => queue_behind(scene, row, held),
-    };
+    *passed = queue_behind(scene, row, held);
     passed.is_some()
 }
 
@@ -101,7 +86,7 @@ fn add_each_master(scene: &Scene<'_>, row: &LeafRow, held: &mut Option<Candidate
     if row.apps.is_empty() {
         return;
     }
-    let mut desk = desk_of(scene, row);
+    let mut desk = desk_of(scene, row, &None);
     for i in 0..row.apps.len() {
         add_master(scene, &mut desk, row, &row.apps[i], i as u64, held);
     }
@@ -110,45 +95,46 @@ fn add_each_master(scene: &Scene<'_>, row: &LeafRow, held: &mut Option<Candidate
 /// The first of the masters that wait in a leaf, by their classes.
 fn add_first_master(
     scene: &Scene<'_>,
-    desk: &mut Desk,
+    limits: &mut Option<LeafUse>,
     row: &LeafRow,
     classes: &[ClassRow],
     held: &mut Option<Candidate>,
 )
     requires scene { IsScene scene.now }
-    requires desk { IsDesk scene.now row.now.path desk.old }
+    requires limits { AreLimits scene.now row.now.path limits.old }
     requires placed { ArePlaced (state_in scene.now) row.now }
     requires marked { AreMarkedIn (state_in scene.now) row.now }
     requires classes { (class : Class) (turn : Turn) → has classes.now class turn ≡ masters_waiting row.now.apps.items class turn }
     ensures best { HoldsBest scene.now held.old (masters_in scene.now row.now.path row.now.apps.items) held.new }
-    ensures desk { IsDesk scene.now row.now.path desk.new }
+    ensures limits { AreLimits scene.now row.now.path limits.new }
 {
-    let Some(turn) = first_turn(scene, &mut desk.limits, row, &What::Master, classes) else {
+    let Some(turn) = first_turn(scene, limits, row, &What::Master, classes) else {
         return;
     };
     if let Some(place) = place_of(row, turn.number) {
-        add_master(scene, desk, row, &row.apps[place], place as u64, held);
+        let mut desk = desk_of(scene, row, limits);
+        add_master(scene, &mut desk, row, &row.apps[place], place as u64, held);
     }
 }
 
 /// The masters wanted on the partition by the applications of a leaf. Where what waits is kept, the first of
 /// them is looked for, and no other is considered. Nothing is worked out of the leaf where it is passed over, where
 /// the request that is held is before all of it, or where none of them has room; what costs least is looked at
-/// first.
+/// first, and how the leaf stands last, for one that may be placed.
 fn add_masters<'a>(
     scene: &Scene<'_>,
-    desk: &mut Option<Desk>,
+    limits: &mut Option<LeafUse>,
     row: &'a LeafRow,
     passed: &mut Option<&'a [Name]>,
     held: &mut Option<Candidate>,
 )
     requires scene { IsScene scene.now }
     requires passed { IsPassed scene.now held.old passed.old }
-    requires desk { AreDesks scene.now row.now.path desk.old }
+    requires limits { AreLimits scene.now row.now.path limits.old }
     requires placed { ArePlaced (state_in scene.now) row.now }
     requires marked { AreMarkedIn (state_in scene.now) row.now }
     ensures best { HoldsBest scene.now held.old (masters_in scene.now row.now.path row.now.apps.items) held.new }
-    ensures desk { AreDesks scene.now row.now.path desk.new }
+    ensures limits { AreLimits scene.now row.now.path limits.new }
     ensures passed { IsPassed scene.now held.new passed.new }
 {
     if is_below(passed, row) {
@@ -162,15 +148,13 @@ fn add_masters<'a>(
     if !may_fit(scene, waiting) {
         return;
     }
-    if is_passed(scene, desk, row, passed, held) {
+    if is_passed(scene, row, passed, held) {
         return;
     }
     if !is_any_open(scene, &waiting.classes) {
         return;
     }
-    let mut known = desk_at(scene, row, desk);
-    add_first_master(scene, &mut known, row, &waiting.classes, held);
-    *desk = Some(known);
+    add_first_master(scene, limits, row, &waiting.classes, held);
 }
 
 /// What the running applications of a leaf ask for on the partition, one after another.
@@ -183,7 +167,7 @@ fn add_each_ask(scene: &Scene<'_>, row: &LeafRow, held: &mut Option<Candidate>)
     if row.apps.is_empty() {
         return;
     }
-    let mut desk = desk_of(scene, row);
+    let mut desk = desk_of(scene, row, &None);
     for i in 0..row.apps.len() {
         add_asks_of(scene, &mut desk, row, &row.apps[i], i as u64, held);
     }
@@ -192,26 +176,27 @@ fn add_each_ask(scene: &Scene<'_>, row: &LeafRow, held: &mut Option<Candidate>)
 /// The first of what is asked for in a leaf, by classes.
 fn add_first_ask(
     scene: &Scene<'_>,
-    desk: &mut Desk,
+    limits: &mut Option<LeafUse>,
     row: &LeafRow,
     classes: &[ClassRow],
     held: &mut Option<Candidate>,
 )
     requires scene { IsScene scene.now }
-    requires desk { IsDesk scene.now row.now.path desk.old }
+    requires limits { AreLimits scene.now row.now.path limits.old }
     requires placed { ArePlaced (state_in scene.now) row.now }
     requires marked { AreMarkedIn (state_in scene.now) row.now }
     requires classes { (class : Class) (turn : Turn) → has classes.now class turn ≡ asks_waiting row.now.apps.items class turn }
     ensures best { HoldsBest scene.now held.old (asks_in scene.now row.now.path row.now.apps.items) held.new }
-    ensures desk { IsDesk scene.now row.now.path desk.new }
+    ensures limits { AreLimits scene.now row.now.path limits.new }
 {
     let what = What::Ask(scene.label, 0);
-    let Some(turn) = first_turn(scene, &mut desk.limits, row, &what, classes) else {
+    let Some(turn) = first_turn(scene, limits, row, &what, classes) else {
         return;
     };
     if let Some(place) = place_of(row, turn.number) {
+        let mut desk = desk_of(scene, row, limits);
         let app = &row.apps[place];
-        add_ask_at(scene, desk, row, app, place as u64, turn.priority, held);
+        add_ask_at(scene, &mut desk, row, app, place as u64, turn.priority, held);
     }
 }
 
@@ -219,18 +204,18 @@ fn add_first_ask(
 /// of it is looked for, and nothing else is considered; and the leaf is passed over as for masters.
 pub fn add_asks<'a>(
     scene: &Scene<'_>,
-    desk: &mut Option<Desk>,
+    limits: &mut Option<LeafUse>,
     row: &'a LeafRow,
     passed: &mut Option<&'a [Name]>,
     held: &mut Option<Candidate>,
 )
     requires scene { IsScene scene.now }
     requires passed { IsPassed scene.now held.old passed.old }
-    requires desk { AreDesks scene.now row.now.path desk.old }
+    requires limits { AreLimits scene.now row.now.path limits.old }
     requires placed { ArePlaced (state_in scene.now) row.now }
     requires marked { AreMarkedIn (state_in scene.now) row.now }
     ensures best { HoldsBest scene.now held.old (asks_in scene.now row.now.path row.now.apps.items) held.new }
-    ensures desk { AreDesks scene.now row.now.path desk.new }
+    ensures limits { AreLimits scene.now row.now.path limits.new }
     ensures passed { IsPassed scene.now held.new passed.new }
 {
     if is_below(passed, row) {
@@ -244,19 +229,17 @@ pub fn add_asks<'a>(
     if !may_fit(scene, waiting) {
         return;
     }
-    if is_passed(scene, desk, row, passed, held) {
+    if is_passed(scene, row, passed, held) {
         return;
     }
     if !is_any_open(scene, &waiting.classes) {
         return;
     }
-    let mut known = desk_at(scene, row, desk);
-    add_first_ask(scene, &mut known, row, &waiting.classes, held);
-    *desk = Some(known);
+    add_first_ask(scene, limits, row, &waiting.classes, held);
 }
 
-/// What is wanted on the partition in a leaf, masters and asks, and the leaf's standings and limits are worked
-/// out once for both.
+/// What is wanted on the partition in a leaf, masters and asks, and the leaf's limits are worked out once for
+/// both.
 pub fn add_leaf<'a>(
     scene: &Scene<'_>,
     row: &'a LeafRow,
@@ -270,7 +253,7 @@ pub fn add_leaf<'a>(
     ensures best { HoldsBest scene.now held.old (wanted_in scene.now row.now) held.new }
     ensures passed { IsPassed scene.now held.new passed.new }
 {
-    let mut desk = None;
-    add_masters(scene, &mut desk, row, passed, held);
-    add_asks(scene, &mut desk, row, passed, held);
+    let mut limits = None;
+    add_masters(scene, &mut limits, row, passed, held);
+    add_asks(scene, &mut limits, row, passed, held);
 }
