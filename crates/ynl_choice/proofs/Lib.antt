@@ -14,3 +14,4 @@ pub mod Placing
 mod Users
 mod Before
 mod Passed
+mod Headroom

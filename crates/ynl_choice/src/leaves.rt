@@ -18,7 +18,7 @@ use crate::ranking::first_behind;
 use crate::leaf_use::LeafUse;
 use crate::scenes::Scene;
 use crate::standings::Candidate;
-use crate::turns::{first_turn, is_any_open, may_fit};
+use crate::turns::{first_turn, is_any_open, may_be_taken, may_fit};
 use ynl_model::What;
 use ynl_queues::is_within;
 use ynl_resource::Name;
@@ -154,6 +154,9 @@ fn add_masters<'a>(
     if !is_any_open(scene, &waiting.classes) {
         return;
     }
+    if !may_be_taken(scene, limits, row, waiting) {
+        return;
+    }
     add_first_master(scene, limits, row, &waiting.classes, held);
 }
 
@@ -233,6 +236,9 @@ pub fn add_asks<'a>(
         return;
     }
     if !is_any_open(scene, &waiting.classes) {
+        return;
+    }
+    if !may_be_taken(scene, limits, row, waiting) {
         return;
     }
     add_first_ask(scene, limits, row, &waiting.classes, held);

@@ -16,7 +16,7 @@ ghost use Rattle.ynl_choice.specs.Candidates.{item_by};
 ghost use Rattle.ynl_choice.specs.Choosing.{state_in, passes, IsScene, AreLimits};
 ghost use Rattle.ynl_choice.specs.Waits.{item_for, is_open, is_placeable, is_before, IsFirstTurn};
 
-use crate::eligible::is_eligible;
+use crate::eligible::{allows, is_eligible};
 use crate::leaf_use::LeafUse;
 use crate::requests::RequestParts;
 use crate::scenes::{Scene, limits_at};
@@ -66,6 +66,26 @@ pub fn may_fit(scene: &Scene<'_>, waiting: &Rows) -> bool
     ensures { OnFalse result (list_any (λ row. is_open scene.now row.class) waiting.now.classes.items ≡ false) }
 {
     waiting.least.fits_in(scene.free)
+}
+
+/// Whether the queues on the way to a leaf may take some of what waits there: whether they may take the least of it.
+/// Where they may not, nothing of it may be placed. Guests are placed whatever the queues use.
+pub fn may_be_taken(
+    scene: &Scene<'_>,
+    limits: &mut Option<LeafUse>,
+    row: &LeafRow,
+    waiting: &Rows,
+) -> bool
+    requires scene { IsScene scene.now }
+    requires limits { AreLimits scene.now row.now.path limits.old }
+    ensures none { OnFalse result ((what : What) → IsFirstTurn (is_placeable scene.now row.now.path what) waiting.now.classes.items None) }
+    ensures limits { AreLimits scene.now row.now.path limits.new }
+{
+    if scene.as_guests {
+        return true;
+    }
+    let limits = limits_at(scene, limits, &row.path, row.place);
+    allows(&limits.headroom, &waiting.least)
 }
 
 /// Whether what waits of a class may be placed; a guest wants room alone.
