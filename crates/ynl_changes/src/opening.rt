@@ -19,7 +19,7 @@ use ynl_nodes::Nodes;
 use ynl_queues::{Config, QueueRow};
 use ynl_resource::{Label, Path, Resource};
 use ynl_tables::{
-    Known, LeafPart, LeafRow, Listed, PartitionRow, QueueNumbers, Sums, Tables, UserCounts,
+    Known, LeafPart, LeafRow, Listed, Near, PartitionRow, QueueNumbers, Sums, Tables, UserCounts,
 };
 use ynl_waiting::Waiting;
 
@@ -142,7 +142,10 @@ fn leaves(alloc: Global, config: &Config) -> Result<Vec<LeafRow>, AllocError>
         if config.is_leaf(queue.path.names()) {
             rows.push(LeafRow {
                 path: queue.path,
-                place: place_of(config.queues(), &queue.path).unwrap_or(0),
+                near: Near {
+                    place: place_of(config.queues(), &queue.path).unwrap_or(0),
+                    leaf: rows.len(),
+                },
                 tenant: queue.tenant(),
                 names: Vec::new(alloc),
                 known: Known::new(alloc),

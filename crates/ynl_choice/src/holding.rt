@@ -27,7 +27,7 @@ fn standings_to(scene: &Scene<'_>, row: &LeafRow) -> Standings
 {
     let names = row.path.names();
     if let Some(board) = &scene.board {
-        if let Some(steps) = scene.config.steps(row.place, names) {
+        if let Some(steps) = scene.config.steps(row.near.place, names) {
             return standings_by(scene, board, steps, names, &row.tenant);
         }
     }
@@ -91,7 +91,7 @@ fn may_be_placed(
     if scene.as_guests {
         return true;
     }
-    let limits = limits_at(scene, &mut desk.limits, request.leaf, row.place);
+    let limits = limits_at(scene, &mut desk.limits, request.leaf, &row.near);
     is_eligible(scene.tables, &scene.node, &scene.free, &limits, request)
 }
 

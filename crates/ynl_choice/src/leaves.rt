@@ -53,7 +53,7 @@ fn queue_behind<'a>(
     let Some(board) = &scene.board else {
         return None;
     };
-    let Some(steps) = scene.config.steps(row.place, names) else {
+    let Some(steps) = scene.config.steps(row.near.place, names) else {
         return None;
     };
     first_behind(&best.standings, scene, board, steps, names)

@@ -84,7 +84,7 @@ pub fn may_be_taken(
     if scene.as_guests {
         return true;
     }
-    let limits = limits_at(scene, limits, &row.path, row.place);
+    let limits = limits_at(scene, limits, &row.path, &row.near);
     allows(&limits.headroom, &waiting.least)
 }
 
@@ -105,7 +105,7 @@ fn is_allowed(
     if scene.as_guests {
         return true;
     }
-    let limits = limits_at(scene, limits, &row.path, row.place);
+    let limits = limits_at(scene, limits, &row.path, &row.near);
     let request = request_for(row, what, class);
     is_eligible(scene.tables, &scene.node, &scene.free, &limits, &request)
 }

@@ -7,15 +7,15 @@ ghost use Rattle.ynl_tables.specs.Marked.{IsMarkedApp, AreMarked};
 ghost use Rattle.ynl_tables.specs.Tables.{app_of, leaves_of};
 
 use crate::named::app_named;
-use crate::rows::{App, LeafRow};
+use crate::rows::{App, LeafRow, Near};
 use crate::tables::leaf_row_of;
 use ynl_resource::{Name, Path};
 
-/// A live application, and the leaf that holds it, with a hint where the leaf stands in the configuration.
+/// A live application, and the leaf that holds it, with hints where the leaf stands.
 #[derive(Clone, Copy)]
 pub struct Live<'a> {
     pub leaf: &'a Path,
-    pub place: usize,
+    pub near: Near,
     pub app: &'a App,
 }
 
@@ -29,7 +29,7 @@ pub fn live_at<'a>(rows: &'a [LeafRow], tenant: &[u8], name: &Name) -> Option<Li
         Some(row) => match app_named(row, name) {
             Some(app) => Some(Live {
                 leaf: &row.path,
-                place: row.place,
+                near: row.near,
                 app,
             }),
             None => None,

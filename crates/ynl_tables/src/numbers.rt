@@ -189,7 +189,7 @@ pub fn way_of_app<'a>(
     ensures { IsWay (root ∷ numbers.now) (is_above_app (leaves_of leaves.now) tenant.now app.now) result.now }
 {
     match leaf_row_of(leaves, tenant, app) {
-        Some(row) => numbers.way_near(row.place, &row.path),
+        Some(row) => numbers.way_near(row.near.place, &row.path),
         None => &[],
     }
 }

@@ -41,13 +41,20 @@ pub struct LeafPart {
     pub users: UserCounts,
 }
 
-/// A leaf: its path, a hint where it stands in the configuration, its tenant, the names of all applications that were ever submitted there, with a search
+/// Hints where a leaf stands: its queue in the configuration, and its row among the leaves.
+#[derive(Clone, Copy)]
+pub struct Near {
+    pub place: usize,
+    pub leaf: usize,
+}
+
+/// A leaf: its path, hints where it stands, its tenant, the names of all applications that were ever submitted there, with a search
 /// in them, and those of them that are live, both in the order of submission; of these what waits, the
 /// masters of those that wait and the asks of those that run; and who shares its part of each partition.
 #[derive(Drop)]
 pub struct LeafRow {
     pub path: Path,
-    pub place: usize,
+    pub near: Near,
     pub tenant: Name,
     pub names: Vec<Name>,
     pub known: Known,

@@ -4,12 +4,13 @@ ghost use Rattle.std.specs.Prelude.{◌≡◌, ◌≤◌, IfSome, length};
 ghost use Rattle.std.specs.List.{list_any};
 ghost use Rattle.ynl_resource.specs.Names.{same_name};
 ghost use Rattle.ynl_model.specs.Limits.{distinct, users};
+ghost use Rattle.ynl_tables.specs.Bounds.{IsReadable};
 ghost use Rattle.ynl_tables.specs.Tables.{state_of};
 ghost use Rattle.ynl_tables.specs.declared.rows.App.{App};
 ghost use Rattle.ynl_tables.specs.Sharing.{shares, users_in, IsCountedPart};
 
 use crate::rows::{App, LeafPart, LeafRow};
-use crate::tables::{Tables, leaf_row_at};
+use crate::tables::{Tables, leaf_row_near};
 use ynl_resource::{Label, Name, Path};
 
 /// Whether an application of that home shares its leaf's part of a partition.
@@ -71,13 +72,15 @@ fn users_of_row(row: &LeafRow, label: &Label) -> usize
     }
 }
 
-/// How many users share the leaf's part of a partition, and 1 where there is none.
+/// How many users share the leaf's part of a partition, and 1 where there is none. The place is a hint where the
+/// leaf's row stands among the leaves.
 #[tactic(auto, unfolding(ynl_model::specs::Limits::users))]
-pub fn users(tables: &Tables, leaf: &Path, label: &Label) -> usize
+pub fn users(tables: &Tables, place: usize, leaf: &Path, label: &Label) -> usize
+    requires { IsReadable tables.now }
     ensures value { result ≡ users (state_of tables.now) leaf.now label.now }
     ensures some { 1 ≤ result }
 {
-    let count = match leaf_row_at(&tables.leaves, leaf) {
+    let count = match leaf_row_near(&tables.leaves, place, leaf) {
         Some(row) => users_of_row(row, label),
         None => 0,
     };

@@ -7,6 +7,7 @@ ghost use Rattle.ynl_resource.specs.Names.{same_name, same_path, same_label, ten
 ghost use Rattle.ynl_model.specs.Nodes.{rises};
 ghost use Rattle.ynl_model.specs.Applications.{row_of, apps_of};
 ghost use Rattle.ynl_model.specs.Cluster.{State, is_partition};
+ghost use Rattle.ynl_laws.specs.Tabled.{EachLeaf};
 ghost use Rattle.ynl_tables.specs.Living.{live_in, row_clock};
 ghost use Rattle.ynl_tables.specs.Marked.{AreMarkedIn, AreMarked};
 ghost use Rattle.ynl_tables.specs.Rising.{numbers_rise};
@@ -125,6 +126,24 @@ pub(crate) fn leaf_row_at<'a>(rows: &'a [LeafRow], leaf: &Path) -> Option<&'a Le
     ensures path { IfSome result (λ r. r.now.path ≡ leaf.now) }
 {
     leaf_row(rows, leaf)
+}
+
+/// The row of a leaf, which is thought to stand at that place; where it does not, it is looked for among all.
+pub(crate) fn leaf_row_near<'a>(
+    rows: &'a [LeafRow],
+    place: usize,
+    leaf: &Path,
+) -> Option<&'a LeafRow>
+    requires { EachLeaf (leaves_of rows.now) }
+    ensures meaning { option_map (λ r. leaf_of_row r.now) result ≡ find (λ row. same_path row.leaf leaf.now) (leaves_of rows.now) }
+    ensures path { IfSome result (λ r. r.now.path ≡ leaf.now) }
+{
+    if let Some(row) = rows.get(place) {
+        if row.path == *leaf {
+            return Some(row);
+        }
+    }
+    leaf_row_at(rows, leaf)
 }
 
 /// The live applications of a leaf, in the order of submission.

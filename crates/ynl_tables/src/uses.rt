@@ -122,7 +122,7 @@ pub fn owner_of<'a>(leaves: &'a [LeafRow], container: &Placed) -> Option<Owner<'
         Some(row) => match app_named(row, &container.app) {
             Some(app) => Some(Owner {
                 leaf: &row.path,
-                place: row.place,
+                place: row.near.place,
                 user: &app.user,
             }),
             None => None,

@@ -2,7 +2,7 @@ use Rattle.std.proofs.Common.{◌≡◌, ℕ, List, [], map, find, max, Option, 
 use Rattle.ynl_resource.specs.Names.{same_path}
 use Rattle.std.specs.Option.{option_map_or}
 use Rattle.ynl_resource.specs.declared.paths.Path.{Path}
-use Rattle.ynl_model.specs.Applications.{Application, LeafApps, apps_of}
+use Rattle.ynl_model.specs.Applications.{LeafApps, apps_of}
 use Rattle.ynl_tables.specs.declared.rows.LeafRow.{LeafRow}
 use Rattle.ynl_tables.specs.Tables.{app_of, state_of, leaves_of}
 use Rattle.ynl_tables.proofs.Shared.{users_meant}
@@ -10,7 +10,7 @@ use Rattle.ynl_tables.proofs.sharing.users.Goals as goal
 use Rattle.ynl_tables.proofs.sharing.users.Goals.{in-Some, in-None}
 
 pub returns-clause-value : goal.returns-clause-value
-returns-clause-value c = elim c.match-leaf_row_at.branch [
+returns-clause-value c = elim c.match-leaf_row_near.branch [
   | in-Some w ↦
       let apps = w.in-Some.row.now.apps.items in
       c.max.ensures ∙ ap (λ (n : ℕ). max 1 n) (w.count-is ∙ w.users_of_row-count.ensures)

@@ -1,7 +1,5 @@
-use Rattle.std.proofs.Common.{◌≡◌, ℕ, Some, sym, ap, subst, cond, rules}
-use Rattle.std.specs.BTreeMap.{BTreeMap}
-use Rattle.ynl_resource.specs.Names.{same_name}
-use Rattle.ynl_tables.specs.UserCounts.{count_for, SetsCount}
+use Rattle.std.proofs.Common.{Some, sym, subst, rules}
+use Rattle.ynl_tables.specs.UserCounts.{SetsCount}
 use Rattle.ynl_tables.proofs.CountingUsers.{inserted_count, removed_count}
 use Rattle.ynl_tables.proofs.user_counts.set_in.Goals as goal
 

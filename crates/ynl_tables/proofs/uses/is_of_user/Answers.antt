@@ -1,8 +1,5 @@
 use Rattle.std.proofs.Common.{Some, None, ap, sym, ◌∙◌}
-use Rattle.std.specs.Prelude.{find}
-use Rattle.ynl_resource.specs.Names.{same_name}
 use Rattle.ynl_model.specs.Applications.{row_of}
-use Rattle.ynl_tables.specs.declared.rows.App.{App}
 use Rattle.ynl_tables.specs.Tables.{leaves_of}
 use Rattle.ynl_tables.proofs.Finding.{user_found}
 use Rattle.ynl_tables.proofs.uses.is_of_user.Goals as goal
