@@ -20,6 +20,13 @@ same_is a b h = (bytes_decides a b).0 h
 self_same : (a : Name) → same_name a a ≡ true
 self_same a = (bytes_decides a a).1 refl
 
+pub other_name : (a b : Name) → same_name a b ≡ false → same_name b a ≡ false
+other_name a b p = by (same_name b a) refl
+  where
+    by : (c : Bool) → same_name b a ≡ c → c ≡ false
+    by false r = refl
+    by true r = absurd (true≢false (sym (ap (same_name a) (same_is b a r) ∙ self_same a) ∙ p))
+
 -- the map's test of a key is that of names
 at_same : (name q : Name) → is_at (name_order name) q ≡ same_name name q
 at_same name q = sym (texts_ties name q)
@@ -121,16 +128,9 @@ module _ (f : Name → Option ℕ) (name : Name) where
     come_is : (q : Name) → g q ≡ cond (same_name name q) (Some n) (f q)
     come_is q = come q ∙ ap (λ b. cond b (Some n) (f q)) (at_same name q)
 
-    other_name : (q : Name) → same_name q name ≡ false → same_name name q ≡ false
-    other_name q p = by (same_name name q) refl
-      where
-        by : (b : Bool) → same_name name q ≡ b → b ≡ false
-        by false r = refl
-        by true r = absurd (true≢false (sym (ap (λ a. same_name q a) (same_is name q r) ∙ self_same q) ∙ p))
-
     known_old : (entries : List (ℕ × Node)) → Known f entries → Absent name entries → Known g entries
     known_old [] known none = tt
-    known_old (e ∷ entries) known none = (come_is e.1.name ∙ ap (λ b. cond b (Some n) (f e.1.name)) (other_name e.1.name none.0) ∙ known.0, known_old entries known.1 none.1)
+    known_old (e ∷ entries) known none = (come_is e.1.name ∙ ap (λ b. cond b (Some n) (f e.1.name)) (other_name e.1.name name none.0) ∙ known.0, known_old entries known.1 none.1)
 
     pub joined_index : (entries new : List (ℕ × Node)) (row : Node) (top after : ℕ) → Ix f entries top → row.name ≡ name → AllByRecursion (λ e. e.0 ≤ top) entries → top < n → Absent name entries
         → new ≡ entries ++ (n, row) ∷ [] → after ≡ n → Ix g new after

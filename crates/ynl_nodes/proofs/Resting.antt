@@ -1,33 +1,35 @@
 -- Nodes that rest, by the marks under their numbers.
-use Rattle.std.proofs.Common.{◌≡◌, ℕ, ◌+◌, ◌≤◌, Bool, true, false, cond, ◌||◌, eqb, ◌⊎◌, inl, inr, List, [], ◌∷◌, ◌++◌, map, filter, IfSome, Option, None, Some, nat_eq, refl, sym, ap, subst, ◌∙◌, arith}
+use Rattle.std.proofs.Common.{◌≡◌, ℕ, ◌+◌, ◌<◌, ◌≤◌, Bool, true, false, cond, not, ◌||◌, eqb, ◌⊎◌, inl, inr, List, [], ◌∷◌, ◌++◌, map, filter, IfSome, Option, None, Some, nat_eq, refl, sym, ap, subst, ◌∙◌, arith}
 use Rattle.std.specs.List.{AllByRecursion}
 use Rattle.std.specs.Map.{lookup}
 use Rattle.std.specs.Option.{option_map_or}
 use Rattle.std.proofs.lemmas.Bool.Decides.{nat_tests}
+use Rattle.std.proofs.lemmas.Map.Entries.{lookup-filter-keys}
+use Rattle.std.proofs.lemmas.Option.{IfSome_then}
 use Rattle.std.specs.Cmp.Lexicographic.{bytes_decides}
 use mathlib.Core.Bool.{true≢false}
 use Rattle.ynl_resource.specs.declared.names.Name.{Name}
 use Rattle.ynl_resource.specs.Names.{same_name}
 use Rattle.ynl_model.specs.declared.nodes.Node.{Node}
-use Rattle.ynl_roster.specs.Roster.{with_at}
+use Rattle.ynl_roster.specs.Roster.{without, with_at, IsOnly}
 use Rattle.ynl_nodes.specs.Members.{is_among}
 use Rattle.ynl_nodes.specs.Wakings.{CountsOn}
 use Rattle.ynl_nodes.specs.NodeFields.{is_marked, resting_of}
 use Rattle.ynl_roster.proofs.Rising.{each_append, each_filter}
-use Rattle.ynl_nodes.proofs.Indexed.{Owns}
+use Rattle.ynl_nodes.proofs.Indexed.{Owns, Absent, other_name}
 
 abbrev names_by : (ℕ → Bool) → List (ℕ × Node) → List Name
 names_by test entries = map (λ e. e.1.name) (filter (λ e. test e.0) entries)
+
+or-true : (a : Bool) → (a || true) ≡ true
+or-true true = refl
+or-true false = refl
 
 -- the name of the node under a number that passes a test is among those that are left
 pub name_left : (test : ℕ → Bool) (name : Name) (n : ℕ) (node : Node) (entries : List (ℕ × Node)) → node.name ≡ name → lookup (nat_eq n) entries ≡ Some node → test n ≡ true → is_among (names_by test entries) name ≡ true
 name_left test name n node [] called there on = absurd (cc)
 name_left test name n node (e ∷ entries) called there on = go (eqb n e.0) refl there (test e.0) refl (λ k. name_left test name n node entries called k on)
   where
-    or-true : (a : Bool) → (a || true) ≡ true
-    or-true true = refl
-    or-true false = refl
-
     go : (b : Bool) → eqb n e.0 ≡ b → cond b (Some e.1) (lookup (nat_eq n) entries) ≡ Some node → (t : Bool) → test e.0 ≡ t → (lookup (nat_eq n) entries ≡ Some node → is_among (names_by test entries) name ≡ true) → is_among (map (λ e. e.1.name) (cond t (e ∷ filter (λ e. test e.0) entries) (filter (λ e. test e.0) entries))) name ≡ true
     go true p k true q rest =
         let same : e.1 ≡ node = cc in
@@ -69,6 +71,52 @@ names_more test wider n name other (e ∷ entries) only own h = go (wider e.0) r
     go true p k false q rest = first (same_name other name) (same_name other e.1.name) (is_among (names_by test entries) other) (is_among (names_by wider entries) other) k rest (λ same. ap (same_name other) (sym (called (only e.0 p) q)) ∙ same)
     go false p k true q rest = before (same_name other name) (same_name other e.1.name) (is_among (names_by test entries) other) (rest k)
     go false p k false q rest = rest k
+
+-- a name that a narrower test leaves of fewer nodes, the test leaves of all
+names_fewer : (test narrower : ℕ → Bool) (keeps : ℕ × Node → Bool) (other : Name) (entries : List (ℕ × Node)) → ((m : ℕ) → narrower m ≡ true → test m ≡ true)
+    → is_among (names_by narrower (filter keeps entries)) other ≡ true → is_among (names_by test entries) other ≡ true
+names_fewer test narrower keeps other [] wide h = h
+names_fewer test narrower keeps other (e ∷ entries) wide h = go (keeps e) h (λ k. names_fewer test narrower keeps other entries wide k)
+  where
+    both : (a b c : Bool) → (a || b) ≡ true → (b ≡ true → c ≡ true) → (a || c) ≡ true
+    both true b c k rest = refl
+    both false b c k rest = rest k
+
+    here : (t : Bool) → Bool
+    here t = is_among (map (λ e. e.1.name) (cond t (e ∷ filter (λ e. test e.0) entries) (filter (λ e. test e.0) entries))) other
+
+    beside : (t : Bool) → is_among (names_by test entries) other ≡ true → here t ≡ true
+    beside true k = both (same_name other e.1.name) true (is_among (names_by test entries) other) (or-true (same_name other e.1.name)) (λ on. k)
+    beside false k = k
+
+    by : (b : Bool) → narrower e.0 ≡ b → is_among (map (λ e. e.1.name) (cond b (e ∷ filter (λ e. narrower e.0) (filter keeps entries)) (filter (λ e. narrower e.0) (filter keeps entries)))) other ≡ true
+        → (is_among (names_by narrower (filter keeps entries)) other ≡ true → is_among (names_by test entries) other ≡ true) → here (test e.0) ≡ true
+    by true q k rest = ap here (wide e.0 q) ∙ both (same_name other e.1.name) (is_among (names_by narrower (filter keeps entries)) other) (is_among (names_by test entries) other) k rest
+    by false q k rest = beside (test e.0) (rest k)
+
+    go : (b : Bool) → is_among (names_by narrower (cond b (e ∷ filter keeps entries) (filter keeps entries))) other ≡ true
+        → (is_among (names_by narrower (filter keeps entries)) other ≡ true → is_among (names_by test entries) other ≡ true) → here (test e.0) ≡ true
+    go true k rest = by (narrower e.0) refl k rest
+    go false k rest = beside (test e.0) (rest k)
+
+-- a node that comes last and fails the test leaves no name more
+names_pushed : (test : ℕ → Bool) (n : ℕ) (node : Node) (entries : List (ℕ × Node)) → test n ≡ false → names_by test (entries ++ (n, node) ∷ []) ≡ names_by test entries
+names_pushed test n node [] off = ap (λ b. map (λ (e : ℕ × Node). e.1.name) (cond b ((n, node) ∷ []) [])) off
+names_pushed test n node (e ∷ entries) off = go (test e.0) (names_pushed test n node entries off)
+  where
+    go : (b : Bool) → names_by test (entries ++ (n, node) ∷ []) ≡ names_by test entries
+        → map (λ (e : ℕ × Node). e.1.name) (cond b (e ∷ filter (λ e. test e.0) (entries ++ (n, node) ∷ [])) (filter (λ e. test e.0) (entries ++ (n, node) ∷ []))) ≡ map (λ (e : ℕ × Node). e.1.name) (cond b (e ∷ filter (λ e. test e.0) entries) (filter (λ e. test e.0) entries))
+    go true rest = ap (λ names. e.1.name ∷ names) rest
+    go false rest = rest
+
+-- no test leaves a name that no node has
+names_absent : (test : ℕ → Bool) (name : Name) (entries : List (ℕ × Node)) → Absent name entries → is_among (names_by test entries) name ≡ false
+names_absent test name [] none = refl
+names_absent test name (e ∷ entries) none = go (test e.0) (names_absent test name entries none.1)
+  where
+    go : (b : Bool) → is_among (names_by test entries) name ≡ false → is_among (map (λ e. e.1.name) (cond b (e ∷ filter (λ e. test e.0) entries) (filter (λ e. test e.0) entries))) name ≡ false
+    go true rest = ap (λ b. b || is_among (names_by test entries) name) (other_name e.1.name name none.0) ∙ rest
+    go false rest = rest
 
 -- a test that nothing passes leaves no name
 pub no_name : (test : ℕ → Bool) (entries : List (ℕ × Node)) → ((m : ℕ) → test m ≡ false) → names_by test entries ≡ []
@@ -133,6 +181,42 @@ set_below count n (e ∷ marks) h = (go (eqb n e.0), set_below count n marks h.1
     go true = omega arith
     go false = h.0
 
+-- a mark below the count that comes last marks no number more
+awake_mark : (count n m : ℕ) (marks : List (ℕ × ℕ)) → 0 < count → is_marked count (marks ++ (n, 0) ∷ []) m ≡ is_marked count marks m
+awake_mark count n m [] above = go (eqb m n)
+  where
+    go : (b : Bool) → option_map_or (λ mark. nat_eq mark count) (cond b (Some 0) None) false ≡ false
+    go true = grind (arith, nat_tests, above)
+    go false = refl
+awake_mark count n m (e ∷ marks) above = go (eqb m e.0) (awake_mark count n m marks above)
+  where
+    go : (b : Bool) → is_marked count (marks ++ (n, 0) ∷ []) m ≡ is_marked count marks m
+        → option_map_or (λ mark. nat_eq mark count) (cond b (Some e.1) (lookup (nat_eq m) (marks ++ (n, 0) ∷ []))) false ≡ option_map_or (λ mark. nat_eq mark count) (cond b (Some e.1) (lookup (nat_eq m) marks)) false
+    go true rest = refl
+    go false rest = rest
+
+-- and its own number is not marked where no other mark is under it
+only_awake : (count n : ℕ) (marks : List (ℕ × ℕ)) → 0 < count → IsOnly n 0 marks → is_marked count marks n ≡ false
+only_awake count n [] above only = refl
+only_awake count n (e ∷ marks) above only = go (eqb n e.0) refl (only_awake count n marks above only.1)
+  where
+    go : (b : Bool) → eqb n e.0 ≡ b → is_marked count marks n ≡ false → option_map_or (λ mark. nat_eq mark count) (cond b (Some e.1) (lookup (nat_eq n) marks)) false ≡ false
+    go true p rest =
+        let here : e.0 ≡ n = grind (arith, nat_tests) in
+        let zero : e.1 ≡ 0 = only.0 here in
+        grind (arith, nat_tests, zero, above)
+    go false p rest = rest
+
+-- a number that is marked without the marks of another is marked with them
+mark_left : (count n m : ℕ) (marks : List (ℕ × ℕ)) → is_marked count (without (λ e. nat_eq n e.0) marks) m ≡ true → is_marked count marks m ≡ true
+mark_left count n m marks h =
+    go (not (nat_eq n m)) (sym (ap (λ o. option_map_or (λ mark. nat_eq mark count) o false)
+    (lookup-filter-keys (nat_eq m) (λ k. not (nat_eq n k)) (not (nat_eq n m)) (λ k met. let same : m ≡ k = grind (arith, nat_tests) in ap (λ x. not (nat_eq n x)) (sym same)) marks)) ∙ h)
+  where
+    go : (b : Bool) → option_map_or (λ mark. nat_eq mark count) (cond b (lookup (nat_eq m) marks) None) false ≡ true → is_marked count marks m ≡ true
+    go true k = k
+    go false k = absurd (true≢false (sym k))
+
 -- no mark is that of one waking more
 pub woken : (count next m : ℕ) (marks : List (ℕ × ℕ)) → next ≡ count + 1 → AllByRecursion (λ e. e.1 ≤ count) marks → is_marked next marks m ≡ false
 woken count next m [] e h = refl
@@ -148,18 +232,18 @@ higher count next (x ∷ marks) e h = (let low = h.0 in omega (arith, low, e), h
 
 -- ---- so with the count of wakings, which there may be no more of
 
-weaker : (P Q : ℕ → Type 0) (wakings : Option ℕ) → ((count : ℕ) → P count → Q count) → IfSome wakings P → IfSome wakings Q
-weaker P Q None f h = h
-weaker P Q (Some count) f h = f count h
+-- a count is above the mark of a node that does not rest
+abbrev pub Counted : Option ℕ → Type 0
+Counted wakings = IfSome wakings (λ count. 0 < count)
 
 abbrev pub Below : Option ℕ → List (ℕ × ℕ) → Type 0
 Below wakings marks = IfSome wakings (λ count. AllByRecursion (λ e. e.1 ≤ count) marks)
 
 pub below_less : (wakings : Option ℕ) (test : ℕ × ℕ → Bool) (marks : List (ℕ × ℕ)) → Below wakings marks → Below wakings (filter test marks)
-below_less wakings test marks h = weaker (λ count. AllByRecursion (λ e. e.1 ≤ count) marks) (λ count. AllByRecursion (λ e. e.1 ≤ count) (filter test marks)) wakings (λ count. each_filter (λ e. e.1 ≤ count) test marks) h
+below_less wakings test marks h = IfSome_then wakings h (λ count. each_filter (λ e. e.1 ≤ count) test marks)
 
 pub below_more : (wakings : Option ℕ) (n : ℕ) (marks : List (ℕ × ℕ)) → Below wakings marks → Below wakings (marks ++ (n, 0) ∷ [])
-below_more wakings n marks h = weaker (λ count. AllByRecursion (λ e. e.1 ≤ count) marks) (λ count. AllByRecursion (λ e. e.1 ≤ count) (marks ++ (n, 0) ∷ [])) wakings (λ count all. each_append (λ e. e.1 ≤ count) marks (n, 0) all (omega arith)) h
+below_more wakings n marks h = IfSome_then wakings h (λ count all. each_append (λ e. e.1 ≤ count) marks (n, 0) all (omega arith))
 
 pub same_resting : (wakings : Option ℕ) (marks : List (ℕ × ℕ)) (n : ℕ) (node : Node) (entries : List (ℕ × Node)) → Owns node.name n entries → resting_of wakings marks (with_at n node entries) ≡ resting_of wakings marks entries
 same_resting None marks n node entries own = refl
@@ -169,6 +253,11 @@ pub woken_none : (wakings next : Option ℕ) (marks : List (ℕ × ℕ)) (entrie
 woken_none wakings None marks entries on h = refl
 woken_none None (Some n) marks entries on h = absurd on
 woken_none (Some count) (Some n) marks entries on h = no_name (is_marked n marks) entries (λ m. woken count n m marks on h)
+
+pub woken_counted : (wakings next : Option ℕ) → CountsOn wakings next → Counted next
+woken_counted wakings None on = tt
+woken_counted None (Some n) on = absurd on
+woken_counted (Some count) (Some n) on = omega (arith, on)
 
 pub woken_below : (wakings next : Option ℕ) (marks : List (ℕ × ℕ)) → CountsOn wakings next → Below wakings marks → Below next marks
 woken_below wakings None marks on h = tt
@@ -191,3 +280,25 @@ pub marked_rests : (wakings : Option ℕ) (count n mark : ℕ) (marks : List (�
     → node.name ≡ name → lookup (nat_eq n) entries ≡ Some node → is_among (resting_of wakings marks entries) name ≡ true
 marked_rests wakings count n mark marks name node entries is there on called found =
     subst (λ w. is_among (resting_of w marks entries) name ≡ true) (sym is) (name_left (is_marked count marks) name n node entries called found (ap (λ o. option_map_or (λ m. nat_eq m count) o false) (sym there) ∙ on))
+
+-- a node that comes under a new number does not rest, and those rest that did
+pub joined_rests : (wakings : Option ℕ) (n : ℕ) (node : Node) (marks more : List (ℕ × ℕ)) (entries new : List (ℕ × Node)) → Counted wakings → more ≡ marks ++ (n, 0) ∷ [] → IsOnly n 0 more → new ≡ entries ++ (n, node) ∷ []
+    → resting_of wakings more new ≡ resting_of wakings marks entries
+joined_rests None n node marks more entries new above is only come = refl
+joined_rests (Some count) n node marks more entries new above is only come =
+    ap (names_by (is_marked count more)) come
+    ∙ names_pushed (is_marked count more) n node entries (only_awake count n more above only)
+    ∙ (λ i. names_by (λ m. (ap (λ ms. is_marked count ms m) is ∙ awake_mark count n m marks above) i) entries)
+
+-- where a node leaves, none rests that did not
+pub left_rests : (wakings : Option ℕ) (n : ℕ) (marks fewer : List (ℕ × ℕ)) (entries new : List (ℕ × Node)) (other : Name) → fewer ≡ without (λ e. nat_eq n e.0) marks → new ≡ without (λ e. nat_eq n e.0) entries
+    → is_among (resting_of wakings fewer new) other ≡ true → is_among (resting_of wakings marks entries) other ≡ true
+left_rests None n marks fewer entries new other lost gone h = h
+left_rests (Some count) n marks fewer entries new other lost gone h =
+    names_fewer (is_marked count marks) (is_marked count (without (λ e. nat_eq n e.0) marks)) (λ e. not (nat_eq n e.0)) other entries (λ m. mark_left count n m marks)
+    (sym (λ i. is_among (names_by (is_marked count (lost i)) (gone i)) other) ∙ h)
+
+-- a name that no node has does not rest
+pub absent_awake : (wakings : Option ℕ) (marks : List (ℕ × ℕ)) (name : Name) (entries : List (ℕ × Node)) → Absent name entries → is_among (resting_of wakings marks entries) name ≡ false
+absent_awake None marks name entries none = refl
+absent_awake (Some count) marks name entries none = names_absent (is_marked count marks) name entries none

@@ -1,5 +1,5 @@
 -- What nodes that are kept by number mean in the model.
-use Rattle.std.specs.Prelude.{◌≡◌, ℕ, ◌≤◌, Bool, false, List, [], map, filter, Option, IfSome, nat_eq}
+use Rattle.std.specs.Prelude.{◌≡◌, ℕ, ◌<◌, ◌≤◌, Bool, false, List, [], map, filter, Option, IfSome, nat_eq}
 use Rattle.std.specs.List.{AllByRecursion}
 use Rattle.std.specs.Map.{lookup}
 use Rattle.std.specs.Option.{option_map_or}
@@ -34,8 +34,10 @@ resting_of wakings marks entries = option_map_or (λ count. names_marked count m
 abbrev pub members_of : Inside → Members
 members_of t = record { list = nodes_in t; resting = resting_of t.wakings t.marks.entries t.roster.entries }
 
--- no mark is above the count of wakings, and none under a number above those of the nodes
+-- the count of wakings is above the mark of a node that does not rest, no mark is above it, and none under a number
+-- above those of the nodes
 pub record AreMarks (t : Inside) : Type 0 where
+  pub counted : IfSome t.wakings (λ count. 0 < count)
   pub below : IfSome t.wakings (λ count. AllByRecursion (λ e. e.1 ≤ count) t.marks.entries)
   pub tops : t.marks.top ≤ t.roster.top
 

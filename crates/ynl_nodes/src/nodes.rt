@@ -158,7 +158,8 @@ impl Nodes {
     /// A node leaves, if it stands on the partition that it is said to stand on.
     #[tactic(auto, unfolding(ynl_model::specs::Nodes::left))]
     pub fn leave(&mut self, node: &Node)
-        ensures { self.new.list ≡ left node.now self.old.list }
+        ensures list { self.new.list ≡ left node.now self.old.list }
+        ensures resting { (other : Name) → is_among self.new.resting other ≡ true → is_among self.old.resting other ≡ true }
     {
         let Some(spot) = spot_of(&self.numbers, &self.roster, &node.name) else {
             return;
@@ -171,13 +172,15 @@ impl Nodes {
         }
     }
 
-    /// A node comes last. Where memory is refused, nothing has changed.
+    /// A node comes last, and does not rest. Where memory is refused, nothing has changed.
     #[tactic(auto, unfolding(ynl_model::specs::Nodes::joined, ynl_model::specs::Nodes::is_full))]
     pub fn join(&mut self, node: Node) -> Result<(), AllocError>
         requires new { find_node self.old.list node.name ≡ None }
         requires room { is_full self.old.list node.label ≡ false }
         ensures ok { OnOk result (self.new.list ≡ joined node self.old.list) }
-        ensures err { OnErr result ((self.new.list ≡ self.old.list) × (self.new.resting ≡ self.old.resting)) }
+        ensures awake { OnOk result (is_among self.new.resting node.name ≡ false) }
+        ensures err { OnErr result (self.new.list ≡ self.old.list) }
+        ensures resting { self.new.resting ≡ self.old.resting }
     {
         let Some(number) = self.roster.top().checked_add(1) else {
             return Err(AllocError);
@@ -197,13 +200,15 @@ impl Nodes {
         }
     }
 
-    /// A node that is here leaves its place, and comes last on another partition, with another stamp.
+    /// A node that is here leaves its place, and comes last on another partition, with another stamp; it does not rest.
     /// Where memory is refused, nothing has changed.
     #[tactic(auto, unfolding(ynl_model::specs::Nodes::joined, ynl_model::specs::Nodes::left, ynl_model::specs::Nodes::is_full))]
     pub fn rejoin(&mut self, node: &Node, label: &Label, stamp: u64) -> Result<(), AllocError>
         requires here { find_node self.old.list node.now.name ≡ Some node.now }
         requires room { is_full self.old.list label.now ≡ false }
         ensures ok { OnOk result (self.new.list ≡ joined (record { name = node.now.name; label = label.now; size = node.now.size; stamp = stamp }) (left node.now self.old.list)) }
+        ensures awake { OnOk result (is_among self.new.resting node.now.name ≡ false) }
+        ensures resting { OnOk result ((other : Name) → is_among self.new.resting other ≡ true → is_among self.old.resting other ≡ true) }
         ensures err { OnErr result ((self.new.list ≡ self.old.list) × (self.new.resting ≡ self.old.resting)) }
     {
         let Some(spot) = spot_of(&self.numbers, &self.roster, &node.name) else {

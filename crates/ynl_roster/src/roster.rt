@@ -84,6 +84,7 @@ impl<T: Drop> Roster<T> {
         requires room { 0 < self.old.room }
         requires above { self.old.top < number }
         ensures entries { self.new.entries ≡ self.old.entries ++ (number, item) ∷ [] }
+        ensures only { IsOnly number item self.new.entries }
         ensures top { self.new.top ≡ number }
         ensures room { self.old.room ≡ self.new.room + 1 }
     {

@@ -1,4 +1,4 @@
-use Rattle.std.proofs.Common.{sym, subst, not, ◌<◌, ◌++◌, ◌∷◌, [], cond, refl, ap, ◌∙◌, map, nat_eq, arith}
+use Rattle.std.proofs.Common.{◌≡◌, true, sym, subst, not, ◌<◌, ◌++◌, ◌∷◌, [], cond, refl, ap, ◌∙◌, map, nat_eq, arith}
 use Rattle.std.specs.BTreeMap.{get}
 use Rattle.std.specs.Map.{remove_entry}
 use Rattle.std.proofs.lemmas.Bool.Decides.{nat_tests}
@@ -6,11 +6,12 @@ use Rattle.ynl_resource.specs.Names.{name_order, same_label}
 use Rattle.ynl_resource.specs.Tables.{without}
 use Rattle.ynl_model.specs.Nodes.{is_full, joined, left}
 use Rattle.ynl_model.specs.declared.nodes.Node.{Node}
-use Rattle.ynl_nodes.specs.Members.{Members}
+use Rattle.ynl_nodes.specs.NodeFields.{resting_of}
+use Rattle.ynl_nodes.specs.Members.{Members, is_among}
 use Rattle.ynl_nodes.specs.Sums.{sum_at, raised, lowered}
-use Rattle.ynl_nodes.proofs.Indexed.{rejoined_index}
+use Rattle.ynl_nodes.proofs.Indexed.{absent_left, rejoined_index}
 use Rattle.ynl_nodes.proofs.Summed.{label_self, small_at, fewer_left, not_full, summed_opened, summed_left, summed_joined}
-use Rattle.ynl_nodes.proofs.Resting.{Below, below_less, below_more}
+use Rattle.ynl_nodes.proofs.Resting.{Below, below_less, below_more, joined_rests, left_rests, absent_awake}
 use Rattle.ynl_nodes.proofs.Whole.{pushed_nodes, spot_same, spot_left}
 use Rattle.ynl_nodes.proofs.nodes.Nodes.rejoin.Goals as goal
 
@@ -59,6 +60,7 @@ invariant_of-self-in-Ok c =
           (pushed_nodes entries c.push_reserved.new.self.entries number next (map (λ e. e.1) entries) pushed refl)
           (λ p. c.raise.ensures p ∙ (λ i. cond (same_label label p) (raised (c.amount-size.ensures.value i) (sum_at lowered_rows p)) (sum_at lowered_rows p)));
       marks = record {
+        counted = c.self.invariant.marks.counted;
         below = subst (Below c.self.inside.wakings)
             (sym (c.push_reserved-in-Ok.ensures.entries ∙ ap (λ es. es ++ (number, 0) ∷ []) (c.remove-mark.ensures.entries ∙ ap (λ es. without (λ e. nat_eq n e.0) es) c.reserve-2.ensures.entries)))
             (below_more c.self.inside.wakings number (without (λ e. nat_eq n e.0) c.self.inside.marks.entries) (below_less c.self.inside.wakings (λ e. not (nat_eq n e.0)) c.self.inside.marks.entries c.self.invariant.marks.below));
@@ -77,3 +79,29 @@ returns-in-Ok-clause-ok c =
     let gone = c.remove-node.ensures.entries ∙ ap (λ es. without (λ e. nat_eq n e.0) es) c.reserve.ensures.entries in
     pushed_nodes c.remove-node.new.self.entries c.push_reserved.new.self.entries c.in-Some-checked_add.number next (left node c.args.self.now.list) c.push_reserved.ensures.entries
     (spot_left c.self.inside.numbers roster c.self.invariant.indexed c.args.self.now.list (ap (λ (m : Members). m.list) c.self.view_is) node.name n node spot node.label (label_self node.label) c.remove-node.new.self.entries gone)
+
+-- those rest that did, without the node that leaves its place
+rests_as_left : (c : goal.After-raise) → resting_of c.self.inside.wakings c.push_reserved-in-Ok.new.self.entries c.push_reserved.new.self.entries
+    ≡ resting_of c.self.inside.wakings (without (λ e. nat_eq c.in-Some.spot.number e.0) c.self.inside.marks.entries) (without (λ e. nat_eq c.in-Some.spot.number e.0) c.self.inside.roster.entries)
+rests_as_left c =
+    let n = c.in-Some.spot.number in
+    let number = c.in-Some-checked_add.number in
+    let next : Node = record { name = c.args.node.now.name; label = c.args.label.now; size = c.args.node.now.size; stamp = c.args.stamp } in
+    joined_rests c.self.inside.wakings number next (without (λ e. nat_eq n e.0) c.self.inside.marks.entries) c.push_reserved-in-Ok.new.self.entries (without (λ e. nat_eq n e.0) c.self.inside.roster.entries) c.push_reserved.new.self.entries c.self.invariant.marks.counted
+    (c.push_reserved-in-Ok.ensures.entries ∙ ap (λ es. es ++ (number, 0) ∷ []) (c.remove-mark.ensures.entries ∙ ap (λ es. without (λ e. nat_eq n e.0) es) c.reserve-2.ensures.entries)) c.push_reserved-in-Ok.ensures.only
+    (c.push_reserved.ensures.entries ∙ ap (λ es. es ++ (number, next) ∷ []) (c.remove-node.ensures.entries ∙ ap (λ es. without (λ e. nat_eq n e.0) es) c.reserve.ensures.entries))
+
+pub returns-in-Ok-clause-resting : goal.returns-in-Ok-clause-resting
+returns-in-Ok-clause-resting c = λ other h.
+    subst (λ (m : Members). is_among m.resting other ≡ true) c.self.view_is
+    (left_rests c.self.inside.wakings c.in-Some.spot.number c.self.inside.marks.entries _ c.self.inside.roster.entries _ other refl refl (sym (ap (λ names. is_among names other) (rests_as_left c)) ∙ h))
+
+pub returns-in-Ok-clause-awake : goal.returns-in-Ok-clause-awake
+returns-in-Ok-clause-awake c =
+    let name = c.args.node.now.name in
+    let n = c.in-Some.spot.number in
+    let entries = c.self.inside.roster.entries in
+    let leads = c.in-Some.ensures.found.leads in
+    let index = c.self.invariant.indexed in
+    ap (λ names. is_among names name) (rests_as_left c)
+    ∙ absent_awake c.self.inside.wakings (without (λ e. nat_eq n e.0) c.self.inside.marks.entries) name (without (λ e. nat_eq n e.0) entries) (absent_left (λ q. get name_order c.self.inside.numbers q) name n leads entries index.known (index.named name n leads).1)

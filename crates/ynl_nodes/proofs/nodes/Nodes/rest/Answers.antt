@@ -9,6 +9,7 @@ invariant_of-self c = record {
   indexed = c.self.invariant.indexed;
   summed = c.self.invariant.summed;
   marks = record {
+    counted = c.self.invariant.marks.counted;
     below = set_at c.self.inside.wakings c.in-Some.wakings c.in-Some-spot_of.spot.number c.self.inside.marks.entries c.set.new.self.entries c.in-Some.is c.set.ensures.entries c.self.invariant.marks.below;
     tops = (let low = c.self.invariant.marks.tops in let same = c.set.ensures.top in omega (arith, low, same));
   };

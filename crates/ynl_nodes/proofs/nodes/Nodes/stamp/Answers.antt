@@ -42,5 +42,5 @@ invariant_of-self c =
     record {
       indexed = spot_index c.self.inside.numbers roster c.self.invariant.indexed c.args.self.now.list (ap (λ (m : Members). m.list) c.self.view_is) c.args.name.now c.in-Some.spot.number node spot next is c.set.new.self c.set.ensures.entries c.set.ensures.top;
       summed = summed_stamped c.self.inside.sums.items c.in-Some.spot.number next node refl refl roster.entries c.set.new.self.entries c.self.invariant.summed spot.there spot.only c.set.ensures.entries;
-      marks = record { below = c.self.invariant.marks.below; tops = (let low = c.self.invariant.marks.tops in let same = c.set.ensures.top in omega (arith, low, same)) };
+      marks = record { counted = c.self.invariant.marks.counted; below = c.self.invariant.marks.below; tops = (let low = c.self.invariant.marks.tops in let same = c.set.ensures.top in omega (arith, low, same)) };
     }
