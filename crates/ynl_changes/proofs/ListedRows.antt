@@ -6,7 +6,6 @@ use Rattle.std.specs.List.{remove}
 use Rattle.std.specs.Option.{option_map_or}
 use Rattle.ynl_resource.specs.Tables.{without}
 use Rattle.ynl_model.specs.declared.containers.Placed.{Placed}
-use Rattle.ynl_tables.specs.declared.listed.Listed.{Listed}
 use Rattle.ynl_resource.specs.declared.paths.Path.{Path}
 use Rattle.ynl_model.specs.Applications.{LeafApps}
 use Rattle.ynl_tables.specs.declared.listed.Holder.{Holder}
@@ -14,7 +13,7 @@ use Rattle.ynl_tables.specs.declared.rows.ContainerRow.{ContainerRow}
 use Rattle.ynl_tables.specs.declared.rows.PartitionRow.{PartitionRow}
 use Rattle.ynl_tables.specs.Living.{live_in}
 use Rattle.ynl_tables.specs.Kept.{AreSummed}
-use Rattle.ynl_tables.specs.Listed.{AreEntries, AreListed, clocks_for, clocks_held, clocks_of}
+use Rattle.ynl_tables.specs.Listed.{AreEntries, clocks_for, clocks_held}
 use Rattle.ynl_tables.proofs.Knowing.{some-is_some}
 use Rattle.ynl_changes.specs.Finishing.{IsListedAt, clocks_at_place}
 use Rattle.ynl_changes.specs.Rows.{lists_of}
@@ -54,14 +53,6 @@ same_list ns ms e = ap value e
     value : Option (List ℕ) → List ℕ
     value None = []
     value (Some ks) = ks
-
--- the clocks that are listed are those of the application's containers
-pub listed_of : (listed : Listed) (containers : List Placed) (holder : Holder) (clocks : List ℕ) → AreListed listed containers → clocks_of listed holder ≡ Some clocks → clocks ≡ clocks_held holder containers
-listed_of listed containers holder clocks h e = go listed.entries h e
-  where
-    go : (o : Option (BTreeMap Holder (Vec ℕ Global))) → IfSome o (AreEntries containers) → option_map (λ entries. clocks_for entries holder) o ≡ Some clocks → clocks ≡ clocks_held holder containers
-    go None right e = absurd (some-is_some clocks e)
-    go (Some entries) right e = sym (same_list (clocks_for entries holder) clocks e) ∙ right holder
 
 -- the others are left where one of those goes that are to go
 pub without_ended : (p : Placed → Bool) (rows : List ContainerRow) (i : ℕ) → ((d : ContainerRow) → p (get_or rows i d).container ≡ true) → without p (live_in (remove rows i)) ≡ without p (live_in rows)

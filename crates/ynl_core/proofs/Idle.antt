@@ -28,7 +28,7 @@ rests_more c s names new name h only each other on = go (same_name other name) r
     go false away k = each other k
 
 -- a heartbeat that places nothing finds nothing to place
-pub unplaced_none : (c : Config) (node : Node) (times : ℕ) (s : State) → 0 < times → (beat c node times s).placed ≡ [] → next_item c s node ≡ None
+unplaced_none : (c : Config) (node : Node) (times : ℕ) (s : State) → 0 < times → (beat c node times s).placed ≡ [] → next_item c s node ≡ None
 unplaced_none c node zero s inside e = absurd (grind (arith))
 unplaced_none c node (suc times) s inside e = go (next_item c s node) refl
   where

@@ -9,13 +9,12 @@ use Rattle.ynl_model.specs.declared.events.Event.{Event}
 use Rattle.ynl_model.specs.declared.replies.Reply.TheVariants.{Refused}
 use Rattle.ynl_model.specs.Queues.{Config}
 use Rattle.ynl_model.specs.Cluster.{State}
-use Rattle.ynl_model.specs.Events.{Outcome, answered, reasons, accepted, step}
+use Rattle.ynl_model.specs.Events.{answered, reasons, accepted, step}
 use Rattle.ynl_laws.specs.Working.{IsRanged, IsWorking}
 use Rattle.ynl_laws.specs.Tabled.{Tabled}
 use Rattle.ynl_laws.proofs.Soundness.Working.{working-step}
 use Rattle.ynl_laws.proofs.Totals.Tabling.{tabled-step}
 use Rattle.ynl_core.specs.CoreFields.{IsSound}
-use Rattle.ynl_core.specs.World.{World, Answers}
 
 pub refused : (c : Config) (s : State) (event : Event) (refusal : Refusal) → Some refusal ≡ first_that_holds (reasons c s event) → step c s event ≡ answered s (Refused refusal)
 unfolding step
@@ -24,14 +23,6 @@ refused c s event refusal e = ap (λ o. option_map_or (λ r. answered s (Refused
 pub taken_in : (c : Config) (s : State) (event : Event) → first_that_holds (reasons c s event) ≡ None → step c s event ≡ accepted c s event
 unfolding step
 taken_in c s event e = ap (λ o. option_map_or (λ r. answered s (Refused r)) o (accepted c s event)) e
-
-pub answers_refused : (old : World) (event : Event) (refusal : Refusal) → Some refusal ≡ first_that_holds (reasons old.config old.state event) → Answers old event old (Refused refusal)
-answers_refused old event refusal e =
-    let same = refused old.config old.state event refusal e in
-    record {
-      told = sym (ap (λ (o : Outcome). o.reply) same);
-      left = λ i. record { config = old.config; state = sym (ap (λ (o : Outcome). o.state) same) i };
-    }
 
 -- after a change no node rests
 pub none_rests : (c : Config) (s : State) (names : List Name) → names ≡ [] → IsWorking c s → Tabled s → IsSound c s names

@@ -31,7 +31,7 @@ other_name a b p = by (same_name b a) refl
 at_same : (name q : Name) → is_at (name_order name) q ≡ same_name name q
 at_same name q = sym (texts_ties name q)
 
-abbrev pub Ix : (Name → Option ℕ) → List (ℕ × Node) → ℕ → Type 0
+abbrev Ix : (Name → Option ℕ) → List (ℕ × Node) → ℕ → Type 0
 Ix f entries top = Indexes (λ name n. f name ≡ Some n) entries top
 
 abbrev pub Known : (Name → Option ℕ) → List (ℕ × Node) → Type 0
@@ -63,7 +63,7 @@ module _ (f : Name → Option ℕ) (name : Name) where
           eq_self : (n : ℕ) → eqb n n ≡ true
           eq_self n = grind (arith, nat_tests)
 
-  pub not_named : f name ≡ None → (e : ℕ × Node) → f e.1.name ≡ Some e.0 → same_name e.1.name name ≡ false
+  not_named : f name ≡ None → (e : ℕ × Node) → f e.1.name ≡ Some e.0 → same_name e.1.name name ≡ false
   not_named at e known = go (same_name e.1.name name) refl
     where
       go : (b : Bool) → same_name e.1.name name ≡ b → b ≡ false
@@ -115,13 +115,6 @@ module _ (f : Name → Option ℕ) (name : Name) where
           named = named_after entries (without (λ x. nat_eq n x.0) entries) top h (λ m q own. each_filter (λ x. x.0 ≡ m → x.1.name ≡ q) (λ x. not (nat_eq n x.0)) entries own);
         }))
 
-    known_all : f name ≡ None → (entries : List (ℕ × Node)) → Known f entries → Known g entries
-    known_all at [] known = tt
-    known_all at (e ∷ entries) known = (still e known.0 (other_side e (λ s. let both : None ≡ Some e.0 = sym at ∙ ap f (same_is name e.1.name s) ∙ known.0 in absurd (cc))), known_all at entries known.1)
-
-    pub left_index_none : (entries : List (ℕ × Node)) (top : ℕ) → Ix f entries top → f name ≡ None → Ix g entries top
-    left_index_none entries top h at = record { known = known_all at entries h.known; named = named_after entries entries top h (λ m q own. own) }
-
   -- ---- a node joins
 
   module _ (g : Name → Option ℕ) (n : ℕ) (come : (q : Name) → g q ≡ cond (is_at (name_order name) q) (Some n) (f q)) where
@@ -156,7 +149,7 @@ reindexed f g same entries new top after h e t =
     subst (λ es. Ix g es after) (sym e) (subst (Ix g entries) (sym t) (subst (λ k. Ix k entries top) (λ i q. sym (same q) i) h))
 
 -- the same under another index that finds the same
-pub reindexed_by : (f : Name → Option ℕ) (entries new : List (ℕ × Node)) (top after : ℕ) → Ix f entries top → new ≡ entries → after ≡ top → Ix f new after
+reindexed_by : (f : Name → Option ℕ) (entries new : List (ℕ × Node)) (top after : ℕ) → Ix f entries top → new ≡ entries → after ≡ top → Ix f new after
 reindexed_by f entries new top after h e t = reindexed f f (λ q. refl) entries new top after h e t
 
 -- ---- a node is set in its place

@@ -26,7 +26,7 @@ or-true true = refl
 or-true false = refl
 
 -- the name of the node under a number that passes a test is among those that are left
-pub name_left : (test : ℕ → Bool) (name : Name) (n : ℕ) (node : Node) (entries : List (ℕ × Node)) → node.name ≡ name → lookup (nat_eq n) entries ≡ Some node → test n ≡ true → is_among (names_by test entries) name ≡ true
+name_left : (test : ℕ → Bool) (name : Name) (n : ℕ) (node : Node) (entries : List (ℕ × Node)) → node.name ≡ name → lookup (nat_eq n) entries ≡ Some node → test n ≡ true → is_among (names_by test entries) name ≡ true
 name_left test name n node [] called there on = absurd (cc)
 name_left test name n node (e ∷ entries) called there on = go (eqb n e.0) refl there (test e.0) refl (λ k. name_left test name n node entries called k on)
   where
@@ -41,7 +41,7 @@ name_left test name n node (e ∷ entries) called there on = go (eqb n e.0) refl
     go false p k false q rest = rest k
 
 -- a test that passes one number more leaves no name more but that of the node under it
-pub names_more : (test wider : ℕ → Bool) (n : ℕ) (name : Name) (other : Name) (entries : List (ℕ × Node)) → ((m : ℕ) → wider m ≡ true → (m ≡ n) ⊎ (test m ≡ true)) → Owns name n entries
+names_more : (test wider : ℕ → Bool) (n : ℕ) (name : Name) (other : Name) (entries : List (ℕ × Node)) → ((m : ℕ) → wider m ≡ true → (m ≡ n) ⊎ (test m ≡ true)) → Owns name n entries
     → is_among (names_by wider entries) other ≡ true → (same_name other name || is_among (names_by test entries) other) ≡ true
 names_more test wider n name other [] only own h = absurd (true≢false (sym h))
 names_more test wider n name other (e ∷ entries) only own h = go (wider e.0) refl h (test e.0) refl (λ k. names_more test wider n name other entries only own.1 k)
@@ -119,12 +119,12 @@ names_absent test name (e ∷ entries) none = go (test e.0) (names_absent test n
     go false rest = rest
 
 -- a test that nothing passes leaves no name
-pub no_name : (test : ℕ → Bool) (entries : List (ℕ × Node)) → ((m : ℕ) → test m ≡ false) → names_by test entries ≡ []
+no_name : (test : ℕ → Bool) (entries : List (ℕ × Node)) → ((m : ℕ) → test m ≡ false) → names_by test entries ≡ []
 no_name test [] off = refl
 no_name test (e ∷ entries) off = ap (λ b. map (λ e. e.1.name) (cond b (e ∷ filter (λ e. test e.0) entries) (filter (λ e. test e.0) entries))) (off e.0) ∙ no_name test entries off
 
 -- a node of the same name in its place
-pub same_names : (test : ℕ → Bool) (n : ℕ) (node : Node) (entries : List (ℕ × Node)) → Owns node.name n entries → names_by test (with_at n node entries) ≡ names_by test entries
+same_names : (test : ℕ → Bool) (n : ℕ) (node : Node) (entries : List (ℕ × Node)) → Owns node.name n entries → names_by test (with_at n node entries) ≡ names_by test entries
 same_names test n node [] own = refl
 same_names test n node (e ∷ entries) own = go (eqb n e.0) refl (same_names test n node entries own.1)
   where
@@ -173,7 +173,7 @@ set_mark count n m (e ∷ marks) h = go (eqb n e.0) refl h (set_mark count n m m
     go false p k more = old (eqb m e.0) k more
 
 -- and marks stay at most the count
-pub set_below : (count n : ℕ) (marks : List (ℕ × ℕ)) → AllByRecursion (λ e. e.1 ≤ count) marks → AllByRecursion (λ e. e.1 ≤ count) (with_at n count marks)
+set_below : (count n : ℕ) (marks : List (ℕ × ℕ)) → AllByRecursion (λ e. e.1 ≤ count) marks → AllByRecursion (λ e. e.1 ≤ count) (with_at n count marks)
 set_below count n [] h = tt
 set_below count n (e ∷ marks) h = (go (eqb n e.0), set_below count n marks h.1)
   where

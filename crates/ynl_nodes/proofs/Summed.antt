@@ -40,10 +40,7 @@ label_self (Named n) = (bytes_decides n n).1 refl
 pub map_step : {X : Type 0} (f : X → X) (xs ys : List X) (i : ℕ) (x y : X) → i < length xs → ys ≡ map f (take i xs) ++ drop i xs → x ≡ get_or ys i x → y ≡ f (get_or ys i x) → set ys i y ≡ map f (take (i + 1) xs) ++ drop (i + 1) xs
 map_step f xs ys i x y within so_far read made = ap (set ys i) (made ∙ ap f (sym read)) ∙ map_over_more f xs ys i x within so_far read
 
--- what a row that was looked for tells
-pub row_sum : (rows : List SumRow) (p : Label) (row : SumRow) → Some row ≡ find (λ r. same_label r.label p) rows → row.sum ≡ sum_at rows p
-row_sum rows p row e = ap (λ o. option_map_or (λ r. r.sum) o no_nodes) e
-
+-- what is looked for in rows that do not have it comes to nothing
 pub row_none : (rows : List SumRow) (p : Label) → None ≡ find (λ r. same_label r.label p) rows → no_nodes ≡ sum_at rows p
 row_none rows p e = ap (λ o. option_map_or (λ r. r.sum) o no_nodes) e
 
@@ -155,7 +152,7 @@ sum-first x nodes p = go (same_label x.label p)
         λ i. record { total = record { memory = memory i; vcores = vcores i }; count = count i }
     go false = refl
 
-pub sum-last : (nodes : List Node) (x : Node) (p : Label) → sum_of (nodes ++ x ∷ []) p ≡ more x p (sum_of nodes p)
+sum-last : (nodes : List Node) (x : Node) (p : Label) → sum_of (nodes ++ x ∷ []) p ≡ more x p (sum_of nodes p)
 sum-last [] x p = sum-first x [] p
 sum-last (y ∷ nodes) x p = sum-first y (nodes ++ x ∷ []) p ∙ ap (more y p) (sum-last nodes x p) ∙ swapped y x p (sum_of nodes p) ∙ ap (more x p) (sym (sum-first y nodes p))
 
@@ -218,7 +215,7 @@ sum-small (x ∷ nodes) p h =
     go false k = k
 
 -- there is room in numbers for one more
-pub small_more : (nodes : List Node) (p : Label) (size : Resource) → AllByRecursion (λ node. IsSize node.size) nodes → IsSize size → (sum_of nodes p).count < most_nodes → IsSmall (plus (sum_of nodes p).total size)
+small_more : (nodes : List Node) (p : Label) (size : Resource) → AllByRecursion (λ node. IsSize node.size) nodes → IsSize size → (sum_of nodes p).count < most_nodes → IsSmall (plus (sum_of nodes p).total size)
 small_more nodes p size h is few =
     let k = sum-small nodes p h in
     let memory : size.memory < 2 ^ 32 = is.memory in

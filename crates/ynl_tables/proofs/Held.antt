@@ -4,11 +4,10 @@ use Rattle.std.proofs.lemmas.Bool.Decides.{nat_tests}
 use Rattle.std.proofs.lemmas.List.{take_more, get_or-map, length-map}
 use Rattle.std.proofs.lemmas.Option.{slice_get-get_or}
 use Rattle.std.specs.Prelude.{slice_get}
-use Rattle.std.specs.Option.{option_map_or}
 use mathlib.Core.Bool.{true≢false}
 use Rattle.ynl_resource.specs.Tables.{without}
 use Rattle.ynl_laws.proofs.Lists.{filter-passes}
-use Rattle.ynl_tables.specs.Rising.{numbers_rise, IsAlone, IsOnly, IsPlaceAt}
+use Rattle.ynl_tables.specs.Rising.{numbers_rise, IsOnly}
 use Rattle.ynl_tables.proofs.Knowing.{some-is_some}
 use Rattle.ynl_tables.proofs.Searching.{each_at, one_alone}
 
@@ -74,11 +73,6 @@ module _ {X : Type 0} (key : X → ℕ) (xs : List X) (rises : numbers_rise key 
       some_of : (ys : List X) (i : ℕ) → i < length ys → X
       some_of [] i h = absurd (omega arith)
       some_of (y ∷ ys) i h = y
-
-  -- what stands at a place of the number is that thing
-  pub next_at : (test : X → Bool) (i n : ℕ) (x : X) → IsNext key xs test i n x → (place : ℕ) → IsPlaceAt key n xs place → (d : X) → test (get_or xs place d) ≡ true
-  next_at test i n x next place at d =
-      ap (λ o. option_map_or test o true) (next.only (Some (get_or xs place d)) (subst (λ m. IsAlone key m xs (Some (get_or xs place d))) (at.same d) (one_alone key xs rises place d at.within))) ∙ next.passes
 
 -- where none passes, none is without the others
 pub none_passes : {X : Type 0} (p : X → Bool) (xs : List X) → filter p xs ≡ [] → without p xs ≡ xs

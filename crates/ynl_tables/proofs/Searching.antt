@@ -100,22 +100,7 @@ module _ {X : Type 0} (key : X → ℕ) where
 
   -- ---- one less
 
-  less_all : (p : X → Bool) (xs : List X) (i : ℕ) → list_all p xs ≡ true → list_all p (remove xs i) ≡ true
-  less_all p [] zero h = refl
-  less_all p [] (suc i) h = refl
-  less_all p (x ∷ xs) zero h = (and_parts (p x) (list_all p xs) h).1
-  less_all p (x ∷ xs) (suc i) h = let parts = and_parts (p x) (list_all p xs) h in and_from (p x) (list_all p (remove xs i)) parts.0 (less_all p xs i parts.1)
-
-  -- without one of them the others rise
-  pub rise_less : (xs : List X) (i : ℕ) → numbers_rise key xs ≡ true → numbers_rise key (remove xs i) ≡ true
-  rise_less [] zero h = refl
-  rise_less [] (suc i) h = refl
-  rise_less (x ∷ xs) zero h = (and_parts (list_all (λ y. nat_lt (key x) (key y)) xs) (numbers_rise key xs) h).1
-  rise_less (x ∷ xs) (suc i) h =
-      let parts = and_parts (list_all (λ y. nat_lt (key x) (key y)) xs) (numbers_rise key xs) h in
-      and_from (list_all (λ y. nat_lt (key x) (key y)) (remove xs i)) (numbers_rise key (remove xs i)) (less_all (λ y. nat_lt (key x) (key y)) xs i parts.0) (rise_less xs i parts.1)
-
-  -- and without one between others
+  -- without one between others the others rise
   pub rise_split : (before after : List X) (x : X) → numbers_rise key (before ++ x ∷ after) ≡ true → numbers_rise key (before ++ after) ≡ true
   rise_split [] after x h = (and_parts (list_all (λ y. nat_lt (key x) (key y)) after) (numbers_rise key after) h).1
   rise_split (y ∷ before) after x h =
