@@ -1,10 +1,10 @@
 -- What applications wait for, taken out of what is kept and put into it.
-use Rattle.std.proofs.Common.{◌≡◌, ℕ, ◌==◌, nat_lt, ◌&&◌, ◌||◌, not, Bool, true, false, List, [], ◌∷◌, ◌++◌, Option, Some, None, refl, sym, ap, subst, ◌∙◌}
-use Rattle.std.specs.Prelude.{IfSome}
+use Rattle.std.proofs.Common.{◌≡◌, ℕ, ◌==◌, nat_lt, ◌&&◌, ◌||◌, not, Bool, true, false, List, [], ◌∷◌, ◌++◌, refl, sym, ap, subst, ◌∙◌}
 use Rattle.std.specs.Borrow.{Bor}
 use Rattle.std.specs.List.{list_any}
 use Rattle.std.proofs.lemmas.Bool.{and_parts}
 use Rattle.std.proofs.lemmas.List.Folds.{list_any-append}
+use Rattle.std.proofs.lemmas.Option.{IfSome_then}
 use mathlib.Core.Bool.{true≢false}
 use Rattle.ynl_model.specs.declared.applications.AskRow.{AskRow}
 use Rattle.ynl_tables.specs.declared.rows.App.{App}
@@ -13,7 +13,6 @@ use Rattle.ynl_waiting.specs.Classes.{has, same_class, same_turn, same_size}
 use Rattle.ynl_waiting.specs.Waiting.{Keeps, with_one, without_one}
 use Rattle.ynl_waiting.specs.declared.classes.Class.{Class}
 use Rattle.ynl_waiting.specs.declared.classes.Turn.{Turn}
-use Rattle.ynl_waiting.specs.declared.rows.Rows.{Rows}
 use Rattle.ynl_waiting.specs.declared.waiting.Waiting.{Waiting}
 use Rattle.ynl_waiting.proofs.Having.{same-number}
 use Rattle.ynl_resource.specs.declared.labels.Label.{Label}
@@ -70,13 +69,9 @@ put-last false false h = sym (no-more h)
 
 -- ---- what is kept
 
-weaker : {X : Type 0} (P Q : X → Type 0) (o : Option X) → ((x : X) → P x → Q x) → IfSome o P → IfSome o Q
-weaker P Q None f h = h
-weaker P Q (Some x) f h = f x h
-
 -- it tells what waits, however that is said
 pub keeps-same : (f g : Class → Turn → Bool) (w : Waiting) → ((c : Class) (t : Turn) → f c t ≡ g c t) → Keeps f w → Keeps g w
-keeps-same f g w e h = weaker (λ rows. (c : Class) (t : Turn) → has rows.classes.items c t ≡ f c t) (λ rows. (c : Class) (t : Turn) → has rows.classes.items c t ≡ g c t) w.rows (λ rows k c t. k c t ∙ e c t) h
+keeps-same f g w e h = IfSome_then w.rows h (λ rows k c t. k c t ∙ e c t)
 
 pub turned : (n : ℕ) (own now : Class → Turn → Bool) (a b d : Waiting) → Leaves n own a b → Comes now b d → Turns n own now a d
 turned n own now a b d leaves comes = λ others o h. comes others (leaves others o h)
