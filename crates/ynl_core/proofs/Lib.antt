@@ -1,5 +1,6 @@
 pub mod Idle
 pub mod Stepping
+pub mod Changed
 pub mod RunMore
 pub mod Alone
 pub mod Reserved

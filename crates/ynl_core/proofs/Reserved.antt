@@ -1,5 +1,5 @@
 -- What is kept where memory is reserved, and what is committed then.
-use Rattle.std.proofs.Common.{◌≡◌, List, Option, None, Some, option_map, refl, sym, subst}
+use Rattle.std.proofs.Common.{◌≡◌, Vec, Global, List, Option, None, Some, option_map, refl, sym, subst}
 use Rattle.ynl_resource.specs.Refusals.{first_that_holds}
 use Rattle.ynl_model.specs.declared.nodes.Node.{Node}
 use Rattle.ynl_model.specs.declared.proposals.Proposal.{Proposal}
@@ -12,23 +12,22 @@ use Rattle.ynl_laws.specs.Tabled.{Tabled}
 use Rattle.ynl_laws.specs.Working.{IsWorking}
 use Rattle.ynl_tables.specs.declared.rows.PartitionRow.{PartitionRow}
 use Rattle.ynl_tables.specs.declared.tables.Tables.{Tables}
-use Rattle.ynl_tables.specs.Kept.{AreKept, IsKept}
-use Rattle.ynl_tables.specs.Marked.{AreMarked}
+use Rattle.ynl_tables.specs.Kept.{IsKept}
 use Rattle.ynl_tables.specs.Tables.{leaves_of, partitions_of, state_of}
 use Rattle.ynl_changes.specs.Marking.{IsPlaceable}
 use Rattle.ynl_changes.specs.Rows.{KeepsSums}
 use Rattle.ynl_changes.proofs.Marks.{by_partitions, placeable_committed}
 
 -- the state with other rows of partitions
-abbrev pub with_rows : Tables → List PartitionRow → State
+abbrev with_rows : Tables → List PartitionRow → State
 with_rows t rows = record (state_of t) { partitions = partitions_of rows }
 
 -- all is kept with more capacity for containers
-pub reserved : (t : Tables) (rows : List PartitionRow) → partitions_of rows ≡ partitions_of t.partitions.items → KeepsSums t.partitions.items rows → IsKept t → AreKept t.numbers (leaves_of t.leaves.items) rows × AreMarked (with_rows t rows) t.leaves.items
-reserved t rows meaning sums h = (
-  record { numbered = h.amounts.numbered; summed = sums t.numbers (leaves_of t.leaves.items) h.amounts.summed },
-  by_partitions (state_of t) (with_rows t rows) t.leaves.items (sym meaning) h.marks,
-)
+pub reserved : (t : Tables) (rows : Vec PartitionRow Global) → partitions_of rows.items ≡ partitions_of t.partitions.items → KeepsSums t.partitions.items rows.items → IsKept t → IsKept (record t { partitions = rows })
+reserved t rows meaning sums h = record {
+  amounts = record { numbered = h.amounts.numbered; summed = sums t.numbers (leaves_of t.leaves.items) h.amounts.summed };
+  marks = by_partitions (state_of t) (with_rows t rows.items) t.leaves.items (sym meaning) h.marks;
+}
 
 -- what is committed may be placed
 placeable_request : (c : Config) (s : State) (proposal : Proposal) (node : Node) (item : Item) → IsWorking c s → Tabled s → first_that_holds (commit_reasons c s proposal) ≡ None → node_of s proposal.node ≡ Some node

@@ -1,4 +1,4 @@
-use Rattle.std.proofs.Common.{◌≡◌, List, Option, Some, None, rules, refl, sym, ap, subst, ◌∙◌}
+use Rattle.std.proofs.Common.{◌≡◌, List, Option, Some, None, refl, sym, ap, subst, ◌∙◌}
 use Rattle.std.specs.Prelude.{option_map}
 use Rattle.std.specs.Option.{option_map_or}
 use Rattle.ynl_resource.specs.declared.paths.Path.{Path}
@@ -8,12 +8,12 @@ use Rattle.ynl_model.specs.declared.replies.Reply.TheVariants.{Done}
 use Rattle.ynl_model.specs.Applications.{Application, LeafApps, find_app, in_leaf, with_app, set_ask}
 use Rattle.ynl_model.specs.Cluster.{State}
 use Rattle.ynl_model.specs.Events.{Outcome, done, step, accepted}
-use Rattle.ynl_tables.specs.Kept.{AreKept}
+use Rattle.ynl_tables.specs.Kept.{AreKept, IsKept}
 use Rattle.ynl_tables.specs.Tables.{state_of, leaves_of, partitions_of}
 use Rattle.ynl_changes.proofs.Summing.{kept_leaf}
-use Rattle.ynl_core.specs.CoreFields.{IsSound}
 use Rattle.ynl_core.specs.World.{World, Answers}
-use Rattle.ynl_core.proofs.Stepping.{taken_in, sound_after}
+use Rattle.ynl_core.proofs.Stepping.{taken_in}
+use Rattle.ynl_core.proofs.Changed.{woken, unchanged}
 use Rattle.ynl_core.proofs.cluster.Core.ask.Goals as goal
 
 by_leaf : (o : Option Application) (leaf : Path) (s : State) (outcome : Path → Outcome) → option_map (λ app. app.leaf) o ≡ Some leaf → option_map_or (λ app. outcome app.leaf) o (done s) ≡ outcome leaf
@@ -43,15 +43,12 @@ invariant_of-self-2 c =
     let numbers = c.self.inside.tables.numbers in
     let rows = c.self.inside.tables.partitions.items in
     let s : State = state_of c.self.inside.tables in
-    record {
-      sound = sound_after config (state_of c.self.inside.tables) _ event _ _ c.wake.ensures.resting c.amount-sized.ensures.range ((ap (λ (o : Outcome). o.state) (stepped c)) ∙ sym c.wake.ensures.before.state) c.self.invariant.sound;
-      kept = c.wake.ensures.before.kept (record {
-        amounts = subst (λ (leaves : List LeafApps). AreKept numbers leaves rows) (sym leaves)
-            (kept_leaf numbers c.in-Ok.leaf c.args.name (set_ask c.args.ask) (λ app. refl) (λ app. refl) (leaves_of c.self.inside.tables.leaves.items) rows c.self.invariant.kept.amounts);
-        marks = c.ask_for.ensures.marks s (c.reserve_ask.ensures.marks s c.self.invariant.kept.marks);
-      });
-      numbered = c.wake.ensures.before.numbers ∙ c.self.invariant.numbered;
-    }
+    let kept : IsKept (record c.self.inside.tables { leaves = c.ask_for.new.rows }) = record {
+      amounts = subst (λ (leaves : List LeafApps). AreKept numbers leaves rows) (sym leaves)
+          (kept_leaf numbers c.in-Ok.leaf c.args.name (set_ask c.args.ask) (λ app. refl) (λ app. refl) (leaves_of c.self.inside.tables.leaves.items) rows c.self.invariant.kept.amounts);
+      marks = c.ask_for.ensures.marks s (c.reserve_ask.ensures.marks s c.self.invariant.kept.marks);
+    } in
+    woken c.self.inside (record c.self.inside.tables { leaves = c.ask_for.new.rows }) c.wake.new.tables event c.self.invariant c.amount-sized.ensures.range (ap (λ (o : Outcome). o.state) (stepped c)) kept refl c.wake.ensures.before c.wake.ensures.resting
 
 pub returns-clause-ok : goal.returns-clause-ok
 returns-clause-ok c =
@@ -67,12 +64,8 @@ returns-clause-ok c =
 pub invariant_of-self : goal.invariant_of-self
 invariant_of-self c =
     let tables = c.self.inside.tables in
-    let P : List LeafApps → Type 0 = λ leaves. IsSound c.self.inside.config (record (state_of tables) { leaves = leaves }) c.self.inside.tables.nodes.resting in
-    record {
-      sound = subst P (sym c.reserve_ask.ensures.meaning) c.self.invariant.sound;
-      kept = record {
-        amounts = subst (λ (leaves : List LeafApps). AreKept tables.numbers leaves tables.partitions.items) (sym c.reserve_ask.ensures.meaning) c.self.invariant.kept.amounts;
-        marks = c.reserve_ask.ensures.marks (state_of tables) c.self.invariant.kept.marks;
-      };
-      numbered = c.self.invariant.numbered;
-    }
+    let leaves = c.reserve_ask.ensures.meaning in
+    unchanged c.self.inside (record tables { leaves = c.reserve_ask.new.rows }) c.self.invariant (λ i. record (state_of tables) { leaves = leaves i }) refl (record {
+      amounts = subst (λ (leaves : List LeafApps). AreKept tables.numbers leaves tables.partitions.items) (sym leaves) c.self.invariant.kept.amounts;
+      marks = c.reserve_ask.ensures.marks (state_of tables) c.self.invariant.kept.marks;
+    }) refl

@@ -1,4 +1,4 @@
-use Rattle.std.proofs.Common.{◌≡◌, Some, rules, refl, sym, ap, subst, ◌∙◌}
+use Rattle.std.proofs.Common.{◌≡◌, Some, refl, sym, ap, subst, ◌∙◌}
 use Rattle.std.specs.Prelude.{option_map}
 use Rattle.ynl_model.specs.declared.events.Event.{Event}
 use Rattle.ynl_model.specs.declared.events.Event.TheVariants.{Finish}
@@ -7,7 +7,8 @@ use Rattle.ynl_model.specs.Applications.{Application, find_app}
 use Rattle.ynl_model.specs.Cluster.{State}
 use Rattle.ynl_model.specs.Events.{Outcome, done, step, accepted}
 use Rattle.ynl_changes.proofs.Marks.{finds_found}
-use Rattle.ynl_core.proofs.Stepping.{taken_in, sound_after}
+use Rattle.ynl_core.proofs.Stepping.{taken_in}
+use Rattle.ynl_core.proofs.Changed.{woken}
 use Rattle.ynl_tables.specs.Tables.{state_of, app_of}
 use Rattle.ynl_core.specs.World.{World, Answers}
 use Rattle.ynl_core.proofs.cluster.Core.finish.Goals as goal
@@ -23,10 +24,7 @@ stepped c =
     taken_in c.self.inside.config s (Finish c.args.tenant c.args.name) (c.in-Ok.ensures.free c.self.inside.config) ∙ rw found (ap done (sym moved))
 
 pub invariant_of-self : goal.invariant_of-self
-invariant_of-self c =
-    let config = c.self.inside.config in
-    let event : Event = Finish c.args.tenant c.args.name in
-    record { sound = sound_after config (state_of c.self.inside.tables) _ event _ _ c.wake.ensures.resting tt ((ap (λ (o : Outcome). o.state) (stepped c)) ∙ sym c.wake.ensures.before.state) c.self.invariant.sound; kept = c.wake.ensures.before.kept (c.finish_application.ensures.kept); numbered = c.wake.ensures.before.numbers ∙ c.finish_application.ensures.numbers ∙ c.self.invariant.numbered }
+invariant_of-self c = woken c.self.inside c.finish_application.new.tables c.wake.new.tables (Finish c.args.tenant c.args.name) c.self.invariant tt (ap (λ (o : Outcome). o.state) (stepped c)) c.finish_application.ensures.kept c.finish_application.ensures.numbers c.wake.ensures.before c.wake.ensures.resting
 
 pub returns : goal.returns
 returns c =

@@ -1,9 +1,9 @@
-use Rattle.std.proofs.Common.{◌≡◌, true, ◌<◌, List, [], None, Some, rules, sym, ap, subst, ◌∙◌}
+use Rattle.std.proofs.Common.{◌≡◌, true, ◌<◌, [], None, Some, rules, refl, sym, ap, subst, ◌∙◌}
 use Rattle.ynl_model.specs.declared.events.Event.{Event}
 use Rattle.ynl_model.specs.declared.events.Event.TheVariants.{Heartbeat}
 use Rattle.ynl_model.specs.declared.replies.Reply.TheVariants.{Placed}
 use Rattle.ynl_model.specs.Nodes.{find_node}
-use Rattle.ynl_model.specs.Cluster.{State, Partition}
+use Rattle.ynl_model.specs.Cluster.{State}
 use Rattle.ynl_model.specs.Changes.{beat}
 use Rattle.ynl_model.specs.Events.{Outcome, reasons, step, accepted}
 use Rattle.ynl_resource.specs.Refusals.{first_that_holds}
@@ -16,23 +16,18 @@ use Rattle.ynl_nodes.specs.Members.{is_among}
 use Rattle.ynl_core.specs.Resting.{AreResting}
 use Rattle.ynl_core.proofs.Idle.{empty_items, rests_more, unplaced_more, unplaced_rests, unplaced_same, resting_step}
 use Rattle.ynl_core.proofs.Reserved.{reserved}
-use Rattle.ynl_core.proofs.Stepping.{sound_after}
+use Rattle.ynl_core.proofs.Changed.{woken, unchanged}
 use Rattle.ynl_core.proofs.cluster.Core.heartbeat.Goals as goal
 
 pub serve-requires-clause-kept : goal.serve-requires-clause-kept
-serve-requires-clause-kept c = (let k = reserved c.self.inside.tables c.reserve_containers.new.rows.items c.reserve_containers.ensures.meaning c.reserve_containers.ensures.summed c.self.invariant.kept in record { amounts = k.0; marks = k.1 })
+serve-requires-clause-kept c = reserved c.self.inside.tables c.reserve_containers.new.rows c.reserve_containers.ensures.meaning c.reserve_containers.ensures.summed c.self.invariant.kept
 
 pub serve-requires-clause-stands : goal.serve-requires-clause-stands
 serve-requires-clause-stands c = stands-found (state_of c.self.inside.tables) c.args.name c.in-Ok.node (search rules)
 
 pub invariant_of-self-else-is_empty : goal.invariant_of-self-else-is_empty
 unfolding step accepted
-invariant_of-self-else-is_empty c =
-    let old : State = state_of c.self.inside.tables in
-    let config = c.self.inside.config in
-    let event : Event = Heartbeat c.args.name in
-    let same : (step config old event).state ≡ state_of c.serve.new.tables = search rules in
-    record { sound = sound_after config old _ event _ _ c.wake.ensures.resting tt (same ∙ sym c.wake.ensures.before.state) c.self.invariant.sound; kept = c.wake.ensures.before.kept (c.serve.ensures.kept); numbered = c.wake.ensures.before.numbers ∙ c.serve.ensures.numbers ∙ c.self.invariant.numbered }
+invariant_of-self-else-is_empty c = woken c.self.inside c.serve.new.tables c.wake.new.tables (Heartbeat c.args.name) c.self.invariant tt (search rules) c.serve.ensures.kept c.serve.ensures.numbers c.wake.ensures.before c.wake.ensures.resting
 
 pub invariant_of-self-then-count-gt0 : goal.invariant_of-self-then-count-gt0
 invariant_of-self-then-count-gt0 c =
@@ -75,9 +70,5 @@ returns-then-rests-clause-ok c =
 pub invariant_of-self : goal.invariant_of-self
 invariant_of-self c =
     let tables = c.self.inside.tables in
-    let P : List Partition → Type 0 = λ rows. IsSound c.self.inside.config (record (state_of tables) { partitions = rows }) c.self.inside.tables.nodes.resting in
-    record {
-      sound = subst P (sym c.reserve_containers.ensures.meaning) c.self.invariant.sound;
-      kept = (let k = reserved c.self.inside.tables c.reserve_containers.new.rows.items c.reserve_containers.ensures.meaning c.reserve_containers.ensures.summed c.self.invariant.kept in record { amounts = k.0; marks = k.1 });
-      numbered = c.self.invariant.numbered;
-    }
+    unchanged c.self.inside (record tables { partitions = c.reserve_containers.new.rows }) c.self.invariant (λ i. record (state_of tables) { partitions = c.reserve_containers.ensures.meaning i }) refl
+    (reserved tables c.reserve_containers.new.rows c.reserve_containers.ensures.meaning c.reserve_containers.ensures.summed c.self.invariant.kept) refl

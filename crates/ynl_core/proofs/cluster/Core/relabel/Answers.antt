@@ -1,28 +1,13 @@
-use Rattle.std.proofs.Common.{subst, ◌≡◌, rules, ◌∙◌, sym}
-use Rattle.ynl_model.specs.declared.events.Event.{Event}
+use Rattle.std.proofs.Common.{rules}
 use Rattle.ynl_model.specs.declared.events.Event.TheVariants.{Relabel}
 use Rattle.ynl_model.specs.Events.{step, accepted}
-use Rattle.ynl_core.specs.CoreFields.{IsSound}
-use Rattle.ynl_core.proofs.Stepping.{sound_after}
-use Rattle.ynl_tables.specs.Tables.{state_of}
+use Rattle.ynl_core.proofs.Changed.{woken, unchanged}
 use Rattle.ynl_core.proofs.cluster.Core.relabel.Goals as goal
 
 pub invariant_of-self-2 : goal.invariant_of-self-2
 unfolding step accepted
-invariant_of-self-2 c =
-    let tables = c.self.inside.tables in
-    let config = c.self.inside.config in
-    let event : Event = Relabel c.args.name c.args.label in
-    let same : (step config (state_of tables) event).state ≡ state_of c.relabel.new.tables = search rules in
-    record { sound = sound_after config (state_of tables) _ event _ _ c.wake.ensures.resting tt (same ∙ sym c.wake.ensures.before.state) c.self.invariant.sound; kept = c.wake.ensures.before.kept (c.relabel.ensures.kept); numbered = c.wake.ensures.before.numbers ∙ c.relabel.ensures.numbers ∙ c.self.invariant.numbered }
+invariant_of-self-2 c = woken c.self.inside c.relabel.new.tables c.wake.new.tables (Relabel c.args.name c.args.label) c.self.invariant tt (search rules) c.relabel.ensures.kept c.relabel.ensures.numbers c.wake.ensures.before c.wake.ensures.resting
 
 -- where memory is refused all is as it was
 pub invariant_of-self : goal.invariant_of-self
-invariant_of-self c =
-    let config = c.self.inside.config in
-    let tables = c.self.inside.tables in
-    record {
-      sound = subst (λ s. IsSound config s c.relabel.new.tables.nodes.resting) (sym c.in_err-relabel.ensures.err) (subst (IsSound config (state_of tables)) (sym c.in_err-relabel.ensures.resting) c.self.invariant.sound);
-      kept = c.relabel.ensures.kept;
-      numbered = c.relabel.ensures.numbers ∙ c.self.invariant.numbered;
-    }
+invariant_of-self c = unchanged c.self.inside c.relabel.new.tables c.self.invariant c.in_err-relabel.ensures.err c.in_err-relabel.ensures.resting c.relabel.ensures.kept c.relabel.ensures.numbers

@@ -1,4 +1,4 @@
-use Rattle.std.proofs.Common.{◌≡◌, false, List, Option, None, is_some, rules, sym, ap, subst, ◌∙◌}
+use Rattle.std.proofs.Common.{◌≡◌, false, List, Option, None, is_some, refl, sym, ap, subst, ◌∙◌}
 use Rattle.ynl_resource.specs.Names.{tenant_of}
 use Rattle.ynl_resource.specs.Refusals.{first_that_holds}
 use Rattle.ynl_resource.specs.declared.amounts.Resource.{Resource}
@@ -13,13 +13,13 @@ use Rattle.ynl_model.specs.Cluster.{State}
 use Rattle.ynl_model.specs.Applications.{Application, LeafApps, leaf_of, in_leaf, submitted, new_app}
 use Rattle.ynl_model.specs.Events.{Outcome, done, home_of, reasons, step, accepted}
 use Rattle.ynl_laws.proofs.Events.Chosen.{none-holds}
-use Rattle.ynl_tables.specs.Kept.{AreKept}
+use Rattle.ynl_tables.specs.Kept.{AreKept, IsKept}
 use Rattle.ynl_tables.specs.Tables.{state_of, leaves_of, partitions_of}
 use Rattle.ynl_laws.proofs.Totals.Marks.{mark-new}
 use Rattle.ynl_changes.proofs.Summing.{kept_submission}
-use Rattle.ynl_core.specs.CoreFields.{IsSound}
 use Rattle.ynl_core.specs.World.{World, Answers}
-use Rattle.ynl_core.proofs.Stepping.{taken_in, sound_after}
+use Rattle.ynl_core.proofs.Stepping.{taken_in}
+use Rattle.ynl_core.proofs.Changed.{woken, unchanged}
 use Rattle.ynl_core.proofs.cluster.Core.submit.Goals as goal
 
 -- a name that is submitted was not used
@@ -50,15 +50,12 @@ invariant_of-self-2 c =
     let numbers = c.self.inside.tables.numbers in
     let rows = c.self.inside.tables.partitions.items in
     let free = unused config s c.args.queue c.args.app c.args.user c.args.label c.args.master (c.in-Ok.ensures.free c.args.user) in
-    record {
-      sound = sound_after config (state_of c.self.inside.tables) _ event _ _ c.wake.ensures.resting c.amount-sized.ensures.range ((ap (λ (o : Outcome). o.state) (stepped c)) ∙ sym c.wake.ensures.before.state) c.self.invariant.sound;
-      kept = c.wake.ensures.before.kept (record {
-        amounts = subst (λ (leaves : List LeafApps). AreKept numbers leaves rows) (sym leaves)
-            (kept_submission numbers app s.leaves rows free c.self.invariant.sound.working.kept.uses c.self.invariant.kept.amounts);
-        marks = c.submit.ensures.marks s (mark-new s (new_app c.args.queue c.args.app c.args.user c.in-Ok.home c.args.master) c.self.invariant.sound.working.kept free) (c.reserve_application.ensures.marks s c.self.invariant.kept.marks);
-      });
-      numbered = c.wake.ensures.before.numbers ∙ c.self.invariant.numbered;
-    }
+    let kept : IsKept (record c.self.inside.tables { leaves = c.submit.new.rows }) = record {
+      amounts = subst (λ (leaves : List LeafApps). AreKept numbers leaves rows) (sym leaves)
+          (kept_submission numbers app s.leaves rows free c.self.invariant.sound.working.kept.uses c.self.invariant.kept.amounts);
+      marks = c.submit.ensures.marks s (mark-new s (new_app c.args.queue c.args.app c.args.user c.in-Ok.home c.args.master) c.self.invariant.sound.working.kept free) (c.reserve_application.ensures.marks s c.self.invariant.kept.marks);
+    } in
+    woken c.self.inside (record c.self.inside.tables { leaves = c.submit.new.rows }) c.wake.new.tables event c.self.invariant c.amount-sized.ensures.range (ap (λ (o : Outcome). o.state) (stepped c)) kept refl c.wake.ensures.before c.wake.ensures.resting
 
 pub returns-clause-ok : goal.returns-clause-ok
 returns-clause-ok c =
@@ -74,12 +71,8 @@ returns-clause-ok c =
 pub invariant_of-self : goal.invariant_of-self
 invariant_of-self c =
     let tables = c.self.inside.tables in
-    let P : List LeafApps → Type 0 = λ leaves. IsSound c.self.inside.config (record (state_of tables) { leaves = leaves }) c.self.inside.tables.nodes.resting in
-    record {
-      sound = subst P (sym c.reserve_application.ensures.meaning) c.self.invariant.sound;
-      kept = record {
-        amounts = subst (λ (leaves : List LeafApps). AreKept tables.numbers leaves tables.partitions.items) (sym c.reserve_application.ensures.meaning) c.self.invariant.kept.amounts;
-        marks = c.reserve_application.ensures.marks (state_of tables) c.self.invariant.kept.marks;
-      };
-      numbered = c.self.invariant.numbered;
-    }
+    let leaves = c.reserve_application.ensures.meaning in
+    unchanged c.self.inside (record tables { leaves = c.reserve_application.new.rows }) c.self.invariant (λ i. record (state_of tables) { leaves = leaves i }) refl (record {
+      amounts = subst (λ (leaves : List LeafApps). AreKept tables.numbers leaves tables.partitions.items) (sym leaves) c.self.invariant.kept.amounts;
+      marks = c.reserve_application.ensures.marks (state_of tables) c.self.invariant.kept.marks;
+    }) refl
