@@ -26,23 +26,35 @@ little counts name cs sum is small =
     let within : fits_in (sizes_for counts name cs) (sizes cs) ≡ true = fits-filter (λ (k : Placed). k.size) (counts name) cs in
     subst IsSmall (sym is) (grind (arith, nat_tests, small.0, small.1), grind (arith, nat_tests, small.0, small.1))
 
+-- what is found under a name is what is kept for it
+pub known_sum : (counts : Name → Placed → Bool) (sums : Sums) (was : BTreeMap Name Resource) (name : Name) (found : Option Resource) (cs : List Placed) → sums.entries ≡ Some was → get name_order was name ≡ found → AreSums counts sums cs
+    → option_map_or (λ (r : Resource). r) found nothing ≡ sizes_for counts name cs
+known_sum counts sums was name found cs is at kept =
+    ap (λ o. option_map_or (λ (r : Resource). r) o nothing) (sym at) ∙ subst (λ o. IfSome o (λ entries. (n : Name) → kept_for entries n ≡ sizes_for counts n cs)) is kept name
+
 -- an insertion sets a name's sum
-pub inserted_sum : (old new : BTreeMap Name Resource) (name : Name) (sum : Resource) → ((q : Name) → get name_order new q ≡ cond (is_at (name_order name) q) (Some sum) (get name_order old q))
-    → (other : Name) → kept_for new other ≡ cond (same_name name other) sum (kept_for old other)
-inserted_sum old new name sum updates other =
-    ap (λ o. option_map_or (λ (r : Resource). r) o nothing) (updates other) ∙ go (is_at (name_order name) other) ∙ ap (λ b. cond b sum (kept_for old other)) (sym (texts_ties name other))
+pub inserted_sum : (entries : Option (BTreeMap Name Resource)) (old new : BTreeMap Name Resource) (name : Name) (sum : Resource) → entries ≡ Some old → ((q : Name) → get name_order new q ≡ cond (is_at (name_order name) q) (Some sum) (get name_order old q))
+    → SetsIn entries (Some new) name sum
+inserted_sum entries old new name sum is updates = subst (λ o. SetsIn o (Some new) name sum) (sym is) each
   where
-    go : (b : Bool) → option_map_or (λ (r : Resource). r) (cond b (Some sum) (get name_order old other)) nothing ≡ cond b sum (kept_for old other)
-    go true = refl
-    go false = refl
+    each : (other : Name) → kept_for new other ≡ cond (same_name name other) sum (kept_for old other)
+    each other =
+        ap (λ o. option_map_or (λ (r : Resource). r) o nothing) (updates other) ∙ go (is_at (name_order name) other) ∙ ap (λ b. cond b sum (kept_for old other)) (sym (texts_ties name other))
+      where
+        go : (b : Bool) → option_map_or (λ (r : Resource). r) (cond b (Some sum) (get name_order old other)) nothing ≡ cond b sum (kept_for old other)
+        go true = refl
+        go false = refl
 
 -- a name without an entry is as one whose sum is nothing
-pub absent_sum : (entries : BTreeMap Name Resource) (name : Name) → get name_order entries name ≡ None → (other : Name) → kept_for entries other ≡ cond (same_name name other) nothing (kept_for entries other)
-absent_sum entries name none other = go (same_name name other) refl
+pub absent_sum : (entries : Option (BTreeMap Name Resource)) (old : BTreeMap Name Resource) (name : Name) → entries ≡ Some old → get name_order old name ≡ None → SetsIn entries (Some old) name nothing
+absent_sum entries old name is none = subst (λ o. SetsIn o (Some old) name nothing) (sym is) each
   where
-    go : (b : Bool) → same_name name other ≡ b → kept_for entries other ≡ cond b nothing (kept_for entries other)
-    go true e = ap (kept_for entries) (sym (same-name_sym name other e)) ∙ ap (λ o. option_map_or (λ (r : Resource). r) o nothing) none
-    go false e = refl
+    each : (other : Name) → kept_for old other ≡ cond (same_name name other) nothing (kept_for old other)
+    each other = go (same_name name other) refl
+      where
+        go : (b : Bool) → same_name name other ≡ b → kept_for old other ≡ cond b nothing (kept_for old other)
+        go true e = ap (kept_for old) (sym (same-name_sym name other e)) ∙ ap (λ o. option_map_or (λ (r : Resource). r) o nothing) none
+        go false e = refl
 
 -- where each name has the same sum by other containers, or where others count for it, what is kept is right of those
 pub same_sums : (counts others : Name → Placed → Bool) (sums : Sums) (cs ds : List Placed) → ((name : Name) → sizes_for counts name cs ≡ sizes_for others name ds) → AreSums counts sums cs → AreSums others sums ds

@@ -1,38 +1,35 @@
 use Rattle.std.proofs.Common.{◌≡◌, ◌-◌, Some, None, IsSome, ◌∷◌, ◌++◌, refl, sym, ap, subst, ◌∙◌, arith}
 use Rattle.std.specs.BTreeMap.{BTreeMap, get}
-use Rattle.std.specs.Option.{IfSome, option_copied_mut, option_map_or}
+use Rattle.std.specs.Option.{option_copied_mut}
 use Rattle.ynl_resource.specs.Amounts.{less, nothing}
 use Rattle.ynl_resource.specs.Names.{name_order}
 use Rattle.ynl_resource.specs.declared.amounts.Resource.{Resource}
 use Rattle.ynl_resource.specs.declared.names.Name.{Name}
-use Rattle.ynl_tables.specs.Sums.{kept_for, sizes_for, SetsIn}
-use Rattle.ynl_tables.proofs.Changing.{inserted_sum, absent_sum, set_fewer}
+use Rattle.ynl_tables.specs.Sums.{kept_for, sizes_for}
+use Rattle.ynl_tables.proofs.Changing.{inserted_sum, absent_sum, known_sum, set_fewer}
 use Rattle.ynl_tables.proofs.sums.Sums.lower.Goals as goal
 
 pub returns-in-Some-get_mut : goal.returns-in-Some-get_mut
 returns-in-Some-get_mut c = λ counts k for before after kept.
     let name = c.args.name.now in
-    let size = c.args.size.now in
     let was : BTreeMap Name Resource = c.in-Some.entries in
     let sum : Resource = c.in-Some-get_mut.sum.now in
     let fewer : Resource = c.without.result in
     let is : BTreeMap Name Resource = c.get_mut.follows.lender fewer in
     let found : get name_order was name ≡ Some sum = sym c.get_mut.ensures.value ∙ ap option_copied_mut c.in-Some-get_mut.is in
-    let updates = ((c.get_mut.follows.holds fewer).3 (subst IsSome (sym found) refl)).0 in
-    let sets = subst (λ o. SetsIn o (Some is) name fewer) (sym c.in-Some.is) (inserted_sum was is name fewer updates) in
-    let sums : (n : Name) → kept_for was n ≡ sizes_for counts n (before ++ k ∷ after) = subst (λ o. IfSome o (λ entries. (n : Name) → kept_for entries n ≡ sizes_for counts n (before ++ k ∷ after))) c.in-Some.is kept in
-    let known = ap (λ o. option_map_or (λ (r : Resource). r) o nothing) (sym found) ∙ sums name in
-    set_fewer counts c.args.self.now (record { entries = Some is }) k name size sum fewer before after for sets kept known c.without.ensures
+    let known = known_sum counts c.args.self.now was name (Some sum) (before ++ k ∷ after) c.in-Some.is found kept in
+    let sets = inserted_sum c.args.self.now.entries was is name fewer c.in-Some.is ((c.get_mut.follows.holds fewer).3 (subst IsSome (sym found) refl)).0 in
+    set_fewer counts c.args.self.now (record { entries = Some is }) k name c.args.size.now sum fewer before after for sets kept known c.without.ensures
 
+-- from a name that has no entry nothing is taken
 pub returns-in_default-get_mut : goal.returns-in_default-get_mut
 returns-in_default-get_mut c = λ counts k for before after kept.
     let name = c.args.name.now in
     let size : Resource = c.args.size.now in
     let was : BTreeMap Name Resource = c.in-Some.entries in
     let none : get name_order was name ≡ None = sym c.get_mut.ensures.value ∙ ap option_copied_mut c.in_default-get_mut.is in
-    let sets = subst (λ o. SetsIn o (Some was) name nothing) (sym c.in-Some.is) (absent_sum was name none) in
-    let sums : (n : Name) → kept_for was n ≡ sizes_for counts n (before ++ k ∷ after) = subst (λ o. IfSome o (λ entries. (n : Name) → kept_for entries n ≡ sizes_for counts n (before ++ k ∷ after))) c.in-Some.is kept in
-    let known = ap (λ o. option_map_or (λ (r : Resource). r) o nothing) (sym none) ∙ sums name in
+    let known = known_sum counts c.args.self.now was name None (before ++ k ∷ after) c.in-Some.is none kept in
+    let sets = absent_sum c.args.self.now.entries was name c.in-Some.is none in
     let memory : 0 ≡ 0 - size.memory = omega arith in
     let vcores : 0 ≡ 0 - size.vcores = omega arith in
     let takes : nothing ≡ less nothing size = λ i. record { memory = memory i; vcores = vcores i } in
