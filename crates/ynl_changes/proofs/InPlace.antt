@@ -7,7 +7,7 @@ use Rattle.ynl_tables.specs.Tables.{HasCapacity}
 use Rattle.std.specs.List.{AllByRecursion}
 use Rattle.std.proofs.Math.ListN.{set, drop_of_length-le}
 use Rattle.std.proofs.lemmas.List.{take_more, take_more_set, take_all, map_push, length-set}
-use Rattle.ynl_waiting.proofs.Rest.{rest_is, rest_set}
+use Rattle.ynl_changes.proofs.Rest.{rest_is, rest_set}
 use Rattle.ynl_laws.proofs.Lists.{Each-append}
 
 -- the first rows mean what is wanted, and the rest stand as they were

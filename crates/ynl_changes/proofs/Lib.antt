@@ -2,6 +2,7 @@ pub mod InPlace
 pub mod Along
 pub mod ListedRows
 pub mod ByUser
+pub mod Rest
 pub mod Serves
 pub mod Own
 pub mod Put

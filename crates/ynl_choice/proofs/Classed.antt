@@ -6,7 +6,7 @@ use Rattle.std.specs.List.{AllByRecursion, list_any}
 use Rattle.std.proofs.lemmas.Bool.{and_from, and_parts}
 use Rattle.std.proofs.lemmas.Bool.Decides.{nat_tests}
 use mathlib.Core.Bool.{true≢false}
-use Rattle.ynl_resource.specs.Names.{same_label, same_name}
+use Rattle.ynl_resource.specs.Names.{same_label}
 use Rattle.ynl_resource.specs.declared.paths.Path.{Path}
 use Rattle.ynl_model.specs.declared.applications.AskRow.{AskRow}
 use Rattle.ynl_model.specs.declared.proposals.What.{What}
@@ -14,7 +14,6 @@ use Rattle.ynl_model.specs.declared.proposals.What.TheVariants.{Master, Ask as A
 use Rattle.ynl_model.specs.Applications.{Application}
 use Rattle.ynl_model.specs.Cluster.{runs, waits, is_master_what}
 use Rattle.ynl_model.specs.Service.{Item, master_item, ask_item, asks_of, has_room, is_eligible}
-use Rattle.ynl_laws.proofs.Names.{same-name_self, same-label_self}
 use Rattle.ynl_laws.proofs.Service.Classes.{are_classes_eligible}
 use Rattle.ynl_laws.proofs.Totals.Marks.{mark-read}
 use Rattle.ynl_tables.specs.declared.rows.App.{App}
@@ -22,10 +21,9 @@ use Rattle.ynl_tables.specs.Marked.{IsMarkedApp}
 use Rattle.ynl_tables.specs.Queued.{master_class, master_turn, ask_class, ask_turn, master_waits, is_ask_at, ask_waits}
 use Rattle.ynl_tables.specs.Tables.{app_of}
 use Rattle.ynl_waiting.specs.declared.classes.Class.{Class}
-use Rattle.ynl_waiting.specs.declared.classes.ClassRow.{ClassRow}
 use Rattle.ynl_waiting.specs.declared.classes.Turn.{Turn}
-use Rattle.ynl_waiting.proofs.Having.{class-is}
-use Rattle.ynl_waiting.specs.Classes.{same_class, same_size, same_turn, turn_order, has}
+use Rattle.ynl_waiting.proofs.Having.{class-is, class-self, number-self}
+use Rattle.ynl_waiting.specs.Classes.{Entry, same_class, same_turn, turn_order, has}
 use Rattle.ynl_choice.specs.declared.scenes.Scene.{Scene}
 use Rattle.ynl_choice.specs.Choosing.{state_in, passes, masters_of, asks_in}
 use Rattle.ynl_choice.specs.Waits.{item_for, is_placeable, has_turn}
@@ -36,9 +34,6 @@ use Rattle.ynl_choice.proofs.Foremost.{any_passes, IsGathered}
 pub nat_same : (m n : ℕ) → (m == n) ≡ true → m ≡ n
 nat_same m n h = grind (arith, nat_tests, h)
 
-nat_self : (n : ℕ) → (n == n) ≡ true
-nat_self n = grind (arith, nat_tests)
-
 -- three tests, one by one
 pub three : (a b c : Bool) → (a && b && c) ≡ true → (a ≡ true) × (b ≡ true) × (c ≡ true)
 three a b c h =
@@ -48,11 +43,8 @@ three a b c h =
 pub all-three : (a b c : Bool) → a ≡ true → b ≡ true → c ≡ true → (a && b && c) ≡ true
 all-three a b c h k l = and_from (a && b) c (and_from a b h k) l
 
-pub class-self : (a : Class) → same_class a a ≡ true
-class-self a = all-three (same_label a.label a.label) (same_name a.user a.user) (same_size a.size a.size) (same-label_self a.label) (same-name_self a.user) (and_from _ _ (nat_self a.size.memory) (nat_self a.size.vcores))
-
 pub turn-self : (a : Turn) → same_turn a a ≡ true
-turn-self a = and_from _ _ (nat_self a.number) (nat_self a.priority)
+turn-self a = and_from _ _ (number-self a.number) (number-self a.priority)
 
 or-right : (a b : Bool) → b ≡ true → (a || b) ≡ true
 or-right true b h = refl
@@ -62,29 +54,29 @@ or-false : (a : Bool) → (a || false) ≡ a
 or-false true = refl
 or-false false = refl
 
--- ---- rows of classes
+-- ---- classes and their turns
 
 -- a turn of a class that passes is one of that class
-pub turn-found : (test : Class → Bool) (rows : List ClassRow) (turn : Turn) → has_turn test rows turn ≡ true → (class : Class) × (test class ≡ true) × (has rows class turn ≡ true)
+pub turn-found : (test : Class → Bool) (entries : List Entry) (turn : Turn) → has_turn test entries turn ≡ true → (class : Class) × (test class ≡ true) × (has entries class turn ≡ true)
 turn-found test [] turn h = absurd (true≢false (sym h))
-turn-found test (row ∷ rows) turn h = go (test row.class) refl (contains turn_order row.turns turn) refl h (turn-found test rows turn)
+turn-found test (entry ∷ entries) turn h = go (test entry.0) refl (contains turn_order entry.1 turn) refl h (turn-found test entries turn)
   where
-    go : (a : Bool) → test row.class ≡ a → (b : Bool) → contains turn_order row.turns turn ≡ b → ((a && b) || has_turn test rows turn) ≡ true
-        → (has_turn test rows turn ≡ true → (class : Class) × (test class ≡ true) × (has rows class turn ≡ true)) → (class : Class) × (test class ≡ true) × (has (row ∷ rows) class turn ≡ true)
-    go true e true f h rest = (row.class, e, (λ i. (class-self row.class i && f i) || has rows row.class turn))
+    go : (a : Bool) → test entry.0 ≡ a → (b : Bool) → contains turn_order entry.1 turn ≡ b → ((a && b) || has_turn test entries turn) ≡ true
+        → (has_turn test entries turn ≡ true → (class : Class) × (test class ≡ true) × (has entries class turn ≡ true)) → (class : Class) × (test class ≡ true) × (has (entry ∷ entries) class turn ≡ true)
+    go true e true f h rest = (entry.0, e, (λ i. (class-self entry.0 i && f i) || has entries entry.0 turn))
     go true e false f h rest = let found = rest h in (found.0, found.1, or-right _ _ found.2)
     go false e b f h rest = let found = rest h in (found.0, found.1, or-right _ _ found.2)
 
 -- and a turn of one class is one of those that pass, where that class does
-pub found-turn : (test : Class → Bool) (rows : List ClassRow) (class : Class) (turn : Turn) → has rows class turn ≡ true → test class ≡ true → has_turn test rows turn ≡ true
+pub found-turn : (test : Class → Bool) (entries : List Entry) (class : Class) (turn : Turn) → has entries class turn ≡ true → test class ≡ true → has_turn test entries turn ≡ true
 found-turn test [] class turn h on = h
-found-turn test (row ∷ rows) class turn h on = go (same_class row.class class) refl (contains turn_order row.turns turn) refl h (λ k. found-turn test rows class turn k on)
+found-turn test (entry ∷ entries) class turn h on = go (same_class entry.0 class) refl (contains turn_order entry.1 turn) refl h (λ k. found-turn test entries class turn k on)
   where
-    go : (a : Bool) → same_class row.class class ≡ a → (b : Bool) → contains turn_order row.turns turn ≡ b → ((a && b) || has rows class turn) ≡ true → (has rows class turn ≡ true → has_turn test rows turn ≡ true)
-        → ((test row.class && b) || has_turn test rows turn) ≡ true
-    go true e true f h rest = ap (λ c. (c && true) || has_turn test rows turn) (ap test (class-is row.class class e) ∙ on)
-    go true e false f h rest = or-right (test row.class && false) _ (rest h)
-    go false e b f h rest = or-right (test row.class && b) _ (rest h)
+    go : (a : Bool) → same_class entry.0 class ≡ a → (b : Bool) → contains turn_order entry.1 turn ≡ b → ((a && b) || has entries class turn) ≡ true → (has entries class turn ≡ true → has_turn test entries turn ≡ true)
+        → ((test entry.0 && b) || has_turn test entries turn) ≡ true
+    go true e true f h rest = ap (λ c. (c && true) || has_turn test entries turn) (ap test (class-is entry.0 class e) ∙ on)
+    go true e false f h rest = or-right (test entry.0 && false) _ (rest h)
+    go false e b f h rest = or-right (test entry.0 && b) _ (rest h)
 
 -- ---- lists
 

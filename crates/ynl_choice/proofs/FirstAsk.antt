@@ -34,15 +34,14 @@ use Rattle.ynl_tables.specs.Marked.{IsMarkedApp, AreMarkedIn}
 use Rattle.ynl_tables.specs.Queued.{number_of, are_apart, ask_class, ask_turn, is_ask_at, ask_waits}
 use Rattle.ynl_tables.specs.Tables.{app_of}
 use Rattle.ynl_waiting.specs.declared.classes.Class.{Class}
-use Rattle.ynl_waiting.specs.declared.classes.ClassRow.{ClassRow}
 use Rattle.ynl_waiting.specs.declared.classes.Turn.{Turn}
-use Rattle.ynl_waiting.proofs.Having.{class-is}
-use Rattle.ynl_waiting.specs.Classes.{has, is_turn_later, same_class, same_turn}
+use Rattle.ynl_waiting.proofs.Having.{class-is, class-self}
+use Rattle.ynl_waiting.specs.Classes.{Entry, has, is_turn_later, same_class, same_turn}
 use Rattle.ynl_choice.specs.declared.standings.Candidate.{Candidate}
 use Rattle.ynl_choice.specs.declared.scenes.Scene.{Scene}
 use Rattle.ynl_choice.specs.Choosing.{state_in, key_in, item_of, passes, considered, wanted, wanted_of, asks_in, ArePlaced, HoldsBest}
 use Rattle.ynl_choice.specs.Waits.{item_for, is_placeable, asked_at, IsFirstTurn}
-use Rattle.ynl_choice.proofs.Classed.{nat_same, three, all-three, class-self, turn-self, any-with, busy, ask-alike, asks-told, asks-gathered}
+use Rattle.ynl_choice.proofs.Classed.{nat_same, three, all-three, turn-self, any-with, busy, ask-alike, asks-told, asks-gathered}
 use Rattle.ynl_choice.proofs.Considering.{wanted_all}
 use Rattle.ynl_choice.proofs.FirstTurn.{waits-at, none-before}
 use Rattle.ynl_choice.proofs.Placed.{each_at}
@@ -194,7 +193,7 @@ module _ (scene : Scene) (app : Application) (priority : ℕ) where
 no-higher : (a b : Turn) → is_turn_later a b ≡ false → a.number ≡ b.number → a.priority ≤ b.priority
 no-higher a b h same = grind (arith, nat_tests, h, same)
 
-module _ (scene : Scene) (row : LeafRow) (rows : List ClassRow) (placed : ArePlaced (state_in scene) row) (marked : AreMarkedIn (state_in scene) row)
+module _ (scene : Scene) (row : LeafRow) (rows : List Entry) (placed : ArePlaced (state_in scene) row) (marked : AreMarkedIn (state_in scene) row)
     (kept : (class : Class) (turn : Turn) → has rows class turn ≡ list_any (ask_waits class turn) row.apps.items)
     (turn : Turn) (i : ℕ) (app : App) (first : IsFirstTurn (is_placeable scene row.path (Asked scene.label 0)) rows (Some turn)) (place : IsPlaceAt number_of turn.number row.apps.items i) (at : app ≡ get_or row.apps.items i app) where
   abbrev found_app : Application

@@ -19,9 +19,8 @@ use Rattle.ynl_tables.specs.declared.rows.LeafRow.{LeafRow}
 use Rattle.ynl_tables.specs.Marked.{IsMarkedApp, AreMarkedIn}
 use Rattle.ynl_tables.specs.Queued.{number_of, are_in_turn}
 use Rattle.ynl_waiting.specs.declared.classes.Class.{Class}
-use Rattle.ynl_waiting.specs.declared.classes.ClassRow.{ClassRow}
 use Rattle.ynl_waiting.specs.declared.classes.Turn.{Turn}
-use Rattle.ynl_waiting.specs.Classes.{has, is_turn_later}
+use Rattle.ynl_waiting.specs.Classes.{Entry, has, is_turn_later}
 use Rattle.ynl_choice.specs.declared.scenes.Scene.{Scene}
 use Rattle.ynl_choice.specs.declared.standings.Candidate.{Candidate}
 use Rattle.ynl_choice.specs.Choosing.{state_in, key_in, item_of, considered, HoldsBest, IsKeyed, ArePlaced, standings_to}
@@ -36,7 +35,7 @@ use Rattle.ynl_tables.proofs.Searching.{rise, each_from}
 no-higher : (a b : Turn) → is_turn_later a b ≡ false → a.number ≤ b.number
 no-higher a b h = grind (arith, nat_tests, h)
 
-module _ (scene : Scene) (row : LeafRow) (what : What) (waits : Class → Turn → App → Bool) (gather : List App → List Item) (rows : List ClassRow)
+module _ (scene : Scene) (row : LeafRow) (what : What) (waits : Class → Turn → App → Bool) (gather : List App → List Item) (rows : List Entry)
     (told : IsToldBy scene row.path what waits gather) (gathered : IsGathered row.path gather) (placed : ArePlaced (state_in scene) row) (marked : AreMarkedIn (state_in scene) row)
     (rising : are_in_turn row.apps.items ≡ true) (kept : (class : Class) (turn : Turn) → has rows class turn ≡ list_any (waits class turn) row.apps.items) where
   abbrev of_app : ℕ → App → Bool

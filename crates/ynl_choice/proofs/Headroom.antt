@@ -12,8 +12,7 @@ use Rattle.ynl_resource.specs.declared.paths.Path.{Path}
 use Rattle.ynl_model.specs.declared.proposals.What.{What}
 use Rattle.ynl_model.specs.Service.{Item, has_room, is_eligible, within_maximum, within_user_limit, within_master_share}
 use Rattle.ynl_laws.proofs.Amounts.{fits-trans}
-use Rattle.ynl_waiting.specs.declared.classes.ClassRow.{ClassRow}
-use Rattle.ynl_waiting.specs.Classes.{turn_order, are_above}
+use Rattle.ynl_waiting.specs.Classes.{Entry, turn_order, are_above}
 use Rattle.ynl_choice.specs.declared.leaf_use.Headroom.{Headroom}
 use Rattle.ynl_choice.specs.declared.leaf_use.LeafUse.{LeafUse}
 use Rattle.ynl_choice.specs.declared.scenes.Scene.{Scene}
@@ -48,21 +47,21 @@ taken scene item limits h none known may =
     ∙ ap (λ (label : Label). within_maximum (state_in scene) label item) (h.label ∙ ap (λ (guests : Bool). label_for guests scene.node) none)
     ∙ within scene item none may
 
-pub none-taken : (scene : Scene) (leaf : Path) (limits : LeafUse) (least : Resource) (rows : List ClassRow) → IsScene scene → scene.as_guests ≡ false → IsLeafUse scene.config.now (state_in scene) scene.label leaf limits
-    → are_above least rows ≡ true → allows limits.headroom least ≡ false → (what : What) → IsFirstTurn (is_placeable scene leaf what) rows None
+pub none-taken : (scene : Scene) (leaf : Path) (limits : LeafUse) (least : Resource) (entries : List Entry) → IsScene scene → scene.as_guests ≡ false → IsLeafUse scene.config.now (state_in scene) scene.label leaf limits
+    → are_above least entries ≡ true → allows limits.headroom least ≡ false → (what : What) → IsFirstTurn (is_placeable scene leaf what) entries None
 none-taken scene leaf limits least [] h none known above full what turn there = true≢false (sym there)
-none-taken scene leaf limits least (row ∷ rows) h none known above full what turn there =
-    let parts = and_parts (fits_in least row.class.size) (are_above least rows) above in
-    go (is_placeable scene leaf what row.class) refl there parts.0 (none-taken scene leaf limits least rows h none known parts.1 full what turn)
+none-taken scene leaf limits least (entry ∷ entries) h none known above full what turn there =
+    let parts = and_parts (fits_in least entry.0.size) (are_above least entries) above in
+    go (is_placeable scene leaf what entry.0) refl there parts.0 (none-taken scene leaf limits least entries h none known parts.1 full what turn)
   where
-    go : (b : Bool) → is_placeable scene leaf what row.class ≡ b → ((b && contains turn_order row.turns turn) || has_turn (is_placeable scene leaf what) rows turn) ≡ true → fits_in least row.class.size ≡ true → (has_turn (is_placeable scene leaf what) rows turn ≡ true → ⊥) → ⊥
+    go : (b : Bool) → is_placeable scene leaf what entry.0 ≡ b → ((b && contains turn_order entry.1 turn) || has_turn (is_placeable scene leaf what) entries turn) ≡ true → fits_in least entry.0.size ≡ true → (has_turn (is_placeable scene leaf what) entries turn ≡ true → ⊥) → ⊥
     go false e there less rest = rest there
     go true e there less rest =
-        let item = item_for leaf what row.class in
-        let may = (and_parts (same_label row.class.label scene.label) (passes scene item) e).1 in
-        true≢false (sym (allows-less limits.headroom least row.class.size less (taken scene item limits h none known may)) ∙ full)
+        let item = item_for leaf what entry.0 in
+        let may = (and_parts (same_label entry.0.label scene.label) (passes scene item) e).1 in
+        true≢false (sym (allows-less limits.headroom least entry.0.size less (taken scene item limits h none known may)) ∙ full)
 
-pub none-unless-taken : (scene : Scene) (leaf : Path) (limits : LeafUse) (least : Resource) (rows : List ClassRow) → IsScene scene → scene.as_guests ≡ false → IsLeafUse scene.config.now (state_in scene) scene.label leaf limits
-    → are_above least rows ≡ true → (may : Bool) → may ≡ allows limits.headroom least → OnFalse may ((what : What) → IsFirstTurn (is_placeable scene leaf what) rows None)
-none-unless-taken scene leaf limits least rows h none known above true e = tt
-none-unless-taken scene leaf limits least rows h none known above false e = none-taken scene leaf limits least rows h none known above (sym e)
+pub none-unless-taken : (scene : Scene) (leaf : Path) (limits : LeafUse) (least : Resource) (entries : List Entry) → IsScene scene → scene.as_guests ≡ false → IsLeafUse scene.config.now (state_in scene) scene.label leaf limits
+    → are_above least entries ≡ true → (may : Bool) → may ≡ allows limits.headroom least → OnFalse may ((what : What) → IsFirstTurn (is_placeable scene leaf what) entries None)
+none-unless-taken scene leaf limits least entries h none known above true e = tt
+none-unless-taken scene leaf limits least entries h none known above false e = none-taken scene leaf limits least entries h none known above (sym e)

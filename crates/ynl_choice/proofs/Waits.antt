@@ -1,5 +1,5 @@
 -- The first turn of classes, one class after another, and the application of its number.
-use Rattle.std.proofs.Common.{◌≡◌, ℕ, ◌+◌, ◌<◌, ◌≤◌, Bool, true, false, ◌&&◌, ◌||◌, ◌⊎◌, inl, inr, List, [], ◌∷◌, length, take, take_all, get_or, Option, Some, None, refl, sym, ap, subst, ◌∙◌}
+use Rattle.std.proofs.Common.{◌≡◌, Bool, true, false, ◌&&◌, ◌||◌, ◌⊎◌, inl, inr, List, [], ◌∷◌, ◌++◌, Option, Some, None, refl, sym, ap, subst, ◌∙◌}
 use Rattle.std.specs.Bool.{OnFalse}
 use Rattle.std.specs.BTreeSet.{contains}
 use Rattle.std.specs.Cmp.{IsTotalOrder, nat_cmp_total, then_total, on_total}
@@ -9,7 +9,7 @@ use Rattle.std.specs.declared.cmp.Ordering.{Ordering}
 use Rattle.std.specs.declared.cmp.Ordering.TheVariants.{Less, Equal, Greater}
 use Rattle.std.proofs.lemmas.Bool.{and_from, and_parts}
 use Rattle.std.proofs.lemmas.Cmp.{upto}
-use Rattle.std.proofs.lemmas.List.Folds.{list_any_more}
+use Rattle.std.proofs.lemmas.List.Folds.{list_any-append}
 use mathlib.Core.Bool.{true≢false}
 use Rattle.ynl_resource.specs.Names.{same_label}
 use Rattle.ynl_resource.specs.declared.paths.Path.{Path}
@@ -21,9 +21,8 @@ use Rattle.ynl_model.specs.Service.{has_room}
 use Rattle.ynl_laws.proofs.Amounts.{fits-trans}
 use Rattle.ynl_laws.specs.First.{IsFirst}
 use Rattle.ynl_waiting.specs.declared.classes.Class.{Class}
-use Rattle.ynl_waiting.specs.declared.classes.ClassRow.{ClassRow}
 use Rattle.ynl_waiting.specs.declared.classes.Turn.{Turn}
-use Rattle.ynl_waiting.specs.Classes.{turn_order, is_turn_later, are_above}
+use Rattle.ynl_waiting.specs.Classes.{Entry, turn_order, is_turn_later, are_above}
 use Rattle.ynl_choice.specs.declared.scenes.Scene.{Scene}
 use Rattle.ynl_choice.specs.Choosing.{state_in, passes}
 use Rattle.ynl_choice.specs.Waits.{item_for, is_open, is_placeable, is_before, has_turn, IsFirstTurn}
@@ -119,43 +118,43 @@ taken waits own may held turn on top soon first = (right (waits turn) may (own t
     go None soon first next (inl h) = absurd (first next h)
     go (Some best) soon first next (inl h) = chained turn best next (turned best turn soon) (first.1 next h)
 
--- so with one row of classes more
-pub row-more : (test : Class → Bool) (rows : List ClassRow) (i : ℕ) (row : ClassRow) (first : Option Turn) → i < length rows → row ≡ get_or rows i row
-    → More (has_turn test (take i rows)) (test row.class) (contains turn_order row.turns) first → IsFirstTurn test (take (i + 1) rows) first
-row-more test rows i row first inside at more = subst (λ (waits : Turn → Bool). Waits waits first) (λ j turn. sym (same turn) j) more
+-- so with one class more
+pub entry-more : (test : Class → Bool) (front : List Entry) (entry : Entry) (first : Option Turn) → More (has_turn test front) (test entry.0) (contains turn_order entry.1) first → IsFirstTurn test (front ++ entry ∷ []) first
+entry-more test front entry first more = subst (λ (waits : Turn → Bool). Waits waits first) (λ j turn. sym (same turn) j) more
   where
-    same : (turn : Turn) → has_turn test (take (i + 1) rows) turn ≡ (has_turn test (take i rows) turn || (test row.class && contains turn_order row.turns turn))
+    last : (b : Bool) → (b || false) ≡ b
+    last true = refl
+    last false = refl
+
+    same : (turn : Turn) → has_turn test (front ++ entry ∷ []) turn ≡ (has_turn test front turn || (test entry.0 && contains turn_order entry.1 turn))
     same turn =
-        list_any_more (λ row. test row.class && contains turn_order row.turns turn) rows i row inside
-        ∙ ap (λ (r : ClassRow). has_turn test (take i rows) turn || (test r.class && contains turn_order r.turns turn)) (sym at)
+        list_any-append (λ (e : Entry). test e.0 && contains turn_order e.1 turn) front (entry ∷ [])
+        ∙ ap (λ b. has_turn test front turn || b) (last (test entry.0 && contains turn_order entry.1 turn))
 
 -- where no class is open nothing may be placed
-pub none-open : (scene : Scene) (leaf : Path) (what : What) (rows : List ClassRow) → list_any (λ row. is_open scene row.class) rows ≡ false → IsFirstTurn (is_placeable scene leaf what) rows None
+pub none-open : (scene : Scene) (leaf : Path) (what : What) (entries : List Entry) → list_any (λ entry. is_open scene entry.0) entries ≡ false → IsFirstTurn (is_placeable scene leaf what) entries None
 none-open scene leaf what [] h turn there = true≢false (sym there)
-none-open scene leaf what (row ∷ rows) h turn there = go (is_open scene row.class) refl h (is_placeable scene leaf what row.class) refl there (λ k. none-open scene leaf what rows k turn)
+none-open scene leaf what (entry ∷ entries) h turn there = go (is_open scene entry.0) refl h (is_placeable scene leaf what entry.0) refl there (λ k. none-open scene leaf what entries k turn)
   where
-    go : (a : Bool) → is_open scene row.class ≡ a → (a || list_any (λ row. is_open scene row.class) rows) ≡ false → (b : Bool) → is_placeable scene leaf what row.class ≡ b
-        → ((b && contains turn_order row.turns turn) || has_turn (is_placeable scene leaf what) rows turn) ≡ true → (list_any (λ row. is_open scene row.class) rows ≡ false → has_turn (is_placeable scene leaf what) rows turn ≡ true → ⊥) → ⊥
+    go : (a : Bool) → is_open scene entry.0 ≡ a → (a || list_any (λ entry. is_open scene entry.0) entries) ≡ false → (b : Bool) → is_placeable scene leaf what entry.0 ≡ b
+        → ((b && contains turn_order entry.1 turn) || has_turn (is_placeable scene leaf what) entries turn) ≡ true → (list_any (λ entry. is_open scene entry.0) entries ≡ false → has_turn (is_placeable scene leaf what) entries turn ≡ true → ⊥) → ⊥
     go true e h b f there rest = true≢false h
-    go false e h true f there rest = true≢false (sym f ∙ closed scene leaf what row.class e)
+    go false e h true f there rest = true≢false (sym f ∙ closed scene leaf what entry.0 e)
     go false e h false f there rest = rest h there
 
 -- and no class is open where there is no room for less than all of them take
-none-fits : (scene : Scene) (least : Resource) (rows : List ClassRow) → scene.free ≡ free (state_in scene) scene.node → are_above least rows ≡ true → fits_in least scene.free ≡ false → list_any (λ row. is_open scene row.class) rows ≡ false
+none-fits : (scene : Scene) (least : Resource) (entries : List Entry) → scene.free ≡ free (state_in scene) scene.node → are_above least entries ≡ true → fits_in least scene.free ≡ false → list_any (λ entry. is_open scene entry.0) entries ≡ false
 none-fits scene least [] is above full = refl
-none-fits scene least (row ∷ rows) is above full =
-    let parts = and_parts (fits_in least row.class.size) (are_above least rows) above in
-    go (is_open scene row.class) refl parts.0 (none-fits scene least rows is parts.1 full)
+none-fits scene least (entry ∷ entries) is above full =
+    let parts = and_parts (fits_in least entry.0.size) (are_above least entries) above in
+    go (is_open scene entry.0) refl parts.0 (none-fits scene least entries is parts.1 full)
   where
-    go : (b : Bool) → is_open scene row.class ≡ b → fits_in least row.class.size ≡ true → list_any (λ row. is_open scene row.class) rows ≡ false → (b || list_any (λ row. is_open scene row.class) rows) ≡ false
+    go : (b : Bool) → is_open scene entry.0 ≡ b → fits_in least entry.0.size ≡ true → list_any (λ entry. is_open scene entry.0) entries ≡ false → (b || list_any (λ entry. is_open scene entry.0) entries) ≡ false
     go false e h rest = rest
     go true e h rest =
-        let room = (and_parts (same_label row.class.label scene.label) (has_room (state_in scene) scene.node row.class.size) e).1 in
-        absurd (true≢false (sym (fits-trans least row.class.size scene.free h (ap (fits_in row.class.size) is ∙ room)) ∙ full))
+        let room = (and_parts (same_label entry.0.label scene.label) (has_room (state_in scene) scene.node entry.0.size) e).1 in
+        absurd (true≢false (sym (fits-trans least entry.0.size scene.free h (ap (fits_in entry.0.size) is ∙ room)) ∙ full))
 
-pub none-unless : (scene : Scene) (least : Resource) (rows : List ClassRow) → scene.free ≡ free (state_in scene) scene.node → are_above least rows ≡ true → (fits : Bool) → fits ≡ fits_in least scene.free → OnFalse fits (list_any (λ row. is_open scene row.class) rows ≡ false)
-none-unless scene least rows is above true e = tt
-none-unless scene least rows is above false e = none-fits scene least rows is above (sym e)
-
-pub rows-all : (test : Class → Bool) (rows : List ClassRow) (i : ℕ) (first : Option Turn) → length rows ≤ i → IsFirstTurn test (take i rows) first → IsFirstTurn test rows first
-rows-all test rows i first end h = subst (λ (some : List ClassRow). IsFirstTurn test some first) (take_all i rows end) h
+pub none-unless : (scene : Scene) (least : Resource) (entries : List Entry) → scene.free ≡ free (state_in scene) scene.node → are_above least entries ≡ true → (fits : Bool) → fits ≡ fits_in least scene.free → OnFalse fits (list_any (λ entry. is_open scene entry.0) entries ≡ false)
+none-unless scene least entries is above true e = tt
+none-unless scene least entries is above false e = none-fits scene least entries is above (sym e)

@@ -10,9 +10,8 @@ use Rattle.ynl_model.specs.Applications.{Application, find_ask}
 use Rattle.ynl_model.specs.Service.{Item, has_room}
 use Rattle.ynl_laws.specs.First.{IsFirst}
 use Rattle.ynl_waiting.specs.declared.classes.Class.{Class}
-use Rattle.ynl_waiting.specs.declared.classes.ClassRow.{ClassRow}
 use Rattle.ynl_waiting.specs.declared.classes.Turn.{Turn}
-use Rattle.ynl_waiting.specs.Classes.{turn_order, is_turn_later}
+use Rattle.ynl_waiting.specs.Classes.{Entry, turn_order, is_turn_later}
 use Rattle.ynl_choice.specs.declared.scenes.Scene.{Scene}
 use Rattle.ynl_choice.specs.Choosing.{state_in, passes, wanted_of}
 
@@ -29,12 +28,12 @@ abbrev pub is_placeable : Scene → Path → What → Class → Bool
 is_placeable scene leaf what class = same_label class.label scene.label && passes scene (item_for leaf what class)
 
 -- whether a turn is one of a class that passes a test
-abbrev pub has_turn : (Class → Bool) → List ClassRow → Turn → Bool
-has_turn test rows turn = list_any (λ row. test row.class && contains turn_order row.turns turn) rows
+abbrev pub has_turn : (Class → Bool) → List Entry → Turn → Bool
+has_turn test entries turn = list_any (λ entry. test entry.0 && contains turn_order entry.1 turn) entries
 
 -- the first of the turns of the classes that pass a test
-abbrev pub IsFirstTurn : (Class → Bool) → List ClassRow → Option Turn → Type 0
-IsFirstTurn test rows first = IsFirst is_turn_later (λ turn. has_turn test rows turn ≡ true) first
+abbrev pub IsFirstTurn : (Class → Bool) → List Entry → Option Turn → Type 0
+IsFirstTurn test entries first = IsFirst is_turn_later (λ turn. has_turn test entries turn ≡ true) first
 
 -- whether a turn is before the one that is held, and first where none is held
 abbrev pub is_before : Option Turn → Turn → Bool

@@ -23,7 +23,7 @@ use ynl_model::What;
 use ynl_queues::is_within;
 use ynl_resource::Name;
 use ynl_tables::{LeafRow, place_of};
-use ynl_waiting::ClassRow;
+use ynl_waiting::Classes;
 
 /// Whether a leaf is within a queue that is passed over.
 fn is_below(passed: &Option<&[Name]>, row: &LeafRow) -> bool
@@ -97,14 +97,14 @@ fn add_first_master(
     scene: &Scene<'_>,
     limits: &mut Option<LeafUse>,
     row: &LeafRow,
-    classes: &[ClassRow],
+    classes: &Classes,
     held: &mut Option<Candidate>,
 )
     requires scene { IsScene scene.now }
     requires limits { AreLimits scene.now row.now.path limits.old }
     requires placed { ArePlaced (state_in scene.now) row.now }
     requires marked { AreMarkedIn (state_in scene.now) row.now }
-    requires classes { (class : Class) (turn : Turn) → has classes.now class turn ≡ masters_waiting row.now.apps.items class turn }
+    requires classes { (class : Class) (turn : Turn) → has classes.now.entries class turn ≡ masters_waiting row.now.apps.items class turn }
     ensures best { HoldsBest scene.now held.old (masters_in scene.now row.now.path row.now.apps.items) held.new }
     ensures limits { AreLimits scene.now row.now.path limits.new }
 {
@@ -181,14 +181,14 @@ fn add_first_ask(
     scene: &Scene<'_>,
     limits: &mut Option<LeafUse>,
     row: &LeafRow,
-    classes: &[ClassRow],
+    classes: &Classes,
     held: &mut Option<Candidate>,
 )
     requires scene { IsScene scene.now }
     requires limits { AreLimits scene.now row.now.path limits.old }
     requires placed { ArePlaced (state_in scene.now) row.now }
     requires marked { AreMarkedIn (state_in scene.now) row.now }
-    requires classes { (class : Class) (turn : Turn) → has classes.now class turn ≡ asks_waiting row.now.apps.items class turn }
+    requires classes { (class : Class) (turn : Turn) → has classes.now.entries class turn ≡ asks_waiting row.now.apps.items class turn }
     ensures best { HoldsBest scene.now held.old (asks_in scene.now row.now.path row.now.apps.items) held.new }
     ensures limits { AreLimits scene.now row.now.path limits.new }
 {

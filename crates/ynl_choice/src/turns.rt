@@ -20,9 +20,10 @@ use crate::eligible::{allows, is_eligible};
 use crate::leaf_use::LeafUse;
 use crate::requests::RequestParts;
 use crate::scenes::{Scene, limits_at};
+use std::collections::BTreeSet;
 use ynl_model::What;
 use ynl_tables::{LeafRow, is_same};
-use ynl_waiting::{Class, ClassRow, Rows, Turn};
+use ynl_waiting::{Class, Classes, Rows, Turn, first_of};
 
 /// The request that stands for those of a class. What it is tested for does not read an application's name,
 /// so the user's stands in its place.
@@ -47,12 +48,12 @@ fn is_open(scene: &Scene<'_>, class: &Class) -> bool
 }
 
 /// Whether any class is for the partition and has room. Where none is, nothing may be placed.
-pub fn is_any_open(scene: &Scene<'_>, classes: &[ClassRow]) -> bool
+pub fn is_any_open(scene: &Scene<'_>, classes: &Classes) -> bool
     requires { IsScene scene.now }
-    ensures { result ≡ list_any (λ row. is_open scene.now row.class) classes.now }
+    ensures { result ≡ list_any (λ entry. is_open scene.now entry.0) classes.now.entries }
 {
-    for row in classes {
-        if is_open(scene, &row.class) {
+    for (class, _) in classes {
+        if is_open(scene, class) {
             return true;
         }
     }
@@ -63,7 +64,7 @@ pub fn is_any_open(scene: &Scene<'_>, classes: &[ClassRow]) -> bool
 /// nothing may be placed, and no class is looked at.
 pub fn may_fit(scene: &Scene<'_>, waiting: &Rows) -> bool
     requires { IsScene scene.now }
-    ensures { OnFalse result (list_any (λ row. is_open scene.now row.class) waiting.now.classes.items ≡ false) }
+    ensures { OnFalse result (list_any (λ entry. is_open scene.now entry.0) waiting.now.classes.entries ≡ false) }
 {
     waiting.least.fits_in(scene.free)
 }
@@ -78,7 +79,7 @@ pub fn may_be_taken(
 ) -> bool
     requires scene { IsScene scene.now }
     requires limits { AreLimits scene.now row.now.path limits.old }
-    ensures none { OnFalse result ((what : What) → IsFirstTurn (is_placeable scene.now row.now.path what) waiting.now.classes.items None) }
+    ensures none { OnFalse result ((what : What) → IsFirstTurn (is_placeable scene.now row.now.path what) waiting.now.classes.entries None) }
     ensures limits { AreLimits scene.now row.now.path limits.new }
 {
     if scene.as_guests {
@@ -126,24 +127,25 @@ fn add_class(
     limits: &mut Option<LeafUse>,
     row: &LeafRow,
     what: &What,
-    class: &ClassRow,
+    class: &Class,
+    turns: &BTreeSet<Turn>,
     held: &mut Option<Turn>,
 )
     requires scene { IsScene scene.now }
     requires limits { AreLimits scene.now row.now.path limits.old }
-    ensures first { (waits : Turn → Bool) → IsFirst is_turn_later (λ turn. waits turn ≡ true) held.old → IsFirst is_turn_later (λ turn. (waits turn || (is_placeable scene.now row.now.path what.now class.now.class && contains turn_order class.now.turns turn)) ≡ true) held.new }
+    ensures first { (waits : Turn → Bool) → IsFirst is_turn_later (λ turn. waits turn ≡ true) held.old → IsFirst is_turn_later (λ turn. (waits turn || (is_placeable scene.now row.now.path what.now class.now && contains turn_order turns.now turn)) ≡ true) held.new }
     ensures limits { AreLimits scene.now row.now.path limits.new }
 {
-    if !is_open(scene, &class.class) {
+    if !is_open(scene, class) {
         return;
     }
-    let Some(turn) = class.first() else {
+    let Some(turn) = first_of(turns) else {
         return;
     };
     if !is_before(held, &turn) {
         return;
     }
-    if is_allowed(scene, limits, row, what, &class.class) {
+    if is_allowed(scene, limits, row, what, class) {
         *held = Some(turn);
     }
 }
@@ -154,16 +156,16 @@ pub fn first_turn(
     limits: &mut Option<LeafUse>,
     row: &LeafRow,
     what: &What,
-    classes: &[ClassRow],
+    classes: &Classes,
 ) -> Option<Turn>
     requires scene { IsScene scene.now }
     requires limits { AreLimits scene.now row.now.path limits.old }
-    ensures first { IsFirstTurn (is_placeable scene.now row.now.path what.now) classes.now result }
+    ensures first { IsFirstTurn (is_placeable scene.now row.now.path what.now) classes.now.entries result }
     ensures limits { AreLimits scene.now row.now.path limits.new }
 {
     let mut held = None;
-    for class in classes {
-        add_class(scene, limits, row, what, class, &mut held);
+    for (class, turns) in classes {
+        add_class(scene, limits, row, what, class, turns, &mut held);
     }
     held
 }

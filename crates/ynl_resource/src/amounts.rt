@@ -77,7 +77,7 @@ impl Resource {
 
 /// The size of a node or of a request: 1 to 4294967295 MB and 1 to 65536 virtual cores. A contract
 /// sees it as its amount.
-#[derive(Clone, Copy, PartialEq, Eq)]
+#[derive(Clone, Copy, PartialEq, Eq, PartialOrd, Ord)]
 pub struct Size {
     memory: u32,
     vcores: u32,

@@ -1,3 +1,2 @@
 pub mod Having
 pub mod Least
-pub mod Rest

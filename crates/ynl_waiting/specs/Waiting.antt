@@ -7,7 +7,7 @@ use Rattle.ynl_waiting.specs.declared.waiting.Waiting.{Waiting}
 
 -- where any are kept, they are those that wait
 abbrev pub Keeps : (Class → Turn → Bool) → Waiting → Type 0
-Keeps waits waiting = IfSome waiting.rows (λ rows. (class : Class) (turn : Turn) → has rows.classes.items class turn ≡ waits class turn)
+Keeps waits waiting = IfSome waiting.rows (λ rows. (class : Class) (turn : Turn) → has rows.classes.entries class turn ≡ waits class turn)
 
 -- what waits, and one request more
 abbrev pub with_one : (Class → Turn → Bool) → Class → Turn → Class → Turn → Bool

@@ -3,14 +3,14 @@
 ghost use Rattle.std.specs.Prelude.{◌≡◌, true};
 ghost use Rattle.std.specs.BTreeSet.{contains};
 ghost use Rattle.ynl_laws.specs.First.{IsFirst};
-ghost use Rattle.ynl_waiting.specs.Classes.{same_class, turn_order, is_turn_later};
+ghost use Rattle.ynl_waiting.specs.Classes.{turn_order, is_turn_later};
 
-use std::collections::BTreeSet;
+use std::collections::{BTreeMap, BTreeSet};
 use ynl_resource::{Label, Name, Size};
 
 /// What requests of a leaf have in common that may be placed together: the partition that they are for,
-/// their user and their size.
-#[derive(Clone, Copy)]
+/// their user and their size. Classes of one user for one partition stand together in their order.
+#[derive(Clone, Copy, PartialEq, Eq, PartialOrd, Ord)]
 pub struct Class {
     pub label: Label,
     pub user: Name,
@@ -25,31 +25,15 @@ pub struct Turn {
     pub priority: u32,
 }
 
-/// The turns of the requests of one class.
-#[derive(Drop)]
-pub struct ClassRow {
-    pub class: Class,
-    pub turns: BTreeSet<Turn>,
-}
+/// The turns of the requests of each class of which something waits.
+pub type Classes = BTreeMap<Class, BTreeSet<Turn>>;
 
-impl ClassRow {
-    /// The first turn of the class.
-    pub fn first(&self) -> Option<Turn>
-        ensures { IsFirst is_turn_later (λ turn. contains turn_order self.now.turns turn ≡ true) result }
-    {
-        match self.turns.first() {
-            Some(turn) => Some(*turn),
-            None => None,
-        }
-    }
-}
-
-/// Whether two classes are the same. Sizes are compared first, since they differ most and cost least.
-pub fn is_same_class(a: &Class, b: &Class) -> bool
-    ensures { result ≡ same_class a.now b.now }
+/// The first of some turns.
+pub fn first_of(turns: &BTreeSet<Turn>) -> Option<Turn>
+    ensures { IsFirst is_turn_later (λ turn. contains turn_order turns.now turn ≡ true) result }
 {
-    if a.size != b.size {
-        return false;
+    match turns.first() {
+        Some(turn) => Some(*turn),
+        None => None,
     }
-    a.label == b.label && a.user == b.user
 }

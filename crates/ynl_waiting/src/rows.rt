@@ -1,20 +1,21 @@
-//! Rows of classes, and the least that a request of them takes.
+//! Classes of what waits, and the least that a request of them takes.
 
-ghost use Rattle.std.specs.Prelude.{◌≡◌, [], IsTrue};
+ghost use Rattle.std.specs.Prelude.{◌≡◌, ◌==◌, ◌||◌, [], IsTrue};
 ghost use Rattle.ynl_resource.specs.Amounts.{fits_in};
 ghost use Rattle.ynl_waiting.specs.Classes.{are_above};
 
-use crate::classes::ClassRow;
+use crate::classes::Classes;
 use std::alloc::Global;
+use std::collections::BTreeMap;
 use ynl_resource::{Resource, Size};
 
-/// Rows of classes, and an amount that each of their sizes is above or equal to in memory and in virtual cores:
-/// the least of either, and no bound where there are no rows.
+/// The classes of what waits, and an amount that each of their sizes is above or equal to in memory and in
+/// virtual cores: the least of either, and no bound where there are no classes.
 #[derive(Drop)]
 pub struct Rows {
-    pub classes: Vec<ClassRow>,
+    pub classes: Classes,
     pub least: Resource,
-    ghost none_below: { IsTrue (are_above least classes.items) },
+    ghost none_below: { IsTrue (are_above least classes.entries) },
 }
 
 /// Above all sizes.
@@ -24,12 +25,12 @@ const UNBOUNDED: Resource = Resource {
 };
 
 impl Rows {
-    /// No rows.
+    /// No classes.
     pub fn new(alloc: Global) -> Rows
-        ensures { result.classes.items ≡ [] }
+        ensures { result.classes.entries ≡ [] }
     {
         Rows {
-            classes: Vec::new(alloc),
+            classes: BTreeMap::new(alloc),
             least: UNBOUNDED,
         }
     }
@@ -47,13 +48,21 @@ pub fn lesser(a: &Resource, size: &Size) -> Resource
     }
 }
 
-/// The least that a request of some rows takes.
-pub fn least_of(rows: &[ClassRow]) -> Resource
-    ensures { IsTrue (are_above result rows.now) }
+/// Whether a size has the least memory or the least virtual cores.
+pub fn is_least_in_part(least: &Resource, size: &Size) -> bool
+    ensures { result ≡ (least.now.memory == size.now.memory || least.now.vcores == size.now.vcores) }
+{
+    let size = size.amount();
+    least.memory == size.memory || least.vcores == size.vcores
+}
+
+/// The least that a request of some classes takes.
+pub fn least_of(classes: &Classes) -> Resource
+    ensures { IsTrue (are_above result classes.now.entries) }
 {
     let mut least = UNBOUNDED;
-    for row in rows {
-        least = lesser(&least, &row.class.size);
+    for (class, _) in classes {
+        least = lesser(&least, &class.size);
     }
     least
 }

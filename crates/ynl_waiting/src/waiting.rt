@@ -30,9 +30,9 @@ impl Waiting {
         }
     }
 
-    /// The rows of the classes of which something waits, where any are kept.
+    /// The classes of which something waits, where any are kept.
     pub fn rows(&self) -> Option<&Rows>
-        ensures { IfSome result (λ rows. (waits : Class → Turn → Bool) → Keeps waits self.now → (class : Class) (turn : Turn) → has rows.now.classes.items class turn ≡ waits class turn) }
+        ensures { IfSome result (λ rows. (waits : Class → Turn → Bool) → Keeps waits self.now → (class : Class) (turn : Turn) → has rows.now.classes.entries class turn ≡ waits class turn) }
     {
         match &self.rows {
             Some(rows) => Some(rows),

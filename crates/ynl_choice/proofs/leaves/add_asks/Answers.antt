@@ -4,7 +4,6 @@ use Rattle.std.specs.List.{list_any}
 use Rattle.ynl_model.specs.declared.proposals.What.{What}
 use Rattle.ynl_model.specs.declared.proposals.What.TheVariants.{Ask as Asked}
 use Rattle.ynl_tables.specs.Queued.{ask_waits, asks_waiting}
-use Rattle.ynl_waiting.specs.declared.classes.ClassRow.{ClassRow}
 use Rattle.ynl_choice.specs.Candidates.{is_ahead}
 use Rattle.ynl_choice.specs.Choosing.{asks_in, standings_to}
 use Rattle.ynl_choice.specs.Waits.{is_open, is_placeable, IsFirstTurn}
@@ -24,9 +23,9 @@ pub returns-then-not-may_fit-clause-best : goal.returns-then-not-may_fit-clause-
 returns-then-not-may_fit-clause-best c =
     let scene = c.args.scene.now in
     let row = c.args.row.now in
-    let rows = c.in-Some.waiting.now.classes.items in
-    none-held scene row (Asked scene.label 0) ask_waits (asks_in scene row.path) rows (asks-told scene row.path 0) (asks-gathered scene row.path) c.requires.placed c.requires.marked row.in_turn (c.in-Some.ensures (asks_waiting row.apps.items) row.asks_wait)
-    c.args.held.now (none-open scene row.path (Asked scene.label 0) rows (subst (λ b. OnFalse b (list_any (λ row. is_open scene row.class) rows ≡ false)) c.if-not-may_fit.true c.may_fit.ensures))
+    let entries = c.in-Some.waiting.now.classes.entries in
+    none-held scene row (Asked scene.label 0) ask_waits (asks_in scene row.path) entries (asks-told scene row.path 0) (asks-gathered scene row.path) c.requires.placed c.requires.marked row.in_turn (c.in-Some.ensures (asks_waiting row.apps.items) row.asks_wait)
+    c.args.held.now (none-open scene row.path (Asked scene.label 0) entries (subst (λ b. OnFalse b (list_any (λ entry. is_open scene entry.0) entries ≡ false)) c.if-not-may_fit.true c.may_fit.ensures))
 
 pub returns-then-is_passed-clause-best : goal.returns-then-is_passed-clause-best
 returns-then-is_passed-clause-best c =
@@ -39,14 +38,14 @@ pub returns-then-not-is_any_open-clause-best : goal.returns-then-not-is_any_open
 returns-then-not-is_any_open-clause-best c =
     let scene = c.args.scene.now in
     let row = c.args.row.now in
-    let rows = c.in-Some.waiting.now.classes.items in
-    none-held scene row (Asked scene.label 0) ask_waits (asks_in scene row.path) rows (asks-told scene row.path 0) (asks-gathered scene row.path) c.requires.placed c.requires.marked row.in_turn (c.in-Some.ensures (asks_waiting row.apps.items) row.asks_wait)
-    c.args.held.now (none-open scene row.path (Asked scene.label 0) rows (ap (λ (some : List ClassRow). list_any (λ row. is_open scene row.class) some) (sym c.deref.ensures.value) ∙ sym c.is_any_open.ensures ∙ c.if-not-is_any_open.true))
+    let entries = c.in-Some.waiting.now.classes.entries in
+    none-held scene row (Asked scene.label 0) ask_waits (asks_in scene row.path) entries (asks-told scene row.path 0) (asks-gathered scene row.path) c.requires.placed c.requires.marked row.in_turn (c.in-Some.ensures (asks_waiting row.apps.items) row.asks_wait)
+    c.args.held.now (none-open scene row.path (Asked scene.label 0) entries (sym c.is_any_open.ensures ∙ c.if-not-is_any_open.true))
 
 pub returns-then-not-may_be_taken-clause-best : goal.returns-then-not-may_be_taken-clause-best
 returns-then-not-may_be_taken-clause-best c =
     let scene = c.args.scene.now in
     let row = c.args.row.now in
-    let rows = c.in-Some.waiting.now.classes.items in
-    none-held scene row (Asked scene.label 0) ask_waits (asks_in scene row.path) rows (asks-told scene row.path 0) (asks-gathered scene row.path) c.requires.placed c.requires.marked row.in_turn (c.in-Some.ensures (asks_waiting row.apps.items) row.asks_wait)
-    c.args.held.now (subst (λ b. OnFalse b ((what : What) → IsFirstTurn (is_placeable scene row.path what) rows None)) c.if-not-may_be_taken.true c.may_be_taken.ensures.none (Asked scene.label 0))
+    let entries = c.in-Some.waiting.now.classes.entries in
+    none-held scene row (Asked scene.label 0) ask_waits (asks_in scene row.path) entries (asks-told scene row.path 0) (asks-gathered scene row.path) c.requires.placed c.requires.marked row.in_turn (c.in-Some.ensures (asks_waiting row.apps.items) row.asks_wait)
+    c.args.held.now (subst (λ b. OnFalse b ((what : What) → IsFirstTurn (is_placeable scene row.path what) entries None)) c.if-not-may_be_taken.true c.may_be_taken.ensures.none (Asked scene.label 0))

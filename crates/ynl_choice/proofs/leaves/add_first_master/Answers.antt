@@ -9,14 +9,14 @@ pub returns-in_default-clause-best : goal.returns-in_default-clause-best
 returns-in_default-clause-best c =
     let scene = c.args.scene.now in
     let row = c.args.row.now in
-    none-held scene row Master master_waits (masters_of scene row.path) c.args.classes.now (masters-told scene row.path) (masters-gathered scene row.path) c.requires.placed c.requires.marked row.in_turn c.requires.classes
+    none-held scene row Master master_waits (masters_of scene row.path) c.args.classes.now.entries (masters-told scene row.path) (masters-gathered scene row.path) c.requires.placed c.requires.marked row.in_turn c.requires.classes
     c.args.held.now c.in_default.ensures.first
 
 pub returns-in-Some-place_of-clause-best : goal.returns-in-Some-place_of-clause-best
 returns-in-Some-place_of-clause-best c =
     let scene = c.args.scene.now in
     let row = c.args.row.now in
-    one-held scene row Master master_waits (masters_of scene row.path) c.args.classes.now (masters-told scene row.path) (masters-gathered scene row.path) c.requires.placed c.requires.marked row.in_turn c.requires.classes
+    one-held scene row Master master_waits (masters_of scene row.path) c.args.classes.now.entries (masters-told scene row.path) (masters-gathered scene row.path) c.requires.placed c.requires.marked row.in_turn c.requires.classes
     c.in-Some.turn c.in-Some-place_of.place c.index.result.now c.args.held.now c.add_master.new.held c.in-Some.ensures.first c.in-Some-place_of.ensures.found c.index.ensures c.add_master.ensures.best
 
 pub returns-in_default-place_of-clause-best : goal.returns-in_default-place_of-clause-best
@@ -24,5 +24,5 @@ returns-in_default-place_of-clause-best c =
     let scene = c.args.scene.now in
     let row = c.args.row.now in
     absurd
-    (is-numbered scene row Master master_waits (masters_of scene row.path) c.args.classes.now (masters-told scene row.path) (masters-gathered scene row.path) c.requires.placed c.requires.marked row.in_turn c.requires.classes
+    (is-numbered scene row Master master_waits (masters_of scene row.path) c.args.classes.now.entries (masters-told scene row.path) (masters-gathered scene row.path) c.requires.placed c.requires.marked row.in_turn c.requires.classes
     c.in-Some.turn c.in-Some.ensures.first c.in_default-place_of.ensures.absent)

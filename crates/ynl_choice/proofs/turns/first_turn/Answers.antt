@@ -1,16 +1,19 @@
-use Rattle.ynl_choice.specs.Waits.{is_placeable, has_turn}
-use Rattle.std.proofs.Common.{take}
-use Rattle.ynl_choice.proofs.Waits.{row-more, rows-all}
+use Rattle.std.proofs.Common.{List, [], ◌∷◌, ◌++◌, append_assoc, append-nil, sym, ap, subst, ◌∙◌}
+use Rattle.ynl_waiting.specs.Classes.{Entry}
+use Rattle.ynl_choice.specs.Waits.{is_placeable, has_turn, IsFirstTurn}
+use Rattle.ynl_choice.proofs.Waits.{entry-more}
 use Rattle.ynl_choice.proofs.turns.first_turn.Goals as goal
 
 pub loop-class-preserved : goal.loop-class-preserved
 loop-class-preserved c =
     let test = is_placeable c.args.scene.now c.args.row.now.path c.args.what.now in
-    let rows = c.args.classes.now in
-    let i = c.loop-class.class-index in (
-      row-more test rows i c.class-item.result c.add_class.new.held c.loop-class-test.true c.class-item.is (c.add_class.ensures.first (has_turn test (take i rows)) c.loop-class.invariant.0),
-      c.add_class.ensures.limits,
-    )
+    let front : List Entry = c.loop-class.invariant.0 in
+    let entry : Entry = (c.in-Some.class.now, c.in-Some.turns.now) in
+    let first = entry-more test front entry c.add_class.new.held (c.add_class.ensures.first (has_turn test front) c.loop-class.invariant.2) in
+    (front ++ entry ∷ [], append_assoc front (entry ∷ []) c.next.new.self ∙ ap (λ (rest : List Entry). front ++ rest) (sym c.in-Some.ensures.steps) ∙ c.loop-class.invariant.1, first, c.add_class.ensures.limits)
 
 pub returns-clause-first : goal.returns-clause-first
-returns-clause-first c = rows-all (is_placeable c.args.scene.now c.args.row.now.path c.args.what.now) c.args.classes.now c.loop-class.class-index c.loop-class.held c.loop-class-test.false c.loop-class.invariant.0
+returns-clause-first c =
+    let front : List Entry = c.loop-class.invariant.0 in
+    let whole = sym (append-nil front) ∙ ap (λ (rest : List Entry). front ++ rest) (sym c.in-None.ensures.steps.0) ∙ c.loop-class.invariant.1 in
+    subst (λ (entries : List Entry). IsFirstTurn (is_placeable c.args.scene.now c.args.row.now.path c.args.what.now) entries c.loop-class.held) whole c.loop-class.invariant.2

@@ -1,7 +1,7 @@
-use Rattle.std.proofs.Common.{◌≡◌, false, take}
+use Rattle.std.proofs.Common.{◌≡◌}
 use Rattle.std.specs.List.{list_any}
 use Rattle.ynl_choice.specs.Waits.{is_open}
 use Rattle.ynl_choice.proofs.turns.is_any_open.Given as goal
 
-abbrev pub invariant-loop-row : goal.invariant-loop-row
-invariant-loop-row l = list_any (λ row. is_open l.scene row.class) (take l.row-index l.classes) ≡ false
+abbrev pub invariant-loop-class : goal.invariant-loop-class
+invariant-loop-class l = list_any (λ entry. is_open l.scene entry.0) l.class-iterator ≡ list_any (λ entry. is_open l.scene entry.0) l.classes.entries
