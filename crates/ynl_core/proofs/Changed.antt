@@ -1,14 +1,17 @@
 -- A core whose tables have changed.
-use Rattle.std.proofs.Common.{◌≡◌, [], sym, subst, ◌∙◌}
+use Rattle.std.proofs.Common.{◌≡◌, [], sym, ap, subst, ◌∙◌}
 use Rattle.ynl_model.specs.declared.events.Event.{Event}
-use Rattle.ynl_model.specs.Events.{step}
+use Rattle.ynl_model.specs.declared.replies.Reply.TheVariants.{Done}
+use Rattle.ynl_model.specs.Cluster.{State}
+use Rattle.ynl_model.specs.Events.{Outcome, done, step}
 use Rattle.ynl_laws.specs.Working.{IsRanged}
 use Rattle.ynl_tables.specs.declared.tables.Tables.{Tables}
 use Rattle.ynl_tables.specs.Kept.{IsKept}
 use Rattle.ynl_tables.specs.Resting.{IsAsBefore}
 use Rattle.ynl_tables.specs.Tables.{state_of}
 use Rattle.ynl_core.specs.declared.cluster.Core.TheInside.{Inside}
-use Rattle.ynl_core.specs.CoreFields.{IsSound, IsWorkingCore}
+use Rattle.ynl_core.specs.CoreFields.{world_of, IsSound, IsWorkingCore}
+use Rattle.ynl_core.specs.World.{World, Answers}
 use Rattle.ynl_core.proofs.Stepping.{sound_after}
 
 -- it works where they stand for what an event leads to, and all nodes were woken
@@ -27,3 +30,11 @@ unchanged a new h same rests kept numbers = record {
   kept = kept;
   numbered = numbers ∙ h.numbered;
 }
+
+-- an event that leads to a state and is done is answered by that state
+pub answers_done : (a : Inside) (old : World) (event : Event) (left new : State) → world_of a ≡ old → step a.config (state_of a.tables) event ≡ done left → new ≡ left → Answers old event (record { config = a.config; state = new }) Done
+answers_done a old event left new seen stepped same =
+    subst (λ w. Answers w event (record { config = a.config; state = new }) Done) seen (record {
+      told = sym (ap (λ (o : Outcome). o.reply) stepped);
+      left = λ i. record { config = a.config; state = (same ∙ sym (ap (λ (o : Outcome). o.state) stepped)) i };
+    })

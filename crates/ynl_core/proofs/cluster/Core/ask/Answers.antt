@@ -4,16 +4,14 @@ use Rattle.std.specs.Option.{option_map_or}
 use Rattle.ynl_resource.specs.declared.paths.Path.{Path}
 use Rattle.ynl_model.specs.declared.events.Event.{Event}
 use Rattle.ynl_model.specs.declared.events.Event.TheVariants.{Ask}
-use Rattle.ynl_model.specs.declared.replies.Reply.TheVariants.{Done}
 use Rattle.ynl_model.specs.Applications.{Application, LeafApps, find_app, in_leaf, with_app, set_ask}
 use Rattle.ynl_model.specs.Cluster.{State}
 use Rattle.ynl_model.specs.Events.{Outcome, done, step, accepted}
 use Rattle.ynl_tables.specs.Kept.{AreKept, IsKept}
 use Rattle.ynl_tables.specs.Tables.{state_of, leaves_of, partitions_of}
 use Rattle.ynl_changes.proofs.Summing.{kept_leaf}
-use Rattle.ynl_core.specs.World.{World, Answers}
 use Rattle.ynl_core.proofs.Stepping.{taken_in}
-use Rattle.ynl_core.proofs.Changed.{woken, unchanged}
+use Rattle.ynl_core.proofs.Changed.{answers_done, woken, unchanged}
 use Rattle.ynl_core.proofs.cluster.Core.ask.Goals as goal
 
 by_leaf : (o : Option Application) (leaf : Path) (s : State) (outcome : Path → Outcome) → option_map (λ app. app.leaf) o ≡ Some leaf → option_map_or (λ app. outcome app.leaf) o (done s) ≡ outcome leaf
@@ -51,14 +49,7 @@ invariant_of-self-2 c =
     woken c.self.inside (record c.self.inside.tables { leaves = c.ask_for.new.rows }) c.wake.new.tables event c.self.invariant c.amount-sized.ensures.range (ap (λ (o : Outcome). o.state) (stepped c)) kept refl c.wake.ensures.before c.wake.ensures.resting
 
 pub returns-clause-ok : goal.returns-clause-ok
-returns-clause-ok c =
-    let event : Event = Ask c.args.tenant c.args.name c.args.ask.label c.args.ask.priority c.args.ask.count c.args.ask.size in
-    let new : World = record { config = c.self.inside.config; state = state_of c.wake.new.tables } in
-    let P : World → Type 0 = λ w. Answers w event new Done in
-    subst P c.self.view_is (record {
-      told = sym (ap (λ (o : Outcome). o.reply) (stepped c));
-      left = λ i. record { config = c.self.inside.config; state = (c.wake.ensures.before.state ∙ sym (ap (λ (o : Outcome). o.state) (stepped c))) i };
-    })
+returns-clause-ok c = answers_done c.self.inside c.args.self.now (Ask c.args.tenant c.args.name c.args.ask.label c.args.ask.priority c.args.ask.count c.args.ask.size) _ (state_of c.wake.new.tables) c.self.view_is (stepped c) c.wake.ensures.before.state
 
 -- where memory is refused all is as it was
 pub invariant_of-self : goal.invariant_of-self

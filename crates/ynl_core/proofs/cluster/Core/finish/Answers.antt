@@ -1,16 +1,13 @@
-use Rattle.std.proofs.Common.{◌≡◌, Some, refl, sym, ap, subst, ◌∙◌}
+use Rattle.std.proofs.Common.{◌≡◌, Some, refl, sym, ap, ◌∙◌}
 use Rattle.std.specs.Prelude.{option_map}
-use Rattle.ynl_model.specs.declared.events.Event.{Event}
 use Rattle.ynl_model.specs.declared.events.Event.TheVariants.{Finish}
-use Rattle.ynl_model.specs.declared.replies.Reply.TheVariants.{Done}
 use Rattle.ynl_model.specs.Applications.{Application, find_app}
 use Rattle.ynl_model.specs.Cluster.{State}
 use Rattle.ynl_model.specs.Events.{Outcome, done, step, accepted}
 use Rattle.ynl_changes.proofs.Marks.{finds_found}
 use Rattle.ynl_core.proofs.Stepping.{taken_in}
-use Rattle.ynl_core.proofs.Changed.{woken}
+use Rattle.ynl_core.proofs.Changed.{answers_done, woken}
 use Rattle.ynl_tables.specs.Tables.{state_of, app_of}
-use Rattle.ynl_core.specs.World.{World, Answers}
 use Rattle.ynl_core.proofs.cluster.Core.finish.Goals as goal
 
 -- the step is that the application finishes
@@ -27,14 +24,7 @@ pub invariant_of-self : goal.invariant_of-self
 invariant_of-self c = woken c.self.inside c.finish_application.new.tables c.wake.new.tables (Finish c.args.tenant c.args.name) c.self.invariant tt (ap (λ (o : Outcome). o.state) (stepped c)) c.finish_application.ensures.kept c.finish_application.ensures.numbers c.wake.ensures.before c.wake.ensures.resting
 
 pub returns : goal.returns
-returns c =
-    let event : Event = Finish c.args.tenant c.args.name in
-    let new : World = record { config = c.self.inside.config; state = state_of c.wake.new.tables } in
-    let P : World → Type 0 = λ w. Answers w event new Done in
-    subst P c.self.view_is (record {
-      told = sym (ap (λ (o : Outcome). o.reply) (stepped c));
-      left = λ i. record { config = c.self.inside.config; state = (c.wake.ensures.before.state ∙ sym (ap (λ (o : Outcome). o.state) (stepped c))) i };
-    })
+returns c = answers_done c.self.inside c.args.self.now (Finish c.args.tenant c.args.name) _ (state_of c.wake.new.tables) c.self.view_is (stepped c) c.wake.ensures.before.state
 
 pub finish_application-requires-clause-live : goal.finish_application-requires-clause-live
 finish_application-requires-clause-live c =

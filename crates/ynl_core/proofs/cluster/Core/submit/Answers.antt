@@ -7,7 +7,6 @@ use Rattle.ynl_resource.specs.declared.names.Name.{Name}
 use Rattle.ynl_resource.specs.declared.paths.Path.{Path}
 use Rattle.ynl_model.specs.declared.events.Event.{Event}
 use Rattle.ynl_model.specs.declared.events.Event.TheVariants.{Submit}
-use Rattle.ynl_model.specs.declared.replies.Reply.TheVariants.{Done}
 use Rattle.ynl_model.specs.Queues.{Config}
 use Rattle.ynl_model.specs.Cluster.{State}
 use Rattle.ynl_model.specs.Applications.{Application, LeafApps, leaf_of, in_leaf, submitted, new_app}
@@ -17,9 +16,8 @@ use Rattle.ynl_tables.specs.Kept.{AreKept, IsKept}
 use Rattle.ynl_tables.specs.Tables.{state_of, leaves_of, partitions_of}
 use Rattle.ynl_laws.proofs.Totals.Marks.{mark-new}
 use Rattle.ynl_changes.proofs.Summing.{kept_submission}
-use Rattle.ynl_core.specs.World.{World, Answers}
 use Rattle.ynl_core.proofs.Stepping.{taken_in}
-use Rattle.ynl_core.proofs.Changed.{woken, unchanged}
+use Rattle.ynl_core.proofs.Changed.{answers_done, woken, unchanged}
 use Rattle.ynl_core.proofs.cluster.Core.submit.Goals as goal
 
 -- a name that is submitted was not used
@@ -58,14 +56,7 @@ invariant_of-self-2 c =
     woken c.self.inside (record c.self.inside.tables { leaves = c.submit.new.rows }) c.wake.new.tables event c.self.invariant c.amount-sized.ensures.range (ap (λ (o : Outcome). o.state) (stepped c)) kept refl c.wake.ensures.before c.wake.ensures.resting
 
 pub returns-clause-ok : goal.returns-clause-ok
-returns-clause-ok c =
-    let event : Event = Submit c.args.queue c.args.app c.args.user c.args.label c.args.master in
-    let new : World = record { config = c.self.inside.config; state = state_of c.wake.new.tables } in
-    let P : World → Type 0 = λ w. Answers w event new Done in
-    subst P c.self.view_is (record {
-      told = sym (ap (λ (o : Outcome). o.reply) (stepped c));
-      left = λ i. record { config = c.self.inside.config; state = (c.wake.ensures.before.state ∙ sym (ap (λ (o : Outcome). o.state) (stepped c))) i };
-    })
+returns-clause-ok c = answers_done c.self.inside c.args.self.now (Submit c.args.queue c.args.app c.args.user c.args.label c.args.master) _ (state_of c.wake.new.tables) c.self.view_is (stepped c) c.wake.ensures.before.state
 
 -- where memory is refused all is as it was
 pub invariant_of-self : goal.invariant_of-self
