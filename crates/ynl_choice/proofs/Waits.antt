@@ -1,5 +1,5 @@
 -- The first turn of classes, one class after another, and the application of its number.
-use Rattle.std.proofs.Common.{◌≡◌, Bool, true, false, ◌&&◌, ◌||◌, ◌⊎◌, inl, inr, List, [], ◌∷◌, ◌++◌, Option, Some, None, refl, sym, ap, subst, ◌∙◌}
+use Rattle.std.proofs.Common.{◌≡◌, Bool, true, false, cond, ◌&&◌, ◌||◌, ◌⊎◌, inl, inr, List, [], ◌∷◌, ◌++◌, Option, Some, None, refl, sym, ap, subst, ◌∙◌}
 use Rattle.std.specs.Bool.{OnFalse}
 use Rattle.std.specs.BTreeSet.{contains}
 use Rattle.std.specs.Cmp.{IsTotalOrder, nat_cmp_total, then_total, on_total}
@@ -16,16 +16,17 @@ use Rattle.ynl_resource.specs.declared.paths.Path.{Path}
 use Rattle.ynl_model.specs.declared.proposals.What.{What}
 use Rattle.ynl_resource.specs.Amounts.{fits_in}
 use Rattle.ynl_resource.specs.declared.amounts.Resource.{Resource}
-use Rattle.ynl_model.specs.Cluster.{free}
-use Rattle.ynl_model.specs.Service.{has_room}
+use Rattle.ynl_model.specs.Cluster.{State, free}
+use Rattle.ynl_model.specs.Queues.{Config}
+use Rattle.ynl_model.specs.Service.{Item, has_room, is_eligible, within_maximum, within_user_limit, within_master_share}
 use Rattle.ynl_laws.proofs.Amounts.{fits-trans}
 use Rattle.ynl_laws.specs.First.{IsFirst}
 use Rattle.ynl_waiting.specs.declared.classes.Class.{Class}
 use Rattle.ynl_waiting.specs.declared.classes.Turn.{Turn}
 use Rattle.ynl_waiting.specs.Classes.{Entry, turn_order, is_turn_later, are_above}
 use Rattle.ynl_choice.specs.declared.scenes.Scene.{Scene}
-use Rattle.ynl_choice.specs.Choosing.{state_in, passes}
-use Rattle.ynl_choice.specs.Waits.{item_for, is_open, is_placeable, is_before, has_turn, IsFirstTurn}
+use Rattle.ynl_choice.specs.Choosing.{state_in, label_for, passes}
+use Rattle.ynl_choice.specs.Waits.{item_for, is_open, fits_leaf, fits_user, is_placeable, is_before, has_turn, IsFirstTurn}
 use Rattle.ynl_choice.proofs.Considering.{no_room}
 
 turn_order_total : IsTotalOrder turn_order
@@ -64,6 +65,56 @@ barred scene leaf what class h = ap (λ b. same_label class.label scene.label &&
 pub opened : (scene : Scene) (leaf : Path) (what : What) (class : Class) → (same_label class.label scene.label && has_room (state_in scene) scene.node class.size) ≡ true → passes scene (item_for leaf what class) ≡ true
     → is_placeable scene leaf what class ≡ true
 opened scene leaf what class h k = and_from (same_label class.label scene.label) (passes scene (item_for leaf what class)) (and_parts (same_label class.label scene.label) (has_room (state_in scene) scene.node class.size) h).0 k
+
+-- what has room may be placed where the limits of the leaf and of its user allow it
+passes-by : (scene : Scene) (leaf : Path) (what : What) (class : Class) → scene.label ≡ label_for scene.as_guests scene.node → has_room (state_in scene) scene.node class.size ≡ true
+    → passes scene (item_for leaf what class) ≡ (fits_leaf scene leaf what class && fits_user scene leaf what class)
+unfolding is_eligible
+passes-by scene leaf what class label room = go scene.as_guests label
+  where
+    s : State
+    s = state_in scene
+
+    c : Config
+    c = scene.config.now
+
+    item : Item
+    item = item_for leaf what class
+
+    turned : (m u t : Bool) → (m && u && t) ≡ ((m && t) && u)
+    turned true true true = refl
+    turned true true false = refl
+    turned true false true = refl
+    turned true false false = refl
+    turned false u t = refl
+
+    go : (guests : Bool) → scene.label ≡ label_for guests scene.node
+        → cond guests (has_room s scene.node class.size) (is_eligible c s scene.node item) ≡ ((guests || (within_maximum s scene.label item && within_master_share c s scene.label leaf what class.size)) && (guests || within_user_limit c s scene.label item))
+    go true e = room
+    go false e =
+        ap (λ b. b && within_maximum s scene.node.label item && within_user_limit c s scene.node.label item && within_master_share c s scene.node.label leaf what class.size) room
+        ∙ turned (within_maximum s scene.node.label item) (within_user_limit c s scene.node.label item) (within_master_share c s scene.node.label leaf what class.size)
+        ∙ ap (λ p. (within_maximum s p item && within_master_share c s p leaf what class.size) && within_user_limit c s p item) (sym e)
+
+module _ (scene : Scene) (leaf : Path) (what : What) (class : Class) (label : scene.label ≡ label_for scene.as_guests scene.node) (is : is_open scene class ≡ true) where
+  by : passes scene (item_for leaf what class) ≡ (fits_leaf scene leaf what class && fits_user scene leaf what class)
+  by = passes-by scene leaf what class label (and_parts (same_label class.label scene.label) (has_room (state_in scene) scene.node class.size) is).1
+
+  -- a class that its leaf has no more for may not be placed
+  pub barred-leaf : fits_leaf scene leaf what class ≡ false → is_placeable scene leaf what class ≡ false
+  barred-leaf h = barred scene leaf what class (by ∙ ap (λ b. b && fits_user scene leaf what class) h)
+
+  -- nor one that its user has no more for
+  pub barred-user : fits_user scene leaf what class ≡ false → is_placeable scene leaf what class ≡ false
+  barred-user h = barred scene leaf what class (by ∙ ap (λ b. fits_leaf scene leaf what class && b) h ∙ none (fits_leaf scene leaf what class))
+    where
+      none : (a : Bool) → (a && false) ≡ false
+      none true = refl
+      none false = refl
+
+  -- and else it may
+  pub may-be_placed : fits_leaf scene leaf what class ≡ true → fits_user scene leaf what class ≡ true → is_placeable scene leaf what class ≡ true
+  may-be_placed h k = opened scene leaf what class is (by ∙ and_from (fits_leaf scene leaf what class) (fits_user scene leaf what class) h k)
 
 -- what waits so far, and the turns of a class where it may be placed
 

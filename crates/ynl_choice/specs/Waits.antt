@@ -1,5 +1,5 @@
 -- What waits in a leaf, by classes and turns, and which turn is the first that may be placed.
-use Rattle.std.specs.Prelude.{ℕ, Bool, true, ◌≡◌, ◌&&◌, List, Option, Some, None, [], ◌∷◌}
+use Rattle.std.specs.Prelude.{ℕ, Bool, true, ◌≡◌, ◌&&◌, ◌||◌, List, Option, Some, None, [], ◌∷◌}
 use Rattle.std.specs.BTreeSet.{contains}
 use Rattle.std.specs.List.{list_any}
 use Rattle.std.specs.Option.{option_map_or}
@@ -7,7 +7,7 @@ use Rattle.ynl_resource.specs.Names.{same_label}
 use Rattle.ynl_resource.specs.declared.paths.Path.{Path}
 use Rattle.ynl_model.specs.declared.proposals.What.{What}
 use Rattle.ynl_model.specs.Applications.{Application, find_ask}
-use Rattle.ynl_model.specs.Service.{Item, has_room}
+use Rattle.ynl_model.specs.Service.{Item, has_room, within_maximum, within_user_limit, within_master_share}
 use Rattle.ynl_laws.specs.First.{IsFirst}
 use Rattle.ynl_waiting.specs.declared.classes.Class.{Class}
 use Rattle.ynl_waiting.specs.declared.classes.Turn.{Turn}
@@ -26,6 +26,15 @@ is_open scene class = same_label class.label scene.label && has_room (state_in s
 -- whether what waits of a class may be placed
 abbrev pub is_placeable : Scene → Path → What → Class → Bool
 is_placeable scene leaf what class = same_label class.label scene.label && passes scene (item_for leaf what class)
+
+-- whether the limits that a leaf has for all of its users allow what waits of a class; guests are under none
+abbrev pub fits_leaf : Scene → Path → What → Class → Bool
+fits_leaf scene leaf what class =
+    scene.as_guests || (within_maximum (state_in scene) scene.label (item_for leaf what class) && within_master_share scene.config.now (state_in scene) scene.label leaf what class.size)
+
+-- whether the limit of its user allows it
+abbrev pub fits_user : Scene → Path → What → Class → Bool
+fits_user scene leaf what class = scene.as_guests || within_user_limit scene.config.now (state_in scene) scene.label (item_for leaf what class)
 
 -- whether a turn is one of a class that passes a test
 abbrev pub has_turn : (Class → Bool) → List Entry → Turn → Bool

@@ -9,8 +9,8 @@ use Rattle.ynl_choice.proofs.Users.{user_stays}
 use Rattle.ynl_choice.proofs.eligible.stays_within.Goals as goal
 
 -- what all of the leaf use is within the limit with the size
-pub returns-then-fits_in : goal.returns-then-fits_in
-returns-then-fits_in c = λ same.
+pub returns-then-fits_in-clause-within : goal.returns-then-fits_in-clause-within
+returns-then-fits_in-clause-within c = λ same.
     let s = state_of c.args.tables.now in
     let item : Item = item_by c.args.request.now in
     let label = c.args.label.now in

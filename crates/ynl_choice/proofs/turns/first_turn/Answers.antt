@@ -10,7 +10,7 @@ loop-class-preserved c =
     let front : List Entry = c.loop-class.invariant.0 in
     let entry : Entry = (c.in-Some.class.now, c.in-Some.turns.now) in
     let first = entry-more test front entry c.add_class.new.held (c.add_class.ensures.first (has_turn test front) c.loop-class.invariant.2) in
-    (front ++ entry ∷ [], append_assoc front (entry ∷ []) c.next.new.self ∙ ap (λ (rest : List Entry). front ++ rest) (sym c.in-Some.ensures.steps) ∙ c.loop-class.invariant.1, first, c.add_class.ensures.limits)
+    (front ++ entry ∷ [], append_assoc front (entry ∷ []) c.next.new.self ∙ ap (λ (rest : List Entry). front ++ rest) (sym c.in-Some.ensures.steps) ∙ c.loop-class.invariant.1, first, c.add_class.ensures.user)
 
 pub returns-clause-first : goal.returns-clause-first
 returns-clause-first c =
