@@ -6,12 +6,13 @@ use Rattle.std.specs.List.{remove}
 use Rattle.std.specs.Option.{option_map_or}
 use Rattle.ynl_resource.specs.Tables.{without}
 use Rattle.ynl_model.specs.declared.containers.Placed.{Placed}
+use Rattle.ynl_resource.specs.declared.labels.Label.{Label}
 use Rattle.ynl_resource.specs.declared.paths.Path.{Path}
 use Rattle.ynl_model.specs.Applications.{LeafApps}
 use Rattle.ynl_tables.specs.declared.listed.Holder.{Holder}
 use Rattle.ynl_tables.specs.declared.rows.ContainerRow.{ContainerRow}
 use Rattle.ynl_tables.specs.declared.rows.PartitionRow.{PartitionRow}
-use Rattle.ynl_tables.specs.Living.{live_in}
+use Rattle.ynl_tables.specs.Living.{container_in, live_in}
 use Rattle.ynl_tables.specs.Kept.{AreSummed}
 use Rattle.ynl_tables.specs.Listed.{AreEntries, clocks_for, clocks_held}
 use Rattle.ynl_tables.proofs.Knowing.{some-is_some}
@@ -24,7 +25,7 @@ listed_in queues leaves [] h zero holder clocks e = absurd (some-is_some clocks 
 listed_in queues leaves [] h (suc place) holder clocks e = absurd (some-is_some clocks e)
 listed_in queues leaves (row ∷ rows) h zero holder clocks e = go row.listed.entries h.0.listed e
   where
-    go : (o : Option (BTreeMap Holder (Vec ℕ Global))) → IfSome o (AreEntries (live_in row.containers.items)) → option_map (λ entries. clocks_for entries holder) o ≡ Some clocks → option_map (λ entries. clocks_for entries holder) o ≡ Some (clocks_held holder (live_in row.containers.items))
+    go : (o : Option (BTreeMap Holder (Vec ℕ Global))) → IfSome o (AreEntries (live_in row.label row.containers.items)) → option_map (λ entries. clocks_for entries holder) o ≡ Some clocks → option_map (λ entries. clocks_for entries holder) o ≡ Some (clocks_held holder (live_in row.label row.containers.items))
     go None right e = absurd (some-is_some clocks e)
     go (Some entries) right e = ap (λ (ns : List ℕ). Some ns) (right holder)
 listed_in queues leaves (row ∷ rows) h (suc place) holder clocks e = listed_in queues leaves rows h.1 place holder clocks e
@@ -55,16 +56,16 @@ same_list ns ms e = ap value e
     value (Some ks) = ks
 
 -- the others are left where one of those goes that are to go
-pub without_ended : (p : Placed → Bool) (rows : List ContainerRow) (i : ℕ) → ((d : ContainerRow) → p (get_or rows i d).container ≡ true) → without p (live_in (remove rows i)) ≡ without p (live_in rows)
-without_ended p [] zero h = refl
-without_ended p [] (suc i) h = refl
-without_ended p (row ∷ rows) zero h = go row.is_live
+pub without_ended : (label : Label) (p : Placed → Bool) (rows : List ContainerRow) (i : ℕ) → ((d : ContainerRow) → p (container_in label (get_or rows i d)) ≡ true) → without p (live_in label (remove rows i)) ≡ without p (live_in label rows)
+without_ended label p [] zero h = refl
+without_ended label p [] (suc i) h = refl
+without_ended label p (row ∷ rows) zero h = go row.is_live
   where
-    go : (b : Bool) → without p (live_in rows) ≡ without p (cond b (row.container ∷ live_in rows) (live_in rows))
-    go true = λ k. cond (not (sym (h row) k)) (row.container ∷ without p (live_in rows)) (without p (live_in rows))
+    go : (b : Bool) → without p (live_in label rows) ≡ without p (cond b (container_in label row ∷ live_in label rows) (live_in label rows))
+    go true = λ k. cond (not (sym (h row) k)) (container_in label row ∷ without p (live_in label rows)) (without p (live_in label rows))
     go false = refl
-without_ended p (row ∷ rows) (suc i) h = go row.is_live (without_ended p rows i h)
+without_ended label p (row ∷ rows) (suc i) h = go row.is_live (without_ended label p rows i h)
   where
-    go : (b : Bool) → without p (live_in (remove rows i)) ≡ without p (live_in rows) → without p (cond b (row.container ∷ live_in (remove rows i)) (live_in (remove rows i))) ≡ without p (cond b (row.container ∷ live_in rows) (live_in rows))
-    go true rest = λ k. cond (not (p row.container)) (row.container ∷ rest k) (rest k)
+    go : (b : Bool) → without p (live_in label (remove rows i)) ≡ without p (live_in label rows) → without p (cond b (container_in label row ∷ live_in label (remove rows i)) (live_in label (remove rows i))) ≡ without p (cond b (container_in label row ∷ live_in label rows) (live_in label rows))
+    go true rest = λ k. cond (not (p (container_in label row))) (container_in label row ∷ rest k) (rest k)
     go false rest = rest

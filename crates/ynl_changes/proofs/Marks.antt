@@ -39,7 +39,7 @@ use Rattle.ynl_laws.proofs.Soundness.Steps.{stands-found}
 use Rattle.ynl_laws.proofs.Totals.Waiting.{master-chosen, master-committed}
 use Rattle.ynl_laws.proofs.Totals.Marks.{mark-end, mark-finish, mark-joined, mark-left, mark-place}
 use Rattle.ynl_tables.specs.declared.rows.ContainerRow.{ContainerRow}
-use Rattle.ynl_tables.specs.Living.{is_live_and, live_in}
+use Rattle.ynl_tables.specs.Living.{container_in, is_live_and, live_in}
 use Rattle.ynl_tables.proofs.Living.{live_more}
 use Rattle.ynl_tables.specs.declared.rows.App.{App}
 use Rattle.ynl_tables.specs.declared.rows.LeafRow.{LeafRow}
@@ -207,19 +207,19 @@ unmarked_more label node first k before now start e so_far =
 
 -- one more row is gone over
 pub unmarked_row : (label : Label) (node : Name) (rows : List ContainerRow) (i : ℕ) (row : ContainerRow) (before now start : List (List Noted)) → i < length rows → row ≡ get_or rows i row
-    → now ≡ cond (is_live_and (λ k. same_name k.node node) row) (map (map (remarked label row.container 0)) before) before
-    → before ≡ map (map (unmarked label node (live_in (take i rows)))) start → now ≡ map (map (unmarked label node (live_in (take (i + 1) rows)))) start
+    → now ≡ cond (is_live_and label (λ k. same_name k.node node) row) (map (map (remarked label (container_in label row) 0)) before) before
+    → before ≡ map (map (unmarked label node (live_in label (take i rows)))) start → now ≡ map (map (unmarked label node (live_in label (take (i + 1) rows)))) start
 unmarked_row label node rows i row before now start inside at e so_far = go row.is_live refl e
   where
     first : List Placed
-    first = live_in (take i rows)
+    first = live_in label (take i rows)
 
-    next : live_in (take (i + 1) rows) ≡ first ++ cond row.is_live (row.container ∷ []) []
-    next = live_more rows i row inside at
+    next : live_in label (take (i + 1) rows) ≡ first ++ cond row.is_live (container_in label row ∷ []) []
+    next = live_more label rows i row inside at
 
-    go : (b : Bool) → row.is_live ≡ b → now ≡ cond (b && same_name row.container.node node) (map (map (remarked label row.container 0)) before) before → now ≡ map (map (unmarked label node (live_in (take (i + 1) rows)))) start
-    go true live e = unmarked_more label node first row.container before now start e so_far ∙ ap (λ (ks : List Placed). map (map (unmarked label node ks)) start) (sym (next ∙ ap (λ b. first ++ cond b (row.container ∷ []) []) live))
-    go false dead e = e ∙ so_far ∙ ap (λ (ks : List Placed). map (map (unmarked label node ks)) start) (sym (next ∙ ap (λ b. first ++ cond b (row.container ∷ []) []) dead ∙ append-nil first))
+    go : (b : Bool) → row.is_live ≡ b → now ≡ cond (b && same_name row.node node) (map (map (remarked label (container_in label row) 0)) before) before → now ≡ map (map (unmarked label node (live_in label (take (i + 1) rows)))) start
+    go true live e = unmarked_more label node first (container_in label row) before now start e so_far ∙ ap (λ (ks : List Placed). map (map (unmarked label node ks)) start) (sym (next ∙ ap (λ b. first ++ cond b (container_in label row ∷ []) []) live))
+    go false dead e = e ∙ so_far ∙ ap (λ (ks : List Placed). map (map (unmarked label node ks)) start) (sym (next ∙ ap (λ b. first ++ cond b (container_in label row ∷ []) []) dead ∙ append-nil first))
 
 -- ---- the changes of a state
 

@@ -39,7 +39,7 @@ use Rattle.ynl_tables.specs.Sums.{AreSums}
 use Rattle.ynl_tables.specs.Kept.{AreByUser, IsSummed, AreKept, IsKept, stands_on}
 use Rattle.ynl_tables.specs.declared.listed.Listed.{Listed}
 use Rattle.ynl_tables.specs.Listed.{AreListed}
-use Rattle.ynl_tables.specs.Living.{is_live_and, live_in}
+use Rattle.ynl_tables.specs.Living.{container_in, is_live_and, live_in, row_of}
 use Rattle.ynl_tables.specs.Numbers.{AreNumbered}
 use Rattle.ynl_tables.specs.Rising.{clock_of}
 use Rattle.ynl_tables.specs.Tables.{partition_of, partitions_of, state_of}
@@ -77,16 +77,16 @@ use_small leaves queue xs h few =
     }
 
 -- what a row keeps is small
-pub small_uses : (queues : List Path) (leaves : List LeafApps) (row : PartitionRow) → IsSummed queues leaves row → IsTotal (sizes (live_in row.containers.items)) → length (live_in row.containers.items) < 2 ^ 63 → AllByRecursion IsSmallUse row.uses.items
+pub small_uses : (queues : List Path) (leaves : List LeafApps) (row : PartitionRow) → IsSummed queues leaves row → IsTotal (sizes (live_in row.label row.containers.items)) → length (live_in row.label row.containers.items) < 2 ^ 63 → AllByRecursion IsSmallUse row.uses.items
 small_uses queues leaves row summed h few =
     subst (AllByRecursion IsSmallUse) (sym summed.uses)
-    (Each-map (λ queue. Unit {0}) IsSmallUse (λ queue. use_by leaves queue (live_in row.containers.items)) (λ queue _. use_small leaves queue (live_in row.containers.items) h few) (root ∷ queues) (Each-all (λ queue. Unit {0}) (λ queue. tt) (root ∷ queues)))
+    (Each-map (λ queue. Unit {0}) IsSmallUse (λ queue. use_by leaves queue (live_in row.label row.containers.items)) (λ queue _. use_small leaves queue (live_in row.label row.containers.items) h few) (root ∷ queues) (Each-all (λ queue. Unit {0}) (λ queue. tt) (root ∷ queues)))
 
 pub uses_long : (queues : List Path) (leaves : List LeafApps) (row : PartitionRow) → IsSummed queues leaves row → length row.uses.items ≡ length (root ∷ queues)
-uses_long queues leaves row summed = ap length summed.uses ∙ length-map (root ∷ queues) (λ queue. use_by leaves queue (live_in row.containers.items))
+uses_long queues leaves row summed = ap length summed.uses ∙ length-map (root ∷ queues) (λ queue. use_by leaves queue (live_in row.label row.containers.items))
 
 -- in a state that works the containers of each row come to little
-pub rows_small : (c : Config) (t : Tables) → IsWorking c (state_of t) → AllByRecursion (λ row. IsTotal (sizes (live_in row.containers.items))) t.partitions.items
+pub rows_small : (c : Config) (t : Tables) → IsWorking c (state_of t) → AllByRecursion (λ row. IsTotal (sizes (live_in row.label row.containers.items))) t.partitions.items
 rows_small c t w =
     Each-unmap partition_of (λ row. IsTotal (sizes row.containers)) t.partitions.items
     (Each-weaker (λ row. find (is_partition row.label) (partitions_of t.partitions.items) ≡ Some row) (λ row. IsTotal (sizes row.containers))
@@ -109,7 +109,7 @@ risen-above limit shown next fresh is = go (nat_lt shown limit) refl is
 
 -- and where the clock of a partition is not spent its next is above those of its containers
 pub rows_below : (c : Config) (t : Tables) (label : Label) (next : ℕ) → IsWorking c (state_of t) → is_spent c.labels (state_of t) label ≡ false → next ≡ next_clock c.labels (state_of t) label
-    → AllByRecursion (λ row. same_label row.label label ≡ true → list_all (λ k. nat_lt (clock_of k) next) (live_in row.containers.items) ≡ true) t.partitions.items
+    → AllByRecursion (λ row. same_label row.label label ≡ true → list_all (λ k. nat_lt (clock_of k) next) (live_in row.label row.containers.items) ≡ true) t.partitions.items
 unfolding next_clock is_spent clock
 rows_below c t label next w fresh is =
     Each-unmap partition_of (λ row. same_label row.label label ≡ true → list_all (λ k. nat_lt (clock_of k) next) row.containers ≡ true) t.partitions.items
@@ -162,25 +162,27 @@ pub all_gone : {X : Type 0} (goes : X → Bool) (xs : List X) (i : ℕ) → leng
 all_gone goes xs i past = ap (λ ys. without goes (take i xs) ++ ys) (drop_all i xs past) ∙ append-nil (without goes (take i xs)) ∙ ap (without goes) (take_all i xs past)
 
 -- and what is left of the live ones
-pub all_ended : (goes : Placed → Bool) (rows : List ContainerRow) (i : ℕ) → length rows ≤ i → live_in (so_far (is_live_and goes) rows i) ≡ without goes (live_in rows)
-all_ended goes rows i past = ap live_in (all_gone (is_live_and goes) rows i past) ∙ live_without goes rows
+pub all_ended : (label : Label) (goes : Placed → Bool) (rows : List ContainerRow) (i : ℕ) → length rows ≤ i → live_in label (so_far (is_live_and label goes) rows i) ≡ without goes (live_in label rows)
+all_ended label goes rows i past = ap (live_in label) (all_gone (is_live_and label goes) rows i past) ∙ live_without label goes rows
 
--- a container comes last where its row does, and is live
-pub live_pushed : (old made new : List ContainerRow) (k : Placed) → live_in made ≡ live_in old → new ≡ made ++ record { container = k; is_live = true } ∷ [] → live_in new ≡ live_in old ++ k ∷ []
-live_pushed old made new k same pushed = ap live_in pushed ∙ live_append made (record { container = k; is_live = true } ∷ []) ∙ ap (λ ks. ks ++ k ∷ []) same
+-- a container of the partition comes last where its row does, and is live
+pub live_pushed : (label : Label) (old made new : List ContainerRow) (k : Placed) → k.id.label ≡ label → live_in label made ≡ live_in label old → new ≡ made ++ row_of k ∷ [] → live_in label new ≡ live_in label old ++ k ∷ []
+live_pushed label old made new k own same pushed =
+    let back : label ≡ k.id.label = sym own in
+    ap (live_in label) pushed ∙ live_append label made (row_of k ∷ []) ∙ (λ i. same i ++ record k { id = record { label = back i; clock = k.id.clock } } ∷ [])
 
 -- what is kept of use is as right as it was where the live containers are the same
-pub same_live : (queues : List Path) (leaves : List LeafApps) (old new : PartitionRow) → live_in new.containers.items ≡ live_in old.containers.items → new.uses.items ≡ old.uses.items → new.users.items ≡ old.users.items → new.filled ≡ old.filled → new.listed ≡ old.listed → IsSummed queues leaves old → IsSummed queues leaves new
+pub same_live : (queues : List Path) (leaves : List LeafApps) (old new : PartitionRow) → live_in new.label new.containers.items ≡ live_in old.label old.containers.items → new.uses.items ≡ old.uses.items → new.users.items ≡ old.users.items → new.filled ≡ old.filled → new.listed ≡ old.listed → IsSummed queues leaves old → IsSummed queues leaves new
 same_live queues leaves old new same uses users filled listed h = record {
   uses = uses ∙ h.uses ∙ ap (λ (ks : List Placed). map (λ queue. use_by leaves queue ks) (root ∷ queues)) (sym same);
-  users = subst (λ (sums : List Sums). AreByUser queues leaves sums (live_in new.containers.items)) (sym users) (subst (AreByUser queues leaves old.users.items) (sym same) h.users);
-  filled = subst (λ (sums : Sums). AreSums stands_on sums (live_in new.containers.items)) (sym filled) (subst (AreSums stands_on old.filled) (sym same) h.filled);
-  listed = subst (λ (lists : Listed). AreListed lists (live_in new.containers.items)) (sym listed) (subst (AreListed old.listed) (sym same) h.listed);
+  users = subst (λ (sums : List Sums). AreByUser queues leaves sums (live_in new.label new.containers.items)) (sym users) (subst (AreByUser queues leaves old.users.items) (sym same) h.users);
+  filled = subst (λ (sums : Sums). AreSums stands_on sums (live_in new.label new.containers.items)) (sym filled) (subst (AreSums stands_on old.filled) (sym same) h.filled);
+  listed = subst (λ (lists : Listed). AreListed lists (live_in new.label new.containers.items)) (sym listed) (subst (AreListed old.listed) (sym same) h.listed);
 }
 
 -- what is so in another way without a container is so without its row, if that is live
-pub leaves_row : (Was Is : List Placed → Type 0) (row : ContainerRow) → row.is_live ≡ true → LeavesIf true row.container Was Is → LeavesIf true row (λ rows. Was (live_in rows)) (λ rows. Is (live_in rows))
-leaves_row Was Is row live leaves before after was = subst Is (sym (live_append before after)) (leaves (live_in before) (live_in after) (subst Was (live_between before after row live) was))
+pub leaves_row : (label : Label) (Was Is : List Placed → Type 0) (row : ContainerRow) → row.is_live ≡ true → LeavesIf true (container_in label row) Was Is → LeavesIf true row (λ rows. Was (live_in label rows)) (λ rows. Is (live_in label rows))
+leaves_row label Was Is row live leaves before after was = subst Is (sym (live_append label before after)) (leaves (live_in label before) (live_in label after) (subst Was (live_between label before after row live) was))
 
 -- what each queue uses, with a container less
 pub use_less : (queues : List Path) (leaves : List LeafApps) (k : Placed) (old new : List Use) → LowersAll queues leaves k old new
@@ -203,22 +205,22 @@ numbered_leaf queues leaf change same leaves h =
 
 -- what a row keeps, where the leaves and the users of its containers are what they were
 summed_alike : (queues : List Path) (old new : List LeafApps) (row : PartitionRow) (P : Placed → Type 0) → ((k : Placed) → P k → leaf_of new k.tenant k.app ≡ leaf_of old k.tenant k.app) → ((k : Placed) → P k → owner new k.tenant k.app ≡ owner old k.tenant k.app)
-    → AllByRecursion P (live_in row.containers.items) → ((queue : Path) → use_by new queue (live_in row.containers.items) ≡ use_by old queue (live_in row.containers.items)) → IsSummed queues old row → IsSummed queues new row
+    → AllByRecursion P (live_in row.label row.containers.items) → ((queue : Path) → use_by new queue (live_in row.label row.containers.items) ≡ use_by old queue (live_in row.label row.containers.items)) → IsSummed queues old row → IsSummed queues new row
 summed_alike queues old new row P leaf mine all uses h = record {
-  uses = h.uses ∙ map_each (λ queue. use_by old queue (live_in row.containers.items)) (λ queue. use_by new queue (live_in row.containers.items)) (λ queue. sym (uses queue)) (root ∷ queues);
-  users = users_alike queues old new P leaf mine row.users.items (live_in row.containers.items) all h.users;
+  uses = h.uses ∙ map_each (λ queue. use_by old queue (live_in row.label row.containers.items)) (λ queue. use_by new queue (live_in row.label row.containers.items)) (λ queue. sym (uses queue)) (root ∷ queues);
+  users = users_alike queues old new P leaf mine row.users.items (live_in row.label row.containers.items) all h.users;
   filled = h.filled;
   listed = h.listed;
 }
 
 -- a change of a leaf that keeps its name and the names used there, and the users of some containers
 kept_change : (queues : List Path) (leaf : Path) (change : LeafApps → LeafApps) → KeepsNames change → (leaves : List LeafApps) (rows : List PartitionRow) (P : Placed → Type 0)
-    → ((k : Placed) → P k → owner (in_leaf leaf change leaves) k.tenant k.app ≡ owner leaves k.tenant k.app) → AllByRecursion (λ row. AllByRecursion P (live_in row.containers.items)) rows → AreKept queues leaves rows → AreKept queues (in_leaf leaf change leaves) rows
+    → ((k : Placed) → P k → owner (in_leaf leaf change leaves) k.tenant k.app ≡ owner leaves k.tenant k.app) → AllByRecursion (λ row. AllByRecursion P (live_in row.label row.containers.items)) rows → AreKept queues leaves rows → AreKept queues (in_leaf leaf change leaves) rows
 kept_change queues leaf change names leaves rows P mine all h = record {
   numbered = numbered_leaf queues leaf change names.leaf leaves h.numbered;
-  summed = Each-with (λ row. AllByRecursion P (live_in row.containers.items)) (IsSummed queues leaves) (IsSummed queues (in_leaf leaf change leaves))
+  summed = Each-with (λ row. AllByRecursion P (live_in row.label row.containers.items)) (IsSummed queues leaves) (IsSummed queues (in_leaf leaf change leaves))
       (λ row each e. summed_alike queues leaves (in_leaf leaf change leaves) row P (λ k p. leaf_of-kept leaf change names leaves k.tenant k.app) mine each
-      (λ queue. use-same leaves (in_leaf leaf change leaves) (leaf_of-kept leaf change names leaves) queue (live_in row.containers.items)) e) rows all h.summed;
+      (λ queue. use-same leaves (in_leaf leaf change leaves) (leaf_of-kept leaf change names leaves) queue (live_in row.label row.containers.items)) e) rows all h.summed;
 }
 
 -- an application of a leaf that is changed, and keeps its name and its user
@@ -226,7 +228,7 @@ pub kept_leaf : (queues : List Path) (leaf : Path) (name : Name) (change : Appli
     (rows : List PartitionRow) → AreKept queues leaves rows → AreKept queues (in_leaf leaf (with_app name change) leaves) rows
 kept_leaf queues leaf name change named used leaves rows h =
     kept_change queues leaf (with_app name change) (with_app-names name change) leaves rows (λ k. Unit {0}) (λ k p. owner-changed leaf name change named used leaves k.tenant k.app)
-    (Each-all (λ row. AllByRecursion (λ k. Unit {0}) (live_in row.containers.items)) (λ row. Each-all (λ k. Unit {0}) (λ k. tt) (live_in row.containers.items)) rows) h
+    (Each-all (λ row. AllByRecursion (λ k. Unit {0}) (live_in row.label row.containers.items)) (λ row. Each-all (λ k. Unit {0}) (λ k. tt) (live_in row.label row.containers.items)) rows) h
 
 -- an application that is finished, and has no containers any more
 pub kept_finished : (queues : List Path) (leaf : Path) (name : Name) (leaves : List LeafApps) (old : List Partition) (rows : List PartitionRow) → partitions_of rows ≡ map (without_own (tenant_of leaf) name) old → AreKept queues leaves rows
@@ -254,9 +256,9 @@ kept_submission queues app leaves rows unused known h =
     let extends : Extends leaves new = submit-extends app leaves unused in
     record {
       numbered = numbered_leaf queues app.leaf (submitted app) (λ row. refl) leaves h.numbered;
-      summed = Each-with (λ row. UsesAll leaves (live_in row.containers.items)) (IsSummed queues leaves) (IsSummed queues new)
+      summed = Each-with (λ row. UsesAll leaves (live_in row.label row.containers.items)) (IsSummed queues leaves) (IsSummed queues new)
           (λ row all e. summed_alike queues leaves new row (λ k. is_some (leaf_of leaves k.tenant k.app) ≡ true) (λ k used. extends k.tenant k.app used)
-          (λ k used. ap (option_map (λ app. app.user)) (find-submitted app leaves unused k.tenant k.app used)) all (λ queue. use-extends leaves new queue (live_in row.containers.items) extends all) e)
+          (λ k used. ap (option_map (λ app. app.user)) (find-submitted app leaves unused k.tenant k.app used)) all (λ queue. use-extends leaves new queue (live_in row.label row.containers.items) extends all) e)
           rows (Each-unmap partition_of (λ row. UsesAll leaves row.containers) rows known) h.summed;
     }
 

@@ -1,6 +1,7 @@
 -- What is kept of use, with a container more or less. The queues that are named here are those below root.
 use Rattle.std.specs.Prelude.{◌≡◌, ◌<◌, ◌^◌, Bool, true, false, List, ◌∷◌, ◌++◌, map, if◌then◌else◌}
 use Rattle.ynl_resource.specs.Names.{root, same_name}
+use Rattle.ynl_resource.specs.declared.labels.Label.{Label}
 use Rattle.ynl_resource.specs.declared.paths.Path.{Path}
 use Rattle.ynl_model.specs.declared.containers.Placed.{Placed}
 use Rattle.ynl_model.specs.declared.uses.Use.{Use}
@@ -34,15 +35,15 @@ RaisesAll queues leaves container old new = (used : Path → Use) → old ≡ ma
 abbrev pub LowersAll : List Path → List LeafApps → Placed → List Use → List Use → Type 0
 LowersAll queues leaves container old new = (used : Path → Use) → old ≡ map used (root ∷ queues) → new ≡ map (λ queue. lowered_in leaves queue container (used queue)) (root ∷ queues)
 
--- it is kept of each queue what it uses by the live containers of some rows, and so of each user in it, and of each node
-abbrev pub AreUses : List Path → List LeafApps → List Use → List ContainerRow → Type 0
-AreUses queues leaves uses rows = uses ≡ map (λ queue. use_by leaves queue (live_in rows)) (root ∷ queues)
+-- it is kept of each queue what it uses by the live containers of some rows of a partition, and so of each user in it, and of each node
+abbrev pub AreUses : List Path → List LeafApps → Label → List Use → List ContainerRow → Type 0
+AreUses queues leaves label uses rows = uses ≡ map (λ queue. use_by leaves queue (live_in label rows)) (root ∷ queues)
 
-abbrev pub AreUserUses : List Path → List LeafApps → List Sums → List ContainerRow → Type 0
-AreUserUses queues leaves users rows = AreByUser queues leaves users (live_in rows)
+abbrev pub AreUserUses : List Path → List LeafApps → Label → List Sums → List ContainerRow → Type 0
+AreUserUses queues leaves label users rows = AreByUser queues leaves users (live_in label rows)
 
-abbrev pub AreFilled : Sums → List ContainerRow → Type 0
-AreFilled filled rows = AreSums stands_on filled (live_in rows)
+abbrev pub AreFilled : Label → Sums → List ContainerRow → Type 0
+AreFilled label filled rows = AreSums stands_on filled (live_in label rows)
 
 -- whether a container is one of those that go
 abbrev pub goes : Going → Placed → Bool
@@ -55,5 +56,5 @@ LeavesIf {X} true thing Was Is = (before after : List X) → Was (before ++ thin
 LeavesIf {X} false thing Was Is = (things : List X) → Was things → Is things
 
 -- the clocks of the live containers of some rows rise, and what is listed are theirs
-abbrev pub IsListing : Listed → List ContainerRow → Type 0
-IsListing listed rows = (numbers_rise clock_of (live_in rows) ≡ true) × AreListed listed (live_in rows)
+abbrev pub IsListing : Label → Listed → List ContainerRow → Type 0
+IsListing label listed rows = (numbers_rise clock_of (live_in label rows) ≡ true) × AreListed listed (live_in label rows)

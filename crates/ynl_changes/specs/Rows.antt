@@ -3,6 +3,7 @@ use Rattle.std.specs.Prelude.{ℕ, List, [], map, slice_get, if◌then◌else◌
 use Rattle.std.specs.Option.{option_map_or}
 use Rattle.ynl_resource.specs.declared.ids.Id.{Id}
 use Rattle.ynl_resource.specs.declared.labels.Label.{Label}
+use Rattle.ynl_resource.specs.declared.labels.Label.TheVariants.{Unlabelled}
 use Rattle.ynl_resource.specs.declared.names.Name.{Name}
 use Rattle.ynl_resource.specs.Names.{same_id, same_label, same_name}
 use Rattle.ynl_resource.specs.Tables.{without}
@@ -37,9 +38,13 @@ containers_at_place rows place = option_map_or (λ row. row.containers) (slice_g
 abbrev pub lists_of : List PartitionRow → List Listed
 lists_of rows = map (λ row. row.listed) rows
 
--- the rows of containers of the partition at a place, dead ones too, and none past the last
-abbrev pub rows_at : List PartitionRow → ℕ → List ContainerRow
-rows_at rows place = option_map_or (λ row. row.containers.items) (slice_get rows place) []
+-- the rows of containers of a partition, dead ones too, with the label that they have none of
+abbrev pub rows_of : PartitionRow → Label × List ContainerRow
+rows_of row = (row.label, row.containers.items)
+
+-- those of the partition at a place, and none past the last
+abbrev pub rows_at : List PartitionRow → ℕ → Label × List ContainerRow
+rows_at rows place = option_map_or rows_of (slice_get rows place) (Unlabelled, [])
 
 -- where what was kept of use was right, it is so still, whatever the queues and the leaves
 abbrev pub KeepsSum : PartitionRow → PartitionRow → Type 0

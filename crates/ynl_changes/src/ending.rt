@@ -3,13 +3,14 @@
 ghost use Rattle.std.specs.Prelude.{◌≡◌, ◌<◌, [], ◌∷◌, true, not, filter, length, map, slice_index_or};
 ghost use Rattle.std.specs.List.{remove};
 ghost use Rattle.ynl_resource.specs.Names.{root, same_id};
+ghost use Rattle.ynl_resource.specs.declared.labels.Label.{Label as Labelled};
 ghost use Rattle.ynl_resource.specs.Tables.{without};
 ghost use Rattle.ynl_model.specs.Cluster.{containers_on, in_partition};
 ghost use Rattle.ynl_model.specs.Changes.{end};
 ghost use Rattle.ynl_laws.specs.Uses.{use_by};
 ghost use Rattle.ynl_tables.specs.Kept.{AreByUser, AreKept, IsKept, IsSummed, stands_on};
 ghost use Rattle.ynl_tables.specs.Listed.{AreListed};
-ghost use Rattle.ynl_tables.specs.Living.{is_live_and, live_in, row_clock};
+ghost use Rattle.ynl_tables.specs.Living.{container_in, is_live_and, live_in, row_clock};
 ghost use Rattle.ynl_tables.specs.Numbers.{AreNumbered};
 ghost use Rattle.ynl_tables.specs.Rising.{numbers_rise};
 ghost use Rattle.ynl_tables.specs.Sums.{AreSums};
@@ -24,8 +25,8 @@ use ynl_model::{Placed, Use};
 use ynl_queues::Config;
 use ynl_resource::{Id, Label, Name};
 use ynl_tables::{
-    ContainerRow, LeafRow, Listed, PartitionRow, QueueNumbers, Sums, Tables, clear_ended, end_at,
-    is_own, is_same, is_same_id, next_clock, place_at,
+    ContainerRow, LeafRow, Listed, PartitionRow, QueueNumbers, Sums, Tables, clear_ended,
+    container_of, end_at, is_own_row, is_same, next_clock, place_at,
 };
 
 /// Which containers go.
@@ -37,27 +38,28 @@ pub enum Going<'a> {
     OfApp(&'a [u8], &'a Name),
 }
 
-fn goes(going: Going<'_>, container: &Placed) -> bool
-    ensures { result ≡ goes going.entry container.now }
+/// Whether a row's container goes, in whatever partition.
+fn goes(going: Going<'_>, row: &ContainerRow) -> bool
+    ensures { (label : Labelled) → result ≡ goes going.entry (container_in label row.now) }
 {
     match going {
-        Going::OnNode(name) => container.node == *name,
-        Going::OfApp(tenant, app) => is_own(container, tenant, app),
+        Going::OnNode(name) => row.node == *name,
+        Going::OfApp(tenant, app) => is_own_row(row, tenant, app),
     }
 }
 
 /// Whether a row is live, and its container goes.
 fn row_goes(going: Going<'_>, row: &ContainerRow) -> bool
-    ensures { result ≡ is_live_and (goes going.entry) row.now }
+    ensures { (label : Labelled) → result ≡ is_live_and label (goes going.entry) row.now }
 {
-    row.is_live && goes(going, &row.container)
+    row.is_live && goes(going, row)
 }
 
 /// Whether a row is live, and its container does not go.
 fn row_stays(going: Going<'_>, row: &ContainerRow) -> bool
-    ensures { result ≡ is_live_and (λ container. not (goes going.entry container)) row.now }
+    ensures { (label : Labelled) → result ≡ is_live_and label (λ container. not (goes going.entry container)) row.now }
 {
-    row.is_live && !goes(going, &row.container)
+    row.is_live && !goes(going, row)
 }
 
 /// What queues use is lowered by a row's container, if it goes.
@@ -65,15 +67,16 @@ fn lower_if(
     uses: &mut Vec<Use>,
     numbers: &QueueNumbers,
     leaves: &[LeafRow],
+    label: &Label,
     row: &ContainerRow,
     going: Going<'_>,
 )
     requires numbered { AreNumbered numbers.now (leaves_of leaves.now) }
     requires len { length uses.old.items ≡ length (root ∷ numbers.now) }
-    ensures { LeavesIf (is_live_and (goes going.entry) row.now) row.now (AreUses numbers.now (leaves_of leaves.now) uses.old.items) (AreUses numbers.now (leaves_of leaves.now) uses.new.items) }
+    ensures { LeavesIf (is_live_and label.now (goes going.entry) row.now) row.now (AreUses numbers.now (leaves_of leaves.now) label.now uses.old.items) (AreUses numbers.now (leaves_of leaves.now) label.now uses.new.items) }
 {
     if row_goes(going, row) {
-        lower(uses, numbers, leaves, &row.container);
+        lower(uses, numbers, leaves, &container_of(label, row));
     }
 }
 
@@ -82,31 +85,31 @@ fn lower_by(
     uses: &mut Vec<Use>,
     numbers: &QueueNumbers,
     leaves: &[LeafRow],
+    label: &Label,
     rows: &[ContainerRow],
     going: Going<'_>,
 )
     requires numbered { AreNumbered numbers.now (leaves_of leaves.now) }
-    requires uses { AreUses numbers.now (leaves_of leaves.now) uses.old.items rows.now }
-    ensures { uses.new.items ≡ map (λ queue. use_by (leaves_of leaves.now) queue (without (goes going.entry) (live_in rows.now))) (root ∷ numbers.now) }
+    requires uses { AreUses numbers.now (leaves_of leaves.now) label.now uses.old.items rows.now }
+    ensures { uses.new.items ≡ map (λ queue. use_by (leaves_of leaves.now) queue (without (goes going.entry) (live_in label.now rows.now))) (root ∷ numbers.now) }
 {
     for row in rows {
-        lower_if(uses, numbers, leaves, row, going);
+        lower_if(uses, numbers, leaves, label, row, going);
     }
 }
 
 /// What is used of a node is lowered by a row's container, if it goes.
 fn free_if(filled: &mut Sums, row: &ContainerRow, going: Going<'_>)
-    ensures { LeavesIf (is_live_and (goes going.entry) row.now) row.now (AreFilled filled.old) (AreFilled filled.new) }
+    ensures { (label : Labelled) → LeavesIf (is_live_and label (goes going.entry) row.now) row.now (AreFilled label filled.old) (AreFilled label filled.new) }
 {
     if row_goes(going, row) {
-        filled.lower(&row.container.node, &row.container.size);
+        filled.lower(&row.node, &row.size);
     }
 }
 
 /// What is used of nodes is lowered by each of the containers that goes.
 fn free_by(filled: &mut Sums, rows: &[ContainerRow], going: Going<'_>)
-    requires { AreFilled filled.old rows.now }
-    ensures { AreSums stands_on filled.new (without (goes going.entry) (live_in rows.now)) }
+    ensures { (label : Labelled) → AreFilled label filled.old rows.now → AreSums stands_on filled.new (without (goes going.entry) (live_in label rows.now)) }
 {
     for row in rows {
         free_if(filled, row, going);
@@ -118,15 +121,17 @@ fn lower_users_if(
     users: &mut Vec<Sums>,
     numbers: &QueueNumbers,
     leaves: &[LeafRow],
+    label: &Label,
     row: &ContainerRow,
     going: Going<'_>,
 )
     requires numbered { AreNumbered numbers.now (leaves_of leaves.now) }
     requires len { length users.old.items ≡ length (root ∷ numbers.now) }
-    ensures { LeavesIf (is_live_and (goes going.entry) row.now) row.now (AreUserUses numbers.now (leaves_of leaves.now) users.old.items) (AreUserUses numbers.now (leaves_of leaves.now) users.new.items) }
+    ensures { LeavesIf (is_live_and label.now (goes going.entry) row.now) row.now (AreUserUses numbers.now (leaves_of leaves.now) label.now users.old.items) (AreUserUses numbers.now (leaves_of leaves.now) label.now users.new.items) }
 {
     if row_goes(going, row) {
-        change_users(users, numbers, leaves, Change::Less, &row.container);
+        let container = container_of(label, row);
+        change_users(users, numbers, leaves, Change::Less, &container);
     }
 }
 
@@ -135,40 +140,41 @@ fn lower_users_by(
     users: &mut Vec<Sums>,
     numbers: &QueueNumbers,
     leaves: &[LeafRow],
+    label: &Label,
     rows: &[ContainerRow],
     going: Going<'_>,
 )
     requires numbered { AreNumbered numbers.now (leaves_of leaves.now) }
-    requires users { AreUserUses numbers.now (leaves_of leaves.now) users.old.items rows.now }
-    ensures { AreByUser numbers.now (leaves_of leaves.now) users.new.items (without (goes going.entry) (live_in rows.now)) }
+    requires users { AreUserUses numbers.now (leaves_of leaves.now) label.now users.old.items rows.now }
+    ensures { AreByUser numbers.now (leaves_of leaves.now) users.new.items (without (goes going.entry) (live_in label.now rows.now)) }
 {
     for row in rows {
-        lower_users_if(users, numbers, leaves, row, going);
+        lower_users_if(users, numbers, leaves, label, row, going);
     }
 }
 
 /// A row's container's clock is listed no more, if it goes.
-fn unlist_if(listed: &mut Listed, row: &ContainerRow, going: Going<'_>)
-    ensures { LeavesIf (is_live_and (goes going.entry) row.now) row.now (IsListing listed.old) (IsListing listed.new) }
+fn unlist_if(listed: &mut Listed, label: &Label, row: &ContainerRow, going: Going<'_>)
+    ensures { LeavesIf (is_live_and label.now (goes going.entry) row.now) row.now (IsListing label.now listed.old) (IsListing label.now listed.new) }
 {
     if row_goes(going, row) {
-        listed.remove(&row.container);
+        listed.remove(&container_of(label, row));
     }
 }
 
 /// The clocks of those of the containers that go are listed no more.
-fn unlist_by(listed: &mut Listed, rows: &[ContainerRow], going: Going<'_>)
-    requires { IsListing listed.old rows.now }
-    ensures { AreListed listed.new (without (goes going.entry) (live_in rows.now)) }
+fn unlist_by(listed: &mut Listed, label: &Label, rows: &[ContainerRow], going: Going<'_>)
+    requires { IsListing label.now listed.old rows.now }
+    ensures { AreListed listed.new (without (goes going.entry) (live_in label.now rows.now)) }
 {
     for row in rows {
-        unlist_if(listed, row, going);
+        unlist_if(listed, label, row, going);
     }
 }
 
 /// The rows of those containers go that are to go, and the dead with them.
 fn drop_from(rows: &mut Vec<ContainerRow>, going: Going<'_>)
-    ensures live { live_in rows.new.items ≡ without (goes going.entry) (live_in rows.old.items) }
+    ensures live { (label : Labelled) → live_in label rows.new.items ≡ without (goes going.entry) (live_in label rows.old.items) }
     ensures rising { numbers_rise row_clock rows.old.items ≡ true → numbers_rise row_clock rows.new.items ≡ true }
 {
     rows.retain(|row| row_stays(going, row));
@@ -183,13 +189,27 @@ pub fn drop_going(
 )
     requires numbered { AreNumbered numbers.now (leaves_of leaves.now) }
     requires summed { IsSummed numbers.now (leaves_of leaves.now) row.old }
-    ensures meaning { partition_of row.new ≡ record (partition_of row.old) { containers = without (goes going.entry) (live_in row.old.containers.items) } }
+    ensures meaning { partition_of row.new ≡ record (partition_of row.old) { containers = without (goes going.entry) (live_in row.old.label row.old.containers.items) } }
     ensures summed { IsSummed numbers.now (leaves_of leaves.now) row.new }
 {
-    lower_by(&mut row.uses, numbers, leaves, &row.containers, going);
-    lower_users_by(&mut row.users, numbers, leaves, &row.containers, going);
+    lower_by(
+        &mut row.uses,
+        numbers,
+        leaves,
+        &row.label,
+        &row.containers,
+        going,
+    );
+    lower_users_by(
+        &mut row.users,
+        numbers,
+        leaves,
+        &row.label,
+        &row.containers,
+        going,
+    );
     free_by(&mut row.filled, &row.containers, going);
-    unlist_by(&mut row.listed, &row.containers, going);
+    unlist_by(&mut row.listed, &row.label, &row.containers, going);
     drop_from(&mut row.containers, going);
     row.ended = 0;
 }
@@ -201,10 +221,10 @@ pub fn drop_at(row: &mut PartitionRow, numbers: &QueueNumbers, leaves: &[LeafRow
     requires live { (other : ContainerRow) → (slice_index_or row.old.containers.items place other).is_live ≡ true }
     requires numbered { AreNumbered numbers.now (leaves_of leaves.now) }
     requires summed { IsSummed numbers.now (leaves_of leaves.now) row.old }
-    ensures meaning { partition_of row.new ≡ record (partition_of row.old) { containers = live_in (remove row.old.containers.items place) } }
+    ensures meaning { partition_of row.new ≡ record (partition_of row.old) { containers = live_in row.old.label (remove row.old.containers.items place) } }
     ensures summed { IsSummed numbers.now (leaves_of leaves.now) row.new }
 {
-    let container = row.containers[place].container;
+    let container = container_of(&row.label, &row.containers[place]);
     lower(&mut row.uses, numbers, leaves, &container);
     change_users(&mut row.users, numbers, leaves, Change::Less, &container);
     row.filled.lower(&container.node, &container.size);
@@ -224,24 +244,24 @@ pub fn clear_if_many(row: &mut PartitionRow)
     }
 }
 
-/// Whether a row is live, and its container has an id.
-fn is_live_with(row: &ContainerRow, id: &Id) -> bool
-    ensures { result ≡ is_live_and (λ other. same_id other.id id.now) row.now }
+/// Whether a row of a partition is live, and its container has an id.
+fn is_live_with(label: &Label, row: &ContainerRow, id: &Id) -> bool
+    ensures { result ≡ is_live_and label.now (λ other. same_id other.id id.now) row.now }
 {
-    row.is_live && is_same_id(&row.container.id, id)
+    row.is_live && row.clock == id.clock && is_same(label, &id.label)
 }
 
 /// The container of an id goes from a row.
 fn drop_of_id(row: &mut PartitionRow, numbers: &QueueNumbers, leaves: &[LeafRow], id: &Id)
     requires numbered { AreNumbered numbers.now (leaves_of leaves.now) }
     requires summed { IsSummed numbers.now (leaves_of leaves.now) row.old }
-    ensures meaning { partition_of row.new ≡ record (partition_of row.old) { containers = without (λ other. same_id other.id id.now) (live_in row.old.containers.items) } }
+    ensures meaning { partition_of row.new ≡ record (partition_of row.old) { containers = without (λ other. same_id other.id id.now) (live_in row.old.label row.old.containers.items) } }
     ensures summed { IsSummed numbers.now (leaves_of leaves.now) row.new }
 {
     let Some(place) = place_at(&row.containers, id.clock) else {
         return;
     };
-    if is_live_with(&row.containers[place], id) {
+    if is_live_with(&row.label, &row.containers[place], id) {
         drop_at(row, numbers, leaves, place);
         clear_if_many(row);
     }

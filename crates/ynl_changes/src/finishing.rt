@@ -6,6 +6,7 @@ ghost use Rattle.std.specs.Bool.{OnTrue};
 ghost use Rattle.std.specs.List.{remove};
 ghost use Rattle.std.specs.Option.{option_map_or};
 ghost use Rattle.ynl_resource.specs.Names.{same_name, same_path, tenant_of};
+ghost use Rattle.ynl_resource.specs.declared.labels.Label.{Label as Labelled};
 ghost use Rattle.ynl_resource.specs.declared.paths.Path.{Path};
 ghost use Rattle.ynl_resource.specs.Tables.{without};
 ghost use Rattle.ynl_model.specs.Applications.{Application, find_app, in_leaf, finished};
@@ -16,10 +17,10 @@ ghost use Rattle.ynl_laws.specs.Tabled.{Tabled};
 ghost use Rattle.ynl_laws.specs.Finishing.{clock_rises, clocks_rise, without_own};
 ghost use Rattle.ynl_tables.specs.Known.{IsSpot};
 ghost use Rattle.ynl_tables.specs.Kept.{AreKept, IsKept, IsSummed};
-ghost use Rattle.ynl_tables.specs.Living.{live_at, live_in, row_clock};
+ghost use Rattle.ynl_tables.specs.Living.{container_in, live_at, live_in};
 ghost use Rattle.ynl_tables.specs.Numbers.{AreNumbered};
 ghost use Rattle.ynl_tables.specs.Listed.{holds, AreListed};
-ghost use Rattle.ynl_tables.specs.Rising.{numbers_rise};
+ghost use Rattle.ynl_tables.specs.Rising.{numbers_rise, clock_of, IsAlone};
 ghost use Rattle.ynl_tables.specs.Tables.{state_of, app_of, leaf_of_row, leaves_of, partition_of, partitions_of};
 ghost use Rattle.ynl_changes.specs.Marking.{KeepsMarksAmong, KeepsMarksIn, KeepsMarks};
 ghost use Rattle.ynl_tables.specs.Queued.{are_in_turn, masters_waiting, asks_waiting};
@@ -37,7 +38,7 @@ use ynl_queues::Config;
 use ynl_resource::{Name, Path};
 use ynl_tables::{
     App, ContainerRow, Holder, LeafRow, PartitionRow, QueueNumbers, Spot, Tables, container_at,
-    is_own, live_of, next_clock, place_at, spot_of, tenant_bytes,
+    is_own, is_own_row, live_of, next_clock, place_at, spot_of, tenant_bytes,
 };
 use ynl_waiting::Waiting;
 
@@ -57,23 +58,36 @@ fn raise_clock(config: &Config, tables: &mut Tables, container: &Placed)
     set_clock(&mut tables.partitions, &label, clock);
 }
 
-/// The rows of containers of the partition at a place, and none past the last.
-fn containers_of(rows: &[PartitionRow], row: usize) -> &[ContainerRow]
-    ensures rising { IsTrue (numbers_rise row_clock result.now) }
-    ensures meaning { result.now ≡ rows_at rows.now row }
+/// How many rows of containers the partition at a place has, and none past the last.
+fn count_at(rows: &[PartitionRow], row: usize) -> usize
+    ensures { result ≡ length (rows_at rows.now row).1 }
 {
     match rows.get(row) {
-        Some(row) => &row.containers,
-        None => &[],
+        Some(row) => row.containers.len(),
+        None => 0,
     }
 }
 
 /// The container at a place of a partition, if it is live.
 fn container_at_place(rows: &[PartitionRow], row: usize, place: usize) -> Option<Placed>
-    ensures { result ≡ live_at (rows_at rows.now row) place }
+    ensures { result ≡ live_at (rows_at rows.now row).0 (rows_at rows.now row).1 place }
 {
-    match containers_of(rows, row).get(place) {
-        Some(row) => live_of(row),
+    let Some(row) = rows.get(row) else {
+        return None;
+    };
+    match row.containers.get(place) {
+        Some(container) => live_of(&row.label, container),
+        None => None,
+    }
+}
+
+/// The container of a clock in the partition at a place.
+fn container_of_clock(rows: &[PartitionRow], row: usize, clock: u64) -> Option<Placed>
+    ensures rising { IsTrue (numbers_rise clock_of (containers_at_place (partitions_of rows.now) row)) }
+    ensures alone { IsAlone clock_of clock (containers_at_place (partitions_of rows.now) row) result }
+{
+    match rows.get(row) {
+        Some(row) => container_at(&row.label, &row.containers, clock),
         None => None,
     }
 }
@@ -97,7 +111,7 @@ fn listed_at(rows: &[PartitionRow], row: usize, holder: &Holder, place: usize) -
         return None;
     };
     if place < clocks.len() {
-        container_at(containers_of(rows, row), clocks[place])
+        container_of_clock(rows, row, clocks[place])
     } else {
         None
     }
@@ -140,7 +154,7 @@ fn raise_clock_at(
     tenant: &[u8],
     app: &Name,
 )
-    ensures state { state_of tables.new ≡ option_map_or (λ container. if is_of tenant.now app.now container then clock_rises config.now (state_of tables.old) container else state_of tables.old) (live_at (rows_at tables.old.partitions.items row) place) (state_of tables.old) }
+    ensures state { state_of tables.new ≡ option_map_or (λ container. if is_of tenant.now app.now container then clock_rises config.now (state_of tables.old) container else state_of tables.old) (live_at (rows_at tables.old.partitions.items row).0 (rows_at tables.old.partitions.items row).1 place) (state_of tables.old) }
     ensures containers { rows_at tables.new.partitions.items row ≡ rows_at tables.old.partitions.items row }
     ensures leaves { tables.new.leaves.items ≡ tables.old.leaves.items }
     ensures kept { KeepsAmounts tables.old tables.new }
@@ -160,7 +174,7 @@ fn raise_each(config: &Config, tables: &mut Tables, row: usize, tenant: &[u8], a
     ensures kept { KeepsAmounts tables.old tables.new }
     ensures numbers { tables.new.numbers ≡ tables.old.numbers }
 {
-    let count = containers_of(&tables.partitions, row).len();
+    let count = count_at(&tables.partitions, row);
     for place in 0..count {
         raise_clock_at(config, tables, row, place, tenant, app);
     }
@@ -217,10 +231,10 @@ fn own_at(rows: &[ContainerRow], place: usize, holder: &Holder) -> Option<usize>
     requires { place < length rows.now }
     ensures within { IfSome result (λ place. place < length rows.now) }
     ensures live { IfSome result (λ place. (d : ContainerRow) → (slice_index_or rows.now place d).is_live ≡ true) }
-    ensures own { IfSome result (λ place. (d : ContainerRow) → holds holder.now (slice_index_or rows.now place d).container ≡ true) }
+    ensures own { IfSome result (λ place. (label : Labelled) (d : ContainerRow) → holds holder.now (container_in label (slice_index_or rows.now place d)) ≡ true) }
 {
     let row = &rows[place];
-    if row.is_live && is_own(&row.container, holder.tenant.as_bytes(), &holder.app) {
+    if row.is_live && is_own_row(row, holder.tenant.as_bytes(), &holder.app) {
         Some(place)
     } else {
         None
@@ -232,7 +246,7 @@ fn own_at(rows: &[ContainerRow], place: usize, holder: &Holder) -> Option<usize>
 fn place_of_last(row: &PartitionRow, holder: &Holder) -> Option<usize>
     ensures within { IfSome result (λ place. place < length row.now.containers.items) }
     ensures live { IfSome result (λ place. (d : ContainerRow) → (slice_index_or row.now.containers.items place d).is_live ≡ true) }
-    ensures own { IfSome result (λ place. (d : ContainerRow) → holds holder.now (slice_index_or row.now.containers.items place d).container ≡ true) }
+    ensures own { IfSome result (λ place. (label : Labelled) (d : ContainerRow) → holds holder.now (container_in label (slice_index_or row.now.containers.items place d)) ≡ true) }
 {
     let Some(clocks) = row.listed.clocks(holder) else {
         return None;
@@ -276,8 +290,8 @@ fn drop_listed(row: &mut PartitionRow, numbers: &QueueNumbers, leaves: &[LeafRow
 
 /// Whether no container of an application is left in a row, as its list says.
 fn has_none(row: &PartitionRow, holder: &Holder) -> bool
-    requires { AreListed row.now.listed (live_in row.now.containers.items) }
-    ensures { OnTrue result (filter (holds holder.now) (live_in row.now.containers.items) ≡ []) }
+    requires { AreListed row.now.listed (live_in row.now.label row.now.containers.items) }
+    ensures { OnTrue result (filter (holds holder.now) (live_in row.now.label row.now.containers.items) ≡ []) }
 {
     match row.listed.clocks(holder) {
         Some(clocks) => clocks.is_empty(),

@@ -20,7 +20,7 @@ ghost use Rattle.ynl_tables.specs.Tables.{state_of, app_of, leaf_of_row, leaves_
 ghost use Rattle.ynl_changes.specs.Marking.{KeepsMark, KeepsMarksAmong, KeepsMarksIn, KeepsMarks, IsPlaceable};
 ghost use Rattle.ynl_changes.specs.Placing.{put_on, taken_from, taken_at, taken_asks, is_last_of};
 ghost use Rattle.ynl_changes.specs.Queueing.{Requeues, AreRequeued};
-ghost use Rattle.ynl_changes.specs.Rows.{KeepsSum, KeepsSums, lists_of, rows_at};
+ghost use Rattle.ynl_changes.specs.Rows.{KeepsSum, KeepsSums, lists_of, rows_at, rows_of};
 ghost use Rattle.ynl_waiting.specs.declared.waiting.Waiting.{Waiting};
 
 use crate::cells::raise;
@@ -34,7 +34,7 @@ use ynl_queues::Config;
 use ynl_resource::{Id, Label, Name, Path};
 use ynl_tables::{
     App, LeafRow, PartitionRow, QueueNumbers, Spot, Tables, is_ask_of, is_same, make_last,
-    next_clock, push_live, spot_of,
+    next_clock, row_of, spot_of,
 };
 use ynl_waiting::Waiting;
 
@@ -50,8 +50,9 @@ fn put(
 )
     requires numbered { AreNumbered numbers.now (leaves_of leaves.now) }
     requires summed { IsSummed numbers.now (leaves_of leaves.now) row.old }
-    requires small { IsTotal (sizes (live_in row.old.containers.items)) }
-    requires last { same_label row.old.label label.now ≡ true → list_all (λ k. nat_lt (clock_of k) container.now.id.clock) (live_in row.old.containers.items) ≡ true }
+    requires label { container.now.id.label ≡ label.now }
+    requires small { IsTotal (sizes (live_in row.old.label row.old.containers.items)) }
+    requires last { same_label row.old.label label.now ≡ true → list_all (λ k. nat_lt (clock_of k) container.now.id.clock) (live_in row.old.label row.old.containers.items) ≡ true }
     requires capacity { same_label row.old.label label.now ≡ true → vec_len row.old.containers + 1 ≤ vec_capacity row.old.containers }
     ensures meaning { partition_of row.new ≡ put_on label.now clock container.now (partition_of row.old) }
     ensures capacity { (n : ℕ) → (same_label row.old.label label.now ≡ true → vec_len row.old.containers + (n + 1) ≤ vec_capacity row.old.containers) → (same_label row.new.label label.now ≡ true → vec_len row.new.containers + n ≤ vec_capacity row.new.containers) }
@@ -64,7 +65,7 @@ fn put(
         row.filled.raise(&container.node, &container.size);
         row.listed.add(container);
         make_last(&mut row.containers, container.id.clock);
-        push_live(&mut row.containers, container);
+        row.containers.push_reserved(row_of(container));
     }
 }
 
@@ -78,8 +79,9 @@ fn put_container(
     container: &Placed,
 )
     requires kept { AreKept numbers.now (leaves_of leaves.now) rows.old.items }
-    requires small { AllByRecursion (λ row. IsTotal (sizes (live_in row.containers.items))) rows.old.items }
-    requires last { AllByRecursion (λ row. same_label row.label label.now ≡ true → list_all (λ k. nat_lt (clock_of k) container.now.id.clock) (live_in row.containers.items) ≡ true) rows.old.items }
+    requires label { container.now.id.label ≡ label.now }
+    requires small { AllByRecursion (λ row. IsTotal (sizes (live_in row.label row.containers.items))) rows.old.items }
+    requires last { AllByRecursion (λ row. same_label row.label label.now ≡ true → list_all (λ k. nat_lt (clock_of k) container.now.id.clock) (live_in row.label row.containers.items) ≡ true) rows.old.items }
     requires capacity { HasCapacity label.now 1 rows.old.items }
     ensures meaning { partitions_of rows.new.items ≡ in_partition label.now (λ row. record row { clock = clock; containers = row.containers ++ container.now ∷ [] }) (partitions_of rows.old.items) }
     ensures capacity { (n : ℕ) → HasCapacity label.now (n + 1) rows.old.items → HasCapacity label.now n rows.new.items }
@@ -304,7 +306,7 @@ pub fn place(config: &Config, tables: &mut Tables, node: &Node, request: &Reques
 fn set_on(row: &mut PartitionRow, label: &Label, clock: u64)
     ensures meaning { partition_of row.new ≡ (if same_label row.old.label label.now then record (partition_of row.old) { clock = clock } else partition_of row.old) }
     ensures listed { row.new.listed ≡ row.old.listed }
-    ensures containers { row.new.containers.items ≡ row.old.containers.items }
+    ensures containers { rows_of row.new ≡ rows_of row.old }
     ensures summed { KeepsSum row.old row.new }
 {
     if is_same(&row.label, label) {

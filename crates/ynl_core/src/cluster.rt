@@ -404,7 +404,7 @@ impl Core {
         ensures { IfOk result (λ list. list.items ≡ containers_on self.now.state label.now) }
     {
         let rows = containers_at(&self.tables.partitions, label);
-        Ok(list_live(alloc, rows)?)
+        Ok(list_live(alloc, label, rows)?)
     }
 
     /// What would be placed on the node next, with its stamp; nothing where there is no such node. It

@@ -7,12 +7,16 @@ use Rattle.std.specs.Option.{option_map_or, option_and_then}
 use Rattle.std.specs.List.{AllByRecursion, position_or_len}
 use Rattle.ynl_resource.specs.declared.names.Name.{Name}
 use Rattle.ynl_resource.specs.Names.{same_name}
+use Rattle.ynl_resource.specs.declared.labels.Label.{Label}
 use Rattle.ynl_model.specs.Applications.{Application, LeafApps, row_of, find_app}
+use Rattle.ynl_model.specs.Cluster.{Partition, is_partition}
 use Rattle.ynl_tables.specs.declared.rows.App.{App}
 use Rattle.ynl_tables.specs.declared.rows.LeafRow.{LeafRow}
-use Rattle.ynl_tables.specs.Tables.{app_of, leaf_of_row}
+use Rattle.ynl_tables.specs.declared.rows.PartitionRow.{PartitionRow}
+use Rattle.ynl_tables.specs.Living.{live_in}
+use Rattle.ynl_tables.specs.Tables.{app_of, leaf_of_row, partition_of, partitions_of}
 use Rattle.ynl_laws.proofs.Lists.{Each-find, found-passes}
-use Rattle.ynl_laws.proofs.Names.{same-path}
+use Rattle.ynl_laws.proofs.Names.{same-path, same-label_path}
 
 -- what is found among meanings is the meaning of what is found
 pub find_map : {X Y : Type 0} (f : X → Y) (q : Y → Bool) (xs : List X) → find q (map f xs) ≡ option_map f (find (λ x. q (f x)) xs)
@@ -36,6 +40,13 @@ found_so q xs (Some r) e = subst (λ o. IfSome o (λ x. q x ≡ true)) (sym e) (
 pub found_each : {X : Type 0} (P : X → Type 0) (q : X → Bool) (xs : List X) (o : Option (Bor X)) → option_map (λ r. r.now) o ≡ find q xs → AllByRecursion P xs → IfSome o (λ r. P r.now)
 found_each P q xs None e h = tt
 found_each P q xs (Some r) e h = (Each-find P q xs h r.now (sym e)).0
+
+-- the live containers of the row that is found of a partition are the partition's
+pub containers_found : (label : Label) (rows : List PartitionRow) (row : PartitionRow) → Some (partition_of row) ≡ find (is_partition label) (partitions_of rows)
+    → live_in label row.containers.items ≡ option_map_or (λ row. row.containers) (find (is_partition label) (partitions_of rows)) []
+containers_found label rows row e =
+    let here = subst (λ (o : Option Partition). IfSome o (λ p. is_partition label p ≡ true)) (sym e) (found-passes (is_partition label) (partitions_of rows)) in
+    sym (ap (λ p. live_in p row.containers.items) (same-label_path row.label label here)) ∙ ap (λ (o : Option Partition). option_map_or (λ p. p.containers) o []) e
 
 -- the row that is found of a leaf has the leaf's path
 pub found_path : (leaf : Path) (rows : List LeafRow) (o : Option (Bor LeafRow)) → option_map (λ r. r.now) o ≡ find (λ row. same_path row.path leaf) rows → IfSome o (λ r. r.now.path ≡ leaf)

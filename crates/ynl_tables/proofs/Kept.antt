@@ -38,10 +38,10 @@ summed_row queues leaves rows label row h e = (Each-find (IsSummed queues leaves
 -- a number is within what a row keeps
 pub kept_within : (queues : List Path) (leaves : List LeafApps) (row : PartitionRow) (number : ℕ) → IsSummed queues leaves row → number < length (root ∷ queues) → number < length row.uses.items
 kept_within queues leaves row number h inside =
-    omega (arith, inside, ap length h.uses, length-map (root ∷ queues) (λ queue. use_by leaves queue (live_in row.containers.items)))
+    omega (arith, inside, ap length h.uses, length-map (root ∷ queues) (λ queue. use_by leaves queue (live_in row.label row.containers.items)))
 
 -- the containers of a partition are those of its row
-pub row_holds : (t : Tables) (label : Label) (row : PartitionRow) → Some row ≡ find (λ row. same_label row.label label) t.partitions.items → containers_on (state_of t) label ≡ live_in row.containers.items
+pub row_holds : (t : Tables) (label : Label) (row : PartitionRow) → Some row ≡ find (λ row. same_label row.label label) t.partitions.items → containers_on (state_of t) label ≡ live_in row.label row.containers.items
 row_holds t label row e = ap (λ o. option_map_or (λ (row : Partition). row.containers) o []) (find_map partition_of (is_partition label) t.partitions.items ∙ sym (ap (option_map partition_of) e))
 
 -- where a partition has no row it has none
@@ -53,7 +53,7 @@ pub kept_filled : (t : Tables) (label : Label) (node : Name) (row : PartitionRow
     → IsSumFor row.filled node used → IfSome used (λ taken. taken ≡ sizes_for stands_on node (containers_on (state_of t) label))
 kept_filled t label node row None h e is = tt
 kept_filled t label node row (Some sum) h e is =
-    is stands_on (live_in row.containers.items) (summed_row t.numbers (leaves_of t.leaves.items) t.partitions.items label row h e).filled ∙ ap (sizes_for stands_on node) (sym (row_holds t label row e))
+    is stands_on (live_in row.label row.containers.items) (summed_row t.numbers (leaves_of t.leaves.items) t.partitions.items label row h e).filled ∙ ap (sizes_for stands_on node) (sym (row_holds t label row e))
 
 -- a number is within what a row keeps of users
 pub users_within : (queues : List Path) (leaves : List LeafApps) (row : PartitionRow) (number : ℕ) → IsSummed queues leaves row → number < length (root ∷ queues) → number < length row.users.items
@@ -68,8 +68,8 @@ kept_user t label queue user row number sums None h e n read is = tt
 kept_user t label queue user row number sums (Some sum) h e n read is =
     let leaves : List LeafApps = leaves_of t.leaves.items in
     let summed : IsSummed t.numbers leaves row = summed_row t.numbers leaves t.partitions.items label row h e in
-    is (counts_for leaves (queue_at t.numbers number)) (live_in row.containers.items) (summed.users.each number sums (users_within t.numbers leaves row number summed n.0) read)
-    ∙ ap (λ q. sizes (filter (counts_for leaves q user) (live_in row.containers.items))) (n.1 root)
+    is (counts_for leaves (queue_at t.numbers number)) (live_in row.label row.containers.items) (summed.users.each number sums (users_within t.numbers leaves row number summed n.0) read)
+    ∙ ap (λ q. sizes (filter (counts_for leaves q user) (live_in row.label row.containers.items))) (n.1 root)
     ∙ ap (λ (ks : List Placed). sizes (filter (counts_for leaves queue user) ks)) (sym (row_holds t label row e))
     ∙ ap sizes (filter_and (counts leaves queue) (of_user user leaves) (containers_on (state_of t) label))
 
@@ -88,9 +88,9 @@ pub kept_use : (t : Tables) (label : Label) (queue : Path) (row : PartitionRow) 
 kept_use t label queue row number kept h e n read =
     let leaves : List LeafApps = leaves_of t.leaves.items in
     let all : List Path = root ∷ t.numbers in
-    let of : Path → Use = λ queue. use_by leaves queue (live_in row.containers.items) in
+    let of : Path → Use = λ queue. use_by leaves queue (live_in row.label row.containers.items) in
     let summed : IsSummed t.numbers leaves row = summed_row t.numbers leaves t.partitions.items label row h e in
-    let there : containers_on (state_of t) label ≡ live_in row.containers.items = row_holds t label row e in
+    let there : containers_on (state_of t) label ≡ live_in row.label row.containers.items = row_holds t label row e in
     read ∙ ap (λ us. get_or us number kept) summed.uses ∙ get_or-map of all number root kept n.0 ∙ ap of (n.1 root) ∙ sym (ap (use_by leaves queue) there) ∙ sym (use-is (state_of t) label queue)
 
 -- what is kept of all queues is what they use
@@ -98,7 +98,7 @@ pub kept_uses : (t : Tables) (label : Label) (row : PartitionRow) → AreSummed 
     → row.uses.items ≡ map (use_of (state_of t) label) (root ∷ t.numbers)
 kept_uses t label row h e =
     let leaves : List LeafApps = leaves_of t.leaves.items in
-    let there : containers_on (state_of t) label ≡ live_in row.containers.items = row_holds t label row e in
+    let there : containers_on (state_of t) label ≡ live_in row.label row.containers.items = row_holds t label row e in
     (summed_row t.numbers leaves t.partitions.items label row h e).uses
     ∙ (λ i. map (λ queue. (sym (ap (use_by leaves queue) there) ∙ sym (use-is (state_of t) label queue)) i) (root ∷ t.numbers))
 

@@ -30,10 +30,10 @@ pub record AreByUser (queues : List Path) (leaves : List LeafApps) (users : List
 
 -- what is kept of each queue, and of each user in it, is what they use by the containers of the row, what is kept of each node what they use of it, and what is listed of each application are the clocks of its own
 pub record IsSummed (queues : List Path) (leaves : List LeafApps) (row : PartitionRow) : Type 0 where
-  pub uses : row.uses.items ≡ map (λ queue. use_by leaves queue (live_in row.containers.items)) (root ∷ queues)
-  pub users : AreByUser queues leaves row.users.items (live_in row.containers.items)
-  pub filled : AreSums stands_on row.filled (live_in row.containers.items)
-  pub listed : AreListed row.listed (live_in row.containers.items)
+  pub uses : row.uses.items ≡ map (λ queue. use_by leaves queue (live_in row.label row.containers.items)) (root ∷ queues)
+  pub users : AreByUser queues leaves row.users.items (live_in row.label row.containers.items)
+  pub filled : AreSums stands_on row.filled (live_in row.label row.containers.items)
+  pub listed : AreListed row.listed (live_in row.label row.containers.items)
 
 -- and so in each row
 abbrev pub AreSummed : List Path → List LeafApps → List PartitionRow → Type 0

@@ -1,26 +1,35 @@
--- Rows of containers, of which those that are dead stand for nothing.
-use Rattle.std.specs.Prelude.{ℕ, Bool, ◌&&◌, List, [], ◌∷◌, Option, Some, None, slice_get, if◌then◌else◌}
+-- Rows of containers, of which those that are dead stand for nothing. A row has no label: its container has that of the partition.
+use Rattle.std.specs.Prelude.{ℕ, Bool, true, ◌&&◌, List, [], ◌∷◌, Option, Some, None, slice_get, if◌then◌else◌}
 use Rattle.std.specs.Option.{option_and_then}
+use Rattle.ynl_resource.specs.declared.labels.Label.{Label}
 use Rattle.ynl_model.specs.declared.containers.Placed.{Placed}
 use Rattle.ynl_tables.specs.declared.rows.ContainerRow.{ContainerRow}
 
+-- the container of a row, in the partition of a label
+abbrev pub container_in : Label → ContainerRow → Placed
+container_in label row = record { id = record { label = label; clock = row.clock }; node = row.node; tenant = row.tenant; app = row.app; what = row.what; size = row.size }
+
+-- the live row of a container
+abbrev pub row_of : Placed → ContainerRow
+row_of container = record { clock = container.id.clock; node = container.node; tenant = container.tenant; app = container.app; what = container.what; size = container.size; is_live = true }
+
 -- the containers of the live rows, in the order of the rows
-abbrev pub live_in : List ContainerRow → List Placed
-live_in [] = []
-live_in (row ∷ rows) = if row.is_live then row.container ∷ live_in rows else live_in rows
+abbrev pub live_in : Label → List ContainerRow → List Placed
+live_in label [] = []
+live_in label (row ∷ rows) = if row.is_live then container_in label row ∷ live_in label rows else live_in label rows
 
 -- a row's container, if it is live
-abbrev pub live_of : ContainerRow → Option Placed
-live_of row = if row.is_live then Some row.container else None
+abbrev pub live_of : Label → ContainerRow → Option Placed
+live_of label row = if row.is_live then Some (container_in label row) else None
 
 -- that of the row at a place, and none past the last
-abbrev pub live_at : List ContainerRow → ℕ → Option Placed
-live_at rows place = option_and_then live_of (slice_get rows place)
+abbrev pub live_at : Label → List ContainerRow → ℕ → Option Placed
+live_at label rows place = option_and_then (live_of label) (slice_get rows place)
 
 -- the clock of a row's container
 abbrev pub row_clock : ContainerRow → ℕ
-row_clock row = row.container.id.clock
+row_clock row = row.clock
 
 -- whether a row is live, and its container passes a test
-abbrev pub is_live_and : (Placed → Bool) → ContainerRow → Bool
-is_live_and test row = row.is_live && test row.container
+abbrev pub is_live_and : Label → (Placed → Bool) → ContainerRow → Bool
+is_live_and label test row = row.is_live && test (container_in label row)

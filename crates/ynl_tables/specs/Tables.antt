@@ -21,7 +21,7 @@ abbrev pub leaf_of_row : LeafRow → LeafApps
 leaf_of_row row = record { leaf = row.path; names = row.names.items; apps = map (app_of row.path) row.apps.items }
 
 abbrev pub partition_of : PartitionRow → Partition
-partition_of row = record { label = row.label; clock = row.clock; containers = live_in row.containers.items }
+partition_of row = record { label = row.label; clock = row.clock; containers = live_in row.label row.containers.items }
 
 abbrev pub leaves_of : List LeafRow → List LeafApps
 leaves_of rows = map leaf_of_row rows

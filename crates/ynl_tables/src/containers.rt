@@ -5,7 +5,7 @@ ghost use Rattle.std.specs.List.{AllByRecursion};
 ghost use Rattle.ynl_resource.specs.Names.{same_id, same_name};
 ghost use Rattle.ynl_model.specs.Cluster.{is_of};
 ghost use Rattle.ynl_model.specs.Events.{container_for};
-ghost use Rattle.ynl_tables.specs.Living.{live_in, row_clock};
+ghost use Rattle.ynl_tables.specs.Living.{container_in, live_in, row_clock, row_of};
 ghost use Rattle.ynl_tables.specs.Rising.{numbers_rise, clock_of, IsPlaceAt, IsAlone};
 ghost use Rattle.ynl_tables.specs.Tables.{state_of};
 
@@ -13,10 +13,10 @@ use crate::ended::live_of;
 use crate::rows::ContainerRow;
 use crate::tables::{Tables, containers_at, is_same};
 use ynl_model::Placed;
-use ynl_resource::{Id, Name};
+use ynl_resource::{Id, Label, Name};
 
 /// Whether two ids are the same.
-pub fn is_same_id(id: &Id, other: &Id) -> bool
+fn is_same_id(id: &Id, other: &Id) -> bool
     ensures { result ≡ same_id id.now other.now }
 {
     id.clock == other.clock && is_same(&id.label, &other.label)
@@ -29,35 +29,74 @@ pub fn is_own(container: &Placed, tenant: &[u8], app: &Name) -> bool
     container.app == *app && container.tenant.as_bytes() == tenant
 }
 
+/// The container of a row, in the partition of a label.
+pub fn container_of(label: &Label, row: &ContainerRow) -> Placed
+    ensures { result ≡ container_in label.now row.now }
+{
+    Placed {
+        id: Id {
+            label: *label,
+            clock: row.clock,
+        },
+        node: row.node,
+        tenant: row.tenant,
+        app: row.app,
+        what: row.what,
+        size: row.size,
+    }
+}
+
+/// The live row of a container.
+pub fn row_of(container: &Placed) -> ContainerRow
+    ensures { result ≡ row_of container.now }
+{
+    ContainerRow {
+        clock: container.id.clock,
+        node: container.node,
+        tenant: container.tenant,
+        app: container.app,
+        what: container.what,
+        size: container.size,
+        is_live: true,
+    }
+}
+
+/// Whether a row's container is an application's; its tenant is given by the bytes of its name.
+pub fn is_own_row(row: &ContainerRow, tenant: &[u8], app: &Name) -> bool
+    ensures { result ≡ (same_name row.now.tenant tenant.now && same_name row.now.app app.now) }
+{
+    row.app == *app && row.tenant.as_bytes() == tenant
+}
+
 /// The place of the row of a clock, of rows whose clocks rise; it may be dead.
 pub fn place_at(rows: &[ContainerRow], clock: u64) -> Option<usize>
     requires { IsTrue (numbers_rise row_clock rows.now) }
     ensures found { IfSome result (IsPlaceAt row_clock clock rows.now) }
     ensures absent { IfNone result (AllByRecursion (λ row. row_clock row ≢ clock) rows.now) }
 {
-    match rows.binary_search_by_key(&clock, |row| row.container.id.clock) {
+    match rows.binary_search_by_key(&clock, |row| row.clock) {
         Ok(place) => Some(place),
         Err(_) => None,
     }
 }
 
-/// The container of a clock, of rows whose clocks rise.
-pub fn container_at(rows: &[ContainerRow], clock: u64) -> Option<Placed>
+/// The container of a clock, of a partition's rows, whose clocks rise.
+pub fn container_at(label: &Label, rows: &[ContainerRow], clock: u64) -> Option<Placed>
     requires { IsTrue (numbers_rise row_clock rows.now) }
-    ensures { IsAlone clock_of clock (live_in rows.now) result }
+    ensures { IsAlone clock_of clock (live_in label.now rows.now) result }
 {
     match place_at(rows, clock) {
-        Some(place) => live_of(&rows[place]),
+        Some(place) => live_of(label, &rows[place]),
         None => None,
     }
 }
 
-/// The container of an id on a node, of those on the node's partition.
-pub fn container_on(rows: &[ContainerRow], node: &Name, id: &Id) -> Option<Placed>
+/// The container of an id on a node, of the rows of the node's partition.
+pub fn container_on(label: &Label, rows: &[ContainerRow], node: &Name, id: &Id) -> Option<Placed>
     requires { IsTrue (numbers_rise row_clock rows.now) }
-    ensures { result ≡ find (λ container. same_id container.id id.now && same_name container.node node.now) (live_in rows.now) }
+    ensures { result ≡ find (λ container. same_id container.id id.now && same_name container.node node.now) (live_in label.now rows.now) }
 {
-    let Some(other) = container_at(rows, id.clock) else {
+    let Some(other) = container_at(label, rows, id.clock) else {
         return None;
     };
     if is_same_id(&other.id, id) && other.node == *node {
@@ -72,7 +111,7 @@ pub fn container_of_tenant(tables: &Tables, tenant: &Name, id: &Id) -> Option<Pl
     ensures { result ≡ container_for (state_of tables.now) tenant.now id.now }
 {
     let rows = containers_at(&tables.partitions, &id.label);
-    let Some(other) = container_at(rows, id.clock) else {
+    let Some(other) = container_at(&id.label, rows, id.clock) else {
         return None;
     };
     if is_same_id(&other.id, id) && other.tenant == *tenant {

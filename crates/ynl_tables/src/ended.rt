@@ -1,91 +1,70 @@
 //! Rows of containers: the dead among them, and live ones that come.
 
 ghost use Rattle.std.specs.Prelude.{◌≡◌, ◌≤◌, ◌<◌, ◌+◌, ◌++◌, ◌∷◌, [], ℕ, true, IsTrue, IfOk, length, nat_lt, vec_len, vec_capacity};
+ghost use Rattle.ynl_resource.specs.declared.labels.Label.{Label as Labelled};
 ghost use Rattle.std.specs.List.{list_all, remove};
 ghost use Rattle.ynl_tables.specs.Living.{live_in, live_of, row_clock};
 ghost use Rattle.ynl_tables.specs.Rising.{numbers_rise, clock_of};
 
-use crate::containers::push_copy;
+use crate::containers::{container_of, push_copy};
 use crate::rows::ContainerRow;
 use std::alloc::{AllocError, Global};
 use ynl_model::Placed;
-use ynl_resource::Id;
+use ynl_resource::Label;
 
-/// A row's container, if it is live.
-pub fn live_of(row: &ContainerRow) -> Option<Placed>
-    ensures { result ≡ live_of row.now }
+/// A row's container in the partition of a label, if it is live.
+pub fn live_of(label: &Label, row: &ContainerRow) -> Option<Placed>
+    ensures { result ≡ live_of label.now row.now }
 {
     if row.is_live {
-        Some(row.container)
+        Some(container_of(label, row))
     } else {
         None
     }
 }
 
 /// A row's container comes last, if it is live; there is capacity for it.
-fn push_if_live(list: &mut Vec<Placed>, row: &ContainerRow)
+fn push_if_live(list: &mut Vec<Placed>, label: &Label, row: &ContainerRow)
     requires { vec_len list.old + 1 ≤ vec_capacity list.old }
-    ensures items { list.new.items ≡ list.old.items ++ live_in (row.now ∷ []) }
+    ensures items { list.new.items ≡ list.old.items ++ live_in label.now (row.now ∷ []) }
     ensures len { vec_len list.new ≤ vec_len list.old + 1 }
     ensures capacity { vec_capacity list.new ≡ vec_capacity list.old }
 {
     if row.is_live {
-        push_copy(list, &row.container);
+        push_copy(list, &container_of(label, row));
     }
 }
 
-/// The containers of the live rows.
-pub fn list_live(alloc: Global, rows: &[ContainerRow]) -> Result<Vec<Placed>, AllocError>
-    ensures { IfOk result (λ list. list.items ≡ live_in rows.now) }
+/// The containers of the live rows of a partition.
+pub fn list_live(
+    alloc: Global,
+    label: &Label,
+    rows: &[ContainerRow],
+) -> Result<Vec<Placed>, AllocError>
+    ensures { IfOk result (λ list. list.items ≡ live_in label.now rows.now) }
 {
     let mut list = Vec::with_capacity(alloc, rows.len())?;
     for row in rows {
-        push_if_live(&mut list, row);
+        push_if_live(&mut list, label, row);
     }
     Ok(list)
-}
-
-/// A live row of a container comes last; there is capacity for it.
-pub fn push_live(rows: &mut Vec<ContainerRow>, container: &Placed)
-    requires { vec_len rows.old + 1 ≤ vec_capacity rows.old }
-    ensures items { rows.new.items ≡ rows.old.items ++ record { container = container.now; is_live = true } ∷ [] }
-    ensures len { vec_len rows.new ≡ vec_len rows.old + 1 }
-    ensures capacity { vec_capacity rows.new ≡ vec_capacity rows.old }
-{
-    rows.push_reserved(ContainerRow {
-        container: Placed {
-            id: Id {
-                label: container.id.label,
-                clock: container.id.clock,
-            },
-            node: container.node,
-            tenant: container.tenant,
-            app: container.app,
-            what: container.what,
-            size: container.size,
-        },
-        is_live: true,
-    });
 }
 
 /// The row at a place is dead.
 pub fn end_at(rows: &mut Vec<ContainerRow>, place: usize)
     requires { place < length rows.old.items }
-    ensures live { live_in rows.new.items ≡ live_in (remove rows.old.items place) }
+    ensures live { (label : Labelled) → live_in label rows.new.items ≡ live_in label (remove rows.old.items place) }
     ensures rising { numbers_rise row_clock rows.old.items ≡ true → numbers_rise row_clock rows.new.items ≡ true }
 {
-    let container = rows[place].container;
-    rows[place] = ContainerRow {
-        container,
-        is_live: false,
-    };
+    let row = &mut rows[place];
+    row.is_live = false;
 }
 
 /// All dead rows go.
 pub fn clear_ended(rows: &mut Vec<ContainerRow>)
-    ensures live { live_in rows.new.items ≡ live_in rows.old.items }
+    ensures live { (label : Labelled) → live_in label rows.new.items ≡ live_in label rows.old.items }
     ensures rising { numbers_rise row_clock rows.old.items ≡ true → numbers_rise row_clock rows.new.items ≡ true }
-    ensures below { (clock : ℕ) → list_all (λ k. nat_lt (clock_of k) clock) (live_in rows.old.items) ≡ true → list_all (λ row. nat_lt (row_clock row) clock) rows.new.items ≡ true }
+    ensures below { (label : Labelled) (clock : ℕ) → list_all (λ k. nat_lt (clock_of k) clock) (live_in label rows.old.items) ≡ true → list_all (λ row. nat_lt (row_clock row) clock) rows.new.items ≡ true }
     ensures len { vec_len rows.new ≤ vec_len rows.old }
     ensures capacity { vec_capacity rows.new ≡ vec_capacity rows.old }
 {
@@ -98,18 +77,17 @@ fn is_above(rows: &[ContainerRow], clock: u64) -> bool
     ensures { result ≡ true → list_all (λ row. nat_lt (row_clock row) clock) rows.now ≡ true }
 {
     let len = rows.len();
-    len == 0 || rows[len - 1].container.id.clock < clock
+    len == 0 || rows[len - 1].clock < clock
 }
 
 /// A row of a clock above those of the live ones can come last. The clocks of dead rows were a partition's
 /// before, so they stand below its next clock too; that is tested and not promised by the row, and where it
 /// were not so, the dead would go.
 pub fn make_last(rows: &mut Vec<ContainerRow>, clock: u64)
-    requires rising { IsTrue (numbers_rise row_clock rows.old.items) }
-    requires live { IsTrue (list_all (λ k. nat_lt (clock_of k) clock) (live_in rows.old.items)) }
-    ensures live { live_in rows.new.items ≡ live_in rows.old.items }
+    requires { IsTrue (numbers_rise row_clock rows.old.items) }
+    ensures live { (label : Labelled) → live_in label rows.new.items ≡ live_in label rows.old.items }
     ensures rising { IsTrue (numbers_rise row_clock rows.new.items) }
-    ensures below { list_all (λ row. nat_lt (row_clock row) clock) rows.new.items ≡ true }
+    ensures below { (label : Labelled) → list_all (λ k. nat_lt (clock_of k) clock) (live_in label rows.old.items) ≡ true → list_all (λ row. nat_lt (row_clock row) clock) rows.new.items ≡ true }
     ensures len { vec_len rows.new ≤ vec_len rows.old }
     ensures capacity { vec_capacity rows.new ≡ vec_capacity rows.old }
 {

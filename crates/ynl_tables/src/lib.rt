@@ -7,9 +7,10 @@ pub use applications::{has_most_apps, home_of, is_used};
 pub use asks::{ask_of, is_ask_of, is_foreign, is_one_too_many};
 pub use clocks::{is_spent, next_clock};
 pub use containers::{
-    container_at, container_of_tenant, container_on, is_own, is_same_id, place_at, push_copy,
+    container_at, container_of, container_of_tenant, container_on, is_own, is_own_row, place_at,
+    push_copy, row_of,
 };
-pub use ended::{clear_ended, end_at, list_live, live_of, make_last, push_live};
+pub use ended::{clear_ended, end_at, list_live, live_of, make_last};
 pub use known::{Known, Spot};
 pub use listed::{Holder, Listed};
 pub use live::{Live, live_at};

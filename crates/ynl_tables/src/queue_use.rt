@@ -14,6 +14,7 @@ ghost use Rattle.ynl_tables.specs.Kept.{IsKept};
 ghost use Rattle.ynl_tables.specs.Marked.{IsMarkedApp};
 ghost use Rattle.ynl_tables.specs.Uses.{is_counted};
 
+use crate::containers::container_of;
 use crate::rows::{App, ContainerRow, LeafRow};
 use crate::tables::{Tables, containers_at, partition_row};
 use crate::uses::{Counted, counts, is_master, used_by, used_on};
@@ -55,7 +56,7 @@ fn sum_of(tables: &Tables, queue: &[Name], counted: Counted<'_>, label: &Label) 
     ensures small { IsTotal result }
 {
     let rows = containers_at(&tables.partitions, label);
-    used_by(&tables.leaves, queue, counted, rows)
+    used_by(&tables.leaves, queue, counted, label, rows)
 }
 
 /// What a queue uses of a partition.
@@ -137,16 +138,21 @@ pub fn guests(tables: &Tables, queue: &[Name], label: &Label) -> Resource
 }
 
 /// Whether a row is live, and its container a master that counts in the use of a leaf.
-fn is_live_master(leaves: &[LeafRow], leaf: &[Name], row: &ContainerRow) -> bool
-    ensures { result ≡ is_live_and (λ k. counts (leaves_of leaves.now) leaf.now k && is_master k) row.now }
+fn is_live_master(leaves: &[LeafRow], leaf: &[Name], label: &Label, row: &ContainerRow) -> bool
+    ensures { result ≡ is_live_and label.now (λ k. counts (leaves_of leaves.now) leaf.now k && is_master k) row.now }
 {
-    row.is_live && counts(leaves, leaf, &row.container) && is_master(&row.container)
+    if !row.is_live {
+        return false;
+    }
+    let container = container_of(label, row);
+    counts(leaves, leaf, &container) && is_master(&container)
 }
 
-fn has_live_master(leaves: &[LeafRow], leaf: &[Name], rows: &[ContainerRow]) -> bool
-    ensures { result ≡ list_any (is_live_and (λ k. counts (leaves_of leaves.now) leaf.now k && is_master k)) rows.now }
+fn has_live_master(leaves: &[LeafRow], leaf: &[Name], label: &Label, rows: &[ContainerRow]) -> bool
+    ensures { result ≡ list_any (is_live_and label.now (λ k. counts (leaves_of leaves.now) leaf.now k && is_master k)) rows.now }
 {
-    rows.iter().any(|row| is_live_master(leaves, leaf, row))
+    rows.iter()
+        .any(|row| is_live_master(leaves, leaf, label, row))
 }
 
 /// Whether any of the live containers on a partition is a master that counts in the use of a leaf.
@@ -154,7 +160,7 @@ fn any_master(tables: &Tables, leaf: &[Name], label: &Label) -> bool
     ensures { result ≡ list_any is_master (counted (state_of tables.now) leaf.now label.now) }
 {
     let rows = containers_at(&tables.partitions, label);
-    has_live_master(&tables.leaves, leaf, rows)
+    has_live_master(&tables.leaves, leaf, label, rows)
 }
 
 fn has_counted_master(tables: &Tables, leaf: &[Name], label: &Label) -> bool
@@ -195,7 +201,11 @@ pub fn free(tables: &Tables, node: &Node) -> Resource
 {
     let taken = match kept_on(tables, node) {
         Some(taken) => taken,
-        None => used_on(&node.name, containers_at(&tables.partitions, &node.label)),
+        None => used_on(
+            &node.name,
+            &node.label,
+            containers_at(&tables.partitions, &node.label),
+        ),
     };
     let size = node.size.amount();
     Resource {

@@ -16,7 +16,7 @@ use crate::listed::Listed;
 use crate::sums::Sums;
 use crate::user_counts::UserCounts;
 use std::marker::Model;
-use ynl_model::{AskRow, Placed, Use};
+use ynl_model::{AskRow, Use, What};
 use ynl_resource::{Label, Name, Path, Size};
 use ynl_waiting::Waiting;
 
@@ -73,11 +73,17 @@ pub struct LeafRow {
     ghost all_counted: { AllByRecursion (IsCountedPart apps.items) parts.items } by { Prim.hlevel props },
 }
 
-/// A row of a container. One that has ended is dead: it stands for nothing, and keeps its place among the
-/// others until the dead are cleared.
+/// A row of a container. It has no label, since all containers of a partition have the partition's. One that
+/// has ended is dead: it stands for nothing, and keeps its place among the others until the dead are cleared.
+/// Numbers stand before bytes, so that no room is lost between them.
 #[derive(Clone, Copy)]
 pub struct ContainerRow {
-    pub container: Placed,
+    pub clock: u64,
+    pub size: Size,
+    pub what: What,
+    pub node: Name,
+    pub tenant: Name,
+    pub app: Name,
     pub is_live: bool,
 }
 

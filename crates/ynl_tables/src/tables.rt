@@ -72,7 +72,7 @@ pub fn clock_at(rows: &[PartitionRow], label: &Label) -> u64
 /// The rows of the containers on a partition, in the order of placement.
 pub fn containers_at<'a>(rows: &'a [PartitionRow], label: &Label) -> &'a [ContainerRow]
     ensures rising { IsTrue (numbers_rise row_clock result.now) }
-    ensures meaning { live_in result.now ≡ option_map_or (λ row. row.containers) (find (is_partition label.now) (partitions_of rows.now)) [] }
+    ensures meaning { live_in label.now result.now ≡ option_map_or (λ row. row.containers) (find (is_partition label.now) (partitions_of rows.now)) [] }
 {
     match partition_at(rows, label) {
         Some(row) => &row.containers,

@@ -1,6 +1,6 @@
 //! What containers use: sums over the containers of a partition.
 
-ghost use Rattle.std.specs.Prelude.{◌≡◌, IsTrue, List, true, filter, IfSome, if◌then◌else◌};
+ghost use Rattle.std.specs.Prelude.{◌≡◌, ◌&&◌, IsTrue, List, true, filter, IfSome, if◌then◌else◌};
 ghost use Rattle.std.specs.List.{list_any};
 ghost use Rattle.ynl_resource.specs.Amounts.{plus, fits_in};
 ghost use Rattle.ynl_resource.specs.Names.{same_name, same_path};
@@ -13,6 +13,7 @@ ghost use Rattle.ynl_tables.specs.Bounds.{IsTotal};
 ghost use Rattle.ynl_laws.specs.Uses.{counts};
 ghost use Rattle.ynl_tables.specs.Uses.{is_of_other, of_user, is_counted, IsOwner};
 
+use crate::containers::container_of;
 use crate::named::app_named;
 use crate::rows::{ContainerRow, LeafRow};
 use crate::tables::leaf_row_of;
@@ -151,18 +152,19 @@ fn is_live_counted(
     leaves: &[LeafRow],
     queue: &[Name],
     counted: Counted<'_>,
+    label: &Label,
     row: &ContainerRow,
 ) -> bool
-    ensures { result ≡ is_live_and (is_counted (leaves_of leaves.now) queue.now counted.entry) row.now }
+    ensures { result ≡ is_live_and label.now (is_counted (leaves_of leaves.now) queue.now counted.entry) row.now }
 {
-    row.is_live && is_counted(leaves, queue, counted, &row.container)
+    row.is_live && is_counted(leaves, queue, counted, &container_of(label, row))
 }
 
 /// Whether a row is live, and its container stands on a node.
 pub fn is_live_on(node: &Name, row: &ContainerRow) -> bool
-    ensures { result ≡ is_live_and (λ k. same_name k.node node.now) row.now }
+    ensures { result ≡ (row.now.is_live && same_name row.now.node node.now) }
 {
-    row.is_live && row.container.node == *node
+    row.is_live && row.node == *node
 }
 
 /// The sum, with the size where it counts.
@@ -179,29 +181,30 @@ pub fn used_by(
     leaves: &[LeafRow],
     queue: &[Name],
     counted: Counted<'_>,
+    label: &Label,
     rows: &[ContainerRow],
 ) -> Resource
-    requires { IsTotal (sizes (live_in rows.now)) }
-    ensures value { result ≡ sizes (filter (is_counted (leaves_of leaves.now) queue.now counted.entry) (live_in rows.now)) }
-    ensures within { IsTrue (fits_in result (sizes (live_in rows.now))) }
+    requires { IsTotal (sizes (live_in label.now rows.now)) }
+    ensures value { result ≡ sizes (filter (is_counted (leaves_of leaves.now) queue.now counted.entry) (live_in label.now rows.now)) }
+    ensures within { IsTrue (fits_in result (sizes (live_in label.now rows.now))) }
 {
     let mut sum = NOTHING;
     for row in rows {
-        let is_counted = is_live_counted(leaves, queue, counted, row);
-        sum = added(&sum, &row.container.size, is_counted);
+        let is_counted = is_live_counted(leaves, queue, counted, label, row);
+        sum = added(&sum, &row.size, is_counted);
     }
     sum
 }
 
 /// What the live containers on a node come to, of those on its partition.
-pub fn used_on(node: &Name, rows: &[ContainerRow]) -> Resource
-    requires { IsTotal (sizes (live_in rows.now)) }
-    ensures { result ≡ sizes (filter (λ k. same_name k.node node.now) (live_in rows.now)) }
+pub fn used_on(node: &Name, label: &Label, rows: &[ContainerRow]) -> Resource
+    requires { IsTotal (sizes (live_in label.now rows.now)) }
+    ensures { result ≡ sizes (filter (λ k. same_name k.node node.now) (live_in label.now rows.now)) }
 {
     let mut sum = NOTHING;
     for row in rows {
         let is_on = is_live_on(node, row);
-        sum = added(&sum, &row.container.size, is_on);
+        sum = added(&sum, &row.size, is_on);
     }
     sum
 }

@@ -29,7 +29,7 @@ pub(crate) fn refuse_exited(tables: &Tables, name: &Name, id: &Id) -> Result<Pla
         return Err(Refusal::NoSuchNode);
     };
     let containers = containers_at(&tables.partitions, &node.label);
-    match container_on(containers, name, id) {
+    match container_on(&node.label, containers, name, id) {
         Some(container) => Ok(container),
         None => Err(Refusal::NoSuchContainer),
     }

@@ -7,4 +7,4 @@ pub invariant_of-row : goal.invariant_of-row
 invariant_of-row c = record { rising = c.clear_ended.ensures.rising c.args.row.now.rising }
 
 pub returns-then-row-len-clause-summed : goal.returns-then-row-len-clause-summed
-returns-then-row-len-clause-summed c = λ queues leaves h. same_live queues leaves c.args.row.now _ c.clear_ended.ensures.live refl refl refl refl h
+returns-then-row-len-clause-summed c = λ queues leaves h. same_live queues leaves c.args.row.now _ (c.clear_ended.ensures.live c.args.row.now.label) refl refl refl refl h

@@ -19,26 +19,30 @@ pub invariant_of-row : goal.invariant_of-row
 invariant_of-row c = record { rising = c.end_at.ensures.rising c.args.row.now.rising }
 
 pub returns-clause-meaning : goal.returns-clause-meaning
-returns-clause-meaning c = ap (λ (ks : List Placed). record (partition_of c.args.row.now) { containers = ks }) c.end_at.ensures.live
+returns-clause-meaning c =
+    let label = c.args.row.now.label in
+    ap (λ (ks : List Placed). record (partition_of c.args.row.now) { containers = ks }) (c.end_at.ensures.live label)
 
 pub returns-clause-summed : goal.returns-clause-summed
 returns-clause-summed c =
     let leaves : List LeafApps = leaves_of c.args.leaves.now in
     let queues = c.args.numbers.now in
+    let label = c.args.row.now.label in
     let rows : List ContainerRow = c.args.row.now.containers.items in
     let row : ContainerRow = c.index.result.now in
-    let k : Placed = row.container in
+    let k : Placed = c.container_of-container.result in
     let first = take c.args.place rows in
     let rest = drop (suc c.args.place) rows in
-    let before : List Placed = live_in first in
-    let after : List Placed = live_in rest in
+    let before : List Placed = live_in label first in
+    let after : List Placed = live_in label rest in
     let live : row.is_live ≡ true = ap (λ (row : ContainerRow). row.is_live) c.index.ensures ∙ c.requires.live row in
-    let whole : live_in rows ≡ before ++ k ∷ after = ap live_in (split_at rows c.args.place row c.requires.place c.index.ensures) ∙ live_between first rest row live in
-    let left = sym (c.end_at.ensures.live ∙ live_append first rest) in
+    let whole : live_in label rows ≡ before ++ k ∷ after =
+    ap (live_in label) (split_at rows c.args.place row c.requires.place c.index.ensures) ∙ live_between label first rest row live ∙ ap (λ (k : Placed). before ++ k ∷ after) (sym c.container_of-container.ensures) in
+    let left = sym ((c.end_at.ensures.live label) ∙ live_append label first rest) in
     let by = λ (ks : List Placed). map (λ queue. use_by leaves queue ks) (root ∷ queues) in
     record {
       uses = use_less queues leaves k c.args.row.now.uses.items c.lower.new.uses.items c.lower.ensures.uses before after (c.requires.summed.uses ∙ ap by whole) ∙ ap by left;
       users = subst (AreByUser queues leaves c.change_users.new.users.items) left (c.change_users.ensures before after (subst (AreByUser queues leaves c.args.row.now.users.items) whole c.requires.summed.users));
       filled = subst (AreSums stands_on c.lower-2.new.self) left (c.lower-2.ensures stands_on k (record { sized = refl; alone = λ other. refl }) before after (subst (AreSums stands_on c.args.row.now.filled) whole c.requires.summed.filled));
-      listed = subst (AreListed c.remove.new.self) left (c.remove.ensures before after (subst (λ (ks : List Placed). numbers_rise clock_of ks ≡ true) whole (live_rise rows c.args.row.now.rising)) (subst (AreListed c.args.row.now.listed) whole c.requires.summed.listed));
+      listed = subst (AreListed c.remove.new.self) left (c.remove.ensures before after (subst (λ (ks : List Placed). numbers_rise clock_of ks ≡ true) whole (live_rise label rows c.args.row.now.rising)) (subst (AreListed c.args.row.now.listed) whole c.requires.summed.listed));
     }

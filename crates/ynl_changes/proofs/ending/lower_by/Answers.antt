@@ -14,9 +14,9 @@ lower_if-requires-clause-len c = ap length c.loop-row.invariant ∙ length-map (
 
 pub loop-row-preserved : goal.loop-row-preserved
 loop-row-preserved c =
-    left_one (AreUses c.args.numbers.now (leaves_of c.args.leaves.now) c.loop-row.uses.items) (AreUses c.args.numbers.now (leaves_of c.args.leaves.now) c.lower_if.new.uses.items) (is_live_and (goes c.args.going)) c.args.rows.now c.loop-row.row-index c.row-item.result c.loop-row-test.true c.row-item.is c.lower_if.ensures c.loop-row.invariant
+    left_one (AreUses c.args.numbers.now (leaves_of c.args.leaves.now) c.args.label.now c.loop-row.uses.items) (AreUses c.args.numbers.now (leaves_of c.args.leaves.now) c.args.label.now c.lower_if.new.uses.items) (is_live_and c.args.label.now (goes c.args.going)) c.args.rows.now c.loop-row.row-index c.row-item.result c.loop-row-test.true c.row-item.is c.lower_if.ensures c.loop-row.invariant
 
 pub returns : goal.returns
 returns c =
     c.loop-row.invariant
-    ∙ ap (λ (ks : List Placed). map (λ queue. use_by (leaves_of c.args.leaves.now) queue ks) (root ∷ c.args.numbers.now)) (all_ended (goes c.args.going) c.args.rows.now c.loop-row.row-index c.loop-row-test.false)
+    ∙ ap (λ (ks : List Placed). map (λ queue. use_by (leaves_of c.args.leaves.now) queue ks) (root ∷ c.args.numbers.now)) (all_ended c.args.label.now (goes c.args.going) c.args.rows.now c.loop-row.row-index c.loop-row-test.false)

@@ -5,4 +5,4 @@ use Rattle.ynl_changes.proofs.Summing.{so_far}
 use Rattle.ynl_changes.proofs.ending.lower_users_by.Given as goal
 
 abbrev pub invariant-loop-row : goal.invariant-loop-row
-invariant-loop-row l = AreUserUses l.numbers (leaves_of l.leaves) l.users.items (so_far (is_live_and (goes l.going)) l.rows l.row-index)
+invariant-loop-row l = AreUserUses l.numbers (leaves_of l.leaves) l.label l.users.items (so_far (is_live_and l.label (goes l.going)) l.rows l.row-index)

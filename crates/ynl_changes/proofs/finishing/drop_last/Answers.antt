@@ -11,4 +11,4 @@ returns-in-Some-clause-others c =
     let row = c.args.row.now in
     let holder = c.args.holder.now in
     ap (without_own holder.tenant holder.app) c.drop_at.ensures.meaning
-    ∙ ap (λ (ks : List Placed). record (partition_of row) { containers = ks }) (without_ended (holds holder) row.containers.items c.in-Some.place c.in-Some.ensures.own)
+    ∙ ap (λ (ks : List Placed). record (partition_of row) { containers = ks }) (without_ended row.label (holds holder) row.containers.items c.in-Some.place (c.in-Some.ensures.own row.label))

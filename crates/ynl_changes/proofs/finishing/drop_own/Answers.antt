@@ -16,8 +16,8 @@ returns-then-has_none-clause-meaning c =
     let new = c.drop_listed.new.row in
     let holder = c.in-Some.holder in
     let named : holder ≡ record { app = c.args.app.now; tenant = c.args.tenant.now } = subst (IsHolder c.args.tenant.now c.args.app.now) c.in-Some.is c.requires.holder in
-    let none : filter (holds holder) (live_in new.containers.items) ≡ [] = subst (λ (b : Bool). OnTrue b (filter (holds holder) (live_in new.containers.items) ≡ [])) c.if-has_none.true c.has_none.ensures in
+    let none : filter (holds holder) (live_in new.label new.containers.items) ≡ [] = subst (λ (b : Bool). OnTrue b (filter (holds holder) (live_in new.label new.containers.items) ≡ [])) c.if-has_none.true c.has_none.ensures in
     c.clear_if_many.ensures.meaning
-    ∙ ap (λ (ks : List Placed). record (partition_of new) { containers = ks }) (sym (none_passes (holds holder) (live_in new.containers.items) none))
+    ∙ ap (λ (ks : List Placed). record (partition_of new) { containers = ks }) (sym (none_passes (holds holder) (live_in new.label new.containers.items) none))
     ∙ c.drop_listed.ensures.others
     ∙ ap (λ (h : Holder). without_own h.tenant h.app (partition_of old)) named

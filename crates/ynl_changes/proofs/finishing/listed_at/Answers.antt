@@ -1,11 +1,8 @@
-use Rattle.std.proofs.Common.{◌≡◌, ◌≤◌, ℕ, List, length, map, filter, get_or, slice_get, refl, sym, ap, ◌∙◌, arith}
+use Rattle.std.proofs.Common.{◌≡◌, ◌≤◌, ℕ, List, length, map, filter, get_or, refl, sym, ap, ◌∙◌, arith}
 use Rattle.std.proofs.lemmas.List.{length-map}
 use Rattle.ynl_model.specs.declared.containers.Placed.{Placed}
 use Rattle.ynl_tables.specs.Listed.{clocks_held, holds}
-use Rattle.ynl_tables.specs.Living.{live_in}
 use Rattle.ynl_tables.specs.Rising.{clock_of}
-use Rattle.ynl_tables.proofs.Living.{live_rise}
-use Rattle.ynl_changes.proofs.Own.{live_rows}
 use Rattle.ynl_tables.specs.Tables.{partitions_of}
 use Rattle.ynl_tables.proofs.Held.{next_held}
 use Rattle.ynl_changes.specs.Rows.{containers_at_place}
@@ -17,11 +14,10 @@ returns-then-place-clocks c =
     let holder = c.args.holder.now in
     let place = c.args.place in
     let clocks : List ℕ = c.in-Some.clocks.now in
-    let ks : List Placed = live_in c.containers_of.result.now in
-    let all : ks ≡ containers_at_place (partitions_of c.args.rows.now) c.args.row = ap live_in c.containers_of.ensures.meaning ∙ live_rows c.args.rows.now c.args.row in
-    let held : clocks ≡ clocks_held holder ks = same_list clocks _ (c.in-Some.ensures ∙ c.requires) ∙ ap (clocks_held holder) (sym all) in
-    let next = next_held clock_of ks (live_rise c.containers_of.result.now c.containers_of.ensures.rising) (holds holder) clocks held place (get_or clocks place 0) 0 c.if-place-clocks.true refl in
-    next.1.only c.container_at.result c.container_at.ensures ∙ sym next.1.here ∙ ap (λ (ks : List Placed). slice_get (filter (holds holder) ks) place) all
+    let ks : List Placed = containers_at_place (partitions_of c.args.rows.now) c.args.row in
+    let held : clocks ≡ clocks_held holder ks = same_list clocks _ (c.in-Some.ensures ∙ c.requires) in
+    let next = next_held clock_of ks c.container_of_clock.ensures.rising (holds holder) clocks held place (get_or clocks place 0) 0 c.if-place-clocks.true refl in
+    next.1.only c.container_of_clock.result c.container_of_clock.ensures.alone ∙ sym next.1.here
 
 pub returns-else-place-clocks : goal.returns-else-place-clocks
 returns-else-place-clocks c =

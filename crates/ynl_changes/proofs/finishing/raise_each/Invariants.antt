@@ -8,7 +8,7 @@ use Rattle.ynl_changes.proofs.finishing.raise_each.Given as goal
 
 abbrev pub invariant-loop-place : goal.invariant-loop-place
 invariant-loop-place l = record {
-  state : state_of l.tables ≡ clocks_rise l.config (filter (is_of l.tenant l.app) (live_in (take l.place (rows_at l.initial.tables.partitions.items l.row)))) (state_of l.initial.tables);
+  state : state_of l.tables ≡ clocks_rise l.config (filter (is_of l.tenant l.app) (live_in (rows_at l.initial.tables.partitions.items l.row).0 (take l.place (rows_at l.initial.tables.partitions.items l.row).1))) (state_of l.initial.tables);
   containers : rows_at l.tables.partitions.items l.row ≡ rows_at l.initial.tables.partitions.items l.row;
   leaves : l.tables.leaves.items ≡ l.initial.tables.leaves.items;
   numbers : l.tables.numbers ≡ l.initial.tables.numbers;

@@ -28,7 +28,7 @@ returns-clause-kept c =
     let rows = c.drop_containers.new.rows.items in
     let old = c.args.tables.now.leaves.items in
     let new = c.unmark.new.rows.items in
-    let there : live_in c.containers_at.result.now ≡ containers_on s node.label =
+    let there : live_in node.label c.containers_at.result.now ≡ containers_on s node.label =
     c.containers_at.ensures.meaning ∙ ap (λ (rows : List PartitionRow). containers_on (record s { partitions = partitions_of rows }) node.label) c.deref.ensures.value in
     let marks = c.unmark.ensures.marks ∙ ap (λ (ks : List Placed). map (map (unmarked node.label node.name ks)) (noted_rows old)) there in
     record {

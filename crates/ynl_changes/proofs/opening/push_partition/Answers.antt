@@ -12,6 +12,6 @@ use Rattle.ynl_changes.proofs.opening.push_partition.Goals as goal
 pub returns-clause-summed : goal.returns-clause-summed
 returns-clause-summed c = λ leaves h.
     let queues = c.args.numbers.now in
-    let uses = c.in_ok-uses.ensures leaves ∙ ap (λ (xs : List ContainerRow). map (λ queue. use_by leaves queue (live_in xs)) (root ∷ queues)) (sym c.new.ensures.items) in
-    let users = subst (λ (xs : List ContainerRow). AreByUser queues leaves c.in_ok-users.users.items (live_in xs)) (sym c.new.ensures.items) (c.in_ok-users.ensures leaves) in
-    subst (AreSummed queues leaves) (sym c.in_ok-push.ensures.items) (Each-append (IsSummed queues leaves) c.args.rows.now.items _ h (record { uses = uses; users = users; filled = subst (λ (xs : List ContainerRow). AreSums stands_on c.new-2.result (live_in xs)) (sym c.new.ensures.items) (c.new-2.ensures stands_on); listed = subst (λ (xs : List ContainerRow). AreListed c.new-3.result (live_in xs)) (sym c.new.ensures.items) c.new-3.ensures }, tt))
+    let uses = c.in_ok-uses.ensures leaves ∙ ap (λ (xs : List ContainerRow). map (λ queue. use_by leaves queue (live_in c.args.label xs)) (root ∷ queues)) (sym c.new.ensures.items) in
+    let users = subst (λ (xs : List ContainerRow). AreByUser queues leaves c.in_ok-users.users.items (live_in c.args.label xs)) (sym c.new.ensures.items) (c.in_ok-users.ensures leaves) in
+    subst (AreSummed queues leaves) (sym c.in_ok-push.ensures.items) (Each-append (IsSummed queues leaves) c.args.rows.now.items _ h (record { uses = uses; users = users; filled = subst (λ (xs : List ContainerRow). AreSums stands_on c.new-2.result (live_in c.args.label xs)) (sym c.new.ensures.items) (c.new-2.ensures stands_on); listed = subst (λ (xs : List ContainerRow). AreListed c.new-3.result (live_in c.args.label xs)) (sym c.new.ensures.items) c.new-3.ensures }, tt))

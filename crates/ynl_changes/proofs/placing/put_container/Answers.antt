@@ -23,7 +23,7 @@ put-requires-clause-summed c =
 -- the row that comes next is as it was
 pub put-requires-clause-small : goal.put-requires-clause-small
 put-requires-clause-small c =
-    let P : PartitionRow → Type 0 = λ row. IsTotal (sizes (live_in row.containers.items)) in
+    let P : PartitionRow → Type 0 = λ row. IsTotal (sizes (live_in row.label row.containers.items)) in
     let x = c.row-item.result in
     let was = next_is partition_of (put_on c.args.label.now c.args.clock c.args.container.now) _ _ _ c.loop-row.invariant.changed x c.row-item.is in
     let all = subst (AllByRecursion P) (sym c.deref_mut-row-items.ensures.value) c.requires.small in
@@ -32,7 +32,7 @@ put-requires-clause-small c =
 
 pub put-requires-clause-last : goal.put-requires-clause-last
 put-requires-clause-last c =
-    let P : PartitionRow → Type 0 = λ row. same_label row.label c.args.label.now ≡ true → list_all (λ k. nat_lt (clock_of k) c.args.container.now.id.clock) (live_in row.containers.items) ≡ true in
+    let P : PartitionRow → Type 0 = λ row. same_label row.label c.args.label.now ≡ true → list_all (λ k. nat_lt (clock_of k) c.args.container.now.id.clock) (live_in row.label row.containers.items) ≡ true in
     let was = next_is partition_of (put_on c.args.label.now c.args.clock c.args.container.now) _ _ _ c.loop-row.invariant.changed c.row-item.result c.row-item.is in
     let all = subst (AllByRecursion P) (sym c.deref_mut-row-items.ensures.value) c.requires.last in
     subst P c.row-item.is (subst P (sym was) (all-of P c.deref_mut-row-items.result.now all c.loop-row.row-index c.row-item.result c.loop-row-test.true))

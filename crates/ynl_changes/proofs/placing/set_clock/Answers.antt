@@ -7,7 +7,7 @@ use Rattle.ynl_tables.specs.Kept.{IsSummed, AreSummed}
 use Rattle.ynl_tables.specs.declared.rows.ContainerRow.{ContainerRow}
 use Rattle.ynl_tables.specs.declared.rows.PartitionRow.{PartitionRow}
 use Rattle.ynl_tables.specs.Tables.{partition_of}
-use Rattle.ynl_changes.specs.Rows.{lists_of, rows_at}
+use Rattle.ynl_changes.specs.Rows.{lists_of, rows_of}
 use Rattle.ynl_changes.proofs.Own.{rows_stay}
 use Rattle.ynl_changes.proofs.InPlace.{changed_step, each_set, same_set, whole_again, whole_kept}
 use Rattle.ynl_changes.proofs.placing.set_clock.Goals as goal
@@ -19,7 +19,7 @@ loop-row-preserved c =
     record {
       changed = changed_step partition_of (λ (row : Partition). cond (same_label row.label c.args.label.now) (record row { clock = c.args.clock }) row) _ _ _ c.loop-row.invariant.changed x c.set_on.new.row c.loop-row-test.true c.row-item.is c.set_on.ensures.meaning;
       lists = same_set (λ (row : PartitionRow). row.listed) c.loop-row.row-items c.loop-row.row-index x c.set_on.new.row inside c.set_on.ensures.listed ∙ c.loop-row.invariant.lists;
-      containers = same_set (λ (row : PartitionRow). row.containers.items) c.loop-row.row-items c.loop-row.row-index x c.set_on.new.row inside c.set_on.ensures.containers ∙ c.loop-row.invariant.containers;
+      containers = same_set rows_of c.loop-row.row-items c.loop-row.row-index x c.set_on.new.row inside c.set_on.ensures.containers ∙ c.loop-row.invariant.containers;
       summed = λ queues leaves h.
           let now = c.loop-row.invariant.summed queues leaves h in
           each_set (IsSummed queues leaves) c.loop-row.row-items c.loop-row.row-index c.set_on.new.row now
@@ -30,8 +30,8 @@ pub returns-clause-containers : goal.returns-clause-containers
 returns-clause-containers c =
     let value = c.deref_mut-row-items.ensures.value in
     let same = c.loop-row.auto.row-items ∙ ap length value in
-    let kept = c.loop-row.invariant.containers ∙ ap (map (λ (row : PartitionRow). row.containers.items)) value in
-    rows_stay _ _ (ap (map (λ (row : PartitionRow). row.containers.items)) (whole_again c.args.rows.now.len c.loop-row.row-items c.args.rows.now.items same c.args.rows.now.ok.0) ∙ kept)
+    let kept = c.loop-row.invariant.containers ∙ ap (map rows_of) value in
+    rows_stay _ _ (ap (map rows_of) (whole_again c.args.rows.now.len c.loop-row.row-items c.args.rows.now.items same c.args.rows.now.ok.0) ∙ kept)
 
 pub returns-clause-summed : goal.returns-clause-summed
 returns-clause-summed c = λ queues leaves h.

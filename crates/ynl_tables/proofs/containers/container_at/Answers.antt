@@ -10,10 +10,10 @@ returns-in-Some c =
     let rows = c.args.rows.now in
     let x = c.index-rows-place.result in
     let found = c.in-Some.ensures.found in
-    let alone = live_alone rows c.requires c.in-Some.place x found.within in
-    subst (IsAlone clock_of c.args.clock (live_in rows)) (sym c.live_of.ensures)
-    (subst (λ (y : ContainerRow). IsAlone clock_of c.args.clock (live_in rows) (live_of y)) (sym c.index-rows-place.is)
-    (subst (λ (n : ℕ). IsAlone clock_of n (live_in rows) (live_of (get_or rows c.in-Some.place x))) (found.same x) alone))
+    let alone = live_alone c.args.label.now rows c.requires c.in-Some.place x found.within in
+    subst (IsAlone clock_of c.args.clock (live_in c.args.label.now rows)) (sym c.live_of.ensures)
+    (subst (λ (y : ContainerRow). IsAlone clock_of c.args.clock (live_in c.args.label.now rows) (live_of c.args.label.now y)) (sym c.index-rows-place.is)
+    (subst (λ (n : ℕ). IsAlone clock_of n (live_in c.args.label.now rows) (live_of c.args.label.now (get_or rows c.in-Some.place x))) (found.same x) alone))
 
 pub returns-in-None : goal.returns-in-None
-returns-in-None c = live_absent c.args.rows.now c.args.clock c.in-None.ensures.absent
+returns-in-None c = live_absent c.args.label.now c.args.rows.now c.args.clock c.in-None.ensures.absent

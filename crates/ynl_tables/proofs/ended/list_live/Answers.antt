@@ -9,7 +9,7 @@ loop-row-preserved c =
     record {
       so_far =
           c.push_if_live.ensures.items
-          ∙ ap (λ ks. ks ++ live_in (row ∷ [])) c.loop-row.invariant.so_far
-          ∙ sym (live_more c.args.rows.now c.loop-row.row-index row c.loop-row-test.true c.row-item.is);
+          ∙ ap (λ ks. ks ++ live_in c.args.label.now (row ∷ [])) c.loop-row.invariant.so_far
+          ∙ sym (live_more c.args.label.now c.args.rows.now c.loop-row.row-index row c.loop-row-test.true c.row-item.is);
       capacity = omega arith;
     }

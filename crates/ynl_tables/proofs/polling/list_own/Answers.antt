@@ -14,8 +14,8 @@ loop-row-preserved c =
     record {
       so_far =
           c.push_own.ensures.items
-          ∙ ap (λ xs. xs ++ filter own (live_in (row ∷ []))) c.loop-row.invariant.so_far
-          ∙ sym (filter-append own (live_in (take i rows)) (live_in (row ∷ [])))
-          ∙ ap (filter own) (sym (live_more rows i row c.loop-row-test.true c.row-item.is));
+          ∙ ap (λ xs. xs ++ filter own (live_in c.args.label.now (row ∷ []))) c.loop-row.invariant.so_far
+          ∙ sym (filter-append own (live_in c.args.label.now (take i rows)) (live_in c.args.label.now (row ∷ [])))
+          ∙ ap (filter own) (sym (live_more c.args.label.now rows i row c.loop-row-test.true c.row-item.is));
       capacity = omega arith;
     }

@@ -17,6 +17,6 @@ returns c =
     let leaf = c.args.leaf.now in
     let rows = c.containers_at-rows.result.now in
     c.has_live_master.ensures
-    ∙ ap (λ (leaves : List LeafRow). list_any (is_live_and (λ k. counts (leaves_of leaves) leaf k && is_master k)) rows) c.deref-2.ensures.value
-    ∙ live_any (counts s.leaves leaf) is_master rows
+    ∙ ap (λ (leaves : List LeafRow). list_any (is_live_and c.args.label.now (λ k. counts (leaves_of leaves) leaf k && is_master k)) rows) c.deref-2.ensures.value
+    ∙ live_any c.args.label.now (counts s.leaves leaf) is_master rows
     ∙ ap (λ (ks : List Placed). list_any is_master (filter (counts s.leaves leaf) ks)) (c.containers_at-rows.ensures.meaning ∙ ap (λ (ps : List PartitionRow). containers_on (record s { partitions = partitions_of ps }) c.args.label.now) c.deref.ensures.value)
