@@ -1,6 +1,6 @@
 use Rattle.std.proofs.Common.{◌≡◌, List, ◌++◌}
 use Rattle.ynl_waiting.specs.Classes.{Entry}
-use Rattle.ynl_choice.specs.Choosing.{state_in, AreLimits, AreTests}
+use Rattle.ynl_choice.specs.Choosing.{state_in}
 use Rattle.ynl_choice.specs.LeafUses.{IsUseOf}
 use Rattle.ynl_choice.specs.Waits.{is_placeable, IsFirstTurn}
 use Rattle.ynl_choice.proofs.turns.first_turn.Given as goal
