@@ -14,8 +14,8 @@ ghost use Rattle.ynl_choice.specs.declared.scenes.Scene.{Scene};
 ghost use Rattle.ynl_choice.specs.declared.standings.Candidate.{Candidate};
 
 use crate::holding::{add_ask_at, add_asks_of, add_master, desk_of};
-use crate::ranking::first_behind;
 use crate::leaf_use::LeafUse;
+use crate::ranking::first_behind;
 use crate::scenes::Scene;
 use crate::standings::Candidate;
 use crate::turns::{first_turn, is_any_open, may_be_taken, may_fit};
@@ -199,7 +199,15 @@ fn add_first_ask(
     if let Some(place) = place_of(row, turn.number) {
         let mut desk = desk_of(scene, row, limits);
         let app = &row.apps[place];
-        add_ask_at(scene, &mut desk, row, app, place as u64, turn.priority, held);
+        add_ask_at(
+            scene,
+            &mut desk,
+            row,
+            app,
+            place as u64,
+            turn.priority,
+            held,
+        );
     }
 }
 
