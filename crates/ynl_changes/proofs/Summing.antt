@@ -26,7 +26,7 @@ use Rattle.ynl_laws.specs.Owners.{owner}
 use Rattle.ynl_laws.specs.Uses.{counts, counts_as_guest, use_by, raised_in, lowered_in}
 use Rattle.ynl_laws.proofs.Amounts.{fits-filter, fits-trans}
 use Rattle.ynl_laws.proofs.Events.Kept.{KeepsNames, Extends, leaf_of-kept, with_app-names, finished-names, submit-extends}
-use Rattle.ynl_laws.proofs.Lists.{Each-all, Each-filter, Each-map, Each-unmap, Each-weaker, Each-with, any-later, filter-passes, map-update}
+use Rattle.ynl_laws.proofs.Lists.{Each-all, Each-filter, Each-map, Each-unmap, Each-weaker, Each-with, any-later, filter-map, filter-passes, map-map, map-update}
 use Rattle.ynl_laws.proofs.Names.{same-label_path}
 use Rattle.ynl_laws.proofs.Totals.Owners.{owner-changed, find-finished, find-submitted}
 use Rattle.ynl_laws.proofs.Totals.Used.{use-with, use-without, use-same, use-extends}
@@ -45,7 +45,7 @@ use Rattle.ynl_tables.specs.Rising.{clock_of}
 use Rattle.ynl_tables.specs.Tables.{partition_of, partitions_of, state_of}
 use Rattle.ynl_tables.proofs.Adding.{small_part}
 use Rattle.ynl_tables.proofs.Living.{live_append, live_between, live_without}
-use Rattle.ynl_tables.proofs.Numbering.{path_self}
+use Rattle.ynl_tables.proofs.Leaves.{leaves_told}
 use Rattle.ynl_changes.specs.Cells.{IsSmallUse, LeavesIf, LowersAll}
 use Rattle.ynl_changes.proofs.ByUser.{users_alike}
 use Rattle.ynl_changes.proofs.Serves.{bounded}
@@ -200,8 +200,7 @@ split_at (y ∷ ys) (suc i) x h e = ap (λ zs. y ∷ zs) (split_at ys i x (omega
 -- ---- leaves that change
 
 numbered_leaf : (queues : List Path) (leaf : Path) (change : LeafApps → LeafApps) → ((row : LeafApps) → (change row).leaf ≡ row.leaf) → (leaves : List LeafApps) → AreNumbered queues leaves → AreNumbered queues (in_leaf leaf change leaves)
-numbered_leaf queues leaf change same leaves h =
-    subst (AllByRecursion (λ leaf. list_any (same_path leaf) queues ≡ true)) (sym (map-update (λ (row : LeafApps). row.leaf) (λ row. same_path row.leaf leaf) change same leaves)) h
+numbered_leaf queues leaf change same leaves h = map-update (λ (row : LeafApps). row.leaf) (λ row. same_path row.leaf leaf) change same leaves ∙ h
 
 -- what a row keeps, where the leaves and the users of its containers are what they were
 summed_alike : (queues : List Path) (old new : List LeafApps) (row : PartitionRow) (P : Placed → Type 0) → ((k : Placed) → P k → leaf_of new k.tenant k.app ≡ leaf_of old k.tenant k.app) → ((k : Placed) → P k → owner new k.tenant k.app ≡ owner old k.tenant k.app)
@@ -264,18 +263,7 @@ kept_submission queues app leaves rows unused known h =
 
 -- ---- at first
 
-each_listed : (rows : List QueueRow) → AllByRecursion (λ row. list_any (same_path row.path) (map (λ row. row.path) rows) ≡ true) rows
-each_listed [] = tt
-each_listed (row ∷ rows) = (
-  ap (λ b. b || list_any (same_path row.path) (map (λ row. row.path) rows)) (path_self row.path),
-  Each-weaker (λ other. list_any (same_path other.path) (map (λ row. row.path) rows) ≡ true) (λ other. list_any (same_path other.path) (map (λ row. row.path) (row ∷ rows)) ≡ true)
-      (λ other h. any-later (same_path other.path) row.path (map (λ row. row.path) rows) h) rows (each_listed rows),
-)
-
--- each leaf of a configuration has a number
+-- the leaves of a configuration are those of its queues
 pub numbered_first : (c : Config) → AreNumbered (map (λ row. row.path) c.queues) (no_apps c)
 numbered_first c =
-    let P : Path → Type 0 = λ leaf. list_any (same_path leaf) (map (λ row. row.path) c.queues) ≡ true in
-    Each-map (λ (row : LeafApps). P row.leaf) P (λ row. row.leaf) (λ row h. h) (no_apps c)
-    (Each-map (λ (row : QueueRow). P row.path) (λ (row : LeafApps). P row.leaf) _ (λ row h. h) (filter (λ row. is_leaf c row.path) c.queues)
-    (Each-filter (λ (row : QueueRow). P row.path) (λ row. is_leaf c row.path) c.queues (each_listed c.queues)))
+    map-map (λ (row : LeafApps). row.leaf) _ (filter (λ row. is_leaf c row.path) c.queues) ∙ sym (filter-map (λ (row : QueueRow). row.path) (is_leaf c) c.queues) ∙ leaves_told c

@@ -1,5 +1,6 @@
 pub mod Rooms
 pub mod Ranked
+pub mod Skipping
 pub mod Considering
 pub mod Placed
 pub mod Choices

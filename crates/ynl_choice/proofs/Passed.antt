@@ -13,7 +13,7 @@ use Rattle.ynl_choice.specs.declared.standings.Candidate.{Candidate}
 use Rattle.ynl_choice.proofs.Before.{before-below}
 
 -- what comes before a queue comes before what is below it
-ahead-below : (scene : Scene) (held : Option Candidate) (queue leaf : Path) → is_within queue leaf ≡ true → is_ahead held (standings_to scene queue) ≡ true → is_ahead held (standings_to scene leaf) ≡ true
+pub ahead-below : (scene : Scene) (held : Option Candidate) (queue leaf : Path) → is_within queue leaf ≡ true → is_ahead held (standings_to scene queue) ≡ true → is_ahead held (standings_to scene leaf) ≡ true
 ahead-below scene None queue leaf within ahead = ahead
 ahead-below scene (Some best) queue leaf within ahead = before-below standing_order (standing scene.config.now (state_in scene) scene.label) (standings_of best.standings) queue leaf within ahead
 

@@ -1,14 +1,14 @@
 //! The choice on a node: of the eligible requests the first in the order of service, or else the
 //! first guest. The leaves are gone through once, and the first so far is held.
 
-ghost use Rattle.std.specs.Prelude.{◌≡◌, None, filter};
+ghost use Rattle.std.specs.Prelude.{◌≡◌, ◌<◌, None, filter, length};
 ghost use Rattle.ynl_resource.specs.declared.labels.Label.TheVariants.{Unlabelled};
 ghost use Rattle.ynl_model.specs.Cluster.{free as free_on};
 ghost use Rattle.ynl_model.specs.Service.{first_of, key, eligible, has_room, asks_for, some_eligible, takes_guests, choice};
 ghost use Rattle.ynl_tables.specs.Bounds.{IsReadable};
 ghost use Rattle.ynl_tables.specs.Numbers.{AreQueuesOf};
 ghost use Rattle.ynl_tables.specs.Tables.{state_of};
-ghost use Rattle.ynl_choice.specs.Choosing.{item_of, IsScene, HoldsBest, all_asks, all_wanted};
+ghost use Rattle.ynl_choice.specs.Choosing.{item_of, IsScene, IsNext, HoldsBest, all_asks, all_wanted};
 
 use crate::boards::board_of;
 use crate::leaves::{add_asks, add_leaf};
@@ -16,9 +16,26 @@ use crate::requests::Request;
 use crate::scenes::Scene;
 use crate::standings::Candidate;
 use ynl_model::Node;
-use ynl_queues::Config;
-use ynl_resource::{Label, Resource};
+use ynl_queues::{Config, is_within};
+use ynl_resource::{Label, Name, Resource};
 use ynl_tables::{Tables, free};
+
+/// The place of the leaf that is looked at after the one at a place: past those that stand next to it and are within
+/// the queue that is passed over.
+fn next_leaf(scene: &Scene<'_>, place: usize, passed: &Option<&[Name]>) -> usize
+    requires scene { IsScene scene.now }
+    requires place { place < length scene.now.tables.now.leaves.items }
+    ensures { IsNext scene.now passed.now place result }
+{
+    let rows = scene.tables.leaves.as_slice();
+    let Some(queue) = passed else {
+        return place + 1;
+    };
+    if !is_within(queue, rows[place].path.names()) {
+        return place + 1;
+    }
+    scene.tables.numbers.after_leaf(place, queue)
+}
 
 /// What is wanted on the partition, leaf by leaf. What is below a queue that the request that is held is before is
 /// passed over.
@@ -26,9 +43,12 @@ fn add_all(scene: &Scene<'_>, held: &mut Option<Candidate>)
     requires { IsScene scene.now }
     ensures { HoldsBest scene.now held.old (all_wanted scene.now scene.now.tables.now.leaves.items) held.new }
 {
+    let rows = scene.tables.leaves.as_slice();
     let mut passed = None;
-    for row in &scene.tables.leaves {
-        add_leaf(scene, row, &mut passed, held);
+    let mut place = 0;
+    while place < rows.len() {
+        add_leaf(scene, &rows[place], &mut passed, held);
+        place = next_leaf(scene, place, &passed);
     }
 }
 
@@ -37,10 +57,12 @@ fn add_all_asks(scene: &Scene<'_>, held: &mut Option<Candidate>)
     requires { IsScene scene.now }
     ensures { HoldsBest scene.now held.old (all_asks scene.now scene.now.tables.now.leaves.items) held.new }
 {
+    let rows = scene.tables.leaves.as_slice();
     let mut passed = None;
-    for row in &scene.tables.leaves {
-        let mut limits = None;
-        add_asks(scene, &mut limits, row, &mut passed, held);
+    let mut place = 0;
+    while place < rows.len() {
+        add_asks(scene, &mut None, &rows[place], &mut passed, held);
+        place = next_leaf(scene, place, &passed);
     }
 }
 

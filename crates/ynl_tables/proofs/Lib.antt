@@ -15,3 +15,4 @@ pub mod Living
 pub mod Naming
 pub mod Listing
 pub mod Held
+pub mod Leaves

@@ -12,10 +12,11 @@ use Rattle.ynl_resource.specs.declared.names.Name.{Name}
 use Rattle.ynl_resource.specs.declared.paths.Path.{Path}
 use Rattle.ynl_model.specs.Applications.{LeafApps, row_of, leaf_of}
 use Rattle.ynl_laws.specs.Ways.{AreApart, has_number, IsWay}
-use Rattle.ynl_laws.proofs.Lists.{Each-append, Each-weaker, Each-unmap, Each-find}
+use Rattle.ynl_laws.proofs.Lists.{any-later, Each-append, Each-filter, Each-weaker, Each-unmap, Each-find}
 use Rattle.ynl_laws.proofs.Names.{same-path}
 use Rattle.ynl_tables.specs.declared.rows.Way.{Way}
 use Rattle.ynl_tables.specs.Numbers.{is_above, is_above_app, IsNumberOf, IsWayTo, AreNumbered}
+use Rattle.ynl_tables.specs.Siblings.{is_leaf_of}
 
 -- ---- a way as it is made
 
@@ -113,8 +114,19 @@ way_found queues ways queue way h e =
 pub way_missed : (queues : List Path) (ways : List Way) (queue : Path) → map (λ way. way.queue) ways ≡ queues → list_any (same_path queue) queues ≡ true → None ≡ find (λ way. same_path way.queue queue) ways → ⊥
 way_missed queues ways queue each h e = listed_found ways queue (ap (list_any (same_path queue)) each ∙ h) (sym e)
 
+each_listed : (paths : List Path) → AllByRecursion (λ path. list_any (same_path path) paths ≡ true) paths
+each_listed [] = tt
+each_listed (path ∷ paths) = (
+  ap (λ b. b || list_any (same_path path) paths) (path_self path),
+  Each-weaker (λ other. list_any (same_path other) paths ≡ true) (λ other. list_any (same_path other) (path ∷ paths) ≡ true) (λ other h. any-later (same_path other) path paths h) paths (each_listed paths),
+)
+
+-- each leaf has a number
 pub leaf_numbered : (queues : List Path) (leaves : List LeafApps) (tenant app : Name) (row : LeafApps) → AreNumbered queues leaves → Some row ≡ row_of leaves tenant app → list_any (same_path row.leaf) queues ≡ true
-leaf_numbered queues leaves tenant app row h e = (Each-find (λ (row : LeafApps). list_any (same_path row.leaf) queues ≡ true) _ leaves (Each-unmap (λ (row : LeafApps). row.leaf) (λ leaf. list_any (same_path leaf) queues ≡ true) leaves h) row (sym e)).0
+leaf_numbered queues leaves tenant app row h e =
+    let P : Path → Type 0 = λ leaf. list_any (same_path leaf) queues ≡ true in
+    let each : AllByRecursion P (map (λ row. row.leaf) leaves) = subst (AllByRecursion P) (sym h) (Each-filter P (is_leaf_of queues) queues (each_listed queues)) in
+    (Each-find (λ (row : LeafApps). P row.leaf) _ leaves (Each-unmap (λ (row : LeafApps). row.leaf) P leaves each) row (sym e)).0
 
 -- the way to an application's leaf, by the leaf that is found
 pub app_way : (queues : List Path) (leaves : List LeafApps) (tenant app : Name) (row : LeafApps) (way : List ℕ) → Some row ≡ row_of leaves tenant app → IsWay (root ∷ queues) (is_above row.leaf) way → IsWay (root ∷ queues) (is_above_app leaves tenant app) way

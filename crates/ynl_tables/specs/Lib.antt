@@ -9,6 +9,7 @@ pub mod NumberFields
 pub mod Numbers
 pub mod Rising
 pub mod Sharing
+pub mod Siblings
 pub mod Sums
 pub mod Tables
 pub mod UserCounts

@@ -1,14 +1,14 @@
 -- The numbers of queues. The queues that are named here are those below root; root has number 0.
-use Rattle.std.specs.Prelude.{◌≡◌, ℕ, ◌<◌, Bool, true, false, ⊤, List, ◌∷◌, map, length, slice_index_or, Option, None, Some}
-use Rattle.std.specs.List.{AllByRecursion, list_any}
+use Rattle.std.specs.Prelude.{◌≡◌, ℕ, ◌<◌, Bool, false, ⊤, List, ◌∷◌, map, length, slice_index_or, Option, None, Some}
 use Rattle.std.specs.Option.{option_map_or}
-use Rattle.ynl_resource.specs.Names.{is_within, root, same_path}
+use Rattle.ynl_resource.specs.Names.{is_within, root}
 use Rattle.ynl_resource.specs.declared.names.Name.{Name}
 use Rattle.ynl_resource.specs.declared.paths.Path.{Path}
 use Rattle.ynl_model.specs.Queues.{Config}
 use Rattle.ynl_model.specs.Applications.{LeafApps, leaf_of}
 use Rattle.ynl_laws.specs.Ways.{IsWay}
 use Rattle.ynl_tables.specs.declared.rows.Way.{Way}
+use Rattle.ynl_tables.specs.Siblings.{leaf_paths}
 
 -- the queue of a number; root where no queue has it
 abbrev pub queue_at : List Path → ℕ → Path
@@ -35,6 +35,6 @@ IsNumberOf queues queue (Some number) = (number < length (root ∷ queues)) × (
 abbrev pub AreQueuesOf : Config → List Path → Type 0
 AreQueuesOf c queues = queues ≡ map (λ row. row.path) c.queues
 
--- each leaf has a number
+-- the leaves are those of the queues that have a number, in the order of their numbers
 abbrev pub AreNumbered : List Path → List LeafApps → Type 0
-AreNumbered queues leaves = AllByRecursion (λ leaf. list_any (same_path leaf) queues ≡ true) (map (λ row. row.leaf) leaves)
+AreNumbered queues leaves = map (λ row. row.leaf) leaves ≡ leaf_paths queues

@@ -45,6 +45,7 @@ mod queue_use;
 mod resting;
 mod rows;
 mod sharing;
+mod siblings;
 mod sums;
 mod tables;
 mod usage;

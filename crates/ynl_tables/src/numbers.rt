@@ -2,12 +2,14 @@
 
 ghost use Rattle.std.specs.Prelude.{◌≡◌, ◌<◌, ◌^◌, ◌++◌, ◌∷◌, [], true, length, map, find, option_map, IfOk, IfSome, OnOk, if◌then◌else◌};
 ghost use Rattle.std.specs.List.{AllByRecursion, list_any, position};
-ghost use Rattle.ynl_resource.specs.Names.{root, same_path};
+ghost use Rattle.ynl_resource.specs.Names.{root, is_within, same_path};
 ghost use Rattle.ynl_laws.specs.Ways.{IsWay};
 ghost use Rattle.ynl_tables.specs.Numbers.{AreNumbered, is_above, is_above_app, IsNumberOf, IsWayTo};
+ghost use Rattle.ynl_tables.specs.Siblings.{leaf_paths, leaf_at, IsPast};
 ghost use Rattle.ynl_tables.specs.Tables.{leaves_of};
 
 use crate::rows::{LeafRow, Way};
+use crate::siblings::{ends_of, leaves_in};
 use crate::tables::leaf_row_of;
 use std::alloc::{AllocError, Global};
 use std::marker::Model;
@@ -15,11 +17,14 @@ use ynl_queues::{Config, is_within};
 use ynl_resource::{Name, Path};
 
 /// The numbers of the queues of a configuration. Root has number 0, and the queues below follow in
-/// the order of the configuration. A contract sees the queues below root.
+/// the order of the configuration; and of its leaves which stand next to each other below one queue. A contract sees
+/// the queues below root.
 #[derive(Drop)]
 pub struct QueueNumbers {
     queues: Vec<Path>,
     ways: Vec<Way>,
+    leaves: Vec<Path>,
+    ends: Vec<usize>,
 }
 
 impl Model for QueueNumbers {
@@ -27,11 +32,11 @@ impl Model for QueueNumbers {
 
     ghost Value = { List (List (List ℕ)) };
 
-    ghost use Rattle.ynl_tables.specs.NumberFields.{queues_of, AreWays};
+    ghost use Rattle.ynl_tables.specs.NumberFields.{queues_of, AreOfQueues};
 
     ghost view = { queues_of };
 
-    ghost invariant = { AreWays };
+    ghost invariant = { AreOfQueues };
 }
 
 impl QueueNumbers {
@@ -41,7 +46,14 @@ impl QueueNumbers {
     {
         let queues = paths_of(alloc, config)?;
         let ways = ways_to(alloc, &queues)?;
-        Ok(QueueNumbers { queues, ways })
+        let leaves = leaves_in(alloc, config)?;
+        let ends = ends_of(alloc, &leaves)?;
+        Ok(QueueNumbers {
+            queues,
+            ways,
+            leaves,
+            ends,
+        })
     }
 
     /// How many queues there are below root.
@@ -105,6 +117,22 @@ impl QueueNumbers {
             }
         }
         self.way(queue)
+    }
+
+    /// A place after that of a leaf, before which all leaves from it on are within a queue: past those that stand next
+    /// to it below its parent, if the queue is not the leaf itself.
+    pub fn after_leaf(&self, place: usize, queue: &[Name]) -> usize
+        requires place { place < length (leaf_paths self.now) }
+        requires within { is_within queue.now (leaf_at (leaf_paths self.now) place) ≡ true }
+        ensures { IsPast (leaf_paths self.now) queue.now place result }
+    {
+        let leaves = self.leaves.as_slice();
+        let ends = self.ends.as_slice();
+        if queue.len() < leaves[place].names().len() {
+            ends[place]
+        } else {
+            place + 1
+        }
     }
 }
 
