@@ -28,9 +28,6 @@ use Rattle.ynl_changes.proofs.Requests.{keeps-same}
 
 -- ---- nothing changed, and one change after another
 
-pub same-app : (app : App) (m a : Waiting) → Requeues app app m m a a
-same-app app m a = record { number = refl; name = refl; apart = λ h. h; master = λ others o h. h; asked = λ others o h. h }
-
 pub same-apps : (apps : List App) (m a : Waiting) → AreRequeued apps apps m m a a
 same-apps apps m a = record { in_turn = λ h. h; below = λ n h. h; named = λ names h. h; apart = λ h. h; masters = λ t h. h; asks = λ t h. h }
 

@@ -1,7 +1,7 @@
 -- What is kept of the use of queues, where containers come and go and leaves change.
-use Rattle.std.proofs.Common.{◌≡◌, ℕ, zero, suc, ◌+◌, ◌<◌, ◌≤◌, ◌^◌, Bool, true, false, not, cond, ◌||◌, List, [], ◌∷◌, ◌++◌, map, length, take, drop, get_or, filter, find, is_some, option_map, Option, Some, refl, sym, ap, subst, ◌∙◌, arith, append-nil, append_assoc}
+use Rattle.std.proofs.Common.{◌≡◌, ℕ, zero, suc, ◌+◌, ◌<◌, ◌≤◌, ◌^◌, Bool, true, false, not, cond, List, [], ◌∷◌, ◌++◌, map, length, take, drop, get_or, filter, find, is_some, option_map, Option, Some, refl, sym, ap, subst, ◌∙◌, arith, append-nil, append_assoc}
 use Rattle.std.specs.Prelude.{nat_le, nat_lt}
-use Rattle.std.specs.List.{AllByRecursion, list_all, list_any}
+use Rattle.std.specs.List.{AllByRecursion, list_all}
 use Rattle.std.proofs.lemmas.Bool.{and_from}
 use Rattle.std.proofs.lemmas.Bool.Decides.{nat_tests}
 use Rattle.std.specs.Option.{option_map_or}
@@ -26,7 +26,7 @@ use Rattle.ynl_laws.specs.Owners.{owner}
 use Rattle.ynl_laws.specs.Uses.{counts, counts_as_guest, use_by, raised_in, lowered_in}
 use Rattle.ynl_laws.proofs.Amounts.{fits-filter, fits-trans}
 use Rattle.ynl_laws.proofs.Events.Kept.{KeepsNames, Extends, leaf_of-kept, with_app-names, finished-names, submit-extends}
-use Rattle.ynl_laws.proofs.Lists.{Each-all, Each-filter, Each-map, Each-unmap, Each-weaker, Each-with, any-later, filter-map, filter-passes, map-map, map-update}
+use Rattle.ynl_laws.proofs.Lists.{Each-all, Each-map, Each-unmap, Each-weaker, Each-with, filter-map, filter-passes, map-map, map-update}
 use Rattle.ynl_laws.proofs.Names.{same-label_path}
 use Rattle.ynl_laws.proofs.Totals.Owners.{owner-changed, find-finished, find-submitted}
 use Rattle.ynl_laws.proofs.Totals.Used.{use-with, use-without, use-same, use-extends}

@@ -153,14 +153,6 @@ stays waits own may (Some best) behind none first = (left (waits best) may (own 
 pub stays-closed : (waits own : Turn → Bool) (may : Bool) (held : Option Turn) → may ≡ false → Waits waits held → More waits may own held
 stays-closed waits own may held off first = stays waits own may held (λ turn h k best e. absurd (true≢false (sym h ∙ off))) (λ turn h k e. true≢false (sym h ∙ off)) first
 
-pub stays-none : (waits own : Turn → Bool) (may : Bool) (held : Option Turn) → Waits own None → Waits waits held → More waits may own held
-stays-none waits own may held none first = stays waits own may held (λ turn h k best e. absurd (none turn k)) (λ turn h k e. none turn k) first
-
-pub stays-before : (waits own : Turn → Bool) (may : Bool) (held : Option Turn) (turn : Turn) → Waits own (Some turn) → is_before held turn ≡ false → Waits waits held → More waits may own held
-stays-before waits own may None turn top late first = absurd (true≢false late)
-stays-before waits own may (Some best) turn top late first =
-    stays waits own may (Some best) (λ next h k other e. let same : best ≡ other = cc in subst (λ b. is_turn_later b next ≡ false) same (chained best turn next late (top.1 next k))) (λ next h k e. absurd (cc)) first
-
 pub taken : (waits own : Turn → Bool) (may : Bool) (held : Option Turn) (turn : Turn) → may ≡ true → Waits own (Some turn) → is_before held turn ≡ true → Waits waits held → More waits may own (Some turn)
 taken waits own may held turn on top soon first = (right (waits turn) may (own turn) on top.0, λ next h. go held soon first next (parted (waits next) may (own next) h))
   where

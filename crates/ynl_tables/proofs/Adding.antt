@@ -6,7 +6,7 @@ use Rattle.std.proofs.lemmas.Bool.Decides.{nat_tests}
 use Rattle.ynl_resource.specs.Amounts.{plus, fits_in, total_of}
 use Rattle.ynl_resource.specs.declared.amounts.Resource.{Resource}
 use Rattle.ynl_tables.specs.Bounds.{IsTotal}
-use Rattle.ynl_laws.proofs.Amounts.{total-append, fits-filter, fits-trans}
+use Rattle.ynl_laws.proofs.Amounts.{total-append}
 
 module _ {X : Type 0} (size : X → Resource) (p : X → Bool) (xs : List X) (k : ℕ) where
   -- the sum over the things so far that pass
@@ -37,9 +37,6 @@ part_within size p xs k =
     subst (λ ys. fits_in (total_of size (filter p (take k xs))) (total_of size (filter p ys)) ≡ true) (take-append-drop k xs)
     (subst (λ ys. fits_in (total_of size (filter p (take k xs))) (total_of size ys) ≡ true) (sym (filter-append p (take k xs) (drop k xs)))
     (fits_append size (filter p (take k xs)) (filter p (drop k xs))))
-
-pub some_within : {X : Type 0} (size : X → Resource) (p : X → Bool) (xs : List X) (k : ℕ) → fits_in (total_of size (filter p (take k xs))) (total_of size xs) ≡ true
-some_within size p xs k = fits-trans (total_of size (filter p (take k xs))) (total_of size (filter p xs)) (total_of size xs) (part_within size p xs k) (fits-filter size p xs)
 
 -- what is a part of a total is small enough to be added to
 pub small_part : (a b total : Resource) → a ≡ b → fits_in b total ≡ true → IsTotal total → IsTotal a

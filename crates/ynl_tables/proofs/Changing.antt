@@ -16,10 +16,6 @@ use Rattle.ynl_laws.proofs.Totals.Inserted.{inserted, inserted-filter, inserted-
 use Rattle.ynl_tables.specs.declared.sums.Sums.{Sums}
 use Rattle.ynl_tables.specs.Sums.{kept_for, sizes_for, AreSums, SetsIn, Sets, CountsFor}
 
--- where nothing is kept nothing is set
-pub unkept : (counts : Name → Placed → Bool) (sums : Sums) (cs : List Placed) → sums.entries ≡ None → AreSums counts sums cs
-unkept counts sums cs e = subst (λ o. IfSome o (λ entries. (name : Name) → kept_for entries name ≡ sizes_for counts name cs)) (sym e) tt
-
 -- a sum that is kept is little where all is
 pub little : (counts : Name → Placed → Bool) (name : Name) (cs : List Placed) (sum : Resource) → sum ≡ sizes_for counts name cs → IsSmall (sizes cs) → IsSmall sum
 little counts name cs sum is small =

@@ -4,7 +4,7 @@ use Rattle.std.specs.Prelude.{IfSome}
 use Rattle.ynl_resource.specs.declared.paths.Path.{Path}
 use Rattle.ynl_resource.specs.Names.{same_path}
 use Rattle.std.specs.Option.{option_map_or, option_and_then}
-use Rattle.std.specs.List.{AllByRecursion, position_or_len}
+use Rattle.std.specs.List.{AllByRecursion}
 use Rattle.ynl_resource.specs.declared.names.Name.{Name}
 use Rattle.ynl_resource.specs.Names.{same_name}
 use Rattle.ynl_resource.specs.declared.labels.Label.{Label}
@@ -81,8 +81,3 @@ user_found leaves tenant name user row o e f =
     by : (o : Option (Bor App)) → option_map_or test (option_map (λ r. app_of row.path r.now) o) false ≡ option_map_or (λ r. same_name r.now.user user) o false
     by None = refl
     by (Some r) = refl
-
--- a place among meanings is that among what is kept
-pub position_map : {X Y : Type 0} (f : X → Y) (q : Y → Bool) (xs : List X) → position_or_len q (map f xs) ≡ position_or_len (λ x. q (f x)) xs
-position_map f q [] = refl
-position_map f q (x ∷ xs) = grind (arith, position_map f q xs)
