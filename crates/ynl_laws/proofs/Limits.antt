@@ -1,4 +1,2 @@
 -- Maxima and shares.
 pub mod Within
-pub mod Floors
-pub mod Shares

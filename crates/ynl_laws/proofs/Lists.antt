@@ -122,10 +122,6 @@ pub all-same : {A : Type 0} (w f g : A → Bool) → ((x : A) → w x ≡ true �
 all-same w f g h [] all = refl
 all-same w f g h (x ∷ xs) all = λ i. h x (and_parts (w x) (list_all w xs) all).0 i && all-same w f g h xs (and_parts (w x) (list_all w xs) all).1 i
 
-pub any-same : {A : Type 0} (w f g : A → Bool) → ((x : A) → w x ≡ true → f x ≡ g x) → (xs : List A) → list_all w xs ≡ true → list_any f xs ≡ list_any g xs
-any-same w f g h [] all = refl
-any-same w f g h (x ∷ xs) all = λ i. h x (and_parts (w x) (list_all w xs) all).0 i || any-same w f g h xs (and_parts (w x) (list_all w xs) all).1 i
-
 pub any-filter_step : {A : Type 0} (p w : A → Bool) (x : A) (xs : List A) → (p x ≡ true → w x ≡ true) → list_any p (filter w xs) ≡ list_any p xs → (a b : Bool) → w x ≡ a → p x ≡ b →
     list_any p (cond (w x) (x ∷ filter w xs) (filter w xs)) ≡ (p x || list_any p xs)
 any-filter_step p w x xs h rest true b e f = (λ i. list_any p (cond (e i) (x ∷ filter w xs) (filter w xs))) ∙ ap (λ (found : Bool). p x || found) rest

@@ -4,7 +4,7 @@ use Rattle.std.specs.List.{AllByRecursion}
 use Rattle.std.specs.Option.{option_map_or}
 use Rattle.ynl_resource.specs.declared.amounts.Resource.{Resource}
 use Rattle.ynl_resource.specs.Amounts.{fits_in, IsSize}
-use Rattle.ynl_resource.specs.Ranges.{whole, most_nodes}
+use Rattle.ynl_resource.specs.Ranges.{most_nodes}
 use Rattle.ynl_resource.specs.Names.{same_name, same_label, tenant_of}
 use Rattle.ynl_resource.specs.declared.names.Name.{Name}
 use Rattle.ynl_resource.specs.declared.labels.Label.{Label}
@@ -12,12 +12,11 @@ use Rattle.ynl_resource.specs.declared.paths.Path.{Path}
 use Rattle.ynl_model.specs.declared.nodes.Node.{Node}
 use Rattle.ynl_model.specs.Nodes.{nodes_of, has_label, clock_limit}
 use Rattle.ynl_model.specs.Queues.{Config}
-use Rattle.ynl_model.specs.declared.queues.MaximumRow.{MaximumRow}
 use Rattle.ynl_model.specs.Applications.{LeafApps, leaf_of}
 use Rattle.ynl_model.specs.declared.containers.Placed.{Placed as Container}
 use Rattle.ynl_model.specs.Cluster.{State, Partition, is_partition, sizes}
 use Rattle.ynl_model.specs.declared.events.Event.{Event}
-use Rattle.ynl_model.specs.declared.events.Event.TheVariants.{Register, Submit, Ask, Commit, Maximum}
+use Rattle.ynl_model.specs.declared.events.Event.TheVariants.{Register, Submit, Ask, Commit}
 use Rattle.ynl_model.specs.View.{tracked}
 use Rattle.ynl_model.specs.declared.nodes.Tracked.{Tracked}
 use Rattle.ynl_model.specs.Promises.{without_stamp}
@@ -129,10 +128,6 @@ pub record IsWorking (c : Config) (s : State) : Type 0 where
   pub sizes : AllByRecursion (λ (node : Node). IsSize node.size) s.nodes
   pub counts : (p : Label) → length (nodes_of s.nodes p) ≤ most_nodes
 
--- no row of the maxima is more than the whole
-abbrev pub AreShares : List MaximumRow → Type 0
-AreShares maxima = AllByRecursion (λ row. row.share ≤ whole) maxima
-
 -- an event's size, where it has one, is that of a node or a request
 abbrev pub IsRanged : Event → Type 0
 IsRanged (Register node label size) = IsSize size
@@ -140,8 +135,3 @@ IsRanged (Submit queue app user label master) = IsSize master
 IsRanged (Ask tenant app label priority count size) = IsSize size
 IsRanged (Commit proposal) = IsSize proposal.size
 IsRanged _ = ⊤
-
--- a maximum that is set is at most the whole
-abbrev pub SetsShare : Event → Type 0
-SetsShare (Maximum queue label share) = share ≤ whole
-SetsShare _ = ⊤

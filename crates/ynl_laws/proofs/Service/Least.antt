@@ -110,9 +110,6 @@ least_is_first key_of items = first-held key_order key_order_total key_of items
 pub least_of-append : (key_of : Item → Key) (best : Option Item) (xs ys : List Item) → fold (sooner key_of) best (xs ++ ys) ≡ fold (sooner key_of) (fold (sooner key_of) best xs) ys
 least_of-append key_of best xs ys = fold-append (sooner key_of) best xs ys
 
-pub least_of-push : (key_of : Item → Key) (xs : List Item) (x : Item) → least_of key_of (xs ++ x ∷ []) ≡ sooner key_of (least_of key_of xs) x
-least_of-push key_of xs x = fold-append (sooner key_of) None xs (x ∷ [])
-
 -- the choice on a node by such passes
 pub is_chosen_by_scanning : IsChosenByScanning
 unfolding choice

@@ -17,14 +17,13 @@ use Rattle.ynl_model.specs.declared.containers.Placed.{Placed as Container}
 use Rattle.ynl_model.specs.Cluster.{State, total, containers_on, sizes, counted, used, user_used, masters_used, guests, opening}
 use Rattle.ynl_model.specs.View.{tracked}
 use Rattle.ynl_model.specs.declared.nodes.Tracked.{Tracked}
-use Rattle.ynl_model.specs.Promises.{without_stamp}
 use Rattle.ynl_model.specs.Events.{state_after}
 use Rattle.ynl_laws.specs.Bounded.{IsBounded, IsAlwaysBounded}
-use Rattle.ynl_laws.specs.Working.{places, Stands, StandsOn, filled, IsWorking}
-use Rattle.ynl_laws.proofs.Amounts.{fits-trans, fits-more, fits-plus, fits-filter}
+use Rattle.ynl_laws.specs.Working.{places, StandsOn, filled, IsWorking}
+use Rattle.ynl_laws.proofs.Amounts.{fits-trans, fits-plus, fits-filter}
 use Rattle.ynl_laws.proofs.Limits.Within.{total-places}
-use Rattle.ynl_laws.proofs.Soundness.Working.{sized-places, working-opening, working-after}
-use Rattle.ynl_laws.proofs.Lists.{Each-filter, Each-kept, Each-weaker, Each-find, filter-swap}
+use Rattle.ynl_laws.proofs.Soundness.Working.{working-opening, working-after}
+use Rattle.ynl_laws.proofs.Lists.{Each-filter, Each-kept, Each-weaker, filter-swap}
 use Rattle.ynl_laws.proofs.Logic.{not-true}
 use Rattle.ynl_laws.proofs.Names.{same-name_sym, same-name_self, same-label_path}
 use Rattle.ynl_laws.proofs.Amounts.{fits-each}
@@ -153,38 +152,7 @@ pub guests-within : (c : Config) (s : State) → IsWorking c s → (queue : Path
 unfolding guests
 guests-within c s h queue p = part-within c s h p _
 
-each-in-sum : (xs : List Container) → AllByRecursion (λ x. fits_in x.size (sizes xs) ≡ true) xs
-each-in-sum [] = tt
-each-in-sum (x ∷ xs) = (first-in x.size (sizes xs), Each-weaker _ _ (λ y k. fits-trans y.size (sizes xs) (plus x.size (sizes xs)) k (fits-more x.size (sizes xs))) xs (each-in-sum xs))
-  where
-    first-in : (a b : Resource) → fits_in a (plus a b) ≡ true
-    first-in a b = grind (arith, nat_tests)
-
--- each container alone
-pub container-within : (c : Config) (s : State) → IsWorking c s → (p : Label) → AllByRecursion (λ container. fits_in container.size (total s p) ≡ true) (containers_on s p)
-container-within c s h p = Each-weaker _ _ (λ container k. fits-trans container.size (sizes (containers_on s p)) (total s p) k (on-within c s h p)) (containers_on s p) (each-in-sum (containers_on s p))
-
 -- ---- one node
-
--- what stands on a node fits on it
-pub node-used-within : (c : Config) (s : State) → IsWorking c s → (node : Node) → Stands s node → fits_in (sizes (filter (λ container. same_name container.node node.name) (containers_on s node.label))) node.size ≡ true
-node-used-within c s h node stands =
-    (Each-find (λ node. fits_in (filled (containers_on s node.label) node.name) node.size ≡ true) (λ other. same_name other.name node.name) (places s) h.housed.room (without_stamp node) stands).0
-
--- a node's size is in range
-pub node-size : (c : Config) (s : State) → IsWorking c s → (node : Node) → Stands s node → IsSize node.size
-node-size c s h node stands = (Each-find (λ (node : Tracked). IsSize node.size) (λ other. same_name other.name node.name) (places s) (sized-places s.nodes h.sizes) (without_stamp node) stands).0
-
--- so what stands on a node is small
-pub node-used-small : (c : Config) (s : State) → IsWorking c s → (node : Node) → Stands s node →
-    ((sizes (filter (λ container. same_name container.node node.name) (containers_on s node.label))).memory < 2 ^ 32) × ((sizes (filter (λ container. same_name container.node node.name) (containers_on s node.label))).vcores ≤ 65536)
-node-used-small c s h node stands = both (sizes (filter (λ container. same_name container.node node.name) (containers_on s node.label))) node.size (node-used-within c s h node stands) (node-size c s h node stands)
-  where
-    both : (a b : Resource) → fits_in a b ≡ true → IsSize b → (a.memory < 2 ^ 32) × (a.vcores ≤ 65536)
-    both a b fits size =
-        let memory : b.memory < 2 ^ 32 = size.memory in
-        let vcores : b.vcores ≤ 65536 = size.vcores in
-        (grind (arith, nat_tests, memory), grind (arith, nat_tests, vcores))
 
 -- what fits in a total is as small as the total
 pub small-within : (c : Config) (s : State) → IsWorking c s → (p : Label) (a : Resource) → fits_in a (total s p) ≡ true → (a.memory < 2 ^ 48) × (a.vcores ≤ 2 ^ 32)

@@ -83,14 +83,6 @@ on-finish c s found ordered p =
 
 -- ---- lists
 
--- at most one passes
-abbrev IsOne : (Container → Bool) → List Container → ℕ → Type 0
-IsOne f xs m = clocks (filter f xs) ≡ marked m
-
-none-in : (xs : List Container) → clocks xs ≡ [] → xs ≡ []
-none-in [] e = refl
-none-in (x ∷ xs) e = cc
-
 -- a filter of at most one leaves that or none
 one-left : (t : Container → Bool) (xs : List Container) (m : ℕ) → clocks xs ≡ marked m → clocks (without t xs) ≡ marked (cond (list_any t xs) 0 m)
 one-left t xs m h = go xs (eqb m 0) refl (h ∙ refl)

@@ -64,9 +64,6 @@ none-above (row ∷ rows) h = (λ i. length (cond (nat_lt 0 (h.0 i)) (row ∷ fi
 both-suc : (a b k : ℕ) → a ≡ b + k → suc a ≡ suc b + k
 both-suc a b k e = omega (arith, e)
 
-count-row : (user : Name) (row : UserCount) (rows : List UserCount) → ℕ
-count-row user row rows = count_in user (row ∷ rows)
-
 pub number-up : IsNumberUp
 number-up user [] = refl
 number-up user (row ∷ rows) = go (same_name row.user user) (number-up user rows)
