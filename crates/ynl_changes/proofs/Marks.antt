@@ -6,7 +6,6 @@ use Rattle.std.specs.List.{AllByRecursion, list_any}
 use Rattle.std.specs.Option.{option_and_then, option_map_or}
 use Rattle.std.proofs.Math.ListN.{set}
 use Rattle.std.proofs.lemmas.Bool.{and_parts}
-use Rattle.std.proofs.lemmas.List.{take_more}
 use mathlib.Core.Bool.{true≢false}
 use Rattle.ynl_resource.specs.Names.{same_id, same_label, same_name, same_path, tenant_of}
 use Rattle.ynl_resource.specs.declared.amounts.Resource.{Resource}

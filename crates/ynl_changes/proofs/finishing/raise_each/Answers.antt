@@ -1,4 +1,4 @@
-use Rattle.std.proofs.Common.{◌≡◌, ℕ, Bool, cond, List, length, take, filter, sym, ap, subst, ◌≤◌, ◌∙◌}
+use Rattle.std.proofs.Common.{ℕ, Bool, cond, List, length, filter, sym, ap, subst, ◌≤◌, ◌∙◌}
 use Rattle.std.proofs.lemmas.List.{take_all}
 use Rattle.std.specs.Option.{option_map_or}
 use Rattle.ynl_resource.specs.declared.labels.Label.{Label}

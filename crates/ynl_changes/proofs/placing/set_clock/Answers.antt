@@ -4,7 +4,6 @@ use Rattle.ynl_model.specs.Cluster.{Partition}
 use Rattle.ynl_laws.proofs.Lists.{all-of}
 use Rattle.ynl_tables.specs.declared.rows.PartitionRow.{PartitionRow}
 use Rattle.ynl_tables.specs.Kept.{IsSummed, AreSummed}
-use Rattle.ynl_tables.specs.declared.rows.ContainerRow.{ContainerRow}
 use Rattle.ynl_tables.specs.declared.rows.PartitionRow.{PartitionRow}
 use Rattle.ynl_tables.specs.Tables.{partition_of}
 use Rattle.ynl_changes.specs.Rows.{lists_of, rows_of}
