@@ -1,5 +1,5 @@
 -- What is kept of use, with a container more or less. The queues that are named here are those below root.
-use Rattle.std.specs.Prelude.{◌≡◌, ◌<◌, ◌^◌, Bool, true, false, List, ◌∷◌, ◌++◌, map, if◌then◌else◌}
+use Rattle.std.specs.Prelude.{◌≡◌, ◌<◌, ◌^◌, Bool, true, false, List, ◌∷◌, ◌++◌, map}
 use Rattle.ynl_resource.specs.Names.{root, same_name}
 use Rattle.ynl_resource.specs.declared.labels.Label.{Label}
 use Rattle.ynl_resource.specs.declared.paths.Path.{Path}
@@ -15,7 +15,7 @@ use Rattle.ynl_tables.specs.Kept.{AreByUser, stands_on}
 use Rattle.ynl_tables.specs.Listed.{AreListed}
 use Rattle.ynl_tables.specs.Living.{live_in}
 use Rattle.ynl_tables.specs.Rising.{numbers_rise, clock_of}
-use Rattle.ynl_tables.specs.declared.listed.Listed.{Listed}
+use Rattle.ynl_tables.specs.declared.holders.Listed.{Listed}
 use Rattle.ynl_tables.specs.Sums.{AreSums}
 use Rattle.ynl_changes.specs.declared.ending.Going.{Going}
 use Rattle.ynl_changes.specs.declared.ending.Going.TheVariants.{OnNode, OfApp}
