@@ -37,7 +37,7 @@ use Rattle.ynl_tables.specs.Bounds.{IsReadable, IsTotal}
 use Rattle.ynl_tables.specs.declared.sums.Sums.{Sums}
 use Rattle.ynl_tables.specs.Sums.{AreSums}
 use Rattle.ynl_tables.specs.Kept.{AreByUser, IsSummed, AreKept, IsKept, stands_on}
-use Rattle.ynl_tables.specs.declared.listed.Listed.{Listed}
+use Rattle.ynl_tables.specs.declared.holders.Listed.{Listed}
 use Rattle.ynl_tables.specs.Listed.{AreListed}
 use Rattle.ynl_tables.specs.Living.{container_in, is_live_and, live_in, row_of}
 use Rattle.ynl_tables.specs.Numbers.{AreNumbered}

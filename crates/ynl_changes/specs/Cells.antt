@@ -15,7 +15,7 @@ use Rattle.ynl_tables.specs.Kept.{AreByUser, stands_on}
 use Rattle.ynl_tables.specs.Listed.{AreListed}
 use Rattle.ynl_tables.specs.Living.{live_in}
 use Rattle.ynl_tables.specs.Rising.{numbers_rise, clock_of}
-use Rattle.ynl_tables.specs.declared.listed.Listed.{Listed}
+use Rattle.ynl_tables.specs.declared.holders.Listed.{Listed}
 use Rattle.ynl_tables.specs.Sums.{AreSums}
 use Rattle.ynl_changes.specs.declared.ending.Going.{Going}
 use Rattle.ynl_changes.specs.declared.ending.Going.TheVariants.{OnNode, OfApp}

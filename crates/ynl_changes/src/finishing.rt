@@ -1,10 +1,10 @@
 //! Applications that finish: the clocks rise once for each of their containers, and then the
 //! containers go. Both find them by their clocks, where these are listed.
 
-ghost use Rattle.std.specs.Prelude.{◌≡◌, ℕ, ◌<◌, true, false, IsTrue, IfSome, Some, [], length, map, filter, option_map, slice_get, slice_index_or, if◌then◌else◌};
+ghost use Rattle.std.specs.Prelude.{◌≡◌, ℕ, ◌<◌, ◌+◌, true, false, IsTrue, IfSome, Some, [], length, map, filter, option_map, slice_get, slice_index_or, if◌then◌else◌};
 ghost use Rattle.std.specs.Bool.{OnTrue};
 ghost use Rattle.std.specs.List.{remove};
-ghost use Rattle.std.specs.Option.{option_map_or};
+ghost use Rattle.std.specs.Option.{option_and_then, option_map_or};
 ghost use Rattle.ynl_resource.specs.Names.{same_name, same_path, tenant_of};
 ghost use Rattle.ynl_resource.specs.declared.labels.Label.{Label as Labelled};
 ghost use Rattle.ynl_resource.specs.declared.paths.Path.{Path};
@@ -19,20 +19,22 @@ ghost use Rattle.ynl_tables.specs.Known.{IsSpot};
 ghost use Rattle.ynl_tables.specs.Kept.{AreKept, IsKept, IsSummed};
 ghost use Rattle.ynl_tables.specs.Living.{container_in, live_at, live_in};
 ghost use Rattle.ynl_tables.specs.Numbers.{AreNumbered};
-ghost use Rattle.ynl_tables.specs.Listed.{holds, AreListed};
+ghost use Rattle.ynl_tables.specs.Listed.{holds, clocks_held, AreListed};
 ghost use Rattle.ynl_tables.specs.Rising.{numbers_rise, clock_of, IsAlone};
 ghost use Rattle.ynl_tables.specs.Tables.{state_of, app_of, leaf_of_row, leaves_of, partition_of, partitions_of};
 ghost use Rattle.ynl_changes.specs.Marking.{KeepsMarksAmong, KeepsMarksIn, KeepsMarks};
 ghost use Rattle.ynl_tables.specs.Queued.{are_in_turn, masters_waiting, asks_waiting};
 ghost use Rattle.ynl_waiting.specs.Waiting.{Keeps};
 ghost use Rattle.ynl_changes.specs.Queueing.{AreRequeued, Leaves, own_master, own_asks};
-ghost use Rattle.ynl_changes.specs.Finishing.{IsHolder, IsListedAt, clocks_at_place};
+ghost use Rattle.ynl_changes.specs.Finishing.{IsFrom, IsHolder, IsListedAt, clocks_at_place, clocks_from};
 ghost use Rattle.ynl_changes.specs.Rows.{KeepsAmounts, containers_at_place, lists_of, rows_at};
 
 use crate::ending::{Going, clear_if_many, drop_at, drop_going};
 use crate::placing::set_clock;
 use crate::queueing::{Which, withdraw_asks, withdraw_master};
 use crate::sharing::uncount_named;
+use std::collections::BTreeSet;
+use std::ops::Bound;
 use ynl_model::Placed;
 use ynl_queues::Config;
 use ynl_resource::{Name, Path};
@@ -93,8 +95,8 @@ fn container_of_clock(rows: &[PartitionRow], row: usize, clock: u64) -> Option<P
 }
 
 /// The clocks that are listed of an application in the row at a place.
-fn clocks_at<'a>(rows: &'a [PartitionRow], row: usize, holder: &Holder) -> Option<&'a [u64]>
-    ensures { option_map (λ r. r.now) result ≡ clocks_at_place (lists_of rows.now) row holder.now }
+fn clocks_at<'a>(rows: &'a [PartitionRow], row: usize, holder: &Holder) -> Option<&'a BTreeSet<u64>>
+    ensures { option_map (λ r. r.now.keys) result ≡ clocks_at_place (lists_of rows.now) row holder.now }
 {
     match rows.get(row) {
         Some(row) => row.listed.clocks(holder),
@@ -102,33 +104,59 @@ fn clocks_at<'a>(rows: &'a [PartitionRow], row: usize, holder: &Holder) -> Optio
     }
 }
 
-/// The container of an application at a place among those that are listed in a row.
-fn listed_at(rows: &[PartitionRow], row: usize, holder: &Holder, place: usize) -> Option<Placed>
-    requires { IsListedAt rows.now row holder.now }
-    ensures { result ≡ slice_get (filter (holds holder.now) (containers_at_place (partitions_of rows.now) row)) place }
+/// The first of the clocks from a bound on that are listed of an application in the row at a place.
+fn clock_from(rows: &[PartitionRow], row: usize, holder: &Holder, from: Bound<u64>) -> Option<u64>
+    ensures { result ≡ option_and_then (λ clocks. slice_get (clocks_from from clocks) 0) (clocks_at_place (lists_of rows.now) row holder.now) }
 {
     let Some(clocks) = clocks_at(rows, row, holder) else {
         return None;
     };
-    if place < clocks.len() {
-        container_of_clock(rows, row, clocks[place])
-    } else {
-        None
+    match clocks.range((from, Bound::Unbounded)).next() {
+        Some(clock) => Some(*clock),
+        None => None,
     }
 }
 
-/// The clock rises for the container of an application at a place among those that are listed in a row.
-fn raise_listed_at(config: &Config, tables: &mut Tables, row: usize, holder: &Holder, place: usize)
+/// The container of an application that comes first from a bound on of those that are listed in a row.
+fn listed_from(
+    rows: &[PartitionRow],
+    row: usize,
+    holder: &Holder,
+    from: Bound<u64>,
+) -> Option<Placed>
+    requires { IsListedAt rows.now row holder.now }
+    ensures here { (place : ℕ) → IsFrom (clocks_held holder.now (containers_at_place (partitions_of rows.now) row)) place from → result ≡ slice_get (filter (holds holder.now) (containers_at_place (partitions_of rows.now) row)) place }
+    ensures rising { IfSome result (λ _. IsTrue (numbers_rise clock_of (containers_at_place (partitions_of rows.now) row))) }
+{
+    match clock_from(rows, row, holder, from) {
+        Some(clock) => container_of_clock(rows, row, clock),
+        None => None,
+    }
+}
+
+/// The clock rises for the container of an application that comes first from a bound on of those that are
+/// listed in a row, and those after it are left. A bound says where that is, since no list can be lent
+/// while clocks rise.
+fn raise_next(
+    config: &Config,
+    tables: &mut Tables,
+    row: usize,
+    holder: &Holder,
+    from: Bound<u64>,
+) -> Bound<u64>
     requires { IsListedAt tables.old.partitions.items row holder.now }
-    ensures state { state_of tables.new ≡ option_map_or (clock_rises config.now (state_of tables.old)) (slice_get (filter (holds holder.now) (containers_at_place (state_of tables.old).partitions row)) place) (state_of tables.old) }
+    ensures state { (place : ℕ) → IsFrom (clocks_held holder.now (containers_at_place (state_of tables.old).partitions row)) place from → state_of tables.new ≡ option_map_or (clock_rises config.now (state_of tables.old)) (slice_get (filter (holds holder.now) (containers_at_place (state_of tables.old).partitions row)) place) (state_of tables.old) }
+    ensures next { (place : ℕ) → IsFrom (clocks_held holder.now (containers_at_place (state_of tables.old).partitions row)) place from → IsFrom (clocks_held holder.now (containers_at_place (state_of tables.old).partitions row)) (place + 1) result }
     ensures leaves { tables.new.leaves.items ≡ tables.old.leaves.items }
     ensures kept { KeepsAmounts tables.old tables.new }
     ensures lists { lists_of tables.new.partitions.items ≡ lists_of tables.old.partitions.items }
     ensures numbers { tables.new.numbers ≡ tables.old.numbers }
 {
-    if let Some(container) = listed_at(&tables.partitions, row, holder, place) {
-        raise_clock(config, tables, &container);
-    }
+    let Some(container) = listed_from(&tables.partitions, row, holder, from) else {
+        return from;
+    };
+    raise_clock(config, tables, &container);
+    Bound::Excluded(container.id.clock)
 }
 
 /// The clock rises for each container of an application that is listed in a row.
@@ -140,8 +168,9 @@ fn raise_listed(config: &Config, tables: &mut Tables, row: usize, holder: &Holde
     ensures kept { KeepsAmounts tables.old tables.new }
     ensures numbers { tables.new.numbers ≡ tables.old.numbers }
 {
-    for place in 0..count {
-        raise_listed_at(config, tables, row, holder, place);
+    let mut from = Bound::Unbounded;
+    for _ in 0..count {
+        from = raise_next(config, tables, row, holder, from);
     }
 }
 
@@ -251,10 +280,10 @@ fn place_of_last(row: &PartitionRow, holder: &Holder) -> Option<usize>
     let Some(clocks) = row.listed.clocks(holder) else {
         return None;
     };
-    if clocks.is_empty() {
+    let Some(last) = clocks.last() else {
         return None;
-    }
-    match place_at(&row.containers, clocks[clocks.len() - 1]) {
+    };
+    match place_at(&row.containers, *last) {
         Some(place) => own_at(&row.containers, place, holder),
         None => None,
     }

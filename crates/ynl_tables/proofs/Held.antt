@@ -1,7 +1,7 @@
 -- An application's containers, found by their clocks.
-use Rattle.std.proofs.Common.{◌≡◌, ℕ, zero, suc, ◌+◌, ◌<◌, Bool, true, false, cond, not, ◌==◌, List, [], ◌∷◌, ◌++◌, length, take, map, filter, find, get_or, Some, None, refl, sym, ap, subst, ◌∙◌, arith}
+use Rattle.std.proofs.Common.{◌≡◌, ℕ, zero, suc, ◌+◌, ◌<◌, ◌≤◌, Bool, true, false, cond, not, ◌==◌, List, [], ◌∷◌, ◌++◌, length, take, drop, map, filter, find, get_or, Some, None, refl, sym, ap, subst, ◌∙◌, arith}
 use Rattle.std.proofs.lemmas.Bool.Decides.{nat_tests}
-use Rattle.std.proofs.lemmas.List.{take_more, get_or-map, length-map}
+use Rattle.std.proofs.lemmas.List.{drop_more, take_more, get_or-map, length-drop, length-map}
 use Rattle.std.proofs.lemmas.Option.{slice_get-get_or}
 use Rattle.std.specs.Prelude.{slice_get}
 use mathlib.Core.Bool.{true≢false}
@@ -73,6 +73,23 @@ module _ {X : Type 0} (key : X → ℕ) (xs : List X) (rises : numbers_rise key 
       some_of : (ys : List X) (i : ℕ) → i < length ys → X
       some_of [] i h = absurd (omega arith)
       some_of (y ∷ ys) i h = y
+
+-- the first that is left of numbers of which so many are taken
+pub first_left : (ns : List ℕ) (i n : ℕ) (left : List ℕ) → n ∷ left ≡ drop i ns → (i < length ns) × (n ≡ get_or ns i 0) × (left ≡ drop (i + 1) ns)
+first_left ns i n left e =
+    let inside : i < length ns = omega (arith, length-drop i ns, ap length e) in
+    let more = e ∙ drop_more ns i 0 inside in
+    (inside, ap (λ ms. get_or ms 0 0) more, ap (drop 1) more)
+
+-- where none is left, all are taken
+pub all_taken : {X : Type 0} (key : X → ℕ) (xs : List X) (i : ℕ) → [] ≡ drop i (map key xs) → take i xs ≡ xs
+all_taken key xs i e = let past : length xs ≤ i = omega (arith, length-drop i (map key xs), ap length e, length-map xs key) in take-past xs i past
+  where
+    take-past : {X : Type 0} (xs : List X) (i : ℕ) → length xs ≤ i → take i xs ≡ xs
+    take-past [] zero h = refl
+    take-past [] (suc i) h = refl
+    take-past (x ∷ xs) zero h = absurd (omega arith)
+    take-past (x ∷ xs) (suc i) h = ap (λ ys. x ∷ ys) (take-past xs i (omega arith))
 
 -- where none passes, none is without the others
 pub none_passes : {X : Type 0} (p : X → Bool) (xs : List X) → filter p xs ≡ [] → without p xs ≡ xs

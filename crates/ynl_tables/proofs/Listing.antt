@@ -1,13 +1,16 @@
 -- The clocks that are listed, with one more and one less.
-use Rattle.std.proofs.Common.{◌≡◌, ◌≢◌, ℕ, zero, suc, ◌<◌, Bool, true, false, cond, ◌&&◌, List, [], ◌∷◌, ◌++◌, length, map, filter, get_or, Option, Some, None, Vec, Global, refl, sym, ap, ◌∙◌, arith}
-use Rattle.std.specs.Prelude.{nat_lt, ◌==◌}
+use Rattle.std.proofs.Common.{◌≡◌, ℕ, ◌<◌, Bool, true, false, cond, ◌&&◌, List, [], ◌∷◌, ◌++◌, length, map, filter, Option, Some, None, refl, sym, ap, ◌∙◌, arith}
+use Rattle.std.specs.Prelude.{nat_lt}
 use Rattle.std.specs.BTreeMap.{BTreeMap, get, is_at}
-use Rattle.std.specs.Cmp.{both_tied}
+use Rattle.std.specs.BTreeSet.{BTreeSet, insert_key}
+use Rattle.std.specs.Set.{remove_key}
+use Rattle.std.specs.Cmp.{both_tied, nat_cmp_is}
 use Rattle.std.specs.Cmp.Lexicographic.{texts_ties}
-use Rattle.std.specs.List.{AllByRecursion, list_all, remove}
+use Rattle.std.specs.List.{list_all}
 use Rattle.std.specs.Option.{option_map_or}
+use Rattle.std.specs.Ordering.{is_eq, match_ordering, nat_cmp}
+use Rattle.std.specs.declared.cmp.Ordering.TheVariants.{Equal, Greater}
 use Rattle.std.proofs.Math.Bool.{and_comm}
-use Rattle.std.proofs.Math.Seq.{get_or-append_seam}
 use Rattle.std.proofs.lemmas.Bool.{and_from, and_parts}
 use Rattle.std.proofs.lemmas.Bool.Decides.{nat_tests}
 use Rattle.std.proofs.lemmas.List.{map-append}
@@ -15,10 +18,10 @@ use Rattle.std.proofs.lemmas.List.Elements.{filter-append}
 use Rattle.ynl_resource.specs.Names.{name_order, same_name}
 use Rattle.ynl_model.specs.declared.containers.Placed.{Placed}
 use Rattle.ynl_laws.proofs.Names.{same-name_sym, same-name_self}
-use Rattle.ynl_tables.specs.declared.listed.Holder.{Holder}
+use Rattle.ynl_tables.specs.declared.holders.Holder.{Holder}
 use Rattle.ynl_tables.specs.Listed.{holder_order, same_holder, holds, holder_of, clocks_held, clocks_for, AreEntries, IsPut}
 use Rattle.ynl_tables.specs.Rising.{numbers_rise, clock_of}
-use Rattle.ynl_tables.proofs.Searching.{rise, rise_filter}
+use Rattle.ynl_tables.proofs.Searching.{rise_filter}
 
 -- ---- applications
 
@@ -39,27 +42,27 @@ held_by k other = and_comm (same_name k.tenant other.tenant) (same_name k.app ot
 
 -- ---- entries
 
-abbrev pub items_in : Option (Vec ℕ Global) → List ℕ
-items_in found = option_map_or (λ (clocks : Vec ℕ Global). clocks.items) found []
+abbrev pub keys_in : Option (BTreeSet ℕ) → List ℕ
+keys_in found = option_map_or (λ (clocks : BTreeSet ℕ). clocks.keys) found []
 
-pub put_entry : (old new : BTreeMap Holder (Vec ℕ Global)) (holder : Holder) (clocks : Vec ℕ Global) → ((q : Holder) → get holder_order new q ≡ cond (is_at (holder_order holder) q) (Some clocks) (get holder_order old q)) → IsPut old new holder clocks.items
+pub put_entry : (old new : BTreeMap Holder (BTreeSet ℕ)) (holder : Holder) (clocks : BTreeSet ℕ) → ((q : Holder) → get holder_order new q ≡ cond (is_at (holder_order holder) q) (Some clocks) (get holder_order old q)) → IsPut old new holder clocks.keys
 put_entry old new holder clocks updates other =
-    ap items_in (updates other) ∙ go (is_at (holder_order holder) other) ∙ ap (λ b. cond b clocks.items (clocks_for old other)) (sym (holder_ties holder other))
+    ap keys_in (updates other) ∙ go (is_at (holder_order holder) other) ∙ ap (λ b. cond b clocks.keys (clocks_for old other)) (sym (holder_ties holder other))
   where
-    go : (b : Bool) → items_in (cond b (Some clocks) (get holder_order old other)) ≡ cond b clocks.items (clocks_for old other)
+    go : (b : Bool) → keys_in (cond b (Some clocks) (get holder_order old other)) ≡ cond b clocks.keys (clocks_for old other)
     go true = refl
     go false = refl
 
-pub drop_entry : (old new : BTreeMap Holder (Vec ℕ Global)) (holder : Holder) → ((q : Holder) → get holder_order new q ≡ cond (is_at (holder_order holder) q) None (get holder_order old q)) → IsPut old new holder []
+pub drop_entry : (old new : BTreeMap Holder (BTreeSet ℕ)) (holder : Holder) → ((q : Holder) → get holder_order new q ≡ cond (is_at (holder_order holder) q) None (get holder_order old q)) → IsPut old new holder []
 drop_entry old new holder updates other =
-    ap items_in (updates other) ∙ go (is_at (holder_order holder) other) ∙ ap (λ b. cond b [] (clocks_for old other)) (sym (holder_ties holder other))
+    ap keys_in (updates other) ∙ go (is_at (holder_order holder) other) ∙ ap (λ b. cond b [] (clocks_for old other)) (sym (holder_ties holder other))
   where
-    go : (b : Bool) → items_in (cond b None (get holder_order old other)) ≡ cond b [] (clocks_for old other)
+    go : (b : Bool) → keys_in (cond b None (get holder_order old other)) ≡ cond b [] (clocks_for old other)
     go true = refl
     go false = refl
 
 -- what is set twice is what was set last
-pub put_again : (old mid new : BTreeMap Holder (Vec ℕ Global)) (holder : Holder) (first last : List ℕ) → IsPut old mid holder first → IsPut mid new holder last → IsPut old new holder last
+pub put_again : (old mid new : BTreeMap Holder (BTreeSet ℕ)) (holder : Holder) (first last : List ℕ) → IsPut old mid holder first → IsPut mid new holder last → IsPut old new holder last
 put_again old mid new holder first last p q other = q other ∙ ap (cond (same_holder holder other) last) (p other) ∙ go (same_holder holder other)
   where
     go : (b : Bool) → cond b last (cond b first (clocks_for old other)) ≡ cond b last (clocks_for old other)
@@ -68,34 +71,40 @@ put_again old mid new holder first last p q other = q other ∙ ap (cond (same_h
 
 -- ---- numbers that rise
 
--- the one of a number goes
-pub gone : (before after : List ℕ) (n i d : ℕ) → numbers_rise (λ n. n) (before ++ n ∷ after) ≡ true → i < length (before ++ n ∷ after) → get_or (before ++ n ∷ after) i d ≡ n → remove (before ++ n ∷ after) i ≡ before ++ after
-gone [] after n zero d h inside at = refl
-gone [] after n (suc i) d h inside at = absurd (let up = rise (λ n. n) (n ∷ after) h zero (suc i) d (omega arith) inside in omega (arith, up, at))
-gone (x ∷ before) after n zero d h inside at =
-    absurd
-    (let seam = get_or-append_seam before n after d in
-    let there = within before in
-    let up = rise (λ n. n) (x ∷ before ++ n ∷ after) h zero (suc (length before)) d (omega arith) (omega (arith, there)) in
-    omega (arith, up, at, seam))
-  where
-    within : (before : List ℕ) → length before < length (before ++ n ∷ after)
-    within [] = omega arith
-    within (y ∷ before) = let rest = within before in omega (arith, rest)
-gone (x ∷ before) after n (suc i) d h inside at = ap (λ ns. x ∷ ns) (gone before after n i d (and_parts (list_all (λ y. nat_lt x y) (before ++ n ∷ after)) (numbers_rise (λ n. n) (before ++ n ∷ after)) h).1 (omega arith) at)
+-- what all of a list pass one of them does
+one-of : (p : ℕ → Bool) (before after : List ℕ) (n : ℕ) → list_all p (before ++ n ∷ after) ≡ true → p n ≡ true
+one-of p [] after n h = (and_parts (p n) (list_all p after) h).0
+one-of p (m ∷ before) after n h = one-of p before after n (and_parts (p m) (list_all p (before ++ n ∷ after)) h).1
 
--- it is not absent
-pub not-absent : (before after : List ℕ) (n : ℕ) → AllByRecursion (λ m. m ≢ n) (before ++ n ∷ after) → ⊥
-not-absent [] after n h = h.0 refl
-not-absent (x ∷ before) after n h = not-absent before after n h.1
+-- what stands before a number is below it
+first-below : (m : ℕ) (before after : List ℕ) (n : ℕ) → numbers_rise (λ n. n) (m ∷ before ++ n ∷ after) ≡ true → nat_cmp n m ≡ Greater
+first-below m before after n h =
+    let less = one-of (λ k. nat_lt m k) before after n (and_parts (list_all (λ k. nat_lt m k) (before ++ n ∷ after)) (numbers_rise (λ n. n) (before ++ n ∷ after)) h).0 in
+    let below : m < n = grind (arith, nat_tests, less) in
+    sym (nat_cmp_is n m Greater below)
+
+rest-rises : (m : ℕ) (ns : List ℕ) → numbers_rise (λ n. n) (m ∷ ns) ≡ true → numbers_rise (λ n. n) ns ≡ true
+rest-rises m ns h = (and_parts (list_all (λ k. nat_lt m k) ns) (numbers_rise (λ n. n) ns) h).1
+
+-- one above all others comes last
+pub comes-last : (ns : List ℕ) (n : ℕ) → numbers_rise (λ n. n) (ns ++ n ∷ []) ≡ true → insert_key nat_cmp ns n ≡ ns ++ n ∷ []
+comes-last [] n h = refl
+comes-last (m ∷ ns) n h =
+    ap (λ o. match_ordering o (n ∷ m ∷ ns) (m ∷ ns) (m ∷ insert_key nat_cmp ns n)) (first-below m ns [] n h) ∙ ap (λ ms. m ∷ ms) (comes-last ns n (rest-rises m (ns ++ n ∷ []) h))
+
+-- one goes wherever it stands
+pub gone : (before after : List ℕ) (n : ℕ) → numbers_rise (λ n. n) (before ++ n ∷ after) ≡ true → remove_key (is_at (nat_cmp n)) (before ++ n ∷ after) ≡ before ++ after
+gone [] after n h = ap (λ o. cond (is_eq o) after (n ∷ remove_key (is_at (nat_cmp n)) after)) (sym (nat_cmp_is n n Equal refl))
+gone (m ∷ before) after n h =
+    ap (λ o. cond (is_eq o) (before ++ n ∷ after) (m ∷ remove_key (is_at (nat_cmp n)) (before ++ n ∷ after))) (first-below m before after n h) ∙ ap (λ ms. m ∷ ms) (gone before after n (rest-rises m (before ++ n ∷ after) h))
 
 -- a list of no length
-pub emptied : (ns : List ℕ) (len : ℕ) → len ≡ length ns → (len == 0) ≡ true → ns ≡ []
-emptied [] len e h = refl
-emptied (n ∷ ns) len e h = absurd (let some : length (n ∷ ns) ≡ suc (length ns) = refl in grind (arith, nat_tests, e, h, some))
+pub emptied : (ns : List ℕ) → length ns ≡ 0 → ns ≡ []
+emptied [] h = refl
+emptied (n ∷ ns) h = absurd (omega (arith, h))
 
 -- the numbers of things rise as the things do
-pub rise_map : {X : Type 0} (key : X → ℕ) (xs : List X) → numbers_rise (λ n. n) (map key xs) ≡ numbers_rise key xs
+rise_map : {X : Type 0} (key : X → ℕ) (xs : List X) → numbers_rise (λ n. n) (map key xs) ≡ numbers_rise key xs
 rise_map key [] = refl
 rise_map key (x ∷ xs) = (λ i. all_map xs i && rise_map key xs i)
   where
@@ -136,7 +145,7 @@ module _ (k : Placed) where
   held_own before after = held_at holder before after ∙ ap (λ b. clocks_held holder before ++ cond b (clock ∷ clocks_held holder after) (clocks_held holder after)) self
 
   -- a container comes last
-  pub listed_more : (old new : BTreeMap Holder (Vec ℕ Global)) (containers : List Placed) → AreEntries containers old → IsPut old new holder (clocks_for old holder ++ clock ∷ [])
+  pub listed_more : (old new : BTreeMap Holder (BTreeSet ℕ)) (containers : List Placed) → AreEntries containers old → IsPut old new holder (clocks_for old holder ++ clock ∷ [])
       → AreEntries (containers ++ k ∷ []) new
   listed_more old new containers was put h = put h ∙ go (same_holder holder h) refl ∙ sym (held_at h containers [])
     where
@@ -149,7 +158,7 @@ module _ (k : Placed) where
           append-nil' (n ∷ ns) = ap (λ ms. n ∷ ms) (append-nil' ns)
 
   -- a container goes
-  pub listed_fewer : (old new : BTreeMap Holder (Vec ℕ Global)) (before after : List Placed) → AreEntries (before ++ k ∷ after) old → IsPut old new holder (clocks_held holder before ++ clocks_held holder after)
+  pub listed_fewer : (old new : BTreeMap Holder (BTreeSet ℕ)) (before after : List Placed) → AreEntries (before ++ k ∷ after) old → IsPut old new holder (clocks_held holder before ++ clocks_held holder after)
       → AreEntries (before ++ after) new
   listed_fewer old new before after was put h = put h ∙ go (same_holder holder h) refl ∙ sym (held_append h before after)
     where

@@ -1,15 +1,15 @@
 -- The clocks that are listed of an application's containers.
-use Rattle.std.specs.Prelude.{◌≡◌, ℕ, Bool, ◌&&◌, List, [], map, filter, Option, IfSome, Vec, option_map, if◌then◌else◌}
-use Rattle.std.specs.Global.{Global}
+use Rattle.std.specs.Prelude.{◌≡◌, ℕ, Bool, ◌&&◌, List, [], map, filter, Option, IfSome, option_map, if◌then◌else◌}
 use Rattle.std.specs.Option.{option_map_or}
 use Rattle.std.specs.BTreeMap.{BTreeMap, get}
+use Rattle.std.specs.BTreeSet.{BTreeSet}
 use Rattle.std.specs.Ordering.{ordering_then}
 use Rattle.std.specs.declared.cmp.Ordering.{Ordering}
 use Rattle.ynl_resource.specs.Names.{name_order, same_name}
 use Rattle.ynl_model.specs.declared.containers.Placed.{Placed}
 use Rattle.ynl_model.specs.Cluster.{is_of}
-use Rattle.ynl_tables.specs.declared.listed.Holder.{Holder}
-use Rattle.ynl_tables.specs.declared.listed.Listed.{Listed}
+use Rattle.ynl_tables.specs.declared.holders.Holder.{Holder}
+use Rattle.ynl_tables.specs.declared.holders.Listed.{Listed}
 use Rattle.ynl_tables.specs.Rising.{clock_of}
 
 -- applications compare by their own names first, and then by those of their tenants
@@ -32,15 +32,15 @@ abbrev pub clocks_held : Holder → List Placed → List ℕ
 clocks_held holder containers = map clock_of (filter (holds holder) containers)
 
 -- the clocks that are listed for an application; none where it has no entry
-abbrev pub clocks_for : BTreeMap Holder (Vec ℕ Global) → Holder → List ℕ
-clocks_for entries holder = option_map_or (λ clocks. clocks.items) (get holder_order entries holder) []
+abbrev pub clocks_for : BTreeMap Holder (BTreeSet ℕ) → Holder → List ℕ
+clocks_for entries holder = option_map_or (λ clocks. clocks.keys) (get holder_order entries holder) []
 
 -- that where any are listed
 abbrev pub clocks_of : Listed → Holder → Option (List ℕ)
 clocks_of listed holder = option_map (λ entries. clocks_for entries holder) listed.entries
 
 -- for each application they are those of its containers
-abbrev pub AreEntries : List Placed → BTreeMap Holder (Vec ℕ Global) → Type 0
+abbrev pub AreEntries : List Placed → BTreeMap Holder (BTreeSet ℕ) → Type 0
 AreEntries containers entries = (holder : Holder) → clocks_for entries holder ≡ clocks_held holder containers
 
 -- and so where any are listed
@@ -48,5 +48,5 @@ abbrev pub AreListed : Listed → List Placed → Type 0
 AreListed listed containers = IfSome listed.entries (AreEntries containers)
 
 -- an application's clocks are set, and the others' stay
-abbrev pub IsPut : BTreeMap Holder (Vec ℕ Global) → BTreeMap Holder (Vec ℕ Global) → Holder → List ℕ → Type 0
+abbrev pub IsPut : BTreeMap Holder (BTreeSet ℕ) → BTreeMap Holder (BTreeSet ℕ) → Holder → List ℕ → Type 0
 IsPut old new holder clocks = (other : Holder) → clocks_for new other ≡ (if same_holder holder other then clocks else clocks_for old other)

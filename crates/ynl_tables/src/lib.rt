@@ -11,8 +11,8 @@ pub use containers::{
     push_copy, row_of,
 };
 pub use ended::{clear_ended, end_at, list_live, live_of, make_last};
+pub use holders::{Holder, Listed};
 pub use known::{Known, Spot};
-pub use listed::{Holder, Listed};
 pub use live::{Live, live_at};
 pub use named::{place_of, spot_of};
 pub use numbers::{QueueNumbers, way_of_app};
@@ -35,6 +35,7 @@ mod asks;
 mod clocks;
 mod containers;
 mod ended;
+mod holders;
 mod known;
 mod listed;
 mod live;

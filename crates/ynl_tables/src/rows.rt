@@ -11,8 +11,8 @@ ghost use Rattle.ynl_tables.specs.Living.{row_clock};
 ghost use Rattle.ynl_tables.specs.Sharing.{IsCountedPart};
 ghost use Rattle.ynl_waiting.specs.Waiting.{Keeps};
 
+use crate::holders::Listed;
 use crate::known::Known;
-use crate::listed::Listed;
 use crate::sums::Sums;
 use crate::user_counts::UserCounts;
 use std::marker::Model;

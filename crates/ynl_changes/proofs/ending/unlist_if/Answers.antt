@@ -1,7 +1,7 @@
 use Rattle.std.proofs.Common.{◌≡◌, Bool, List, true, sym, subst, ◌∙◌}
 use Rattle.std.proofs.lemmas.Bool.{and_parts}
 use Rattle.ynl_model.specs.declared.containers.Placed.{Placed}
-use Rattle.ynl_tables.specs.declared.listed.Listed.{Listed}
+use Rattle.ynl_tables.specs.declared.holders.Listed.{Listed}
 use Rattle.ynl_tables.specs.Living.{container_in}
 use Rattle.ynl_tables.specs.Listed.{AreListed}
 use Rattle.ynl_tables.specs.Rising.{clock_of, numbers_rise}

@@ -2,7 +2,7 @@ use Rattle.std.proofs.Common.{◌≡◌, Bool, List, [], filter, sym, ap, subst,
 use Rattle.std.specs.Bool.{OnTrue}
 use Rattle.ynl_model.specs.declared.containers.Placed.{Placed}
 use Rattle.ynl_laws.specs.Finishing.{without_own}
-use Rattle.ynl_tables.specs.declared.listed.Holder.{Holder}
+use Rattle.ynl_tables.specs.declared.holders.Holder.{Holder}
 use Rattle.ynl_tables.specs.Listed.{holds}
 use Rattle.ynl_tables.specs.Living.{live_in}
 use Rattle.ynl_tables.specs.Tables.{partition_of}

@@ -7,13 +7,13 @@ use Rattle.ynl_laws.proofs.Names.{same-label_path}
 use Rattle.ynl_tables.specs.declared.rows.ContainerRow.{ContainerRow}
 use Rattle.ynl_tables.specs.Living.{live_in, row_clock, row_of}
 use Rattle.ynl_tables.specs.Tables.{leaves_of, partition_of}
-use Rattle.ynl_tables.proofs.Living.{live_fewer}
+use Rattle.ynl_tables.proofs.Living.{live_fewer, live_rise}
 use Rattle.ynl_resource.specs.Amounts.{IsSmall}
 use Rattle.ynl_model.specs.declared.containers.Placed.{Placed}
 use Rattle.ynl_model.specs.Cluster.{Partition, sizes}
 use Rattle.ynl_tables.specs.Kept.{AreByUser, stands_on}
 use Rattle.ynl_tables.specs.Listed.{AreListed}
-use Rattle.ynl_tables.specs.Rising.{numbers_rise}
+use Rattle.ynl_tables.specs.Rising.{numbers_rise, clock_of}
 use Rattle.ynl_tables.proofs.Searching.{rise_last}
 use Rattle.ynl_tables.specs.Sums.{AreSums}
 use Rattle.ynl_changes.proofs.Summing.{small_uses, uses_long, raised_all, live_pushed}
@@ -39,11 +39,12 @@ returns-then-is_same-clause-summed c =
     let own = c.requires.label ∙ sym (same-label_path c.args.row.now.label c.args.label.now (sym c.if-is_same.ensures)) in
     let pushed = c.push_reserved.ensures.items ∙ ap (λ (row : ContainerRow). c.make_last.new.rows.items ++ row ∷ []) c.row_of.ensures in
     let now : live_in c.args.row.now.label c.push_reserved.new.self.items ≡ old ++ c.args.container.now ∷ [] = live_pushed c.args.row.now.label c.args.row.now.containers.items c.make_last.new.rows.items c.push_reserved.new.self.items c.args.container.now own (c.make_last.ensures.live c.args.row.now.label) pushed in
+    let rises = rise_last clock_of old c.args.container.now (live_rise c.args.row.now.label c.args.row.now.containers.items c.args.row.now.rising) (c.requires.last (sym c.if-is_same.ensures)) in
     record {
       uses = raised_all all leaves c.args.container.now old (live_in c.args.row.now.label c.push_reserved.new.self.items) c.raise.new.uses.items now (c.raise.ensures before c.requires.summed.uses);
       users = subst (AreByUser c.args.numbers.now leaves c.change_users.new.users.items) (sym now) (c.change_users.ensures old small c.requires.summed.users);
       filled = subst (AreSums stands_on c.raise-then-is_same.new.self) (sym now) (c.raise-then-is_same.ensures stands_on c.args.container.now (record { sized = refl; alone = λ other. refl }) old small c.requires.summed.filled);
-      listed = subst (AreListed c.add.new.self) (sym now) (c.add.ensures old c.requires.summed.listed);
+      listed = subst (AreListed c.add.new.self) (sym now) (c.add.ensures old rises c.requires.summed.listed);
     }
 
 pub returns-then-is_same-clause-meaning : goal.returns-then-is_same-clause-meaning

@@ -1,9 +1,9 @@
 use Rattle.std.proofs.Common.{◌≡◌, ℕ, true, List, ◌∷◌, ◌++◌, IfSome, sym, subst, ◌∙◌}
-use Rattle.ynl_tables.specs.declared.listed.Holder.{Holder}
+use Rattle.ynl_tables.specs.declared.holders.Holder.{Holder}
 use Rattle.ynl_tables.specs.Listed.{AreEntries, IsPut, holder_of, clocks_for, clocks_held}
 use Rattle.ynl_tables.specs.Rising.{numbers_rise}
 use Rattle.ynl_tables.proofs.Listing.{held_own, held_rise, listed_fewer}
-use Rattle.ynl_tables.proofs.listed.Listed.remove.Goals as goal
+use Rattle.ynl_tables.proofs.holders.Listed.remove.Goals as goal
 
 pub returns-in-Some : goal.returns-in-Some
 returns-in-Some c before after rise was =
