@@ -9,7 +9,7 @@ use mathlib.Core.Bool.{true≢false}
 use Rattle.ynl_model.specs.declared.applications.AskRow.{AskRow}
 use Rattle.ynl_tables.specs.declared.rows.App.{App}
 use Rattle.ynl_tables.specs.Queued.{master_class, master_turn, ask_class, ask_turn, is_ask_at}
-use Rattle.ynl_waiting.specs.Classes.{has, same_class, same_turn, same_size}
+use Rattle.ynl_waiting.specs.Classes.{same_class, same_turn, same_size}
 use Rattle.ynl_waiting.specs.Waiting.{Keeps, with_one, without_one}
 use Rattle.ynl_waiting.specs.declared.classes.Class.{Class}
 use Rattle.ynl_waiting.specs.declared.classes.Turn.{Turn}
