@@ -15,3 +15,4 @@ mod Users
 mod Before
 mod Passed
 mod Headroom
+mod Lessened

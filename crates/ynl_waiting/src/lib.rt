@@ -3,9 +3,9 @@
 #![tactic(auto)]
 
 pub use classes::{Class, Turn, first_of};
-pub use groups::{Group, Sizes};
-pub use parts::{Part, Users};
-pub use rows::{Classes, Rows};
+pub use groups::Group;
+pub use parts::Part;
+pub use rows::Rows;
 pub use waiting::Waiting;
 
 mod classes;
