@@ -1,7 +1,6 @@
 -- What waits in a leaf by classes, and the requests of the applications there.
 use Rattle.std.proofs.Common.{◌≡◌, ℕ, suc, ◌<◌, Bool, true, false, cond, not, ◌&&◌, ◌||◌, List, [], ◌∷◌, ◌++◌, length, get_or, filter, map, append-nil, refl, sym, ap, subst, ◌∙◌, arith}
 use Rattle.std.specs.Prelude.{◌==◌, nat_lt, flat_map}
-use Rattle.std.specs.BTreeSet.{contains}
 use Rattle.std.specs.List.{AllByRecursion, list_any}
 use Rattle.std.proofs.lemmas.Bool.{and_from, and_parts}
 use Rattle.std.proofs.lemmas.Bool.Decides.{nat_tests}
@@ -23,10 +22,10 @@ use Rattle.ynl_tables.specs.Tables.{app_of}
 use Rattle.ynl_waiting.specs.declared.classes.Class.{Class}
 use Rattle.ynl_waiting.specs.declared.classes.Turn.{Turn}
 use Rattle.ynl_waiting.proofs.Having.{class-is, class-self, number-self}
-use Rattle.ynl_waiting.specs.Classes.{Entry, same_class, same_turn, turn_order, has}
+use Rattle.ynl_waiting.specs.Classes.{same_class, same_turn}
 use Rattle.ynl_choice.specs.declared.scenes.Scene.{Scene}
 use Rattle.ynl_choice.specs.Choosing.{state_in, passes, masters_of, asks_in}
-use Rattle.ynl_choice.specs.Waits.{item_for, is_placeable, has_turn}
+use Rattle.ynl_choice.specs.Waits.{item_for, is_placeable}
 use Rattle.ynl_choice.proofs.Foremost.{any_passes, IsGathered}
 
 -- ---- the same
@@ -53,30 +52,6 @@ or-right false b h = h
 or-false : (a : Bool) → (a || false) ≡ a
 or-false true = refl
 or-false false = refl
-
--- ---- classes and their turns
-
--- a turn of a class that passes is one of that class
-pub turn-found : (test : Class → Bool) (entries : List Entry) (turn : Turn) → has_turn test entries turn ≡ true → (class : Class) × (test class ≡ true) × (has entries class turn ≡ true)
-turn-found test [] turn h = absurd (true≢false (sym h))
-turn-found test (entry ∷ entries) turn h = go (test entry.0) refl (contains turn_order entry.1 turn) refl h (turn-found test entries turn)
-  where
-    go : (a : Bool) → test entry.0 ≡ a → (b : Bool) → contains turn_order entry.1 turn ≡ b → ((a && b) || has_turn test entries turn) ≡ true
-        → (has_turn test entries turn ≡ true → (class : Class) × (test class ≡ true) × (has entries class turn ≡ true)) → (class : Class) × (test class ≡ true) × (has (entry ∷ entries) class turn ≡ true)
-    go true e true f h rest = (entry.0, e, (λ i. (class-self entry.0 i && f i) || has entries entry.0 turn))
-    go true e false f h rest = let found = rest h in (found.0, found.1, or-right _ _ found.2)
-    go false e b f h rest = let found = rest h in (found.0, found.1, or-right _ _ found.2)
-
--- and a turn of one class is one of those that pass, where that class does
-pub found-turn : (test : Class → Bool) (entries : List Entry) (class : Class) (turn : Turn) → has entries class turn ≡ true → test class ≡ true → has_turn test entries turn ≡ true
-found-turn test [] class turn h on = h
-found-turn test (entry ∷ entries) class turn h on = go (same_class entry.0 class) refl (contains turn_order entry.1 turn) refl h (λ k. found-turn test entries class turn k on)
-  where
-    go : (a : Bool) → same_class entry.0 class ≡ a → (b : Bool) → contains turn_order entry.1 turn ≡ b → ((a && b) || has entries class turn) ≡ true → (has entries class turn ≡ true → has_turn test entries turn ≡ true)
-        → ((test entry.0 && b) || has_turn test entries turn) ≡ true
-    go true e true f h rest = ap (λ c. (c && true) || has_turn test entries turn) (ap test (class-is entry.0 class e) ∙ on)
-    go true e false f h rest = or-right (test entry.0 && false) _ (rest h)
-    go false e b f h rest = or-right (test entry.0 && b) _ (rest h)
 
 -- ---- lists
 

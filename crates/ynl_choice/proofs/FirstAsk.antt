@@ -31,12 +31,12 @@ use Rattle.ynl_tables.specs.declared.rows.App.{App}
 use Rattle.ynl_tables.specs.Rising.{IsPlaceAt}
 use Rattle.ynl_tables.specs.declared.rows.LeafRow.{LeafRow}
 use Rattle.ynl_tables.specs.Marked.{IsMarkedApp, AreMarkedIn}
-use Rattle.ynl_tables.specs.Queued.{number_of, are_apart, ask_class, ask_turn, is_ask_at, ask_waits}
+use Rattle.ynl_tables.specs.Queued.{number_of, are_apart, ask_class, ask_turn, is_ask_at, ask_waits, asks_waiting}
 use Rattle.ynl_tables.specs.Tables.{app_of}
 use Rattle.ynl_waiting.specs.declared.classes.Class.{Class}
 use Rattle.ynl_waiting.specs.declared.classes.Turn.{Turn}
 use Rattle.ynl_waiting.proofs.Having.{class-is, class-self}
-use Rattle.ynl_waiting.specs.Classes.{Entry, has, is_turn_later, same_class, same_turn}
+use Rattle.ynl_waiting.specs.Classes.{is_turn_later, same_class, same_turn}
 use Rattle.ynl_choice.specs.declared.standings.Candidate.{Candidate}
 use Rattle.ynl_choice.specs.declared.scenes.Scene.{Scene}
 use Rattle.ynl_choice.specs.Choosing.{state_in, key_in, item_of, passes, considered, wanted, wanted_of, asks_in, ArePlaced, HoldsBest}
@@ -193,15 +193,14 @@ module _ (scene : Scene) (app : Application) (priority : ℕ) where
 no-higher : (a b : Turn) → is_turn_later a b ≡ false → a.number ≡ b.number → a.priority ≤ b.priority
 no-higher a b h same = grind (arith, nat_tests, h, same)
 
-module _ (scene : Scene) (row : LeafRow) (rows : List Entry) (placed : ArePlaced (state_in scene) row) (marked : AreMarkedIn (state_in scene) row)
-    (kept : (class : Class) (turn : Turn) → has rows class turn ≡ list_any (ask_waits class turn) row.apps.items)
-    (turn : Turn) (i : ℕ) (app : App) (first : IsFirstTurn (is_placeable scene row.path (Asked scene.label 0)) rows (Some turn)) (place : IsPlaceAt number_of turn.number row.apps.items i) (at : app ≡ get_or row.apps.items i app) where
+module _ (scene : Scene) (row : LeafRow) (placed : ArePlaced (state_in scene) row) (marked : AreMarkedIn (state_in scene) row)
+    (turn : Turn) (i : ℕ) (app : App) (first : IsFirstTurn (is_placeable scene row.path (Asked scene.label 0)) (asks_waiting row.apps.items) (Some turn)) (place : IsPlaceAt number_of turn.number row.apps.items i) (at : app ≡ get_or row.apps.items i app) where
   abbrev found_app : Application
   found_app = app_of row.path app
 
   here : (class : Class) × (is_placeable scene row.path (Asked scene.label 0) class ≡ true) × (ask_waits class turn app ≡ true)
   here =
-      let h = waits-at scene row (Asked scene.label 0) ask_waits (asks_in scene row.path) rows (asks-told scene row.path 0) (asks-gathered scene row.path) placed marked row.in_turn kept turn i app first.0 place in
+      let h = waits-at scene row (Asked scene.label 0) ask_waits (asks_in scene row.path) (asks-told scene row.path 0) (asks-gathered scene row.path) placed marked row.in_turn turn i app first.0 place in
       (h.0, h.1, subst (λ (a : App). ask_waits h.0 turn a ≡ true) (sym at) h.2)
 
   works : not (app.master_clock == 0) ≡ true
@@ -223,7 +222,7 @@ module _ (scene : Scene) (row : LeafRow) (rows : List Entry) (placed : ArePlaced
           let allowed : is_placeable scene row.path (Asked scene.label 0) (ask_class app other) ≡ true =
           and_from (same_label other.label scene.label) (passes scene (item_for row.path (Asked scene.label 0) (ask_class app other))) parts.0 (sym (ask-alike scene row.path 0 (ask_class app other) app other refl) ∙ may) in
           no-higher turn (ask_turn app other)
-          (none-before scene row (Asked scene.label 0) ask_waits (asks_in scene row.path) rows (asks-told scene row.path 0) (asks-gathered scene row.path) placed marked row.in_turn kept turn (ask_turn app other) (ask_class app other) i app first
+          (none-before scene row (Asked scene.label 0) ask_waits (asks_in scene row.path) (asks-told scene row.path 0) (asks-gathered scene row.path) placed marked row.in_turn turn (ask_turn app other) (ask_class app other) i app first
           place.within (subst (λ (a : App). ask_waits (ask_class app other) (ask_turn app other) a ≡ true) at waits) allowed)
           (sym (place.same app) ∙ ap (λ (a : App). a.number) (sym at))
 

@@ -20,13 +20,13 @@ use Rattle.ynl_tables.specs.Marked.{IsMarkedApp, AreMarkedIn}
 use Rattle.ynl_tables.specs.Queued.{number_of, are_in_turn}
 use Rattle.ynl_waiting.specs.declared.classes.Class.{Class}
 use Rattle.ynl_waiting.specs.declared.classes.Turn.{Turn}
-use Rattle.ynl_waiting.specs.Classes.{Entry, has, is_turn_later}
+use Rattle.ynl_waiting.specs.Classes.{is_turn_later}
 use Rattle.ynl_choice.specs.declared.scenes.Scene.{Scene}
 use Rattle.ynl_choice.specs.declared.standings.Candidate.{Candidate}
 use Rattle.ynl_choice.specs.Choosing.{state_in, key_in, item_of, considered, HoldsBest, IsKeyed, ArePlaced, standings_to}
 use Rattle.ynl_choice.specs.Candidates.{is_ahead, key_of, standings_of}
-use Rattle.ynl_choice.specs.Waits.{is_placeable, has_turn, IsFirstTurn}
-use Rattle.ynl_choice.proofs.Classed.{IsToldBy, turn-found, found-turn, any-at, any-none}
+use Rattle.ynl_choice.specs.Waits.{is_placeable, IsTurnOf, IsFirstTurn}
+use Rattle.ynl_choice.proofs.Classed.{IsToldBy, any-at, any-none}
 use Rattle.ynl_choice.proofs.Foremost.{any_passes, IsGathered, nothing, all-behind, decided-at}
 use Rattle.ynl_choice.proofs.Placed.{each_at}
 use Rattle.ynl_tables.proofs.Searching.{rise, each_from}
@@ -35,9 +35,13 @@ use Rattle.ynl_tables.proofs.Searching.{rise, each_from}
 no-higher : (a b : Turn) → is_turn_later a b ≡ false → a.number ≤ b.number
 no-higher a b h = grind (arith, nat_tests, h)
 
-module _ (scene : Scene) (row : LeafRow) (what : What) (waits : Class → Turn → App → Bool) (gather : List App → List Item) (rows : List Entry)
+module _ (scene : Scene) (row : LeafRow) (what : What) (waits : Class → Turn → App → Bool) (gather : List App → List Item)
     (told : IsToldBy scene row.path what waits gather) (gathered : IsGathered row.path gather) (placed : ArePlaced (state_in scene) row) (marked : AreMarkedIn (state_in scene) row)
-    (rising : are_in_turn row.apps.items ≡ true) (kept : (class : Class) (turn : Turn) → has rows class turn ≡ list_any (waits class turn) row.apps.items) where
+    (rising : are_in_turn row.apps.items ≡ true) where
+  -- what waits of the applications
+  abbrev waiting : Class → Turn → Bool
+  waiting class turn = list_any (waits class turn) row.apps.items
+
   abbrev of_app : ℕ → App → Bool
   of_app k d = any_passes scene (gather (get_or row.apps.items k d ∷ []))
 
@@ -45,23 +49,22 @@ module _ (scene : Scene) (row : LeafRow) (what : What) (waits : Class → Turn �
   mark-at k d inside = each_at (IsMarkedApp (state_in scene) row.path) row.apps.items k d inside marked
 
   -- an application of which something may be placed has a turn
-  turn-of : (k : ℕ) (d : App) → k < length row.apps.items → of_app k d ≡ true → (turn : Turn) × (has_turn (is_placeable scene row.path what) rows turn ≡ true) × ((get_or row.apps.items k d).number ≡ turn.number)
+  turn-of : (k : ℕ) (d : App) → k < length row.apps.items → of_app k d ≡ true → (turn : Turn) × IsTurnOf (is_placeable scene row.path what) waiting turn × ((get_or row.apps.items k d).number ≡ turn.number)
   turn-of k d inside h =
       let app = get_or row.apps.items k d in
       let at = told.told app (mark-at k d inside) h in
       let there = list_any_at (waits at.0 at.1) row.apps.items k d inside at.2 in
-      (at.1, found-turn (is_placeable scene row.path what) rows at.0 at.1 (kept at.0 at.1 ∙ there) at.3, told.number at.0 at.1 app at.2)
+      (at.1, (at.0, at.3, there), told.number at.0 at.1 app at.2)
 
   -- and a turn has an application, of which something may be placed
-  app-of : (turn : Turn) (d : App) → has_turn (is_placeable scene row.path what) rows turn ≡ true → (k : ℕ) × (k < length row.apps.items) × ((get_or row.apps.items k d).number ≡ turn.number) × (of_app k d ≡ true)
+  app-of : (turn : Turn) (d : App) → IsTurnOf (is_placeable scene row.path what) waiting turn → (k : ℕ) × (k < length row.apps.items) × ((get_or row.apps.items k d).number ≡ turn.number) × (of_app k d ≡ true)
   app-of turn d h =
-      let found = turn-found (is_placeable scene row.path what) rows turn h in
-      let at = any-at (waits found.0 turn) row.apps.items d (sym (kept found.0 turn) ∙ found.2) in
+      let at = any-at (waits h.0 turn) row.apps.items d h.2 in
       let app = get_or row.apps.items at.0 d in
-      (at.0, at.1, told.number found.0 turn app at.2, told.placed found.0 turn app (mark-at at.0 d at.1) at.2 found.1)
+      (at.0, at.1, told.number h.0 turn app at.2, told.placed h.0 turn app (mark-at at.0 d at.1) at.2 h.1)
 
   -- where there is no turn nothing may be placed
-  pub none-waits : (held : Option Item) → IsFirstTurn (is_placeable scene row.path what) rows None → considered scene held (gather row.apps.items) ≡ held
+  pub none-waits : (held : Option Item) → IsFirstTurn (is_placeable scene row.path what) waiting None → considered scene held (gather row.apps.items) ≡ held
   none-waits held none = nothing scene row.path gather gathered row.apps.items held (each_from _ row.apps.items (λ k d inside. go k d inside (of_app k d) refl))
     where
       go : (k : ℕ) (d : App) → k < length row.apps.items → (b : Bool) → of_app k d ≡ b → of_app k d ≡ false
@@ -69,32 +72,30 @@ module _ (scene : Scene) (row : LeafRow) (what : What) (waits : Class → Turn �
       go k d inside true e = let at = turn-of k d inside e in absurd (none at.0 at.1)
 
   -- the number of a turn is that of an application
-  pub is-numbered : (turn : Turn) → IsFirstTurn (is_placeable scene row.path what) rows (Some turn) → AllByRecursion (λ app. app.number ≢ turn.number) row.apps.items → ⊥
+  pub is-numbered : (turn : Turn) → IsFirstTurn (is_placeable scene row.path what) waiting (Some turn) → AllByRecursion (λ app. app.number ≢ turn.number) row.apps.items → ⊥
   is-numbered turn first absent =
-      let found = turn-found (is_placeable scene row.path what) rows turn first.0 in
-      any-none (waits found.0 turn) row.apps.items
-      (Each-weaker (λ app. app.number ≢ turn.number) _ (λ app other h. other (told.number found.0 turn app h)) row.apps.items absent) (sym (kept found.0 turn) ∙ found.2)
+      any-none (waits first.0.0 turn) row.apps.items
+      (Each-weaker (λ app. app.number ≢ turn.number) _ (λ app other h. other (told.number first.0.0 turn app h)) row.apps.items absent) first.0.2
 
   one-number : (i k : ℕ) (d : App) → i < length row.apps.items → k < length row.apps.items → (get_or row.apps.items k d).number ≡ (get_or row.apps.items i d).number → k ≡ i
   one-number i k d inside within same = grind (arith, λ (h : i < k). rise number_of row.apps.items rising i k d h within, λ (h : k < i). rise number_of row.apps.items rising k i d h inside, same)
 
   -- the application of a turn's number waits for that turn
-  pub waits-at : (turn : Turn) (i : ℕ) (d : App) → has_turn (is_placeable scene row.path what) rows turn ≡ true → IsPlaceAt number_of turn.number row.apps.items i
+  pub waits-at : (turn : Turn) (i : ℕ) (d : App) → IsTurnOf (is_placeable scene row.path what) waiting turn → IsPlaceAt number_of turn.number row.apps.items i
       → (class : Class) × (is_placeable scene row.path what class ≡ true) × (waits class turn (get_or row.apps.items i d) ≡ true)
   waits-at turn i d h place =
-      let found = turn-found (is_placeable scene row.path what) rows turn h in
-      let at = any-at (waits found.0 turn) row.apps.items d (sym (kept found.0 turn) ∙ found.2) in
-      let is = one-number i at.0 d place.within at.1 (told.number found.0 turn (get_or row.apps.items at.0 d) at.2 ∙ sym (place.same d)) in
-      (found.0, found.1, subst (λ k. waits found.0 turn (get_or row.apps.items k d) ≡ true) is at.2)
+      let at = any-at (waits h.0 turn) row.apps.items d h.2 in
+      let is = one-number i at.0 d place.within at.1 (told.number h.0 turn (get_or row.apps.items at.0 d) at.2 ∙ sym (place.same d)) in
+      (h.0, h.1, subst (λ k. waits h.0 turn (get_or row.apps.items k d) ≡ true) is at.2)
 
   -- and the first turn is not after another one of that application
-  pub none-before : (turn other : Turn) (class : Class) (i : ℕ) (d : App) → IsFirstTurn (is_placeable scene row.path what) rows (Some turn) → i < length row.apps.items → waits class other (get_or row.apps.items i d) ≡ true
+  pub none-before : (turn other : Turn) (class : Class) (i : ℕ) (d : App) → IsFirstTurn (is_placeable scene row.path what) waiting (Some turn) → i < length row.apps.items → waits class other (get_or row.apps.items i d) ≡ true
       → is_placeable scene row.path what class ≡ true → is_turn_later turn other ≡ false
   none-before turn other class i d first inside h may =
-      first.1 other (found-turn (is_placeable scene row.path what) rows class other (kept class other ∙ list_any_at (waits class other) row.apps.items i d inside h) may)
+      first.1 other (class, may, list_any_at (waits class other) row.apps.items i d inside h)
 
   -- the application of the first turn is the only one that has to be considered
-  pub first-decides : (turn : Turn) (i : ℕ) (d : App) (held : Option Item) → IsFirstTurn (is_placeable scene row.path what) rows (Some turn) → IsPlaceAt number_of turn.number row.apps.items i
+  pub first-decides : (turn : Turn) (i : ℕ) (d : App) (held : Option Item) → IsFirstTurn (is_placeable scene row.path what) waiting (Some turn) → IsPlaceAt number_of turn.number row.apps.items i
       → considered scene held (gather row.apps.items) ≡ considered scene held (gather (get_or row.apps.items i d ∷ []))
   first-decides turn i d held first place =
       decided-at scene row gather i d held gathered placed place.within (λ k less. before k less (of_app k d) refl) here
@@ -117,10 +118,10 @@ module _ (scene : Scene) (row : LeafRow) (what : What) (waits : Class → Turn �
           subst (λ k. of_app k d ≡ true) is at.3
 
   -- what is held then
-  pub none-held : (held : Option Candidate) → IsFirstTurn (is_placeable scene row.path what) rows None → HoldsBest scene held (gather row.apps.items) held
+  pub none-held : (held : Option Candidate) → IsFirstTurn (is_placeable scene row.path what) waiting None → HoldsBest scene held (gather row.apps.items) held
   none-held held none h = record { is = sym (none-waits (item_of held) none); keyed = h }
 
-  pub one-held : (turn : Turn) (i : ℕ) (app : App) (held new : Option Candidate) → IsFirstTurn (is_placeable scene row.path what) rows (Some turn) → IsPlaceAt number_of turn.number row.apps.items i
+  pub one-held : (turn : Turn) (i : ℕ) (app : App) (held new : Option Candidate) → IsFirstTurn (is_placeable scene row.path what) waiting (Some turn) → IsPlaceAt number_of turn.number row.apps.items i
       → app ≡ get_or row.apps.items i app → HoldsBest scene held (gather (app ∷ [])) new → HoldsBest scene held (gather row.apps.items) new
   one-held turn i app held new first place at best h =
       let b = best h in

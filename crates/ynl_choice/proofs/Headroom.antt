@@ -1,27 +1,30 @@
--- Where the queues on the way to a leaf cannot take the least that waits there, nothing of it may be placed.
-use Rattle.std.proofs.Common.{◌≡◌, Bool, true, false, ◌&&◌, ◌||◌, List, [], ◌∷◌, None, cond, refl, sym, ap, subst, ◌∙◌}
+-- Where there is no room for the least that waits in a leaf, or the queues on the way cannot take it, nothing of it
+-- may be placed.
+use Rattle.std.proofs.Common.{◌≡◌, Bool, true, false, ◌&&◌, None, cond, refl, sym, ap, subst, ◌∙◌}
 use Rattle.std.specs.Bool.{OnFalse}
-use Rattle.std.specs.BTreeSet.{contains}
 use Rattle.std.proofs.lemmas.Bool.{and_from, and_parts}
 use mathlib.Core.Bool.{true≢false}
 use Rattle.ynl_resource.specs.Amounts.{fits_in}
-use Rattle.ynl_resource.specs.Names.{same_label}
 use Rattle.ynl_resource.specs.declared.amounts.Resource.{Resource}
 use Rattle.ynl_resource.specs.declared.labels.Label.{Label}
 use Rattle.ynl_resource.specs.declared.paths.Path.{Path}
 use Rattle.ynl_model.specs.declared.proposals.What.{What}
 use Rattle.ynl_model.specs.Service.{Item, has_room, is_eligible, within_maximum, within_user_limit, within_master_share}
 use Rattle.ynl_laws.proofs.Amounts.{fits-trans}
-use Rattle.ynl_waiting.specs.Classes.{Entry, turn_order, are_above}
+use Rattle.ynl_waiting.specs.declared.classes.Class.{Class}
+use Rattle.ynl_waiting.specs.declared.classes.Turn.{Turn}
+use Rattle.ynl_waiting.specs.declared.parts.Part.{Part}
 use Rattle.ynl_choice.specs.declared.leaf_use.Headroom.{Headroom}
 use Rattle.ynl_choice.specs.declared.leaf_use.LeafUse.{LeafUse}
 use Rattle.ynl_choice.specs.declared.scenes.Scene.{Scene}
 use Rattle.ynl_choice.specs.Choosing.{state_in, passes, label_for, IsScene}
 use Rattle.ynl_choice.specs.LeafUses.{allows, IsLeafUse}
-use Rattle.ynl_choice.specs.Waits.{item_for, is_placeable, has_turn, IsFirstTurn}
+use Rattle.ynl_choice.specs.Waits.{item_for, is_placeable, IsFirstTurn, IsPartOf}
+use Rattle.ynl_choice.proofs.Considering.{no_room}
+use Rattle.ynl_choice.proofs.Waits.{none-above}
 
 -- what can take a size can take less
-allows-less : (headroom : Headroom) (least size : Resource) → fits_in least size ≡ true → allows headroom size ≡ true → allows headroom least ≡ true
+pub allows-less : (headroom : Headroom) (least size : Resource) → fits_in least size ≡ true → allows headroom size ≡ true → allows headroom least ≡ true
 allows-less headroom least size less may =
     let parts = and_parts headroom.is_open (fits_in size headroom.room) may in
     and_from headroom.is_open (fits_in least headroom.room) parts.0 (fits-trans least size headroom.room less parts.1)
@@ -47,21 +50,19 @@ taken scene item limits h none known may =
     ∙ ap (λ (label : Label). within_maximum (state_in scene) label item) (h.label ∙ ap (λ (guests : Bool). label_for guests scene.node) none)
     ∙ within scene item none may
 
-pub none-taken : (scene : Scene) (leaf : Path) (limits : LeafUse) (least : Resource) (entries : List Entry) → IsScene scene → scene.as_guests ≡ false → IsLeafUse scene.config.now (state_in scene) scene.label leaf limits
-    → are_above least entries ≡ true → allows limits.headroom least ≡ false → (what : What) → IsFirstTurn (is_placeable scene leaf what) entries None
-none-taken scene leaf limits least [] h none known above full what turn there = true≢false (sym there)
-none-taken scene leaf limits least (entry ∷ entries) h none known above full what turn there =
-    let parts = and_parts (fits_in least entry.0.size) (are_above least entries) above in
-    go (is_placeable scene leaf what entry.0) refl there parts.0 (none-taken scene leaf limits least entries h none known parts.1 full what turn)
+-- where there is no room for the least of a part nothing of it may be placed
+pub none-unless-fits : (scene : Scene) (leaf : Path) (what : What) (part : Part) (waits : Class → Turn → Bool) → IsScene scene → IsPartOf scene waits part → (may : Bool) → may ≡ fits_in part.least scene.free → OnFalse may (IsFirstTurn (is_placeable scene leaf what) waits None)
+none-unless-fits scene leaf what part waits h of true e = tt
+none-unless-fits scene leaf what part waits h of false e = none-above scene leaf what part waits of (λ class turn there may. go class may (part.none_below class.user class.size turn there) (has_room (state_in scene) scene.node class.size) refl)
   where
-    go : (b : Bool) → is_placeable scene leaf what entry.0 ≡ b → ((b && contains turn_order entry.1 turn) || has_turn (is_placeable scene leaf what) entries turn) ≡ true → fits_in least entry.0.size ≡ true → (has_turn (is_placeable scene leaf what) entries turn ≡ true → ⊥) → ⊥
-    go false e there less rest = rest there
-    go true e there less rest =
-        let item = item_for leaf what entry.0 in
-        let may = (and_parts (same_label entry.0.label scene.label) (passes scene item) e).1 in
-        true≢false (sym (allows-less limits.headroom least entry.0.size less (taken scene item limits h none known may)) ∙ full)
+    go : (class : Class) → passes scene (item_for leaf what class) ≡ true → fits_in part.least class.size ≡ true → (b : Bool) → has_room (state_in scene) scene.node class.size ≡ b → ⊥
+    go class may below false k = true≢false (sym may ∙ no_room scene (item_for leaf what class) k)
+    go class may below true k = true≢false (sym (fits-trans part.least class.size scene.free below (ap (fits_in class.size) h.free ∙ k)) ∙ sym e)
 
-pub none-unless-taken : (scene : Scene) (leaf : Path) (limits : LeafUse) (least : Resource) (entries : List Entry) → IsScene scene → scene.as_guests ≡ false → IsLeafUse scene.config.now (state_in scene) scene.label leaf limits
-    → are_above least entries ≡ true → (may : Bool) → may ≡ allows limits.headroom least → OnFalse may ((what : What) → IsFirstTurn (is_placeable scene leaf what) entries None)
-none-unless-taken scene leaf limits least entries h none known above true e = tt
-none-unless-taken scene leaf limits least entries h none known above false e = none-taken scene leaf limits least entries h none known above (sym e)
+-- nor where the queues on the way cannot take it
+pub none-unless-taken : (scene : Scene) (leaf : Path) (limits : LeafUse) (what : What) (part : Part) (waits : Class → Turn → Bool) → IsScene scene → scene.as_guests ≡ false → IsLeafUse scene.config.now (state_in scene) scene.label leaf limits
+    → IsPartOf scene waits part → (may : Bool) → may ≡ allows limits.headroom part.least → OnFalse may (IsFirstTurn (is_placeable scene leaf what) waits None)
+none-unless-taken scene leaf limits what part waits h none known of true e = tt
+none-unless-taken scene leaf limits what part waits h none known of false e =
+    none-above scene leaf what part waits of
+    (λ class turn there may. true≢false (sym (allows-less limits.headroom part.least class.size (part.none_below class.user class.size turn there) (taken scene (item_for leaf what class) limits h none known may)) ∙ sym e))

@@ -16,3 +16,4 @@ mod Users
 mod Before
 mod Passed
 mod Headroom
+mod Lessened

@@ -1,9 +1,9 @@
--- The first turn of classes, one class after another, and the application of its number.
-use Rattle.std.proofs.Common.{◌≡◌, Bool, true, false, cond, ◌&&◌, ◌||◌, ◌⊎◌, inl, inr, List, [], ◌∷◌, ◌++◌, Option, Some, None, refl, sym, ap, subst, ◌∙◌}
-use Rattle.std.specs.Bool.{OnFalse}
-use Rattle.std.specs.BTreeSet.{contains}
+-- The first turn of what waits, one size and one user after another.
+use Rattle.std.proofs.Common.{◌≡◌, Bool, true, false, cond, ◌&&◌, ◌||◌, ◌⊎◌, inl, inr, List, [], ◌∷◌, ◌++◌, Option, Some, None, refl, sym, ap, ◌∙◌}
+use Rattle.std.specs.BTreeSet.{BTreeSet, contains}
+use Rattle.std.specs.Borrow.{Bor}
+use Rattle.std.specs.Option.{option_map_or}
 use Rattle.std.specs.Cmp.{IsTotalOrder, nat_cmp_total, then_total, on_total}
-use Rattle.std.specs.List.{list_any}
 use Rattle.std.specs.Ordering.{is_gt, ordering_reverse}
 use Rattle.std.specs.declared.cmp.Ordering.{Ordering}
 use Rattle.std.specs.declared.cmp.Ordering.TheVariants.{Less, Equal, Greater}
@@ -11,23 +11,27 @@ use Rattle.std.proofs.lemmas.Bool.{and_from, and_parts}
 use Rattle.std.proofs.lemmas.Cmp.{upto}
 use Rattle.std.proofs.lemmas.List.Folds.{list_any-append}
 use mathlib.Core.Bool.{true≢false}
-use Rattle.ynl_resource.specs.Names.{same_label}
-use Rattle.ynl_resource.specs.declared.paths.Path.{Path}
-use Rattle.ynl_model.specs.declared.proposals.What.{What}
-use Rattle.ynl_resource.specs.Amounts.{fits_in}
+use Rattle.ynl_resource.specs.Names.{same_label, same_name}
 use Rattle.ynl_resource.specs.declared.amounts.Resource.{Resource}
-use Rattle.ynl_model.specs.Cluster.{State, free}
+use Rattle.ynl_resource.specs.declared.labels.Label.{Label}
+use Rattle.ynl_resource.specs.declared.names.Name.{Name}
+use Rattle.ynl_resource.specs.declared.paths.Path.{Path}
+use Rattle.ynl_laws.proofs.Names.{same-name_sym, same-name_self, same-label_path, same-label_self}
+use Rattle.ynl_model.specs.declared.proposals.What.{What}
+use Rattle.ynl_model.specs.Cluster.{State}
 use Rattle.ynl_model.specs.Queues.{Config}
 use Rattle.ynl_model.specs.Service.{Item, has_room, is_eligible, within_maximum, within_user_limit, within_master_share}
-use Rattle.ynl_laws.proofs.Amounts.{fits-trans}
-use Rattle.ynl_laws.specs.First.{IsFirst}
 use Rattle.ynl_waiting.specs.declared.classes.Class.{Class}
 use Rattle.ynl_waiting.specs.declared.classes.Turn.{Turn}
-use Rattle.ynl_waiting.specs.Classes.{Entry, turn_order, is_turn_later, are_above}
+use Rattle.ynl_waiting.specs.declared.groups.Group.{Group}
+use Rattle.ynl_waiting.specs.declared.parts.Part.{Part}
+use Rattle.ynl_waiting.specs.Classes.{turn_order, same_size, is_turn_later, has_size}
+use Rattle.ynl_waiting.specs.Users.{has_user}
+use Rattle.ynl_waiting.specs.Waiting.{has, has_part}
+use Rattle.ynl_waiting.proofs.Having.{size-is, number-self}
 use Rattle.ynl_choice.specs.declared.scenes.Scene.{Scene}
 use Rattle.ynl_choice.specs.Choosing.{state_in, label_for, passes}
-use Rattle.ynl_choice.specs.Waits.{item_for, is_open, fits_leaf, fits_user, is_placeable, is_before, has_turn, IsFirstTurn}
-use Rattle.ynl_choice.proofs.Considering.{no_room}
+use Rattle.ynl_choice.specs.Waits.{item_for, item_of_size, fits_leaf, fits_user, is_placeable, is_before, IsFirstTurn, IsPartOf, IsPartFor, is_of_size, is_of_sizes, is_of_users}
 
 turn_order_total : IsTotalOrder turn_order
 turn_order_total = then_total (on_total (λ (s : Turn). s.number) nat_cmp_total) (on_total (λ (s : Turn). s.priority) nat_cmp_total)
@@ -43,34 +47,12 @@ turned x y h = ap is_gt (turn_order_total.antisymm y x) ∙ go (turn_order x y) 
     go Equal h = refl
     go Greater h = refl
 
--- ---- one class more
-
--- of a class that is for another partition or has no room nothing may be placed
-pub closed : (scene : Scene) (leaf : Path) (what : What) (class : Class) → (same_label class.label scene.label && has_room (state_in scene) scene.node class.size) ≡ false → is_placeable scene leaf what class ≡ false
-closed scene leaf what class h = go (same_label class.label scene.label) h
-  where
-    go : (b : Bool) → (b && has_room (state_in scene) scene.node class.size) ≡ false → (b && passes scene (item_for leaf what class)) ≡ false
-    go true h = no_room scene (item_for leaf what class) h
-    go false h = refl
-
--- and of one that is not allowed
-pub barred : (scene : Scene) (leaf : Path) (what : What) (class : Class) → passes scene (item_for leaf what class) ≡ false → is_placeable scene leaf what class ≡ false
-barred scene leaf what class h = ap (λ b. same_label class.label scene.label && b) h ∙ none (same_label class.label scene.label)
-  where
-    none : (a : Bool) → (a && false) ≡ false
-    none true = refl
-    none false = refl
-
--- of one that is for the partition and is allowed something may be placed
-pub opened : (scene : Scene) (leaf : Path) (what : What) (class : Class) → (same_label class.label scene.label && has_room (state_in scene) scene.node class.size) ≡ true → passes scene (item_for leaf what class) ≡ true
-    → is_placeable scene leaf what class ≡ true
-opened scene leaf what class h k = and_from (same_label class.label scene.label) (passes scene (item_for leaf what class)) (and_parts (same_label class.label scene.label) (has_room (state_in scene) scene.node class.size) h).0 k
+-- ---- one request
 
 -- what has room may be placed where the limits of the leaf and of its user allow it
-passes-by : (scene : Scene) (leaf : Path) (what : What) (class : Class) → scene.label ≡ label_for scene.as_guests scene.node → has_room (state_in scene) scene.node class.size ≡ true
-    → passes scene (item_for leaf what class) ≡ (fits_leaf scene leaf what class && fits_user scene leaf what class)
+pub passes-by : (scene : Scene) (item : Item) → scene.label ≡ label_for scene.as_guests scene.node → has_room (state_in scene) scene.node item.size ≡ true → passes scene item ≡ (fits_leaf scene item && fits_user scene item)
 unfolding is_eligible
-passes-by scene leaf what class label room = go scene.as_guests label
+passes-by scene item label room = go scene.as_guests label
   where
     s : State
     s = state_in scene
@@ -78,8 +60,11 @@ passes-by scene leaf what class label room = go scene.as_guests label
     c : Config
     c = scene.config.now
 
-    item : Item
-    item = item_for leaf what class
+    leaf : Path
+    leaf = item.leaf
+
+    what : What
+    what = item.what
 
     turned : (m u t : Bool) → (m && u && t) ≡ ((m && t) && u)
     turned true true true = refl
@@ -89,115 +74,207 @@ passes-by scene leaf what class label room = go scene.as_guests label
     turned false u t = refl
 
     go : (guests : Bool) → scene.label ≡ label_for guests scene.node
-        → cond guests (has_room s scene.node class.size) (is_eligible c s scene.node item) ≡ ((guests || (within_maximum s scene.label item && within_master_share c s scene.label leaf what class.size)) && (guests || within_user_limit c s scene.label item))
+        → cond guests (has_room s scene.node item.size) (is_eligible c s scene.node item) ≡ ((guests || (within_maximum s scene.label item && within_master_share c s scene.label leaf what item.size)) && (guests || within_user_limit c s scene.label item))
     go true e = room
     go false e =
-        ap (λ b. b && within_maximum s scene.node.label item && within_user_limit c s scene.node.label item && within_master_share c s scene.node.label leaf what class.size) room
-        ∙ turned (within_maximum s scene.node.label item) (within_user_limit c s scene.node.label item) (within_master_share c s scene.node.label leaf what class.size)
-        ∙ ap (λ p. (within_maximum s p item && within_master_share c s p leaf what class.size) && within_user_limit c s p item) (sym e)
+        ap (λ b. b && within_maximum s scene.node.label item && within_user_limit c s scene.node.label item && within_master_share c s scene.node.label leaf what item.size) room
+        ∙ turned (within_maximum s scene.node.label item) (within_user_limit c s scene.node.label item) (within_master_share c s scene.node.label leaf what item.size)
+        ∙ ap (λ p. (within_maximum s p item && within_master_share c s p leaf what item.size) && within_user_limit c s p item) (sym e)
 
-module _ (scene : Scene) (leaf : Path) (what : What) (class : Class) (label : scene.label ≡ label_for scene.as_guests scene.node) (is : is_open scene class ≡ true) where
-  by : passes scene (item_for leaf what class) ≡ (fits_leaf scene leaf what class && fits_user scene leaf what class)
-  by = passes-by scene leaf what class label (and_parts (same_label class.label scene.label) (has_room (state_in scene) scene.node class.size) is).1
+-- ---- what else waits
 
-  -- a class that its leaf has no more for may not be placed
-  pub barred-leaf : fits_leaf scene leaf what class ≡ false → is_placeable scene leaf what class ≡ false
-  barred-leaf h = barred scene leaf what class (by ∙ ap (λ b. b && fits_user scene leaf what class) h)
+either : (a b : Bool) → (a || b) ≡ true → (a ≡ true) ⊎ (b ≡ true)
+either true b h = inl refl
+either false b h = inr h
 
-  -- nor one that its user has no more for
-  pub barred-user : fits_user scene leaf what class ≡ false → is_placeable scene leaf what class ≡ false
-  barred-user h = barred scene leaf what class (by ∙ ap (λ b. fits_leaf scene leaf what class && b) h ∙ none (fits_leaf scene leaf what class))
+left : (a b : Bool) → a ≡ true → (a || b) ≡ true
+left true b h = refl
+left false b h = absurd (true≢false (sym h))
+
+right : (a b : Bool) → b ≡ true → (a || b) ≡ true
+right true b h = refl
+right false b h = h
+
+-- a turn is not before the one that is held
+abbrev IsBehind : Option Turn → Turn → Type 0
+IsBehind None turn = ⊥
+IsBehind (Some best) turn = is_turn_later best turn ≡ false
+
+module _ (test : Class → Bool) where
+  -- what waits alike of the classes that pass has the same first turn
+  pub alike : (waits others : Class → Turn → Bool) (first : Option Turn) → ((class : Class) (turn : Turn) → test class ≡ true → waits class turn ≡ others class turn) → IsFirstTurn test waits first → IsFirstTurn test others first
+  alike waits others None same first = λ turn there. first turn (there.0, there.1, same there.0 turn there.1 ∙ there.2)
+  alike waits others (Some best) same first = (
+    (first.0.0, first.0.1, sym (same first.0.0 best first.0.1) ∙ first.0.2),
+    λ turn there. first.1 turn (there.0, there.1, same there.0 turn there.1 ∙ there.2),
+  )
+
+  module _ (waits own : Class → Turn → Bool) where
+    -- what is held stays where nothing else that passes is before it
+    pub stays : (held : Option Turn) → ((class : Class) (turn : Turn) → own class turn ≡ true → test class ≡ true → IsBehind held turn) → IsFirstTurn test waits held → IsFirstTurn test (λ class turn. waits class turn || own class turn) held
+    stays None late first = λ turn there. go turn there.0 there.1 (either (waits there.0 turn) (own there.0 turn) there.2)
+      where
+        go : (turn : Turn) (class : Class) → test class ≡ true → (waits class turn ≡ true) ⊎ (own class turn ≡ true) → ⊥
+        go turn class may (inl h) = first turn (class, may, h)
+        go turn class may (inr h) = late class turn h may
+    stays (Some best) late first = ((first.0.0, first.0.1, left (waits first.0.0 best) (own first.0.0 best) first.0.2), λ turn there. go turn there.0 there.1 (either (waits there.0 turn) (own there.0 turn) there.2))
+      where
+        go : (turn : Turn) (class : Class) → test class ≡ true → (waits class turn ≡ true) ⊎ (own class turn ≡ true) → is_turn_later best turn ≡ false
+        go turn class may (inl h) = first.1 turn (class, may, h)
+        go turn class may (inr h) = late class turn h may
+
+    -- and goes where the first of it is
+    pub taken : (held : Option Turn) (class : Class) (turn : Turn) → test class ≡ true → own class turn ≡ true → ((c : Class) (t : Turn) → own c t ≡ true → is_turn_later turn t ≡ false) → is_before held turn ≡ true
+        → IsFirstTurn test waits held → IsFirstTurn test (λ class turn. waits class turn || own class turn) (Some turn)
+    taken held class turn may mine top soon first = ((class, may, right (waits class turn) (own class turn) mine), λ next there. go held soon first next there.0 there.1 (either (waits there.0 next) (own there.0 next) there.2))
+      where
+        go : (held : Option Turn) → is_before held turn ≡ true → IsFirstTurn test waits held → (next : Turn) (c : Class) → test c ≡ true → (waits c next ≡ true) ⊎ (own c next ≡ true) → is_turn_later turn next ≡ false
+        go held soon first next c ok (inr h) = top c next h
+        go None soon first next c ok (inl h) = absurd (first next (c, ok, h))
+        go (Some best) soon first next c ok (inl h) = chained turn best next (turned best turn soon) (first.1 next (c, ok, h))
+
+-- ---- the turns of a size
+
+module _ (scene : Scene) (user : Name) (size : Resource) (turns : BTreeSet Turn) where
+  abbrev own : Class → Turn → Bool
+  own = is_of_size scene user size turns
+
+  parts : (class : Class) (turn : Turn) → own class turn ≡ true → (same_label class.label scene.label ≡ true) × (class.user ≡ user) × (class.size ≡ size) × (contains turn_order turns turn ≡ true)
+  parts class turn h =
+      let first = and_parts (same_label class.label scene.label) (same_name class.user user && (same_size class.size size && contains turn_order turns turn)) h in
+      let second = and_parts (same_name class.user user) (same_size class.size size && contains turn_order turns turn) first.1 in
+      let third = and_parts (same_size class.size size) (contains turn_order turns turn) second.1 in
+      (first.0, same-name_sym class.user user second.0, size-is class.size size third.0, third.1)
+
+  -- the class that they are of
+  abbrev class_of : Class
+  class_of = record { label = scene.label; user = user; size = size }
+
+  own-class : (turn : Turn) → contains turn_order turns turn ≡ true → own class_of turn ≡ true
+  own-class turn h =
+      and_from (same_label scene.label scene.label) (same_name user user && (same_size size size && contains turn_order turns turn)) (same-label_self scene.label)
+      (and_from (same_name user user) (same_size size size && contains turn_order turns turn) (same-name_self user) (and_from (same_size size size) (contains turn_order turns turn) (and_from _ _ (number-self size.memory) (number-self size.vcores)) h))
+
+  module _ (leaf : Path) (what : What) (waits : Class → Turn → Bool) (held : Option Turn) (first : IsFirstTurn (is_placeable scene leaf what) waits held) where
+    abbrev With : Option Turn → Type 0
+    With next = IsFirstTurn (is_placeable scene leaf what) (λ class turn. waits class turn || own class turn) next
+
+    -- nothing is there
+    pub none-there : ((turn : Turn) → contains turn_order turns turn ≡ true → ⊥) → With held
+    none-there none = stays (is_placeable scene leaf what) waits own held (λ class turn h may. absurd (none turn (parts class turn h).3)) first
+
+    -- the first of them is not before the one that is held
+    pub all-behind : (turn : Turn) → ((t : Turn) → contains turn_order turns t ≡ true → is_turn_later turn t ≡ false) → is_before held turn ≡ false → With held
+    all-behind turn top late = stays (is_placeable scene leaf what) waits own held (λ class t h may. behind held late t (top t (parts class t h).3)) first
+      where
+        behind : (held : Option Turn) → is_before held turn ≡ false → (t : Turn) → is_turn_later turn t ≡ false → IsBehind held t
+        behind None late t h = true≢false late
+        behind (Some best) late t h = chained best turn t late h
+
+    -- they may not be placed
+    pub size-barred : passes scene (item_of_size leaf what user size) ≡ false → With held
+    size-barred bars = stays (is_placeable scene leaf what) waits own held bad first
+      where
+        bad : (class : Class) (turn : Turn) → own class turn ≡ true → is_placeable scene leaf what class ≡ true → IsBehind held turn
+        bad class turn h may =
+            let at = parts class turn h in
+            let passed = (and_parts (same_label class.label scene.label) (passes scene (item_for leaf what class)) may).1 in
+            absurd (true≢false (sym passed ∙ (λ i. passes scene (item_of_size leaf what (at.1 i) (at.2 i))) ∙ bars))
+
+    -- or the first of them is held
+    pub size-taken : (turn : Turn) → contains turn_order turns turn ≡ true → ((t : Turn) → contains turn_order turns t ≡ true → is_turn_later turn t ≡ false) → is_before held turn ≡ true → passes scene (item_of_size leaf what user size) ≡ true → With (Some turn)
+    size-taken turn there top soon may =
+        taken (is_placeable scene leaf what) waits own held class_of turn (and_from (same_label scene.label scene.label) (passes scene (item_of_size leaf what user size)) (same-label_self scene.label) may) (own-class turn there) (λ class t h. top t (parts class t h).3) soon first
+
+-- ---- one size, and one user more
+
+dist : (l n x y : Bool) → (l && (n && (x || (y || false)))) ≡ ((l && (n && x)) || (l && (n && y)))
+dist true true true y = refl
+dist true true false true = refl
+dist true true false false = refl
+dist true false x y = refl
+dist false n x y = refl
+
+or-assoc : (a b c d : Bool) → d ≡ (b || c) → ((a || b) || c) ≡ (a || d)
+or-assoc true b c d h = refl
+or-assoc false b c d h = sym h
+
+none-of : (l n : Bool) → (l && (n && false)) ≡ false
+none-of true true = refl
+none-of true false = refl
+none-of false n = refl
+
+or-none : (a b : Bool) → b ≡ false → a ≡ (a || b)
+or-none true b h = refl
+or-none false b h = sym h
+
+module _ (scene : Scene) (leaf : Path) (what : What) where
+  -- no size yet
+  pub no-sizes : (user : Name) (waits : Class → Turn → Bool) (held : Option Turn) → IsFirstTurn (is_placeable scene leaf what) waits held → IsFirstTurn (is_placeable scene leaf what) (λ class turn. waits class turn || is_of_sizes scene user [] class turn) held
+  no-sizes user waits held first =
+      alike (is_placeable scene leaf what) waits (λ class turn. waits class turn || is_of_sizes scene user [] class turn) held
+      (λ class turn may. or-none (waits class turn) (is_of_sizes scene user [] class turn) (none-of (same_label class.label scene.label) (same_name class.user user))) first
+
+  -- one size more
+  pub size-more : (user : Name) (front : List (Resource × BTreeSet Turn)) (size : Resource) (turns : BTreeSet Turn) (waits : Class → Turn → Bool) (held : Option Turn)
+      → IsFirstTurn (is_placeable scene leaf what) (λ class turn. (waits class turn || is_of_sizes scene user front class turn) || is_of_size scene user size turns class turn) held
+      → IsFirstTurn (is_placeable scene leaf what) (λ class turn. waits class turn || is_of_sizes scene user (front ++ (size, turns) ∷ []) class turn) held
+  size-more user front size turns waits held first =
+      alike (is_placeable scene leaf what) (λ class turn. (waits class turn || is_of_sizes scene user front class turn) || is_of_size scene user size turns class turn)
+      (λ class turn. waits class turn || is_of_sizes scene user (front ++ (size, turns) ∷ []) class turn) held
+      (λ class turn may. or-assoc (waits class turn) (is_of_sizes scene user front class turn) (is_of_size scene user size turns class turn) (is_of_sizes scene user (front ++ (size, turns) ∷ []) class turn)
+      (ap (λ b. same_label class.label scene.label && (same_name class.user user && b)) (list_any-append (λ (e : Resource × BTreeSet Turn). same_size class.size e.0 && contains turn_order e.1 turn) front ((size, turns) ∷ []))
+      ∙ dist (same_label class.label scene.label) (same_name class.user user) (has_size front class.size turn) (same_size class.size size && contains turn_order turns turn))) first
+
+  -- one user more
+  pub user-more : (front : List (Name × Group)) (user : Name) (group : Group) (held : Option Turn)
+      → IsFirstTurn (is_placeable scene leaf what) (λ class turn. is_of_users scene front class turn || is_of_sizes scene user group.sizes.entries class turn) held
+      → IsFirstTurn (is_placeable scene leaf what) (is_of_users scene (front ++ (user, group) ∷ [])) held
+  user-more front user group held first =
+      alike (is_placeable scene leaf what) (λ class turn. is_of_users scene front class turn || is_of_sizes scene user group.sizes.entries class turn) (is_of_users scene (front ++ (user, group) ∷ [])) held
+      (λ class turn may. sym (ap (λ b. same_label class.label scene.label && b) (list_any-append (λ (e : Name × Group). same_name class.user e.0 && has_size e.1.sizes.entries class.size turn) front ((user, group) ∷ []))
+      ∙ dist (same_label class.label scene.label) true (has_user front class.user class.size turn) (same_name class.user user && has_size group.sizes.entries class.size turn))) first
+
+  -- nothing of a user whose least may not be placed
+  pub user-barred : (user : Name) (group : Group) (waits : Class → Turn → Bool) (held : Option Turn)
+      → ((size : Resource) (turn : Turn) → has_size group.sizes.entries size turn ≡ true → passes scene (item_of_size leaf what user size) ≡ true → ⊥)
+      → IsFirstTurn (is_placeable scene leaf what) waits held → IsFirstTurn (is_placeable scene leaf what) (λ class turn. waits class turn || is_of_sizes scene user group.sizes.entries class turn) held
+  user-barred user group waits held bars first = stays (is_placeable scene leaf what) waits (is_of_sizes scene user group.sizes.entries) held bad first
     where
-      none : (a : Bool) → (a && false) ≡ false
-      none true = refl
-      none false = refl
+      bad : (class : Class) (turn : Turn) → is_of_sizes scene user group.sizes.entries class turn ≡ true → is_placeable scene leaf what class ≡ true → IsBehind held turn
+      bad class turn h may =
+          let own = and_parts (same_name class.user user) (has_size group.sizes.entries class.size turn) (and_parts (same_label class.label scene.label) (same_name class.user user && has_size group.sizes.entries class.size turn) h).1 in
+          let passed = (and_parts (same_label class.label scene.label) (passes scene (item_for leaf what class)) may).1 in
+          absurd (bars class.size turn own.1 (sym (λ i. passes scene (item_of_size leaf what (same-name_sym class.user user own.0 i) class.size)) ∙ passed))
 
-  -- and else it may
-  pub may-be_placed : fits_leaf scene leaf what class ≡ true → fits_user scene leaf what class ≡ true → is_placeable scene leaf what class ≡ true
-  may-be_placed h k = opened scene leaf what class is (by ∙ and_from (fits_leaf scene leaf what class) (fits_user scene leaf what class) h k)
+  -- ---- the part of a partition
 
--- what waits so far, and the turns of a class where it may be placed
+  -- where no class above its least may be placed nothing may
+  pub none-above : (part : Part) (waits : Class → Turn → Bool) → IsPartOf scene waits part → ((class : Class) (turn : Turn) → has_user part.users.entries class.user class.size turn ≡ true → passes scene (item_for leaf what class) ≡ true → ⊥)
+      → IsFirstTurn (is_placeable scene leaf what) waits None
+  none-above part waits of bars turn there =
+      let may = and_parts (same_label there.0.label scene.label) (passes scene (item_for leaf what there.0)) there.1 in
+      bars there.0 turn (sym (of there.0 turn may.0) ∙ there.2) may.1
 
-abbrev Waits : (Turn → Bool) → Option Turn → Type 0
-Waits waits first = IsFirst is_turn_later (λ turn. waits turn ≡ true) first
+  -- what waits there is all that may be placed
+  pub whole-part : (part : Part) (waits : Class → Turn → Bool) (first : Option Turn) → IsPartOf scene waits part → IsFirstTurn (is_placeable scene leaf what) (is_of_users scene part.users.entries) first → IsFirstTurn (is_placeable scene leaf what) waits first
+  whole-part part waits first of there =
+      alike (is_placeable scene leaf what) (is_of_users scene part.users.entries) waits first
+      (λ class turn may. let label = (and_parts (same_label class.label scene.label) (passes scene (item_for leaf what class)) may).0 in ap (λ b. b && has_user part.users.entries class.user class.size turn) label ∙ sym (of class turn label)) there
 
-abbrev More : (Turn → Bool) → Bool → (Turn → Bool) → Option Turn → Type 0
-More waits may own first = Waits (λ turn. waits turn || (may && own turn)) first
+  -- where there is none nothing waits
+  pub no-part : (waits : Class → Turn → Bool) → ((class : Class) (turn : Turn) → same_label class.label scene.label ≡ true → waits class turn ≡ false) → IsFirstTurn (is_placeable scene leaf what) waits None
+  no-part waits none turn there =
+      let label = (and_parts (same_label there.0.label scene.label) (passes scene (item_for leaf what there.0)) there.1).0 in
+      true≢false (sym there.2 ∙ none there.0 turn label)
 
-left : (a b c : Bool) → a ≡ true → (a || (b && c)) ≡ true
-left true b c h = refl
-left false b c h = absurd (true≢false (sym h))
+-- what waits for the partition, by what waits for all
+module _ (scene : Scene) (parts : List (Label × Part)) (waits : Class → Turn → Bool) (kept : (class : Class) (turn : Turn) → has parts class turn ≡ waits class turn) where
+  part-by : (here : Name → Resource → Turn → Bool) → ((user : Name) (size : Resource) (turn : Turn) → has_part parts scene.label user size turn ≡ here user size turn)
+      → (class : Class) (turn : Turn) → same_label class.label scene.label ≡ true → waits class turn ≡ here class.user class.size turn
+  part-by here found class turn label =
+      sym (kept class turn) ∙ ap (λ (l : Label). has_part parts l class.user class.size turn) (same-label_path class.label scene.label label) ∙ found class.user class.size turn
 
-right : (a b c : Bool) → b ≡ true → c ≡ true → (a || (b && c)) ≡ true
-right true b c h k = refl
-right false b c h k = and_from b c h k
-
-parted : (a b c : Bool) → (a || (b && c)) ≡ true → (a ≡ true) ⊎ ((b ≡ true) × (c ≡ true))
-parted true b c h = inl refl
-parted false b c h = inr (and_parts b c h)
-
--- what is held stays where nothing of the class may be placed before it
-stays : (waits own : Turn → Bool) (may : Bool) (held : Option Turn) → ((turn : Turn) → may ≡ true → own turn ≡ true → (best : Turn) → held ≡ Some best → is_turn_later best turn ≡ false)
-    → ((turn : Turn) → may ≡ true → own turn ≡ true → held ≡ None → ⊥) → Waits waits held → More waits may own held
-stays waits own may None behind none first = λ turn h. go turn (parted (waits turn) may (own turn) h)
-  where
-    go : (turn : Turn) → (waits turn ≡ true) ⊎ ((may ≡ true) × (own turn ≡ true)) → ⊥
-    go turn (inl h) = first turn h
-    go turn (inr h) = none turn h.0 h.1 refl
-stays waits own may (Some best) behind none first = (left (waits best) may (own best) first.0, λ turn h. go turn (parted (waits turn) may (own turn) h))
-  where
-    go : (turn : Turn) → (waits turn ≡ true) ⊎ ((may ≡ true) × (own turn ≡ true)) → is_turn_later best turn ≡ false
-    go turn (inl h) = first.1 turn h
-    go turn (inr h) = behind turn h.0 h.1 best refl
-
-pub stays-closed : (waits own : Turn → Bool) (may : Bool) (held : Option Turn) → may ≡ false → Waits waits held → More waits may own held
-stays-closed waits own may held off first = stays waits own may held (λ turn h k best e. absurd (true≢false (sym h ∙ off))) (λ turn h k e. true≢false (sym h ∙ off)) first
-
-pub taken : (waits own : Turn → Bool) (may : Bool) (held : Option Turn) (turn : Turn) → may ≡ true → Waits own (Some turn) → is_before held turn ≡ true → Waits waits held → More waits may own (Some turn)
-taken waits own may held turn on top soon first = (right (waits turn) may (own turn) on top.0, λ next h. go held soon first next (parted (waits next) may (own next) h))
-  where
-    go : (held : Option Turn) → is_before held turn ≡ true → Waits waits held → (next : Turn) → (waits next ≡ true) ⊎ ((may ≡ true) × (own next ≡ true)) → is_turn_later turn next ≡ false
-    go held soon first next (inr h) = top.1 next h.1
-    go None soon first next (inl h) = absurd (first next h)
-    go (Some best) soon first next (inl h) = chained turn best next (turned best turn soon) (first.1 next h)
-
--- so with one class more
-pub entry-more : (test : Class → Bool) (front : List Entry) (entry : Entry) (first : Option Turn) → More (has_turn test front) (test entry.0) (contains turn_order entry.1) first → IsFirstTurn test (front ++ entry ∷ []) first
-entry-more test front entry first more = subst (λ (waits : Turn → Bool). Waits waits first) (λ j turn. sym (same turn) j) more
-  where
-    last : (b : Bool) → (b || false) ≡ b
-    last true = refl
-    last false = refl
-
-    same : (turn : Turn) → has_turn test (front ++ entry ∷ []) turn ≡ (has_turn test front turn || (test entry.0 && contains turn_order entry.1 turn))
-    same turn =
-        list_any-append (λ (e : Entry). test e.0 && contains turn_order e.1 turn) front (entry ∷ [])
-        ∙ ap (λ b. has_turn test front turn || b) (last (test entry.0 && contains turn_order entry.1 turn))
-
--- where no class is open nothing may be placed
-pub none-open : (scene : Scene) (leaf : Path) (what : What) (entries : List Entry) → list_any (λ entry. is_open scene entry.0) entries ≡ false → IsFirstTurn (is_placeable scene leaf what) entries None
-none-open scene leaf what [] h turn there = true≢false (sym there)
-none-open scene leaf what (entry ∷ entries) h turn there = go (is_open scene entry.0) refl h (is_placeable scene leaf what entry.0) refl there (λ k. none-open scene leaf what entries k turn)
-  where
-    go : (a : Bool) → is_open scene entry.0 ≡ a → (a || list_any (λ entry. is_open scene entry.0) entries) ≡ false → (b : Bool) → is_placeable scene leaf what entry.0 ≡ b
-        → ((b && contains turn_order entry.1 turn) || has_turn (is_placeable scene leaf what) entries turn) ≡ true → (list_any (λ entry. is_open scene entry.0) entries ≡ false → has_turn (is_placeable scene leaf what) entries turn ≡ true → ⊥) → ⊥
-    go true e h b f there rest = true≢false h
-    go false e h true f there rest = true≢false (sym f ∙ closed scene leaf what entry.0 e)
-    go false e h false f there rest = rest h there
-
--- and no class is open where there is no room for less than all of them take
-none-fits : (scene : Scene) (least : Resource) (entries : List Entry) → scene.free ≡ free (state_in scene) scene.node → are_above least entries ≡ true → fits_in least scene.free ≡ false → list_any (λ entry. is_open scene entry.0) entries ≡ false
-none-fits scene least [] is above full = refl
-none-fits scene least (entry ∷ entries) is above full =
-    let parts = and_parts (fits_in least entry.0.size) (are_above least entries) above in
-    go (is_open scene entry.0) refl parts.0 (none-fits scene least entries is parts.1 full)
-  where
-    go : (b : Bool) → is_open scene entry.0 ≡ b → fits_in least entry.0.size ≡ true → list_any (λ entry. is_open scene entry.0) entries ≡ false → (b || list_any (λ entry. is_open scene entry.0) entries) ≡ false
-    go false e h rest = rest
-    go true e h rest =
-        let room = (and_parts (same_label entry.0.label scene.label) (has_room (state_in scene) scene.node entry.0.size) e).1 in
-        absurd (true≢false (sym (fits-trans least entry.0.size scene.free h (ap (fits_in entry.0.size) is ∙ room)) ∙ full))
-
-pub none-unless : (scene : Scene) (least : Resource) (entries : List Entry) → scene.free ≡ free (state_in scene) scene.node → are_above least entries ≡ true → (fits : Bool) → fits ≡ fits_in least scene.free → OnFalse fits (list_any (λ entry. is_open scene entry.0) entries ≡ false)
-none-unless scene least entries is above true e = tt
-none-unless scene least entries is above false e = none-fits scene least entries is above (sym e)
+  pub part-found : (part : Option (Bor Part)) → ((user : Name) (size : Resource) (turn : Turn) → has_part parts scene.label user size turn ≡ option_map_or (λ (p : Bor Part). has_user p.now.users.entries user size turn) part false) → IsPartFor scene waits part
+  part-found None found = part-by (λ user size turn. false) found
+  part-found (Some part) found = part-by (has_user part.now.users.entries) found

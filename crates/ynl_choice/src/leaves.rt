@@ -1,15 +1,13 @@
-//! The first request of a leaf. Where what waits there is kept, it is found by classes and turns, and else
-//! the applications are gone through.
+//! The first request of a leaf. Where what waits there is kept, it is found by partition, user, size and turn,
+//! and else the applications are gone through.
 
 ghost use Rattle.std.specs.Prelude.{◌≡◌, true, Option, None, IfSome};
 ghost use Rattle.std.specs.Bool.{OnTrue, OnFalse};
 ghost use Rattle.ynl_tables.specs.Marked.{AreMarkedIn};
 ghost use Rattle.ynl_tables.specs.Queued.{masters_waiting, asks_waiting};
-ghost use Rattle.ynl_waiting.specs.Classes.{has};
-ghost use Rattle.ynl_waiting.specs.declared.classes.Class.{Class};
-ghost use Rattle.ynl_waiting.specs.declared.classes.Turn.{Turn};
 ghost use Rattle.ynl_choice.specs.Choosing.{state_in, standings_to, ArePlaced, IsScene, AreLimits, IsPassed, HoldsBest, masters_of as masters_in, asks_in, wanted_in};
 ghost use Rattle.ynl_choice.specs.Candidates.{is_ahead};
+ghost use Rattle.ynl_choice.specs.Waits.{IsPartOf};
 ghost use Rattle.ynl_choice.specs.declared.scenes.Scene.{Scene};
 ghost use Rattle.ynl_choice.specs.declared.standings.Candidate.{Candidate};
 
@@ -18,12 +16,12 @@ use crate::leaf_use::LeafUse;
 use crate::ranking::first_behind;
 use crate::scenes::Scene;
 use crate::standings::Candidate;
-use crate::turns::{first_turn, is_any_open, may_be_taken, may_fit};
+use crate::turns::{first_turn, may_be_taken, may_fit, part_for};
 use ynl_model::What;
 use ynl_queues::is_within;
 use ynl_resource::Name;
 use ynl_tables::{LeafRow, place_of};
-use ynl_waiting::Classes;
+use ynl_waiting::Part;
 
 /// Whether a leaf is within a queue that is passed over.
 fn is_below(passed: &Option<&[Name]>, row: &LeafRow) -> bool
@@ -92,23 +90,23 @@ fn add_each_master(scene: &Scene<'_>, row: &LeafRow, held: &mut Option<Candidate
     }
 }
 
-/// The first of the masters that wait in a leaf, by their classes.
+/// The first of the masters that wait in a leaf for the partition, by their classes.
 fn add_first_master(
     scene: &Scene<'_>,
     limits: &mut Option<LeafUse>,
     row: &LeafRow,
-    classes: &Classes,
+    part: &Part,
     held: &mut Option<Candidate>,
 )
     requires scene { IsScene scene.now }
     requires limits { AreLimits scene.now row.now.path limits.old }
     requires placed { ArePlaced (state_in scene.now) row.now }
     requires marked { AreMarkedIn (state_in scene.now) row.now }
-    requires classes { (class : Class) (turn : Turn) → has classes.now.entries class turn ≡ masters_waiting row.now.apps.items class turn }
+    requires part { IsPartOf scene.now (masters_waiting row.now.apps.items) part.now }
     ensures best { HoldsBest scene.now held.old (masters_in scene.now row.now.path row.now.apps.items) held.new }
     ensures limits { AreLimits scene.now row.now.path limits.new }
 {
-    let Some(turn) = first_turn(scene, limits, row, &What::Master, classes) else {
+    let Some(turn) = first_turn(scene, limits, row, &What::Master, part) else {
         return;
     };
     if let Some(place) = place_of(row, turn.number) {
@@ -145,19 +143,19 @@ fn add_masters<'a>(
         add_each_master(scene, row, held);
         return;
     };
-    if !may_fit(scene, waiting) {
+    let Some(part) = part_for(scene, waiting) else {
+        return;
+    };
+    if !may_fit(scene, part) {
         return;
     }
     if is_passed(scene, row, passed, held) {
         return;
     }
-    if !is_any_open(scene, &waiting.classes) {
+    if !may_be_taken(scene, limits, row, part) {
         return;
     }
-    if !may_be_taken(scene, limits, row, waiting) {
-        return;
-    }
-    add_first_master(scene, limits, row, &waiting.classes, held);
+    add_first_master(scene, limits, row, part, held);
 }
 
 /// What the running applications of a leaf ask for on the partition, one after another.
@@ -176,24 +174,24 @@ fn add_each_ask(scene: &Scene<'_>, row: &LeafRow, held: &mut Option<Candidate>)
     }
 }
 
-/// The first of what is asked for in a leaf, by classes.
+/// The first of what is asked for in a leaf on the partition, by classes.
 fn add_first_ask(
     scene: &Scene<'_>,
     limits: &mut Option<LeafUse>,
     row: &LeafRow,
-    classes: &Classes,
+    part: &Part,
     held: &mut Option<Candidate>,
 )
     requires scene { IsScene scene.now }
     requires limits { AreLimits scene.now row.now.path limits.old }
     requires placed { ArePlaced (state_in scene.now) row.now }
     requires marked { AreMarkedIn (state_in scene.now) row.now }
-    requires classes { (class : Class) (turn : Turn) → has classes.now.entries class turn ≡ asks_waiting row.now.apps.items class turn }
+    requires part { IsPartOf scene.now (asks_waiting row.now.apps.items) part.now }
     ensures best { HoldsBest scene.now held.old (asks_in scene.now row.now.path row.now.apps.items) held.new }
     ensures limits { AreLimits scene.now row.now.path limits.new }
 {
     let what = What::Ask(scene.label, 0);
-    let Some(turn) = first_turn(scene, limits, row, &what, classes) else {
+    let Some(turn) = first_turn(scene, limits, row, &what, part) else {
         return;
     };
     if let Some(place) = place_of(row, turn.number) {
@@ -237,19 +235,19 @@ pub fn add_asks<'a>(
         add_each_ask(scene, row, held);
         return;
     };
-    if !may_fit(scene, waiting) {
+    let Some(part) = part_for(scene, waiting) else {
+        return;
+    };
+    if !may_fit(scene, part) {
         return;
     }
     if is_passed(scene, row, passed, held) {
         return;
     }
-    if !is_any_open(scene, &waiting.classes) {
+    if !may_be_taken(scene, limits, row, part) {
         return;
     }
-    if !may_be_taken(scene, limits, row, waiting) {
-        return;
-    }
-    add_first_ask(scene, limits, row, &waiting.classes, held);
+    add_first_ask(scene, limits, row, part, held);
 }
 
 /// What is wanted on the partition in a leaf, masters and asks, and the leaf's limits are worked out once for

@@ -1,73 +1,44 @@
 //! The first turn of what waits in a leaf that may be placed. One request of each class is looked at,
-//! since those of one class may be placed together.
+//! since those of one class may be placed together, and none of a user for whose least there is no place.
 
-ghost use Rattle.std.specs.Prelude.{◌≡◌, Bool, true, false, None, ◌&&◌, ◌||◌, IfSome};
+ghost use Rattle.std.specs.Prelude.{◌≡◌, Bool, true, None, ◌||◌, IfSome};
 ghost use Rattle.std.specs.Bool.{OnFalse};
-ghost use Rattle.std.specs.BTreeSet.{contains};
-ghost use Rattle.std.specs.List.{list_any};
-ghost use Rattle.ynl_resource.specs.Names.{same_label};
 ghost use Rattle.ynl_resource.specs.declared.paths.Path.{Path};
+ghost use Rattle.ynl_model.specs.Service.{has_room};
 ghost use Rattle.ynl_model.specs.declared.proposals.What.{What};
-ghost use Rattle.ynl_laws.specs.First.{IsFirst};
+ghost use Rattle.ynl_waiting.specs.Waiting.{has};
+ghost use Rattle.ynl_waiting.specs.declared.classes.Class.{Class};
 ghost use Rattle.ynl_waiting.specs.declared.classes.Turn.{Turn};
-ghost use Rattle.ynl_waiting.specs.Classes.{turn_order, is_turn_later};
 ghost use Rattle.ynl_choice.specs.Candidates.{item_by};
-ghost use Rattle.ynl_choice.specs.Choosing.{state_in, IsScene, AreLimits, AreTests};
+ghost use Rattle.ynl_choice.specs.Choosing.{state_in, passes, IsScene, AreLimits, AreTests};
 ghost use Rattle.ynl_choice.specs.LeafUses.{IsModest, IsUseOf};
 ghost use Rattle.ynl_choice.specs.declared.scenes.Scene.{Scene};
-ghost use Rattle.ynl_choice.specs.Waits.{item_for, is_open, fits_leaf, fits_user, is_placeable, is_before, IsFirstTurn};
+ghost use Rattle.ynl_choice.specs.Waits.{item_of_size, fits_leaf, fits_user, is_of_size, is_of_sizes, is_placeable, is_before, IsFirstTurn, IsPartOf, IsPartFor};
 
-use crate::eligible::{UserUse, allows, keeps_leaf_limits, keeps_user_limit};
+use crate::eligible::{allows, keeps_leaf_limits, keeps_user_limit};
 use crate::leaf_use::LeafUse;
 use crate::requests::RequestParts;
 use crate::scenes::{Scene, limits_at};
 use std::collections::BTreeSet;
 use ynl_model::What;
-use ynl_tables::{LeafRow, is_same};
-use ynl_waiting::{Class, Classes, Rows, Turn, first_of};
+use ynl_resource::{Name, Resource, Size};
+use ynl_tables::LeafRow;
+use ynl_waiting::{Group, Part, Rows, Turn, first_of};
 
-/// The request that stands for those of a class. What it is tested for does not read an application's name,
-/// so the user's stands in its place.
-fn request_for<'a>(row: &'a LeafRow, what: &'a What, class: &'a Class) -> RequestParts<'a>
-    ensures { item_by result ≡ item_for row.now.path what.now class.now }
+/// What waits in a leaf for the partition. Where nothing does nothing may be placed.
+pub fn part_for<'a>(scene: &Scene<'_>, waiting: &'a Rows) -> Option<&'a Part>
+    ensures { (waits : Class → Turn → Bool) → ((class : Class) (turn : Turn) → has waiting.now.classes.entries class turn ≡ waits class turn) → IsPartFor scene.now waits result }
 {
-    RequestParts {
-        leaf: &row.path,
-        app: &class.user,
-        user: &class.user,
-        what,
-        size: &class.size,
-    }
-}
-
-/// Whether what waits of a class has room and is for the partition. It takes no sum.
-fn is_open(scene: &Scene<'_>, class: &Class) -> bool
-    requires { IsScene scene.now }
-    ensures { result ≡ is_open scene.now class.now }
-{
-    class.size.amount().fits_in(scene.free) && is_same(&class.label, &scene.label)
-}
-
-/// Whether any class is for the partition and has room. Where none is, nothing may be placed.
-pub fn is_any_open(scene: &Scene<'_>, classes: &Classes) -> bool
-    requires { IsScene scene.now }
-    ensures { result ≡ list_any (λ entry. is_open scene.now entry.0) classes.now.entries }
-{
-    for (class, _) in classes {
-        if is_open(scene, class) {
-            return true;
-        }
-    }
-    false
+    waiting.part(&scene.label)
 }
 
 /// Whether there may be room for some of what waits: whether there is for the least of it. Where there is none,
-/// nothing may be placed, and no class is looked at.
-pub fn may_fit(scene: &Scene<'_>, waiting: &Rows) -> bool
+/// nothing may be placed, and no user is looked at.
+pub fn may_fit(scene: &Scene<'_>, part: &Part) -> bool
     requires { IsScene scene.now }
-    ensures { OnFalse result (list_any (λ entry. is_open scene.now entry.0) waiting.now.classes.entries ≡ false) }
+    ensures { (leaf : Path) (what : What) (waits : Class → Turn → Bool) → IsPartOf scene.now waits part.now → OnFalse result (IsFirstTurn (is_placeable scene.now leaf what) waits None) }
 {
-    waiting.least.fits_in(scene.free)
+    part.least.amount().fits_in(scene.free)
 }
 
 /// Whether the queues on the way to a leaf may take some of what waits there: whether they may take the least of it.
@@ -76,18 +47,18 @@ pub fn may_be_taken(
     scene: &Scene<'_>,
     limits: &mut Option<LeafUse>,
     row: &LeafRow,
-    waiting: &Rows,
+    part: &Part,
 ) -> bool
     requires scene { IsScene scene.now }
     requires limits { AreLimits scene.now row.now.path limits.old }
-    ensures none { OnFalse result ((what : What) → IsFirstTurn (is_placeable scene.now row.now.path what) waiting.now.classes.entries None) }
+    ensures none { (what : What) (waits : Class → Turn → Bool) → IsPartOf scene.now waits part.now → OnFalse result (IsFirstTurn (is_placeable scene.now row.now.path what) waits None) }
     ensures limits { AreLimits scene.now row.now.path limits.new }
 {
     if scene.as_guests {
         return true;
     }
     let limits = limits_at(scene, limits, &row.path, &row.near);
-    allows(&limits.headroom, &waiting.least)
+    allows(&limits.headroom, &part.least.amount())
 }
 
 /// The limits that the requests of a leaf are tested against, which guests have none of.
@@ -103,40 +74,65 @@ fn tests_of(scene: &Scene<'_>, limits: &mut Option<LeafUse>, row: &LeafRow) -> O
     Some(limits_at(scene, limits, &row.path, &row.near))
 }
 
-/// Whether the limits that a leaf has for all of its users allow what waits of a class.
+/// Whether a request has room on the node.
+fn has_room(scene: &Scene<'_>, request: &RequestParts<'_>) -> bool
+    requires { IsScene scene.now }
+    ensures { result ≡ has_room (state_in scene.now) scene.now.node request.now.size.now }
+{
+    request.size.amount().fits_in(scene.free)
+}
+
+/// Whether the limits that a leaf has for all of its users allow a request.
 #[tactic(auto, unfolding(ynl_model::specs::Service::within_maximum, ynl_model::specs::Service::within_master_share))]
-fn fits_leaf(tests: &Option<LeafUse>, what: &What, class: &Class) -> bool
+fn fits_leaf(tests: &Option<LeafUse>, request: &RequestParts<'_>) -> bool
     requires { IfSome tests.now IsModest }
-    ensures { (scene : Scene) (leaf : Path) → AreTests scene leaf tests.now → result ≡ fits_leaf scene leaf what.now class.now }
+    ensures { (scene : Scene) → AreTests scene request.now.leaf.now tests.now → result ≡ fits_leaf scene (item_by request.now) }
 {
     match tests {
-        Some(limits) => keeps_leaf_limits(limits, what, &class.size.amount()),
+        Some(limits) => keeps_leaf_limits(limits, request.what, &request.size.amount()),
         None => true,
     }
 }
 
-/// Whether the limit of its user allows what waits of a class. What the last user uses is held.
+/// Whether the limit of its user allows a request. What the user uses is held.
 fn fits_user(
     scene: &Scene<'_>,
     tests: &Option<LeafUse>,
-    row: &LeafRow,
-    what: &What,
-    class: &Class,
-    user: &mut Option<UserUse>,
+    request: &RequestParts<'_>,
+    used: &mut Option<Resource>,
 ) -> bool
     requires scene { IsScene scene.now }
-    requires tests { AreTests scene.now row.now.path tests.now }
-    requires user { IsUseOf (state_in scene.now) scene.now.label row.now.path user.old }
-    ensures fits { result ≡ fits_user scene.now row.now.path what.now class.now }
-    ensures user { IsUseOf (state_in scene.now) scene.now.label row.now.path user.new }
+    requires tests { AreTests scene.now request.now.leaf.now tests.now }
+    requires used { IsUseOf (state_in scene.now) scene.now.label request.now.leaf.now request.now.user.now used.old }
+    ensures fits { result ≡ fits_user scene.now (item_by request.now) }
+    ensures used { IsUseOf (state_in scene.now) scene.now.label request.now.leaf.now request.now.user.now used.new }
 {
     match tests {
-        Some(limits) => {
-            let request = request_for(row, what, class);
-            keeps_user_limit(scene.tables, &scene.label, limits, &request, user)
-        }
+        Some(limits) => keeps_user_limit(scene.tables, &scene.label, limits, request, used),
         None => true,
     }
+}
+
+/// Whether a request may be placed. What costs least is looked at first.
+fn is_allowed(
+    scene: &Scene<'_>,
+    tests: &Option<LeafUse>,
+    request: &RequestParts<'_>,
+    used: &mut Option<Resource>,
+) -> bool
+    requires scene { IsScene scene.now }
+    requires tests { AreTests scene.now request.now.leaf.now tests.now }
+    requires used { IsUseOf (state_in scene.now) scene.now.label request.now.leaf.now request.now.user.now used.old }
+    ensures allowed { result ≡ passes scene.now (item_by request.now) }
+    ensures used { IsUseOf (state_in scene.now) scene.now.label request.now.leaf.now request.now.user.now used.new }
+{
+    if !has_room(scene, request) {
+        return false;
+    }
+    if !fits_leaf(tests, request) {
+        return false;
+    }
+    fits_user(scene, tests, request, used)
 }
 
 /// Whether a turn is before the one that is held.
@@ -149,60 +145,96 @@ fn is_before(held: &Option<Turn>, turn: &Turn) -> bool
     }
 }
 
-/// Looks at one class more: its first turn is held, if it is before the one that is and may be placed. The
-/// cheap tests come first, and that of the user last.
-fn add_class(
+/// The request that stands for those of a user and a size. What it is tested for does not read an application's
+/// name, so the user's stands in its place.
+fn request_for<'a>(
+    row: &'a LeafRow,
+    what: &'a What,
+    user: &'a Name,
+    size: &'a Size,
+) -> RequestParts<'a>
+    ensures { item_by result ≡ item_of_size row.now.path what.now user.now size.now }
+{
+    RequestParts {
+        leaf: &row.path,
+        app: user,
+        user,
+        what,
+        size,
+    }
+}
+
+/// Looks at one size more of a user: its first turn is held, if it is before the one that is and may be placed.
+/// The cheap tests come first, and that of the user last.
+fn add_size(
     scene: &Scene<'_>,
     tests: &Option<LeafUse>,
-    row: &LeafRow,
-    what: &What,
-    class: &Class,
+    request: &RequestParts<'_>,
     turns: &BTreeSet<Turn>,
-    user: &mut Option<UserUse>,
+    used: &mut Option<Resource>,
     held: &mut Option<Turn>,
 )
     requires scene { IsScene scene.now }
-    requires tests { AreTests scene.now row.now.path tests.now }
-    requires user { IsUseOf (state_in scene.now) scene.now.label row.now.path user.old }
-    ensures first { (waits : Turn → Bool) → IsFirst is_turn_later (λ turn. waits turn ≡ true) held.old → IsFirst is_turn_later (λ turn. (waits turn || (is_placeable scene.now row.now.path what.now class.now && contains turn_order turns.now turn)) ≡ true) held.new }
-    ensures user { IsUseOf (state_in scene.now) scene.now.label row.now.path user.new }
+    requires tests { AreTests scene.now request.now.leaf.now tests.now }
+    requires alike { request.now.app.now ≡ request.now.user.now }
+    requires used { IsUseOf (state_in scene.now) scene.now.label request.now.leaf.now request.now.user.now used.old }
+    ensures first { (waits : Class → Turn → Bool) → IsFirstTurn (is_placeable scene.now request.now.leaf.now request.now.what.now) waits held.old → IsFirstTurn (is_placeable scene.now request.now.leaf.now request.now.what.now) (λ class turn. waits class turn || is_of_size scene.now request.now.user.now request.now.size.now turns.now class turn) held.new }
+    ensures used { IsUseOf (state_in scene.now) scene.now.label request.now.leaf.now request.now.user.now used.new }
 {
-    if !is_open(scene, class) {
-        return;
-    }
-    if !fits_leaf(tests, what, class) {
-        return;
-    }
     let Some(turn) = first_of(turns) else {
         return;
     };
     if !is_before(held, &turn) {
         return;
     }
-    if fits_user(scene, tests, row, what, class, user) {
+    if is_allowed(scene, tests, request, used) {
         *held = Some(turn);
     }
 }
 
-/// The first turn of some classes that may be placed. Classes of one user stand together, so what a user uses
-/// is looked for once.
+/// Looks at one user more. Where the user's least may not be placed nothing of theirs may, and no size is looked at;
+/// what the user uses is looked for once.
+fn add_group(
+    scene: &Scene<'_>,
+    tests: &Option<LeafUse>,
+    row: &LeafRow,
+    what: &What,
+    user: &Name,
+    group: &Group,
+    held: &mut Option<Turn>,
+)
+    requires scene { IsScene scene.now }
+    requires tests { AreTests scene.now row.now.path tests.now }
+    ensures { (waits : Class → Turn → Bool) → IsFirstTurn (is_placeable scene.now row.now.path what.now) waits held.old → IsFirstTurn (is_placeable scene.now row.now.path what.now) (λ class turn. waits class turn || is_of_sizes scene.now user.now group.now.sizes.entries class turn) held.new }
+{
+    let mut used = None;
+    let least = request_for(row, what, user, &group.least);
+    if !is_allowed(scene, tests, &least, &mut used) {
+        return;
+    }
+    for (size, turns) in &group.sizes {
+        let request = request_for(row, what, user, size);
+        add_size(scene, tests, &request, turns, &mut used, held);
+    }
+}
+
+/// The first turn of what waits for the partition that may be placed, one user after another.
 pub fn first_turn(
     scene: &Scene<'_>,
     limits: &mut Option<LeafUse>,
     row: &LeafRow,
     what: &What,
-    classes: &Classes,
+    part: &Part,
 ) -> Option<Turn>
     requires scene { IsScene scene.now }
     requires limits { AreLimits scene.now row.now.path limits.old }
-    ensures first { IsFirstTurn (is_placeable scene.now row.now.path what.now) classes.now.entries result }
+    ensures first { (waits : Class → Turn → Bool) → IsPartOf scene.now waits part.now → IsFirstTurn (is_placeable scene.now row.now.path what.now) waits result }
     ensures limits { AreLimits scene.now row.now.path limits.new }
 {
     let tests = tests_of(scene, limits, row);
-    let mut user = None;
     let mut held = None;
-    for (class, turns) in classes {
-        add_class(scene, &tests, row, what, class, turns, &mut user, &mut held);
+    for (user, group) in &part.users {
+        add_group(scene, &tests, row, what, user, group, &mut held);
     }
     held
 }

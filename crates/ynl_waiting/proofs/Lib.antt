@@ -1,2 +1,3 @@
 pub mod Having
-pub mod Least
+mod Keyed
+mod Levels

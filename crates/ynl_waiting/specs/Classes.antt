@@ -1,7 +1,7 @@
--- Classes, and turns of their requests.
-use Rattle.std.specs.Prelude.{Bool, List, ◌&&◌, ◌==◌}
+-- Classes, and turns of their requests; and what waits of one user, by sizes.
+use Rattle.std.specs.Prelude.{◌≡◌, Bool, true, List, ◌&&◌, ◌||◌, ◌==◌, not}
 use Rattle.std.specs.BTreeSet.{BTreeSet, contains}
-use Rattle.std.specs.List.{list_all, list_any}
+use Rattle.std.specs.List.{list_any}
 use Rattle.std.specs.Ordering.{nat_cmp, ordering_then, is_gt}
 use Rattle.std.specs.declared.cmp.Ordering.{Ordering}
 use Rattle.ynl_resource.specs.Amounts.{fits_in}
@@ -30,18 +30,22 @@ same_size a b = (a.memory == b.memory) && (a.vcores == b.vcores)
 abbrev pub same_class : Class → Class → Bool
 same_class a b = same_label a.label b.label && same_name a.user b.user && same_size a.size b.size
 
--- a class of which something waits, and the turns of its requests
-abbrev pub Entry : Type 0
-Entry = Class × BTreeSet Turn
+-- whether there is a turn among those of a size
+abbrev pub has_size : List (Resource × BTreeSet Turn) → Resource → Turn → Bool
+has_size sizes size turn = list_any (λ entry. same_size size entry.0 && contains turn_order entry.1 turn) sizes
 
--- whether an entry has a request of a class and a turn
-abbrev pub has_in : Entry → Class → Turn → Bool
-has_in entry class turn = same_class entry.0 class && contains turn_order entry.1 turn
+-- no size of which something waits is below an amount, in memory or in virtual cores
+abbrev pub IsBelow : Resource → (Resource → Turn → Bool) → Type 0
+IsBelow least waits = (size : Resource) (turn : Turn) → waits size turn ≡ true → fits_in least size ≡ true
 
--- whether some entries have one
-abbrev pub has : List Entry → Class → Turn → Bool
-has entries class turn = list_any (λ entry. has_in entry class turn) entries
+-- some turns, and one more where it was kept
+abbrev pub with_turn : Bool → (Turn → Bool) → Turn → Turn → Bool
+with_turn kept waits turn t = (same_turn turn t && kept) || waits t
 
--- whether no request of some entries takes less than an amount, of memory or of virtual cores
-abbrev pub are_above : Resource → List Entry → Bool
-are_above least entries = list_all (λ entry. fits_in least entry.0.size) entries
+-- what waits of one user, and one request more where it was kept
+abbrev pub with_size : Bool → (Resource → Turn → Bool) → Resource → Turn → Resource → Turn → Bool
+with_size kept waits size turn s t = (same_size size s && (same_turn turn t && kept)) || waits s t
+
+-- what waits of one user, without one request
+abbrev pub without_size : (Resource → Turn → Bool) → Resource → Turn → Resource → Turn → Bool
+without_size waits size turn s t = not (same_size size s && same_turn turn t) && waits s t

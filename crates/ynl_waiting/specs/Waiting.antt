@@ -1,9 +1,24 @@
 -- What waits, by classes and turns.
-use Rattle.std.specs.Prelude.{◌≡◌, Bool, ◌&&◌, ◌||◌, not, IfSome}
-use Rattle.ynl_waiting.specs.Classes.{same_class, same_turn, has}
+use Rattle.std.specs.Prelude.{◌≡◌, Bool, List, ◌&&◌, ◌||◌, not, IfSome}
+use Rattle.std.specs.List.{list_any}
+use Rattle.ynl_resource.specs.Names.{same_label}
+use Rattle.ynl_resource.specs.declared.amounts.Resource.{Resource}
+use Rattle.ynl_resource.specs.declared.labels.Label.{Label}
+use Rattle.ynl_resource.specs.declared.names.Name.{Name}
+use Rattle.ynl_waiting.specs.Classes.{same_class, same_turn}
+use Rattle.ynl_waiting.specs.Users.{has_user}
 use Rattle.ynl_waiting.specs.declared.classes.Class.{Class}
 use Rattle.ynl_waiting.specs.declared.classes.Turn.{Turn}
+use Rattle.ynl_waiting.specs.declared.parts.Part.{Part}
 use Rattle.ynl_waiting.specs.declared.waiting.Waiting.{Waiting}
+
+-- whether there is a turn among those of a partition's user's size
+abbrev pub has_part : List (Label × Part) → Label → Name → Resource → Turn → Bool
+has_part parts label user size turn = list_any (λ entry. same_label label entry.0 && has_user entry.1.users.entries user size turn) parts
+
+-- whether some parts have a request of a class and a turn
+abbrev pub has : List (Label × Part) → Class → Turn → Bool
+has parts class turn = has_part parts class.label class.user class.size turn
 
 -- where any are kept, they are those that wait
 abbrev pub Keeps : (Class → Turn → Bool) → Waiting → Type 0

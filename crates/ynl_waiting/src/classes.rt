@@ -5,12 +5,12 @@ ghost use Rattle.std.specs.BTreeSet.{contains};
 ghost use Rattle.ynl_laws.specs.First.{IsFirst};
 ghost use Rattle.ynl_waiting.specs.Classes.{turn_order, is_turn_later};
 
-use std::collections::{BTreeMap, BTreeSet};
+use std::collections::BTreeSet;
 use ynl_resource::{Label, Name, Size};
 
 /// What requests of a leaf have in common that may be placed together: the partition that they are for,
-/// their user and their size. Classes of one user for one partition stand together in their order.
-#[derive(Clone, Copy, PartialEq, Eq, PartialOrd, Ord)]
+/// their user and their size.
+#[derive(Clone, Copy)]
 pub struct Class {
     pub label: Label,
     pub user: Name,
@@ -24,9 +24,6 @@ pub struct Turn {
     pub number: u64,
     pub priority: u32,
 }
-
-/// The turns of the requests of each class of which something waits.
-pub type Classes = BTreeMap<Class, BTreeSet<Turn>>;
 
 /// The first of some turns.
 pub fn first_of(turns: &BTreeSet<Turn>) -> Option<Turn>

@@ -1,11 +1,16 @@
-//! What waits in a leaf: requests by classes, and within a class by turns.
+//! What waits in a leaf: requests by classes, and within a class by turns. The classes stand by partitions, for one
+//! partition by users, and for one user by sizes.
 #![tactic(auto)]
 
-pub use classes::{Class, Classes, Turn, first_of};
+pub use classes::{Class, Turn, first_of};
+pub use groups::Group;
+pub use parts::Part;
 pub use rows::Rows;
 pub use waiting::Waiting;
 
 mod classes;
-mod keeping;
+mod groups;
+mod least;
+mod parts;
 mod rows;
 mod waiting;

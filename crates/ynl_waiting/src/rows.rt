@@ -1,68 +1,88 @@
-//! Classes of what waits, and the least that a request of them takes.
+//! What waits in a leaf, by partitions.
 
-ghost use Rattle.std.specs.Prelude.{◌≡◌, ◌==◌, ◌||◌, [], IsTrue};
-ghost use Rattle.ynl_resource.specs.Amounts.{fits_in};
-ghost use Rattle.ynl_waiting.specs.Classes.{are_above};
+ghost use Rattle.std.specs.Prelude.{◌≡◌, false, [], OnOk};
+ghost use Rattle.std.specs.Option.{option_map_or};
+ghost use Rattle.ynl_resource.specs.declared.names.Name.{Name};
+ghost use Rattle.ynl_resource.specs.declared.amounts.Resource.{Resource};
+ghost use Rattle.ynl_waiting.specs.Users.{has_user};
+ghost use Rattle.ynl_waiting.specs.Waiting.{has, has_part, with_one, without_one};
+ghost use Rattle.ynl_waiting.specs.declared.classes.Class.{Class};
+ghost use Rattle.ynl_waiting.specs.declared.classes.Turn.{Turn};
 
-use crate::classes::Classes;
-use std::alloc::Global;
+use crate::classes::{Class, Turn};
+use crate::parts::{Part, add_user, take_user};
+use std::alloc::{AllocError, Global};
 use std::collections::BTreeMap;
-use ynl_resource::{Resource, Size};
+use ynl_resource::Label;
 
-/// The classes of what waits, and an amount that each of their sizes is above or equal to in memory and in
-/// virtual cores: the least of either, and no bound where there are no classes.
+/// What waits for each partition for which something does.
+pub type Classes = BTreeMap<Label, Part>;
+
+/// What waits in a leaf, by partitions, and there by users.
 #[derive(Drop)]
 pub struct Rows {
     pub classes: Classes,
-    pub least: Resource,
-    ghost none_below: { IsTrue (are_above least classes.entries) },
 }
 
-/// Above all sizes.
-const UNBOUNDED: Resource = Resource {
-    memory: u64::MAX,
-    vcores: u64::MAX,
-};
-
 impl Rows {
-    /// No classes.
+    /// Nothing waits.
     pub fn new(alloc: Global) -> Rows
         ensures { result.classes.entries ≡ [] }
     {
         Rows {
             classes: BTreeMap::new(alloc),
-            least: UNBOUNDED,
         }
     }
-}
 
-/// An amount that is at most the other, and at most a size.
-pub fn lesser(a: &Resource, size: &Size) -> Resource
-    ensures within { IsTrue (fits_in result a.now) }
-    ensures size { IsTrue (fits_in result size.now) }
-{
-    let size = size.amount();
-    Resource {
-        memory: a.memory.min(size.memory),
-        vcores: a.vcores.min(size.vcores),
+    /// What waits for a partition, where something does.
+    pub fn part(&self, label: &Label) -> Option<&Part>
+        ensures { (user : Name) (size : Resource) (turn : Turn) → has_part self.now.classes.entries label.now user size turn ≡ option_map_or (λ part. has_user part.now.users.entries user size turn) result false }
+    {
+        if self.classes.len() == 0 {
+            return None;
+        }
+        self.classes.get(label)
     }
 }
 
-/// Whether a size has the least memory or the least virtual cores.
-pub fn is_least_in_part(least: &Resource, size: &Size) -> bool
-    ensures { result ≡ (least.now.memory == size.now.memory || least.now.vcores == size.now.vcores) }
+/// A partition comes for which nothing waited, and one request for it waits.
+fn put_part(
+    classes: &mut Classes,
+    alloc: Global,
+    class: &Class,
+    turn: &Turn,
+) -> Result<(), AllocError>
+    requires { (user : Name) (size : Resource) (t : Turn) → has_part classes.old.entries class.now.label user size t ≡ false }
+    ensures { OnOk result ((c : Class) (t : Turn) → has classes.new.entries c t ≡ with_one (has classes.old.entries) class.now turn.now c t) }
 {
-    let size = size.amount();
-    least.memory == size.memory || least.vcores == size.vcores
+    let mut part = Part {
+        users: BTreeMap::new(alloc),
+        least: class.size,
+    };
+    add_user(&mut part, alloc, &class.user, &class.size, turn)?;
+    classes.insert(class.label, part)?;
+    Ok(())
 }
 
-/// The least that a request of some classes takes.
-pub fn least_of(classes: &Classes) -> Resource
-    ensures { IsTrue (are_above result classes.now.entries) }
+/// One request more.
+pub fn add_to(rows: &mut Rows, alloc: Global, class: &Class, turn: &Turn) -> Result<(), AllocError>
+    ensures { OnOk result ((c : Class) (t : Turn) → has rows.new.classes.entries c t ≡ with_one (has rows.old.classes.entries) class.now turn.now c t) }
 {
-    let mut least = UNBOUNDED;
-    for (class, _) in classes {
-        least = lesser(&least, &class.size);
+    if let Some(part) = rows.classes.get_mut(&class.label) {
+        return add_user(part, alloc, &class.user, &class.size, turn);
     }
-    least
+    put_part(&mut rows.classes, alloc, class, turn)
+}
+
+/// One request less, and with the last one for a partition its entry goes.
+pub fn take_from(classes: &mut Classes, class: &Class, turn: &Turn)
+    ensures { (c : Class) (t : Turn) → has classes.new.entries c t ≡ without_one (has classes.old.entries) class.now turn.now c t }
+{
+    let Some(part) = classes.get_mut(&class.label) else {
+        return;
+    };
+    take_user(part, &class.user, &class.size, turn);
+    if part.users.is_empty() {
+        classes.remove(&class.label);
+    }
 }

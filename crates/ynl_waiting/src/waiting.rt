@@ -1,14 +1,12 @@
 //! Requests that wait, found by class and turn.
 
 ghost use Rattle.std.specs.Prelude.{◌≡◌, Bool, false, IfSome};
-ghost use Rattle.ynl_waiting.specs.Classes.{has};
-ghost use Rattle.ynl_waiting.specs.Waiting.{Keeps, with_one, without_one};
+ghost use Rattle.ynl_waiting.specs.Waiting.{has, Keeps, with_one, without_one};
 ghost use Rattle.ynl_waiting.specs.declared.classes.Class.{Class};
 ghost use Rattle.ynl_waiting.specs.declared.classes.Turn.{Turn};
 
 use crate::classes::{Class, Turn};
-use crate::keeping::{add_to, take_from};
-use crate::rows::Rows;
+use crate::rows::{Rows, add_to, take_from};
 use std::alloc::Global;
 
 /// Requests that wait, by their classes and turns: kept while there is memory for them. Where that was
@@ -30,7 +28,7 @@ impl Waiting {
         }
     }
 
-    /// The classes of which something waits, where any are kept.
+    /// What waits by classes, where it is kept.
     pub fn rows(&self) -> Option<&Rows>
         ensures { IfSome result (λ rows. (waits : Class → Turn → Bool) → Keeps waits self.now → (class : Class) (turn : Turn) → has rows.now.classes.entries class turn ≡ waits class turn) }
     {
@@ -59,7 +57,7 @@ impl Waiting {
         ensures { (waits : Class → Turn → Bool) → Keeps waits self.old → Keeps (without_one waits class.now turn.now) self.new }
     {
         if let Some(rows) = &mut self.rows {
-            take_from(rows, class, turn);
+            take_from(&mut rows.classes, class, turn);
         }
     }
 }

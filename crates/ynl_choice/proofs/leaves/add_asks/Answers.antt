@@ -1,14 +1,12 @@
-use Rattle.std.proofs.Common.{◌≡◌, true, false, None, sym, subst, ◌∙◌}
+use Rattle.std.proofs.Common.{◌≡◌, true, None, subst}
 use Rattle.std.specs.Bool.{OnTrue, OnFalse}
-use Rattle.std.specs.List.{list_any}
-use Rattle.ynl_model.specs.declared.proposals.What.{What}
 use Rattle.ynl_model.specs.declared.proposals.What.TheVariants.{Ask as Asked}
 use Rattle.ynl_tables.specs.Queued.{ask_waits, asks_waiting}
 use Rattle.ynl_choice.specs.Candidates.{is_ahead}
 use Rattle.ynl_choice.specs.Choosing.{asks_in, standings_to}
-use Rattle.ynl_choice.specs.Waits.{is_open, is_placeable, IsFirstTurn}
+use Rattle.ynl_choice.specs.Waits.{is_placeable, IsFirstTurn}
 use Rattle.ynl_choice.proofs.Classed.{asks-told, asks-gathered}
-use Rattle.ynl_choice.proofs.Waits.{none-open}
+use Rattle.ynl_choice.proofs.Waits.{no-part}
 use Rattle.ynl_choice.proofs.FirstTurn.{none-held, held-ahead}
 use Rattle.ynl_choice.proofs.leaves.add_asks.Goals as goal
 
@@ -19,13 +17,20 @@ returns-then-is_below-clause-best c =
     held-ahead scene row.path (asks_in scene row.path) row.apps.items c.args.held.now (asks-gathered scene row.path)
     (subst (λ b. OnTrue b (is_ahead c.args.held.now (standings_to scene row.path) ≡ true)) c.if-is_below.true (c.is_below.ensures scene c.args.held.now c.requires.passed))
 
+pub returns-in_default-part_for-clause-best : goal.returns-in_default-part_for-clause-best
+returns-in_default-part_for-clause-best c =
+    let scene = c.args.scene.now in
+    let row = c.args.row.now in
+    none-held scene row (Asked scene.label 0) ask_waits (asks_in scene row.path) (asks-told scene row.path 0) (asks-gathered scene row.path) c.requires.placed c.requires.marked row.in_turn c.args.held.now
+    (no-part scene row.path (Asked scene.label 0) (asks_waiting row.apps.items) (c.in_default-part_for.ensures (asks_waiting row.apps.items) (c.in-Some.ensures (asks_waiting row.apps.items) row.asks_wait)))
+
 pub returns-then-not-may_fit-clause-best : goal.returns-then-not-may_fit-clause-best
 returns-then-not-may_fit-clause-best c =
     let scene = c.args.scene.now in
     let row = c.args.row.now in
-    let entries = c.in-Some.waiting.now.classes.entries in
-    none-held scene row (Asked scene.label 0) ask_waits (asks_in scene row.path) entries (asks-told scene row.path 0) (asks-gathered scene row.path) c.requires.placed c.requires.marked row.in_turn (c.in-Some.ensures (asks_waiting row.apps.items) row.asks_wait)
-    c.args.held.now (none-open scene row.path (Asked scene.label 0) entries (subst (λ b. OnFalse b (list_any (λ entry. is_open scene entry.0) entries ≡ false)) c.if-not-may_fit.true c.may_fit.ensures))
+    let waits = asks_waiting row.apps.items in
+    none-held scene row (Asked scene.label 0) ask_waits (asks_in scene row.path) (asks-told scene row.path 0) (asks-gathered scene row.path) c.requires.placed c.requires.marked row.in_turn c.args.held.now
+    (subst (λ b. OnFalse b (IsFirstTurn (is_placeable scene row.path (Asked scene.label 0)) waits None)) c.if-not-may_fit.true (c.may_fit.ensures row.path (Asked scene.label 0) waits (c.in-Some-part_for.ensures waits (c.in-Some.ensures waits row.asks_wait))))
 
 pub returns-then-is_passed-clause-best : goal.returns-then-is_passed-clause-best
 returns-then-is_passed-clause-best c =
@@ -34,18 +39,15 @@ returns-then-is_passed-clause-best c =
     held-ahead scene row.path (asks_in scene row.path) row.apps.items c.args.held.now (asks-gathered scene row.path)
     (subst (λ b. OnTrue b (is_ahead c.args.held.now (standings_to scene row.path) ≡ true)) c.if-is_passed.true c.is_passed.ensures.ahead)
 
-pub returns-then-not-is_any_open-clause-best : goal.returns-then-not-is_any_open-clause-best
-returns-then-not-is_any_open-clause-best c =
-    let scene = c.args.scene.now in
-    let row = c.args.row.now in
-    let entries = c.in-Some.waiting.now.classes.entries in
-    none-held scene row (Asked scene.label 0) ask_waits (asks_in scene row.path) entries (asks-told scene row.path 0) (asks-gathered scene row.path) c.requires.placed c.requires.marked row.in_turn (c.in-Some.ensures (asks_waiting row.apps.items) row.asks_wait)
-    c.args.held.now (none-open scene row.path (Asked scene.label 0) entries (sym c.is_any_open.ensures ∙ c.if-not-is_any_open.true))
-
 pub returns-then-not-may_be_taken-clause-best : goal.returns-then-not-may_be_taken-clause-best
 returns-then-not-may_be_taken-clause-best c =
     let scene = c.args.scene.now in
     let row = c.args.row.now in
-    let entries = c.in-Some.waiting.now.classes.entries in
-    none-held scene row (Asked scene.label 0) ask_waits (asks_in scene row.path) entries (asks-told scene row.path 0) (asks-gathered scene row.path) c.requires.placed c.requires.marked row.in_turn (c.in-Some.ensures (asks_waiting row.apps.items) row.asks_wait)
-    c.args.held.now (subst (λ b. OnFalse b ((what : What) → IsFirstTurn (is_placeable scene row.path what) entries None)) c.if-not-may_be_taken.true c.may_be_taken.ensures.none (Asked scene.label 0))
+    let waits = asks_waiting row.apps.items in
+    none-held scene row (Asked scene.label 0) ask_waits (asks_in scene row.path) (asks-told scene row.path 0) (asks-gathered scene row.path) c.requires.placed c.requires.marked row.in_turn c.args.held.now
+    (subst (λ b. OnFalse b (IsFirstTurn (is_placeable scene row.path (Asked scene.label 0)) waits None)) c.if-not-may_be_taken.true (c.may_be_taken.ensures.none (Asked scene.label 0) waits (c.in-Some-part_for.ensures waits (c.in-Some.ensures waits row.asks_wait))))
+
+pub add_first_ask-requires-clause-part : goal.add_first_ask-requires-clause-part
+add_first_ask-requires-clause-part c =
+    let waits = asks_waiting c.args.row.now.apps.items in
+    c.in-Some-part_for.ensures waits (c.in-Some.ensures waits c.args.row.now.asks_wait)

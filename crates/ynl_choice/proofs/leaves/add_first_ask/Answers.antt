@@ -1,5 +1,5 @@
 use Rattle.ynl_model.specs.declared.proposals.What.TheVariants.{Ask as Asked}
-use Rattle.ynl_tables.specs.Queued.{ask_waits}
+use Rattle.ynl_tables.specs.Queued.{ask_waits, asks_waiting}
 use Rattle.ynl_choice.specs.Choosing.{asks_in}
 use Rattle.ynl_choice.proofs.Classed.{asks-told, asks-gathered}
 use Rattle.ynl_choice.proofs.FirstAsk.{ask-held}
@@ -10,17 +10,17 @@ pub returns-in_default-clause-best : goal.returns-in_default-clause-best
 returns-in_default-clause-best c =
     let scene = c.args.scene.now in
     let row = c.args.row.now in
-    none-held scene row (Asked scene.label 0) ask_waits (asks_in scene row.path) c.args.classes.now.entries (asks-told scene row.path 0) (asks-gathered scene row.path) c.requires.placed c.requires.marked row.in_turn c.requires.classes
-    c.args.held.now c.in_default.ensures.first
+    none-held scene row (Asked scene.label 0) ask_waits (asks_in scene row.path) (asks-told scene row.path 0) (asks-gathered scene row.path) c.requires.placed c.requires.marked row.in_turn
+    c.args.held.now (c.in_default.ensures.first (asks_waiting row.apps.items) c.requires.part)
 
 pub returns-in-Some-place_of-clause-best : goal.returns-in-Some-place_of-clause-best
 returns-in-Some-place_of-clause-best c =
     let scene = c.args.scene.now in
     let row = c.args.row.now in
     let app = c.index-app.result.now in
-    one-held scene row (Asked scene.label 0) ask_waits (asks_in scene row.path) c.args.classes.now.entries (asks-told scene row.path 0) (asks-gathered scene row.path) c.requires.placed c.requires.marked row.in_turn c.requires.classes
-    c.in-Some.turn c.in-Some-place_of.place app c.args.held.now c.add_ask_at.new.held c.in-Some.ensures.first c.in-Some-place_of.ensures.found c.index-app.ensures
-    (ask-held scene row c.args.classes.now.entries c.requires.placed c.requires.marked c.requires.classes c.in-Some.turn c.in-Some-place_of.place app c.in-Some.ensures.first c.in-Some-place_of.ensures.found c.index-app.ensures
+    one-held scene row (Asked scene.label 0) ask_waits (asks_in scene row.path) (asks-told scene row.path 0) (asks-gathered scene row.path) c.requires.placed c.requires.marked row.in_turn
+    c.in-Some.turn c.in-Some-place_of.place app c.args.held.now c.add_ask_at.new.held (c.in-Some.ensures.first (asks_waiting row.apps.items) c.requires.part) c.in-Some-place_of.ensures.found c.index-app.ensures
+    (ask-held scene row c.requires.placed c.requires.marked c.in-Some.turn c.in-Some-place_of.place app (c.in-Some.ensures.first (asks_waiting row.apps.items) c.requires.part) c.in-Some-place_of.ensures.found c.index-app.ensures
     c.args.held.now c.add_ask_at.new.held c.add_ask_at.ensures.best)
 
 pub returns-in_default-place_of-clause-best : goal.returns-in_default-place_of-clause-best
@@ -28,5 +28,5 @@ returns-in_default-place_of-clause-best c =
     let scene = c.args.scene.now in
     let row = c.args.row.now in
     absurd
-    (is-numbered scene row (Asked scene.label 0) ask_waits (asks_in scene row.path) c.args.classes.now.entries (asks-told scene row.path 0) (asks-gathered scene row.path) c.requires.placed c.requires.marked row.in_turn c.requires.classes
-    c.in-Some.turn c.in-Some.ensures.first c.in_default-place_of.ensures.absent)
+    (is-numbered scene row (Asked scene.label 0) ask_waits (asks_in scene row.path) (asks-told scene row.path 0) (asks-gathered scene row.path) c.requires.placed c.requires.marked row.in_turn
+    c.in-Some.turn (c.in-Some.ensures.first (asks_waiting row.apps.items) c.requires.part) c.in_default-place_of.ensures.absent)

@@ -1,5 +1,5 @@
 use Rattle.ynl_model.specs.declared.proposals.What.TheVariants.{Master}
-use Rattle.ynl_tables.specs.Queued.{master_waits}
+use Rattle.ynl_tables.specs.Queued.{master_waits, masters_waiting}
 use Rattle.ynl_choice.specs.Choosing.{masters_of}
 use Rattle.ynl_choice.proofs.Classed.{masters-told, masters-gathered}
 use Rattle.ynl_choice.proofs.FirstTurn.{none-held, one-held, is-numbered}
@@ -9,20 +9,20 @@ pub returns-in_default-clause-best : goal.returns-in_default-clause-best
 returns-in_default-clause-best c =
     let scene = c.args.scene.now in
     let row = c.args.row.now in
-    none-held scene row Master master_waits (masters_of scene row.path) c.args.classes.now.entries (masters-told scene row.path) (masters-gathered scene row.path) c.requires.placed c.requires.marked row.in_turn c.requires.classes
-    c.args.held.now c.in_default.ensures.first
+    none-held scene row Master master_waits (masters_of scene row.path) (masters-told scene row.path) (masters-gathered scene row.path) c.requires.placed c.requires.marked row.in_turn
+    c.args.held.now (c.in_default.ensures.first (masters_waiting row.apps.items) c.requires.part)
 
 pub returns-in-Some-place_of-clause-best : goal.returns-in-Some-place_of-clause-best
 returns-in-Some-place_of-clause-best c =
     let scene = c.args.scene.now in
     let row = c.args.row.now in
-    one-held scene row Master master_waits (masters_of scene row.path) c.args.classes.now.entries (masters-told scene row.path) (masters-gathered scene row.path) c.requires.placed c.requires.marked row.in_turn c.requires.classes
-    c.in-Some.turn c.in-Some-place_of.place c.index.result.now c.args.held.now c.add_master.new.held c.in-Some.ensures.first c.in-Some-place_of.ensures.found c.index.ensures c.add_master.ensures.best
+    one-held scene row Master master_waits (masters_of scene row.path) (masters-told scene row.path) (masters-gathered scene row.path) c.requires.placed c.requires.marked row.in_turn
+    c.in-Some.turn c.in-Some-place_of.place c.index.result.now c.args.held.now c.add_master.new.held (c.in-Some.ensures.first (masters_waiting row.apps.items) c.requires.part) c.in-Some-place_of.ensures.found c.index.ensures c.add_master.ensures.best
 
 pub returns-in_default-place_of-clause-best : goal.returns-in_default-place_of-clause-best
 returns-in_default-place_of-clause-best c =
     let scene = c.args.scene.now in
     let row = c.args.row.now in
     absurd
-    (is-numbered scene row Master master_waits (masters_of scene row.path) c.args.classes.now.entries (masters-told scene row.path) (masters-gathered scene row.path) c.requires.placed c.requires.marked row.in_turn c.requires.classes
-    c.in-Some.turn c.in-Some.ensures.first c.in_default-place_of.ensures.absent)
+    (is-numbered scene row Master master_waits (masters_of scene row.path) (masters-told scene row.path) (masters-gathered scene row.path) c.requires.placed c.requires.marked row.in_turn
+    c.in-Some.turn (c.in-Some.ensures.first (masters_waiting row.apps.items) c.requires.part) c.in_default-place_of.ensures.absent)

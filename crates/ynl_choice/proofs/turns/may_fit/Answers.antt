@@ -1,7 +1,9 @@
-use Rattle.ynl_choice.proofs.Waits.{none-unless}
+use Rattle.std.proofs.Common.{ap, ◌∙◌}
+use Rattle.ynl_resource.specs.Amounts.{fits_in}
+use Rattle.ynl_resource.specs.declared.amounts.Resource.{Resource}
+use Rattle.ynl_choice.proofs.Headroom.{none-unless-fits}
 use Rattle.ynl_choice.proofs.turns.may_fit.Goals as goal
 
 pub returns : goal.returns
-returns c =
-    let waiting = c.args.waiting.now in
-    none-unless c.args.scene.now waiting.least waiting.classes.entries c.requires.free waiting.none_below c.fits_in.result c.fits_in.ensures
+returns c leaf what waits of =
+    none-unless-fits c.args.scene.now leaf what c.args.part.now waits c.requires of c.fits_in.result (c.fits_in.ensures ∙ ap (λ (a : Resource). fits_in a c.args.scene.now.free) c.amount.ensures.value)

@@ -1,0 +1,62 @@
+use Rattle.std.proofs.Common.{◌||◌, Bool, List, [], ◌∷◌, ◌++◌, append_assoc, append-nil, sym, ap, subst, ◌∙◌}
+use Rattle.std.specs.BTreeSet.{BTreeSet}
+use mathlib.Core.Bool.{true≢false}
+use Rattle.ynl_resource.specs.declared.amounts.Resource.{Resource}
+use Rattle.ynl_model.specs.Service.{Item}
+use Rattle.ynl_waiting.specs.declared.classes.Class.{Class}
+use Rattle.ynl_waiting.specs.declared.classes.Turn.{Turn}
+use Rattle.ynl_choice.specs.Choosing.{state_in, passes}
+use Rattle.ynl_choice.specs.LeafUses.{IsUseOf}
+use Rattle.ynl_choice.specs.Waits.{is_placeable, is_of_size, is_of_sizes, IsFirstTurn}
+use Rattle.ynl_choice.proofs.Lessened.{passes-less}
+use Rattle.ynl_choice.proofs.Waits.{user-barred, no-sizes, size-more}
+use Rattle.ynl_choice.proofs.turns.add_group.Goals as goal
+
+pub returns-then-not-is_allowed : goal.returns-then-not-is_allowed
+returns-then-not-is_allowed c waits first =
+    let scene = c.args.scene.now in
+    let leaf = c.args.row.now.path in
+    let what = c.args.what.now in
+    let user = c.args.user.now in
+    let group = c.args.group.now in
+    let bars = ap (passes scene) (sym c.request_for-least.ensures) ∙ sym c.is_allowed.ensures.allowed ∙ c.if-not-is_allowed.true in
+    user-barred scene leaf what user group waits c.args.held.now
+    (λ size turn there may. true≢false (sym (passes-less scene leaf what user group.least size (group.none_below size turn there) c.args.tests.now c.requires.scene c.requires.tests may) ∙ bars)) first
+
+pub loop-size-init : goal.loop-size-init
+loop-size-init c =
+    let scene = c.args.scene.now in (
+      [],
+      c.into_iter-size-iterator.ensures.into_iter_gives.0,
+      λ waits first. no-sizes scene c.args.row.now.path c.args.what.now c.args.user.now waits c.args.held.now first,
+      subst (λ (item : Item). IsUseOf (state_in scene) scene.label item.leaf item.user c.is_allowed.new.used) c.request_for-least.ensures c.is_allowed.ensures.used,
+    )
+
+pub loop-size-preserved : goal.loop-size-preserved
+loop-size-preserved c =
+    let scene = c.args.scene.now in
+    let leaf = c.args.row.now.path in
+    let what = c.args.what.now in
+    let user = c.args.user.now in
+    let size = c.in-Some.size.now in
+    let turns = c.in-Some.turns.now in
+    let front : List (Resource × BTreeSet Turn) = c.loop-size.invariant.0 in
+    let entry : Resource × BTreeSet Turn = (size, turns) in
+    let held = c.loop-size.held in
+    let new = c.add_size.new.held in
+    let more : (waits : Class → Turn → Bool) → IsFirstTurn (is_placeable scene leaf what) waits held → IsFirstTurn (is_placeable scene leaf what) (λ class turn. waits class turn || is_of_size scene user size turns class turn) new =
+    subst
+    (λ (item : Item). (waits : Class → Turn → Bool) → IsFirstTurn (is_placeable scene item.leaf item.what) waits held → IsFirstTurn (is_placeable scene item.leaf item.what) (λ class turn. waits class turn || is_of_size scene item.user item.size turns class turn) new)
+    c.request_for-request.ensures c.add_size.ensures.first in (
+      front ++ entry ∷ [],
+      append_assoc front (entry ∷ []) c.next.new.self ∙ ap (λ (rest : List (Resource × BTreeSet Turn)). front ++ rest) (sym c.in-Some.ensures.steps) ∙ c.loop-size.invariant.1,
+      λ waits first. size-more scene leaf what user front size turns waits new (more (λ class turn. waits class turn || is_of_sizes scene user front class turn) (c.loop-size.invariant.2 waits first)),
+      subst (λ (item : Item). IsUseOf (state_in scene) scene.label item.leaf item.user c.add_size.new.used) c.request_for-request.ensures c.add_size.ensures.used,
+    )
+
+pub returns : goal.returns
+returns c waits first =
+    let scene = c.args.scene.now in
+    let front : List (Resource × BTreeSet Turn) = c.loop-size.invariant.0 in
+    let whole = sym (append-nil front) ∙ ap (λ (rest : List (Resource × BTreeSet Turn)). front ++ rest) (sym c.in-None.ensures.steps.0) ∙ c.loop-size.invariant.1 in
+    subst (λ (sizes : List (Resource × BTreeSet Turn)). IsFirstTurn (is_placeable scene c.args.row.now.path c.args.what.now) (λ class turn. waits class turn || is_of_sizes scene c.args.user.now sizes class turn) c.loop-size.held) whole (c.loop-size.invariant.2 waits first)

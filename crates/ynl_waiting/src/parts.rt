@@ -1,0 +1,114 @@
+//! What waits in a leaf for one partition, by users.
+
+ghost use Rattle.std.specs.Prelude.{◌≡◌, false};
+ghost use Rattle.std.specs.Result.{is_ok};
+ghost use Rattle.ynl_resource.specs.declared.amounts.Resource.{Resource};
+ghost use Rattle.ynl_resource.specs.declared.names.Name.{Name};
+ghost use Rattle.ynl_waiting.specs.Classes.{IsBelow};
+ghost use Rattle.ynl_waiting.specs.Users.{has_user, with_user, without_user};
+ghost use Rattle.ynl_waiting.specs.declared.classes.Turn.{Turn};
+
+use crate::classes::Turn;
+use crate::groups::{Group, add_size, take_size};
+use crate::least::{greatest, is_least_in_part, lesser};
+use std::alloc::{AllocError, Global};
+use std::collections::BTreeMap;
+use ynl_resource::{Name, Size};
+
+/// What waits of each user of whom something waits.
+pub type Users = BTreeMap<Name, Group>;
+
+/// What waits in a leaf for one partition, and a size that each of theirs is above or equal to in memory and in
+/// virtual cores: the least of either.
+#[derive(Drop)]
+pub struct Part {
+    pub users: Users,
+    pub least: Size,
+    ghost none_below: { (user : Name) → IsBelow least (has_user users.entries user) },
+}
+
+/// A user comes of whom nothing waited, and one request of theirs waits.
+fn put_user(
+    users: &mut Users,
+    alloc: Global,
+    user: &Name,
+    size: &Size,
+    turn: &Turn,
+) -> Result<(), AllocError>
+    requires { (s : Resource) (t : Turn) → has_user users.old.entries user.now s t ≡ false }
+    ensures { (u : Name) (s : Resource) (t : Turn) → has_user users.new.entries u s t ≡ with_user (is_ok result) (has_user users.old.entries) user.now size.now turn.now u s t }
+{
+    let mut group = Group {
+        sizes: BTreeMap::new(alloc),
+        least: *size,
+    };
+    add_size(&mut group, alloc, size, turn)?;
+    users.insert(*user, group)?;
+    Ok(())
+}
+
+/// One request more of a user.
+fn add_to_users(
+    users: &mut Users,
+    alloc: Global,
+    user: &Name,
+    size: &Size,
+    turn: &Turn,
+) -> Result<(), AllocError>
+    ensures { (u : Name) (s : Resource) (t : Turn) → has_user users.new.entries u s t ≡ with_user (is_ok result) (has_user users.old.entries) user.now size.now turn.now u s t }
+{
+    if let Some(group) = users.get_mut(user) {
+        return add_size(group, alloc, size, turn);
+    }
+    put_user(users, alloc, user, size, turn)
+}
+
+/// One request more for a partition. The least is lowered to it.
+pub fn add_user(
+    part: &mut Part,
+    alloc: Global,
+    user: &Name,
+    size: &Size,
+    turn: &Turn,
+) -> Result<(), AllocError>
+    ensures { (u : Name) (s : Resource) (t : Turn) → has_user part.new.users.entries u s t ≡ with_user (is_ok result) (has_user part.old.users.entries) user.now size.now turn.now u s t }
+{
+    part.least = lesser(&part.least, size);
+    add_to_users(&mut part.users, alloc, user, size, turn)
+}
+
+/// One request of a user less, and with the last one the user's entry goes. Whether a size of theirs went.
+fn take_from_users(users: &mut Users, user: &Name, size: &Size, turn: &Turn) -> bool
+    ensures { (u : Name) (s : Resource) (t : Turn) → has_user users.new.entries u s t ≡ without_user (has_user users.old.entries) user.now size.now turn.now u s t }
+{
+    let Some(group) = users.get_mut(user) else {
+        return false;
+    };
+    let went = take_size(group, size, turn);
+    if !group.sizes.is_empty() {
+        return went;
+    }
+    users.remove(user);
+    went
+}
+
+/// A size that is at most each of those of some users. No size is looked at, but only the least of each user.
+fn least_of_users(users: &Users) -> Size
+    ensures { (user : Name) → IsBelow result (has_user users.now.entries user) }
+{
+    let mut least = greatest();
+    for (_, group) in users {
+        least = lesser(&least, &group.least);
+    }
+    least
+}
+
+/// One request for a partition less. The least is found again only where a size went that may have had it.
+pub fn take_user(part: &mut Part, user: &Name, size: &Size, turn: &Turn)
+    ensures { (u : Name) (s : Resource) (t : Turn) → has_user part.new.users.entries u s t ≡ without_user (has_user part.old.users.entries) user.now size.now turn.now u s t }
+{
+    let went = take_from_users(&mut part.users, user, size, turn);
+    if went && is_least_in_part(&part.least, size) {
+        part.least = least_of_users(&part.users);
+    }
+}
