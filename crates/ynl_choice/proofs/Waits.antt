@@ -31,7 +31,7 @@ use Rattle.ynl_waiting.specs.Waiting.{has, has_part}
 use Rattle.ynl_waiting.proofs.Having.{size-is, number-self}
 use Rattle.ynl_choice.specs.declared.scenes.Scene.{Scene}
 use Rattle.ynl_choice.specs.Choosing.{state_in, label_for, passes}
-use Rattle.ynl_choice.specs.Waits.{item_for, item_of_size, fits_leaf, fits_user, is_placeable, is_before, IsFirstTurn, IsPartOf, IsPartFor, is_of_size, is_of_sizes, is_of_users}
+use Rattle.ynl_choice.specs.Waits.{item_for, item_of_size, fits_leaf, fits_user, is_placeable, is_before, IsBehind, IsFirstTurn, IsPartOf, IsPartFor, is_of_size, is_of_sizes, is_of_users}
 
 turn_order_total : IsTotalOrder turn_order
 turn_order_total = then_total (on_total (λ (s : Turn). s.number) nat_cmp_total) (on_total (λ (s : Turn). s.priority) nat_cmp_total)
@@ -95,10 +95,23 @@ right : (a b : Bool) → b ≡ true → (a || b) ≡ true
 right true b h = refl
 right false b h = h
 
--- a turn is not before the one that is held
-abbrev IsBehind : Option Turn → Turn → Type 0
-IsBehind None turn = ⊥
-IsBehind (Some best) turn = is_turn_later best turn ≡ false
+-- nor is one that is not before another one that is not
+behind : (held : Option Turn) (turn : Turn) → is_before held turn ≡ false → (t : Turn) → is_turn_later turn t ≡ false → IsBehind held t
+behind None turn late t h = true≢false late
+behind (Some best) turn late t h = chained best turn t late h
+
+-- no turn of some sizes is before the one that is held
+abbrev pub AreBehind : Option Turn → List (Resource × BTreeSet Turn) → Type 0
+AreBehind held sizes = (size : Resource) (turn : Turn) → has_size sizes size turn ≡ true → IsBehind held turn
+
+-- nor one of one size more, where its first is not
+pub first-behind : (held : Option Turn) (size : Resource) (turns : BTreeSet Turn) (rest : List (Resource × BTreeSet Turn)) (turn : Turn) → ((t : Turn) → contains turn_order turns t ≡ true → is_turn_later turn t ≡ false) → is_before held turn ≡ false
+    → AreBehind held rest → AreBehind held ((size, turns) ∷ rest)
+first-behind held size turns rest turn top late others s t there = go (either (same_size s size && contains turn_order turns t) (has_size rest s t) there)
+  where
+    go : ((same_size s size && contains turn_order turns t) ≡ true) ⊎ (has_size rest s t ≡ true) → IsBehind held t
+    go (inl h) = behind held turn late t (top t (and_parts (same_size s size) (contains turn_order turns t) h).1)
+    go (inr h) = others s t h
 
 module _ (test : Class → Bool) where
   -- what waits alike of the classes that pass has the same first turn
@@ -165,11 +178,7 @@ module _ (scene : Scene) (user : Name) (size : Resource) (turns : BTreeSet Turn)
 
     -- the first of them is not before the one that is held
     pub all-behind : (turn : Turn) → ((t : Turn) → contains turn_order turns t ≡ true → is_turn_later turn t ≡ false) → is_before held turn ≡ false → With held
-    all-behind turn top late = stays (is_placeable scene leaf what) waits own held (λ class t h may. behind held late t (top t (parts class t h).3)) first
-      where
-        behind : (held : Option Turn) → is_before held turn ≡ false → (t : Turn) → is_turn_later turn t ≡ false → IsBehind held t
-        behind None late t h = true≢false late
-        behind (Some best) late t h = chained best turn t late h
+    all-behind turn top late = stays (is_placeable scene leaf what) waits own held (λ class t h may. behind held turn late t (top t (parts class t h).3)) first
 
     -- they may not be placed
     pub size-barred : passes scene (item_of_size leaf what user size) ≡ false → With held
@@ -235,7 +244,14 @@ module _ (scene : Scene) (leaf : Path) (what : What) where
       (λ class turn may. sym (ap (λ b. same_label class.label scene.label && b) (list_any-append (λ (e : Name × Group). same_name class.user e.0 && has_size e.1.sizes.entries class.size turn) front ((user, group) ∷ []))
       ∙ dist (same_label class.label scene.label) true (has_user front class.user class.size turn) (same_name class.user user && has_size group.sizes.entries class.size turn))) first
 
-  -- nothing of a user whose least may not be placed
+  -- nothing of a user of whom no turn is before the one that is held
+  pub user-behind : (user : Name) (group : Group) (waits : Class → Turn → Bool) (held : Option Turn) → AreBehind held group.sizes.entries
+      → IsFirstTurn (is_placeable scene leaf what) waits held → IsFirstTurn (is_placeable scene leaf what) (λ class turn. waits class turn || is_of_sizes scene user group.sizes.entries class turn) held
+  user-behind user group waits held late first =
+      stays (is_placeable scene leaf what) waits (is_of_sizes scene user group.sizes.entries) held
+      (λ class turn h may. late class.size turn (and_parts (same_name class.user user) (has_size group.sizes.entries class.size turn) (and_parts (same_label class.label scene.label) (same_name class.user user && has_size group.sizes.entries class.size turn) h).1).1) first
+
+  -- nor of one whose least may not be placed
   pub user-barred : (user : Name) (group : Group) (waits : Class → Turn → Bool) (held : Option Turn)
       → ((size : Resource) (turn : Turn) → has_size group.sizes.entries size turn ≡ true → passes scene (item_of_size leaf what user size) ≡ true → ⊥)
       → IsFirstTurn (is_placeable scene leaf what) waits held → IsFirstTurn (is_placeable scene leaf what) (λ class turn. waits class turn || is_of_sizes scene user group.sizes.entries class turn) held

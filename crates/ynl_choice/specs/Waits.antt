@@ -73,6 +73,11 @@ abbrev pub is_before : Option Turn → Turn → Bool
 is_before None turn = true
 is_before (Some best) turn = is_turn_later best turn
 
+-- a turn is not before the one that is held
+abbrev pub IsBehind : Option Turn → Turn → Type 0
+IsBehind None turn = ⊥
+IsBehind (Some best) turn = is_turn_later best turn ≡ false
+
 -- what an application asks for with a priority
 abbrev pub asked_at : Scene → Application → ℕ → List Item
 asked_at scene app priority = option_map_or (λ ask. wanted_of scene app (ask ∷ [])) (find_ask app scene.label priority) []

@@ -3,9 +3,11 @@
 
 ghost use Rattle.std.specs.Prelude.{◌≡◌, Bool, true, None, ◌||◌, IfSome};
 ghost use Rattle.std.specs.Bool.{OnFalse};
+ghost use Rattle.ynl_resource.specs.declared.amounts.Resource.{Resource};
 ghost use Rattle.ynl_resource.specs.declared.paths.Path.{Path};
 ghost use Rattle.ynl_model.specs.Service.{has_room};
 ghost use Rattle.ynl_model.specs.declared.proposals.What.{What};
+ghost use Rattle.ynl_waiting.specs.Classes.{has_size};
 ghost use Rattle.ynl_waiting.specs.Waiting.{has};
 ghost use Rattle.ynl_waiting.specs.declared.classes.Class.{Class};
 ghost use Rattle.ynl_waiting.specs.declared.classes.Turn.{Turn};
@@ -13,7 +15,7 @@ ghost use Rattle.ynl_choice.specs.Candidates.{item_by};
 ghost use Rattle.ynl_choice.specs.Choosing.{state_in, passes, IsScene, AreLimits, AreTests};
 ghost use Rattle.ynl_choice.specs.LeafUses.{IsModest, IsUseOf};
 ghost use Rattle.ynl_choice.specs.declared.scenes.Scene.{Scene};
-ghost use Rattle.ynl_choice.specs.Waits.{item_of_size, fits_leaf, fits_user, is_of_size, is_of_sizes, is_placeable, is_before, IsFirstTurn, IsPartOf, IsPartFor};
+ghost use Rattle.ynl_choice.specs.Waits.{item_of_size, fits_leaf, fits_user, is_of_size, is_of_sizes, is_placeable, is_before, IsBehind, IsFirstTurn, IsPartOf, IsPartFor};
 
 use crate::eligible::{allows, keeps_leaf_limits, keeps_user_limit};
 use crate::leaf_use::LeafUse;
@@ -23,7 +25,7 @@ use std::collections::BTreeSet;
 use ynl_model::What;
 use ynl_resource::{Name, Resource, Size};
 use ynl_tables::LeafRow;
-use ynl_waiting::{Group, Part, Rows, Turn, first_of};
+use ynl_waiting::{Group, Part, Rows, Sizes, Turn, first_of};
 
 /// What waits in a leaf for the partition. Where nothing does nothing may be placed.
 pub fn part_for<'a>(scene: &Scene<'_>, waiting: &'a Rows) -> Option<&'a Part>
@@ -192,8 +194,22 @@ fn add_size(
     }
 }
 
-/// Looks at one user more. Where the user's least may not be placed nothing of theirs may, and no size is looked at;
-/// what the user uses is looked for once.
+/// Whether some turn of a user is before the one that is held. It takes no sum.
+fn is_any_before(held: &Option<Turn>, sizes: &Sizes) -> bool
+    ensures { OnFalse result ((size : Resource) (turn : Turn) → has_size sizes.now.entries size turn ≡ true → IsBehind held.now turn) }
+{
+    for (_, turns) in sizes {
+        if let Some(turn) = first_of(turns) {
+            if is_before(held, &turn) {
+                return true;
+            }
+        }
+    }
+    false
+}
+
+/// Looks at one user more. Where no turn of the user's would be first, or their least may not be placed, nothing of
+/// theirs is taken, and no size is looked at; what the user uses is looked for once.
 fn add_group(
     scene: &Scene<'_>,
     tests: &Option<LeafUse>,
@@ -207,6 +223,9 @@ fn add_group(
     requires tests { AreTests scene.now row.now.path tests.now }
     ensures { (waits : Class → Turn → Bool) → IsFirstTurn (is_placeable scene.now row.now.path what.now) waits held.old → IsFirstTurn (is_placeable scene.now row.now.path what.now) (λ class turn. waits class turn || is_of_sizes scene.now user.now group.now.sizes.entries class turn) held.new }
 {
+    if !is_any_before(held, &group.sizes) {
+        return;
+    }
     let mut used = None;
     let least = request_for(row, what, user, &group.least);
     if !is_allowed(scene, tests, &least, &mut used) {

@@ -3,7 +3,7 @@
 #![tactic(auto)]
 
 pub use classes::{Class, Turn, first_of};
-pub use groups::Group;
+pub use groups::{Group, Sizes};
 pub use parts::Part;
 pub use rows::Rows;
 pub use waiting::Waiting;

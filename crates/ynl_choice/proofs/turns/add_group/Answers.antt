@@ -1,4 +1,5 @@
 use Rattle.std.proofs.Common.{◌||◌, Bool, List, [], ◌∷◌, ◌++◌, append_assoc, append-nil, sym, ap, subst, ◌∙◌}
+use Rattle.std.specs.Bool.{OnFalse}
 use Rattle.std.specs.BTreeSet.{BTreeSet}
 use mathlib.Core.Bool.{true≢false}
 use Rattle.ynl_resource.specs.declared.amounts.Resource.{Resource}
@@ -9,8 +10,14 @@ use Rattle.ynl_choice.specs.Choosing.{state_in, passes}
 use Rattle.ynl_choice.specs.LeafUses.{IsUseOf}
 use Rattle.ynl_choice.specs.Waits.{is_placeable, is_of_size, is_of_sizes, IsFirstTurn}
 use Rattle.ynl_choice.proofs.Lessened.{passes-less}
-use Rattle.ynl_choice.proofs.Waits.{user-barred, no-sizes, size-more}
+use Rattle.ynl_choice.proofs.Waits.{AreBehind, user-behind, user-barred, no-sizes, size-more}
 use Rattle.ynl_choice.proofs.turns.add_group.Goals as goal
+
+pub returns-then-not-is_any_before : goal.returns-then-not-is_any_before
+returns-then-not-is_any_before c waits first =
+    let held = c.args.held.now in
+    let group = c.args.group.now in
+    user-behind c.args.scene.now c.args.row.now.path c.args.what.now c.args.user.now group waits held (subst (λ b. OnFalse b (AreBehind held group.sizes.entries)) c.if-not-is_any_before.true c.is_any_before.ensures) first
 
 pub returns-then-not-is_allowed : goal.returns-then-not-is_allowed
 returns-then-not-is_allowed c waits first =
