@@ -20,10 +20,11 @@ use Rattle.ynl_waiting.specs.declared.parts.Part.{Part}
 use Rattle.ynl_choice.specs.declared.scenes.Scene.{Scene}
 use Rattle.ynl_choice.specs.Choosing.{state_in, passes, wanted_of}
 
--- the request that stands for those of a class: whether one may be placed hangs on no application's name
+-- the request that stands for those of a user and a size: whether one may be placed hangs on no application's name
 abbrev pub item_of_size : Path → What → Name → Resource → Item
 item_of_size leaf what user size = record { leaf = leaf; app = user; user = user; what = what; size = size }
 
+-- and so for those of a class
 abbrev pub item_for : Path → What → Class → Item
 item_for leaf what class = item_of_size leaf what class.user class.size
 
