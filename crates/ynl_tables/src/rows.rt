@@ -48,9 +48,9 @@ pub struct Near {
     pub leaf: usize,
 }
 
-/// A leaf: its path, hints where it stands, its tenant, the names of all applications that were ever submitted there, with a search
-/// in them, and those of them that are live, both in the order of submission; of these what waits, the
-/// masters of those that wait and the asks of those that run; and who shares its part of each partition.
+/// A leaf: its path, hints where it stands, its tenant, the names of all applications that were ever submitted
+/// there, with a search in them, and those of them that are live, both in the order of submission; of these what
+/// waits, the masters of those that wait and the asks of those that run; and who shares its part of each partition.
 #[derive(Drop)]
 pub struct LeafRow {
     pub path: Path,
