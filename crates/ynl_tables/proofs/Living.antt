@@ -4,20 +4,40 @@ use Rattle.std.specs.Prelude.{nat_lt}
 use Rattle.std.specs.List.{AllByRecursion, list_all, list_any, remove}
 use Rattle.std.proofs.Math.ListN.{set}
 use Rattle.std.proofs.lemmas.Bool.{and_from, and_parts}
+use mathlib.Core.Bool.{true≢false}
 use Rattle.std.proofs.lemmas.Bool.Decides.{nat_tests}
 use Rattle.std.proofs.lemmas.List.{take_more, get_or_default}
 use Rattle.ynl_resource.specs.Amounts.{plus, fits_in, total_of}
 use Rattle.ynl_resource.specs.declared.amounts.Resource.{Resource}
+use Rattle.ynl_resource.specs.Names.{is_default, same_label}
 use Rattle.ynl_resource.specs.declared.labels.Label.{Label}
+use Rattle.ynl_resource.specs.declared.labels.Label.TheVariants.{Unlabelled, Named}
 use Rattle.ynl_resource.specs.Tables.{without}
 use Rattle.ynl_model.specs.declared.containers.Placed.{Placed}
+use Rattle.ynl_model.specs.declared.proposals.What.{What}
+use Rattle.ynl_model.specs.declared.proposals.What.TheVariants.{Master, Ask as Asked}
 use Rattle.ynl_model.specs.Cluster.{sizes}
 use Rattle.ynl_tables.specs.declared.rows.ContainerRow.{ContainerRow}
-use Rattle.ynl_tables.specs.Living.{container_in, live_in, live_of, row_clock, is_live_and}
+use Rattle.ynl_tables.specs.declared.rows.Kind.TheVariants.{Own, Guest}
+use Rattle.ynl_tables.specs.Living.{container_in, is_live_and, is_suited, kind_in, live_in, live_of, row_clock, what_in}
 use Rattle.ynl_tables.specs.Rising.{numbers_rise, clock_of, IsAlone}
 use Rattle.ynl_laws.proofs.Amounts.{fits-filter, fits-trans}
+use Rattle.ynl_laws.proofs.Names.{same-label_path}
 use Rattle.ynl_tables.proofs.Adding.{part_within}
 use Rattle.ynl_tables.proofs.Searching.{one_alone, none_alone, each_from, no_higher}
+
+-- what has a kind is what its kind says
+pub kind_says : (label : Label) (what : What) → is_suited label what ≡ true → what_in label (kind_in label what) ≡ what
+kind_says label Master suited = refl
+kind_says label (Asked asked priority) suited = go (same_label asked label) refl suited
+  where
+    default : (asked : Label) → is_default asked ≡ true → Asked Unlabelled priority ≡ Asked asked priority
+    default Unlabelled e = refl
+    default (Named name) e = absurd (true≢false (sym e))
+
+    go : (b : Bool) → same_label asked label ≡ b → (b || is_default asked) ≡ true → what_in label (cond b (Own priority) (Guest priority)) ≡ Asked asked priority
+    go true e h = ap (λ l. Asked l priority) (sym (same-label_path asked label e))
+    go false e h = default asked h
 
 all_set : (p : ContainerRow → Bool) (rows : List ContainerRow) (i : ℕ) (d new : ContainerRow) → i < length rows → p new ≡ p (get_or rows i d) → list_all p rows ≡ true → list_all p (set rows i new) ≡ true
 all_set p [] i d new inside e h = absurd (omega arith)

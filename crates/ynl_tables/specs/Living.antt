@@ -1,17 +1,39 @@
--- Rows of containers, of which those that are dead stand for nothing. A row has no label: its container has that of the partition.
-use Rattle.std.specs.Prelude.{ℕ, Bool, true, ◌&&◌, List, [], ◌∷◌, Option, Some, None, slice_get, if◌then◌else◌}
+-- Rows of containers, of which those that are dead stand for nothing. A row has no label: its container has that of the partition, and so has what it was asked as, or DEFAULT.
+use Rattle.std.specs.Prelude.{ℕ, Bool, true, ◌&&◌, ◌||◌, List, [], ◌∷◌, Option, Some, None, slice_get, if◌then◌else◌}
 use Rattle.std.specs.Option.{option_and_then}
+use Rattle.ynl_resource.specs.Names.{is_default, same_label}
 use Rattle.ynl_resource.specs.declared.labels.Label.{Label}
+use Rattle.ynl_resource.specs.declared.labels.Label.TheVariants.{Unlabelled}
+use Rattle.ynl_model.specs.declared.proposals.What.{What}
+use Rattle.ynl_model.specs.declared.proposals.What.TheVariants.{Master, Ask as Asked}
 use Rattle.ynl_model.specs.declared.containers.Placed.{Placed}
 use Rattle.ynl_tables.specs.declared.rows.ContainerRow.{ContainerRow}
+use Rattle.ynl_tables.specs.declared.rows.Kind.{Kind}
+use Rattle.ynl_tables.specs.declared.rows.Kind.TheVariants.{Master as MasterKind, Own, Guest}
+
+-- whether what a container was asked as has a kind in the partition of a label: a master has, and an ask under that label or under DEFAULT
+abbrev pub is_suited : Label → What → Bool
+is_suited label Master = true
+is_suited label (Asked asked priority) = same_label asked label || is_default asked
+
+-- its kind
+abbrev pub kind_in : Label → What → Kind
+kind_in label Master = MasterKind
+kind_in label (Asked asked priority) = if same_label asked label then Own priority else Guest priority
+
+-- what a kind says
+abbrev pub what_in : Label → Kind → What
+what_in label MasterKind = Master
+what_in label (Own priority) = Asked label priority
+what_in label (Guest priority) = Asked Unlabelled priority
 
 -- the container of a row, in the partition of a label
 abbrev pub container_in : Label → ContainerRow → Placed
-container_in label row = record { id = record { label = label; clock = row.clock }; node = row.node; tenant = row.tenant; app = row.app; what = row.what; size = row.size }
+container_in label row = record { id = record { label = label; clock = row.clock }; node = row.node; tenant = row.tenant; app = row.app; what = what_in label row.kind; size = row.size }
 
 -- the live row of a container
 abbrev pub row_of : Placed → ContainerRow
-row_of container = record { clock = container.id.clock; node = container.node; tenant = container.tenant; app = container.app; what = container.what; size = container.size; is_live = true }
+row_of container = record { clock = container.id.clock; node = container.node; tenant = container.tenant; app = container.app; kind = kind_in container.id.label container.what; size = container.size; is_live = true }
 
 -- the containers of the live rows, in the order of the rows
 abbrev pub live_in : Label → List ContainerRow → List Placed

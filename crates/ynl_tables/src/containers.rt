@@ -5,14 +5,14 @@ ghost use Rattle.std.specs.List.{AllByRecursion};
 ghost use Rattle.ynl_resource.specs.Names.{same_id, same_name};
 ghost use Rattle.ynl_model.specs.Cluster.{is_of};
 ghost use Rattle.ynl_model.specs.Events.{container_for};
-ghost use Rattle.ynl_tables.specs.Living.{container_in, live_in, row_clock, row_of};
+ghost use Rattle.ynl_tables.specs.Living.{container_in, kind_in, live_in, row_clock, row_of, what_in};
 ghost use Rattle.ynl_tables.specs.Rising.{numbers_rise, clock_of, IsPlaceAt, IsAlone};
 ghost use Rattle.ynl_tables.specs.Tables.{state_of};
 
 use crate::ended::live_of;
-use crate::rows::ContainerRow;
+use crate::rows::{ContainerRow, Kind};
 use crate::tables::{Tables, containers_at, is_same};
-use ynl_model::Placed;
+use ynl_model::{Placed, What};
 use ynl_resource::{Id, Label, Name};
 
 /// Whether two ids are the same.
@@ -29,6 +29,33 @@ pub fn is_own(container: &Placed, tenant: &[u8], app: &Name) -> bool
     container.app == *app && container.tenant.as_bytes() == tenant
 }
 
+/// What a container of a kind was asked as, in the partition of a label.
+fn what_in(label: &Label, kind: &Kind) -> What
+    ensures { result ≡ what_in label.now kind.now }
+{
+    match kind {
+        Kind::Master => What::Master,
+        Kind::Own(priority) => What::Ask(*label, *priority),
+        Kind::Guest(priority) => What::Ask(Label::Unlabelled, *priority),
+    }
+}
+
+/// The kind of what a container was asked as, in the partition of a label.
+fn kind_in(label: &Label, what: &What) -> Kind
+    ensures { result ≡ kind_in label.now what.now }
+{
+    match what {
+        What::Master => Kind::Master,
+        What::Ask(asked, priority) => {
+            if is_same(asked, label) {
+                Kind::Own(*priority)
+            } else {
+                Kind::Guest(*priority)
+            }
+        }
+    }
+}
+
 /// The container of a row, in the partition of a label.
 pub fn container_of(label: &Label, row: &ContainerRow) -> Placed
     ensures { result ≡ container_in label.now row.now }
@@ -41,7 +68,7 @@ pub fn container_of(label: &Label, row: &ContainerRow) -> Placed
         node: row.node,
         tenant: row.tenant,
         app: row.app,
-        what: row.what,
+        what: what_in(label, &row.kind),
         size: row.size,
     }
 }
@@ -55,7 +82,7 @@ pub fn row_of(container: &Placed) -> ContainerRow
         node: container.node,
         tenant: container.tenant,
         app: container.app,
-        what: container.what,
+        kind: kind_in(&container.id.label, &container.what),
         size: container.size,
         is_live: true,
     }

@@ -19,7 +19,7 @@ pub use numbers::{QueueNumbers, way_of_app};
 pub use polling::{own_containers, pending_on};
 pub use queue_use::{free, guests, masters_used, no_master_in, runs, used, user_used, uses_on};
 pub use resting::{rest, wake};
-pub use rows::{App, ContainerRow, LeafPart, LeafRow, Near, PartitionRow};
+pub use rows::{App, ContainerRow, Kind, LeafPart, LeafRow, Near, PartitionRow};
 pub use sharing::{shares, users};
 pub use sums::Sums;
 pub use tables::{

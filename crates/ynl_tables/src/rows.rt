@@ -16,7 +16,7 @@ use crate::known::Known;
 use crate::sums::Sums;
 use crate::user_counts::UserCounts;
 use std::marker::Model;
-use ynl_model::{AskRow, Use, What};
+use ynl_model::{AskRow, Use};
 use ynl_resource::{Label, Name, Path, Size};
 use ynl_waiting::Waiting;
 
@@ -73,14 +73,23 @@ pub struct LeafRow {
     ghost all_counted: { AllByRecursion (IsCountedPart apps.items) parts.items } by { Prim.hlevel props },
 }
 
-/// A row of a container. It has no label, since all containers of a partition have the partition's. One that
-/// has ended is dead: it stands for nothing, and keeps its place among the others until the dead are cleared.
-/// Numbers stand before bytes, so that no room is lost between them.
+/// What a container was asked as, in its partition: a master, an ask under the partition's own label, or a
+/// guest's, under DEFAULT; asks have their priority.
+#[derive(Clone, Copy)]
+pub enum Kind {
+    Master,
+    Own(u32),
+    Guest(u32),
+}
+
+/// A row of a container. It has no label, since all containers of a partition have the partition's, nor has its
+/// kind one. One that has ended is dead: it stands for nothing, and keeps its place among the others until the
+/// dead are cleared. Numbers stand before bytes, so that no room is lost between them.
 #[derive(Clone, Copy)]
 pub struct ContainerRow {
     pub clock: u64,
     pub size: Size,
-    pub what: What,
+    pub kind: Kind,
     pub node: Name,
     pub tenant: Name,
     pub app: Name,
