@@ -1,13 +1,13 @@
 -- The marks of applications through the changes of their rows.
-use Rattle.std.proofs.Common.{append-nil, ◌≡◌, ℕ, ◌+◌, ◌<◌, ◌≤◌, Bool, true, false, cond, not, List, [], ◌∷◌, ◌++◌, length, take, get_or, map, filter, find, Option, Some, None, refl, sym, ap, subst, ◌∙◌, arith}
-use Rattle.std.specs.Prelude.{◌&&◌, ◌||◌, ◌==◌, option_map}
+use Rattle.std.proofs.Common.{append-nil, ◌≡◌, ◌⊎◌, inl, inr, ℕ, ◌+◌, ◌<◌, ◌≤◌, Bool, true, false, cond, not, List, [], ◌∷◌, ◌++◌, length, take, get_or, map, filter, find, Option, Some, None, refl, sym, ap, subst, ◌∙◌, arith}
+use Rattle.std.specs.Prelude.{◌&&◌, ◌||◌, ◌==◌, IfSome, option_map}
 use Rattle.std.proofs.lemmas.Bool.Decides.{nat_tests}
 use Rattle.std.specs.List.{AllByRecursion, list_any}
 use Rattle.std.specs.Option.{option_and_then, option_map_or}
 use Rattle.std.proofs.Math.ListN.{set}
-use Rattle.std.proofs.lemmas.Bool.{and_parts}
+use Rattle.std.proofs.lemmas.Bool.{and_parts, or_right}
 use mathlib.Core.Bool.{true≢false}
-use Rattle.ynl_resource.specs.Names.{same_id, same_label, same_name, same_path, tenant_of}
+use Rattle.ynl_resource.specs.Names.{is_default, same_id, same_label, same_name, same_path, tenant_of}
 use Rattle.ynl_resource.specs.declared.amounts.Resource.{Resource}
 use Rattle.ynl_resource.specs.declared.labels.Label.{Label}
 use Rattle.ynl_resource.specs.declared.names.Name.{Name}
@@ -17,8 +17,10 @@ use Rattle.ynl_model.specs.declared.containers.Placed.{Placed}
 use Rattle.ynl_model.specs.declared.nodes.Node.{Node}
 use Rattle.ynl_model.specs.Queues.{Config, QueueRow, is_leaf}
 use Rattle.ynl_model.specs.Applications.{Application, LeafApps, find_app, in_leaf, finished, no_apps, row_of}
+use Rattle.ynl_model.specs.declared.proposals.What.{What}
+use Rattle.ynl_model.specs.declared.proposals.What.TheVariants.{Master, Ask as Asked}
 use Rattle.ynl_model.specs.Cluster.{State, Partition, containers_on, is_master, is_partition, is_spent, next_clock, node_of}
-use Rattle.ynl_model.specs.Service.{Item}
+use Rattle.ynl_model.specs.Service.{Item, takes_guests}
 use Rattle.ynl_model.specs.Changes.{app_finishes, container_of, end, next_item, node_joins, node_leaves, place}
 use Rattle.ynl_model.specs.Check.{commit_reasons, proposed_item}
 use Rattle.ynl_model.specs.Events.{container_at}
@@ -34,11 +36,13 @@ use Rattle.ynl_laws.specs.Working.{IsOrdered, Pairs, IsWorking, Stands, clock_in
 use Rattle.ynl_laws.proofs.Lists.{Each-all, Each-both, Each-find, Each-map, Each-unmap, Each-weaker, all-of, filter-nothing, filter-passes}
 use Rattle.ynl_laws.proofs.Names.{same-label_path, same-label_self, same-name_sym}
 use Rattle.ynl_laws.proofs.Events.Chosen.{none-holds}
+use Rattle.ynl_laws.proofs.Events.Wanted.{IsFor, IsWanted, choice-wanted, commit-wanted}
 use Rattle.ynl_laws.proofs.Soundness.Steps.{stands-found}
+use Rattle.ynl_laws.proofs.Totals.Tabling.{finds-all}
 use Rattle.ynl_laws.proofs.Totals.Waiting.{master-chosen, master-committed}
 use Rattle.ynl_laws.proofs.Totals.Marks.{mark-end, mark-finish, mark-joined, mark-left, mark-place}
 use Rattle.ynl_tables.specs.declared.rows.ContainerRow.{ContainerRow}
-use Rattle.ynl_tables.specs.Living.{container_in, is_live_and, live_in}
+use Rattle.ynl_tables.specs.Living.{container_in, is_live_and, is_suited, live_in}
 use Rattle.ynl_tables.proofs.Living.{live_more}
 use Rattle.ynl_tables.specs.declared.rows.App.{App}
 use Rattle.ynl_tables.specs.declared.rows.LeafRow.{LeafRow}
@@ -334,13 +338,24 @@ stands_row c s node w stands =
     (Each-map (λ (n : Node). (has_row s.partitions n.label ≡ true) × (n.stamp ≤ clock_in s.partitions n.label)) (λ (n : Tracked). has_row s.partitions n.label ≡ true) without_stamp (λ n k. k.0) s.nodes w.ordered.stamps)
     (without_stamp node) stands).0
 
+-- what is for a partition has a kind there
+suited_for : (c : Config) (p : Label) (app : Application) (what : What) → IsFor c p app what → is_suited p what ≡ true
+suited_for c p app Master for = refl
+suited_for c p app (Asked label priority) for = go for.1
+  where
+    go : (label ≡ p) ⊎ ((is_default label ≡ true) × (takes_guests c p ≡ true)) → (same_label label p || is_default label) ≡ true
+    go (inl own) = ap (λ b. b || is_default label) (ap (λ l. same_label l p) own ∙ same-label_self p)
+    go (inr guest) = or_right (same_label label p) (is_default label) guest.0
+
 -- what is placed next may be placed
 pub placeable_next : (c : Config) (s : State) (node : Node) (item : Item) → IsWorking c s → Tabled s → Stands s node → next_item c s node ≡ Some item → IsPlaceable c s node item
 placeable_next c s node item w tabled stands e =
     let k = chosen c s node item e in
+    let wanted = subst (λ o. IfSome o (IsWanted c s node.label)) k.1 (choice-wanted c s (finds-all s tabled) node) in
     record {
       there = stands_row c s node w stands;
       fresh = k.0;
+      suited = suited_for c node.label wanted.app item.what wanted.what;
       waits = λ app itself for. master-chosen c s node item app tabled itself k.1 for;
     }
 
@@ -351,9 +366,13 @@ unfolding commit_reasons
 placeable_committed c s proposal node found w tabled none e f = record {
   there = stands_row c s node w (stands-found s proposal.node node e);
   fresh = sym (λ i. option_map_or (λ node. is_spent c.labels s node.label) (e i) false) ∙ spent;
+  suited = suited_for c node.label wanted.app proposal.what wanted.what;
   waits = λ app itself for. master-committed c s proposal node found app itself (finds_found s proposal.tenant proposal.app found tabled f) none e f for;
 }
   where
+    wanted : IsWanted c s node.label (proposed_item proposal found)
+    wanted = commit-wanted c s proposal node found (finds-all s tabled) none e f
+
     spent : option_map_or (λ node. is_spent c.labels s node.label) (node_of s proposal.node) false ≡ false
     spent = (none-holds (commit_reasons c s proposal) none).1.0
 

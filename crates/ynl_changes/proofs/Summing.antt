@@ -39,12 +39,12 @@ use Rattle.ynl_tables.specs.Sums.{AreSums}
 use Rattle.ynl_tables.specs.Kept.{AreByUser, IsSummed, AreKept, IsKept, stands_on}
 use Rattle.ynl_tables.specs.declared.holders.Listed.{Listed}
 use Rattle.ynl_tables.specs.Listed.{AreListed}
-use Rattle.ynl_tables.specs.Living.{container_in, is_live_and, live_in, row_of}
+use Rattle.ynl_tables.specs.Living.{container_in, is_live_and, is_suited, kind_in, live_in, row_of, what_in}
 use Rattle.ynl_tables.specs.Numbers.{AreNumbered}
 use Rattle.ynl_tables.specs.Rising.{clock_of}
 use Rattle.ynl_tables.specs.Tables.{partition_of, partitions_of, state_of}
 use Rattle.ynl_tables.proofs.Adding.{small_part}
-use Rattle.ynl_tables.proofs.Living.{live_append, live_between, live_without}
+use Rattle.ynl_tables.proofs.Living.{kind_says, live_append, live_between, live_without}
 use Rattle.ynl_tables.proofs.Leaves.{leaves_told}
 use Rattle.ynl_changes.specs.Cells.{IsSmallUse, LeavesIf, LowersAll}
 use Rattle.ynl_changes.proofs.ByUser.{users_alike}
@@ -166,10 +166,11 @@ pub all_ended : (label : Label) (goes : Placed → Bool) (rows : List ContainerR
 all_ended label goes rows i past = ap (live_in label) (all_gone (is_live_and label goes) rows i past) ∙ live_without label goes rows
 
 -- a container of the partition comes last where its row does, and is live
-pub live_pushed : (label : Label) (old made new : List ContainerRow) (k : Placed) → k.id.label ≡ label → live_in label made ≡ live_in label old → new ≡ made ++ row_of k ∷ [] → live_in label new ≡ live_in label old ++ k ∷ []
-live_pushed label old made new k own same pushed =
+pub live_pushed : (label : Label) (old made new : List ContainerRow) (k : Placed) → k.id.label ≡ label → is_suited label k.what ≡ true → live_in label made ≡ live_in label old → new ≡ made ++ row_of k ∷ [] → live_in label new ≡ live_in label old ++ k ∷ []
+live_pushed label old made new k own suited same pushed =
     let back : label ≡ k.id.label = sym own in
-    ap (live_in label) pushed ∙ live_append label made (row_of k ∷ []) ∙ (λ i. same i ++ record k { id = record { label = back i; clock = k.id.clock } } ∷ [])
+    let says : what_in label (kind_in k.id.label k.what) ≡ k.what = ap (λ (l : Label). what_in label (kind_in l k.what)) own ∙ kind_says label k.what suited in
+    ap (live_in label) pushed ∙ live_append label made (row_of k ∷ []) ∙ (λ i. same i ++ record k { id = record { label = back i; clock = k.id.clock }; what = says i } ∷ [])
 
 -- what is kept of use is as right as it was where the live containers are the same
 pub same_live : (queues : List Path) (leaves : List LeafApps) (old new : PartitionRow) → live_in new.label new.containers.items ≡ live_in old.label old.containers.items → new.uses.items ≡ old.uses.items → new.users.items ≡ old.users.items → new.filled ≡ old.filled → new.listed ≡ old.listed → IsSummed queues leaves old → IsSummed queues leaves new

@@ -16,6 +16,7 @@ use Rattle.ynl_laws.specs.Marks.{is_master_for, is_master_of}
 use Rattle.ynl_laws.specs.Working.{has_row}
 use Rattle.ynl_tables.specs.declared.rows.App.{App}
 use Rattle.ynl_tables.specs.declared.rows.LeafRow.{LeafRow}
+use Rattle.ynl_tables.specs.Living.{is_suited}
 use Rattle.ynl_tables.specs.Marked.{IsMarkedApp, AreMarkedIn, AreMarked}
 use Rattle.ynl_tables.specs.Tables.{app_of}
 
@@ -58,8 +59,9 @@ KeepsMarksIn old new = (s : State) → AreMarkedIn s old → AreMarkedIn s new
 abbrev pub KeepsMarks : List LeafRow → List LeafRow → Type 0
 KeepsMarks old new = (s : State) → AreMarked s old → AreMarked s new
 
--- a request may be placed: the clock of its partition is not spent, and where it is for a master, the application waits
+-- a request may be placed: the clock of its partition is not spent, what is asked for has a kind there, and where it is for a master, the application waits
 pub record IsPlaceable (c : Config) (s : State) (node : Node) (item : Item) : Type 0 where
   pub there : has_row s.partitions node.label ≡ true
   pub fresh : is_spent c.labels s node.label ≡ false
+  pub suited : is_suited node.label item.what ≡ true
   pub waits : (app : Application) → FindsItself s app → is_master_for app node.label item ≡ true → waits s app ≡ true

@@ -13,7 +13,7 @@ ghost use Rattle.ynl_laws.specs.Tabled.{Tabled};
 ghost use Rattle.ynl_tables.specs.Bounds.{IsTotal};
 ghost use Rattle.ynl_tables.specs.Known.{IsSpot};
 ghost use Rattle.ynl_tables.specs.Kept.{AreKept, IsKept, IsSummed};
-ghost use Rattle.ynl_tables.specs.Living.{live_in};
+ghost use Rattle.ynl_tables.specs.Living.{is_suited, live_in};
 ghost use Rattle.ynl_tables.specs.Numbers.{AreNumbered};
 ghost use Rattle.ynl_tables.specs.Rising.{clock_of};
 ghost use Rattle.ynl_tables.specs.Tables.{state_of, app_of, leaf_of_row, leaves_of, partition_of, partitions_of, HasCapacity};
@@ -51,6 +51,7 @@ fn put(
     requires numbered { AreNumbered numbers.now (leaves_of leaves.now) }
     requires summed { IsSummed numbers.now (leaves_of leaves.now) row.old }
     requires label { container.now.id.label ≡ label.now }
+    requires suited { is_suited label.now container.now.what ≡ true }
     requires small { IsTotal (sizes (live_in row.old.label row.old.containers.items)) }
     requires last { same_label row.old.label label.now ≡ true → list_all (λ k. nat_lt (clock_of k) container.now.id.clock) (live_in row.old.label row.old.containers.items) ≡ true }
     requires capacity { same_label row.old.label label.now ≡ true → vec_len row.old.containers + 1 ≤ vec_capacity row.old.containers }
@@ -80,6 +81,7 @@ fn put_container(
 )
     requires kept { AreKept numbers.now (leaves_of leaves.now) rows.old.items }
     requires label { container.now.id.label ≡ label.now }
+    requires suited { is_suited label.now container.now.what ≡ true }
     requires small { AllByRecursion (λ row. IsTotal (sizes (live_in row.label row.containers.items))) rows.old.items }
     requires last { AllByRecursion (λ row. same_label row.label label.now ≡ true → list_all (λ k. nat_lt (clock_of k) container.now.id.clock) (live_in row.label row.containers.items) ≡ true) rows.old.items }
     requires capacity { HasCapacity label.now 1 rows.old.items }

@@ -9,10 +9,14 @@ use Rattle.ynl_laws.proofs.Events.Changed.{taken-name}
 use Rattle.ynl_laws.proofs.Totals.Owners.{taken-user}
 use Rattle.ynl_tables.specs.declared.rows.LeafRow.{LeafRow}
 use Rattle.ynl_tables.specs.Kept.{AreKept}
+use Rattle.ynl_tables.specs.Living.{is_suited}
 use Rattle.ynl_tables.specs.Tables.{leaves_of, partitions_of, state_of}
 use Rattle.ynl_changes.proofs.Marks.{by_partitions, marks_placed}
 use Rattle.ynl_changes.proofs.Summing.{rows_small, rows_below, kept_leaf}
 use Rattle.ynl_changes.proofs.placing.place.Goals as goal
+
+pub put_container-requires-clause-suited : goal.put_container-requires-clause-suited
+put_container-requires-clause-suited c = ap (λ (r : Item). is_suited c.args.node.now.label r.what) c.request.view_is ∙ c.requires.placeable.suited
 
 pub put_container-requires-clause-small : goal.put_container-requires-clause-small
 put_container-requires-clause-small c = rows_small c.args.config.now c.args.tables.now c.requires.working

@@ -1,11 +1,12 @@
 use Rattle.std.proofs.Common.{cond, ◌≡◌, ◌<◌, ◌^◌, true, List, [], ◌∷◌, ◌++◌, ap, ◌∙◌, length, refl, sym, subst, arith}
 use Rattle.ynl_resource.specs.Names.{root}
+use Rattle.ynl_resource.specs.declared.labels.Label.{Label}
 use Rattle.ynl_resource.specs.declared.paths.Path.{Path}
 use Rattle.ynl_model.specs.declared.uses.Use.{Use}
 use Rattle.ynl_laws.specs.Uses.{use_by}
 use Rattle.ynl_laws.proofs.Names.{same-label_path}
 use Rattle.ynl_tables.specs.declared.rows.ContainerRow.{ContainerRow}
-use Rattle.ynl_tables.specs.Living.{live_in, row_clock, row_of}
+use Rattle.ynl_tables.specs.Living.{is_suited, live_in, row_clock, row_of}
 use Rattle.ynl_tables.specs.Tables.{leaves_of, partition_of}
 use Rattle.ynl_tables.proofs.Living.{live_fewer, live_rise}
 use Rattle.ynl_resource.specs.Amounts.{IsSmall}
@@ -36,9 +37,10 @@ returns-then-is_same-clause-summed c =
     let before : Path → Use = λ queue. use_by leaves queue (live_in c.args.row.now.label c.args.row.now.containers.items) in
     let old : List Placed = live_in c.args.row.now.label c.args.row.now.containers.items in
     let small : IsSmall (sizes old) = (omega (arith, c.requires.small.0), omega (arith, c.requires.small.1)) in
-    let own = c.requires.label ∙ sym (same-label_path c.args.row.now.label c.args.label.now (sym c.if-is_same.ensures)) in
+    let here : c.args.row.now.label ≡ c.args.label.now = same-label_path c.args.row.now.label c.args.label.now (sym c.if-is_same.ensures) in
+    let suited = ap (λ (l : Label). is_suited l c.args.container.now.what) here ∙ c.requires.suited in
     let pushed = c.push_reserved.ensures.items ∙ ap (λ (row : ContainerRow). c.make_last.new.rows.items ++ row ∷ []) c.row_of.ensures in
-    let now : live_in c.args.row.now.label c.push_reserved.new.self.items ≡ old ++ c.args.container.now ∷ [] = live_pushed c.args.row.now.label c.args.row.now.containers.items c.make_last.new.rows.items c.push_reserved.new.self.items c.args.container.now own (c.make_last.ensures.live c.args.row.now.label) pushed in
+    let now : live_in c.args.row.now.label c.push_reserved.new.self.items ≡ old ++ c.args.container.now ∷ [] = live_pushed c.args.row.now.label c.args.row.now.containers.items c.make_last.new.rows.items c.push_reserved.new.self.items c.args.container.now (c.requires.label ∙ sym here) suited (c.make_last.ensures.live c.args.row.now.label) pushed in
     let rises = rise_last clock_of old c.args.container.now (live_rise c.args.row.now.label c.args.row.now.containers.items c.args.row.now.rising) (c.requires.last (sym c.if-is_same.ensures)) in
     record {
       uses = raised_all all leaves c.args.container.now old (live_in c.args.row.now.label c.push_reserved.new.self.items) c.raise.new.uses.items now (c.raise.ensures before c.requires.summed.uses);
@@ -50,9 +52,10 @@ returns-then-is_same-clause-summed c =
 pub returns-then-is_same-clause-meaning : goal.returns-then-is_same-clause-meaning
 returns-then-is_same-clause-meaning c =
     let row = c.args.row.now in
-    let own = c.requires.label ∙ sym (same-label_path row.label c.args.label.now (sym c.if-is_same.ensures)) in
+    let here : row.label ≡ c.args.label.now = same-label_path row.label c.args.label.now (sym c.if-is_same.ensures) in
+    let suited = ap (λ (l : Label). is_suited l c.args.container.now.what) here ∙ c.requires.suited in
     let pushed = c.push_reserved.ensures.items ∙ ap (λ (row : ContainerRow). c.make_last.new.rows.items ++ row ∷ []) c.row_of.ensures in
-    let now = live_pushed row.label row.containers.items c.make_last.new.rows.items c.push_reserved.new.self.items c.args.container.now own (c.make_last.ensures.live row.label) pushed in
+    let now = live_pushed row.label row.containers.items c.make_last.new.rows.items c.push_reserved.new.self.items c.args.container.now (c.requires.label ∙ sym here) suited (c.make_last.ensures.live row.label) pushed in
     let put : Partition = record { label = row.label; clock = c.args.clock; containers = live_in row.label row.containers.items ++ c.args.container.now ∷ [] } in
     (λ i. record { label = row.label; clock = c.args.clock; containers = now i }) ∙ ap (λ b. cond b put (partition_of row)) c.if-is_same.ensures
 
