@@ -114,7 +114,7 @@ pub fn raise(uses: &mut Vec<Use>, numbers: &QueueNumbers, leaves: &[LeafRow], co
     requires small { AllByRecursion IsSmallUse uses.old.items }
     ensures { RaisesAll numbers.now (leaves_of leaves.now) container.now uses.old.items uses.new.items }
 {
-    let way = way_of_app(numbers, leaves, container.tenant.as_bytes(), &container.app);
+    let way = way_of_app(numbers, leaves, &container.tenant, &container.app);
     raise_along(uses, way, container);
 }
 
@@ -125,6 +125,6 @@ pub fn lower(uses: &mut Vec<Use>, numbers: &QueueNumbers, leaves: &[LeafRow], co
     ensures uses { LowersAll numbers.now (leaves_of leaves.now) container.now uses.old.items uses.new.items }
     ensures len { length uses.new.items ≡ length (root ∷ numbers.now) }
 {
-    let way = way_of_app(numbers, leaves, container.tenant.as_bytes(), &container.app);
+    let way = way_of_app(numbers, leaves, &container.tenant, &container.app);
     lower_along(uses, way, container);
 }

@@ -1,7 +1,7 @@
 //! Placing a request on a node.
 
 ghost use Rattle.std.specs.Prelude.{◌≡◌, ◌≤◌, ◌+◌, ◌-◌, ◌++◌, ◌∷◌, [], ℕ, true, ◌==◌, ◌&&◌, not, nat_lt, map, vec_len, vec_capacity, if◌then◌else◌, OnOk};
-ghost use Rattle.ynl_resource.specs.Names.{same_label, same_name};
+ghost use Rattle.ynl_resource.specs.Names.{same_label, same_name, tenant_of};
 ghost use Rattle.ynl_resource.specs.declared.paths.Path.{Path};
 ghost use Rattle.ynl_resource.specs.Tables.{update, without};
 ghost use Rattle.ynl_model.specs.Applications.{in_leaf, with_app, is_ask_of, take_one};
@@ -242,24 +242,46 @@ fn take_in(row: &mut LeafRow, leaf: &Path, name: &Name, label: &Label, priority:
     }
 }
 
-fn take_ask(rows: &mut Vec<LeafRow>, leaf: &Path, name: &Name, label: &Label, priority: u32)
+/// An application of a leaf asks for one less. Only the leaves of its tenant are looked at.
+fn take_ask(
+    rows: &mut Vec<LeafRow>,
+    numbers: &QueueNumbers,
+    tenant: &Name,
+    leaf: &Path,
+    name: &Name,
+    label: &Label,
+    priority: u32,
+)
+    requires numbered { AreNumbered numbers.now (leaves_of rows.old.items) }
+    requires tenant { tenant.now ≡ tenant_of leaf.now }
     ensures marks { KeepsMarks rows.old.items rows.new.items }
     ensures meaning { leaves_of rows.new.items ≡ in_leaf leaf.now (with_app name.now (take_one label.now priority)) (leaves_of rows.old.items) }
 {
-    for row in rows.iter_mut() {
-        take_in(row, leaf, name, label, priority);
+    let mut place = numbers.first_of(tenant);
+    while place < rows.len() {
+        take_in(&mut rows[place], leaf, name, label, priority);
+        place = numbers.next_of(place, tenant);
     }
 }
 
 /// One less is asked for; a master is not counted.
-fn take_request(rows: &mut Vec<LeafRow>, request: &Request)
+fn take_request(rows: &mut Vec<LeafRow>, numbers: &QueueNumbers, request: &Request)
+    requires { AreNumbered numbers.now (leaves_of rows.old.items) }
     ensures marks { KeepsMarks rows.old.items rows.new.items }
     ensures meaning { leaves_of rows.new.items ≡ in_leaf request.now.leaf (with_app request.now.app (taken request.now.what)) (leaves_of rows.old.items) }
 {
     match request.what {
         What::Master => {}
         What::Ask(label, priority) => {
-            take_ask(rows, &request.leaf, &request.app, &label, priority);
+            take_ask(
+                rows,
+                numbers,
+                &request.tenant,
+                &request.leaf,
+                &request.app,
+                &label,
+                priority,
+            );
         }
     }
 }
@@ -301,7 +323,7 @@ pub fn place(config: &Config, tables: &mut Tables, node: &Node, request: &Reques
         &container,
     );
     mark(&mut tables.leaves, &node.label, &container, clock);
-    take_request(&mut tables.leaves, request);
+    take_request(&mut tables.leaves, &tables.numbers, request);
     container
 }
 

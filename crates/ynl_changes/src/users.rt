@@ -68,7 +68,7 @@ pub fn change_users(
     requires len { length users.old.items ≡ length (root ∷ numbers.now) }
     ensures { ChangesUsers kind numbers.now (leaves_of leaves.now) container.now users.old.items users.new.items }
 {
-    if let Some(owner) = owner_of(leaves, container) {
+    if let Some(owner) = owner_of(numbers, leaves, container) {
         change_above(users, numbers, kind, &owner, &container.size);
     }
 }

@@ -48,21 +48,20 @@ pub sibling-within : (queue path other : Path) → is_within queue path ≡ true
 sibling-within queue path other h below same =
     within-trans queue (parent_of other) other (ap (is_within queue) same ∙ within-parent queue path h below) (parent-within other)
 
--- ends of one leaf more
-pub ends_more : (leaves : List Path) (ends : List ℕ) (end : ℕ) → ((place d : ℕ) → place < length ends → IsEnd leaves place (get_or ends place d)) → IsEnd leaves (length ends) end
-    → (place d : ℕ) → place < length (ends ++ end ∷ []) → IsEnd leaves place (get_or (ends ++ end ∷ []) place d)
-ends_more leaves ends end all last place d inside = go (nat_lt place (length ends)) refl
+-- what holds of each place and what a list has there, with one more
+pub each_more : (P : ℕ → ℕ → Type 0) (ends : List ℕ) (end : ℕ) → ((place d : ℕ) → place < length ends → P place (get_or ends place d)) → P (length ends) end → (place d : ℕ) → place < length (ends ++ end ∷ []) → P place (get_or (ends ++ end ∷ []) place d)
+each_more P ends end all last place d inside = go (nat_lt place (length ends)) refl
   where
     len : length (ends ++ end ∷ []) ≡ length ends + 1
     len = length-append ends (end ∷ [])
 
-    go : (b : Bool) → nat_lt place (length ends) ≡ b → IsEnd leaves place (get_or (ends ++ end ∷ []) place d)
+    go : (b : Bool) → nat_lt place (length ends) ≡ b → P place (get_or (ends ++ end ∷ []) place d)
     go true e =
         let before : place < length ends = grind (arith, nat_tests) in
-        subst (IsEnd leaves place) (sym (get_or-append ends (end ∷ []) d place before)) (all place d before)
+        subst (P place) (sym (get_or-append ends (end ∷ []) d place before)) (all place d before)
     go false e =
         let at : length ends ≡ place = grind (arith, nat_tests, inside, len) in
-        subst (λ n. IsEnd leaves n (get_or (ends ++ end ∷ []) n d)) at (subst (IsEnd leaves (length ends)) (sym (get_or_push ends end d (length ends) refl)) last)
+        subst (λ n. P n (get_or (ends ++ end ∷ []) n d)) at (subst (P (length ends)) (sym (get_or_push ends end d (length ends) refl)) last)
 
 -- the end of each leaf's siblings is past them, if it is wanted of a queue above them
 pub past_siblings : (leaves : List Path) (ends : List ℕ) (queue : Path) (place end : ℕ) → AreEnds leaves ends → place < length ends → end ≡ get_or ends place end

@@ -16,3 +16,5 @@ pub mod Naming
 pub mod Listing
 pub mod Held
 pub mod Leaves
+pub mod Firsts
+pub mod Onward

@@ -12,6 +12,7 @@ pub mod Sharing
 pub mod Siblings
 pub mod Sums
 pub mod Tables
+pub mod Tenants
 pub mod UserCounts
 pub mod Uses
 pub mod Queued

@@ -49,6 +49,7 @@ mod sharing;
 mod siblings;
 mod sums;
 mod tables;
+mod tenants;
 mod usage;
 mod user_counts;
 mod uses;

@@ -1,30 +1,33 @@
 //! The numbers of queues, by which it is kept what they use.
 
-ghost use Rattle.std.specs.Prelude.{◌≡◌, ◌<◌, ◌^◌, ◌++◌, ◌∷◌, [], true, length, map, find, option_map, IfOk, IfSome, OnOk, if◌then◌else◌};
+ghost use Rattle.std.specs.Prelude.{◌≡◌, ◌<◌, ◌+◌, ◌^◌, ◌++◌, ◌∷◌, [], true, length, map, find, option_map, IfOk, IfSome, OnOk, if◌then◌else◌};
 ghost use Rattle.std.specs.List.{AllByRecursion, list_any, position};
 ghost use Rattle.ynl_resource.specs.Names.{root, is_within, same_path};
 ghost use Rattle.ynl_laws.specs.Ways.{IsWay};
 ghost use Rattle.ynl_tables.specs.Numbers.{AreNumbered, is_above, is_above_app, IsNumberOf, IsWayTo};
 ghost use Rattle.ynl_tables.specs.Siblings.{leaf_paths, leaf_at, IsPast};
 ghost use Rattle.ynl_tables.specs.Tables.{leaves_of};
+ghost use Rattle.ynl_tables.specs.Tenants.{IsOnward};
 
 use crate::rows::{LeafRow, Way};
 use crate::siblings::{ends_of, leaves_in};
-use crate::tables::leaf_row_of;
+use crate::tables::{leaf_row_by, tenant_bytes};
+use crate::tenants::Tenants;
 use std::alloc::{AllocError, Global};
 use std::marker::Model;
 use ynl_queues::{Config, is_within};
 use ynl_resource::{Name, Path};
 
 /// The numbers of the queues of a configuration. Root has number 0, and the queues below follow in
-/// the order of the configuration; and of its leaves which stand next to each other below one queue. A contract sees
-/// the queues below root.
+/// the order of the configuration; and of its leaves which stand next to each other below one queue, and which are of one
+/// tenant. A contract sees the queues below root.
 #[derive(Drop)]
 pub struct QueueNumbers {
     queues: Vec<Path>,
     ways: Vec<Way>,
     leaves: Vec<Path>,
     ends: Vec<usize>,
+    tenants: Tenants,
 }
 
 impl Model for QueueNumbers {
@@ -48,11 +51,13 @@ impl QueueNumbers {
         let ways = ways_to(alloc, &queues)?;
         let leaves = leaves_in(alloc, config)?;
         let ends = ends_of(alloc, &leaves)?;
+        let tenants = Tenants::new(alloc, &leaves)?;
         Ok(QueueNumbers {
             queues,
             ways,
             leaves,
             ends,
+            tenants,
         })
     }
 
@@ -134,6 +139,27 @@ impl QueueNumbers {
             place + 1
         }
     }
+
+    /// A place before which no leaf is a tenant's.
+    pub fn first_of(&self, tenant: &Name) -> usize
+        ensures { IsOnward (leaf_paths self.now) tenant.now 0 result }
+    {
+        self.tenants.first(tenant)
+    }
+
+    /// A place after another, before which no leaf after the other is a tenant's.
+    pub fn next_of(&self, place: usize, tenant: &Name) -> usize
+        requires { place < length (leaf_paths self.now) }
+        ensures after { place < result }
+        ensures onward { IsOnward (leaf_paths self.now) tenant.now (place + 1) result }
+    {
+        let leaves = self.leaves.as_slice();
+        if tenant_bytes(&leaves[place]) == tenant.as_bytes() {
+            self.tenants.next(place)
+        } else {
+            place + 1
+        }
+    }
 }
 
 /// The paths of the queues below root.
@@ -205,18 +231,18 @@ fn way_to<'a>(ways: &'a [Way], queue: &Path) -> Option<&'a Way>
 }
 
 /// The numbers of root and of the queues on the way to the leaf of an application, and none where
-/// there is no such application; the tenant is given by the bytes of its name.
+/// there is no such application.
 #[tactic(auto, unfolding(ynl_model::specs::Applications::leaf_of))]
 pub fn way_of_app<'a>(
     numbers: &'a QueueNumbers,
     leaves: &[LeafRow],
-    tenant: &[u8],
+    tenant: &Name,
     app: &Name,
 ) -> &'a [usize]
     requires { AreNumbered numbers.now (leaves_of leaves.now) }
     ensures { IsWay (root ∷ numbers.now) (is_above_app (leaves_of leaves.now) tenant.now app.now) result.now }
 {
-    match leaf_row_of(leaves, tenant, app) {
+    match leaf_row_by(numbers, leaves, tenant, app) {
         Some(row) => numbers.way_near(row.near.place, &row.path),
         None => &[],
     }

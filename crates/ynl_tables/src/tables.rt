@@ -10,6 +10,7 @@ ghost use Rattle.ynl_model.specs.Cluster.{State, is_partition};
 ghost use Rattle.ynl_laws.specs.Tabled.{EachLeaf};
 ghost use Rattle.ynl_tables.specs.Living.{live_in, row_clock};
 ghost use Rattle.ynl_tables.specs.Marked.{AreMarkedIn, AreMarked};
+ghost use Rattle.ynl_tables.specs.Numbers.{AreNumbered};
 ghost use Rattle.ynl_tables.specs.Rising.{numbers_rise};
 ghost use Rattle.ynl_tables.specs.Tables.{leaf_of_row, leaves_of, partition_of, partitions_of, app_of};
 
@@ -99,10 +100,17 @@ pub fn tenant_bytes(path: &Path) -> &[u8]
     }
 }
 
+/// Whether an application of a tenant and a name was submitted to the leaf of a row.
+fn is_submitted(row: &LeafRow, tenant: &[u8], name: &Name) -> bool
+    ensures { result ≡ (same_name (tenant_of row.now.path) tenant.now && list_any (same_name name.now) row.now.names.items) }
+{
+    tenant_bytes(&row.path) == tenant && row.known.lists(&row.names, name)
+}
+
 fn submitted_row<'a>(rows: &'a [LeafRow], tenant: &[u8], name: &Name) -> Option<&'a LeafRow>
     ensures { option_map (λ r. r.now) result ≡ find (λ row. same_name (tenant_of row.path) tenant.now && list_any (same_name name.now) row.names.items) rows.now }
 {
-    rows.iter().find(|row| tenant_bytes(&row.path) == tenant && row.known.lists(&row.names, name))
+    rows.iter().find(|row| is_submitted(row, tenant, name))
 }
 
 /// The row of the leaf to which a tenant's application of that name was submitted; the tenant is
@@ -112,6 +120,41 @@ pub fn leaf_row_of<'a>(rows: &'a [LeafRow], tenant: &[u8], name: &Name) -> Optio
     ensures marks { (s : State) → AreMarked s rows.now → IfSome result (λ r. AreMarkedIn s r.now) }
 {
     submitted_row(rows, tenant, name)
+}
+
+/// That of a tenant whose name is given, where the leaves have numbers: only the tenant's are looked at.
+fn submitted_by<'a>(
+    numbers: &QueueNumbers,
+    rows: &'a [LeafRow],
+    tenant: &Name,
+    name: &Name,
+) -> Option<&'a LeafRow>
+    requires { AreNumbered numbers.now (leaves_of rows.now) }
+    ensures { option_map (λ r. r.now) result ≡ find (λ row. same_name (tenant_of row.path) tenant.now && list_any (same_name name.now) row.names.items) rows.now }
+{
+    let mut place = numbers.first_of(tenant);
+    while place < rows.len() {
+        let row = &rows[place];
+        if is_submitted(row, tenant.as_bytes(), name) {
+            return Some(row);
+        }
+        place = numbers.next_of(place, tenant);
+    }
+    None
+}
+
+/// The same as `leaf_row_of`, where the leaves have numbers, in few steps.
+pub fn leaf_row_by<'a>(
+    numbers: &QueueNumbers,
+    rows: &'a [LeafRow],
+    tenant: &Name,
+    name: &Name,
+) -> Option<&'a LeafRow>
+    requires { AreNumbered numbers.now (leaves_of rows.now) }
+    ensures meaning { option_map (λ r. leaf_of_row r.now) result ≡ row_of (leaves_of rows.now) tenant.now name.now }
+    ensures marks { (s : State) → AreMarked s rows.now → IfSome result (λ r. AreMarkedIn s r.now) }
+{
+    submitted_by(numbers, rows, tenant, name)
 }
 
 fn leaf_row<'a>(rows: &'a [LeafRow], leaf: &Path) -> Option<&'a LeafRow>

@@ -15,8 +15,9 @@ ghost use Rattle.ynl_tables.specs.Uses.{is_of_other, of_user, is_counted, IsOwne
 
 use crate::containers::container_of;
 use crate::named::app_named;
+use crate::numbers::QueueNumbers;
 use crate::rows::{ContainerRow, LeafRow};
-use crate::tables::leaf_row_of;
+use crate::tables::{leaf_row_by, leaf_row_of};
 use ynl_model::{Placed, What};
 use ynl_queues::is_within;
 use ynl_resource::{Label, Name, Path, Resource, Size};
@@ -112,14 +113,19 @@ fn is_of_user(leaves: &[LeafRow], user: &Name, container: &Placed) -> bool
 
 /// Whose use a container counts in; none for a guest, and where the application is not live.
 #[tactic(auto, unfolding(ynl_model::specs::Applications::leaf_of, ynl_model::specs::Applications::find_app))]
-pub fn owner_of<'a>(leaves: &'a [LeafRow], container: &Placed) -> Option<Owner<'a>>
+pub fn owner_of<'a>(
+    numbers: &QueueNumbers,
+    leaves: &'a [LeafRow],
+    container: &Placed,
+) -> Option<Owner<'a>>
+    requires { AreNumbered numbers.now (leaves_of leaves.now) }
     ensures owner { IsOwner (leaves_of leaves.now) container.now result }
-    ensures numbered { (queues : List Names) → AreNumbered queues (leaves_of leaves.now) → IfSome result (λ owner. list_any (same_path owner.leaf.now) queues ≡ true) }
+    ensures numbered { IfSome result (λ owner. list_any (same_path owner.leaf.now) numbers.now ≡ true) }
 {
     if is_guest_on(&container.id.label, &container.what) {
         return None;
     }
-    match leaf_row_of(leaves, container.tenant.as_bytes(), &container.app) {
+    match leaf_row_by(numbers, leaves, &container.tenant, &container.app) {
         Some(row) => match app_named(row, &container.app) {
             Some(app) => Some(Owner {
                 leaf: &row.path,

@@ -1,6 +1,5 @@
-use Rattle.std.proofs.Common.{List, ◌∷◌, ap, subst, ◌∙◌}
+use Rattle.std.proofs.Common.{List, ◌∷◌, ap, ◌∙◌}
 use Rattle.ynl_resource.specs.Names.{root}
-use Rattle.ynl_resource.specs.declared.names.Name.{Name}
 use Rattle.ynl_resource.specs.declared.paths.Path.{Path}
 use Rattle.ynl_model.specs.declared.uses.Use.{Use}
 use Rattle.ynl_model.specs.Applications.{LeafApps}
@@ -17,5 +16,5 @@ returns c = λ (used : Path → Use) e.
     let leaves : List LeafApps = leaves_of c.args.leaves.now in
     let all : List Path = root ∷ c.args.numbers.now in
     let way = c.way_of_app-way.result.now in
-    let to_leaf : IsWay all (is_above_app leaves k.tenant k.app) way = subst (λ (t : Name). IsWay all (is_above_app leaves t k.app) way) c.as_bytes.ensures.text c.way_of_app-way.ensures in
+    let to_leaf : IsWay all (is_above_app leaves k.tenant k.app) way = c.way_of_app-way.ensures in
     c.raise_along.ensures ∙ ap (along (raised k) way) e ∙ along_things all (is_above_app leaves k.tenant k.app) way (raised k) used to_leaf

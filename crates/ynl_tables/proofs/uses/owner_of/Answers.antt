@@ -10,7 +10,7 @@ returns-in-Some-app_named-clause-owner c = λ queue user.
     let k = c.args.container.now in
     found_for (leaves_of c.args.leaves.now) k queue user c.in-Some.row.now (Some c.in-Some-app_named.app)
     (sym c.is_guest_on.ensures ∙ c.if-is_guest_on.false)
-    (c.in-Some.ensures.meaning ∙ ap (λ t. row_of (leaves_of c.args.leaves.now) t k.app) c.as_bytes.ensures.text)
+    c.in-Some.ensures.meaning
     c.in-Some-app_named.ensures
 
 pub returns-in-None-app_named-clause-owner : goal.returns-in-None-app_named-clause-owner
@@ -18,12 +18,10 @@ returns-in-None-app_named-clause-owner c = λ queue user.
     let k = c.args.container.now in
     finished_for_none (leaves_of c.args.leaves.now) k queue user c.in-Some.row.now
     (sym c.is_guest_on.ensures ∙ c.if-is_guest_on.false)
-    (c.in-Some.ensures.meaning ∙ ap (λ t. row_of (leaves_of c.args.leaves.now) t k.app) c.as_bytes.ensures.text)
+    c.in-Some.ensures.meaning
     c.in-None-app_named.ensures
 
 pub returns-in-Some-app_named-clause-numbered : goal.returns-in-Some-app_named-clause-numbered
-returns-in-Some-app_named-clause-numbered c = λ queues numbered.
+returns-in-Some-app_named-clause-numbered c =
     let k = c.args.container.now in
-    let leaves : List LeafApps = leaves_of c.args.leaves.now in
-    leaf_numbered queues leaves k.tenant k.app (leaf_of_row c.in-Some.row.now) numbered
-    (c.in-Some.ensures.meaning ∙ ap (λ t. row_of leaves t k.app) c.as_bytes.ensures.text)
+    leaf_numbered c.args.numbers.now (leaves_of c.args.leaves.now) k.tenant k.app (leaf_of_row c.in-Some.row.now) c.requires c.in-Some.ensures.meaning

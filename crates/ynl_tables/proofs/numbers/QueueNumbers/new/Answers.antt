@@ -3,6 +3,7 @@ use Rattle.std.specs.List.{AllByRecursion}
 use Rattle.ynl_resource.specs.declared.paths.Path.{Path}
 use Rattle.ynl_tables.specs.Numbers.{IsWayTo}
 use Rattle.ynl_tables.specs.Siblings.{AreEnds, leaf_paths}
+use Rattle.ynl_tables.specs.Tenants.{AreTenants}
 use Rattle.ynl_tables.proofs.Leaves.{leaves_told}
 use Rattle.ynl_tables.proofs.numbers.QueueNumbers.new.Goals as goal
 
@@ -12,4 +13,5 @@ invariant_of-result c = record {
   each = c.in_ok-ways.ensures.queues ∙ c.deref.ensures.value;
   leaves = c.in_ok-leaves.ensures ∙ leaves_told c.args.config.now ∙ ap leaf_paths (sym c.in_ok-queues.ensures);
   ends = subst (λ (leaves : List Path). AreEnds leaves c.in_ok-ends.ends.items) c.deref-2.ensures.value c.in_ok-ends.ensures;
+  tenants = subst (λ (leaves : List Path). AreTenants leaves c.in_ok-tenants.tenants) c.deref-3.ensures.value c.in_ok-tenants.ensures;
 }
