@@ -14,3 +14,5 @@ pub mod Requeued
 pub mod Apart
 pub mod Sharers
 pub mod Named
+pub mod Sized
+pub mod Vacated

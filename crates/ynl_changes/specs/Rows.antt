@@ -10,7 +10,8 @@ use Rattle.ynl_resource.specs.Tables.{without}
 use Rattle.ynl_model.specs.declared.containers.Placed.{Placed}
 use Rattle.ynl_resource.specs.declared.paths.Path.{Path}
 use Rattle.ynl_model.specs.Applications.{LeafApps}
-use Rattle.ynl_model.specs.Cluster.{Partition}
+use Rattle.ynl_model.specs.declared.nodes.Node.{Node}
+use Rattle.ynl_model.specs.Cluster.{Partition, State, in_partition}
 use Rattle.ynl_tables.specs.declared.holders.Listed.{Listed}
 use Rattle.ynl_tables.specs.declared.rows.ContainerRow.{ContainerRow}
 use Rattle.ynl_tables.specs.declared.rows.PartitionRow.{PartitionRow}
@@ -25,6 +26,10 @@ in_row label change row = if same_label row.label label then change row else row
 -- a row without the containers on a node
 abbrev pub emptied : Name → Partition → Partition
 emptied node row = record row { containers = without (λ container. same_name container.node node) row.containers }
+
+-- a state without the containers on a node of its partition
+abbrev pub vacated : Node → State → State
+vacated node s = record s { partitions = in_partition node.label (emptied node.name) s.partitions }
 
 -- a row without the container of an id, and with a clock
 abbrev pub without_id : Id → ℕ → Partition → Partition

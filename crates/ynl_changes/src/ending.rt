@@ -19,6 +19,7 @@ ghost use Rattle.ynl_changes.specs.Cells.{AreUses, AreUserUses, AreFilled, Leave
 ghost use Rattle.ynl_changes.specs.Rows.{KeepsSum, in_row, without_id};
 
 use crate::cells::lower;
+use crate::chaining::unchain;
 use crate::marking::mark;
 use crate::users::{Change, change_users};
 use ynl_model::{Placed, Use};
@@ -225,11 +226,20 @@ pub fn drop_at(row: &mut PartitionRow, numbers: &QueueNumbers, leaves: &[LeafRow
     ensures summed { IsSummed numbers.now (leaves_of leaves.now) row.new }
 {
     let container = container_of(&row.label, &row.containers[place]);
+    let before = row.containers[place].before;
+    let after = row.containers[place].after;
     lower(&mut row.uses, numbers, leaves, &container);
     change_users(&mut row.users, numbers, leaves, Change::Less, &container);
     row.filled.lower(&container.node, &container.size);
     row.listed.remove(&container);
     end_at(&mut row.containers, place);
+    unchain(
+        &mut row.filled,
+        &mut row.containers,
+        &container.node,
+        before,
+        after,
+    );
     row.ended = row.ended.saturating_add(1);
 }
 

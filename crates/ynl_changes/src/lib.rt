@@ -13,8 +13,10 @@ pub use submitting::{Submission, reserve_application, submit};
 
 mod asking;
 mod cells;
+mod chaining;
 mod ending;
 mod finishing;
+mod leaving;
 mod marking;
 mod nodes;
 mod opening;

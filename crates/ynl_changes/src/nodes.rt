@@ -2,21 +2,17 @@
 
 ghost use Rattle.std.specs.Prelude.{◌≡◌, Some, None, false, OnOk, OnErr};
 ghost use Rattle.ynl_model.specs.Nodes.{find_node, is_full};
-ghost use Rattle.ynl_model.specs.Cluster.{in_partition};
 ghost use Rattle.ynl_model.specs.Changes.{node_joins, node_leaves};
-ghost use Rattle.ynl_tables.specs.Kept.{AreKept, IsKept, IsSummed};
-ghost use Rattle.ynl_tables.specs.Numbers.{AreNumbered};
-ghost use Rattle.ynl_tables.specs.Tables.{state_of, leaves_of, partition_of, partitions_of};
-ghost use Rattle.ynl_changes.specs.Rows.{in_row, emptied};
+ghost use Rattle.ynl_tables.specs.Kept.{IsKept};
+ghost use Rattle.ynl_tables.specs.Tables.{state_of};
 
-use crate::ending::{Going, drop_going};
-use crate::marking::unmark;
+use crate::leaving::vacate;
 use crate::placing::set_clock;
 use std::alloc::AllocError;
 use ynl_model::Node;
 use ynl_queues::Config;
 use ynl_resource::{Label, Name, Size};
-use ynl_tables::{LeafRow, PartitionRow, QueueNumbers, Tables, containers_at, is_same, next_clock};
+use ynl_tables::{Tables, next_clock};
 
 /// A node joins a partition: the clock rises, and is the node's stamp. Where memory is refused,
 /// nothing has changed.
@@ -47,41 +43,6 @@ pub fn join(
     Ok(())
 }
 
-/// The containers on a node go from a row, if it is that of the partition.
-fn drop_in(
-    row: &mut PartitionRow,
-    numbers: &QueueNumbers,
-    leaves: &[LeafRow],
-    label: &Label,
-    node: &Name,
-)
-    requires numbered { AreNumbered numbers.now (leaves_of leaves.now) }
-    requires summed { IsSummed numbers.now (leaves_of leaves.now) row.old }
-    ensures meaning { partition_of row.new ≡ in_row label.now (emptied node.now) (partition_of row.old) }
-    ensures summed { IsSummed numbers.now (leaves_of leaves.now) row.new }
-{
-    if is_same(&row.label, label) {
-        drop_going(row, numbers, leaves, Going::OnNode(node));
-    }
-}
-
-/// The containers on a node go from its partition.
-fn drop_containers(
-    rows: &mut Vec<PartitionRow>,
-    numbers: &QueueNumbers,
-    leaves: &[LeafRow],
-    label: &Label,
-    node: &Name,
-)
-    requires { AreKept numbers.now (leaves_of leaves.now) rows.old.items }
-    ensures meaning { partitions_of rows.new.items ≡ in_partition label.now (emptied node.now) (partitions_of rows.old.items) }
-    ensures kept { AreKept numbers.now (leaves_of leaves.now) rows.new.items }
-{
-    for row in rows.iter_mut() {
-        drop_in(row, numbers, leaves, label, node);
-    }
-}
-
 /// A node leaves, and its containers end with it; the clock of the partition that it leaves stays.
 #[tactic(auto, unfolding(ynl_model::specs::Changes::node_leaves))]
 pub fn leave(tables: &mut Tables, node: &Node)
@@ -90,20 +51,8 @@ pub fn leave(tables: &mut Tables, node: &Node)
     ensures kept { IsKept tables.new }
     ensures numbers { tables.new.numbers ≡ tables.old.numbers }
 {
-    unmark(
-        &mut tables.leaves,
-        &node.label,
-        &node.name,
-        containers_at(&tables.partitions, &node.label),
-    );
+    vacate(tables, node);
     tables.nodes.leave(node);
-    drop_containers(
-        &mut tables.partitions,
-        &tables.numbers,
-        &tables.leaves,
-        &node.label,
-        &node.name,
-    );
 }
 
 /// The node of a name leaves its partition, and joins another. Where memory is refused, nothing has changed.
@@ -126,19 +75,7 @@ pub fn relabel(
 {
     let clock = next_clock(config, tables, label);
     tables.nodes.rejoin(node, label, clock)?;
-    unmark(
-        &mut tables.leaves,
-        &node.label,
-        &node.name,
-        containers_at(&tables.partitions, &node.label),
-    );
-    drop_containers(
-        &mut tables.partitions,
-        &tables.numbers,
-        &tables.leaves,
-        &node.label,
-        &node.name,
-    );
+    vacate(tables, node);
     set_clock(&mut tables.partitions, label, clock);
     Ok(())
 }

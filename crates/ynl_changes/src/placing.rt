@@ -24,6 +24,7 @@ ghost use Rattle.ynl_changes.specs.Rows.{KeepsSum, KeepsSums, lists_of, rows_at,
 ghost use Rattle.ynl_waiting.specs.declared.waiting.Waiting.{Waiting};
 
 use crate::cells::raise;
+use crate::chaining::chain;
 use crate::marking::mark;
 use crate::queueing::{Which, enqueue_asks, withdraw_asks};
 use crate::users::{Change, change_users};
@@ -67,6 +68,12 @@ fn put(
         row.listed.add(container);
         make_last(&mut row.containers, container.id.clock);
         row.containers.push_reserved(row_of(container));
+        chain(
+            &mut row.filled,
+            &mut row.containers,
+            &container.node,
+            container.id.clock,
+        );
     }
 }
 

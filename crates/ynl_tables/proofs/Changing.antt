@@ -13,6 +13,7 @@ use Rattle.ynl_model.specs.Cluster.{sizes}
 use Rattle.ynl_laws.proofs.Amounts.{fits-filter}
 use Rattle.ynl_laws.proofs.Names.{same-name_sym, same-name_self}
 use Rattle.ynl_laws.proofs.Totals.Inserted.{inserted, inserted-filter, inserted-total}
+use Rattle.ynl_tables.specs.declared.sums.Sum.{Sum}
 use Rattle.ynl_tables.specs.declared.sums.Sums.{Sums}
 use Rattle.ynl_tables.specs.Sums.{kept_for, sizes_for, AreSums, SetsIn, Sets, CountsFor}
 
@@ -23,42 +24,57 @@ little counts name cs sum is small =
     subst IsSmall (sym is) (grind (arith, nat_tests, small.0, small.1), grind (arith, nat_tests, small.0, small.1))
 
 -- what is found under a name is what is kept for it
-pub known_sum : (counts : Name → Placed → Bool) (sums : Sums) (was : BTreeMap Name Resource) (name : Name) (found : Option Resource) (cs : List Placed) → sums.entries ≡ Some was → get name_order was name ≡ found → AreSums counts sums cs
-    → option_map_or (λ (r : Resource). r) found nothing ≡ sizes_for counts name cs
+pub known_sum : (counts : Name → Placed → Bool) (sums : Sums) (was : BTreeMap Name Sum) (name : Name) (found : Option Sum) (cs : List Placed) → sums.entries ≡ Some was → get name_order was name ≡ found → AreSums counts sums cs
+    → option_map_or (λ (r : Sum). r.size) found nothing ≡ sizes_for counts name cs
 known_sum counts sums was name found cs is at kept =
-    ap (λ o. option_map_or (λ (r : Resource). r) o nothing) (sym at) ∙ subst (λ o. IfSome o (λ entries. (n : Name) → kept_for entries n ≡ sizes_for counts n cs)) is kept name
+    ap (λ o. option_map_or (λ (r : Sum). r.size) o nothing) (sym at) ∙ subst (λ o. IfSome o (λ entries. (n : Name) → kept_for entries n ≡ sizes_for counts n cs)) is kept name
 
 -- an insertion sets a name's sum
-pub inserted_sum : (entries : Option (BTreeMap Name Resource)) (old new : BTreeMap Name Resource) (name : Name) (sum : Resource) → entries ≡ Some old → ((q : Name) → get name_order new q ≡ cond (is_at (name_order name) q) (Some sum) (get name_order old q))
-    → SetsIn entries (Some new) name sum
-inserted_sum entries old new name sum is updates = subst (λ o. SetsIn o (Some new) name sum) (sym is) each
+pub inserted_sum : (entries : Option (BTreeMap Name Sum)) (old new : BTreeMap Name Sum) (name : Name) (sum : Sum) → entries ≡ Some old → ((q : Name) → get name_order new q ≡ cond (is_at (name_order name) q) (Some sum) (get name_order old q))
+    → SetsIn entries (Some new) name sum.size
+inserted_sum entries old new name sum is updates = subst (λ o. SetsIn o (Some new) name sum.size) (sym is) each
   where
-    each : (other : Name) → kept_for new other ≡ cond (same_name name other) sum (kept_for old other)
+    each : (other : Name) → kept_for new other ≡ cond (same_name name other) sum.size (kept_for old other)
     each other =
-        ap (λ o. option_map_or (λ (r : Resource). r) o nothing) (updates other) ∙ go (is_at (name_order name) other) ∙ ap (λ b. cond b sum (kept_for old other)) (sym (texts_ties name other))
+        ap (λ o. option_map_or (λ (r : Sum). r.size) o nothing) (updates other) ∙ go (is_at (name_order name) other) ∙ ap (λ b. cond b sum.size (kept_for old other)) (sym (texts_ties name other))
       where
-        go : (b : Bool) → option_map_or (λ (r : Resource). r) (cond b (Some sum) (get name_order old other)) nothing ≡ cond b sum (kept_for old other)
+        go : (b : Bool) → option_map_or (λ (r : Sum). r.size) (cond b (Some sum) (get name_order old other)) nothing ≡ cond b sum.size (kept_for old other)
         go true = refl
         go false = refl
 
 -- a name without an entry is as one whose sum is nothing
-pub absent_sum : (entries : Option (BTreeMap Name Resource)) (old : BTreeMap Name Resource) (name : Name) → entries ≡ Some old → get name_order old name ≡ None → SetsIn entries (Some old) name nothing
+pub absent_sum : (entries : Option (BTreeMap Name Sum)) (old : BTreeMap Name Sum) (name : Name) → entries ≡ Some old → get name_order old name ≡ None → SetsIn entries (Some old) name nothing
 absent_sum entries old name is none = subst (λ o. SetsIn o (Some old) name nothing) (sym is) each
   where
     each : (other : Name) → kept_for old other ≡ cond (same_name name other) nothing (kept_for old other)
     each other = go (same_name name other) refl
       where
         go : (b : Bool) → same_name name other ≡ b → kept_for old other ≡ cond b nothing (kept_for old other)
-        go true e = ap (kept_for old) (sym (same-name_sym name other e)) ∙ ap (λ o. option_map_or (λ (r : Resource). r) o nothing) none
+        go true e = ap (kept_for old) (sym (same-name_sym name other e)) ∙ ap (λ o. option_map_or (λ (r : Sum). r.size) o nothing) none
         go false e = refl
 
 -- where each name has the same sum by other containers, or where others count for it, what is kept is right of those
 pub same_sums : (counts others : Name → Placed → Bool) (sums : Sums) (cs ds : List Placed) → ((name : Name) → sizes_for counts name cs ≡ sizes_for others name ds) → AreSums counts sums cs → AreSums others sums ds
 same_sums counts others sums cs ds same kept = go sums.entries kept
   where
-    go : (o : Option (BTreeMap Name Resource)) → IfSome o (λ entries. (name : Name) → kept_for entries name ≡ sizes_for counts name cs) → IfSome o (λ entries. (name : Name) → kept_for entries name ≡ sizes_for others name ds)
+    go : (o : Option (BTreeMap Name Sum)) → IfSome o (λ entries. (name : Name) → kept_for entries name ≡ sizes_for counts name cs) → IfSome o (λ entries. (name : Name) → kept_for entries name ≡ sizes_for others name ds)
     go None was = tt
     go (Some m) was = λ name. was name ∙ same name
+
+-- where a name's entry has the size that it had, what was right is so still
+pub noted_sum : (counts : Name → Placed → Bool) (sums : Sums) (old new : BTreeMap Name Sum) (name : Name) (sum noted : Sum) (cs : List Placed) → sums.entries ≡ Some old → get name_order old name ≡ Some sum → noted.size ≡ sum.size
+    → ((q : Name) → get name_order new q ≡ cond (is_at (name_order name) q) (Some noted) (get name_order old q)) → AreSums counts sums cs → AreSums counts (record { entries = Some new }) cs
+noted_sum counts sums old new name sum noted cs is found same updates kept = λ other. each other ∙ was other
+  where
+    was : (other : Name) → kept_for old other ≡ sizes_for counts other cs
+    was = subst (λ o. IfSome o (λ entries. (n : Name) → kept_for entries n ≡ sizes_for counts n cs)) is kept
+
+    each : (other : Name) → kept_for new other ≡ kept_for old other
+    each other = ap (λ o. option_map_or (λ (r : Sum). r.size) o nothing) (updates other) ∙ go (is_at (name_order name) other) (texts_ties name other)
+      where
+        go : (b : Bool) → same_name name other ≡ b → option_map_or (λ (r : Sum). r.size) (cond b (Some noted) (get name_order old other)) nothing ≡ kept_for old other
+        go true e = same ∙ ap (λ o. option_map_or (λ (r : Sum). r.size) o nothing) (sym found) ∙ ap (kept_for old) (same-name_sym name other e)
+        go false e = refl
 
 less-plus : (a b : Resource) → less (plus a b) b ≡ a
 less-plus a b = grind (arith)
@@ -74,7 +90,7 @@ module _ (counts : Name → Placed → Bool) where
       → ((other : Name) → same_name name other ≡ false → sizes_for counts other ds ≡ sizes_for counts other cs) → AreSums counts new ds
   set_sums old new name sum cs ds sets kept here others = go old.entries new.entries sets kept
     where
-      each : (m s : BTreeMap Name Resource) → ((other : Name) → kept_for s other ≡ cond (same_name name other) sum (kept_for m other)) → ((other : Name) → kept_for m other ≡ sizes_for counts other cs) → (other : Name)
+      each : (m s : BTreeMap Name Sum) → ((other : Name) → kept_for s other ≡ cond (same_name name other) sum (kept_for m other)) → ((other : Name) → kept_for m other ≡ sizes_for counts other cs) → (other : Name)
           → kept_for s other ≡ sizes_for counts other ds
       each m s is was other = is other ∙ at (same_name name other) refl
         where
@@ -82,7 +98,7 @@ module _ (counts : Name → Placed → Bool) where
           at true e = here ∙ ap (λ n. sizes_for counts n ds) (same-name_sym name other e)
           at false e = was other ∙ sym (others other e)
 
-      go : (o n : Option (BTreeMap Name Resource)) → SetsIn o n name sum → IfSome o (λ entries. (other : Name) → kept_for entries other ≡ sizes_for counts other cs)
+      go : (o n : Option (BTreeMap Name Sum)) → SetsIn o n name sum → IfSome o (λ entries. (other : Name) → kept_for entries other ≡ sizes_for counts other cs)
           → IfSome n (λ entries. (other : Name) → kept_for entries other ≡ sizes_for counts other ds)
       go None None sets was = tt
       go None (Some s) sets was = absurd (cc)

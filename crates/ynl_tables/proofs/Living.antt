@@ -2,6 +2,7 @@
 use Rattle.std.proofs.Common.{◌≡◌, ◌≢◌, ℕ, zero, suc, ◌+◌, ◌<◌, ◌≤◌, Bool, true, false, cond, not, ◌&&◌, ◌||◌, ◌-◌, List, [], ◌∷◌, ◌++◌, filter, length, take, get_or, find, option_map, Some, None, refl, sym, ap, subst, ◌∙◌, arith}
 use Rattle.std.specs.Prelude.{nat_lt}
 use Rattle.std.specs.List.{AllByRecursion, list_all, list_any, remove}
+use Rattle.std.specs.Option.{option_map_or}
 use Rattle.std.proofs.Math.ListN.{set}
 use Rattle.std.proofs.lemmas.Bool.{and_from, and_parts}
 use mathlib.Core.Bool.{true≢false}
@@ -168,6 +169,15 @@ module _ (label : Label) where
   -- and where no row has a clock no live one has it
   pub live_absent : (rows : List ContainerRow) (n : ℕ) → AllByRecursion (λ row. row_clock row ≢ n) rows → IsAlone clock_of n (live_in label rows) None
   live_absent rows n h = λ test of. live_find test rows ∙ ap (option_map (container_in label)) (none_alone row_clock rows n h (is_live_and label test) (of-live test n of))
+
+  -- a row that stands for the same container in the place of another
+  pub live_set : (rows : List ContainerRow) (i : ℕ) (d new : ContainerRow) → i < length rows → live_of label new ≡ live_of label (get_or rows i d) → live_in label (set rows i new) ≡ live_in label rows
+  live_set [] i d new inside e = absurd (omega arith)
+  live_set (row ∷ rows) zero d new inside e = stands new ∙ ap (λ o. option_map_or (λ k. k ∷ live_in label rows) o (live_in label rows)) e ∙ sym (stands row)
+    where
+      stands : (r : ContainerRow) → live_in label (r ∷ rows) ≡ option_map_or (λ k. k ∷ live_in label rows) (live_of label r) (live_in label rows)
+      stands r = elim r.is_live as (λ b. cond b (container_in label r ∷ live_in label rows) (live_in label rows) ≡ option_map_or (λ k. k ∷ live_in label rows) (cond b (Some (container_in label r)) None) (live_in label rows)) [ true ↦ refl | false ↦ refl ]
+  live_set (row ∷ rows) (suc i) d new inside e = ap (λ ks. cond row.is_live (container_in label row ∷ ks) ks) (live_set rows i d new (omega arith) e)
 
   -- ---- a row that dies in its place
 

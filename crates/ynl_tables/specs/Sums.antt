@@ -8,11 +8,12 @@ use Rattle.ynl_resource.specs.declared.amounts.Resource.{Resource}
 use Rattle.ynl_resource.specs.declared.names.Name.{Name}
 use Rattle.ynl_model.specs.declared.containers.Placed.{Placed}
 use Rattle.ynl_model.specs.Cluster.{sizes}
+use Rattle.ynl_tables.specs.declared.sums.Sum.{Sum}
 use Rattle.ynl_tables.specs.declared.sums.Sums.{Sums}
 
 -- what is kept for a name; nothing where it has no entry
-abbrev pub kept_for : BTreeMap Name Resource → Name → Resource
-kept_for entries name = option_map_or (λ sum. sum) (get name_order entries name) nothing
+abbrev pub kept_for : BTreeMap Name Sum → Name → Resource
+kept_for entries name = option_map_or (λ sum. sum.size) (get name_order entries name) nothing
 
 -- what the containers that count for a name come to
 abbrev pub sizes_for : (Name → Placed → Bool) → Name → List Placed → Resource
@@ -28,7 +29,7 @@ IsSumFor sums name None = sums.entries ≡ None
 IsSumFor sums name (Some sum) = (counts : Name → Placed → Bool) (containers : List Placed) → AreSums counts sums containers → sum ≡ sizes_for counts name containers
 
 -- where anything is kept, a name's sum is set and the others' stay, or nothing is kept any more
-abbrev pub SetsIn : Option (BTreeMap Name Resource) → Option (BTreeMap Name Resource) → Name → Resource → Type 0
+abbrev pub SetsIn : Option (BTreeMap Name Sum) → Option (BTreeMap Name Sum) → Name → Resource → Type 0
 SetsIn None new name sum = new ≡ None
 SetsIn (Some old) new name sum = IfSome new (λ entries. (other : Name) → kept_for entries other ≡ (if same_name name other then sum else kept_for old other))
 
@@ -50,3 +51,7 @@ Raises old new name size = (counts : Name → Placed → Bool) (k : Placed) → 
 abbrev pub Lowers : Sums → Sums → Name → Resource → Type 0
 Lowers old new name size = (counts : Name → Placed → Bool) (k : Placed) → CountsFor counts k name size
     → (before after : List Placed) → AreSums counts old (before ++ k ∷ after) → AreSums counts new (before ++ after)
+
+-- what was right is so still, whatever counts for whom
+abbrev pub KeepsRight : Sums → Sums → Type 0
+KeepsRight old new = (counts : Name → Placed → Bool) (containers : List Placed) → AreSums counts old containers → AreSums counts new containers

@@ -73,12 +73,14 @@ pub fn container_of(label: &Label, row: &ContainerRow) -> Placed
     }
 }
 
-/// The live row of a container.
+/// The live row of a container, of which none is known that stands beside it on its node.
 pub fn row_of(container: &Placed) -> ContainerRow
     ensures { result ≡ row_of container.now }
 {
     ContainerRow {
         clock: container.id.clock,
+        before: 0,
+        after: 0,
         node: container.node,
         tenant: container.tenant,
         app: container.app,

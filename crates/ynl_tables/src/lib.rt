@@ -5,6 +5,7 @@
 
 pub use applications::{has_most_apps, home_of, is_used};
 pub use asks::{ask_of, is_ask_of, is_foreign, is_one_too_many};
+pub use chains::{clock_before, link};
 pub use clocks::{is_spent, next_clock};
 pub use containers::{
     container_at, container_of, container_of_tenant, container_on, is_own, is_own_row, place_at,
@@ -32,6 +33,7 @@ pub use uses::{Owner, is_guest_on, is_live_on, is_master, owner_of};
 
 mod applications;
 mod asks;
+mod chains;
 mod clocks;
 mod containers;
 mod ended;

@@ -7,7 +7,7 @@ ghost use Rattle.std.proofs.Props.{props};
 ghost use Rattle.ynl_tables.specs.Known.{IsKnown};
 ghost use Rattle.ynl_tables.specs.Queued.{are_apart, are_in_turn, are_below, are_named, masters_waiting, asks_waiting};
 ghost use Rattle.ynl_tables.specs.Rising.{numbers_rise};
-ghost use Rattle.ynl_tables.specs.Living.{row_clock};
+ghost use Rattle.ynl_tables.specs.Living.{is_sized, live_in, row_clock};
 ghost use Rattle.ynl_tables.specs.Sharing.{IsCountedPart};
 ghost use Rattle.ynl_waiting.specs.Waiting.{Keeps};
 
@@ -84,10 +84,14 @@ pub enum Kind {
 
 /// A row of a container. It has no label, since all containers of a partition have the partition's, nor has its
 /// kind one. One that has ended is dead: it stands for nothing, and keeps its place among the others until the
-/// dead are cleared. Numbers stand before bytes, so that no room is lost between them.
+/// dead are cleared. `before` and `after` are hints: the clocks of the live containers that were placed on the same
+/// node before it and after it, 0 where there is none. Numbers stand before bytes, so that no room is lost between
+/// them.
 #[derive(Clone, Copy)]
 pub struct ContainerRow {
     pub clock: u64,
+    pub before: u64,
+    pub after: u64,
     pub size: Size,
     pub kind: Kind,
     pub node: Name,
@@ -110,6 +114,7 @@ pub struct PartitionRow {
     pub filled: Sums,
     pub listed: Listed,
     ghost rising: { IsTrue (numbers_rise row_clock containers.items) },
+    ghost sized: { IsTrue (list_all is_sized (live_in label containers.items)) },
 }
 
 /// The numbers of root and of the queues on the way to a queue, itself among them.

@@ -1,20 +1,28 @@
 //! What containers come to, by the names for which they count.
 
 ghost use Rattle.std.specs.Prelude.{◌≡◌, Bool, []};
-ghost use Rattle.ynl_resource.specs.Amounts.{plus, less, IsSmall};
+ghost use Rattle.ynl_resource.specs.Amounts.{plus, less, IsSize, IsSmall};
 ghost use Rattle.ynl_resource.specs.declared.names.Name.{Name};
 ghost use Rattle.ynl_model.specs.declared.containers.Placed.{Placed};
-ghost use Rattle.ynl_tables.specs.Sums.{kept_for, AreSums, Sets, Raises, Lowers, IsSumFor};
+ghost use Rattle.ynl_tables.specs.Sums.{kept_for, AreSums, Sets, Raises, Lowers, KeepsRight, IsSumFor};
 
 use std::alloc::Global;
 use std::collections::BTreeMap;
 use ynl_resource::{Name, Resource, Size};
 
+/// What the containers that count for a name come to, and a hint: the clock of the last of them where it was
+/// noted, and 0 else.
+#[derive(Clone, Copy)]
+struct Sum {
+    size: Resource,
+    last: u64,
+}
+
 /// What containers come to, by the names for which they count: kept while there is memory for it. Where
 /// that was refused nothing is kept, and each sum has to be worked out.
 #[derive(Drop)]
 pub struct Sums {
-    entries: Option<BTreeMap<Name, Resource>>,
+    entries: Option<BTreeMap<Name, Sum>>,
 }
 
 const NOTHING: Resource = Resource {
@@ -22,11 +30,11 @@ const NOTHING: Resource = Resource {
     vcores: 0,
 };
 
-fn entry_for(entries: &BTreeMap<Name, Resource>, name: &Name) -> Resource
+fn entry_for(entries: &BTreeMap<Name, Sum>, name: &Name) -> Resource
     ensures { result ≡ kept_for entries.now name.now }
 {
     match entries.get(name) {
-        Some(sum) => *sum,
+        Some(sum) => sum.size,
         None => NOTHING,
     }
 }
@@ -78,7 +86,7 @@ impl Sums {
         let Some(entries) = &mut self.entries else {
             return;
         };
-        match entries.insert(*name, sum) {
+        match entries.insert(*name, Sum { size: sum, last: 0 }) {
             Ok(_) => {}
             Err(_) => self.entries = None,
         }
@@ -86,16 +94,18 @@ impl Sums {
 
     /// One container more, which counts for one name.
     pub fn raise(&mut self, name: &Name, size: &Size)
-        ensures { Raises self.old self.new name.now size.now }
+        ensures sums { Raises self.old self.new name.now size.now }
+        ensures size { IsSize size.now }
     {
+        let amount = size.amount();
         let Some(entries) = &mut self.entries else {
             return;
         };
         if let Some(sum) = entries.get_mut(name) {
-            *sum = with(sum, size);
+            sum.size = with(&sum.size, size);
             return;
         }
-        self.set(name, size.amount());
+        self.set(name, amount);
     }
 
     /// One container less, which counted for one name.
@@ -106,7 +116,30 @@ impl Sums {
             return;
         };
         if let Some(sum) = entries.get_mut(name) {
-            *sum = without(sum, size);
+            sum.size = without(&sum.size, size);
+        }
+    }
+
+    /// The clock of the container that was noted last for a name, and 0 where none is known.
+    pub fn last_for(&self, name: &Name) -> u64 {
+        let Some(entries) = &self.entries else {
+            return 0;
+        };
+        match entries.get(name) {
+            Some(sum) => sum.last,
+            None => 0,
+        }
+    }
+
+    /// A clock is noted for a name, if it has a sum.
+    pub fn note(&mut self, name: &Name, clock: u64)
+        ensures { KeepsRight self.old self.new }
+    {
+        let Some(entries) = &mut self.entries else {
+            return;
+        };
+        if let Some(sum) = entries.get_mut(name) {
+            sum.last = clock;
         }
     }
 }

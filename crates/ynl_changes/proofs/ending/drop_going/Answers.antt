@@ -8,15 +8,20 @@ use Rattle.ynl_tables.specs.declared.rows.ContainerRow.{ContainerRow}
 use Rattle.ynl_tables.specs.Tables.{leaves_of, partition_of}
 use Rattle.ynl_tables.specs.Kept.{AreByUser, stands_on}
 use Rattle.ynl_tables.specs.Listed.{AreListed}
-use Rattle.ynl_tables.specs.Living.{live_in}
+use Rattle.std.specs.List.{list_all}
+use Rattle.ynl_tables.specs.Living.{is_sized, live_in}
 use Rattle.ynl_tables.specs.Sums.{AreSums}
 use Rattle.ynl_tables.proofs.Living.{live_rise}
 use Rattle.ynl_changes.specs.Cells.{AreFilled, IsListing, goes}
+use Rattle.ynl_changes.proofs.Sized.{all_without}
 use Rattle.ynl_changes.proofs.ending.drop_going.Goals as goal
 
 -- the clocks of those that are left rise
 pub invariant_of-row : goal.invariant_of-row
-invariant_of-row c = record { rising = c.drop_from.ensures.rising c.args.row.now.rising }
+invariant_of-row c = record {
+  rising = c.drop_from.ensures.rising c.args.row.now.rising;
+  sized = ap (list_all is_sized) (c.drop_from.ensures.live c.args.row.now.label) ∙ all_without is_sized (goes c.args.going) (live_in c.args.row.now.label c.args.row.now.containers.items) c.args.row.now.sized;
+}
 
 pub returns-clause-meaning : goal.returns-clause-meaning
 returns-clause-meaning c = ap (λ (xs : List Placed). record (partition_of c.args.row.now) { containers = xs }) (c.drop_from.ensures.live c.args.row.now.label)

@@ -6,7 +6,8 @@ use Rattle.ynl_model.specs.declared.uses.Use.{Use}
 use Rattle.ynl_laws.specs.Uses.{use_by}
 use Rattle.ynl_laws.proofs.Names.{same-label_path}
 use Rattle.ynl_tables.specs.declared.rows.ContainerRow.{ContainerRow}
-use Rattle.ynl_tables.specs.Living.{is_suited, live_in, row_clock, row_of}
+use Rattle.std.specs.List.{list_all}
+use Rattle.ynl_tables.specs.Living.{is_sized, is_suited, live_in, row_clock, row_of}
 use Rattle.ynl_tables.specs.Tables.{leaves_of, partition_of}
 use Rattle.ynl_tables.proofs.Living.{live_fewer, live_rise}
 use Rattle.ynl_resource.specs.Amounts.{IsSmall}
@@ -17,6 +18,7 @@ use Rattle.ynl_tables.specs.Listed.{AreListed}
 use Rattle.ynl_tables.specs.Rising.{numbers_rise, clock_of}
 use Rattle.ynl_tables.proofs.Searching.{rise_last}
 use Rattle.ynl_tables.specs.Sums.{AreSums}
+use Rattle.ynl_changes.proofs.Sized.{sized_more}
 use Rattle.ynl_changes.proofs.Summing.{small_uses, uses_long, raised_all, live_pushed}
 use Rattle.ynl_changes.proofs.placing.put.Goals as goal
 
@@ -40,12 +42,13 @@ returns-then-is_same-clause-summed c =
     let here : c.args.row.now.label ≡ c.args.label.now = same-label_path c.args.row.now.label c.args.label.now (sym c.if-is_same.ensures) in
     let suited = ap (λ (l : Label). is_suited l c.args.container.now.what) here ∙ c.requires.suited in
     let pushed = c.push_reserved.ensures.items ∙ ap (λ (row : ContainerRow). c.make_last.new.rows.items ++ row ∷ []) c.row_of.ensures in
-    let now : live_in c.args.row.now.label c.push_reserved.new.self.items ≡ old ++ c.args.container.now ∷ [] = live_pushed c.args.row.now.label c.args.row.now.containers.items c.make_last.new.rows.items c.push_reserved.new.self.items c.args.container.now (c.requires.label ∙ sym here) suited (c.make_last.ensures.live c.args.row.now.label) pushed in
+    let now : live_in c.args.row.now.label c.chain.new.rows.items ≡ old ++ c.args.container.now ∷ [] = c.chain.ensures.same.live c.args.row.now.label ∙ live_pushed c.args.row.now.label c.args.row.now.containers.items c.make_last.new.rows.items c.push_reserved.new.self.items c.args.container.now (c.requires.label ∙ sym here) suited (c.make_last.ensures.live c.args.row.now.label) pushed in
     let rises = rise_last clock_of old c.args.container.now (live_rise c.args.row.now.label c.args.row.now.containers.items c.args.row.now.rising) (c.requires.last (sym c.if-is_same.ensures)) in
     record {
-      uses = raised_all all leaves c.args.container.now old (live_in c.args.row.now.label c.push_reserved.new.self.items) c.raise.new.uses.items now (c.raise.ensures before c.requires.summed.uses);
+      uses = raised_all all leaves c.args.container.now old (live_in c.args.row.now.label c.chain.new.rows.items) c.raise.new.uses.items now (c.raise.ensures before c.requires.summed.uses);
       users = subst (AreByUser c.args.numbers.now leaves c.change_users.new.users.items) (sym now) (c.change_users.ensures old small c.requires.summed.users);
-      filled = subst (AreSums stands_on c.raise-then-is_same.new.self) (sym now) (c.raise-then-is_same.ensures stands_on c.args.container.now (record { sized = refl; alone = λ other. refl }) old small c.requires.summed.filled);
+      filled = subst (AreSums stands_on c.chain.new.filled) (sym now)
+          (c.chain.ensures.filled stands_on (old ++ c.args.container.now ∷ []) (c.raise-then-is_same.ensures.sums stands_on c.args.container.now (record { sized = refl; alone = λ other. refl }) old small c.requires.summed.filled));
       listed = subst (AreListed c.add.new.self) (sym now) (c.add.ensures old rises c.requires.summed.listed);
     }
 
@@ -55,13 +58,26 @@ returns-then-is_same-clause-meaning c =
     let here : row.label ≡ c.args.label.now = same-label_path row.label c.args.label.now (sym c.if-is_same.ensures) in
     let suited = ap (λ (l : Label). is_suited l c.args.container.now.what) here ∙ c.requires.suited in
     let pushed = c.push_reserved.ensures.items ∙ ap (λ (row : ContainerRow). c.make_last.new.rows.items ++ row ∷ []) c.row_of.ensures in
-    let now = live_pushed row.label row.containers.items c.make_last.new.rows.items c.push_reserved.new.self.items c.args.container.now (c.requires.label ∙ sym here) suited (c.make_last.ensures.live row.label) pushed in
+    let now = c.chain.ensures.same.live row.label ∙ live_pushed row.label row.containers.items c.make_last.new.rows.items c.push_reserved.new.self.items c.args.container.now (c.requires.label ∙ sym here) suited (c.make_last.ensures.live row.label) pushed in
     let put : Partition = record { label = row.label; clock = c.args.clock; containers = live_in row.label row.containers.items ++ c.args.container.now ∷ [] } in
     (λ i. record { label = row.label; clock = c.args.clock; containers = now i }) ∙ ap (λ b. cond b put (partition_of row)) c.if-is_same.ensures
 
 -- the container's clock is above those of the others
-pub invariant_of-row : goal.invariant_of-row
-invariant_of-row c =
+pub chain-requires : goal.chain-requires
+chain-requires c =
     let pushed = c.push_reserved.ensures.items ∙ ap (λ (row : ContainerRow). c.make_last.new.rows.items ++ row ∷ []) c.row_of.ensures in
     let below = c.make_last.ensures.below c.args.row.now.label (c.requires.last (sym c.if-is_same.ensures)) in
-    record { rising = subst (λ (rows : List ContainerRow). numbers_rise row_clock rows ≡ true) (sym pushed) (rise_last row_clock c.make_last.new.rows.items (row_of c.args.container.now) c.make_last.ensures.rising below) }
+    subst (λ (rows : List ContainerRow). numbers_rise row_clock rows ≡ true) (sym pushed) (rise_last row_clock c.make_last.new.rows.items (row_of c.args.container.now) c.make_last.ensures.rising below)
+
+-- and it takes memory
+pub invariant_of-row : goal.invariant_of-row
+invariant_of-row c =
+    let row = c.args.row.now in
+    let own = c.requires.label ∙ sym (same-label_path row.label c.args.label.now (sym c.if-is_same.ensures)) in
+    let pushed = c.push_reserved.ensures.items ∙ ap (λ (row : ContainerRow). c.make_last.new.rows.items ++ row ∷ []) c.row_of.ensures in
+    let below = c.make_last.ensures.below row.label (c.requires.last (sym c.if-is_same.ensures)) in
+    let now = c.chain.ensures.same.live row.label ∙ live_pushed row.label row.containers.items c.make_last.new.rows.items c.push_reserved.new.self.items c.args.container.now own (c.make_last.ensures.live row.label) pushed in
+    record {
+      rising = c.chain.ensures.same.rising (subst (λ (rows : List ContainerRow). numbers_rise row_clock rows ≡ true) (sym pushed) (rise_last row_clock c.make_last.new.rows.items (row_of c.args.container.now) c.make_last.ensures.rising below));
+      sized = ap (list_all is_sized) now ∙ sized_more (live_in row.label row.containers.items) c.args.container.now c.raise-then-is_same.ensures.size row.sized;
+    }

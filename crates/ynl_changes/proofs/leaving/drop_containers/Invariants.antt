@@ -2,7 +2,7 @@ use Rattle.ynl_changes.specs.Rows.{in_row, emptied}
 use Rattle.ynl_tables.specs.Kept.{AreSummed}
 use Rattle.ynl_tables.specs.Tables.{leaves_of, partition_of}
 use Rattle.ynl_changes.proofs.InPlace.{IsChanged}
-use Rattle.ynl_changes.proofs.nodes.drop_containers.Given as goal
+use Rattle.ynl_changes.proofs.leaving.drop_containers.Given as goal
 
 abbrev pub invariant-loop-row : goal.invariant-loop-row
 invariant-loop-row l = record {

@@ -4,7 +4,7 @@ use Rattle.ynl_laws.proofs.Lists.{all-of}
 use Rattle.ynl_tables.specs.Kept.{IsSummed, AreSummed}
 use Rattle.ynl_tables.specs.Tables.{leaves_of, partition_of}
 use Rattle.ynl_changes.proofs.InPlace.{changed_step, each_set, whole_kept}
-use Rattle.ynl_changes.proofs.nodes.drop_containers.Goals as goal
+use Rattle.ynl_changes.proofs.leaving.drop_containers.Goals as goal
 
 pub drop_in-requires-clause-summed : goal.drop_in-requires-clause-summed
 drop_in-requires-clause-summed c =
