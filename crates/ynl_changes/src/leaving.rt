@@ -110,7 +110,7 @@ fn most_on(rows: &[PartitionRow], node: &Node) -> u64 {
     }
 }
 
-/// The containers on a node end that its chain leads to, one by one from the last.
+/// The containers on a node end that its chain leads to, one by one from the last. No clock of a container is 0.
 fn end_chained(tables: &mut Tables, node: &Node)
     requires { IsKept tables.old }
     ensures state { vacated node.now (state_of tables.new) ≡ vacated node.now (state_of tables.old) }
@@ -120,6 +120,9 @@ fn end_chained(tables: &mut Tables, node: &Node)
     let mut clock = last_on(&tables.partitions, node);
     let count = most_on(&tables.partitions, node);
     for _ in 0..count {
+        if clock == 0 {
+            return;
+        }
         clock = end_next(tables, node, clock);
     }
 }
