@@ -73,10 +73,11 @@ chain-requires c =
 pub invariant_of-row : goal.invariant_of-row
 invariant_of-row c =
     let row = c.args.row.now in
-    let own = c.requires.label ∙ sym (same-label_path row.label c.args.label.now (sym c.if-is_same.ensures)) in
+    let here : row.label ≡ c.args.label.now = same-label_path row.label c.args.label.now (sym c.if-is_same.ensures) in
+    let suited = ap (λ (l : Label). is_suited l c.args.container.now.what) here ∙ c.requires.suited in
     let pushed = c.push_reserved.ensures.items ∙ ap (λ (row : ContainerRow). c.make_last.new.rows.items ++ row ∷ []) c.row_of.ensures in
     let below = c.make_last.ensures.below row.label (c.requires.last (sym c.if-is_same.ensures)) in
-    let now = c.chain.ensures.same.live row.label ∙ live_pushed row.label row.containers.items c.make_last.new.rows.items c.push_reserved.new.self.items c.args.container.now own (c.make_last.ensures.live row.label) pushed in
+    let now = c.chain.ensures.same.live row.label ∙ live_pushed row.label row.containers.items c.make_last.new.rows.items c.push_reserved.new.self.items c.args.container.now (c.requires.label ∙ sym here) suited (c.make_last.ensures.live row.label) pushed in
     record {
       rising = c.chain.ensures.same.rising (subst (λ (rows : List ContainerRow). numbers_rise row_clock rows ≡ true) (sym pushed) (rise_last row_clock c.make_last.new.rows.items (row_of c.args.container.now) c.make_last.ensures.rising below));
       sized = ap (list_all is_sized) now ∙ sized_more (live_in row.label row.containers.items) c.args.container.now c.raise-then-is_same.ensures.size row.sized;
