@@ -23,3 +23,4 @@ pub mod Sharers
 pub mod Owners
 pub mod Tabled
 pub mod Tracks
+pub mod Lulls

@@ -4,6 +4,7 @@
 pub mod classes;
 pub mod entitlement;
 pub mod isolation;
+pub mod lulls;
 pub mod marks;
 pub mod maxima;
 pub mod nodes;
