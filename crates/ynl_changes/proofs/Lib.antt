@@ -16,3 +16,4 @@ pub mod Sharers
 pub mod Named
 pub mod Sized
 pub mod Vacated
+pub mod Lulling

@@ -7,31 +7,40 @@ ghost use Rattle.ynl_laws.specs.Tabled.{Tabled};
 ghost use Rattle.ynl_tables.specs.Kept.{IsKept};
 ghost use Rattle.ynl_tables.specs.Numbers.{AreQueuesOf};
 ghost use Rattle.ynl_tables.specs.Tables.{state_of, HasCapacity};
+ghost use Rattle.ynl_choice.specs.Lulls.{AreLulls};
 
 use crate::placing::place;
-use ynl_choice::{Request, choose};
+use ynl_choice::{Lulls, Request, choose, forget_leaf};
 use ynl_model::{Node, Placed};
 use ynl_queues::Config;
 use ynl_tables::{Tables, is_spent, push_copy};
 
 /// The request that is placed next on a node: none where the clock is spent.
-fn next_request(config: &Config, tables: &Tables, node: &Node) -> Option<Request>
+fn next_request(
+    config: &Config,
+    tables: &Tables,
+    lulls: &mut Lulls,
+    node: &Node,
+) -> Option<Request>
     requires working { IsWorking config.now (state_of tables.now) }
     requires tabled { Tabled (state_of tables.now) }
     requires kept { IsKept tables.now }
     requires numbered { AreQueuesOf config.now tables.now.numbers }
-    ensures { result ≡ next_item config.now (state_of tables.now) node.now }
+    requires lulls { AreLulls config.now (state_of tables.now) lulls.old }
+    ensures item { result ≡ next_item config.now (state_of tables.now) node.now }
+    ensures lulls { AreLulls config.now (state_of tables.now) lulls.new }
 {
     if is_spent(config, tables, &node.label) {
         return None;
     }
-    choose(config, tables, node)
+    choose(config, tables, lulls, node)
 }
 
 /// Places the next request on a node, so many times at most, and notes the containers.
 pub fn serve(
     config: &Config,
     tables: &mut Tables,
+    lulls: &mut Lulls,
     node: &Node,
     times: usize,
     placed: &mut Vec<Placed>,
@@ -40,6 +49,7 @@ pub fn serve(
     requires tabled { Tabled (state_of tables.old) }
     requires kept { IsKept tables.old }
     requires numbered { AreQueuesOf config.now tables.old.numbers }
+    requires lulls { AreLulls config.now (state_of tables.old) lulls.old }
     requires stands { Stands (state_of tables.old) node.now }
     requires capacity { HasCapacity node.now.label times tables.old.partitions.items }
     requires reply_capacity { vec_len placed.old + times ≤ vec_capacity placed.old }
@@ -48,11 +58,13 @@ pub fn serve(
     ensures kept { IsKept tables.new }
     ensures numbers { tables.new.numbers ≡ tables.old.numbers }
     ensures resting { tables.new.nodes.resting ≡ tables.old.nodes.resting }
+    ensures lulls { AreLulls config.now (state_of tables.new) lulls.new }
 {
     for _i in 0..times {
-        let Some(request) = next_request(config, tables, node) else {
+        let Some(request) = next_request(config, tables, lulls, node) else {
             return;
         };
+        forget_leaf(lulls, tables, &request.leaf);
         let container = place(config, tables, node, &request);
         push_copy(placed, &container);
     }

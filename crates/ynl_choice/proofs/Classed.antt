@@ -140,7 +140,7 @@ module _ (scene : Scene) (leaf : Path) where
       go true = or-false (takes_master app)
       go false = refl
 
-  idle : (app : App) → IsMarkedApp (state_in scene) leaf app → waits (state_in scene) (app_of leaf app) ≡ (app.master_clock == 0)
+  pub idle : (app : App) → IsMarkedApp (state_in scene) leaf app → waits (state_in scene) (app_of leaf app) ≡ (app.master_clock == 0)
   idle app mark = ap not (sym (mark-read (state_in scene) (app_of leaf app) app.master_clock mark)) ∙ not-above app.master_clock
 
   pub busy : (app : App) → IsMarkedApp (state_in scene) leaf app → runs (state_in scene) (app_of leaf app) ≡ not (app.master_clock == 0)

@@ -27,7 +27,7 @@ use Rattle.ynl_choice.specs.Choosing.{state_in, key_in, item_of, considered, Hol
 use Rattle.ynl_choice.specs.Candidates.{is_ahead, key_of, standings_of}
 use Rattle.ynl_choice.specs.Waits.{is_placeable, IsTurnOf, IsFirstTurn}
 use Rattle.ynl_choice.proofs.Classed.{IsToldBy, any-at, any-none}
-use Rattle.ynl_choice.proofs.Foremost.{any_passes, IsGathered, nothing, all-behind, decided-at}
+use Rattle.ynl_choice.proofs.Foremost.{any_passes, IsGathered, none-gathered, all-behind, decided-at}
 use Rattle.ynl_choice.proofs.Placed.{each_at}
 use Rattle.ynl_tables.proofs.Searching.{rise, each_from}
 
@@ -63,13 +63,17 @@ module _ (scene : Scene) (row : LeafRow) (what : What) (waits : Class → Turn �
       let app = get_or row.apps.items at.0 d in
       (at.0, at.1, told.number h.0 turn app at.2, told.placed h.0 turn app (mark-at at.0 d at.1) at.2 h.1)
 
-  -- where there is no turn nothing may be placed
-  pub none-waits : (held : Option Item) → IsFirstTurn (is_placeable scene row.path what) waiting None → considered scene held (gather row.apps.items) ≡ held
-  none-waits held none = nothing scene row.path gather gathered row.apps.items held (each_from _ row.apps.items (λ k d inside. go k d inside (of_app k d) refl))
+  -- where there is no turn nothing may be placed of any application
+  none-of-each : IsFirstTurn (is_placeable scene row.path what) waiting None → AllByRecursion (λ app. any_passes scene (gather (app ∷ [])) ≡ false) row.apps.items
+  none-of-each none = each_from _ row.apps.items (λ k d inside. go k d inside (of_app k d) refl)
     where
       go : (k : ℕ) (d : App) → k < length row.apps.items → (b : Bool) → of_app k d ≡ b → of_app k d ≡ false
       go k d inside false e = e
       go k d inside true e = let at = turn-of k d inside e in absurd (none at.0 at.1)
+
+  -- and so nothing at all
+  pub none-passes : IsFirstTurn (is_placeable scene row.path what) waiting None → any_passes scene (gather row.apps.items) ≡ false
+  none-passes none = none-gathered scene row.path gather gathered row.apps.items (none-of-each none)
 
   -- the number of a turn is that of an application
   pub is-numbered : (turn : Turn) → IsFirstTurn (is_placeable scene row.path what) waiting (Some turn) → AllByRecursion (λ app. app.number ≢ turn.number) row.apps.items → ⊥
@@ -118,9 +122,6 @@ module _ (scene : Scene) (row : LeafRow) (what : What) (waits : Class → Turn �
           subst (λ k. of_app k d ≡ true) is at.3
 
   -- what is held then
-  pub none-held : (held : Option Candidate) → IsFirstTurn (is_placeable scene row.path what) waiting None → HoldsBest scene held (gather row.apps.items) held
-  none-held held none h = record { is = sym (none-waits (item_of held) none); keyed = h }
-
   pub one-held : (turn : Turn) (i : ℕ) (app : App) (held new : Option Candidate) → IsFirstTurn (is_placeable scene row.path what) waiting (Some turn) → IsPlaceAt number_of turn.number row.apps.items i
       → app ≡ get_or row.apps.items i app → HoldsBest scene held (gather (app ∷ [])) new → HoldsBest scene held (gather row.apps.items) new
   one-held turn i app held new first place at best h =

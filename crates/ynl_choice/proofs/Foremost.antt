@@ -9,6 +9,7 @@ use Rattle.std.specs.declared.cmp.Ordering.TheVariants.{Less, Equal, Greater}
 use Rattle.std.proofs.lemmas.Bool.Decides.{nat_tests}
 use Rattle.std.proofs.lemmas.Cmp.{upto, tied_itself}
 use Rattle.std.proofs.lemmas.List.Elements.{filter-append}
+use Rattle.std.proofs.lemmas.List.Folds.{list_any-append}
 use mathlib.Core.Bool.{true≢false}
 use Rattle.ynl_resource.specs.declared.names.Name.{Name}
 use Rattle.ynl_resource.specs.declared.paths.Path.{Path}
@@ -95,7 +96,16 @@ pub record IsGathered (leaf : Path) (gather : List App → List Item) : Type 0 w
   pub more : (app : App) (apps : List App) → gather (app ∷ apps) ≡ gather (app ∷ []) ++ gather apps
   pub own : (app : App) → AllByRecursion (λ item. (item.leaf ≡ leaf) × (item.app ≡ app.name)) (gather (app ∷ []))
 
+-- where none of either passes none of both does
+pub neither : (scene : Scene) (xs ys : List Item) → any_passes scene xs ≡ false → any_passes scene ys ≡ false → any_passes scene (xs ++ ys) ≡ false
+neither scene xs ys h k = list_any-append (passes scene) xs ys ∙ ap (λ b. b || any_passes scene ys) h ∙ k
+
 module _ (scene : Scene) (leaf : Path) (gather : List App → List Item) (gathered : IsGathered leaf gather) where
+  -- where nothing passes of any application nothing does of all
+  pub none-gathered : (apps : List App) → AllByRecursion (λ app. any_passes scene (gather (app ∷ [])) ≡ false) apps → any_passes scene (gather apps) ≡ false
+  none-gathered [] h = ap (any_passes scene) gathered.none
+  none-gathered (app ∷ apps) h = ap (any_passes scene) (gathered.more app apps) ∙ neither scene (gather (app ∷ [])) (gather apps) h.0 (none-gathered apps h.1)
+
   open-parts : (held : Option Item) (app : App) (apps : List App) → considered scene held (gather (app ∷ apps)) ≡ considered scene (considered scene held (gather (app ∷ []))) (gather apps)
   open-parts held app apps =
       ap (λ items. fold (sooner (key_in scene)) held (filter (passes scene) items)) (gathered.more app apps)

@@ -17,3 +17,5 @@ mod Before
 mod Passed
 mod Headroom
 mod Lessened
+pub mod Known
+pub mod Quiet

@@ -5,7 +5,7 @@ use Rattle.std.specs.Borrow.{Bor}
 use Rattle.std.proofs.lemmas.Grind.{flat_map-append}
 use Rattle.std.proofs.lemmas.List.{length-map, map-append}
 use Rattle.std.proofs.lemmas.List.Elements.{filter-append}
-use Rattle.std.proofs.lemmas.List.{get_or-map}
+use Rattle.std.proofs.lemmas.List.{get_or-map, get_or_default}
 use Rattle.ynl_resource.specs.Names.{is_within, root}
 use Rattle.ynl_resource.specs.declared.paths.Path.{Path}
 use Rattle.ynl_model.specs.Applications.{Application, LeafApps, all_apps}
@@ -89,6 +89,11 @@ asks-passed scene first mid held passed row place next read to over h best =
     passed-over scene first mid held passed row place next (λ row. asks_in scene row.path row.apps.items) (all_asks scene) (asks-more scene) (asks-behind scene held) read to over h best
 
 -- ---- the next place
+
+-- the row at a place
+pub some_row : (rows : List LeafRow) (place : ℕ) → place < length rows → (row : LeafRow) × (row ≡ get_or rows place row)
+some_row [] place inside = absurd (omega (arith, inside))
+some_row (first ∷ rows) place inside = (get_or (first ∷ rows) place first, get_or_default (first ∷ rows) place first (get_or (first ∷ rows) place first) inside)
 
 -- the leaves of the tables are those of their queues
 pub paths_read : (t : Tables) → IsReadable t → map (λ (row : LeafRow). row.path) t.leaves.items ≡ leaf_paths t.numbers

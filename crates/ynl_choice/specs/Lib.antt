@@ -4,3 +4,4 @@ pub mod LeafUses
 pub mod Checking
 pub mod Waits
 pub mod Boards
+pub mod Lulls

@@ -1,17 +1,21 @@
 //! The choice on a node: of the eligible requests the first in the order of service, or else the
 //! first guest. The leaves are gone through once, and the first so far is held.
 
-ghost use Rattle.std.specs.Prelude.{◌≡◌, ◌<◌, None, filter, length};
+ghost use Rattle.std.specs.Bool.{OnTrue};
+ghost use Rattle.std.specs.Prelude.{◌≡◌, ◌<◌, false, None, filter, length, slice_index_or};
 ghost use Rattle.ynl_resource.specs.declared.labels.Label.TheVariants.{Unlabelled};
 ghost use Rattle.ynl_model.specs.Cluster.{free as free_on};
 ghost use Rattle.ynl_model.specs.Service.{first_of, key, eligible, has_room, asks_for, some_eligible, takes_guests, choice};
 ghost use Rattle.ynl_tables.specs.Bounds.{IsReadable};
 ghost use Rattle.ynl_tables.specs.Numbers.{AreQueuesOf};
 ghost use Rattle.ynl_tables.specs.Tables.{state_of};
-ghost use Rattle.ynl_choice.specs.Choosing.{item_of, IsScene, IsNext, HoldsBest, all_asks, all_wanted};
+ghost use Rattle.ynl_tables.specs.declared.rows.LeafRow.{LeafRow};
+ghost use Rattle.ynl_choice.specs.Choosing.{item_of, state_in, IsScene, IsNext, IsPassed, HoldsBest, all_asks, all_wanted, wanted_in};
+ghost use Rattle.ynl_choice.specs.Lulls.{AreLulls, IsPartAt, NonePass};
 
 use crate::boards::board_of;
 use crate::leaves::{add_asks, add_leaf};
+use crate::lulls::Lulls;
 use crate::requests::Request;
 use crate::scenes::Scene;
 use crate::standings::Candidate;
@@ -37,18 +41,67 @@ fn next_leaf(scene: &Scene<'_>, place: usize, passed: &Option<&[Name]>) -> usize
     scene.tables.numbers.after_leaf(place, queue)
 }
 
+/// Whether it is known that nothing of the leaf at a place may be placed: nothing is for so little as what is free, or
+/// nothing that fits there keeps its limits.
+fn is_quiet(scene: &Scene<'_>, lulls: &Lulls, at: usize, place: usize) -> bool
+    requires scene { IsScene scene.now }
+    requires own { scene.now.as_guests ≡ false }
+    requires lulls { AreLulls scene.now.config.now (state_in scene.now) lulls.now }
+    requires at { IsPartAt lulls.now scene.now.label at }
+    requires place { place < length scene.now.tables.now.leaves.items }
+    ensures { OnTrue result ((row : LeafRow) → row ≡ slice_index_or scene.now.tables.now.leaves.items place row → NonePass scene.now (wanted_in scene.now row)) }
+{
+    match lulls.at(at, place) {
+        Some(lull) => lull.holds_for(&scene.free),
+        None => false,
+    }
+}
+
+/// What is wanted of the leaf at a place, where it is not known that nothing may be placed; if nothing may, that is known
+/// then. The place of the leaf that is looked at next.
+fn add_at<'a>(
+    scene: &Scene<'a>,
+    lulls: &mut Lulls,
+    at: usize,
+    place: usize,
+    passed: &mut Option<&'a [Name]>,
+    held: &mut Option<Candidate>,
+) -> usize
+    requires scene { IsScene scene.now }
+    requires own { scene.now.as_guests ≡ false }
+    requires lulls { AreLulls scene.now.config.now (state_in scene.now) lulls.old }
+    requires at { IsPartAt lulls.old scene.now.label at }
+    requires place { place < length scene.now.tables.now.leaves.items }
+    requires passed { IsPassed scene.now held.old passed.old }
+    ensures lulls { AreLulls scene.now.config.now (state_in scene.now) lulls.new }
+    ensures at { IsPartAt lulls.new scene.now.label at }
+    ensures best { (row : LeafRow) → row ≡ slice_index_or scene.now.tables.now.leaves.items place row → HoldsBest scene.now held.old (wanted_in scene.now row) held.new }
+    ensures passed { IsPassed scene.now held.new passed.new }
+    ensures next { IsNext scene.now passed.new place result }
+{
+    if is_quiet(scene, lulls, at, place) {
+        return place + 1;
+    }
+    let rows = scene.tables.leaves.as_slice();
+    let lull = add_leaf(scene, &rows[place], passed, held);
+    lulls.note(at, place, &lull);
+    next_leaf(scene, place, passed)
+}
+
 /// What is wanted on the partition, leaf by leaf. What is below a queue that the request that is held is before is
 /// passed over.
-fn add_all(scene: &Scene<'_>, held: &mut Option<Candidate>)
-    requires { IsScene scene.now }
-    ensures { HoldsBest scene.now held.old (all_wanted scene.now scene.now.tables.now.leaves.items) held.new }
+fn add_all(scene: &Scene<'_>, lulls: &mut Lulls, held: &mut Option<Candidate>)
+    requires scene { IsScene scene.now }
+    requires own { scene.now.as_guests ≡ false }
+    requires lulls { AreLulls scene.now.config.now (state_in scene.now) lulls.old }
+    ensures best { HoldsBest scene.now held.old (all_wanted scene.now scene.now.tables.now.leaves.items) held.new }
+    ensures lulls { AreLulls scene.now.config.now (state_in scene.now) lulls.new }
 {
-    let rows = scene.tables.leaves.as_slice();
+    let at = lulls.part(&scene.label);
     let mut passed = None;
     let mut place = 0;
-    while place < rows.len() {
-        add_leaf(scene, &rows[place], &mut passed, held);
-        place = next_leaf(scene, place, &passed);
+    while place < scene.tables.leaves.len() {
+        place = add_at(scene, lulls, at, place, &mut passed, held);
     }
 }
 
@@ -67,11 +120,19 @@ fn add_all_asks(scene: &Scene<'_>, held: &mut Option<Candidate>)
 }
 
 /// The first of the eligible requests.
-fn first_eligible(config: &Config, tables: &Tables, node: &Node, free: &Resource) -> Option<Request>
+fn first_eligible(
+    config: &Config,
+    tables: &Tables,
+    lulls: &mut Lulls,
+    node: &Node,
+    free: &Resource,
+) -> Option<Request>
     requires readable { IsReadable tables.now }
     requires numbered { AreQueuesOf config.now tables.now.numbers }
+    requires lulls { AreLulls config.now (state_of tables.now) lulls.old }
     requires free { free.now ≡ free_on (state_of tables.now) node.now }
-    ensures { result ≡ first_of (key config.now (state_of tables.now) node.now.label) (eligible config.now (state_of tables.now) node.now) }
+    ensures first { result ≡ first_of (key config.now (state_of tables.now) node.now.label) (eligible config.now (state_of tables.now) node.now) }
+    ensures lulls { AreLulls config.now (state_of tables.now) lulls.new }
 {
     let total = tables.nodes.total(&node.label);
     let scene = Scene {
@@ -85,7 +146,7 @@ fn first_eligible(config: &Config, tables: &Tables, node: &Node, free: &Resource
         board: board_of(config, tables, &node.label),
     };
     let mut held = None;
-    add_all(&scene, &mut held);
+    add_all(&scene, lulls, &mut held);
     request_in(&held)
 }
 
@@ -128,7 +189,8 @@ pub fn some_eligible(config: &Config, tables: &Tables, node: &Node) -> bool
     ensures { result ≡ some_eligible config.now (state_of tables.now) node.now }
 {
     let free = free(tables, node);
-    first_eligible(config, tables, node, &free).is_some()
+    let mut lulls = Lulls::none(*tables.leaves.allocator());
+    first_eligible(config, tables, &mut lulls, node, &free).is_some()
 }
 
 /// Whether a partition takes guests: it is not exclusive, and not DEFAULT.
@@ -142,14 +204,21 @@ pub fn takes_guests(config: &Config, label: &Label) -> bool
 }
 
 /// The request that is served next on a node: the first of the eligible ones, or else the first
-/// guest. It does not look at the clock.
-pub fn choose(config: &Config, tables: &Tables, node: &Node) -> Option<Request>
+/// guest. It does not look at the clock. Leaves that are known to have nothing for the node are not looked at.
+pub fn choose(
+    config: &Config,
+    tables: &Tables,
+    lulls: &mut Lulls,
+    node: &Node,
+) -> Option<Request>
     requires readable { IsReadable tables.now }
     requires numbered { AreQueuesOf config.now tables.now.numbers }
-    ensures { result ≡ choice config.now (state_of tables.now) node.now }
+    requires lulls { AreLulls config.now (state_of tables.now) lulls.old }
+    ensures choice { result ≡ choice config.now (state_of tables.now) node.now }
+    ensures lulls { AreLulls config.now (state_of tables.now) lulls.new }
 {
     let free = free(tables, node);
-    match first_eligible(config, tables, node, &free) {
+    match first_eligible(config, tables, lulls, node, &free) {
         Some(request) => Some(request),
         None => {
             if takes_guests(config, &node.label) {

@@ -1,27 +1,33 @@
 //! The first request of a leaf. Where what waits there is kept, it is found by partition, user, size and turn,
 //! and else the applications are gone through.
 
-ghost use Rattle.std.specs.Prelude.{◌≡◌, true, Option, None, IfSome};
+ghost use Rattle.std.specs.Prelude.{◌≡◌, Bool, true, false, Option, None, IfSome};
 ghost use Rattle.std.specs.Bool.{OnTrue, OnFalse};
+ghost use Rattle.ynl_resource.specs.Amounts.{fits_in};
 ghost use Rattle.ynl_tables.specs.Marked.{AreMarkedIn};
 ghost use Rattle.ynl_tables.specs.Queued.{masters_waiting, asks_waiting};
 ghost use Rattle.ynl_choice.specs.Choosing.{state_in, standings_to, ArePlaced, IsScene, AreLimits, IsPassed, HoldsBest, masters_of as masters_in, asks_in, wanted_in};
 ghost use Rattle.ynl_choice.specs.Candidates.{is_ahead};
-ghost use Rattle.ynl_choice.specs.Waits.{IsPartOf};
+ghost use Rattle.ynl_choice.specs.Lulls.{IsLeastOf, IsQuiet, NonePass};
+ghost use Rattle.ynl_choice.specs.Waits.{IsPartFor, IsPartOf};
+ghost use Rattle.ynl_waiting.specs.Waiting.{has};
+ghost use Rattle.ynl_waiting.specs.declared.classes.Class.{Class};
+ghost use Rattle.ynl_waiting.specs.declared.classes.Turn.{Turn};
 ghost use Rattle.ynl_choice.specs.declared.scenes.Scene.{Scene};
 ghost use Rattle.ynl_choice.specs.declared.standings.Candidate.{Candidate};
 
 use crate::holding::{add_ask_at, add_asks_of, add_master, desk_of};
 use crate::leaf_use::LeafUse;
+use crate::lulls::Lull;
 use crate::ranking::first_behind;
-use crate::scenes::Scene;
+use crate::scenes::{Scene, limits_at};
 use crate::standings::Candidate;
 use crate::turns::{first_turn, may_be_taken, may_fit, part_for};
 use ynl_model::What;
 use ynl_queues::is_within;
-use ynl_resource::Name;
+use ynl_resource::{Name, Resource};
 use ynl_tables::{LeafRow, place_of};
-use ynl_waiting::Part;
+use ynl_waiting::{Part, Rows};
 
 /// Whether a leaf is within a queue that is passed over.
 fn is_below(passed: &Option<&[Name]>, row: &LeafRow) -> bool
@@ -90,14 +96,14 @@ fn add_each_master(scene: &Scene<'_>, row: &LeafRow, held: &mut Option<Candidate
     }
 }
 
-/// The first of the masters that wait in a leaf for the partition, by their classes.
+/// The first of the masters that wait in a leaf for the partition, by their classes. Whether none may be placed.
 fn add_first_master(
     scene: &Scene<'_>,
     limits: &mut Option<LeafUse>,
     row: &LeafRow,
     part: &Part,
     held: &mut Option<Candidate>,
-)
+) -> bool
     requires scene { IsScene scene.now }
     requires limits { AreLimits scene.now row.now.path limits.old }
     requires placed { ArePlaced (state_in scene.now) row.now }
@@ -105,27 +111,29 @@ fn add_first_master(
     requires part { IsPartOf scene.now (masters_waiting row.now.apps.items) part.now }
     ensures best { HoldsBest scene.now held.old (masters_in scene.now row.now.path row.now.apps.items) held.new }
     ensures limits { AreLimits scene.now row.now.path limits.new }
+    ensures none { OnTrue result (NonePass scene.now (masters_in scene.now row.now.path row.now.apps.items)) }
 {
     let Some(turn) = first_turn(scene, limits, row, &What::Master, part) else {
-        return;
+        return true;
     };
     if let Some(place) = place_of(row, turn.number) {
         let mut desk = desk_of(scene, row, limits);
         add_master(scene, &mut desk, row, &row.apps[place], place as u64, held);
     }
+    false
 }
 
 /// The masters wanted on the partition by the applications of a leaf. Where what waits is kept, the first of
 /// them is looked for, and no other is considered. Nothing is worked out of the leaf where it is passed over, where
 /// the request that is held is before all of it, or where none of them has room; what costs least is looked at
-/// first, and how the leaf stands last, for one that may be placed.
+/// first, and how the leaf stands last, for one that may be placed. Whether it is known that none may be placed.
 fn add_masters<'a>(
     scene: &Scene<'_>,
     limits: &mut Option<LeafUse>,
     row: &'a LeafRow,
     passed: &mut Option<&'a [Name]>,
     held: &mut Option<Candidate>,
-)
+) -> bool
     requires scene { IsScene scene.now }
     requires passed { IsPassed scene.now held.old passed.old }
     requires limits { AreLimits scene.now row.now.path limits.old }
@@ -134,28 +142,29 @@ fn add_masters<'a>(
     ensures best { HoldsBest scene.now held.old (masters_in scene.now row.now.path row.now.apps.items) held.new }
     ensures limits { AreLimits scene.now row.now.path limits.new }
     ensures passed { IsPassed scene.now held.new passed.new }
+    ensures none { OnTrue result (NonePass scene.now (masters_in scene.now row.now.path row.now.apps.items)) }
 {
     if is_below(passed, row) {
-        return;
+        return false;
     }
     let Some(waiting) = row.masters.rows() else {
         *passed = None;
         add_each_master(scene, row, held);
-        return;
+        return false;
     };
     let Some(part) = part_for(scene, waiting) else {
-        return;
+        return true;
     };
     if !may_fit(scene, part) {
-        return;
+        return true;
     }
     if is_passed(scene, row, passed, held) {
-        return;
+        return false;
     }
     if !may_be_taken(scene, limits, row, part) {
-        return;
+        return true;
     }
-    add_first_master(scene, limits, row, part, held);
+    add_first_master(scene, limits, row, part, held)
 }
 
 /// What the running applications of a leaf ask for on the partition, one after another.
@@ -174,14 +183,14 @@ fn add_each_ask(scene: &Scene<'_>, row: &LeafRow, held: &mut Option<Candidate>)
     }
 }
 
-/// The first of what is asked for in a leaf on the partition, by classes.
+/// The first of what is asked for in a leaf on the partition, by classes. Whether nothing of it may be placed.
 fn add_first_ask(
     scene: &Scene<'_>,
     limits: &mut Option<LeafUse>,
     row: &LeafRow,
     part: &Part,
     held: &mut Option<Candidate>,
-)
+) -> bool
     requires scene { IsScene scene.now }
     requires limits { AreLimits scene.now row.now.path limits.old }
     requires placed { ArePlaced (state_in scene.now) row.now }
@@ -189,10 +198,11 @@ fn add_first_ask(
     requires part { IsPartOf scene.now (asks_waiting row.now.apps.items) part.now }
     ensures best { HoldsBest scene.now held.old (asks_in scene.now row.now.path row.now.apps.items) held.new }
     ensures limits { AreLimits scene.now row.now.path limits.new }
+    ensures none { OnTrue result (NonePass scene.now (asks_in scene.now row.now.path row.now.apps.items)) }
 {
     let what = What::Ask(scene.label, 0);
     let Some(turn) = first_turn(scene, limits, row, &what, part) else {
-        return;
+        return true;
     };
     if let Some(place) = place_of(row, turn.number) {
         let mut desk = desk_of(scene, row, limits);
@@ -207,17 +217,19 @@ fn add_first_ask(
             held,
         );
     }
+    false
 }
 
 /// What the running applications of a leaf ask for on the partition. Where what waits is kept, the first
-/// of it is looked for, and nothing else is considered; and the leaf is passed over as for masters.
+/// of it is looked for, and nothing else is considered; and the leaf is passed over as for masters. Whether it is known
+/// that nothing of it may be placed.
 pub fn add_asks<'a>(
     scene: &Scene<'_>,
     limits: &mut Option<LeafUse>,
     row: &'a LeafRow,
     passed: &mut Option<&'a [Name]>,
     held: &mut Option<Candidate>,
-)
+) -> bool
     requires scene { IsScene scene.now }
     requires passed { IsPassed scene.now held.old passed.old }
     requires limits { AreLimits scene.now row.now.path limits.old }
@@ -226,46 +238,107 @@ pub fn add_asks<'a>(
     ensures best { HoldsBest scene.now held.old (asks_in scene.now row.now.path row.now.apps.items) held.new }
     ensures limits { AreLimits scene.now row.now.path limits.new }
     ensures passed { IsPassed scene.now held.new passed.new }
+    ensures none { OnTrue result (NonePass scene.now (asks_in scene.now row.now.path row.now.apps.items)) }
 {
     if is_below(passed, row) {
-        return;
+        return false;
     }
     let Some(waiting) = row.asks.rows() else {
         *passed = None;
         add_each_ask(scene, row, held);
-        return;
+        return false;
     };
     let Some(part) = part_for(scene, waiting) else {
-        return;
+        return true;
     };
     if !may_fit(scene, part) {
-        return;
+        return true;
     }
     if is_passed(scene, row, passed, held) {
-        return;
+        return false;
     }
     if !may_be_taken(scene, limits, row, part) {
-        return;
+        return true;
     }
-    add_first_ask(scene, limits, row, part, held);
+    add_first_ask(scene, limits, row, part, held)
+}
+
+/// The greatest amount, above all sizes.
+const MOST: Resource = Resource {
+    memory: u64::MAX,
+    vcores: u64::MAX,
+};
+
+/// An amount that none of what waits for the partition is below.
+fn least_in(scene: &Scene<'_>, waiting: &Rows) -> Resource
+    ensures { (waits : Class → Turn → Bool) → ((class : Class) (turn : Turn) → has waiting.now.classes.entries class turn ≡ waits class turn) → IsLeastOf scene.now waits result }
+{
+    match part_for(scene, waiting) {
+        Some(part) => part.least.amount(),
+        None => MOST,
+    }
+}
+
+/// The less of two amounts, in memory and in virtual cores.
+fn less_of(a: &Resource, b: &Resource) -> Resource
+    ensures first { fits_in result a.now ≡ true }
+    ensures second { fits_in result b.now ≡ true }
+{
+    Resource {
+        memory: a.memory.min(b.memory),
+        vcores: a.vcores.min(b.vcores),
+    }
+}
+
+/// The lull of a leaf of which nothing may be placed: what fits in what is free, and in what the queues on the way can
+/// take, keeps no limit of its user and of the leaf's masters. None is known where what waits is not kept, or
+/// where a queue on the way stands above its maximum.
+fn lull_of(scene: &Scene<'_>, limits: &mut Option<LeafUse>, row: &LeafRow) -> Option<Lull>
+    requires scene { IsScene scene.now }
+    requires own { scene.now.as_guests ≡ false }
+    requires limits { AreLimits scene.now row.now.path limits.old }
+    requires marked { AreMarkedIn (state_in scene.now) row.now }
+    requires none { NonePass scene.now (wanted_in scene.now row.now) }
+    ensures { IfSome result (IsQuiet scene.now (wanted_in scene.now row.now)) }
+{
+    let Some(masters) = row.masters.rows() else {
+        return None;
+    };
+    let Some(asks) = row.asks.rows() else {
+        return None;
+    };
+    let limits = limits_at(scene, limits, &row.path, &row.near);
+    if !limits.headroom.is_open {
+        return None;
+    }
+    Some(Lull {
+        least: less_of(&least_in(scene, masters), &least_in(scene, asks)),
+        room: less_of(&scene.free, &limits.headroom.room),
+    })
 }
 
 /// What is wanted on the partition in a leaf, masters and asks, and the leaf's limits are worked out once for
-/// both.
+/// both. Its lull, if nothing of it may be placed and one is known.
 pub fn add_leaf<'a>(
     scene: &Scene<'_>,
     row: &'a LeafRow,
     passed: &mut Option<&'a [Name]>,
     held: &mut Option<Candidate>,
-)
+) -> Option<Lull>
     requires scene { IsScene scene.now }
+    requires own { scene.now.as_guests ≡ false }
     requires passed { IsPassed scene.now held.old passed.old }
     requires placed { ArePlaced (state_in scene.now) row.now }
     requires marked { AreMarkedIn (state_in scene.now) row.now }
     ensures best { HoldsBest scene.now held.old (wanted_in scene.now row.now) held.new }
     ensures passed { IsPassed scene.now held.new passed.new }
+    ensures quiet { IfSome result (IsQuiet scene.now (wanted_in scene.now row.now)) }
 {
     let mut limits = None;
-    add_masters(scene, &mut limits, row, passed, held);
-    add_asks(scene, &mut limits, row, passed, held);
+    let no_master = add_masters(scene, &mut limits, row, passed, held);
+    let no_ask = add_asks(scene, &mut limits, row, passed, held);
+    if no_master && no_ask {
+        return lull_of(scene, &mut limits, row);
+    }
+    None
 }

@@ -4,7 +4,9 @@
 
 pub use checking::{Checked, check};
 pub use choosing::choose;
+pub use forgetting::{forget_leaf, forget_leaf_of};
 pub use limits::{master_limit_of, user_limit_of};
+pub use lulls::{Lull, Lulls};
 pub use proposing::propose;
 pub use requests::Request;
 
@@ -13,10 +15,12 @@ mod boards;
 mod checking;
 mod choosing;
 mod eligible;
+mod forgetting;
 mod holding;
 mod leaf_use;
 mod leaves;
 mod limits;
+mod lulls;
 mod order;
 mod proposing;
 mod ranking;

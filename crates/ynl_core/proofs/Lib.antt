@@ -4,3 +4,4 @@ pub mod Changed
 pub mod RunMore
 pub mod Alone
 pub mod Reserved
+pub mod Lulled

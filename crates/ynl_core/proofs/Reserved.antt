@@ -19,7 +19,7 @@ use Rattle.ynl_changes.specs.Rows.{KeepsSums}
 use Rattle.ynl_changes.proofs.Marks.{by_partitions, placeable_committed}
 
 -- the state with other rows of partitions
-abbrev with_rows : Tables → List PartitionRow → State
+abbrev pub with_rows : Tables → List PartitionRow → State
 with_rows t rows = record (state_of t) { partitions = partitions_of rows }
 
 -- all is kept with more capacity for containers

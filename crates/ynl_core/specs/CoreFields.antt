@@ -10,6 +10,7 @@ use Rattle.ynl_core.specs.Resting.{AreResting}
 use Rattle.ynl_tables.specs.Kept.{IsKept}
 use Rattle.ynl_tables.specs.Numbers.{AreQueuesOf}
 use Rattle.ynl_tables.specs.Tables.{state_of}
+use Rattle.ynl_choice.specs.Lulls.{AreLulls}
 use Rattle.ynl_core.specs.World.{World}
 
 -- the configuration that a core keeps, and the state that its tables stand for
@@ -23,8 +24,9 @@ pub record IsSound (c : Config) (s : State) (names : List Name) : Type 0 where
   pub tabled : Tabled s
   pub resting : AreResting c s names
 
--- that is so of the state and the resting nodes that a core keeps, and what it keeps of use is right, by the numbers of the configuration's queues
+-- that is so of the state and the resting nodes that a core keeps, and what it keeps of use and of leaves is right, by the numbers of the configuration's queues
 pub record IsWorkingCore (a : Inside) : Type 0 where
   pub sound : IsSound a.config (state_of a.tables) a.tables.nodes.resting
   pub kept : IsKept a.tables
   pub numbered : AreQueuesOf a.config a.tables.numbers
+  pub lulls : AreLulls a.config (state_of a.tables) a.lulls

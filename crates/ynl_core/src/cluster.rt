@@ -23,7 +23,9 @@ use ynl_changes::{
     Submission, ask_for, end, finish_application, join, leave, opening_tables, place, relabel,
     reserve_application, reserve_ask, reserve_containers, serve, submit,
 };
-use ynl_choice::{master_limit_of, propose, user_limit_of};
+use ynl_choice::{
+    Lulls, forget_leaf, forget_leaf_of, master_limit_of, propose, user_limit_of,
+};
 use ynl_model::{AskRow, Event, Items, Placed, Proposal, Reply};
 use ynl_queues::Config;
 use ynl_resource::{Hundredths, Id, Label, Name, Path, Refusal, Resource, Size};
@@ -32,11 +34,13 @@ use ynl_tables::{
 };
 
 /// A cluster: what it is configured with, and its state. A node on which nothing is to be placed rests, so that
-/// its heartbeats take no search; a change of the cluster wakes all nodes.
+/// its heartbeats take no search; a change of the cluster wakes all nodes. What is known of leaves of which nothing could
+/// be placed is kept until they change.
 #[derive(Drop)]
 pub struct Core {
     config: Config,
     tables: Tables,
+    lulls: Lulls,
 }
 
 impl Model for Core {
@@ -64,6 +68,7 @@ impl Core {
         }
         let _sized = size.amount();
         join(&self.config, &mut self.tables, &name, &label, &size)?;
+        self.lulls.forget_all();
         wake(&mut self.tables);
         Ok(Reply::Done)
     }
@@ -78,6 +83,7 @@ impl Core {
             Err(refusal) => return Reply::Refused(refusal),
         };
         leave(&mut self.tables, &node);
+        self.lulls.forget_all();
         wake(&mut self.tables);
         Reply::Done
     }
@@ -94,6 +100,7 @@ impl Core {
             Err(refusal) => return Ok(Reply::Refused(refusal)),
         };
         relabel(&self.config, &mut self.tables, &name, &node, &label)?;
+        self.lulls.forget_all();
         wake(&mut self.tables);
         Ok(Reply::Done)
     }
@@ -107,6 +114,12 @@ impl Core {
             Ok(container) => container,
             Err(refusal) => return Reply::Refused(refusal),
         };
+        forget_leaf_of(
+            &mut self.lulls,
+            &self.tables,
+            &container.tenant,
+            &container.app,
+        );
         end(&self.config, &mut self.tables, &container);
         wake(&mut self.tables);
         Reply::Done
@@ -125,6 +138,7 @@ impl Core {
         };
         let _sized = ask.size.amount();
         reserve_ask(&mut self.tables.leaves, &leaf, &name, ask.count)?;
+        forget_leaf(&mut self.lulls, &self.tables, &leaf);
         ask_for(&mut self.tables.leaves, &leaf, &name, &ask);
         wake(&mut self.tables);
         Ok(Reply::Done)
@@ -139,6 +153,12 @@ impl Core {
             Ok(container) => container,
             Err(refusal) => return Reply::Refused(refusal),
         };
+        forget_leaf_of(
+            &mut self.lulls,
+            &self.tables,
+            &container.tenant,
+            &container.app,
+        );
         end(&self.config, &mut self.tables, &container);
         wake(&mut self.tables);
         Reply::Done
@@ -172,6 +192,7 @@ impl Core {
             master,
         };
         let alloc = *self.tables.leaves.allocator();
+        forget_leaf(&mut self.lulls, &self.tables, &queue);
         submit(&mut self.tables.leaves, &new, alloc);
         wake(&mut self.tables);
         Ok(Reply::Done)
@@ -195,7 +216,14 @@ impl Core {
         let count = self.config.containers_per_heartbeat() as usize;
         let mut placed = Vec::with_capacity(alloc, count)?;
         reserve_containers(&mut self.tables.partitions, &node.label, count)?;
-        serve(&self.config, &mut self.tables, &node, count, &mut placed);
+        serve(
+            &self.config,
+            &mut self.tables,
+            &mut self.lulls,
+            &node,
+            count,
+            &mut placed,
+        );
         if placed.is_empty() && count > 0 {
             rest(&mut self.tables, &name);
         } else {
@@ -215,6 +243,7 @@ impl Core {
         };
         let leaf = *live.leaf;
         let app = live.app.name;
+        forget_leaf(&mut self.lulls, &self.tables, &leaf);
         finish_application(&self.config, &mut self.tables, &leaf, &app);
         wake(&mut self.tables);
         Reply::Done
@@ -229,6 +258,7 @@ impl Core {
             return Reply::Refused(refusal);
         }
         self.tables.stops.stop(queue.names());
+        self.lulls.forget_all();
         wake(&mut self.tables);
         Reply::Done
     }
@@ -242,6 +272,7 @@ impl Core {
             return Reply::Refused(refusal);
         }
         self.tables.stops.start(queue.names());
+        self.lulls.forget_all();
         wake(&mut self.tables);
         Reply::Done
     }
@@ -255,6 +286,7 @@ impl Core {
             return Reply::Refused(refusal);
         }
         self.tables.maxima.set(queue.names(), &label, share);
+        self.lulls.forget_all();
         wake(&mut self.tables);
         Reply::Done
     }
@@ -291,14 +323,19 @@ impl Core {
 
     #[tactic(auto, unfolding(ynl_model::specs::Events::step, ynl_model::specs::Events::accepted))]
     #[inline(never)]
-    fn propose(&self, name: Name) -> Reply
-        ensures { Answers self.now (Propose name) self.now result }
+    fn propose(&mut self, name: Name) -> Reply
+        ensures { Answers self.old (Propose name) self.new result }
     {
         let node = match refuse_propose(&self.config, &self.tables, &name) {
             Ok(node) => node,
             Err(refusal) => return Reply::Refused(refusal),
         };
-        Reply::Proposed(propose(&self.config, &self.tables, &node))
+        Reply::Proposed(propose(
+            &self.config,
+            &self.tables,
+            &mut self.lulls,
+            &node,
+        ))
     }
 
     #[tactic(auto, unfolding(ynl_model::specs::Events::step, ynl_model::specs::Events::accepted))]
@@ -315,6 +352,7 @@ impl Core {
         let _sized = proposal.size.amount();
         let node = checked.node;
         reserve_containers(&mut self.tables.partitions, &node.label, 1)?;
+        forget_leaf(&mut self.lulls, &self.tables, &checked.request.leaf);
         let container = place(&self.config, &mut self.tables, &node, &checked.request);
         wake(&mut self.tables);
         Ok(Reply::Committed(container))
@@ -326,7 +364,12 @@ impl Core {
     {
         let config = config.indexed(alloc)?;
         let tables = opening_tables(alloc, &config)?;
-        Ok(Core { config, tables })
+        let lulls = Lulls::new(alloc, config.labels(), tables.leaves.len())?;
+        Ok(Core {
+            config,
+            tables,
+            lulls,
+        })
     }
 
     /// Takes an event, whatever kind it is of.
@@ -412,8 +455,9 @@ impl Core {
     pub fn choose(&self, node: &Name) -> Option<Proposal>
         ensures { result ≡ option_and_then (proposed self.now.config self.now.state) (node_of self.now.state node.now) }
     {
+        let mut lulls = Lulls::none(*self.tables.leaves.allocator());
         match self.tables.nodes.find(node) {
-            Some(node) => propose(&self.config, &self.tables, &node),
+            Some(node) => propose(&self.config, &self.tables, &mut lulls, &node),
             None => None,
         }
     }

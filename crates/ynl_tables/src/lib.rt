@@ -24,7 +24,7 @@ pub use rows::{App, ContainerRow, Kind, LeafPart, LeafRow, Near, PartitionRow};
 pub use sharing::{shares, users};
 pub use sums::Sums;
 pub use tables::{
-    Tables, apps_at, clock_at, containers_at, is_same, leaf_row_of, partition_place, risen,
+    Tables, apps_at, clock_at, containers_at, is_same, leaf_row_by, leaf_row_of, partition_place, risen,
     tenant_bytes,
 };
 pub use usage::usage_of;

@@ -4,6 +4,7 @@ use Rattle.ynl_laws.specs.Working.{IsWorking, Stands}
 use Rattle.ynl_laws.specs.Tabled.{Tabled}
 use Rattle.ynl_tables.specs.Kept.{IsKept}
 use Rattle.ynl_tables.specs.Tables.{state_of, HasCapacity}
+use Rattle.ynl_choice.specs.Lulls.{AreLulls}
 use Rattle.ynl_changes.proofs.serving.serve.Given as goal
 
 abbrev pub invariant-loop-i : goal.invariant-loop-i
@@ -11,6 +12,7 @@ invariant-loop-i l = record {
   working : IsWorking l.config (state_of l.tables);
   tabled : Tabled (state_of l.tables);
   kept : IsKept l.tables;
+  lulls : AreLulls l.config (state_of l.tables) l.lulls;
   numbers : l.tables.numbers ≡ l.initial.tables.numbers;
   resting : l.tables.nodes.resting ≡ l.initial.tables.nodes.resting;
   stands : Stands (state_of l.tables) l.node;

@@ -1,10 +1,13 @@
 use Rattle.std.proofs.Common.{◌-◌, ◌≤◌, length, take}
-use Rattle.ynl_choice.specs.Choosing.{HoldsBest, IsPassed, all_wanted}
+use Rattle.ynl_choice.specs.Choosing.{state_in, HoldsBest, IsPassed, all_wanted}
+use Rattle.ynl_choice.specs.Lulls.{AreLulls, IsPartAt}
 use Rattle.ynl_choice.proofs.choosing.add_all.Given as goal
 
 abbrev pub invariant-loop-place : goal.invariant-loop-place
 invariant-loop-place l = record {
   best : HoldsBest l.scene l.initial.held (all_wanted l.scene (take l.place l.scene.tables.now.leaves.items)) l.held;
+  lulls : AreLulls l.scene.config.now (state_in l.scene) l.lulls;
+  at : IsPartAt l.lulls l.scene.label l.at;
   passed : IsPassed l.scene l.held l.passed;
   inside : l.place ≤ length l.scene.tables.now.leaves.items;
 }

@@ -3,15 +3,14 @@ use Rattle.ynl_tables.specs.Queued.{ask_waits, asks_waiting}
 use Rattle.ynl_choice.specs.Choosing.{asks_in}
 use Rattle.ynl_choice.proofs.Classed.{asks-told, asks-gathered}
 use Rattle.ynl_choice.proofs.FirstAsk.{ask-held}
-use Rattle.ynl_choice.proofs.FirstTurn.{none-held, one-held, is-numbered}
+use Rattle.ynl_choice.proofs.FirstTurn.{one-held, is-numbered}
+use Rattle.ynl_choice.proofs.Quiet.{asks-none, quiet-held}
 use Rattle.ynl_choice.proofs.leaves.add_first_ask.Goals as goal
 
 pub returns-in_default-clause-best : goal.returns-in_default-clause-best
 returns-in_default-clause-best c =
-    let scene = c.args.scene.now in
     let row = c.args.row.now in
-    none-held scene row (Asked scene.label 0) ask_waits (asks_in scene row.path) (asks-told scene row.path 0) (asks-gathered scene row.path) c.requires.placed c.requires.marked row.in_turn
-    c.args.held.now (c.in_default.ensures.first (asks_waiting row.apps.items) c.requires.part)
+    quiet-held c.args.scene.now c.args.held.now (asks_in c.args.scene.now row.path row.apps.items) (asks-none c.args.scene.now row c.requires.placed c.requires.marked (c.in_default.ensures.first (asks_waiting row.apps.items) c.requires.part))
 
 pub returns-in-Some-place_of-clause-best : goal.returns-in-Some-place_of-clause-best
 returns-in-Some-place_of-clause-best c =
@@ -30,3 +29,6 @@ returns-in_default-place_of-clause-best c =
     absurd
     (is-numbered scene row (Asked scene.label 0) ask_waits (asks_in scene row.path) (asks-told scene row.path 0) (asks-gathered scene row.path) c.requires.placed c.requires.marked row.in_turn
     c.in-Some.turn (c.in-Some.ensures.first (asks_waiting row.apps.items) c.requires.part) c.in_default-place_of.ensures.absent)
+
+pub returns-in_default-clause-none : goal.returns-in_default-clause-none
+returns-in_default-clause-none c = let row = c.args.row.now in asks-none c.args.scene.now row c.requires.placed c.requires.marked (c.in_default.ensures.first (asks_waiting row.apps.items) c.requires.part)

@@ -2,15 +2,14 @@ use Rattle.ynl_model.specs.declared.proposals.What.TheVariants.{Master}
 use Rattle.ynl_tables.specs.Queued.{master_waits, masters_waiting}
 use Rattle.ynl_choice.specs.Choosing.{masters_of}
 use Rattle.ynl_choice.proofs.Classed.{masters-told, masters-gathered}
-use Rattle.ynl_choice.proofs.FirstTurn.{none-held, one-held, is-numbered}
+use Rattle.ynl_choice.proofs.FirstTurn.{one-held, is-numbered}
+use Rattle.ynl_choice.proofs.Quiet.{masters-none, quiet-held}
 use Rattle.ynl_choice.proofs.leaves.add_first_master.Goals as goal
 
 pub returns-in_default-clause-best : goal.returns-in_default-clause-best
 returns-in_default-clause-best c =
-    let scene = c.args.scene.now in
     let row = c.args.row.now in
-    none-held scene row Master master_waits (masters_of scene row.path) (masters-told scene row.path) (masters-gathered scene row.path) c.requires.placed c.requires.marked row.in_turn
-    c.args.held.now (c.in_default.ensures.first (masters_waiting row.apps.items) c.requires.part)
+    quiet-held c.args.scene.now c.args.held.now (masters_of c.args.scene.now row.path row.apps.items) (masters-none c.args.scene.now row c.requires.placed c.requires.marked (c.in_default.ensures.first (masters_waiting row.apps.items) c.requires.part))
 
 pub returns-in-Some-place_of-clause-best : goal.returns-in-Some-place_of-clause-best
 returns-in-Some-place_of-clause-best c =
@@ -26,3 +25,6 @@ returns-in_default-place_of-clause-best c =
     absurd
     (is-numbered scene row Master master_waits (masters_of scene row.path) (masters-told scene row.path) (masters-gathered scene row.path) c.requires.placed c.requires.marked row.in_turn
     c.in-Some.turn (c.in-Some.ensures.first (masters_waiting row.apps.items) c.requires.part) c.in_default-place_of.ensures.absent)
+
+pub returns-in_default-clause-none : goal.returns-in_default-clause-none
+returns-in_default-clause-none c = let row = c.args.row.now in masters-none c.args.scene.now row c.requires.placed c.requires.marked (c.in_default.ensures.first (masters_waiting row.apps.items) c.requires.part)

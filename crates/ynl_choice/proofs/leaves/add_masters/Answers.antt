@@ -1,13 +1,14 @@
 use Rattle.std.proofs.Common.{◌≡◌, true, None, subst}
 use Rattle.std.specs.Bool.{OnTrue, OnFalse}
 use Rattle.ynl_model.specs.declared.proposals.What.TheVariants.{Master}
-use Rattle.ynl_tables.specs.Queued.{master_waits, masters_waiting}
+use Rattle.ynl_tables.specs.Queued.{masters_waiting}
 use Rattle.ynl_choice.specs.Candidates.{is_ahead}
 use Rattle.ynl_choice.specs.Choosing.{masters_of, standings_to}
 use Rattle.ynl_choice.specs.Waits.{is_placeable, IsFirstTurn}
-use Rattle.ynl_choice.proofs.Classed.{masters-told, masters-gathered}
+use Rattle.ynl_choice.proofs.Classed.{masters-gathered}
 use Rattle.ynl_choice.proofs.Waits.{no-part}
-use Rattle.ynl_choice.proofs.FirstTurn.{none-held, held-ahead}
+use Rattle.ynl_choice.proofs.FirstTurn.{held-ahead}
+use Rattle.ynl_choice.proofs.Quiet.{masters-none, quiet-held}
 use Rattle.ynl_choice.proofs.leaves.add_masters.Goals as goal
 
 pub returns-then-is_below-clause-best : goal.returns-then-is_below-clause-best
@@ -21,17 +22,28 @@ pub returns-in_default-part_for-clause-best : goal.returns-in_default-part_for-c
 returns-in_default-part_for-clause-best c =
     let scene = c.args.scene.now in
     let row = c.args.row.now in
-    none-held scene row Master master_waits (masters_of scene row.path) (masters-told scene row.path) (masters-gathered scene row.path) c.requires.placed c.requires.marked row.in_turn c.args.held.now
-    (no-part scene row.path Master (masters_waiting row.apps.items) (c.in_default-part_for.ensures (masters_waiting row.apps.items) (c.in-Some.ensures (masters_waiting row.apps.items) row.masters_wait)))
+    quiet-held scene c.args.held.now (masters_of scene row.path row.apps.items)
+    (masters-none scene row c.requires.placed c.requires.marked (no-part scene row.path Master (masters_waiting row.apps.items) (c.in_default-part_for.ensures (masters_waiting row.apps.items) (c.in-Some.ensures (masters_waiting row.apps.items) row.masters_wait))))
 
+pub returns-in_default-part_for-clause-none : goal.returns-in_default-part_for-clause-none
+returns-in_default-part_for-clause-none c =
+    let scene = c.args.scene.now in
+    let row = c.args.row.now in
+    masters-none scene row c.requires.placed c.requires.marked (no-part scene row.path Master (masters_waiting row.apps.items) (c.in_default-part_for.ensures (masters_waiting row.apps.items) (c.in-Some.ensures (masters_waiting row.apps.items) row.masters_wait)))
 pub returns-then-not-may_fit-clause-best : goal.returns-then-not-may_fit-clause-best
 returns-then-not-may_fit-clause-best c =
     let scene = c.args.scene.now in
     let row = c.args.row.now in
     let waits = masters_waiting row.apps.items in
-    none-held scene row Master master_waits (masters_of scene row.path) (masters-told scene row.path) (masters-gathered scene row.path) c.requires.placed c.requires.marked row.in_turn c.args.held.now
-    (subst (λ b. OnFalse b (IsFirstTurn (is_placeable scene row.path Master) waits None)) c.if-not-may_fit.true (c.may_fit.ensures row.path Master waits (c.in-Some-part_for.ensures waits (c.in-Some.ensures waits row.masters_wait))))
+    quiet-held scene c.args.held.now (masters_of scene row.path row.apps.items)
+    (masters-none scene row c.requires.placed c.requires.marked (subst (λ b. OnFalse b (IsFirstTurn (is_placeable scene row.path Master) waits None)) c.if-not-may_fit.true (c.may_fit.ensures row.path Master waits (c.in-Some-part_for.ensures waits (c.in-Some.ensures waits row.masters_wait)))))
 
+pub returns-then-not-may_fit-clause-none : goal.returns-then-not-may_fit-clause-none
+returns-then-not-may_fit-clause-none c =
+    let scene = c.args.scene.now in
+    let row = c.args.row.now in
+    let waits = masters_waiting row.apps.items in
+    masters-none scene row c.requires.placed c.requires.marked (subst (λ b. OnFalse b (IsFirstTurn (is_placeable scene row.path Master) waits None)) c.if-not-may_fit.true (c.may_fit.ensures row.path Master waits (c.in-Some-part_for.ensures waits (c.in-Some.ensures waits row.masters_wait))))
 pub returns-then-is_passed-clause-best : goal.returns-then-is_passed-clause-best
 returns-then-is_passed-clause-best c =
     let scene = c.args.scene.now in
@@ -44,9 +56,15 @@ returns-then-not-may_be_taken-clause-best c =
     let scene = c.args.scene.now in
     let row = c.args.row.now in
     let waits = masters_waiting row.apps.items in
-    none-held scene row Master master_waits (masters_of scene row.path) (masters-told scene row.path) (masters-gathered scene row.path) c.requires.placed c.requires.marked row.in_turn c.args.held.now
-    (subst (λ b. OnFalse b (IsFirstTurn (is_placeable scene row.path Master) waits None)) c.if-not-may_be_taken.true (c.may_be_taken.ensures.none Master waits (c.in-Some-part_for.ensures waits (c.in-Some.ensures waits row.masters_wait))))
+    quiet-held scene c.args.held.now (masters_of scene row.path row.apps.items)
+    (masters-none scene row c.requires.placed c.requires.marked (subst (λ b. OnFalse b (IsFirstTurn (is_placeable scene row.path Master) waits None)) c.if-not-may_be_taken.true (c.may_be_taken.ensures.none Master waits (c.in-Some-part_for.ensures waits (c.in-Some.ensures waits row.masters_wait)))))
 
+pub returns-then-not-may_be_taken-clause-none : goal.returns-then-not-may_be_taken-clause-none
+returns-then-not-may_be_taken-clause-none c =
+    let scene = c.args.scene.now in
+    let row = c.args.row.now in
+    let waits = masters_waiting row.apps.items in
+    masters-none scene row c.requires.placed c.requires.marked (subst (λ b. OnFalse b (IsFirstTurn (is_placeable scene row.path Master) waits None)) c.if-not-may_be_taken.true (c.may_be_taken.ensures.none Master waits (c.in-Some-part_for.ensures waits (c.in-Some.ensures waits row.masters_wait))))
 pub add_first_master-requires-clause-part : goal.add_first_master-requires-clause-part
 add_first_master-requires-clause-part c =
     let waits = masters_waiting c.args.row.now.apps.items in

@@ -11,6 +11,8 @@ use Rattle.ynl_tables.specs.Kept.{AreKept, IsKept}
 use Rattle.ynl_tables.specs.Tables.{state_of, leaves_of, partitions_of}
 use Rattle.ynl_changes.proofs.Summing.{kept_leaf}
 use Rattle.ynl_core.proofs.Stepping.{taken_in}
+use Rattle.ynl_tables.specs.Numbers.{AreNumbered}
+use Rattle.ynl_core.proofs.Lulled.{lulls_asked}
 use Rattle.ynl_core.proofs.Changed.{answers_done, woken, unchanged}
 use Rattle.ynl_core.proofs.cluster.Core.ask.Goals as goal
 
@@ -46,7 +48,9 @@ invariant_of-self-2 c =
           (kept_leaf numbers c.in-Ok.leaf c.args.name (set_ask c.args.ask) (λ app. refl) (λ app. refl) (leaves_of c.self.inside.tables.leaves.items) rows c.self.invariant.kept.amounts);
       marks = c.ask_for.ensures.marks s (c.reserve_ask.ensures.marks s c.self.invariant.kept.marks);
     } in
-    woken c.self.inside (record c.self.inside.tables { leaves = c.ask_for.new.rows }) c.wake.new.tables event c.self.invariant c.amount-sized.ensures.range (ap (λ (o : Outcome). o.state) (stepped c)) kept refl c.wake.ensures.before c.wake.ensures.resting
+    woken c.self.inside (record c.self.inside.tables { leaves = c.ask_for.new.rows }) c.wake.new.tables c.forget_leaf.new.lulls event c.self.invariant c.amount-sized.ensures.range (ap (λ (o : Outcome). o.state) (stepped c)) kept refl c.wake.ensures.before c.wake.ensures.resting
+    (lulls_asked config numbers s (record s { leaves = leaves_of c.ask_for.new.rows.items }) c.args.tenant c.args.name c.in-Ok.leaf c.args.ask c.reserve_ask.new.rows.items c.self.inside.lulls c.forget_leaf.new.lulls c.self.invariant.sound.working.kept c.self.invariant.sound.tabled c.in-Ok.ensures.leaf
+    (λ i. record s { leaves = leaves i }) (subst (AreNumbered numbers) (sym c.reserve_ask.ensures.meaning) c.self.invariant.kept.amounts.numbered) c.reserve_ask.ensures.meaning kept.amounts.numbered c.self.invariant.lulls c.forget_leaf.ensures.fewer c.forget_leaf.ensures.gone)
 
 pub returns-clause-ok : goal.returns-clause-ok
 returns-clause-ok c = answers_done c.self.inside c.args.self.now (Ask c.args.tenant c.args.name c.args.ask.label c.args.ask.priority c.args.ask.count c.args.ask.size) _ (state_of c.wake.new.tables) c.self.view_is (stepped c) c.wake.ensures.before.state
@@ -60,3 +64,6 @@ invariant_of-self c =
       amounts = subst (λ (leaves : List LeafApps). AreKept tables.numbers leaves tables.partitions.items) (sym leaves) c.self.invariant.kept.amounts;
       marks = c.reserve_ask.ensures.marks (state_of tables) c.self.invariant.kept.marks;
     }) refl
+
+pub forget_leaf-requires : goal.forget_leaf-requires
+forget_leaf-requires c = subst (AreNumbered c.self.inside.tables.numbers) (sym c.reserve_ask.ensures.meaning) c.self.invariant.kept.amounts.numbered

@@ -15,7 +15,8 @@ use Rattle.std.specs.Bool.{OnTrue}
 use Rattle.ynl_nodes.specs.Members.{is_among}
 use Rattle.ynl_core.specs.Resting.{AreResting}
 use Rattle.ynl_core.proofs.Idle.{empty_items, rests_more, unplaced_more, unplaced_rests, unplaced_same, resting_step}
-use Rattle.ynl_core.proofs.Reserved.{reserved}
+use Rattle.ynl_choice.specs.Lulls.{AreLulls}
+use Rattle.ynl_core.proofs.Reserved.{reserved, with_rows}
 use Rattle.ynl_core.proofs.Changed.{woken, unchanged}
 use Rattle.ynl_core.proofs.cluster.Core.heartbeat.Goals as goal
 
@@ -27,7 +28,7 @@ serve-requires-clause-stands c = stands-found (state_of c.self.inside.tables) c.
 
 pub invariant_of-self-else-is_empty : goal.invariant_of-self-else-is_empty
 unfolding step accepted
-invariant_of-self-else-is_empty c = woken c.self.inside c.serve.new.tables c.wake.new.tables (Heartbeat c.args.name) c.self.invariant tt (search rules) c.serve.ensures.kept c.serve.ensures.numbers c.wake.ensures.before c.wake.ensures.resting
+invariant_of-self-else-is_empty c = woken c.self.inside c.serve.new.tables c.wake.new.tables c.serve.new.lulls (Heartbeat c.args.name) c.self.invariant tt (search rules) c.serve.ensures.kept c.serve.ensures.numbers c.wake.ensures.before c.wake.ensures.resting c.serve.ensures.lulls
 
 pub invariant_of-self-then-count-gt0 : goal.invariant_of-self-then-count-gt0
 invariant_of-self-then-count-gt0 c =
@@ -53,6 +54,7 @@ invariant_of-self-then-count-gt0 c =
       });
       kept = c.rest.ensures.before.kept c.serve.ensures.kept;
       numbered = c.rest.ensures.before.numbers ∙ c.serve.ensures.numbers ∙ c.self.invariant.numbered;
+      lulls = subst (λ s. AreLulls config s c.serve.new.lulls) (sym c.rest.ensures.before.state) c.serve.ensures.lulls;
     }
 
 pub returns-then-rests-clause-ok : goal.returns-then-rests-clause-ok
@@ -72,3 +74,6 @@ invariant_of-self c =
     let tables = c.self.inside.tables in
     unchanged c.self.inside (record tables { partitions = c.reserve_containers.new.rows }) c.self.invariant (λ i. record (state_of tables) { partitions = c.reserve_containers.ensures.meaning i }) refl
     (reserved tables c.reserve_containers.new.rows c.reserve_containers.ensures.meaning c.reserve_containers.ensures.summed c.self.invariant.kept) refl
+
+pub serve-requires-clause-lulls : goal.serve-requires-clause-lulls
+serve-requires-clause-lulls c = subst (λ ps. AreLulls c.self.inside.config (record (state_of c.self.inside.tables) { partitions = ps }) c.self.inside.lulls) (sym c.reserve_containers.ensures.meaning) c.self.invariant.lulls

@@ -11,4 +11,5 @@ invariant_of-result c = record {
   sound = none_rests c.in_ok-config.config _ _ c.in_ok-tables.ensures.resting (subst (IsWorking c.in_ok-config.config) (sym c.in_ok-tables.ensures.state) (working-opening c.in_ok-config.config)) (subst Tabled (sym c.in_ok-tables.ensures.state) (are-tabled c.in_ok-config.config []));
   kept = c.in_ok-tables.ensures.kept;
   numbered = c.in_ok-tables.ensures.numbered;
+  lulls = c.in_ok-lulls.ensures c.in_ok-config.config _;
 }

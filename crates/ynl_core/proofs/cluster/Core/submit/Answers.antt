@@ -17,6 +17,8 @@ use Rattle.ynl_tables.specs.Tables.{state_of, leaves_of, partitions_of}
 use Rattle.ynl_laws.proofs.Totals.Marks.{mark-new}
 use Rattle.ynl_changes.proofs.Summing.{kept_submission}
 use Rattle.ynl_core.proofs.Stepping.{taken_in}
+use Rattle.ynl_tables.specs.Numbers.{AreNumbered}
+use Rattle.ynl_core.proofs.Lulled.{lulls_submitted}
 use Rattle.ynl_core.proofs.Changed.{answers_done, woken, unchanged}
 use Rattle.ynl_core.proofs.cluster.Core.submit.Goals as goal
 
@@ -53,7 +55,10 @@ invariant_of-self-2 c =
           (kept_submission numbers app s.leaves rows free c.self.invariant.sound.working.kept.uses c.self.invariant.kept.amounts);
       marks = c.submit.ensures.marks s (mark-new s (new_app c.args.queue c.args.app c.args.user c.in-Ok.home c.args.master) c.self.invariant.sound.working.kept free) (c.reserve_application.ensures.marks s c.self.invariant.kept.marks);
     } in
-    woken c.self.inside (record c.self.inside.tables { leaves = c.submit.new.rows }) c.wake.new.tables event c.self.invariant c.amount-sized.ensures.range (ap (λ (o : Outcome). o.state) (stepped c)) kept refl c.wake.ensures.before c.wake.ensures.resting
+    woken c.self.inside (record c.self.inside.tables { leaves = c.submit.new.rows }) c.wake.new.tables c.forget_leaf.new.lulls event c.self.invariant c.amount-sized.ensures.range (ap (λ (o : Outcome). o.state) (stepped c)) kept refl c.wake.ensures.before c.wake.ensures.resting
+    (lulls_submitted config numbers s (record s { leaves = leaves_of c.submit.new.rows.items }) c.args.user c.args.label c.args.master app c.reserve_application.new.rows.items c.self.inside.lulls c.forget_leaf.new.lulls c.self.invariant.sound.working.kept c.self.invariant.sound.tabled c.self.invariant.numbered
+    (c.in-Ok.ensures.free c.args.user) free (λ i. record s { leaves = leaves i }) (subst (AreNumbered numbers) (sym c.reserve_application.ensures.meaning) c.self.invariant.kept.amounts.numbered) c.reserve_application.ensures.meaning kept.amounts.numbered c.self.invariant.lulls c.forget_leaf.ensures.fewer
+    c.forget_leaf.ensures.gone)
 
 pub returns-clause-ok : goal.returns-clause-ok
 returns-clause-ok c = answers_done c.self.inside c.args.self.now (Submit c.args.queue c.args.app c.args.user c.args.label c.args.master) _ (state_of c.wake.new.tables) c.self.view_is (stepped c) c.wake.ensures.before.state
@@ -67,3 +72,6 @@ invariant_of-self c =
       amounts = subst (λ (leaves : List LeafApps). AreKept tables.numbers leaves tables.partitions.items) (sym leaves) c.self.invariant.kept.amounts;
       marks = c.reserve_application.ensures.marks (state_of tables) c.self.invariant.kept.marks;
     }) refl
+
+pub forget_leaf-requires : goal.forget_leaf-requires
+forget_leaf-requires c = subst (AreNumbered c.self.inside.tables.numbers) (sym c.reserve_application.ensures.meaning) c.self.invariant.kept.amounts.numbered

@@ -1,0 +1,74 @@
+-- What is known of leaves of which nothing could be placed.
+use Rattle.std.specs.Prelude.{ℕ, ◌≡◌, ◌<◌, Bool, true, false, ◌&&◌, List, [], length, slice_index_or, Option, None, Some, IfSome, if◌then◌else◌}
+use Rattle.std.specs.List.{AllByRecursion, list_any}
+use Rattle.std.specs.Option.{option_map_or}
+use Rattle.std.specs.Borrow.{Bor}
+use Rattle.ynl_resource.specs.Amounts.{fits_in}
+use Rattle.ynl_resource.specs.Names.{same_label, same_path}
+use Rattle.ynl_resource.specs.declared.amounts.Resource.{Resource}
+use Rattle.ynl_resource.specs.declared.labels.Label.{Label}
+use Rattle.ynl_resource.specs.declared.paths.Path.{Path}
+use Rattle.ynl_model.specs.Applications.{LeafApps}
+use Rattle.ynl_model.specs.Cluster.{State}
+use Rattle.ynl_model.specs.Queues.{Config}
+use Rattle.ynl_model.specs.Service.{Item}
+use Rattle.ynl_laws.specs.Lulls.{IsLull, keeps_own_limits}
+use Rattle.ynl_tables.specs.declared.rows.LeafRow.{LeafRow}
+use Rattle.ynl_waiting.specs.declared.classes.Class.{Class}
+use Rattle.ynl_waiting.specs.declared.classes.Turn.{Turn}
+use Rattle.ynl_choice.specs.declared.lulls.Lull.{Lull}
+use Rattle.ynl_choice.specs.declared.lulls.Lulls.{Lulls}
+use Rattle.ynl_choice.specs.declared.lulls.PartLulls.{PartLulls}
+use Rattle.ynl_choice.specs.declared.scenes.Scene.{Scene}
+use Rattle.ynl_choice.specs.Choosing.{state_in, passes, wanted_in}
+
+-- what is known of the leaves on a partition, by their places
+abbrev pub known_of : PartLulls → List (Option Lull)
+known_of part = if part.is_known then part.leaves.items else []
+
+-- what is known of the leaf at a place
+abbrev pub lull_at : PartLulls → ℕ → Option Lull
+lull_at part place = slice_index_or (known_of part) place None
+
+-- what is known of leaves on a partition is so
+abbrev pub ArePartLulls : Config → State → PartLulls → Type 0
+ArePartLulls c s part = (place : ℕ) (d : LeafApps) → place < length s.leaves → IfSome (lull_at part place) (λ lull. IsLull c s part.label (slice_index_or s.leaves place d).leaf lull.least lull.room)
+
+-- and so on all partitions
+abbrev pub AreLulls : Config → State → Lulls → Type 0
+AreLulls c s lulls = (at : ℕ) (d : PartLulls) → at < length lulls.parts.items → ArePartLulls c s (slice_index_or lulls.parts.items at d)
+
+-- at a place stands what is known on a partition, if anything stands there
+abbrev pub IsPartAt : Lulls → Label → ℕ → Type 0
+IsPartAt lulls label at = (d : PartLulls) → at < length lulls.parts.items → (slice_index_or lulls.parts.items at d).label ≡ label
+
+-- no more is known on a partition than was
+pub record IsFewer (old new : PartLulls) : Type 0 where
+  pub label : new.label ≡ old.label
+  pub each : (place : ℕ) → IfSome (lull_at new place) (λ lull. lull_at old place ≡ Some lull)
+
+-- nor on any
+pub record AreFewer (old new : List PartLulls) : Type 0 where
+  pub len : length new ≡ length old
+  pub each : (at : ℕ) (d : PartLulls) → at < length new → IsFewer (slice_index_or old at d) (slice_index_or new at d)
+
+-- nothing is known of the leaf at a place, on any partition
+abbrev pub IsGone : ℕ → List PartLulls → Type 0
+IsGone place parts = (at : ℕ) (d : PartLulls) → at < length parts → lull_at (slice_index_or parts at d) place ≡ None
+
+-- nothing is known of the leaves of a path
+abbrev pub IsForgotten : Path → List LeafRow → Lulls → Type 0
+IsForgotten leaf rows lulls = (place : ℕ) (d : LeafRow) → place < length rows → same_path (slice_index_or rows place d).path leaf ≡ true → IsGone place lulls.parts.items
+
+-- none of some requests may be placed
+abbrev pub NonePass : Scene → List Item → Type 0
+NonePass scene items = list_any (passes scene) items ≡ false
+
+-- a lull of a leaf, by the requests that are wanted there
+pub record IsQuiet (scene : Scene) (items : List Item) (lull : Lull) : Type 0 where
+  pub above : AllByRecursion (λ item. fits_in lull.least item.size ≡ true) items
+  pub none : AllByRecursion (λ item. fits_in item.size lull.room ≡ true → keeps_own_limits scene.config.now (state_in scene) scene.label item ≡ false) items
+
+-- an amount is not above what waits for the partition
+abbrev pub IsLeastOf : Scene → (Class → Turn → Bool) → Resource → Type 0
+IsLeastOf scene waits least = (class : Class) (turn : Turn) → same_label class.label scene.label ≡ true → waits class turn ≡ true → fits_in least class.size ≡ true

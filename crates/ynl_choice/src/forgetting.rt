@@ -1,0 +1,61 @@
+//! Leaves that change, of which nothing is known any more.
+
+ghost use Rattle.std.specs.Prelude.{◌≡◌, true, Some};
+ghost use Rattle.ynl_resource.specs.Names.{same_path, tenant_of};
+ghost use Rattle.ynl_resource.specs.declared.paths.Path.{Path as Names};
+ghost use Rattle.ynl_model.specs.Applications.{leaf_of};
+ghost use Rattle.ynl_tables.specs.Numbers.{AreNumbered};
+ghost use Rattle.ynl_tables.specs.Tables.{leaves_of};
+ghost use Rattle.ynl_choice.specs.Lulls.{AreFewer, IsForgotten, IsGone};
+
+use crate::lulls::Lulls;
+use ynl_resource::{Name, Path};
+use ynl_tables::{LeafRow, Tables, leaf_row_by};
+
+/// Nothing is known of the leaf at a place from now on, if it is that one.
+fn forget_if(lulls: &mut Lulls, row: &LeafRow, leaf: &Path, place: usize)
+    ensures fewer { AreFewer lulls.old.parts.items lulls.new.parts.items }
+    ensures gone { same_path row.now.path leaf.now ≡ true → IsGone place lulls.new.parts.items }
+{
+    if row.path == *leaf {
+        lulls.forget(place);
+    }
+}
+
+/// Nothing is known of a tenant's leaf from now on. Only the leaves of the tenant are looked at.
+fn forget_of(lulls: &mut Lulls, tables: &Tables, tenant: &Name, leaf: &Path)
+    requires numbered { AreNumbered tables.now.numbers (leaves_of tables.now.leaves.items) }
+    requires tenant { tenant.now ≡ tenant_of leaf.now }
+    ensures fewer { AreFewer lulls.old.parts.items lulls.new.parts.items }
+    ensures gone { IsForgotten leaf.now tables.now.leaves.items lulls.new }
+{
+    let mut place = tables.numbers.first_of(tenant);
+    while place < tables.leaves.len() {
+        forget_if(lulls, &tables.leaves[place], leaf, place);
+        place = tables.numbers.next_of(place, tenant);
+    }
+}
+
+/// Nothing is known of a leaf from now on.
+pub fn forget_leaf(lulls: &mut Lulls, tables: &Tables, leaf: &Path)
+    requires { AreNumbered tables.now.numbers (leaves_of tables.now.leaves.items) }
+    ensures fewer { AreFewer lulls.old.parts.items lulls.new.parts.items }
+    ensures gone { IsForgotten leaf.now tables.now.leaves.items lulls.new }
+{
+    match leaf.names().first() {
+        Some(tenant) => forget_of(lulls, tables, tenant, leaf),
+        None => lulls.forget_all(),
+    }
+}
+
+/// Nothing is known from now on of the leaf to which a tenant's application was submitted.
+pub fn forget_leaf_of(lulls: &mut Lulls, tables: &Tables, tenant: &Name, app: &Name)
+    requires { AreNumbered tables.now.numbers (leaves_of tables.now.leaves.items) }
+    ensures fewer { AreFewer lulls.old.parts.items lulls.new.parts.items }
+    ensures gone { (leaf : Names) → leaf_of (leaves_of tables.now.leaves.items) tenant.now app.now ≡ Some leaf → IsForgotten leaf tables.now.leaves.items lulls.new }
+{
+    match leaf_row_by(&tables.numbers, &tables.leaves, tenant, app) {
+        Some(row) => forget_leaf(lulls, tables, &row.path),
+        None => lulls.forget_all(),
+    }
+}
