@@ -1,5 +1,5 @@
 -- A lull of a leaf, while other leaves change.
-use Rattle.std.proofs.Common.{◌≡◌, ℕ, Bool, true, false, cond, not, ◌&&◌, ◌||◌, List, [], ◌∷◌, ◌++◌, map, length, Option, Some, None, is_some, option_map, filter, find, flat_map, refl, sym, ap, subst, ◌∙◌, append-nil}
+use Rattle.std.proofs.Common.{◌≡◌, Bool, true, false, cond, not, ◌&&◌, ◌||◌, List, [], ◌∷◌, ◌++◌, map, length, Option, Some, None, is_some, option_map, filter, find, flat_map, refl, sym, ap, subst, ◌∙◌, append-nil}
 use Rattle.std.specs.Prelude.{IfSome, max, nat_lt}
 use Rattle.std.specs.List.{AllByRecursion, list_any}
 use Rattle.std.specs.Option.{option_map_or}
@@ -23,9 +23,9 @@ use Rattle.ynl_model.specs.declared.proposals.What.{What}
 use Rattle.ynl_model.specs.declared.proposals.What.TheVariants.{Master, Ask as Asked}
 use Rattle.ynl_model.specs.Cluster.{State, containers_on, is_master, is_of, is_guest, is_below, of_app_that, counted, runs, waits, used, user_used, masters_used, maximum, guaranteed}
 use Rattle.ynl_model.specs.Limits.{users, distinct, user_limit, master_limit}
-use Rattle.ynl_model.specs.Service.{Item, master_item, ask_item, asks_of, within_user_limit, within_master_share, no_master_in}
+use Rattle.ynl_model.specs.Service.{Item, master_item, ask_item, asks_of, within_user_limit, within_master_share}
 use Rattle.ynl_model.specs.Changes.{changed_at, container_of, place, taken, end, all_end, all_own, app_finishes}
-use Rattle.ynl_laws.specs.Lulls.{requests_of, requests_at, keeps_own_limits, IsLull, Lasts, DoLullsLastPlacing, DoLullsLastEnding, DoLullsLastSubmitting, DoLullsLastAsking, DoLullsLastFinishing}
+use Rattle.ynl_laws.specs.Lulls.{requests_of, requests_at, keeps_own_limits, Lasts, DoLullsLastPlacing, DoLullsLastEnding, DoLullsLastSubmitting, DoLullsLastAsking, DoLullsLastFinishing}
 use Rattle.ynl_laws.specs.Marks.{is_master_of}
 use Rattle.ynl_laws.specs.Owners.{owner}
 use Rattle.ynl_laws.specs.Sharers.{shares}
