@@ -270,6 +270,17 @@ pub filter-in : {A : Type 0} (g f w : A → Bool) → ((x : A) → g x ≡ true 
 filter-in g f w h [] all = refl
 filter-in g f w h (x ∷ xs) all = filter-in_step f w x xs (h x (and_parts (g x) (list_all g xs) all).0) (filter-in g f w h xs (and_parts (g x) (list_all g xs) all).1)
 
+-- what is left where nothing that the filter takes goes
+pub filter-rest : {X : Type 0} (f gone : X → Bool) (xs : List X) → filter f (filter gone xs) ≡ [] → filter f (filter (λ x. not (gone x)) xs) ≡ filter f xs
+filter-rest f gone [] h = refl
+filter-rest f gone (x ∷ xs) h = go (gone x) (f x) refl h (filter-rest f gone xs)
+  where
+    go : (a b : Bool) → f x ≡ b → filter f (cond a (x ∷ filter gone xs) (filter gone xs)) ≡ [] → (filter f (filter gone xs) ≡ [] → filter f (filter (λ x. not (gone x)) xs) ≡ filter f xs) →
+        filter f (cond (not a) (x ∷ filter (λ x. not (gone x)) xs) (filter (λ x. not (gone x)) xs)) ≡ cond b (x ∷ filter f xs) (filter f xs)
+    go true true e h rest = let none : x ∷ filter f (filter gone xs) ≡ [] = (λ i. cond (sym e i) (x ∷ filter f (filter gone xs)) (filter f (filter gone xs))) ∙ h in cc
+    go true false e h rest = rest ((λ i. cond (sym e i) (x ∷ filter f (filter gone xs)) (filter f (filter gone xs))) ∙ h)
+    go false b e h rest = λ i. cond (e i) (x ∷ rest h i) (rest h i)
+
 -- two tests that fail
 pub filter-twice : {X : Type 0} (a b : X → Bool) (xs : List X) → filter (λ x. not (b x)) (filter (λ x. not (a x)) xs) ≡ filter (λ x. not (a x || b x)) xs
 filter-twice a b [] = refl

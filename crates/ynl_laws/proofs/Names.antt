@@ -43,3 +43,7 @@ within-trans (x ∷ a) [] d h k = absurd (true≢false (sym h))
 within-trans (x ∷ a) (y ∷ b) [] h k = absurd (true≢false (sym k))
 within-trans (x ∷ a) (y ∷ b) (z ∷ d) h k =
     and_from _ _ (subst (λ n. same_name x n ≡ true) (same-name_sym y z (and_parts _ _ k).0) (and_parts _ _ h).0) (within-trans a b d (and_parts _ _ h).1 (and_parts _ _ k).1)
+
+pub within-self : (path : Path) → is_within path path ≡ true
+within-self [] = refl
+within-self (name ∷ path) = and_from _ _ (same-name_self name) (within-self path)

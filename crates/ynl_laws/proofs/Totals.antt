@@ -8,3 +8,4 @@ pub mod Sharers
 pub mod Owners
 pub mod Tabling
 pub mod Waiting
+pub mod Lulls

@@ -88,7 +88,7 @@ pub total-places : (nodes : List Node) (p : Label) → total_on nodes p ≡ tota
 unfolding total_on
 total-places nodes p = sym (ap (total_of (λ node. node.size)) (filter-map without_stamp (λ node. same_label node.label p) nodes) ∙ total-map (λ node. node.size) without_stamp (nodes_of nodes p))
 
-total-same : (s u : State) (p : Label) → Same s u → total_on u.nodes p ≡ total_on s.nodes p
+pub total-same : (s u : State) (p : Label) → Same s u → total_on u.nodes p ≡ total_on s.nodes p
 total-same s u p same = total-places u.nodes p ∙ ap (λ nodes. total_of (λ node. node.size) (filter (λ node. same_label node.label p) nodes)) same ∙ sym (total-places s.nodes p)
 
 floor-more : (a b : Resource) (less more : ℕ) → less ≤ more → fits_in a b ≡ true → fits_in (scale_floor a less whole) (scale_floor b more whole) ≡ true
