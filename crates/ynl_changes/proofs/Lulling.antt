@@ -118,7 +118,7 @@ lulls_last c queues s new rows leaf old fewer before after seen there h less gon
         go true e = inl (forgotten_at leaf rows fewer k path gone within at e)
         go false e = inr
             (λ label least room lull.
-                subst (λ p. IsLull c new label p least room) (sym is) (lasts label path (apart queues path leaf own there e) least room (subst (λ p. IsLull c s label p least room) was lull)))
+            subst (λ p. IsLull c new label p least room) (sym is) (lasts label path (apart queues path leaf own there e) least room (subst (λ p. IsLull c s label p least room) was lull)))
 
 -- a request of a known application is placed
 pub lulls_placed : (c : Config) (queues : List Path) (s new : State) (node : Node) (item : Item) (rows : List LeafRow) (old fewer : Lulls) → Kept s → Tabled s → has_row s.partitions node.label ≡ true → IsKnown s.leaves item.leaf item.app → new ≡ place c node item s

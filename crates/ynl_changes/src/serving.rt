@@ -10,18 +10,13 @@ ghost use Rattle.ynl_tables.specs.Tables.{state_of, HasCapacity};
 ghost use Rattle.ynl_choice.specs.Lulls.{AreLulls};
 
 use crate::placing::place;
-use ynl_choice::{Lulls, Request, choose, forget_leaf};
+use ynl_choice::{Lulls, Request, choose, forget_leaf_for};
 use ynl_model::{Node, Placed};
 use ynl_queues::Config;
 use ynl_tables::{Tables, is_spent, push_copy};
 
 /// The request that is placed next on a node: none where the clock is spent.
-fn next_request(
-    config: &Config,
-    tables: &Tables,
-    lulls: &mut Lulls,
-    node: &Node,
-) -> Option<Request>
+fn next_request(config: &Config, tables: &Tables, lulls: &mut Lulls, node: &Node) -> Option<Request>
     requires working { IsWorking config.now (state_of tables.now) }
     requires tabled { Tabled (state_of tables.now) }
     requires kept { IsKept tables.now }
@@ -64,7 +59,7 @@ pub fn serve(
         let Some(request) = next_request(config, tables, lulls, node) else {
             return;
         };
-        forget_leaf(lulls, tables, &request.leaf);
+        forget_leaf_for(lulls, tables, &request);
         let container = place(config, tables, node, &request);
         push_copy(placed, &container);
     }

@@ -188,7 +188,7 @@ module _ (scene : Scene) (leaf : Path) (least : Resource) where
 
       go : (w l : Bool) → waits (state_in scene) (app_of leaf app) ≡ w → same_label app.home scene.label ≡ l → AllByRecursion (λ item. fits_in least item.size ≡ true) (masters_of scene leaf apps)
           → AllByRecursion (λ item. fits_in least item.size ≡ true)
-              (map master_item (cond (w && l) (app_of leaf app ∷ filter (λ app. waits (state_in scene) app && same_label app.home scene.label) (map (app_of leaf) apps)) (filter (λ app. waits (state_in scene) app && same_label app.home scene.label) (map (app_of leaf) apps))))
+          (map master_item (cond (w && l) (app_of leaf app ∷ filter (λ app. waits (state_in scene) app && same_label app.home scene.label) (map (app_of leaf) apps)) (filter (λ app. waits (state_in scene) app && same_label app.home scene.label) (map (app_of leaf) apps))))
       go true true e f rest = (
         below (master_class app) (master_turn app) f
             (first (master_waits (master_class app) (master_turn app) app) (masters_waiting apps (master_class app) (master_turn app))
@@ -218,7 +218,7 @@ module _ (scene : Scene) (leaf : Path) (least : Resource) where
         where
           step : (l n : Bool) → same_label ask.label scene.label ≡ l → nat_lt 0 ask.count ≡ n → AllByRecursion (λ item. fits_in least item.size ≡ true) (map (ask_item (app_of leaf app)) (filter (λ ask. same_label ask.label scene.label && nat_lt 0 ask.count) asks))
               → AllByRecursion (λ item. fits_in least item.size ≡ true)
-                  (map (ask_item (app_of leaf app)) (cond (l && n) (ask ∷ filter (λ ask. same_label ask.label scene.label && nat_lt 0 ask.count) asks) (filter (λ ask. same_label ask.label scene.label && nat_lt 0 ask.count) asks)))
+              (map (ask_item (app_of leaf app)) (cond (l && n) (ask ∷ filter (λ ask. same_label ask.label scene.label && nat_lt 0 ask.count) asks) (filter (λ ask. same_label ask.label scene.label && nat_lt 0 ask.count) asks)))
           step true true e f rest = (
             there (ask_class app ask) (ask_turn app ask) e
                 (first (is_ask_at app (ask_class app ask) (ask_turn app ask) ask) (list_any (is_ask_at app (ask_class app ask) (ask_turn app ask)) asks)

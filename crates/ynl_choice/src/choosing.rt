@@ -205,12 +205,7 @@ pub fn takes_guests(config: &Config, label: &Label) -> bool
 
 /// The request that is served next on a node: the first of the eligible ones, or else the first
 /// guest. It does not look at the clock. Leaves that are known to have nothing for the node are not looked at.
-pub fn choose(
-    config: &Config,
-    tables: &Tables,
-    lulls: &mut Lulls,
-    node: &Node,
-) -> Option<Request>
+pub fn choose(config: &Config, tables: &Tables, lulls: &mut Lulls, node: &Node) -> Option<Request>
     requires readable { IsReadable tables.now }
     requires numbered { AreQueuesOf config.now tables.now.numbers }
     requires lulls { AreLulls config.now (state_of tables.now) lulls.old }

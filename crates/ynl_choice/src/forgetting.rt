@@ -9,6 +9,7 @@ ghost use Rattle.ynl_tables.specs.Tables.{leaves_of};
 ghost use Rattle.ynl_choice.specs.Lulls.{AreFewer, IsForgotten, IsGone};
 
 use crate::lulls::Lulls;
+use crate::requests::Request;
 use ynl_resource::{Name, Path};
 use ynl_tables::{LeafRow, Tables, leaf_row_by};
 
@@ -58,4 +59,13 @@ pub fn forget_leaf_of(lulls: &mut Lulls, tables: &Tables, tenant: &Name, app: &N
         Some(row) => forget_leaf(lulls, tables, &row.path),
         None => lulls.forget_all(),
     }
+}
+
+/// Nothing is known from now on of the leaf of a request.
+pub fn forget_leaf_for(lulls: &mut Lulls, tables: &Tables, request: &Request)
+    requires { AreNumbered tables.now.numbers (leaves_of tables.now.leaves.items) }
+    ensures fewer { AreFewer lulls.old.parts.items lulls.new.parts.items }
+    ensures gone { IsForgotten request.now.leaf tables.now.leaves.items lulls.new }
+{
+    forget_leaf(lulls, tables, &request.leaf);
 }

@@ -4,7 +4,7 @@
 
 pub use checking::{Checked, check};
 pub use choosing::choose;
-pub use forgetting::{forget_leaf, forget_leaf_of};
+pub use forgetting::{forget_leaf, forget_leaf_for, forget_leaf_of};
 pub use limits::{master_limit_of, user_limit_of};
 pub use lulls::{Lull, Lulls};
 pub use proposing::propose;

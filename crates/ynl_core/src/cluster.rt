@@ -24,7 +24,7 @@ use ynl_changes::{
     reserve_application, reserve_ask, reserve_containers, serve, submit,
 };
 use ynl_choice::{
-    Lulls, forget_leaf, forget_leaf_of, master_limit_of, propose, user_limit_of,
+    Lulls, forget_leaf, forget_leaf_for, forget_leaf_of, master_limit_of, propose, user_limit_of,
 };
 use ynl_model::{AskRow, Event, Items, Placed, Proposal, Reply};
 use ynl_queues::Config;
@@ -330,12 +330,7 @@ impl Core {
             Ok(node) => node,
             Err(refusal) => return Reply::Refused(refusal),
         };
-        Reply::Proposed(propose(
-            &self.config,
-            &self.tables,
-            &mut self.lulls,
-            &node,
-        ))
+        Reply::Proposed(propose(&self.config, &self.tables, &mut self.lulls, &node))
     }
 
     #[tactic(auto, unfolding(ynl_model::specs::Events::step, ynl_model::specs::Events::accepted))]
@@ -352,7 +347,7 @@ impl Core {
         let _sized = proposal.size.amount();
         let node = checked.node;
         reserve_containers(&mut self.tables.partitions, &node.label, 1)?;
-        forget_leaf(&mut self.lulls, &self.tables, &checked.request.leaf);
+        forget_leaf_for(&mut self.lulls, &self.tables, &checked.request);
         let container = place(&self.config, &mut self.tables, &node, &checked.request);
         wake(&mut self.tables);
         Ok(Reply::Committed(container))

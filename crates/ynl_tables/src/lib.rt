@@ -24,8 +24,8 @@ pub use rows::{App, ContainerRow, Kind, LeafPart, LeafRow, Near, PartitionRow};
 pub use sharing::{shares, users};
 pub use sums::Sums;
 pub use tables::{
-    Tables, apps_at, clock_at, containers_at, is_same, leaf_row_by, leaf_row_of, partition_place, risen,
-    tenant_bytes,
+    Tables, apps_at, clock_at, containers_at, is_same, leaf_row_by, leaf_row_of, partition_place,
+    risen, tenant_bytes,
 };
 pub use usage::usage_of;
 pub use user_counts::UserCounts;

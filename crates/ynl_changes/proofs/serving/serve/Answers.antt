@@ -3,9 +3,7 @@ use Rattle.ynl_model.specs.declared.containers.Placed.{Placed}
 use Rattle.ynl_model.specs.Changes.{next_item}
 use Rattle.ynl_tables.specs.Tables.{state_of, HasCapacity}
 use Rattle.ynl_resource.specs.declared.paths.Path.{Path}
-use Rattle.ynl_model.specs.Service.{Item}
 use Rattle.ynl_tables.specs.Numbers.{AreNumbered}
-use Rattle.ynl_choice.specs.Lulls.{IsForgotten}
 use Rattle.ynl_changes.proofs.InPlace.{less_capacity}
 use Rattle.ynl_changes.proofs.Lulling.{placed_lulls}
 use Rattle.ynl_changes.proofs.Marks.{placeable_next}
@@ -46,10 +44,10 @@ loop-i-preserved c =
       working = working_next config s new node c.in-Some.request c.loop-i.invariant.working c.loop-i.invariant.stands f moved;
       tabled = tabled_next config s new node c.in-Some.request c.loop-i.invariant.working c.loop-i.invariant.tabled f moved;
       kept = c.place-container.ensures.kept;
-      lulls = placed_lulls config c.loop-i.tables.numbers s new node c.in-Some.request c.loop-i.tables.leaves.items c.next_request.new.lulls c.forget_leaf.new.lulls c.loop-i.invariant.working c.loop-i.invariant.tabled
+      lulls = placed_lulls config c.loop-i.tables.numbers s new node c.in-Some.request c.loop-i.tables.leaves.items c.next_request.new.lulls c.forget_leaf_for.new.lulls c.loop-i.invariant.working c.loop-i.invariant.tabled
           (placeable_next config s node c.in-Some.request c.loop-i.invariant.working c.loop-i.invariant.tabled c.loop-i.invariant.stands f).there f moved c.loop-i.invariant.kept.amounts.numbered
-          (subst (λ (queues : List Path). AreNumbered queues new.leaves) c.place-container.ensures.numbers c.place-container.ensures.kept.amounts.numbered) c.next_request.ensures.lulls c.forget_leaf.ensures.fewer
-          (subst (λ (item : Item). IsForgotten item.leaf c.loop-i.tables.leaves.items c.forget_leaf.new.lulls) c.request.view_is c.forget_leaf.ensures.gone) refl;
+          (subst (λ (queues : List Path). AreNumbered queues new.leaves) c.place-container.ensures.numbers c.place-container.ensures.kept.amounts.numbered) c.next_request.ensures.lulls c.forget_leaf_for.ensures.fewer
+          c.forget_leaf_for.ensures.gone refl;
       numbers = c.place-container.ensures.numbers ∙ c.loop-i.invariant.numbers;
       resting = c.place-container.ensures.resting ∙ c.loop-i.invariant.resting;
       stands = stands_next config s new node c.in-Some.request c.loop-i.invariant.stands moved;

@@ -30,6 +30,7 @@ returns-in_default-part_for-clause-none c =
     let scene = c.args.scene.now in
     let row = c.args.row.now in
     asks-none scene row c.requires.placed c.requires.marked (no-part scene row.path (Asked scene.label 0) (asks_waiting row.apps.items) (c.in_default-part_for.ensures (asks_waiting row.apps.items) (c.in-Some.ensures (asks_waiting row.apps.items) row.asks_wait)))
+
 pub returns-then-not-may_fit-clause-best : goal.returns-then-not-may_fit-clause-best
 returns-then-not-may_fit-clause-best c =
     let scene = c.args.scene.now in
@@ -44,6 +45,7 @@ returns-then-not-may_fit-clause-none c =
     let row = c.args.row.now in
     let waits = asks_waiting row.apps.items in
     asks-none scene row c.requires.placed c.requires.marked (subst (λ b. OnFalse b (IsFirstTurn (is_placeable scene row.path (Asked scene.label 0)) waits None)) c.if-not-may_fit.true (c.may_fit.ensures row.path (Asked scene.label 0) waits (c.in-Some-part_for.ensures waits (c.in-Some.ensures waits row.asks_wait))))
+
 pub returns-then-is_passed-clause-best : goal.returns-then-is_passed-clause-best
 returns-then-is_passed-clause-best c =
     let scene = c.args.scene.now in
@@ -65,6 +67,7 @@ returns-then-not-may_be_taken-clause-none c =
     let row = c.args.row.now in
     let waits = asks_waiting row.apps.items in
     asks-none scene row c.requires.placed c.requires.marked (subst (λ b. OnFalse b (IsFirstTurn (is_placeable scene row.path (Asked scene.label 0)) waits None)) c.if-not-may_be_taken.true (c.may_be_taken.ensures.none (Asked scene.label 0) waits (c.in-Some-part_for.ensures waits (c.in-Some.ensures waits row.asks_wait))))
+
 pub add_first_ask-requires-clause-part : goal.add_first_ask-requires-clause-part
 add_first_ask-requires-clause-part c =
     let waits = asks_waiting c.args.row.now.apps.items in

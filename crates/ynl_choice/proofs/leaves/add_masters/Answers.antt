@@ -30,6 +30,7 @@ returns-in_default-part_for-clause-none c =
     let scene = c.args.scene.now in
     let row = c.args.row.now in
     masters-none scene row c.requires.placed c.requires.marked (no-part scene row.path Master (masters_waiting row.apps.items) (c.in_default-part_for.ensures (masters_waiting row.apps.items) (c.in-Some.ensures (masters_waiting row.apps.items) row.masters_wait)))
+
 pub returns-then-not-may_fit-clause-best : goal.returns-then-not-may_fit-clause-best
 returns-then-not-may_fit-clause-best c =
     let scene = c.args.scene.now in
@@ -44,6 +45,7 @@ returns-then-not-may_fit-clause-none c =
     let row = c.args.row.now in
     let waits = masters_waiting row.apps.items in
     masters-none scene row c.requires.placed c.requires.marked (subst (λ b. OnFalse b (IsFirstTurn (is_placeable scene row.path Master) waits None)) c.if-not-may_fit.true (c.may_fit.ensures row.path Master waits (c.in-Some-part_for.ensures waits (c.in-Some.ensures waits row.masters_wait))))
+
 pub returns-then-is_passed-clause-best : goal.returns-then-is_passed-clause-best
 returns-then-is_passed-clause-best c =
     let scene = c.args.scene.now in
@@ -65,6 +67,7 @@ returns-then-not-may_be_taken-clause-none c =
     let row = c.args.row.now in
     let waits = masters_waiting row.apps.items in
     masters-none scene row c.requires.placed c.requires.marked (subst (λ b. OnFalse b (IsFirstTurn (is_placeable scene row.path Master) waits None)) c.if-not-may_be_taken.true (c.may_be_taken.ensures.none Master waits (c.in-Some-part_for.ensures waits (c.in-Some.ensures waits row.masters_wait))))
+
 pub add_first_master-requires-clause-part : goal.add_first_master-requires-clause-part
 add_first_master-requires-clause-part c =
     let waits = masters_waiting c.args.row.now.apps.items in

@@ -1,6 +1,7 @@
 use Rattle.std.proofs.Common.{List, rules, refl, subst}
 use Rattle.ynl_resource.specs.declared.paths.Path.{Path}
 use Rattle.ynl_tables.specs.Numbers.{AreNumbered}
+use Rattle.ynl_choice.specs.Lulls.{AreLulls}
 use Rattle.ynl_core.proofs.Lulled.{lulls_committed}
 use Rattle.ynl_model.specs.declared.events.Event.TheVariants.{Commit}
 use Rattle.ynl_model.specs.Check.{commit_reasons}
@@ -14,12 +15,17 @@ use Rattle.ynl_core.proofs.cluster.Core.commit.Goals as goal
 pub refuse_commit-requires-clause-readable : goal.refuse_commit-requires-clause-readable
 refuse_commit-requires-clause-readable c = readable c.self.inside.config c.self.inside.tables c.self.invariant.sound.working c.self.invariant.sound.tabled c.self.invariant.kept
 
+-- what is known of leaves is right once the request is placed
+known : (c : goal.After-wake) → AreLulls c.self.inside.config (state_of c.place-container.new.tables) c.forget_leaf_for.new.lulls
+unfolding commit_reasons reasons
+known c =
+    lulls_committed c.self.inside.config c.self.inside.tables c.reserve_containers.new.rows.items (state_of c.place-container.new.tables) c.args.proposal c.in-Ok.checked.node c.in-Ok.checked.request c.self.inside.lulls c.forget_leaf_for.new.lulls c.reserve_containers.ensures.meaning c.self.invariant.sound.working
+    c.self.invariant.sound.tabled c.in-Ok.ensures.free c.in-Ok.ensures.node c.in-Ok.ensures.request c.place-container.ensures.state c.self.invariant.kept.amounts.numbered
+    (subst (λ (queues : List Path). AreNumbered queues (state_of c.place-container.new.tables).leaves) c.place-container.ensures.numbers c.place-container.ensures.kept.amounts.numbered) c.self.invariant.lulls c.forget_leaf_for.ensures.fewer c.forget_leaf_for.ensures.gone
+
 pub invariant_of-self-2 : goal.invariant_of-self-2
 unfolding step accepted
-invariant_of-self-2 c = woken c.self.inside c.place-container.new.tables c.wake.new.tables c.forget_leaf.new.lulls (Commit c.args.proposal) c.self.invariant c.amount-sized.ensures.range (search rules) c.place-container.ensures.kept c.place-container.ensures.numbers c.wake.ensures.before c.wake.ensures.resting
-    (lulls_committed c.self.inside.config c.self.inside.tables c.reserve_containers.new.rows.items (state_of c.place-container.new.tables) c.args.proposal c.in-Ok.checked.node c.in-Ok.checked.request c.self.inside.lulls c.forget_leaf.new.lulls c.reserve_containers.ensures.meaning c.self.invariant.sound.working
-    c.self.invariant.sound.tabled c.in-Ok.ensures.free c.in-Ok.ensures.node c.in-Ok.ensures.request c.place-container.ensures.state c.self.invariant.kept.amounts.numbered
-    (subst (λ (queues : List Path). AreNumbered queues (state_of c.place-container.new.tables).leaves) c.place-container.ensures.numbers c.place-container.ensures.kept.amounts.numbered) c.self.invariant.lulls c.forget_leaf.ensures.fewer c.forget_leaf.ensures.gone)
+invariant_of-self-2 c = woken c.self.inside c.place-container.new.tables c.wake.new.tables c.forget_leaf_for.new.lulls (Commit c.args.proposal) c.self.invariant c.amount-sized.ensures.range (search rules) c.place-container.ensures.kept c.place-container.ensures.numbers c.wake.ensures.before c.wake.ensures.resting (known c)
 
 -- where memory is refused all is as it was
 pub invariant_of-self : goal.invariant_of-self
@@ -37,5 +43,5 @@ place-container-requires-clause-placeable c =
     placeable_reserved c.self.inside.config c.self.inside.tables c.reserve_containers.new.rows.items c.args.proposal c.in-Ok.checked.node c.in-Ok.checked.request c.reserve_containers.ensures.meaning c.self.invariant.sound.working c.self.invariant.sound.tabled
     c.in-Ok.ensures.free c.in-Ok.ensures.node c.in-Ok.ensures.request
 
-pub forget_leaf-requires : goal.forget_leaf-requires
-forget_leaf-requires c = c.self.invariant.kept.amounts.numbered
+pub forget_leaf_for-requires : goal.forget_leaf_for-requires
+forget_leaf_for-requires c = c.self.invariant.kept.amounts.numbered
