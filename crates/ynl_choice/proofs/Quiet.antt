@@ -1,19 +1,17 @@
 -- Leaves of which nothing may be placed: what is known of them then, and that it tells so later.
-use Rattle.std.proofs.Common.{◌≡◌, ℕ, ◌<◌, Bool, true, false, cond, not, ◌&&◌, ◌||◌, List, [], ◌∷◌, ◌++◌, length, get_or, map, filter, Option, Some, None, refl, sym, ap, subst, ◌∙◌}
+use Rattle.std.proofs.Common.{◌≡◌, ℕ, ◌<◌, Bool, true, false, cond, not, ◌&&◌, ◌||◌, List, [], ◌∷◌, length, get_or, map, filter, Option, Some, None, refl, sym, ap, subst, ◌∙◌}
 use Rattle.std.specs.Prelude.{◌==◌, nat_lt, find, flat_map, fold, IfSome}
 use Rattle.std.specs.Bool.{OnTrue}
-use Rattle.std.specs.List.{AllByRecursion, list_all, list_any}
+use Rattle.std.specs.List.{AllByRecursion, list_any}
 use Rattle.std.specs.Option.{option_map_or}
-use Rattle.std.specs.Borrow.{Bor}
-use Rattle.std.proofs.lemmas.Bool.{and_from, and_parts}
+use Rattle.std.proofs.lemmas.Bool.{and_from}
 use Rattle.std.proofs.lemmas.List.{get_or-map}
 use mathlib.Core.Bool.{true≢false}
 use Rattle.ynl_resource.specs.Amounts.{fits_in}
-use Rattle.ynl_resource.specs.Names.{root, same_label, same_path, way_to}
+use Rattle.ynl_resource.specs.Names.{same_label, same_path}
 use Rattle.ynl_resource.specs.declared.amounts.Resource.{Resource}
-use Rattle.ynl_resource.specs.declared.labels.Label.{Label}
 use Rattle.ynl_resource.specs.declared.paths.Path.{Path}
-use Rattle.ynl_model.specs.Applications.{Application, LeafApps, apps_of}
+use Rattle.ynl_model.specs.Applications.{LeafApps, apps_of}
 use Rattle.ynl_model.specs.Cluster.{runs, waits}
 use Rattle.ynl_model.specs.declared.proposals.What.TheVariants.{Master, Ask as Asked}
 use Rattle.ynl_model.specs.Service.{Item, master_item, ask_item, asks_of, has_room, within_maximum, within_user_limit, within_master_share}
@@ -34,14 +32,13 @@ use Rattle.ynl_waiting.specs.declared.classes.Class.{Class}
 use Rattle.ynl_waiting.specs.declared.classes.Turn.{Turn}
 use Rattle.ynl_waiting.specs.declared.parts.Part.{Part}
 use Rattle.ynl_waiting.proofs.Having.{class-self}
-use Rattle.ynl_choice.specs.declared.leaf_use.Headroom.{Headroom}
 use Rattle.ynl_choice.specs.declared.leaf_use.LeafUse.{LeafUse}
 use Rattle.ynl_choice.specs.declared.lulls.Lull.{Lull}
 use Rattle.ynl_choice.specs.declared.scenes.Scene.{Scene}
-use Rattle.ynl_choice.specs.Choosing.{state_in, item_of, ArePlaced, key_in, label_for, passes, asks_in, masters_of, wanted_in, IsScene, HoldsBest}
-use Rattle.ynl_choice.specs.LeafUses.{allows, keeps_maximum, IsLeafUse}
+use Rattle.ynl_choice.specs.Choosing.{state_in, item_of, ArePlaced, key_in, passes, asks_in, masters_of, wanted_in, IsScene, HoldsBest}
+use Rattle.ynl_choice.specs.LeafUses.{allows, IsLeafUse}
 use Rattle.ynl_choice.specs.Lulls.{IsLeastOf, IsQuiet, NonePass}
-use Rattle.ynl_choice.specs.Waits.{fits_leaf, fits_user, is_placeable, IsFirstTurn, IsPartFor, IsPartOf}
+use Rattle.ynl_choice.specs.Waits.{is_placeable, IsFirstTurn, IsPartOf}
 use Rattle.ynl_choice.specs.declared.standings.Candidate.{Candidate}
 use Rattle.ynl_choice.proofs.Classed.{busy, idle, turn-self, masters-told, masters-gathered, asks-told, asks-gathered}
 use Rattle.ynl_choice.proofs.Considering.{no_room}

@@ -1,8 +1,6 @@
 -- What is known of leaves of which nothing could be placed.
-use Rattle.std.specs.Prelude.{ℕ, ◌≡◌, ◌<◌, Bool, true, false, ◌&&◌, List, [], length, slice_index_or, Option, None, Some, IfSome, if◌then◌else◌}
+use Rattle.std.specs.Prelude.{ℕ, ◌≡◌, ◌<◌, Bool, true, false, List, [], length, slice_index_or, Option, None, Some, IfSome, if◌then◌else◌}
 use Rattle.std.specs.List.{AllByRecursion, list_any}
-use Rattle.std.specs.Option.{option_map_or}
-use Rattle.std.specs.Borrow.{Bor}
 use Rattle.ynl_resource.specs.Amounts.{fits_in}
 use Rattle.ynl_resource.specs.Names.{same_label, same_path}
 use Rattle.ynl_resource.specs.declared.amounts.Resource.{Resource}
@@ -20,7 +18,7 @@ use Rattle.ynl_choice.specs.declared.lulls.Lull.{Lull}
 use Rattle.ynl_choice.specs.declared.lulls.Lulls.{Lulls}
 use Rattle.ynl_choice.specs.declared.lulls.PartLulls.{PartLulls}
 use Rattle.ynl_choice.specs.declared.scenes.Scene.{Scene}
-use Rattle.ynl_choice.specs.Choosing.{state_in, passes, wanted_in}
+use Rattle.ynl_choice.specs.Choosing.{state_in, passes}
 
 -- what is known of the leaves on a partition, by their places
 abbrev pub known_of : PartLulls → List (Option Lull)

@@ -16,7 +16,7 @@ use Rattle.ynl_model.specs.declared.containers.Placed.{Placed}
 use Rattle.ynl_model.specs.declared.events.Event.TheVariants.{Submit}
 use Rattle.ynl_model.specs.declared.proposals.Proposal.{Proposal}
 use Rattle.ynl_model.specs.Queues.{Config, QueueRow, is_leaf, is_queue}
-use Rattle.ynl_model.specs.Applications.{Application, LeafApps, find_app, in_leaf, leaf_of, set_ask, submitted, with_app}
+use Rattle.ynl_model.specs.Applications.{Application, find_app, in_leaf, leaf_of, set_ask, submitted, with_app}
 use Rattle.ynl_model.specs.Cluster.{State, Partition, containers_on, is_partition, node_of}
 use Rattle.ynl_model.specs.declared.nodes.Node.{Node}
 use Rattle.ynl_model.specs.Changes.{app_finishes, end, place}

@@ -16,7 +16,7 @@ use Rattle.ynl_nodes.specs.Members.{is_among}
 use Rattle.ynl_core.specs.Resting.{AreResting}
 use Rattle.ynl_core.proofs.Idle.{empty_items, rests_more, unplaced_more, unplaced_rests, unplaced_same, resting_step}
 use Rattle.ynl_choice.specs.Lulls.{AreLulls}
-use Rattle.ynl_core.proofs.Reserved.{reserved, with_rows}
+use Rattle.ynl_core.proofs.Reserved.{reserved}
 use Rattle.ynl_core.proofs.Changed.{woken, unchanged}
 use Rattle.ynl_core.proofs.cluster.Core.heartbeat.Goals as goal
 

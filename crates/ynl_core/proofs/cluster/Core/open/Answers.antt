@@ -1,4 +1,4 @@
-use Rattle.std.proofs.Common.{[], rules, sym, subst}
+use Rattle.std.proofs.Common.{[], sym, subst}
 use Rattle.ynl_laws.specs.Working.{IsWorking}
 use Rattle.ynl_laws.specs.Tabled.{Tabled}
 use Rattle.ynl_laws.proofs.Totals.Tabling.{are-tabled}
