@@ -8,7 +8,7 @@ use Rattle.std.specs.List.{AllByRecursion}
 use Rattle.std.proofs.Math.ListN.{set, drop_of_length-le}
 use Rattle.std.proofs.lemmas.List.{take_more, take_more_set, take_all, map_push, length-set, set-get_or, get_or_default}
 use Rattle.ynl_changes.proofs.Rest.{rest_is, rest_set}
-use Rattle.ynl_laws.proofs.Lists.{Each-append}
+use Rattle.ynl_laws.proofs.Lists.{Each-append, Each-split}
 
 -- the first rows mean what is wanted, and the rest stand as they were
 pub record IsChanged {X Y : Type 0} (m : X → Y) (g : Y → Y) (xs ys : List X) (i : ℕ) : Type 0 where
@@ -84,15 +84,11 @@ each_front P zero xs h = tt
 each_front P (suc i) [] h = tt
 each_front P (suc i) (x ∷ xs) h = (h.0, each_front P i xs h.1)
 
-each_split : {X : Type 0} (P : X → Type 0) (xs ys : List X) → AllByRecursion P (xs ++ ys) → AllByRecursion P xs × AllByRecursion P ys
-each_split P [] ys h = (tt, h)
-each_split P (x ∷ xs) ys h = let rest = each_split P xs ys h.1 in ((h.0, rest.0), rest.1)
-
 -- what held of each row holds of each changed row in another way
 pub each_changed : {X : Type 0} (P Q : X → Type 0) (xs ys : List X) (i : ℕ) (x y : X) → i < length xs → i < length ys → x ≡ get_or xs i x → x ≡ get_or ys i x → (P (get_or ys i x) → Q y)
     → (AllByRecursion P (take i xs) → AllByRecursion Q (take i ys)) → AllByRecursion P (take (i + 1) xs) → AllByRecursion Q (take (i + 1) (set ys i y))
 each_changed P Q xs ys i x y inside inside' read here change before h =
-    let split = each_split P (take i xs) (x ∷ []) (subst (AllByRecursion P) (take_more xs i x inside ∙ ap (λ z. take i xs ++ z ∷ []) (sym read)) h) in
+    let split = Each-split P (take i xs) (x ∷ []) (subst (AllByRecursion P) (take_more xs i x inside ∙ ap (λ z. take i xs ++ z ∷ []) (sym read)) h) in
     each_step Q ys i y inside' (before split.0) (change (subst P here split.1.0))
 
 -- a row that means the same in the place of another

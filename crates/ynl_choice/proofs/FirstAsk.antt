@@ -21,7 +21,8 @@ use Rattle.ynl_laws.specs.First.{is_later}
 use Rattle.ynl_laws.specs.Least.{sooner}
 use Rattle.ynl_laws.proofs.Lists.{Each-map, Each-kept, each-of}
 use Rattle.ynl_laws.proofs.Logic.{not-true, some-same}
-use Rattle.ynl_laws.proofs.Lives.Asks.{Differs, each-found}
+use Rattle.ynl_laws.specs.Untied.{Differs}
+use Rattle.ynl_laws.proofs.Lives.Asks.{each-found}
 use Rattle.ynl_laws.proofs.Names.{same-label_path}
 use Rattle.ynl_laws.proofs.Service.Decided.{does_submission_decide}
 use Rattle.ynl_laws.proofs.Service.OrderTotal.{key_order_total}
@@ -126,7 +127,7 @@ module _ (key_of : Item → Key) (y : Item) where
 
 -- ---- the asks of an application
 
-apart-pairs : (asks : List AskRow) → are_apart asks ≡ true → Pairs Differs asks
+pub apart-pairs : (asks : List AskRow) → are_apart asks ≡ true → Pairs Differs asks
 apart-pairs [] h = tt
 apart-pairs (ask ∷ asks) h =
     let parts = and_parts _ _ h in

@@ -24,6 +24,10 @@ pub Each-append : {X : Type 0} (P : X → Type 0) (xs ys : List X) → AllByRecu
 Each-append P [] ys h k = k
 Each-append P (x ∷ xs) ys h k = (h.0, Each-append P xs ys h.1 k)
 
+pub Each-split : {X : Type 0} (P : X → Type 0) (xs ys : List X) → AllByRecursion P (xs ++ ys) → AllByRecursion P xs × AllByRecursion P ys
+Each-split P [] ys h = (tt, h)
+Each-split P (x ∷ xs) ys h = let rest = Each-split P xs ys h.1 in ((h.0, rest.0), rest.1)
+
 pub Each-map : {X Y : Type 0} (P : X → Type 0) (Q : Y → Type 0) (f : X → Y) → ((x : X) → P x → Q (f x)) → (xs : List X) → AllByRecursion P xs → AllByRecursion Q (map f xs)
 Each-map P Q f step [] h = tt
 Each-map P Q f step (x ∷ xs) h = (step x h.0, Each-map P Q f step xs h.1)

@@ -9,3 +9,4 @@ pub mod Owners
 pub mod Tabling
 pub mod Waiting
 pub mod Lulls
+pub mod Untied

@@ -11,7 +11,8 @@ use Rattle.ynl_model.specs.Cluster.{State}
 use Rattle.ynl_model.specs.Service.{Item, Key, key, key_order, items_for, asks_for, eligible, guests_for, first_of, choice}
 use Rattle.ynl_model.specs.Events.{state_after}
 use Rattle.ynl_model.specs.declared.events.Event.{Event}
-use Rattle.ynl_laws.specs.Untied.{HaveOwnKeys}
+use Rattle.ynl_laws.specs.Tabled.{Tabled}
+use Rattle.ynl_laws.specs.Untied.{AllDistinct, HaveOwnKeys}
 
 -- one of those of which P holds, and no other of them is before it; or none, where P holds of nothing
 abbrev pub IsFirst : {X : Type 0} → (X → X → Bool) → (X → Type 0) → Option X → Type 0
@@ -34,6 +35,10 @@ IsFirstAlone = (key_of : Item → Key) (items : List Item) (o : Option Item) →
 pub record AreUntied (c : Config) (s : State) : Type 0 where
   pub requests : (p : Label) → HaveOwnKeys (key c s p) (items_for s p)
   pub guests : HaveOwnKeys (key c s Unlabelled) (asks_for s Unlabelled)
+
+-- that is so where leaves and applications are found by their names, and the asks of each application differ
+abbrev pub AreTabledUntied : Type 0
+AreTabledUntied = (c : Config) (s : State) → Tabled s → AllDistinct s.leaves → AreUntied c s
 
 -- the first of the eligible requests on a node, or else the first of the guests, is the choice
 abbrev pub IsFirstChosen : Config → State → Node → Type 0

@@ -1,15 +1,29 @@
 -- No two requests tie, and so what is chosen is before all others.
-use Rattle.std.specs.Prelude.{◌≡◌, ◌≢◌, ◌⊎◌, IsFalse, List, Some}
-use Rattle.std.specs.List.{Contains}
+use Rattle.std.specs.Prelude.{◌≡◌, ◌≢◌, ◌⊎◌, false, IsFalse, List, Some}
+use Rattle.std.specs.List.{AllByRecursion, Contains}
 use Rattle.std.specs.declared.cmp.Ordering.TheVariants.{Less, Equal}
 use Rattle.ynl_resource.specs.declared.labels.Label.{Label}
 use Rattle.ynl_resource.specs.declared.labels.Label.TheVariants.{Unlabelled}
 use Rattle.ynl_model.specs.declared.nodes.Node.{Node}
+use Rattle.ynl_model.specs.declared.applications.AskRow.{AskRow}
+use Rattle.ynl_model.specs.Applications.{Application, LeafApps, is_ask_of}
 use Rattle.ynl_model.specs.Queues.{Config}
 use Rattle.ynl_model.specs.Cluster.{State}
 use Rattle.ynl_model.specs.Service.{Item, Key, key, key_order, items_for, asks_for, eligible, some_eligible, guests_for, choice}
 use Rattle.ynl_model.specs.Events.{state_after}
 use Rattle.ynl_model.specs.declared.events.Event.{Event}
+use Rattle.ynl_laws.specs.Working.{Pairs}
+
+-- the label and the priority of the later ask do not find the earlier one
+abbrev pub Differs : AskRow → AskRow → Type 0
+Differs a b = is_ask_of b.label b.priority a ≡ false
+
+-- the asks of an application differ, and so those of each in some leaves
+abbrev pub Distinct : Application → Type 0
+Distinct app = Pairs Differs app.asks
+
+abbrev pub AllDistinct : List LeafApps → Type 0
+AllDistinct leaves = AllByRecursion (λ row. AllByRecursion Distinct row.apps) leaves
 
 -- two requests of a list whose keys tie are one request
 abbrev pub HaveOwnKeys : (Item → Key) → List Item → Type 0

@@ -2,7 +2,7 @@
 
 ghost use Rattle.ynl_laws.specs.Decided.{DoQueuesDecide, DoSiblingsNotTie, DoesSubmissionDecide};
 ghost use Rattle.ynl_laws.specs.Descent.{IsFirstBelowLeast};
-ghost use Rattle.ynl_laws.specs.First.{IsFirstAlone, IsFirstAlwaysChosen, IsFirstChosenUntied, IsFirstFound};
+ghost use Rattle.ynl_laws.specs.First.{AreTabledUntied, IsFirstAlone, IsFirstAlwaysChosen, IsFirstChosenUntied, IsFirstFound};
 ghost use Rattle.ynl_laws.specs.Least.{IsServiceOrdered, IsChosenByScanning};
 ghost use Rattle.ynl_laws.specs.Numbers.{DoNumbersDecide, DoNumbersOrder, DoNumbersStay, DoNumbersTell, IsOrderKept};
 ghost use Rattle.ynl_laws.specs.Untied.{DoRequestsNotTie, DoGuestsNotTie, IsChoiceBeforeAllOthers};
@@ -22,6 +22,12 @@ pub fn scanning_finds_the_choice()
 pub fn requests_do_not_tie()
     ensures requests { DoRequestsNotTie }
     ensures guests { DoGuestsNotTie }
+{}
+
+/// That is so in any state in which leaves and live applications are found by their names, and the asks of each
+/// application differ.
+pub fn tabled_requests_do_not_tie()
+    ensures { AreTabledUntied }
 {}
 
 /// In each state what is chosen for a node is before all other eligible requests; where none is eligible

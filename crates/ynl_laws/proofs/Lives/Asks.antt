@@ -14,22 +14,12 @@ use Rattle.ynl_model.specs.declared.proposals.What.TheVariants.{Master, Ask as A
 use Rattle.ynl_model.specs.Changes.{node_joins, node_leaves, changed_at, taken, place, end, app_finishes}
 use Rattle.ynl_model.specs.Events.{state_after}
 use Rattle.ynl_model.specs.declared.events.Event.{Event}
+use Rattle.ynl_laws.specs.Untied.{Differs, Distinct, AllDistinct}
 use Rattle.ynl_laws.specs.Working.{Pairs}
 use Rattle.ynl_laws.proofs.Events.Lasting.{Lasts, lasting}
 use Rattle.ynl_laws.proofs.Lists.{Each-filter, Each-append, Each-map, Each-all, Each-weaker, Each-with, Pairs-filter, Pairs-map, Each-update, Each-put}
 use Rattle.ynl_laws.proofs.Names.{same-label_path, same-label_self}
 use Rattle.std.proofs.lemmas.Bool.{and_from, and_parts}
-
--- the label and the priority of the later ask do not find the earlier one
-abbrev pub Differs : AskRow → AskRow → Type 0
-Differs a b = is_ask_of b.label b.priority a ≡ false
-
--- the asks of an application differ
-abbrev pub Distinct : Application → Type 0
-Distinct app = Pairs Differs app.asks
-
-abbrev pub AllDistinct : List LeafApps → Type 0
-AllDistinct leaves = AllByRecursion (λ row. AllByRecursion Distinct row.apps) leaves
 
 -- then each ask is what is found
 pub each-found : (asks : List AskRow) → Pairs Differs asks → AllByRecursion (λ ask. find (is_ask_of ask.label ask.priority) asks ≡ Some ask) asks

@@ -71,7 +71,7 @@ is_first_alone key_of items o own first = go o (first_of key_of items) first (is
 -- ---- the choice
 
 -- of some of a list no two tie where no two of all do
-untied-filter : (key_of : Item → Key) (test : Item → Bool) (items : List Item) → HaveOwnKeys key_of items → HaveOwnKeys key_of (filter test items)
+pub untied-filter : (key_of : Item → Key) (test : Item → Bool) (items : List Item) → HaveOwnKeys key_of items → HaveOwnKeys key_of (filter test items)
 untied-filter key_of test items own a b i j tie = own a b (kept a i) (kept b j) tie
   where
     kept : (x : Item) → Contains (filter test items) x → Contains items x

@@ -34,7 +34,8 @@ use Rattle.ynl_laws.specs.Proposed.{IsCommitted, AreAccessibleChoicesCommitted, 
 use Rattle.ynl_laws.proofs.Events.Chosen.{none-holds}
 use Rattle.ynl_laws.proofs.Events.Found.{IsFound}
 use Rattle.ynl_laws.proofs.Lives.Entitled.{Fitting, may-own, all-apps}
-use Rattle.ynl_laws.proofs.Lives.Asks.{Distinct, AllDistinct, each-found, distinct-after}
+use Rattle.ynl_laws.specs.Untied.{Distinct, AllDistinct}
+use Rattle.ynl_laws.proofs.Lives.Asks.{each-found, distinct-after}
 use Rattle.ynl_laws.proofs.Isolating.Alone.{tops}
 use Rattle.ynl_laws.proofs.Isolating.Firm.{Firm, firm-after}
 use Rattle.ynl_laws.proofs.Limits.Within.{after-last}

@@ -22,10 +22,10 @@ use Rattle.ynl_model.specs.Cluster.{State, runs, waits, opening}
 use Rattle.ynl_model.specs.Service.{Item, Key, master_item, ask_item, asks_of, masters_for, asks_for, items_for, is_eligible, eligible, some_eligible, has_room, takes_guests, guests_for, ratio_order, standing, standing_order, last_name, place_in_leaf, rank, key, key_order, is_first, first_of, choice}
 use Rattle.ynl_model.specs.Events.{state_after}
 use Rattle.ynl_model.specs.declared.events.Event.{Event}
-use Rattle.ynl_laws.specs.Untied.{HaveOwnKeys, DoRequestsNotTie, DoGuestsNotTie, IsBeforeOthers, IsChosenAlone, IsChoiceBeforeAllOthers}
+use Rattle.ynl_laws.specs.Untied.{AllDistinct, HaveOwnKeys, DoRequestsNotTie, DoGuestsNotTie, IsBeforeOthers, IsChosenAlone, IsChoiceBeforeAllOthers}
 use Rattle.ynl_laws.proofs.Events.Changed.{kept-opening, after-keeps}
 use Rattle.ynl_laws.proofs.Events.Found.{is_found}
-use Rattle.ynl_laws.proofs.Lives.Asks.{AllDistinct, each-found, distinct-after}
+use Rattle.ynl_laws.proofs.Lives.Asks.{each-found, distinct-after}
 use Rattle.ynl_laws.proofs.Lives.InTurn.{IsInTurn, in-turn, one-in-turn, rows-after}
 use Rattle.ynl_laws.proofs.Lists.{Each-filter, Each-append, Each-map, all-of, Each-flat, Each-weaker, filter-passes, Each-both, Each-find, each-of, each-contained}
 use Rattle.ynl_laws.proofs.Logic.{not-true, some-same}
@@ -117,7 +117,7 @@ one-source s p a b i j t = go i j
         e ∙ (λ i. ask_item (one i) (ask i)) ∙ sym f
 
 -- each request of a list that is of such a source has its own key
-untied : (c : Config) (s : State) (p : Label) (items : List Item) → AllByRecursion (Source s p) items → HaveOwnKeys (key c s p) items
+pub untied : (c : Config) (s : State) (p : Label) (items : List Item) → AllByRecursion (Source s p) items → HaveOwnKeys (key c s p) items
 untied c s p items h a b i j tie = one-source s p a b (All-contains (Source s p) items a (all-of (Source s p) items h) i) (All-contains (Source s p) items b (all-of (Source s p) items h) j) (tied c s p a b tie)
 
 module _ (s : State) (turns : AllByRecursion (IsInTurn s) (all_apps s.leaves)) (distinct : AllDistinct s.leaves) where
@@ -131,7 +131,7 @@ module _ (s : State) (turns : AllByRecursion (IsInTurn s) (all_apps s.leaves)) (
   each-asks : AllByRecursion Asks (all_apps s.leaves)
   each-asks = Each-both _ _ (all_apps s.leaves) turns (Each-flat _ _ (λ row. row.apps) (λ row k. Each-weaker _ _ (λ app d. each-found app.asks d) row.apps k) s.leaves distinct)
 
-  asks : (p : Label) → AllByRecursion (Source s p) (asks_for s p)
+  pub asks : (p : Label) → AllByRecursion (Source s p) (asks_for s p)
   unfolding asks_for
   asks p = Each-flat Asks (Source s p) (asks_of p) (λ app k. of-app app k) (filter (runs s) (all_apps s.leaves)) (Each-filter Asks (runs s) (all_apps s.leaves) each-asks)
     where
