@@ -19,3 +19,4 @@ mod Headroom
 mod Lessened
 pub mod Known
 pub mod Quiet
+mod Seeded

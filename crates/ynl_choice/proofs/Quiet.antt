@@ -122,6 +122,11 @@ module _ (scene : Scene) (h : IsScene scene) (own : scene.as_guests ≡ false) w
       go (item ∷ items) of fails =
           (over-own item limits room (subst (λ path. IsLeafUse scene.config.now (state_in scene) scene.label path limits) (sym of.0) known) opened free headroom fails.0, go items of.1 fails.1)
 
+  -- nothing fits in a room that is less than all
+  pub above-room : (least room : Resource) (items : List Item) → fits_in least room ≡ false → AllByRecursion (λ item. fits_in least item.size ≡ true) items
+      → AllByRecursion (λ item. fits_in item.size room ≡ true → keeps_own_limits scene.config.now (state_in scene) scene.label item ≡ false) items
+  above-room least room items over above = Each-weaker (λ item. fits_in least item.size ≡ true) _ (λ item below fits. absurd (true≢false (sym (fits-trans least item.size room below fits) ∙ over))) items above
+
   -- ---- and what it tells
 
   -- nothing of a leaf passes where all its requests are above what is free

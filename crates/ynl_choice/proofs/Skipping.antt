@@ -47,7 +47,7 @@ asks-more scene rows row =
 asks-behind : (scene : Scene) (held : Option Candidate) (row : LeafRow) → is_ahead held (standings_to scene row.path) ≡ true → HoldsBest scene held (asks_in scene row.path row.apps.items) held
 asks-behind scene held row ahead = held-ahead scene row.path (asks_in scene row.path) row.apps.items held (asks-gathered scene row.path) ahead
 
-wanted-behind : (scene : Scene) (held : Option Candidate) (row : LeafRow) → is_ahead held (standings_to scene row.path) ≡ true → HoldsBest scene held (wanted_in scene row) held
+pub wanted-behind : (scene : Scene) (held : Option Candidate) (row : LeafRow) → is_ahead held (standings_to scene row.path) ≡ true → HoldsBest scene held (wanted_in scene row) held
 wanted-behind scene held row ahead =
     then scene held held held (masters_of scene row.path row.apps.items) (asks_in scene row.path row.apps.items)
     (held-ahead scene row.path (masters_of scene row.path) row.apps.items held (masters-gathered scene row.path) ahead) (asks-behind scene held row ahead)

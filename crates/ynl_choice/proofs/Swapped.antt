@@ -99,12 +99,12 @@ module _ (scene : Scene) where
       (λ x ask. Each-weaker (IsOfKind true) (Untied (key_in scene) x) (λ y master. kinds-untied scene x y ask master) (filter (passes scene) masters) (Each-filter (IsOfKind true) (passes scene) masters there))
       (filter (passes scene) asks) (Each-filter (IsOfKind false) (passes scene) asks of))
 
-  masters-more : (row : LeafRow) (rows : List LeafRow) → all_masters scene (row ∷ rows) ≡ masters_of scene row.path row.apps.items ++ all_masters scene rows
+  pub masters-more : (row : LeafRow) (rows : List LeafRow) → all_masters scene (row ∷ rows) ≡ masters_of scene row.path row.apps.items ++ all_masters scene rows
   masters-more row rows =
       ap (map master_item) (filter-append (λ app. waits (state_in scene) app && same_label app.home scene.label) (map (app_of row.path) row.apps.items) (all_apps (leaves_of rows)))
       ∙ map-append master_item (filter (λ app. waits (state_in scene) app && same_label app.home scene.label) (map (app_of row.path) row.apps.items)) (filter (λ app. waits (state_in scene) app && same_label app.home scene.label) (all_apps (leaves_of rows)))
 
-  asks-more : (row : LeafRow) (rows : List LeafRow) → all_asks scene (row ∷ rows) ≡ asks_in scene row.path row.apps.items ++ all_asks scene rows
+  pub asks-more : (row : LeafRow) (rows : List LeafRow) → all_asks scene (row ∷ rows) ≡ asks_in scene row.path row.apps.items ++ all_asks scene rows
   asks-more row rows =
       ap (flat_map (asks_of scene.label)) (filter-append (runs (state_in scene)) (map (app_of row.path) row.apps.items) (all_apps (leaves_of rows)))
       ∙ flat_map-append (asks_of scene.label) (filter (runs (state_in scene)) (map (app_of row.path) row.apps.items)) (filter (runs (state_in scene)) (all_apps (leaves_of rows)))

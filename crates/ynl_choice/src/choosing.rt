@@ -1,7 +1,6 @@
 //! The choice on a node: of the eligible requests the first in the order of service, or else the
 //! first guest. The leaves are gone through once, and the first so far is held.
 
-ghost use Rattle.std.specs.Bool.{OnTrue};
 ghost use Rattle.std.specs.Prelude.{◌≡◌, ◌<◌, false, None, filter, length, slice_index_or};
 ghost use Rattle.ynl_resource.specs.declared.labels.Label.TheVariants.{Unlabelled};
 ghost use Rattle.ynl_model.specs.Cluster.{free as free_on};
@@ -10,52 +9,21 @@ ghost use Rattle.ynl_tables.specs.Bounds.{IsReadable};
 ghost use Rattle.ynl_tables.specs.Numbers.{AreQueuesOf};
 ghost use Rattle.ynl_tables.specs.Tables.{state_of};
 ghost use Rattle.ynl_tables.specs.declared.rows.LeafRow.{LeafRow};
-ghost use Rattle.ynl_choice.specs.Choosing.{item_of, state_in, IsScene, IsNext, IsPassed, HoldsBest, all_asks, all_wanted, wanted_in};
+ghost use Rattle.ynl_choice.specs.Choosing.{item_of, state_in, IsScene, IsNext, IsPassed, HoldsBest, IsSeed, all_asks, all_wanted, wanted_in};
 ghost use Rattle.ynl_choice.specs.Lulls.{AreLulls, IsPartAt, NonePass};
 
 use crate::boards::board_of;
+use crate::going::{is_quiet, next_leaf};
 use crate::leaves::{add_asks, add_leaf};
+use crate::likely::likely_leaf;
 use crate::lulls::Lulls;
 use crate::requests::Request;
 use crate::scenes::Scene;
 use crate::standings::Candidate;
 use ynl_model::Node;
-use ynl_queues::{Config, is_within};
+use ynl_queues::Config;
 use ynl_resource::{Label, Name, Resource};
 use ynl_tables::{Tables, free};
-
-/// The place of the leaf that is looked at after the one at a place: past those that stand next to it and are within
-/// the queue that is passed over.
-fn next_leaf(scene: &Scene<'_>, place: usize, passed: &Option<&[Name]>) -> usize
-    requires scene { IsScene scene.now }
-    requires place { place < length scene.now.tables.now.leaves.items }
-    ensures { IsNext scene.now passed.now place result }
-{
-    let rows = scene.tables.leaves.as_slice();
-    let Some(queue) = passed else {
-        return place + 1;
-    };
-    if !is_within(queue, rows[place].path.names()) {
-        return place + 1;
-    }
-    scene.tables.numbers.after_leaf(place, queue)
-}
-
-/// Whether it is known that nothing of the leaf at a place may be placed: nothing is for so little as what is free, or
-/// nothing that fits there keeps its limits.
-fn is_quiet(scene: &Scene<'_>, lulls: &Lulls, at: usize, place: usize) -> bool
-    requires scene { IsScene scene.now }
-    requires own { scene.now.as_guests ≡ false }
-    requires lulls { AreLulls scene.now.config.now (state_in scene.now) lulls.now }
-    requires at { IsPartAt lulls.now scene.now.label at }
-    requires place { place < length scene.now.tables.now.leaves.items }
-    ensures { OnTrue result ((row : LeafRow) → row ≡ slice_index_or scene.now.tables.now.leaves.items place row → NonePass scene.now (wanted_in scene.now row)) }
-{
-    match lulls.at(at, place) {
-        Some(lull) => lull.holds_for(&scene.free),
-        None => false,
-    }
-}
 
 /// What is wanted of the leaf at a place, where it is not known that nothing may be placed; if nothing may, that is known
 /// then. The place of the leaf that is looked at next.
@@ -88,21 +56,68 @@ fn add_at<'a>(
     next_leaf(scene, place, passed)
 }
 
-/// What is wanted on the partition, leaf by leaf. What is below a queue that the request that is held is before is
-/// passed over.
-fn add_all(scene: &Scene<'_>, lulls: &mut Lulls, held: &mut Option<Candidate>)
+/// The best request of the leaf at a place, if one of it may be placed.
+fn best_at(scene: &Scene<'_>, lulls: &mut Lulls, at: usize, place: usize) -> Option<Candidate>
     requires scene { IsScene scene.now }
     requires own { scene.now.as_guests ≡ false }
     requires lulls { AreLulls scene.now.config.now (state_in scene.now) lulls.old }
+    requires at { IsPartAt lulls.old scene.now.label at }
+    requires place { place < length scene.now.tables.now.leaves.items }
+    ensures seed { IsSeed scene.now result }
+    ensures lulls { AreLulls scene.now.config.now (state_in scene.now) lulls.new }
+    ensures at { IsPartAt lulls.new scene.now.label at }
+{
+    let mut held = None;
+    add_at(scene, lulls, at, place, &mut None, &mut held);
+    held
+}
+
+/// The best request of a leaf in which the choice is likely to be, if one is found that may be placed.
+fn first_likely(scene: &Scene<'_>, lulls: &mut Lulls, at: usize) -> Option<Candidate>
+    requires scene { IsScene scene.now }
+    requires own { scene.now.as_guests ≡ false }
+    requires lulls { AreLulls scene.now.config.now (state_in scene.now) lulls.old }
+    requires at { IsPartAt lulls.old scene.now.label at }
+    ensures seed { IsSeed scene.now result }
+    ensures lulls { AreLulls scene.now.config.now (state_in scene.now) lulls.new }
+    ensures at { IsPartAt lulls.new scene.now.label at }
+{
+    let place = likely_leaf(scene, lulls, at)?;
+    if place >= scene.tables.leaves.len() {
+        return None;
+    }
+    best_at(scene, lulls, at, place)
+}
+
+/// What is wanted on the partition, leaf by leaf. What is below a queue that the request that is held is before is
+/// passed over.
+fn add_all(scene: &Scene<'_>, lulls: &mut Lulls, at: usize, held: &mut Option<Candidate>)
+    requires scene { IsScene scene.now }
+    requires own { scene.now.as_guests ≡ false }
+    requires lulls { AreLulls scene.now.config.now (state_in scene.now) lulls.old }
+    requires at { IsPartAt lulls.old scene.now.label at }
     ensures best { HoldsBest scene.now held.old (all_wanted scene.now scene.now.tables.now.leaves.items) held.new }
     ensures lulls { AreLulls scene.now.config.now (state_in scene.now) lulls.new }
 {
-    let at = lulls.part(&scene.label);
     let mut passed = None;
     let mut place = 0;
     while place < scene.tables.leaves.len() {
         place = add_at(scene, lulls, at, place, &mut passed, held);
     }
+}
+
+/// The first of what is wanted on the partition. A leaf in which it is likely to be is looked at before all others.
+fn first_wanted(scene: &Scene<'_>, lulls: &mut Lulls) -> Option<Candidate>
+    requires scene { IsScene scene.now }
+    requires own { scene.now.as_guests ≡ false }
+    requires lulls { AreLulls scene.now.config.now (state_in scene.now) lulls.old }
+    ensures best { HoldsBest scene.now None (all_wanted scene.now scene.now.tables.now.leaves.items) result }
+    ensures lulls { AreLulls scene.now.config.now (state_in scene.now) lulls.new }
+{
+    let at = lulls.part(&scene.label);
+    let mut held = first_likely(scene, lulls, at);
+    add_all(scene, lulls, at, &mut held);
+    held
 }
 
 /// What the running applications ask for on the partition.
@@ -145,9 +160,7 @@ fn first_eligible(
         total,
         board: board_of(config, tables, &node.label),
     };
-    let mut held = None;
-    add_all(&scene, lulls, &mut held);
-    request_in(&held)
+    request_in(&first_wanted(&scene, lulls))
 }
 
 /// The first of the asks for DEFAULT that have room, as guests.

@@ -3,6 +3,7 @@
 
 ghost use Rattle.std.specs.Prelude.{◌≡◌, Bool, true, false, Option, None, IfSome};
 ghost use Rattle.std.specs.Bool.{OnTrue, OnFalse};
+ghost use Rattle.std.specs.List.{AllByRecursion};
 ghost use Rattle.ynl_resource.specs.Amounts.{fits_in};
 ghost use Rattle.ynl_tables.specs.Marked.{AreMarkedIn};
 ghost use Rattle.ynl_tables.specs.Queued.{masters_waiting, asks_waiting};
@@ -290,9 +291,24 @@ fn less_of(a: &Resource, b: &Resource) -> Resource
     }
 }
 
+/// An amount that none of what is wanted in a leaf is below. None is known where what waits is not kept.
+fn least_wanted(scene: &Scene<'_>, row: &LeafRow) -> Option<Resource>
+    requires { AreMarkedIn (state_in scene.now) row.now }
+    ensures { IfSome result (λ least. AllByRecursion (λ item. fits_in least item.size ≡ true) (wanted_in scene.now row.now)) }
+{
+    let Some(masters) = row.masters.rows() else {
+        return None;
+    };
+    let Some(asks) = row.asks.rows() else {
+        return None;
+    };
+    Some(less_of(&least_in(scene, masters), &least_in(scene, asks)))
+}
+
 /// The lull of a leaf of which nothing may be placed: what fits in what is free, and in what the queues on the way can
-/// take, keeps no limit of its user and of the leaf's masters. None is known where what waits is not kept, or
-/// where a queue on the way stands above its maximum.
+/// take, keeps no limit of its user and of the leaf's masters. Where even the least that waits does not fit in what is
+/// free, nothing does, and no limit is worked out. None is known where what waits is not kept, or where a queue on the
+/// way stands above its maximum.
 fn lull_of(scene: &Scene<'_>, limits: &mut Option<LeafUse>, row: &LeafRow) -> Option<Lull>
     requires scene { IsScene scene.now }
     requires own { scene.now.as_guests ≡ false }
@@ -301,24 +317,28 @@ fn lull_of(scene: &Scene<'_>, limits: &mut Option<LeafUse>, row: &LeafRow) -> Op
     requires none { NonePass scene.now (wanted_in scene.now row.now) }
     ensures { IfSome result (IsQuiet scene.now (wanted_in scene.now row.now)) }
 {
-    let Some(masters) = row.masters.rows() else {
+    let Some(least) = least_wanted(scene, row) else {
         return None;
     };
-    let Some(asks) = row.asks.rows() else {
-        return None;
-    };
+    if !least.fits_in(scene.free) {
+        return Some(Lull {
+            least,
+            room: scene.free,
+        });
+    }
     let limits = limits_at(scene, limits, &row.path, &row.near);
     if !limits.headroom.is_open {
         return None;
     }
     Some(Lull {
-        least: less_of(&least_in(scene, masters), &least_in(scene, asks)),
+        least,
         room: less_of(&scene.free, &limits.headroom.room),
     })
 }
 
 /// What is wanted on the partition in a leaf, masters and asks, and the leaf's limits are worked out once for
-/// both. Its lull, if nothing of it may be placed and one is known.
+/// both. Nothing of it is looked at where the request that is held is before all of it. Its lull, if nothing of it may be
+/// placed and one is known.
 pub fn add_leaf<'a>(
     scene: &Scene<'_>,
     row: &'a LeafRow,
@@ -334,6 +354,9 @@ pub fn add_leaf<'a>(
     ensures passed { IsPassed scene.now held.new passed.new }
     ensures quiet { IfSome result (IsQuiet scene.now (wanted_in scene.now row.now)) }
 {
+    if is_passed(scene, row, passed, held) {
+        return None;
+    }
     let mut limits = None;
     let no_master = add_masters(scene, &mut limits, row, passed, held);
     let no_ask = add_asks(scene, &mut limits, row, passed, held);

@@ -10,7 +10,7 @@ use crate::standings::{Candidate, Standing, Standings};
 use std::cmp::Ordering;
 use ynl_model::What;
 
-fn product(a: u64, b: u64) -> u128
+pub fn product(a: u64, b: u64) -> u128
     ensures { result ≡ a * b }
 {
     u128::from(a) * u128::from(b)

@@ -3,7 +3,7 @@ use Rattle.std.proofs.lemmas.List.{length-map}
 use Rattle.ynl_tables.specs.Tables.{leaf_of_row}
 use Rattle.ynl_choice.specs.Choosing.{state_in}
 use Rattle.ynl_choice.proofs.Quiet.{quiet-told}
-use Rattle.ynl_choice.proofs.choosing.is_quiet.Goals as goal
+use Rattle.ynl_choice.proofs.going.is_quiet.Goals as goal
 
 pub returns-in-Some : goal.returns-in-Some
 returns-in-Some c =

@@ -7,7 +7,7 @@ use Rattle.ynl_tables.specs.Siblings.{leaf_paths}
 use Rattle.ynl_tables.specs.declared.rows.LeafRow.{LeafRow}
 use Rattle.ynl_choice.specs.Choosing.{IsNext}
 use Rattle.ynl_choice.proofs.Skipping.{paths_read, within_at, next_passed}
-use Rattle.ynl_choice.proofs.choosing.next_leaf.Goals as goal
+use Rattle.ynl_choice.proofs.going.next_leaf.Goals as goal
 
 pub after_leaf-requires-clause-within : goal.after_leaf-requires-clause-within
 after_leaf-requires-clause-within c =
