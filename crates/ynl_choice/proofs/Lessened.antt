@@ -18,6 +18,7 @@ use Rattle.ynl_model.specs.Cluster.{State, free, masters_used}
 use Rattle.ynl_model.specs.Limits.{user_limit, master_limit}
 use Rattle.ynl_model.specs.Queues.{Config}
 use Rattle.ynl_model.specs.Service.{Item, has_room, within_maximum, within_user_limit, within_master_share, no_master_in}
+use Rattle.ynl_laws.specs.Lulls.{keeps_own_limits}
 use Rattle.ynl_choice.specs.declared.leaf_use.LeafUse.{LeafUse}
 use Rattle.ynl_choice.specs.declared.scenes.Scene.{Scene}
 use Rattle.ynl_choice.specs.Choosing.{state_in, passes, AreTests, IsScene}
@@ -133,6 +134,12 @@ module _ (scene : Scene) (leaf : Path) (what : What) (user : Name) (less size : 
   limits-less (Some l) known h =
       ap (λ b. b || within_user_limit scene.config.now (state_in scene) scene.label lesser) known.0
       ∙ user-less l known.1 known.2 (ap (λ b. b || within_user_limit scene.config.now (state_in scene) scene.label greater) (sym known.0) ∙ h)
+
+  -- what keeps the limits of its user and of the leaf's masters keeps them where it is less
+  pub own-less : (l : LeafUse) → IsLeafUse scene.config.now (state_in scene) scene.label leaf l → IsModest l → keeps_own_limits scene.config.now (state_in scene) scene.label greater ≡ true → keeps_own_limits scene.config.now (state_in scene) scene.label lesser ≡ true
+  own-less l known modest h =
+      let parts = and_parts (within_user_limit scene.config.now (state_in scene) scene.label greater) (within_master_share scene.config.now (state_in scene) scene.label leaf what size) h in
+      and_from (within_user_limit scene.config.now (state_in scene) scene.label lesser) (within_master_share scene.config.now (state_in scene) scene.label leaf what less) (user-less l known modest parts.0) (master-less what parts.1)
 
   -- what may be placed may be placed where it is less
   pub passes-less : (tests : Option LeafUse) → IsScene scene → AreTests scene leaf tests → passes scene greater ≡ true → passes scene lesser ≡ true

@@ -17,6 +17,8 @@ mod Before
 mod Passed
 mod Headroom
 mod Lessened
+mod Wanted
+mod Over
 pub mod Known
 pub mod Quiet
 mod Seeded

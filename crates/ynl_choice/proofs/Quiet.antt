@@ -1,6 +1,6 @@
 -- Leaves of which nothing may be placed: what is known of them then, and that it tells so later.
-use Rattle.std.proofs.Common.{◌≡◌, ℕ, ◌<◌, Bool, true, false, cond, not, ◌&&◌, ◌||◌, List, [], ◌∷◌, length, get_or, map, filter, Option, Some, None, refl, sym, ap, subst, ◌∙◌}
-use Rattle.std.specs.Prelude.{◌==◌, nat_lt, find, flat_map, fold, IfSome}
+use Rattle.std.proofs.Common.{◌≡◌, ℕ, ◌<◌, Bool, true, false, not, ◌&&◌, ◌||◌, List, [], ◌∷◌, length, get_or, map, Option, Some, None, refl, sym, ap, subst, ◌∙◌}
+use Rattle.std.specs.Prelude.{find, fold, IfSome}
 use Rattle.std.specs.Bool.{OnTrue}
 use Rattle.std.specs.List.{AllByRecursion, list_any}
 use Rattle.std.specs.Option.{option_map_or}
@@ -12,10 +12,9 @@ use Rattle.ynl_resource.specs.Names.{same_label, same_path}
 use Rattle.ynl_resource.specs.declared.amounts.Resource.{Resource}
 use Rattle.ynl_resource.specs.declared.paths.Path.{Path}
 use Rattle.ynl_model.specs.Applications.{LeafApps, apps_of}
-use Rattle.ynl_model.specs.Cluster.{runs, waits}
+use Rattle.ynl_model.specs.Cluster.{waits}
 use Rattle.ynl_model.specs.declared.proposals.What.TheVariants.{Master, Ask as Asked}
-use Rattle.ynl_model.specs.Service.{Item, master_item, ask_item, asks_of, has_room, within_maximum, within_user_limit, within_master_share}
-use Rattle.ynl_model.specs.declared.applications.AskRow.{AskRow}
+use Rattle.ynl_model.specs.Service.{Item, has_room, within_maximum, within_user_limit, within_master_share}
 use Rattle.ynl_laws.specs.Lulls.{IsLull, keeps_own_limits, requests_at, requests_of}
 use Rattle.ynl_laws.specs.Least.{sooner}
 use Rattle.ynl_laws.specs.Tabled.{Tabled}
@@ -25,13 +24,11 @@ use Rattle.ynl_tables.specs.declared.rows.App.{App}
 use Rattle.ynl_tables.specs.declared.rows.LeafRow.{LeafRow}
 use Rattle.ynl_tables.specs.declared.tables.Tables.{Tables}
 use Rattle.ynl_tables.specs.Marked.{IsMarkedApp, AreMarkedIn}
-use Rattle.ynl_tables.specs.Queued.{master_class, master_turn, ask_class, ask_turn, master_waits, is_ask_at, ask_waits, masters_waiting, asks_waiting}
+use Rattle.ynl_tables.specs.Queued.{master_waits, ask_waits, masters_waiting, asks_waiting}
 use Rattle.ynl_tables.specs.Tables.{app_of, leaf_of_row, state_of}
-use Rattle.ynl_waiting.specs.Classes.{same_class, same_turn}
 use Rattle.ynl_waiting.specs.declared.classes.Class.{Class}
 use Rattle.ynl_waiting.specs.declared.classes.Turn.{Turn}
 use Rattle.ynl_waiting.specs.declared.parts.Part.{Part}
-use Rattle.ynl_waiting.proofs.Having.{class-self}
 use Rattle.ynl_choice.specs.declared.leaf_use.LeafUse.{LeafUse}
 use Rattle.ynl_choice.specs.declared.lulls.Lull.{Lull}
 use Rattle.ynl_choice.specs.declared.scenes.Scene.{Scene}
@@ -40,12 +37,13 @@ use Rattle.ynl_choice.specs.LeafUses.{allows, IsLeafUse}
 use Rattle.ynl_choice.specs.Lulls.{IsLeastOf, IsQuiet, NonePass}
 use Rattle.ynl_choice.specs.Waits.{is_placeable, IsFirstTurn, IsPartOf}
 use Rattle.ynl_choice.specs.declared.standings.Candidate.{Candidate}
-use Rattle.ynl_choice.proofs.Classed.{busy, idle, turn-self, masters-told, masters-gathered, asks-told, asks-gathered}
+use Rattle.ynl_choice.proofs.Classed.{masters-told, masters-gathered, asks-told, asks-gathered}
 use Rattle.ynl_choice.proofs.Considering.{no_room}
 use Rattle.ynl_choice.proofs.Foremost.{none-pass, IsGathered}
 use Rattle.ynl_choice.proofs.FirstTurn.{none-passes}
 use Rattle.ynl_choice.proofs.Placed.{row_at}
 use Rattle.ynl_choice.proofs.Waits.{passes-by}
+use Rattle.ynl_choice.proofs.Wanted.{asks-hold, masters-hold}
 
 -- ---- nothing passes
 
@@ -173,69 +171,12 @@ gathered-own leaf gather gathered (app ∷ apps) =
 
 -- ---- the least of what waits
 
-module _ (scene : Scene) (leaf : Path) (least : Resource) where
-  -- an amount that nothing that waits is below is not above what is wanted
-  pub masters-above : (apps : List App) → AllByRecursion (IsMarkedApp (state_in scene) leaf) apps → IsLeastOf scene (masters_waiting apps) least → AllByRecursion (λ item. fits_in least item.size ≡ true) (masters_of scene leaf apps)
-  masters-above [] marked below = tt
-  masters-above (app ∷ apps) marked below =
-      go (waits (state_in scene) (app_of leaf app)) (same_label app.home scene.label) refl refl (masters-above apps marked.1 (λ class turn label there. below class turn label (later (master_waits class turn app) (masters_waiting apps class turn) there)))
-    where
-      later : (a b : Bool) → b ≡ true → (a || b) ≡ true
-      later true b h = refl
-      later false b h = h
+-- an amount that nothing that waits is below is not above what is wanted
+pub masters-above : (scene : Scene) (leaf : Path) (least : Resource) (apps : List App) → AllByRecursion (IsMarkedApp (state_in scene) leaf) apps → IsLeastOf scene (masters_waiting apps) least → AllByRecursion (λ item. fits_in least item.size ≡ true) (masters_of scene leaf apps)
+masters-above scene leaf least apps marked below = masters-hold scene leaf (λ item. fits_in least item.size ≡ true) apps marked (λ class turn label there name. below class turn label there)
 
-      first : (a b : Bool) → a ≡ true → (a || b) ≡ true
-      first true b h = refl
-      first false b h = absurd (true≢false (sym h))
-
-      go : (w l : Bool) → waits (state_in scene) (app_of leaf app) ≡ w → same_label app.home scene.label ≡ l → AllByRecursion (λ item. fits_in least item.size ≡ true) (masters_of scene leaf apps)
-          → AllByRecursion (λ item. fits_in least item.size ≡ true)
-          (map master_item (cond (w && l) (app_of leaf app ∷ filter (λ app. waits (state_in scene) app && same_label app.home scene.label) (map (app_of leaf) apps)) (filter (λ app. waits (state_in scene) app && same_label app.home scene.label) (map (app_of leaf) apps))))
-      go true true e f rest = (
-        below (master_class app) (master_turn app) f
-            (first (master_waits (master_class app) (master_turn app) app) (masters_waiting apps (master_class app) (master_turn app))
-            (and_from ((app.master_clock == 0) && same_class (master_class app) (master_class app)) (same_turn (master_turn app) (master_turn app)) (and_from (app.master_clock == 0) (same_class (master_class app) (master_class app)) (sym (idle scene leaf app marked.0) ∙ e) (class-self (master_class app))) (turn-self (master_turn app)))),
-        rest,
-      )
-      go true false e f rest = rest
-      go false l e f rest = rest
-
-  pub asks-above : (apps : List App) → AllByRecursion (IsMarkedApp (state_in scene) leaf) apps → IsLeastOf scene (asks_waiting apps) least → AllByRecursion (λ item. fits_in least item.size ≡ true) (asks_in scene leaf apps)
-  asks-above [] marked below = tt
-  asks-above (app ∷ apps) marked below =
-      go (runs (state_in scene) (app_of leaf app)) refl (asks-above apps marked.1 (λ class turn label there. below class turn label (later (ask_waits class turn app) (asks_waiting apps class turn) there)))
-    where
-      later : (a b : Bool) → b ≡ true → (a || b) ≡ true
-      later true b h = refl
-      later false b h = h
-
-      first : (a b : Bool) → a ≡ true → (a || b) ≡ true
-      first true b h = refl
-      first false b h = absurd (true≢false (sym h))
-
-      among : (asks : List AskRow) → ((class : Class) (turn : Turn) → same_label class.label scene.label ≡ true → list_any (is_ask_at app class turn) asks ≡ true → fits_in least class.size ≡ true)
-          → AllByRecursion (λ item. fits_in least item.size ≡ true) (map (ask_item (app_of leaf app)) (filter (λ ask. same_label ask.label scene.label && nat_lt 0 ask.count) asks))
-      among [] there = tt
-      among (ask ∷ asks) there = step (same_label ask.label scene.label) (nat_lt 0 ask.count) refl refl (among asks (λ class turn label h. there class turn label (later (is_ask_at app class turn ask) (list_any (is_ask_at app class turn) asks) h)))
-        where
-          step : (l n : Bool) → same_label ask.label scene.label ≡ l → nat_lt 0 ask.count ≡ n → AllByRecursion (λ item. fits_in least item.size ≡ true) (map (ask_item (app_of leaf app)) (filter (λ ask. same_label ask.label scene.label && nat_lt 0 ask.count) asks))
-              → AllByRecursion (λ item. fits_in least item.size ≡ true)
-              (map (ask_item (app_of leaf app)) (cond (l && n) (ask ∷ filter (λ ask. same_label ask.label scene.label && nat_lt 0 ask.count) asks) (filter (λ ask. same_label ask.label scene.label && nat_lt 0 ask.count) asks)))
-          step true true e f rest = (
-            there (ask_class app ask) (ask_turn app ask) e
-                (first (is_ask_at app (ask_class app ask) (ask_turn app ask) ask) (list_any (is_ask_at app (ask_class app ask) (ask_turn app ask)) asks)
-                (and_from (nat_lt 0 ask.count && same_class (ask_class app ask) (ask_class app ask)) (same_turn (ask_turn app ask) (ask_turn app ask)) (and_from (nat_lt 0 ask.count) (same_class (ask_class app ask) (ask_class app ask)) f (class-self (ask_class app ask))) (turn-self (ask_turn app ask)))),
-            rest,
-          )
-          step true false e f rest = rest
-          step false n e f rest = rest
-
-      go : (r : Bool) → runs (state_in scene) (app_of leaf app) ≡ r → AllByRecursion (λ item. fits_in least item.size ≡ true) (asks_in scene leaf apps)
-          → AllByRecursion (λ item. fits_in least item.size ≡ true) (flat_map (asks_of scene.label) (cond r (app_of leaf app ∷ filter (runs (state_in scene)) (map (app_of leaf) apps)) (filter (runs (state_in scene)) (map (app_of leaf) apps))))
-      go true e rest =
-          Each-append (λ item. fits_in least item.size ≡ true) (asks_of scene.label (app_of leaf app)) (asks_in scene leaf apps)
-          (among app.asks.items (λ class turn label there. below class turn label (first (ask_waits class turn app) (asks_waiting apps class turn) (and_from (not (app.master_clock == 0)) (list_any (is_ask_at app class turn) app.asks.items) (sym (busy scene leaf app marked.0) ∙ e) there)))) rest
-      go false e rest = rest
+pub asks-above : (scene : Scene) (leaf : Path) (least : Resource) (apps : List App) → AllByRecursion (IsMarkedApp (state_in scene) leaf) apps → IsLeastOf scene (asks_waiting apps) least → AllByRecursion (λ item. fits_in least item.size ≡ true) (asks_in scene leaf apps)
+asks-above scene leaf least apps marked below = asks-hold scene leaf (λ item. fits_in least item.size ≡ true) apps marked (λ class turn label there name. below class turn label there)
 
 -- an amount that is not above another that nothing that waits is below is no more above what waits
 pub below-least : (scene : Scene) (waits : Class → Turn → Bool) (lower least : Resource) → fits_in lower least ≡ true → IsLeastOf scene waits least → IsLeastOf scene waits lower

@@ -19,6 +19,8 @@ use Rattle.ynl_choice.specs.declared.lulls.Lulls.{Lulls}
 use Rattle.ynl_choice.specs.declared.lulls.PartLulls.{PartLulls}
 use Rattle.ynl_choice.specs.declared.scenes.Scene.{Scene}
 use Rattle.ynl_choice.specs.Choosing.{state_in, passes}
+use Rattle.ynl_choice.specs.Waits.{item_for}
+use Rattle.ynl_model.specs.declared.proposals.What.{What}
 
 -- what is known of the leaves on a partition, by their places
 abbrev pub known_of : PartLulls → List (Option Lull)
@@ -66,6 +68,10 @@ NonePass scene items = list_any (passes scene) items ≡ false
 pub record IsQuiet (scene : Scene) (items : List Item) (lull : Lull) : Type 0 where
   pub above : AllByRecursion (λ item. fits_in lull.least item.size ≡ true) items
   pub none : AllByRecursion (λ item. fits_in item.size lull.room ≡ true → keeps_own_limits scene.config.now (state_in scene) scene.label item ≡ false) items
+
+-- of what waits of a leaf, as masters or as asks, nothing keeps the limits of its user and of the leaf's masters, whatever room there is
+abbrev pub AreOver : Scene → Path → What → (Class → Turn → Bool) → Type 0
+AreOver scene leaf what waits = (class : Class) (turn : Turn) → same_label class.label scene.label ≡ true → waits class turn ≡ true → keeps_own_limits scene.config.now (state_in scene) scene.label (item_for leaf what class) ≡ false
 
 -- an amount is not above what waits for the partition
 abbrev pub IsLeastOf : Scene → (Class → Turn → Bool) → Resource → Type 0

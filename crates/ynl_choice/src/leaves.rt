@@ -20,6 +20,7 @@ ghost use Rattle.ynl_choice.specs.declared.standings.Candidate.{Candidate};
 use crate::holding::{add_ask_at, add_asks_of, add_master, desk_of};
 use crate::leaf_use::LeafUse;
 use crate::lulls::Lull;
+use crate::own_limits::are_all_over;
 use crate::ranking::first_behind;
 use crate::scenes::{Scene, limits_at};
 use crate::standings::Candidate;
@@ -305,10 +306,10 @@ fn least_wanted(scene: &Scene<'_>, row: &LeafRow) -> Option<Resource>
     Some(less_of(&least_in(scene, masters), &least_in(scene, asks)))
 }
 
-/// The lull of a leaf of which nothing may be placed: what fits in what is free, and in what the queues on the way can
-/// take, keeps no limit of its user and of the leaf's masters. Where even the least that waits does not fit in what is
-/// free, nothing does, and no limit is worked out. None is known where what waits is not kept, or where a queue on the
-/// way stands above its maximum.
+/// The lull of a leaf of which nothing may be placed. Where even the least that waits does not fit in what is free, nothing
+/// does, and no limit is worked out. Where nothing keeps the limit of its user or of the leaf's masters, that is so in any
+/// room. Else what fits in what is free, and in what the queues on the way can take, does not keep them. None is known
+/// where what waits is not kept, or where a queue on the way stands above its maximum.
 fn lull_of(scene: &Scene<'_>, limits: &mut Option<LeafUse>, row: &LeafRow) -> Option<Lull>
     requires scene { IsScene scene.now }
     requires own { scene.now.as_guests ≡ false }
@@ -327,6 +328,9 @@ fn lull_of(scene: &Scene<'_>, limits: &mut Option<LeafUse>, row: &LeafRow) -> Op
         });
     }
     let limits = limits_at(scene, limits, &row.path, &row.near);
+    if are_all_over(scene, &limits, row) {
+        return Some(Lull { least, room: MOST });
+    }
     if !limits.headroom.is_open {
         return None;
     }

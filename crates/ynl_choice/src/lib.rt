@@ -24,6 +24,7 @@ mod likely;
 mod limits;
 mod lulls;
 mod order;
+mod own_limits;
 mod proposing;
 mod ranking;
 mod requests;

@@ -149,7 +149,7 @@ fn is_before(held: &Option<Turn>, turn: &Turn) -> bool
 
 /// The request that stands for those of a user and a size. What it is tested for does not read an application's
 /// name, so the user's stands in its place.
-fn request_for<'a>(
+pub fn request_for<'a>(
     row: &'a LeafRow,
     what: &'a What,
     user: &'a Name,

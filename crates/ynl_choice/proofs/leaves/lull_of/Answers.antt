@@ -1,6 +1,9 @@
-use Rattle.ynl_laws.proofs.Lists.{Each-append}
-use Rattle.std.proofs.Common.{◌≡◌, rules}
-use Rattle.ynl_choice.specs.Choosing.{masters_of, asks_in, wanted_in}
+use Rattle.std.specs.Bool.{OnTrue}
+use Rattle.std.specs.List.{AllByRecursion}
+use Rattle.ynl_laws.specs.Lulls.{keeps_own_limits}
+use Rattle.ynl_laws.proofs.Lists.{Each-append, Each-weaker}
+use Rattle.std.proofs.Common.{◌≡◌, false, rules, subst}
+use Rattle.ynl_choice.specs.Choosing.{state_in, masters_of, asks_in, wanted_in}
 use Rattle.ynl_choice.proofs.Classed.{masters-gathered, asks-gathered}
 use Rattle.ynl_choice.proofs.Quiet.{above-room, gathered-own, over-all}
 use Rattle.ynl_choice.proofs.leaves.lull_of.Goals as goal
@@ -10,6 +13,13 @@ returns-then-not-fits_in c =
     let scene = c.args.scene.now in
     let least = c.in-Some.least in
     record { above = c.in-Some.ensures; none = above-room scene c.requires.scene c.requires.own least scene.free (wanted_in scene c.args.row.now) (search rules) c.in-Some.ensures }
+
+pub returns-then-are_all_over : goal.returns-then-are_all_over
+returns-then-are_all_over c =
+    let scene = c.args.scene.now in
+    let items = wanted_in scene c.args.row.now in
+    let over = subst (λ b. OnTrue b (AllByRecursion (λ item. keeps_own_limits scene.config.now (state_in scene) scene.label item ≡ false) items)) c.if-are_all_over.true c.are_all_over.ensures in
+    record { above = c.in-Some.ensures; none = Each-weaker (λ item. keeps_own_limits scene.config.now (state_in scene) scene.label item ≡ false) _ (λ item none fits. none) items over }
 
 pub returns : goal.returns
 returns c =
