@@ -43,13 +43,13 @@ module _ (scene : Scene) where
   pub users-over : (leaf : Path) (what : What) (limits : LeafUse) → IsLeafUse scene.config.now (state_in scene) scene.label leaf limits → IsModest limits → (users : List (Name × Group)) → AllByRecursion (IsOver leaf what) users
       → (user : Name) (size : Resource) (turn : Turn) → has_user users user size turn ≡ true → keeps (item_of_size leaf what user size) ≡ false
   users-over leaf what limits known modest [] over user size turn there = absurd (true≢false (sym there))
-  users-over leaf what limits known modest (entry ∷ users) over user size turn there = go (same_name user entry.0) (has_size entry.1.sizes.entries size turn) refl refl there (users-over leaf what limits known modest users over.1 user size turn)
+  users-over leaf what limits known modest (entry ∷ users) over user size turn there = go (same_name user entry.0) (has_size entry.1.sizes.items size turn) refl refl there (users-over leaf what limits known modest users over.1 user size turn)
     where
-      mine : same_name user entry.0 ≡ true → has_size entry.1.sizes.entries size turn ≡ true → (b : Bool) → keeps (item_of_size leaf what user size) ≡ b → b ≡ false
+      mine : same_name user entry.0 ≡ true → has_size entry.1.sizes.items size turn ≡ true → (b : Bool) → keeps (item_of_size leaf what user size) ≡ b → b ≡ false
       mine same has false e = refl
       mine same has true e = absurd (true≢false (sym (own-less scene leaf what entry.0 entry.1.least size (entry.1.none_below size turn has) limits known modest (ap (λ name. keeps (item_of_size leaf what name size)) (sym (same-name_sym user entry.0 same)) ∙ e)) ∙ over.0))
 
-      go : (s h : Bool) → same_name user entry.0 ≡ s → has_size entry.1.sizes.entries size turn ≡ h → ((s && h) || has_user users user size turn) ≡ true → (has_user users user size turn ≡ true → keeps (item_of_size leaf what user size) ≡ false)
+      go : (s h : Bool) → same_name user entry.0 ≡ s → has_size entry.1.sizes.items size turn ≡ h → ((s && h) || has_user users user size turn) ≡ true → (has_user users user size turn ≡ true → keeps (item_of_size leaf what user size) ≡ false)
           → keeps (item_of_size leaf what user size) ≡ false
       go true true e f t rest = mine e f (keeps (item_of_size leaf what user size)) refl
       go true false e f t rest = rest t

@@ -104,14 +104,17 @@ behind (Some best) turn late t h = chained best turn t late h
 abbrev pub AreBehind : Option Turn → List (Resource × BTreeSet Turn) → Type 0
 AreBehind held sizes = (size : Resource) (turn : Turn) → has_size sizes size turn ≡ true → IsBehind held turn
 
--- nor one of one size more, where its first is not
-pub first-behind : (held : Option Turn) (size : Resource) (turns : BTreeSet Turn) (rest : List (Resource × BTreeSet Turn)) (turn : Turn) → ((t : Turn) → contains turn_order turns t ≡ true → is_turn_later turn t ≡ false) → is_before held turn ≡ false
-    → AreBehind held rest → AreBehind held ((size, turns) ∷ rest)
-first-behind held size turns rest turn top late others s t there = go (either (same_size s size && contains turn_order turns t) (has_size rest s t) there)
+-- nor one of those of which the first is not
+pub turns-behind : (held : Option Turn) (turns : BTreeSet Turn) (turn : Turn) → ((t : Turn) → contains turn_order turns t ≡ true → is_turn_later turn t ≡ false) → is_before held turn ≡ false → (t : Turn) → contains turn_order turns t ≡ true → IsBehind held t
+turns-behind held turns turn top late t there = behind held turn late t (top t there)
+
+-- nor one of one size more, where none of it is
+pub size-behind : (held : Option Turn) (entry : Resource × BTreeSet Turn) (rest : List (Resource × BTreeSet Turn)) → ((t : Turn) → contains turn_order entry.1 t ≡ true → IsBehind held t) → AreBehind held rest → AreBehind held (entry ∷ rest)
+size-behind held entry rest mine others size t there = go (either (same_size size entry.0 && contains turn_order entry.1 t) (has_size rest size t) there)
   where
-    go : ((same_size s size && contains turn_order turns t) ≡ true) ⊎ (has_size rest s t ≡ true) → IsBehind held t
-    go (inl h) = behind held turn late t (top t (and_parts (same_size s size) (contains turn_order turns t) h).1)
-    go (inr h) = others s t h
+    go : ((same_size size entry.0 && contains turn_order entry.1 t) ≡ true) ⊎ (has_size rest size t ≡ true) → IsBehind held t
+    go (inl h) = mine t (and_parts (same_size size entry.0) (contains turn_order entry.1 t) h).1
+    go (inr h) = others size t h
 
 module _ (test : Class → Bool) where
   -- what waits alike of the classes that pass has the same first turn
@@ -237,46 +240,46 @@ module _ (scene : Scene) (leaf : Path) (what : What) where
 
   -- one user more
   pub user-more : (front : List (Name × Group)) (user : Name) (group : Group) (held : Option Turn)
-      → IsFirstTurn (is_placeable scene leaf what) (λ class turn. is_of_users scene front class turn || is_of_sizes scene user group.sizes.entries class turn) held
+      → IsFirstTurn (is_placeable scene leaf what) (λ class turn. is_of_users scene front class turn || is_of_sizes scene user group.sizes.items class turn) held
       → IsFirstTurn (is_placeable scene leaf what) (is_of_users scene (front ++ (user, group) ∷ [])) held
   user-more front user group held first =
-      alike (is_placeable scene leaf what) (λ class turn. is_of_users scene front class turn || is_of_sizes scene user group.sizes.entries class turn) (is_of_users scene (front ++ (user, group) ∷ [])) held
-      (λ class turn may. sym (ap (λ b. same_label class.label scene.label && b) (list_any-append (λ (e : Name × Group). same_name class.user e.0 && has_size e.1.sizes.entries class.size turn) front ((user, group) ∷ []))
-      ∙ dist (same_label class.label scene.label) true (has_user front class.user class.size turn) (same_name class.user user && has_size group.sizes.entries class.size turn))) first
+      alike (is_placeable scene leaf what) (λ class turn. is_of_users scene front class turn || is_of_sizes scene user group.sizes.items class turn) (is_of_users scene (front ++ (user, group) ∷ [])) held
+      (λ class turn may. sym (ap (λ b. same_label class.label scene.label && b) (list_any-append (λ (e : Name × Group). same_name class.user e.0 && has_size e.1.sizes.items class.size turn) front ((user, group) ∷ []))
+      ∙ dist (same_label class.label scene.label) true (has_user front class.user class.size turn) (same_name class.user user && has_size group.sizes.items class.size turn))) first
 
   -- nothing of a user of whom no turn is before the one that is held
-  pub user-behind : (user : Name) (group : Group) (waits : Class → Turn → Bool) (held : Option Turn) → AreBehind held group.sizes.entries
-      → IsFirstTurn (is_placeable scene leaf what) waits held → IsFirstTurn (is_placeable scene leaf what) (λ class turn. waits class turn || is_of_sizes scene user group.sizes.entries class turn) held
+  pub user-behind : (user : Name) (group : Group) (waits : Class → Turn → Bool) (held : Option Turn) → AreBehind held group.sizes.items
+      → IsFirstTurn (is_placeable scene leaf what) waits held → IsFirstTurn (is_placeable scene leaf what) (λ class turn. waits class turn || is_of_sizes scene user group.sizes.items class turn) held
   user-behind user group waits held late first =
-      stays (is_placeable scene leaf what) waits (is_of_sizes scene user group.sizes.entries) held
-      (λ class turn h may. late class.size turn (and_parts (same_name class.user user) (has_size group.sizes.entries class.size turn) (and_parts (same_label class.label scene.label) (same_name class.user user && has_size group.sizes.entries class.size turn) h).1).1) first
+      stays (is_placeable scene leaf what) waits (is_of_sizes scene user group.sizes.items) held
+      (λ class turn h may. late class.size turn (and_parts (same_name class.user user) (has_size group.sizes.items class.size turn) (and_parts (same_label class.label scene.label) (same_name class.user user && has_size group.sizes.items class.size turn) h).1).1) first
 
   -- nor of one whose least may not be placed
   pub user-barred : (user : Name) (group : Group) (waits : Class → Turn → Bool) (held : Option Turn)
-      → ((size : Resource) (turn : Turn) → has_size group.sizes.entries size turn ≡ true → passes scene (item_of_size leaf what user size) ≡ true → ⊥)
-      → IsFirstTurn (is_placeable scene leaf what) waits held → IsFirstTurn (is_placeable scene leaf what) (λ class turn. waits class turn || is_of_sizes scene user group.sizes.entries class turn) held
-  user-barred user group waits held bars first = stays (is_placeable scene leaf what) waits (is_of_sizes scene user group.sizes.entries) held bad first
+      → ((size : Resource) (turn : Turn) → has_size group.sizes.items size turn ≡ true → passes scene (item_of_size leaf what user size) ≡ true → ⊥)
+      → IsFirstTurn (is_placeable scene leaf what) waits held → IsFirstTurn (is_placeable scene leaf what) (λ class turn. waits class turn || is_of_sizes scene user group.sizes.items class turn) held
+  user-barred user group waits held bars first = stays (is_placeable scene leaf what) waits (is_of_sizes scene user group.sizes.items) held bad first
     where
-      bad : (class : Class) (turn : Turn) → is_of_sizes scene user group.sizes.entries class turn ≡ true → is_placeable scene leaf what class ≡ true → IsBehind held turn
+      bad : (class : Class) (turn : Turn) → is_of_sizes scene user group.sizes.items class turn ≡ true → is_placeable scene leaf what class ≡ true → IsBehind held turn
       bad class turn h may =
-          let own = and_parts (same_name class.user user) (has_size group.sizes.entries class.size turn) (and_parts (same_label class.label scene.label) (same_name class.user user && has_size group.sizes.entries class.size turn) h).1 in
+          let own = and_parts (same_name class.user user) (has_size group.sizes.items class.size turn) (and_parts (same_label class.label scene.label) (same_name class.user user && has_size group.sizes.items class.size turn) h).1 in
           let passed = (and_parts (same_label class.label scene.label) (passes scene (item_for leaf what class)) may).1 in
           absurd (bars class.size turn own.1 (sym (λ i. passes scene (item_of_size leaf what (same-name_sym class.user user own.0 i) class.size)) ∙ passed))
 
   -- ---- the part of a partition
 
   -- where no class above its least may be placed nothing may
-  pub none-above : (part : Part) (waits : Class → Turn → Bool) → IsPartOf scene waits part → ((class : Class) (turn : Turn) → has_user part.users.entries class.user class.size turn ≡ true → passes scene (item_for leaf what class) ≡ true → ⊥)
+  pub none-above : (part : Part) (waits : Class → Turn → Bool) → IsPartOf scene waits part → ((class : Class) (turn : Turn) → has_user part.users.items class.user class.size turn ≡ true → passes scene (item_for leaf what class) ≡ true → ⊥)
       → IsFirstTurn (is_placeable scene leaf what) waits None
   none-above part waits of bars turn there =
       let may = and_parts (same_label there.0.label scene.label) (passes scene (item_for leaf what there.0)) there.1 in
       bars there.0 turn (sym (of there.0 turn may.0) ∙ there.2) may.1
 
   -- what waits there is all that may be placed
-  pub whole-part : (part : Part) (waits : Class → Turn → Bool) (first : Option Turn) → IsPartOf scene waits part → IsFirstTurn (is_placeable scene leaf what) (is_of_users scene part.users.entries) first → IsFirstTurn (is_placeable scene leaf what) waits first
+  pub whole-part : (part : Part) (waits : Class → Turn → Bool) (first : Option Turn) → IsPartOf scene waits part → IsFirstTurn (is_placeable scene leaf what) (is_of_users scene part.users.items) first → IsFirstTurn (is_placeable scene leaf what) waits first
   whole-part part waits first of there =
-      alike (is_placeable scene leaf what) (is_of_users scene part.users.entries) waits first
-      (λ class turn may. let label = (and_parts (same_label class.label scene.label) (passes scene (item_for leaf what class)) may).0 in ap (λ b. b && has_user part.users.entries class.user class.size turn) label ∙ sym (of class turn label)) there
+      alike (is_placeable scene leaf what) (is_of_users scene part.users.items) waits first
+      (λ class turn may. let label = (and_parts (same_label class.label scene.label) (passes scene (item_for leaf what class)) may).0 in ap (λ b. b && has_user part.users.items class.user class.size turn) label ∙ sym (of class turn label)) there
 
   -- where there is none nothing waits
   pub no-part : (waits : Class → Turn → Bool) → ((class : Class) (turn : Turn) → same_label class.label scene.label ≡ true → waits class turn ≡ false) → IsFirstTurn (is_placeable scene leaf what) waits None
@@ -291,6 +294,6 @@ module _ (scene : Scene) (parts : List (Label × Part)) (waits : Class → Turn 
   part-by here found class turn label =
       sym (kept class turn) ∙ ap (λ (l : Label). has_part parts l class.user class.size turn) (same-label_path class.label scene.label label) ∙ found class.user class.size turn
 
-  pub part-found : (part : Option (Bor Part)) → ((user : Name) (size : Resource) (turn : Turn) → has_part parts scene.label user size turn ≡ option_map_or (λ (p : Bor Part). has_user p.now.users.entries user size turn) part false) → IsPartFor scene waits part
+  pub part-found : (part : Option (Bor Part)) → ((user : Name) (size : Resource) (turn : Turn) → has_part parts scene.label user size turn ≡ option_map_or (λ (p : Bor Part). has_user p.now.users.items user size turn) part false) → IsPartFor scene waits part
   part-found None found = part-by (λ user size turn. false) found
-  part-found (Some part) found = part-by (has_user part.now.users.entries) found
+  part-found (Some part) found = part-by (has_user part.now.users.items) found

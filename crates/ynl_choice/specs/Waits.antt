@@ -50,7 +50,7 @@ IsFirstTurn test waits first = IsFirst is_turn_later (IsTurnOf test waits) first
 
 -- a part has what waits for the partition, by users and sizes
 abbrev pub IsPartOf : Scene → (Class → Turn → Bool) → Part → Type 0
-IsPartOf scene waits part = (class : Class) (turn : Turn) → same_label class.label scene.label ≡ true → waits class turn ≡ has_user part.users.entries class.user class.size turn
+IsPartOf scene waits part = (class : Class) (turn : Turn) → same_label class.label scene.label ≡ true → waits class turn ≡ has_user part.users.items class.user class.size turn
 
 -- and where there is none, nothing waits for it
 abbrev pub IsPartFor : Scene → (Class → Turn → Bool) → Option (Bor Part) → Type 0

@@ -273,7 +273,7 @@ const MOST: Resource = Resource {
 
 /// An amount that none of what waits for the partition is below.
 fn least_in(scene: &Scene<'_>, waiting: &Rows) -> Resource
-    ensures { (waits : Class → Turn → Bool) → ((class : Class) (turn : Turn) → has waiting.now.classes.entries class turn ≡ waits class turn) → IsLeastOf scene.now waits result }
+    ensures { (waits : Class → Turn → Bool) → ((class : Class) (turn : Turn) → has waiting.now.classes.items class turn ≡ waits class turn) → IsLeastOf scene.now waits result }
 {
     match part_for(scene, waiting) {
         Some(part) => part.least.amount(),

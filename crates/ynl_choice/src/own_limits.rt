@@ -49,7 +49,7 @@ fn are_users_over(
     requires modest { IsModest limits.now }
     ensures { (waits : Class → Turn → Bool) → IsPartOf scene.now waits part.now → OnTrue result (AreOver scene.now row.now.path what.now waits) }
 {
-    for (user, group) in &part.users {
+    for (user, group) in part.users.iter() {
         let least = request_for(row, what, user, &group.least);
         if keeps_own_limits(scene, limits, &least) {
             return false;
@@ -63,7 +63,7 @@ fn is_over(scene: &Scene<'_>, limits: &LeafUse, row: &LeafRow, what: &What, wait
     requires scene { IsScene scene.now }
     requires limits { IsLeafUse scene.now.config.now (state_in scene.now) scene.now.label row.now.path limits.now }
     requires modest { IsModest limits.now }
-    ensures { (waits : Class → Turn → Bool) → ((class : Class) (turn : Turn) → has waiting.now.classes.entries class turn ≡ waits class turn) → OnTrue result (AreOver scene.now row.now.path what.now waits) }
+    ensures { (waits : Class → Turn → Bool) → ((class : Class) (turn : Turn) → has waiting.now.classes.items class turn ≡ waits class turn) → OnTrue result (AreOver scene.now row.now.path what.now waits) }
 {
     match part_for(scene, waiting) {
         Some(part) => are_users_over(scene, limits, row, what, part),

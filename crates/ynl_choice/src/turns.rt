@@ -2,12 +2,13 @@
 //! since those of one class may be placed together, and none of a user for whose least there is no place.
 
 ghost use Rattle.std.specs.Prelude.{◌≡◌, Bool, true, None, ◌||◌, IfSome};
+ghost use Rattle.std.specs.BTreeSet.{contains};
 ghost use Rattle.std.specs.Bool.{OnFalse};
 ghost use Rattle.ynl_resource.specs.declared.amounts.Resource.{Resource};
 ghost use Rattle.ynl_resource.specs.declared.paths.Path.{Path};
 ghost use Rattle.ynl_model.specs.Service.{has_room};
 ghost use Rattle.ynl_model.specs.declared.proposals.What.{What};
-ghost use Rattle.ynl_waiting.specs.Classes.{has_size};
+ghost use Rattle.ynl_waiting.specs.Classes.{turn_order, has_size};
 ghost use Rattle.ynl_waiting.specs.Waiting.{has};
 ghost use Rattle.ynl_waiting.specs.declared.classes.Class.{Class};
 ghost use Rattle.ynl_waiting.specs.declared.classes.Turn.{Turn};
@@ -29,7 +30,7 @@ use ynl_waiting::{Group, Part, Rows, Sizes, Turn, first_of};
 
 /// What waits in a leaf for the partition. Where nothing does nothing may be placed.
 pub fn part_for<'a>(scene: &Scene<'_>, waiting: &'a Rows) -> Option<&'a Part>
-    ensures { (waits : Class → Turn → Bool) → ((class : Class) (turn : Turn) → has waiting.now.classes.entries class turn ≡ waits class turn) → IsPartFor scene.now waits result }
+    ensures { (waits : Class → Turn → Bool) → ((class : Class) (turn : Turn) → has waiting.now.classes.items class turn ≡ waits class turn) → IsPartFor scene.now waits result }
 {
     waiting.part(&scene.label)
 }
@@ -194,15 +195,23 @@ fn add_size(
     }
 }
 
+/// Whether the first of some turns is before the one that is held.
+fn is_first_before(held: &Option<Turn>, turns: &BTreeSet<Turn>) -> bool
+    ensures { OnFalse result ((turn : Turn) → contains turn_order turns.now turn ≡ true → IsBehind held.now turn) }
+{
+    match first_of(turns) {
+        Some(turn) => is_before(held, &turn),
+        None => false,
+    }
+}
+
 /// Whether some turn of a user is before the one that is held. It takes no sum.
 fn is_any_before(held: &Option<Turn>, sizes: &Sizes) -> bool
-    ensures { OnFalse result ((size : Resource) (turn : Turn) → has_size sizes.now.entries size turn ≡ true → IsBehind held.now turn) }
+    ensures { OnFalse result ((size : Resource) (turn : Turn) → has_size sizes.now.items size turn ≡ true → IsBehind held.now turn) }
 {
-    for (_, turns) in sizes {
-        if let Some(turn) = first_of(turns) {
-            if is_before(held, &turn) {
-                return true;
-            }
+    for (_, turns) in sizes.iter() {
+        if is_first_before(held, turns) {
+            return true;
         }
     }
     false
@@ -221,7 +230,7 @@ fn add_group(
 )
     requires scene { IsScene scene.now }
     requires tests { AreTests scene.now row.now.path tests.now }
-    ensures { (waits : Class → Turn → Bool) → IsFirstTurn (is_placeable scene.now row.now.path what.now) waits held.old → IsFirstTurn (is_placeable scene.now row.now.path what.now) (λ class turn. waits class turn || is_of_sizes scene.now user.now group.now.sizes.entries class turn) held.new }
+    ensures { (waits : Class → Turn → Bool) → IsFirstTurn (is_placeable scene.now row.now.path what.now) waits held.old → IsFirstTurn (is_placeable scene.now row.now.path what.now) (λ class turn. waits class turn || is_of_sizes scene.now user.now group.now.sizes.items class turn) held.new }
 {
     if !is_any_before(held, &group.sizes) {
         return;
@@ -231,7 +240,7 @@ fn add_group(
     if !is_allowed(scene, tests, &least, &mut used) {
         return;
     }
-    for (size, turns) in &group.sizes {
+    for (size, turns) in group.sizes.iter() {
         let request = request_for(row, what, user, size);
         add_size(scene, tests, &request, turns, &mut used, held);
     }
@@ -252,7 +261,7 @@ pub fn first_turn(
 {
     let tests = tests_of(scene, limits, row);
     let mut held = None;
-    for (user, group) in &part.users {
+    for (user, group) in part.users.iter() {
         add_group(scene, &tests, row, what, user, group, &mut held);
     }
     held

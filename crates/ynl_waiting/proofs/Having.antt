@@ -1,21 +1,27 @@
 -- Classes, sizes and turns that are the same, and what waits of them where a turn comes or goes.
 use Rattle.std.proofs.Common.{◌≡◌, ℕ, ◌==◌, ◌&&◌, ◌||◌, not, Bool, true, false, cond, List, [], ◌∷◌, length, refl, ap, sym, ◌∙◌, arith}
 use Rattle.std.specs.BTreeMap.{is_at}
+use Rattle.std.specs.BTreeSet.{BTreeSet, contains}
 use Rattle.std.specs.Cmp.{both_tied, unsigned_ties}
 use Rattle.std.specs.Cmp.Lexicographic.{texts_ties}
-use Rattle.std.specs.Ordering.{nat_cmp, ordering_then}
-use Rattle.std.specs.declared.cmp.Ordering.{Ordering}
+use Rattle.std.specs.Ordering.{nat_cmp}
 use Rattle.std.proofs.lemmas.Bool.{and_from, and_parts}
 use Rattle.std.proofs.lemmas.Bool.Decides.{nat_tests}
+use mathlib.Core.Bool.{true≢false}
+use Rattle.ynl_laws.proofs.Amounts.{fits-trans}
 use Rattle.ynl_laws.proofs.Names.{same-name_sym, same-name_self, same-label_path, same-label_self}
+use Rattle.ynl_resource.specs.Amounts.{fits_in}
 use Rattle.ynl_resource.specs.Names.{same_label, same_name}
-use Rattle.ynl_resource.specs.contracts.labels.LabelOrd.TheImpl.{cmp-value as label_cmp}
 use Rattle.ynl_resource.specs.declared.labels.Label.{Label}
 use Rattle.ynl_resource.specs.declared.labels.Label.TheVariants.{Unlabelled, Named}
+use Rattle.ynl_resource.specs.declared.names.Name.{Name}
 use Rattle.ynl_resource.specs.declared.amounts.Resource.{Resource}
 use Rattle.ynl_waiting.specs.declared.classes.Class.{Class}
 use Rattle.ynl_waiting.specs.declared.classes.Turn.{Turn}
-use Rattle.ynl_waiting.specs.Classes.{turn_order, same_turn, same_size, same_class}
+use Rattle.ynl_waiting.specs.Classes.{turn_order, size_order, same_turn, same_size, same_class, has_size, IsBelow}
+use Rattle.ynl_waiting.specs.Parts.{label_order}
+use Rattle.ynl_waiting.specs.Users.{has_user}
+use Rattle.ynl_waiting.specs.declared.groups.Group.{Group}
 
 pub same-number : (m n : ℕ) → (m == n) ≡ true → m ≡ n
 same-number m n h = grind (arith, nat_tests, h)
@@ -46,19 +52,11 @@ class-self a =
 
 -- ---- orders, and their ties
 
--- labels compare as they stand: DEFAULT first, and then by names
-abbrev pub label_order : Label → Label → Ordering
-label_order = label_cmp.it
-
 pub label-ties : (a b : Label) → same_label a b ≡ is_at (label_order a) b
 label-ties Unlabelled Unlabelled = refl
 label-ties Unlabelled (Named n) = refl
 label-ties (Named m) Unlabelled = refl
 label-ties (Named m) (Named n) = texts_ties m n
-
--- sizes compare by memory, and then by virtual cores
-abbrev pub size_order : Resource → Resource → Ordering
-size_order a b = ordering_then (nat_cmp a.memory b.memory) (nat_cmp a.vcores b.vcores)
 
 pub size-ties : (a b : Resource) → same_size a b ≡ is_at (size_order a) b
 size-ties a b = both_tied (a.memory == b.memory) (a.vcores == b.vcores) (nat_cmp a.memory b.memory) (nat_cmp a.vcores b.vcores) (unsigned_ties a.memory b.memory) (unsigned_ties a.vcores b.vcores)
@@ -95,3 +93,29 @@ pub one-gone : (label user size turn d : Bool) → (not (label && (user && (size
 one-gone true true size turn d = refl
 one-gone true false size turn d = refl
 one-gone false user size turn d = refl
+
+-- ---- what is at most all that waits
+
+-- where nothing waits, any amount is
+pub none-waits : (low : Resource) (sizes : List (Resource × BTreeSet Turn)) → sizes ≡ [] → IsBelow low (has_size sizes)
+none-waits low sizes none size turn there = absurd (true≢false (sym there ∙ ap (λ (entries : List (Resource × BTreeSet Turn)). has_size entries size turn) none))
+
+pub nobody-waits : (low : Resource) (users : List (Name × Group)) → users ≡ [] → (user : Name) → IsBelow low (has_user users user)
+nobody-waits low users none user size turn there = absurd (true≢false (sym there ∙ ap (λ (entries : List (Name × Group)). has_user entries user size turn) none))
+
+-- at most an entry's size, and at most what the others have
+pub size-below : (low : Resource) (entry : Resource × BTreeSet Turn) (sizes : List (Resource × BTreeSet Turn)) → fits_in low entry.0 ≡ true → IsBelow low (has_size sizes) → IsBelow low (has_size (entry ∷ sizes))
+size-below low entry sizes fits rest size turn there = go (same_size size entry.0) refl there
+  where
+    go : (b : Bool) → same_size size entry.0 ≡ b → ((b && contains turn_order entry.1 turn) || has_size sizes size turn) ≡ true → fits_in low size ≡ true
+    go true same h = ap (fits_in low) (size-is size entry.0 same) ∙ fits
+    go false same h = rest size turn h
+
+-- at most a user's least, and at most what the others have
+pub group-below : (low : Resource) (entry : Name × Group) (users : List (Name × Group)) (user : Name) → fits_in low entry.1.least ≡ true → IsBelow low (has_user users user) → IsBelow low (has_user (entry ∷ users) user)
+group-below low entry users user fits rest size turn there = go (same_name user entry.0) (has_size entry.1.sizes.items size turn) refl there
+  where
+    go : (b own : Bool) → has_size entry.1.sizes.items size turn ≡ own → ((b && own) || has_user users user size turn) ≡ true → fits_in low size ≡ true
+    go true true is h = fits-trans low entry.1.least size fits (entry.1.none_below size turn is)
+    go true false is h = rest size turn h
+    go false own is h = rest size turn h

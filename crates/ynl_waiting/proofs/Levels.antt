@@ -1,7 +1,5 @@
 -- What waits, at each of three levels: a user's by sizes, a partition's by users, and a leaf's by partitions.
-use Rattle.std.proofs.Common.{◌≡◌, ◌&&◌, ◌||◌, Bool, false, Option, Some, None, Result, Ok, Err, OnOk, refl, ◌∙◌}
-use Rattle.std.specs.Borrow.{Bor}
-use Rattle.std.specs.Option.{option_map_or, option_copied}
+use Rattle.std.proofs.Common.{◌≡◌, ◌&&◌, ◌||◌, Bool, Result, Ok, Err, OnOk, ◌∙◌}
 use Rattle.std.specs.Result.{is_ok}
 use Rattle.std.specs.BTreeSet.{BTreeSet, contains}
 use Rattle.ynl_resource.specs.Names.{same_label, same_name}
@@ -21,15 +19,10 @@ abbrev pub of_turns : BTreeSet Turn → Turn → Bool
 of_turns turns turn = contains turn_order turns turn
 
 abbrev pub of_group : Group → Resource × Turn → Bool
-of_group group at = has_size group.sizes.entries at.0 at.1
+of_group group at = has_size group.sizes.items at.0 at.1
 
 abbrev pub of_part : Part → Name × Resource × Turn → Bool
-of_part part at = has_user part.users.entries at.0 at.1 at.2
-
--- what a partition has that was found
-pub part-now : (o : Option (Bor Part)) (at : Name × Resource × Turn) → option_map_or (λ part. of_part part at) (option_copied o) false ≡ option_map_or (λ (part : Bor Part). of_part part.now at) o false
-part-now None at = refl
-part-now (Some part) at = refl
+of_part part at = has_user part.users.items at.0 at.1 at.2
 
 -- a request that was kept is one more
 pub kept-one : {X Y : Type 0} (r : Result X Y) (class : Class) (turn : Turn) (old new : Class → Turn → Bool)

@@ -1,3 +1,5 @@
 pub mod Having
 mod Keyed
 mod Levels
+pub mod Loops
+mod Places

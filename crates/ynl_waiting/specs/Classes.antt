@@ -22,6 +22,10 @@ is_turn_later a b = is_gt (turn_order a b)
 abbrev pub same_turn : Turn → Turn → Bool
 same_turn a b = (a.number == b.number) && (a.priority == b.priority)
 
+-- sizes compare by memory, and then by virtual cores
+abbrev pub size_order : Resource → Resource → Ordering
+size_order a b = ordering_then (nat_cmp a.memory b.memory) (nat_cmp a.vcores b.vcores)
+
 -- whether two sizes are the same
 abbrev pub same_size : Resource → Resource → Bool
 same_size a b = (a.memory == b.memory) && (a.vcores == b.vcores)

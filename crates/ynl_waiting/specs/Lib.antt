@@ -1,3 +1,5 @@
 pub mod Classes
+pub mod Entries
+pub mod Parts
 pub mod Users
 pub mod Waiting

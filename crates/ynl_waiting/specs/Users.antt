@@ -10,7 +10,7 @@ use Rattle.ynl_waiting.specs.declared.groups.Group.{Group}
 
 -- whether there is a turn among those of a user's size
 abbrev pub has_user : List (Name × Group) → Name → Resource → Turn → Bool
-has_user users user size turn = list_any (λ entry. same_name user entry.0 && has_size entry.1.sizes.entries size turn) users
+has_user users user size turn = list_any (λ entry. same_name user entry.0 && has_size entry.1.sizes.items size turn) users
 
 -- what waits for one partition, and one request more where it was kept
 abbrev pub with_user : Bool → (Name → Resource → Turn → Bool) → Name → Resource → Turn → Name → Resource → Turn → Bool

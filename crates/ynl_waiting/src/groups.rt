@@ -1,20 +1,23 @@
 //! What waits of one user for one partition, by sizes.
 
-ghost use Rattle.std.specs.Prelude.{◌≡◌, false};
+ghost use Rattle.std.proofs.Props.{props};
+ghost use Rattle.std.specs.Prelude.{◌≡◌};
 ghost use Rattle.std.specs.BTreeSet.{contains};
 ghost use Rattle.std.specs.Result.{is_ok};
 ghost use Rattle.ynl_resource.specs.declared.amounts.Resource.{Resource};
-ghost use Rattle.ynl_waiting.specs.Classes.{turn_order, has_size, with_turn, with_size, without_size, IsBelow};
+ghost use Rattle.ynl_waiting.specs.Classes.{turn_order, size_order, has_size, with_turn, with_size, without_size, IsBelow};
+ghost use Rattle.ynl_waiting.specs.Entries.{AreOrdered, LacksEntry};
 ghost use Rattle.ynl_waiting.specs.declared.classes.Turn.{Turn};
 
 use crate::classes::Turn;
+use crate::entries::place_of;
 use crate::least::{greatest, is_least_in_part, lesser};
 use std::alloc::{AllocError, Global};
-use std::collections::{BTreeMap, BTreeSet};
+use std::collections::BTreeSet;
 use ynl_resource::Size;
 
-/// The turns of the requests of each size of which something waits.
-pub type Sizes = BTreeMap<Size, BTreeSet<Turn>>;
+/// The turns of the requests of each size of which something waits, in the order of the sizes.
+pub type Sizes = Vec<(Size, BTreeSet<Turn>)>;
 
 /// What waits of one user for one partition, and a size that each of theirs is above or equal to in memory and
 /// in virtual cores: the least of either.
@@ -22,7 +25,8 @@ pub type Sizes = BTreeMap<Size, BTreeSet<Turn>>;
 pub struct Group {
     pub sizes: Sizes,
     pub least: Size,
-    ghost none_below: { IsBelow least (has_size sizes.entries) },
+    ghost ordered: { AreOrdered size_order sizes.items } by { Prim.hlevel props },
+    ghost none_below: { IsBelow least (has_size sizes.items) },
 }
 
 /// A turn comes to those of a size.
@@ -33,14 +37,22 @@ fn add_turn(turns: &mut BTreeSet<Turn>, turn: &Turn) -> Result<(), AllocError>
     Ok(())
 }
 
-/// A size comes of which nothing waited, and one request of it waits.
-fn put_size(sizes: &mut Sizes, alloc: Global, size: &Size, turn: &Turn) -> Result<(), AllocError>
-    requires { (t : Turn) → has_size sizes.old.entries size.now t ≡ false }
-    ensures { (s : Resource) (t : Turn) → has_size sizes.new.entries s t ≡ with_size (is_ok result) (has_size sizes.old.entries) size.now turn.now s t }
+/// A size comes in its place of which nothing waited, and one request of it waits.
+fn put_size(
+    sizes: &mut Sizes,
+    place: usize,
+    alloc: Global,
+    size: &Size,
+    turn: &Turn,
+) -> Result<(), AllocError>
+    requires ordered { AreOrdered size_order sizes.old.items }
+    requires lacks { LacksEntry size_order sizes.old.items size.now place }
+    ensures ordered { AreOrdered size_order sizes.new.items }
+    ensures sizes { (s : Resource) (t : Turn) → has_size sizes.new.items s t ≡ with_size (is_ok result) (has_size sizes.old.items) size.now turn.now s t }
 {
     let mut turns = BTreeSet::new(alloc);
     add_turn(&mut turns, turn)?;
-    sizes.insert(*size, turns)?;
+    sizes.insert(place, (*size, turns))?;
     Ok(())
 }
 
@@ -51,12 +63,14 @@ fn add_to_sizes(
     size: &Size,
     turn: &Turn,
 ) -> Result<(), AllocError>
-    ensures { (s : Resource) (t : Turn) → has_size sizes.new.entries s t ≡ with_size (is_ok result) (has_size sizes.old.entries) size.now turn.now s t }
+    requires { AreOrdered size_order sizes.old.items }
+    ensures ordered { AreOrdered size_order sizes.new.items }
+    ensures sizes { (s : Resource) (t : Turn) → has_size sizes.new.items s t ≡ with_size (is_ok result) (has_size sizes.old.items) size.now turn.now s t }
 {
-    if let Some(turns) = sizes.get_mut(size) {
-        return add_turn(turns, turn);
+    match place_of(sizes, size) {
+        Ok(place) => add_turn(&mut sizes[place].1, turn),
+        Err(place) => put_size(sizes, place, alloc, size, turn),
     }
-    put_size(sizes, alloc, size, turn)
 }
 
 /// One request more of a user. The least is lowered to it.
@@ -66,7 +80,7 @@ pub fn add_size(
     size: &Size,
     turn: &Turn,
 ) -> Result<(), AllocError>
-    ensures { (s : Resource) (t : Turn) → has_size group.new.sizes.entries s t ≡ with_size (is_ok result) (has_size group.old.sizes.entries) size.now turn.now s t }
+    ensures { (s : Resource) (t : Turn) → has_size group.new.sizes.items s t ≡ with_size (is_ok result) (has_size group.old.sizes.items) size.now turn.now s t }
 {
     group.least = lesser(&group.least, size);
     add_to_sizes(&mut group.sizes, alloc, size, turn)
@@ -74,25 +88,28 @@ pub fn add_size(
 
 /// One request less, and with the last one of a size its entry goes. Whether an entry went.
 fn take_from_sizes(sizes: &mut Sizes, size: &Size, turn: &Turn) -> bool
-    ensures { (s : Resource) (t : Turn) → has_size sizes.new.entries s t ≡ without_size (has_size sizes.old.entries) size.now turn.now s t }
+    requires { AreOrdered size_order sizes.old.items }
+    ensures ordered { AreOrdered size_order sizes.new.items }
+    ensures sizes { (s : Resource) (t : Turn) → has_size sizes.new.items s t ≡ without_size (has_size sizes.old.items) size.now turn.now s t }
 {
-    let Some(turns) = sizes.get_mut(size) else {
+    let Ok(place) = place_of(sizes, size) else {
         return false;
     };
+    let turns = &mut sizes[place].1;
     turns.remove(turn);
     if !turns.is_empty() {
         return false;
     }
-    sizes.remove(size);
+    sizes.remove(place);
     true
 }
 
 /// A size that is at most each of some.
 fn least_of_sizes(sizes: &Sizes) -> Size
-    ensures { IsBelow result (has_size sizes.now.entries) }
+    ensures { IsBelow result (has_size sizes.now.items) }
 {
     let mut least = greatest();
-    for (size, _) in sizes {
+    for (size, _) in sizes.iter() {
         least = lesser(&least, size);
     }
     least
@@ -101,7 +118,7 @@ fn least_of_sizes(sizes: &Sizes) -> Size
 /// One request of a user less. The least is found again only where a size went that may have had it. Whether a
 /// size went.
 pub fn take_size(group: &mut Group, size: &Size, turn: &Turn) -> bool
-    ensures { (s : Resource) (t : Turn) → has_size group.new.sizes.entries s t ≡ without_size (has_size group.old.sizes.entries) size.now turn.now s t }
+    ensures { (s : Resource) (t : Turn) → has_size group.new.sizes.items s t ≡ without_size (has_size group.old.sizes.items) size.now turn.now s t }
 {
     let went = take_from_sizes(&mut group.sizes, size, turn);
     if went && is_least_in_part(&group.least, size) {

@@ -1,5 +1,5 @@
 //! What waits in a leaf: requests by classes, and within a class by turns. The classes stand by partitions, for one
-//! partition by users, and for one user by sizes.
+//! partition by users, and for one user by sizes: each a list in the order of its keys, since most hold one or two.
 #![tactic(auto)]
 
 pub use classes::{Class, Turn, first_of};
@@ -9,6 +9,7 @@ pub use rows::Rows;
 pub use waiting::Waiting;
 
 mod classes;
+mod entries;
 mod groups;
 mod least;
 mod parts;

@@ -6,7 +6,7 @@ ghost use Rattle.ynl_waiting.specs.declared.classes.Class.{Class};
 ghost use Rattle.ynl_waiting.specs.declared.classes.Turn.{Turn};
 
 use crate::classes::{Class, Turn};
-use crate::rows::{Rows, add_to, take_from};
+use crate::rows::Rows;
 use std::alloc::Global;
 
 /// Requests that wait, by their classes and turns: kept while there is memory for them. Where that was
@@ -30,7 +30,7 @@ impl Waiting {
 
     /// What waits by classes, where it is kept.
     pub fn rows(&self) -> Option<&Rows>
-        ensures { IfSome result (λ rows. (waits : Class → Turn → Bool) → Keeps waits self.now → (class : Class) (turn : Turn) → has rows.now.classes.entries class turn ≡ waits class turn) }
+        ensures { IfSome result (λ rows. (waits : Class → Turn → Bool) → Keeps waits self.now → (class : Class) (turn : Turn) → has rows.now.classes.items class turn ≡ waits class turn) }
     {
         match &self.rows {
             Some(rows) => Some(rows),
@@ -46,7 +46,7 @@ impl Waiting {
         let Some(rows) = &mut self.rows else {
             return;
         };
-        match add_to(rows, alloc, class, turn) {
+        match rows.add(alloc, class, turn) {
             Ok(()) => {}
             Err(_) => self.rows = None,
         }
@@ -57,7 +57,7 @@ impl Waiting {
         ensures { (waits : Class → Turn → Bool) → Keeps waits self.old → Keeps (without_one waits class.now turn.now) self.new }
     {
         if let Some(rows) = &mut self.rows {
-            take_from(&mut rows.classes, class, turn);
+            rows.remove(class, turn);
         }
     }
 }

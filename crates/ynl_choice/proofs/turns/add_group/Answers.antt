@@ -1,4 +1,6 @@
-use Rattle.std.proofs.Common.{◌||◌, Bool, List, [], ◌∷◌, ◌++◌, append_assoc, append-nil, sym, ap, subst, ◌∙◌}
+use Rattle.std.proofs.Common.{◌≡◌, ℕ, ◌<◌, ◌≤◌, ◌||◌, Bool, List, length, get_or, rules, sym, ap, subst, ◌∙◌}
+use Rattle.std.proofs.Math.ListN.{take}
+use Rattle.std.proofs.lemmas.List.{take_all}
 use Rattle.std.specs.Bool.{OnFalse}
 use Rattle.std.specs.BTreeSet.{BTreeSet}
 use mathlib.Core.Bool.{true≢false}
@@ -6,6 +8,7 @@ use Rattle.ynl_resource.specs.declared.amounts.Resource.{Resource}
 use Rattle.ynl_model.specs.Service.{Item}
 use Rattle.ynl_waiting.specs.declared.classes.Class.{Class}
 use Rattle.ynl_waiting.specs.declared.classes.Turn.{Turn}
+use Rattle.ynl_waiting.proofs.Loops.{taken}
 use Rattle.ynl_choice.specs.Choosing.{state_in, passes}
 use Rattle.ynl_choice.specs.LeafUses.{IsUseOf}
 use Rattle.ynl_choice.specs.Waits.{is_placeable, is_of_size, is_of_sizes, IsFirstTurn}
@@ -17,7 +20,7 @@ pub returns-then-not-is_any_before : goal.returns-then-not-is_any_before
 returns-then-not-is_any_before c waits first =
     let held = c.args.held.now in
     let group = c.args.group.now in
-    user-behind c.args.scene.now c.args.row.now.path c.args.what.now c.args.user.now group waits held (subst (λ b. OnFalse b (AreBehind held group.sizes.entries)) c.if-not-is_any_before.true c.is_any_before.ensures) first
+    user-behind c.args.scene.now c.args.row.now.path c.args.what.now c.args.user.now group waits held (subst (λ b. OnFalse b (AreBehind held group.sizes.items)) c.if-not-is_any_before.true c.is_any_before.ensures) first
 
 pub returns-then-not-is_allowed : goal.returns-then-not-is_allowed
 returns-then-not-is_allowed c waits first =
@@ -33,8 +36,6 @@ returns-then-not-is_allowed c waits first =
 pub loop-size-init : goal.loop-size-init
 loop-size-init c =
     let scene = c.args.scene.now in (
-      [],
-      c.into_iter-size-iterator.ensures.into_iter_gives.0,
       λ waits first. no-sizes scene c.args.row.now.path c.args.what.now c.args.user.now waits c.args.held.now first,
       subst (λ (item : Item). IsUseOf (state_in scene) scene.label item.leaf item.user c.is_allowed.new.used) c.request_for-least.ensures c.is_allowed.ensures.used,
     )
@@ -45,25 +46,27 @@ loop-size-preserved c =
     let leaf = c.args.row.now.path in
     let what = c.args.what.now in
     let user = c.args.user.now in
-    let size = c.in-Some.size.now in
-    let turns = c.in-Some.turns.now in
-    let front : List (Resource × BTreeSet Turn) = c.loop-size.invariant.0 in
-    let entry : Resource × BTreeSet Turn = (size, turns) in
+    let sizes : List (Resource × BTreeSet Turn) = c.args.group.now.sizes.items in
+    let index : ℕ = c.loop-size.size-index in
+    let entry : Resource × BTreeSet Turn = c.loop-size-item.result in
+    let inside : index < length sizes = search rules in
+    let at : entry ≡ get_or sizes index entry = search rules in
+    let front : List (Resource × BTreeSet Turn) = take index sizes in
     let held = c.loop-size.held in
     let new = c.add_size.new.held in
-    let more : (waits : Class → Turn → Bool) → IsFirstTurn (is_placeable scene leaf what) waits held → IsFirstTurn (is_placeable scene leaf what) (λ class turn. waits class turn || is_of_size scene user size turns class turn) new =
+    let more : (waits : Class → Turn → Bool) → IsFirstTurn (is_placeable scene leaf what) waits held → IsFirstTurn (is_placeable scene leaf what) (λ class turn. waits class turn || is_of_size scene user entry.0 entry.1 class turn) new =
     subst
-    (λ (item : Item). (waits : Class → Turn → Bool) → IsFirstTurn (is_placeable scene item.leaf item.what) waits held → IsFirstTurn (is_placeable scene item.leaf item.what) (λ class turn. waits class turn || is_of_size scene item.user item.size turns class turn) new)
+    (λ (item : Item). (waits : Class → Turn → Bool) → IsFirstTurn (is_placeable scene item.leaf item.what) waits held → IsFirstTurn (is_placeable scene item.leaf item.what) (λ class turn. waits class turn || is_of_size scene item.user item.size entry.1 class turn) new)
     c.request_for-request.ensures c.add_size.ensures.first in (
-      front ++ entry ∷ [],
-      append_assoc front (entry ∷ []) c.next.new.self ∙ ap (λ (rest : List (Resource × BTreeSet Turn)). front ++ rest) (sym c.in-Some.ensures.steps) ∙ c.loop-size.invariant.1,
-      λ waits first. size-more scene leaf what user front size turns waits new (more (λ class turn. waits class turn || is_of_sizes scene user front class turn) (c.loop-size.invariant.2 waits first)),
+      λ waits first. subst (λ (seen : List (Resource × BTreeSet Turn)). IsFirstTurn (is_placeable scene leaf what) (λ class turn. waits class turn || is_of_sizes scene user seen class turn) new) (sym (taken sizes index entry inside at))
+          (size-more scene leaf what user front entry.0 entry.1 waits new (more (λ class turn. waits class turn || is_of_sizes scene user front class turn) (c.loop-size.invariant.0 waits first))),
       subst (λ (item : Item). IsUseOf (state_in scene) scene.label item.leaf item.user c.add_size.new.used) c.request_for-request.ensures c.add_size.ensures.used,
     )
 
 pub returns : goal.returns
 returns c waits first =
     let scene = c.args.scene.now in
-    let front : List (Resource × BTreeSet Turn) = c.loop-size.invariant.0 in
-    let whole = sym (append-nil front) ∙ ap (λ (rest : List (Resource × BTreeSet Turn)). front ++ rest) (sym c.in-None.ensures.steps.0) ∙ c.loop-size.invariant.1 in
-    subst (λ (sizes : List (Resource × BTreeSet Turn)). IsFirstTurn (is_placeable scene c.args.row.now.path c.args.what.now) (λ class turn. waits class turn || is_of_sizes scene c.args.user.now sizes class turn) c.loop-size.held) whole (c.loop-size.invariant.2 waits first)
+    let sizes : List (Resource × BTreeSet Turn) = c.args.group.now.sizes.items in
+    let past : length sizes ≤ c.loop-size.size-index = search rules in
+    subst (λ (seen : List (Resource × BTreeSet Turn)). IsFirstTurn (is_placeable scene c.args.row.now.path c.args.what.now) (λ class turn. waits class turn || is_of_sizes scene c.args.user.now seen class turn) c.loop-size.held) (take_all c.loop-size.size-index sizes past)
+    (c.loop-size.invariant.0 waits first)

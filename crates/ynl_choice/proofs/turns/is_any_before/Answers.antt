@@ -1,10 +1,18 @@
-use Rattle.std.proofs.Common.{sym, subst, ◌∙◌}
-use Rattle.ynl_choice.proofs.Waits.{AreBehind, first-behind}
+use Rattle.std.proofs.Common.{◌≡◌, ℕ, ◌+◌, ◌<◌, List, length, get_or, rules, sym, subst}
+use Rattle.std.proofs.Math.ListN.{drop}
+use Rattle.std.specs.BTreeSet.{BTreeSet}
+use Rattle.ynl_resource.specs.declared.amounts.Resource.{Resource}
+use Rattle.ynl_waiting.specs.declared.classes.Turn.{Turn}
+use Rattle.ynl_waiting.proofs.Loops.{dropped}
+use Rattle.ynl_choice.proofs.Waits.{AreBehind, size-behind}
 use Rattle.ynl_choice.proofs.turns.is_any_before.Goals as goal
 
-pub loop-turns-preserved-else-is_before : goal.loop-turns-preserved-else-is_before
-loop-turns-preserved-else-is_before c others =
+pub loop-turns-preserved : goal.loop-turns-preserved
+loop-turns-preserved c others =
     let held = c.args.held.now in
-    let top = c.in-Some-first_of.ensures.1 in
-    c.loop-turns.invariant
-    (subst (AreBehind held) (sym c.in-Some.ensures.steps) (first-behind held c.in-Some.field-0-0.now c.in-Some.turns.now c.next.new.self c.in-Some-first_of.turn top (sym c.is_before.ensures ∙ c.if-is_before.false) others))
+    let sizes : List (Resource × BTreeSet Turn) = c.args.sizes.now.items in
+    let index : ℕ = c.loop-turns.turns-index in
+    let entry : Resource × BTreeSet Turn = c.loop-turns-item.result in
+    let inside : index < length sizes = search rules in
+    let at : entry ≡ get_or sizes index entry = search rules in
+    c.loop-turns.invariant (subst (AreBehind held) (sym (dropped sizes index entry inside at)) (size-behind held entry (drop (index + 1) sizes) (search rules) others))

@@ -1,28 +1,22 @@
-use Rattle.std.proofs.Common.{◌&&◌, ◌||◌, Some, rules, sym, ap, ◌∙◌}
-use Rattle.std.specs.BTreeMap.{BTreeMap}
+use Rattle.std.proofs.Common.{◌&&◌, List, subst}
 use Rattle.std.specs.BTreeSet.{BTreeSet}
 use Rattle.std.specs.Result.{is_ok}
 use Rattle.ynl_resource.specs.declared.amounts.Resource.{Resource}
-use Rattle.ynl_waiting.specs.Classes.{same_turn, same_size, has_size}
+use Rattle.ynl_waiting.specs.Classes.{size_order, same_turn, same_size}
+use Rattle.ynl_waiting.specs.Entries.{HasEntry}
 use Rattle.ynl_waiting.specs.declared.classes.Turn.{Turn}
-use Rattle.ynl_waiting.proofs.Having.{size_order, size-ties, size-is}
-use Rattle.ynl_waiting.proofs.Keyed.{has-none, has-some, one-more}
+use Rattle.ynl_waiting.proofs.Having.{size-ties, size-is}
+use Rattle.ynl_waiting.proofs.Keyed.{more-set, order-set}
 use Rattle.ynl_waiting.proofs.Levels.{of_turns}
 use Rattle.ynl_waiting.proofs.groups.add_to_sizes.Goals as goal
 
-pub returns-in-Some : goal.returns-in-Some
-returns-in-Some c =
-    let old = c.args.sizes.now in
-    let size = c.args.size.now in
-    let turn = c.args.turn.now in
-    let turns : BTreeSet Turn = c.add_turn.new.turns in
-    let written = c.get_mut.follows.holds turns in
-    one-more size_order same_size size-ties size-is of_turns old size c.in-Some.ensures.ordered (c.get_mut.follows.lender turns) (Some turns) written.4 (written.3 (search rules)).0
-    (λ t. same_turn turn t && is_ok c.add_turn.result)
-    (λ t. c.add_turn.ensures t ∙ ap (λ b. (same_turn turn t && is_ok c.add_turn.result) || b) (has-some size_order same_size size-ties size-is of_turns old size c.in-Some.ensures.ordered c.in-Some.turns.now (sym c.in-Some.ensures.value) t))
+pub returns-in-Ok-clause-ordered : goal.returns-in-Ok-clause-ordered
+returns-in-Ok-clause-ordered c = order-set size_order c.args.sizes.now.items c.in-Ok.place c.index_mut.result.now c.add_turn.new.turns c.index_mut.ensures.value c.requires
 
-pub put_size-requires : goal.put_size-requires
-put_size-requires c t =
+pub returns-in-Ok-clause-sizes : goal.returns-in-Ok-clause-sizes
+returns-in-Ok-clause-sizes c =
     let size = c.args.size.now in
-    ap (λ (m : BTreeMap Resource (BTreeSet Turn)). has_size m.entries size t) c.get_mut.follows.holds-at-none
-    ∙ has-none size_order same_size size-ties size-is of_turns c.args.sizes.now size c.in_default.ensures.ordered (sym c.in_default.ensures.value) t
+    let place = c.in-Ok.place in
+    let has = subst (λ (sizes : List (Resource × BTreeSet Turn)). HasEntry size_order sizes size place) c.deref.ensures.value c.in-Ok.ensures.found in
+    more-set size_order same_size size-ties size-is of_turns c.args.sizes.now.items c.requires size place c.index_mut.result.now has c.index_mut.ensures.value c.add_turn.new.turns
+    (λ t. same_turn c.args.turn.now t && is_ok c.add_turn.result) c.add_turn.ensures

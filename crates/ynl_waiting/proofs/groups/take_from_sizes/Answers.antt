@@ -1,41 +1,52 @@
-use Rattle.std.proofs.Common.{◌≡◌, ◌&&◌, not, List, [], cond, None, Some, rules, sym, ap, subst, ◌∙◌}
-use Rattle.std.specs.BTreeMap.{BTreeMap, is_at, get}
+use Rattle.std.proofs.Common.{◌≡◌, List, [], rules, sym, ap, subst, ◌∙◌}
+use Rattle.std.specs.BTreeMap.{is_at}
 use Rattle.std.specs.BTreeSet.{BTreeSet}
 use Rattle.std.specs.List.{list_any}
 use Rattle.ynl_resource.specs.declared.amounts.Resource.{Resource}
-use Rattle.ynl_waiting.specs.Classes.{turn_order, same_turn, same_size, has_size, without_size}
+use Rattle.ynl_waiting.specs.Classes.{turn_order, size_order, same_turn, same_size, has_size}
+use Rattle.ynl_waiting.specs.Entries.{AreOrdered, HasEntry, LacksEntry}
 use Rattle.ynl_waiting.specs.declared.classes.Turn.{Turn}
-use Rattle.ynl_waiting.proofs.Having.{size_order, size-ties, size-is, turn-less, no-entries}
-use Rattle.ynl_waiting.proofs.Keyed.{has-some, none-less, one-less, gone}
+use Rattle.ynl_waiting.proofs.Having.{size-ties, size-is, turn-less, no-entries}
+use Rattle.ynl_waiting.proofs.Keyed.{less-removed, less-set, none-less, order-removed, order-set}
 use Rattle.ynl_waiting.proofs.Levels.{of_turns}
 use Rattle.ynl_waiting.proofs.groups.take_from_sizes.Goals as goal
 
-pub returns-in_default : goal.returns-in_default
-returns-in_default c =
-    let old = c.args.sizes.now in
-    subst (λ (m : BTreeMap Resource (BTreeSet Turn)). (s : Resource) (t : Turn) → has_size m.entries s t ≡ without_size (has_size old.entries) c.args.size.now c.args.turn.now s t) (sym c.get_mut.follows.holds-at-none)
-    (none-less size_order same_size size-ties size-is of_turns old c.args.size.now c.in_default.ensures.ordered (same_turn c.args.turn.now) (sym c.in_default.ensures.value))
+pub returns-in_default-clause-sizes : goal.returns-in_default-clause-sizes
+returns-in_default-clause-sizes c =
+    let size = c.args.size.now in
+    let place = c.in_default.field-0 in
+    let lacks = subst (λ (sizes : List (Resource × BTreeSet Turn)). LacksEntry size_order sizes size place) c.deref.ensures.value c.in_default.ensures.lacks in
+    none-less size_order same_size size-ties size-is of_turns c.args.sizes.now.items size place lacks (same_turn c.args.turn.now)
 
-pub returns-then-not-is_empty : goal.returns-then-not-is_empty
-returns-then-not-is_empty c =
-    let old = c.args.sizes.now in
+pub returns-then-not-is_empty-clause-ordered : goal.returns-then-not-is_empty-clause-ordered
+returns-then-not-is_empty-clause-ordered c = order-set size_order c.args.sizes.now.items c.in-Ok.place c.index_mut.result.now c.remove.new.self c.index_mut.ensures.value c.requires
+
+pub returns-then-not-is_empty-clause-sizes : goal.returns-then-not-is_empty-clause-sizes
+returns-then-not-is_empty-clause-sizes c =
     let size = c.args.size.now in
     let turn = c.args.turn.now in
-    let left : BTreeSet Turn = c.remove.new.self in
-    let written = c.get_mut.follows.holds left in
-    one-less size_order same_size size-ties size-is of_turns old size c.in-Some.ensures.ordered (c.get_mut.follows.lender left) (Some left) written.4 (written.3 (search rules)).0 (same_turn turn)
-    (λ t. c.remove.ensures.updates.0 t ∙ turn-less turn t (of_turns c.in-Some.turns.now t)
-    ∙ ap (λ b. not (same_turn turn t) && b) (has-some size_order same_size size-ties size-is of_turns old size c.in-Some.ensures.ordered c.in-Some.turns.now (sym c.in-Some.ensures.value) t))
+    let place = c.in-Ok.place in
+    let entry : Resource × BTreeSet Turn = c.index_mut.result.now in
+    let has = subst (λ (sizes : List (Resource × BTreeSet Turn)). HasEntry size_order sizes size place) c.deref.ensures.value c.in-Ok.ensures.found in
+    less-set size_order same_size size-ties size-is of_turns c.args.sizes.now.items c.requires size place entry has c.index_mut.ensures.value c.remove.new.self (same_turn turn)
+    (λ t. c.remove.ensures.updates.0 t ∙ turn-less turn t (of_turns entry.1 t))
 
-pub returns : goal.returns
-returns c =
-    let old = c.args.sizes.now in
+pub returns-clause-ordered : goal.returns-clause-ordered
+returns-clause-ordered c =
+    let items : List (Resource × BTreeSet Turn) = c.args.sizes.now.items in
+    let entry : Resource × BTreeSet Turn = c.index_mut.result.now in
+    subst (λ (sizes : List (Resource × BTreeSet Turn)). AreOrdered size_order sizes) (sym c.remove-2.ensures.items)
+    (order-removed size_order _ c.in-Ok.place (order-set size_order items c.in-Ok.place entry c.remove.new.self c.index_mut.ensures.value c.requires))
+
+pub returns-clause-sizes : goal.returns-clause-sizes
+returns-clause-sizes c s t =
     let size = c.args.size.now in
     let turn = c.args.turn.now in
+    let place = c.in-Ok.place in
+    let entry : Resource × BTreeSet Turn = c.index_mut.result.now in
     let left : BTreeSet Turn = c.remove.new.self in
-    let written = c.get_mut.follows.holds left in
     let empty : left.keys ≡ [] = no-entries left.keys (c.is_empty.ensures.0 (search rules)) in
-    one-less size_order same_size size-ties size-is of_turns old size c.in-Some.ensures.ordered c.remove-2.new.self None c.remove-2.ensures.ordered
-    (λ q. c.remove-2.ensures.updates.0 q ∙ ap (λ o. cond (is_at (size_order size) q) None o) ((written.3 (search rules)).0 q) ∙ gone (is_at (size_order size) q) (Some left) (get size_order old q)) (same_turn turn)
-    (λ t. sym (ap (λ (ks : List Turn). list_any (is_at (turn_order t)) ks) empty) ∙ c.remove.ensures.updates.0 t ∙ turn-less turn t (of_turns c.in-Some.turns.now t)
-    ∙ ap (λ b. not (same_turn turn t) && b) (has-some size_order same_size size-ties size-is of_turns old size c.in-Some.ensures.ordered c.in-Some.turns.now (sym c.in-Some.ensures.value) t))
+    let has = subst (λ (sizes : List (Resource × BTreeSet Turn)). HasEntry size_order sizes size place) c.deref.ensures.value c.in-Ok.ensures.found in
+    ap (λ (sizes : List (Resource × BTreeSet Turn)). has_size sizes s t) c.remove-2.ensures.items
+    ∙ less-removed size_order same_size size-ties size-is of_turns c.args.sizes.now.items c.requires size place entry has c.index_mut.ensures.value left (same_turn turn)
+    (λ t. c.remove.ensures.updates.0 t ∙ turn-less turn t (of_turns entry.1 t)) (λ t. ap (λ (ks : List Turn). list_any (is_at (turn_order t)) ks) empty) s t
