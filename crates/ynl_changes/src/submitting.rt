@@ -70,7 +70,7 @@ fn submit_on(row: &mut LeafRow, new: &Submission, alloc: Global)
             asks: Vec::new(alloc),
         };
         enqueue_master(&app, &mut row.masters);
-        row.known.add(&new.name, place);
+        row.known.add(&row.names, &new.name);
         count_user(&mut row.parts, &new.home, &new.user);
         row.names.push_reserved(new.name);
         row.apps.push_reserved(app);

@@ -1,10 +1,10 @@
 //! Names that are found in few steps.
 
-ghost use Rattle.std.specs.Prelude.{◌≡◌, List, [], ◌∷◌, ◌++◌, length};
+ghost use Rattle.std.specs.Prelude.{◌≡◌, List, [], ◌∷◌, ◌++◌, length, IfSome};
 ghost use Rattle.std.specs.List.{list_any};
 ghost use Rattle.ynl_resource.specs.Names.{same_name};
 ghost use Rattle.ynl_resource.specs.declared.names.Name.{Name};
-ghost use Rattle.ynl_tables.specs.Known.{IsKnown, IsSpot};
+ghost use Rattle.ynl_tables.specs.Known.{ArePlaced, IsKnown, IsSpot};
 
 use std::alloc::Global;
 use std::collections::BTreeMap;
@@ -18,11 +18,38 @@ pub enum Spot {
     Unknown,
 }
 
-/// The places of the names of a list in which none stands twice: kept while there is memory for them.
-/// Where that was refused nothing is kept, and the list has to be searched.
+/// How many names are few: to go through them takes no longer than to look them up in a map.
+const FEW: usize = 8;
+
+/// The places of the names of a list in which none stands twice. Of few names none are kept. With the first that
+/// is one too many they are found for all, and kept from then on while there is memory for them. Where nothing is
+/// kept the list has to be searched. To look up a name takes no memory.
 #[derive(Drop)]
 pub struct Known {
+    alloc: Global,
     places: Option<BTreeMap<Name, usize>>,
+}
+
+/// One name more comes at its place, after so many others. None where memory is refused, and where the name is there
+/// already, since then it would stand twice.
+fn put(places: &mut BTreeMap<Name, usize>, name: &Name, place: usize) -> Option<()>
+    ensures { IfSome result (λ _. (listed : List Name) → length listed ≡ place → ArePlaced listed places.old → ArePlaced (listed ++ name.now ∷ []) places.new) }
+{
+    match places.insert(*name, place) {
+        Ok(None) => Some(()),
+        Ok(Some(_)) | Err(_) => None,
+    }
+}
+
+/// The places of all names of a list. None where memory is refused, and where a name stands twice.
+fn find_places(alloc: Global, listed: &[Name]) -> Option<BTreeMap<Name, usize>>
+    ensures { IfSome result (ArePlaced listed.now) }
+{
+    let mut places = BTreeMap::new(alloc);
+    for (place, name) in listed.iter().enumerate() {
+        put(&mut places, name, place)?;
+    }
+    Some(places)
 }
 
 impl Known {
@@ -31,7 +58,8 @@ impl Known {
         ensures { IsKnown result [] }
     {
         Known {
-            places: Some(BTreeMap::new(alloc)),
+            alloc,
+            places: None,
         }
     }
 
@@ -46,7 +74,7 @@ impl Known {
         }
     }
 
-    /// Where a name stands in the list.
+    /// Where a name stands in the list. Of few names that is not known.
     pub fn spot(&self, name: &Name) -> Spot
         ensures { (listed : List Name) → IsKnown self.now listed → IsSpot (same_name name.now) listed result }
     {
@@ -59,17 +87,19 @@ impl Known {
         }
     }
 
-    /// One name more, after so many others. Where it is there already the places are given up, since then
-    /// it would stand twice.
-    pub fn add(&mut self, name: &Name, place: usize)
-        ensures { (listed : List Name) → length listed ≡ place → IsKnown self.old listed → IsKnown self.new (listed ++ name.now ∷ []) }
+    /// One name more, after those that are listed. With the first that is one too many to be few, the places of
+    /// all are found. Where the name is there already the places are given up, since then it would stand twice.
+    pub fn add(&mut self, listed: &[Name], name: &Name)
+        ensures { IsKnown self.old listed.now → IsKnown self.new (listed.now ++ name.now ∷ []) }
     {
+        if listed.len() == FEW {
+            self.places = find_places(self.alloc, listed);
+        }
         let Some(places) = &mut self.places else {
             return;
         };
-        match places.insert(*name, place) {
-            Ok(None) => {}
-            Ok(Some(_)) | Err(_) => self.places = None,
+        if put(places, name, listed.len()).is_none() {
+            self.places = None;
         }
     }
 }

@@ -51,6 +51,7 @@ invariant_of-row c =
     let names = c.push_reserved.ensures.items in
     let pushed = sym c.push_reserved-then-eq.ensures.items in
     let known : List Name → Type 0 = λ xs. IsKnown c.add.new.self xs in
+    let more_known : IsKnown row.known row.names.items → known (row.names.items ++ new.name ∷ []) = subst (λ (xs : List Name). IsKnown row.known xs → known (xs ++ new.name ∷ [])) c.deref.ensures.value c.add.ensures in
     let counted : c.len-place.result ≡ length row.names.items = c.len-place.ensures ∙ row.names.ok.0 in
     let below : are_below c.len-place.result apps ≡ true = subst (λ (n : ℕ). are_below n apps ≡ true) (sym counted) row.numbered in
     let longer : length c.push_reserved.new.self.items ≡ c.len-place.result + 1 = ap length names ∙ length-append row.names.items (new.name ∷ []) ∙ ap (λ (n : ℕ). n + 1) (sym counted) in
@@ -58,7 +59,7 @@ invariant_of-row c =
     let counted_so = subst (AreCountedParts row.parts.items) (sym (append-nil row.apps.items)) row.all_counted in
     record {
       of_tenant = row.of_tenant;
-      all_known = subst known (sym names) (c.add.ensures row.names.items (sym counted) row.all_known);
+      all_known = subst known (sym names) (more_known row.all_known);
       apart = subst (λ (xs : List App). list_all is_apart xs ≡ true) pushed (apart-last apps app row.apart c.new.ensures.items);
       in_turn = subst (λ (xs : List App). are_in_turn xs ≡ true) pushed (rise_last number_of apps app row.in_turn below);
       numbered = subst (λ (xs : List App). are_below (length c.push_reserved.new.self.items) xs ≡ true) pushed (below-last apps app c.len-place.result (length c.push_reserved.new.self.items) refl longer below);
