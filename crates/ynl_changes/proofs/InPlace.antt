@@ -1,5 +1,5 @@
 -- Rows changed in place, one after another.
-use Rattle.std.proofs.Common.{◌≡◌, ℕ, zero, suc, ◌+◌, ◌<◌, ◌≤◌, List, [], ◌∷◌, ◌++◌, length, get_or, take, drop, map, refl, sym, ap, subst, ◌∙◌, arith, add-one, append-nil, Bool, true, false, cond}
+use Rattle.std.proofs.Common.{◌≡◌, ℕ, zero, suc, ◌+◌, ◌<◌, ◌≤◌, List, [], ◌∷◌, ◌++◌, length, get_or, take, take-suc, drop, map, refl, sym, ap, subst, ◌∙◌, arith, add-one, append-nil, Bool, true, false, cond}
 use Rattle.ynl_resource.specs.Tables.{update}
 use Rattle.ynl_resource.specs.declared.labels.Label.{Label}
 use Rattle.ynl_tables.specs.declared.rows.PartitionRow.{PartitionRow}
@@ -48,30 +48,35 @@ changed_one m g xs ys i h x inside e same =
     subst (λ zs. IsChanged m g xs zs (i + 1)) (ap (set ys i) e ∙ set-get_or ys i x) (changed_step m g xs ys i h x x inside e (sym same ∙ ap (λ z. g (m z)) e))
 
 -- and so do all up to a place
-pub changed_passed : {X Y : Type 0} (m : X → Y) (g : Y → Y) (xs ys : List X) (d : X) (more from to : ℕ) → from + more ≡ to → to ≤ length xs → ((k : ℕ) → from ≤ k → k < to → g (m (get_or xs k d)) ≡ m (get_or xs k d)) → IsChanged m g xs ys from → IsChanged m g xs ys to
-changed_passed m g xs ys d zero from to sum inside same h = subst (IsChanged m g xs ys) (omega (arith, sum)) h
-changed_passed {X} m g xs ys d (suc more) from to sum inside same h =
+pub changed_passed : {X Y : Type 0} (m : X → Y) (g : Y → Y) (xs ys : List X) (more from to : ℕ) → from + more ≡ to → to ≤ length xs → ((k : ℕ) (d : X) → from ≤ k → k < to → g (m (get_or xs k d)) ≡ m (get_or xs k d)) → IsChanged m g xs ys from → IsChanged m g xs ys to
+changed_passed m g xs ys zero from to sum inside same h = subst (IsChanged m g xs ys) (omega (arith, sum)) h
+changed_passed m g [] ys (suc more) from to sum inside same h = absurd (omega (arith, sum, inside))
+changed_passed {X} m g (d ∷ xs) ys (suc more) from to sum inside same h =
     let before : from < to = omega (arith, sum) in
-    let here : from < length xs = omega (arith, before, inside) in
+    let here : from < length (d ∷ xs) = omega (arith, before, inside) in
     let x : X = get_or ys from d in
     let read : x ≡ get_or ys from x = get_or_default ys from d x (omega (arith, here, h.len)) in
-    let is : x ≡ get_or xs from d = next_is m g xs ys from h x read ∙ get_or_default xs from x d here in
-    let stays : g (m x) ≡ m x = ap (λ z. g (m z)) is ∙ same from (omega arith) before ∙ ap m (sym is) in
-    changed_passed m g xs ys d more (suc from) to (omega (arith, sum)) inside (λ k above below. same k (omega (arith, above)) below) (subst (IsChanged m g xs ys) (add-one from) (changed_one m g xs ys from h x here read stays))
+    let is : x ≡ get_or (d ∷ xs) from d = next_is m g (d ∷ xs) ys from h x read ∙ get_or_default (d ∷ xs) from x d here in
+    let stays : g (m x) ≡ m x = ap (λ z. g (m z)) is ∙ same from d (omega arith) before ∙ ap m (sym is) in
+    changed_passed m g (d ∷ xs) ys more (suc from) to (omega (arith, sum)) inside (λ k z above below. same k z (omega (arith, above)) below)
+    (subst (IsChanged m g (d ∷ xs) ys) (add-one from) (changed_one m g (d ∷ xs) ys from h x here read stays))
 
 -- nothing is changed before the first
 pub changed_none : {X Y : Type 0} (m : X → Y) (g : Y → Y) (xs : List X) → IsChanged m g xs xs 0
 changed_none m g xs = record { len = refl; done = refl; rest = refl }
 
--- nor up to a place where all mean what is wanted
-pub changed_first : {X Y : Type 0} (m : X → Y) (g : Y → Y) (xs : List X) (to : ℕ) → to ≤ length xs → ((k : ℕ) (d : X) → k < to → g (m (get_or xs k d)) ≡ m (get_or xs k d)) → IsChanged m g xs xs to
-changed_first m g xs zero inside same = changed_none m g xs
-changed_first m g [] (suc to) inside same = absurd (omega (arith, inside))
-changed_first m g (x ∷ xs) (suc to) inside same = changed_passed m g (x ∷ xs) (x ∷ xs) x (suc to) 0 (suc to) (omega arith) inside (λ k above below. same k x below) (changed_none m g (x ∷ xs))
-
 -- what holds of each of the first rows
 pub each_step : {X : Type 0} (P : X → Type 0) (ys : List X) (i : ℕ) (y : X) → i < length ys → AllByRecursion P (take i ys) → P y → AllByRecursion P (take (i + 1) (set ys i y))
 each_step P ys i y inside h p = subst (AllByRecursion P) (sym (take_more_set ys i y inside)) (Each-append P (take i ys) (y ∷ []) h (p, tt))
+
+-- and of those after them, up to a place
+pub each_passed : {X : Type 0} (P : X → Type 0) (xs : List X) (more from to : ℕ) → from + more ≡ to → to ≤ length xs → ((k : ℕ) (d : X) → from ≤ k → k < to → P (get_or xs k d)) → AllByRecursion P (take from xs) → AllByRecursion P (take to xs)
+each_passed P xs zero from to sum inside each h = subst (λ n. AllByRecursion P (take n xs)) (omega (arith, sum)) h
+each_passed P [] (suc more) from to sum inside each h = absurd (omega (arith, sum, inside))
+each_passed P (d ∷ xs) (suc more) from to sum inside each h =
+    let before : from < to = omega (arith, sum) in
+    each_passed P (d ∷ xs) more (suc from) to (omega (arith, sum)) inside (λ k z above below. each k z (omega (arith, above)) below)
+    (subst (AllByRecursion P) (sym (take-suc (d ∷ xs) from d (omega (arith, before, inside)))) (Each-append P (take from (d ∷ xs)) (get_or (d ∷ xs) from d ∷ []) h (each from d (omega arith) before, tt)))
 
 -- one of them, and those after
 pub each_at : {X : Type 0} (P : X → Type 0) (xs : List X) (i : ℕ) (x : X) → i < length xs → x ≡ get_or xs i x → AllByRecursion P xs → P x

@@ -1,5 +1,6 @@
 pub mod InPlace
 pub mod Along
+pub mod Beside
 pub mod ListedRows
 pub mod ByUser
 pub mod Rest

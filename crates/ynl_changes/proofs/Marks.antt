@@ -60,6 +60,10 @@ use Rattle.ynl_changes.proofs.Summing.{map_each}
 pub kept_set : {X : Type 0} (P : X → Type 0) (ys : List X) (i : ℕ) (x y : X) → i < length ys → AllByRecursion P ys → (P (get_or ys i x) → P y) → AllByRecursion P (set ys i y)
 kept_set P ys i x y inside h keeps = each_set P ys i y h (keeps (all-of P ys h i x inside))
 
+-- and so where the one that it stands for is known
+pub kept_at : {X : Type 0} (P : X → Type 0) (ys : List X) (i : ℕ) (x y : X) → i < length ys → x ≡ get_or ys i x → (P x → P y) → AllByRecursion P ys → AllByRecursion P (set ys i y)
+kept_at P ys i x y inside read keeps h = kept_set P ys i x y inside h (λ was. keeps (subst P (sym read) was))
+
 -- ---- applications with their marks
 
 abbrev IsNoted : State → Noted → Type 0

@@ -7,6 +7,7 @@ ghost use Rattle.ynl_resource.specs.Names.{same_name};
 ghost use Rattle.ynl_resource.specs.Tables.{without, put};
 ghost use Rattle.ynl_model.specs.Applications.{in_leaf, with_app, is_ask_of, set_ask};
 ghost use Rattle.ynl_tables.specs.Known.{IsSpot};
+ghost use Rattle.ynl_tables.specs.Numbers.{AreNumbered};
 ghost use Rattle.ynl_tables.specs.Tables.{app_of, leaf_of_row, leaves_of};
 ghost use Rattle.ynl_changes.specs.Marking.{KeepsMark, KeepsMarksAmong, KeepsMarksIn, KeepsMarks};
 ghost use Rattle.ynl_changes.specs.Asking.{asked_at, asked_in, changed_asks, HasAskCapacity, HasAskCapacityIn};
@@ -17,7 +18,7 @@ use crate::queueing::{Which, enqueue_asks, withdraw_asks};
 use std::alloc::AllocError;
 use ynl_model::AskRow;
 use ynl_resource::{Label, Name, Path};
-use ynl_tables::{App, LeafRow, Spot, is_ask_of, spot_of};
+use ynl_tables::{App, LeafRow, QueueNumbers, Spot, is_ask_of, spot_of};
 use ynl_waiting::Waiting;
 
 fn index_of_ask(asks: &[AskRow], label: &Label, priority: u32) -> usize
@@ -133,14 +134,23 @@ fn ask_in(row: &mut LeafRow, leaf: &Path, name: &Name, ask: &AskRow)
     }
 }
 
-/// An application of a leaf asks.
-pub fn ask_for(rows: &mut Vec<LeafRow>, leaf: &Path, name: &Name, ask: &AskRow)
-    requires { AllByRecursion (HasAskCapacityIn leaf.now name.now ask.now.count) rows.old.items }
+/// An application of a leaf asks. Only the leaves of its tenant are looked at.
+pub fn ask_for(
+    rows: &mut Vec<LeafRow>,
+    numbers: &QueueNumbers,
+    leaf: &Path,
+    name: &Name,
+    ask: &AskRow,
+)
+    requires numbered { AreNumbered numbers.now (leaves_of rows.old.items) }
+    requires capacity { AllByRecursion (HasAskCapacityIn leaf.now name.now ask.now.count) rows.old.items }
     ensures marks { KeepsMarks rows.old.items rows.new.items }
     ensures meaning { leaves_of rows.new.items ≡ in_leaf leaf.now (with_app name.now (set_ask ask.now)) (leaves_of rows.old.items) }
 {
-    for row in rows.iter_mut() {
-        ask_in(row, leaf, name, ask);
+    let mut place = numbers.first_beside(leaf);
+    while place < rows.len() {
+        ask_in(&mut rows[place], leaf, name, ask);
+        place = numbers.next_beside(place, leaf);
     }
 }
 
@@ -200,20 +210,25 @@ fn reserve_in(row: &mut LeafRow, leaf: &Path, name: &Name, count: u32) -> Result
     Ok(())
 }
 
-/// Capacity for one more ask of an application of a leaf, where the count is above 0.
+/// Capacity for one more ask of an application of a leaf, where the count is above 0. Only the leaves of its
+/// tenant are looked at.
 pub fn reserve_ask(
     rows: &mut Vec<LeafRow>,
+    numbers: &QueueNumbers,
     leaf: &Path,
     name: &Name,
     count: u32,
 ) -> Result<(), AllocError>
+    requires { AreNumbered numbers.now (leaves_of rows.old.items) }
     ensures meaning { leaves_of rows.new.items ≡ leaves_of rows.old.items }
     ensures marks { KeepsMarks rows.old.items rows.new.items }
     ensures capacity { OnOk result (AllByRecursion (HasAskCapacityIn leaf.now name.now count) rows.new.items) }
     ensures sure { count ≡ 0 → IsOk result }
 {
-    for row in rows.iter_mut() {
-        reserve_in(row, leaf, name, count)?;
+    let mut place = numbers.first_beside(leaf);
+    while place < rows.len() {
+        reserve_in(&mut rows[place], leaf, name, count)?;
+        place = numbers.next_beside(place, leaf);
     }
     Ok(())
 }

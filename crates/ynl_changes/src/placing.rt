@@ -1,7 +1,7 @@
 //! Placing a request on a node.
 
 ghost use Rattle.std.specs.Prelude.{◌≡◌, ◌≤◌, ◌+◌, ◌-◌, ◌++◌, ◌∷◌, [], ℕ, true, ◌==◌, ◌&&◌, not, nat_lt, map, vec_len, vec_capacity, if◌then◌else◌, OnOk};
-ghost use Rattle.ynl_resource.specs.Names.{same_label, same_name, tenant_of};
+ghost use Rattle.ynl_resource.specs.Names.{same_label, same_name};
 ghost use Rattle.ynl_resource.specs.declared.paths.Path.{Path};
 ghost use Rattle.ynl_resource.specs.Tables.{update, without};
 ghost use Rattle.ynl_model.specs.Applications.{in_leaf, with_app, is_ask_of, take_one};
@@ -253,21 +253,19 @@ fn take_in(row: &mut LeafRow, leaf: &Path, name: &Name, label: &Label, priority:
 fn take_ask(
     rows: &mut Vec<LeafRow>,
     numbers: &QueueNumbers,
-    tenant: &Name,
     leaf: &Path,
     name: &Name,
     label: &Label,
     priority: u32,
 )
-    requires numbered { AreNumbered numbers.now (leaves_of rows.old.items) }
-    requires tenant { tenant.now ≡ tenant_of leaf.now }
+    requires { AreNumbered numbers.now (leaves_of rows.old.items) }
     ensures marks { KeepsMarks rows.old.items rows.new.items }
     ensures meaning { leaves_of rows.new.items ≡ in_leaf leaf.now (with_app name.now (take_one label.now priority)) (leaves_of rows.old.items) }
 {
-    let mut place = numbers.first_of(tenant);
+    let mut place = numbers.first_beside(leaf);
     while place < rows.len() {
         take_in(&mut rows[place], leaf, name, label, priority);
-        place = numbers.next_of(place, tenant);
+        place = numbers.next_beside(place, leaf);
     }
 }
 
@@ -280,15 +278,7 @@ fn take_request(rows: &mut Vec<LeafRow>, numbers: &QueueNumbers, request: &Reque
     match request.what {
         What::Master => {}
         What::Ask(label, priority) => {
-            take_ask(
-                rows,
-                numbers,
-                &request.tenant,
-                &request.leaf,
-                &request.app,
-                &label,
-                priority,
-            );
+            take_ask(rows, numbers, &request.leaf, &request.app, &label, priority);
         }
     }
 }

@@ -7,6 +7,7 @@ ghost use Rattle.ynl_model.specs.Applications.{in_leaf, submitted};
 ghost use Rattle.ynl_model.specs.Cluster.{State};
 ghost use Rattle.ynl_laws.specs.Marks.{IsMarked};
 ghost use Rattle.ynl_tables.specs.Marked.{AreMarkedIn, AreMarked};
+ghost use Rattle.ynl_tables.specs.Numbers.{AreNumbered};
 ghost use Rattle.ynl_tables.specs.Tables.{leaf_of_row, leaves_of};
 ghost use Rattle.ynl_changes.specs.Marking.{KeepsMarksIn, KeepsMarks};
 ghost use Rattle.ynl_changes.specs.Submitting.{application, HasAppCapacity};
@@ -15,7 +16,7 @@ use crate::queueing::enqueue_master;
 use crate::sharing::count_user;
 use std::alloc::{AllocError, Global};
 use ynl_resource::{Label, Name, Path, Size};
-use ynl_tables::{App, LeafRow};
+use ynl_tables::{App, LeafRow, QueueNumbers};
 
 /// What a new application is: it asks for nothing yet.
 #[derive(Clone, Copy)]
@@ -40,14 +41,21 @@ fn reserve_application_on(row: &mut LeafRow, leaf: &Path) -> Result<(), AllocErr
     Ok(())
 }
 
-/// Capacity for one more application in a leaf.
-pub fn reserve_application(rows: &mut Vec<LeafRow>, leaf: &Path) -> Result<(), AllocError>
+/// Capacity for one more application in a leaf. Only the leaves of its tenant are looked at.
+pub fn reserve_application(
+    rows: &mut Vec<LeafRow>,
+    numbers: &QueueNumbers,
+    leaf: &Path,
+) -> Result<(), AllocError>
+    requires { AreNumbered numbers.now (leaves_of rows.old.items) }
     ensures meaning { leaves_of rows.new.items ≡ leaves_of rows.old.items }
     ensures marks { KeepsMarks rows.old.items rows.new.items }
     ensures capacity { OnOk result (AllByRecursion (HasAppCapacity leaf.now) rows.new.items) }
 {
-    for row in rows.iter_mut() {
-        reserve_application_on(row, leaf)?;
+    let mut place = numbers.first_beside(leaf);
+    while place < rows.len() {
+        reserve_application_on(&mut rows[place], leaf)?;
+        place = numbers.next_beside(place, leaf);
     }
     Ok(())
 }
@@ -77,13 +85,17 @@ fn submit_on(row: &mut LeafRow, new: &Submission, alloc: Global)
     }
 }
 
-/// The application comes last in its leaf, and its name is used for good.
-pub fn submit(rows: &mut Vec<LeafRow>, new: &Submission, alloc: Global)
-    requires { AllByRecursion (HasAppCapacity new.now.leaf) rows.old.items }
+/// The application comes last in its leaf, and its name is used for good. Only the leaves of its tenant are
+/// looked at.
+pub fn submit(rows: &mut Vec<LeafRow>, numbers: &QueueNumbers, new: &Submission, alloc: Global)
+    requires numbered { AreNumbered numbers.now (leaves_of rows.old.items) }
+    requires capacity { AllByRecursion (HasAppCapacity new.now.leaf) rows.old.items }
     ensures marks { (s : State) → IsMarked s (application new.now) 0 → AreMarked s rows.old.items → AreMarked s rows.new.items }
     ensures meaning { leaves_of rows.new.items ≡ in_leaf new.now.leaf (submitted (application new.now)) (leaves_of rows.old.items) }
 {
-    for row in rows.iter_mut() {
-        submit_on(row, new, alloc);
+    let mut place = numbers.first_beside(&new.leaf);
+    while place < rows.len() {
+        submit_on(&mut rows[place], new, alloc);
+        place = numbers.next_beside(place, &new.leaf);
     }
 }

@@ -2,7 +2,7 @@
 
 ghost use Rattle.std.specs.Prelude.{◌≡◌, ◌<◌, ◌+◌, ◌^◌, ◌++◌, ◌∷◌, [], true, length, map, find, option_map, IfOk, IfSome, OnOk, if◌then◌else◌};
 ghost use Rattle.std.specs.List.{AllByRecursion, list_any, position};
-ghost use Rattle.ynl_resource.specs.Names.{root, is_within, same_path};
+ghost use Rattle.ynl_resource.specs.Names.{root, is_within, same_path, tenant_of};
 ghost use Rattle.ynl_laws.specs.Ways.{IsWay};
 ghost use Rattle.ynl_tables.specs.Numbers.{AreNumbered, is_above, is_above_app, IsNumberOf, IsWayTo};
 ghost use Rattle.ynl_tables.specs.Siblings.{leaf_paths, leaf_at, IsPast};
@@ -147,18 +147,47 @@ impl QueueNumbers {
         self.tenants.first(tenant)
     }
 
+    /// A place after another, before which no leaf after the other is a tenant's; the tenant is given by the bytes
+    /// of its name.
+    fn next_by(&self, place: usize, tenant: &[u8]) -> usize
+        requires { place < length (leaf_paths self.now) }
+        ensures after { place < result }
+        ensures onward { IsOnward (leaf_paths self.now) tenant.now (place + 1) result }
+    {
+        let leaves = self.leaves.as_slice();
+        if tenant_bytes(&leaves[place]) == tenant {
+            self.tenants.next(place)
+        } else {
+            place + 1
+        }
+    }
+
     /// A place after another, before which no leaf after the other is a tenant's.
     pub fn next_of(&self, place: usize, tenant: &Name) -> usize
         requires { place < length (leaf_paths self.now) }
         ensures after { place < result }
         ensures onward { IsOnward (leaf_paths self.now) tenant.now (place + 1) result }
     {
-        let leaves = self.leaves.as_slice();
-        if tenant_bytes(&leaves[place]) == tenant.as_bytes() {
-            self.tenants.next(place)
-        } else {
-            place + 1
+        self.next_by(place, tenant.as_bytes())
+    }
+
+    /// A place before which no leaf is of the tenant of a leaf.
+    pub fn first_beside(&self, leaf: &Path) -> usize
+        ensures { IsOnward (leaf_paths self.now) (tenant_of leaf.now) 0 result }
+    {
+        match leaf.names().first() {
+            Some(tenant) => self.first_of(tenant),
+            None => 0,
         }
+    }
+
+    /// A place after another, before which no leaf after the other is of the tenant of a leaf.
+    pub fn next_beside(&self, place: usize, leaf: &Path) -> usize
+        requires { place < length (leaf_paths self.now) }
+        ensures after { place < result }
+        ensures onward { IsOnward (leaf_paths self.now) (tenant_of leaf.now) (place + 1) result }
+    {
+        self.next_by(place, tenant_bytes(leaf))
     }
 }
 

@@ -1,0 +1,98 @@
+-- The rows of one tenant's leaves, changed in place one after another: those between are as they are to be.
+use Rattle.std.proofs.Common.{◌≡◌, ℕ, ◌+◌, ◌-◌, ◌<◌, ◌≤◌, Bool, true, false, cond, List, length, get_or, take, refl, sym, ap, subst, ◌∙◌, arith}
+use Rattle.std.specs.List.{AllByRecursion}
+use Rattle.std.proofs.Math.ListN.{set}
+use mathlib.Core.Bool.{true≢false}
+use Rattle.ynl_resource.specs.Names.{same_name, same_path, tenant_of}
+use Rattle.ynl_resource.specs.declared.paths.Path.{Path}
+use Rattle.ynl_model.specs.Applications.{LeafApps}
+use Rattle.ynl_laws.proofs.Names.{same-name_self, same-path}
+use Rattle.ynl_tables.specs.declared.rows.LeafRow.{LeafRow}
+use Rattle.ynl_tables.specs.Marked.{AreMarkedIn}
+use Rattle.ynl_tables.specs.Numbers.{AreNumbered}
+use Rattle.ynl_tables.specs.Siblings.{leaf_paths}
+use Rattle.ynl_tables.specs.Tables.{leaf_of_row, leaves_of}
+use Rattle.ynl_tables.specs.Tenants.{IsOnward}
+use Rattle.ynl_tables.proofs.Onward.{rows_inside, rows_onward}
+use Rattle.ynl_changes.specs.Marking.{KeepsMarks, KeepsMarksIn}
+use Rattle.ynl_changes.proofs.InPlace.{IsChanged, changed_none, changed_passed, changed_step, each_passed, each_step, same_set}
+use Rattle.ynl_changes.proofs.Marks.{kept_at}
+
+-- a leaf of another tenant is another
+other_leaf : (path leaf : Path) → same_name (tenant_of path) (tenant_of leaf) ≡ false → same_path path leaf ≡ false
+other_leaf path leaf off = go (same_path path leaf) refl
+  where
+    go : (b : Bool) → same_path path leaf ≡ b → b ≡ false
+    go true e = absurd (true≢false (sym (same-name_self (tenant_of leaf)) ∙ ap (λ t. same_name t (tenant_of leaf)) (sym (ap tenant_of (same-path path leaf e))) ∙ off))
+    go false e = refl
+
+-- one leaf is changed, and others stay
+abbrev pub at_leaf : Path → (LeafApps → LeafApps) → LeafApps → LeafApps
+at_leaf leaf change row = cond (same_path row.leaf leaf) (change row) row
+
+-- nothing is changed at another tenant's leaf
+pub other_stays : (leaf : Path) (change : LeafApps → LeafApps) (row : LeafApps) → same_name (tenant_of row.leaf) (tenant_of leaf) ≡ false → at_leaf leaf change row ≡ row
+other_stays leaf change row off = ap (λ b. cond b (change row) row) (other_leaf row.leaf leaf off)
+
+module _ (queues : List Path) (leaf : Path) (rows : List LeafRow) (numbered : AreNumbered queues (leaves_of rows)) where
+  -- what holds of all other leaves holds up to where the tenant's next stands
+  pub each_beside : (P : LeafRow → Type 0) → ((row : LeafRow) → same_path row.path leaf ≡ false → P row) → (from to : ℕ) → from ≤ to → IsOnward (leaf_paths queues) (tenant_of leaf) from to → AllByRecursion P (take from rows) → AllByRecursion P (take to rows)
+  each_beside P others from to more onward h =
+      each_passed P rows (to - from) from to (omega (arith, more)) (rows_inside queues rows numbered (tenant_of leaf) from to onward)
+      (λ k d above below. others (get_or rows k d) (other_leaf (get_or rows k d).path leaf (rows_onward queues rows numbered (tenant_of leaf) from to d onward k above below))) h
+
+  module _ (change : LeafApps → LeafApps) where
+    -- up to there all are as they are to be
+    changed_beside : (now : List LeafRow) (from to : ℕ) → from ≤ to → IsOnward (leaf_paths queues) (tenant_of leaf) from to → IsChanged leaf_of_row (at_leaf leaf change) rows now from → IsChanged leaf_of_row (at_leaf leaf change) rows now to
+    changed_beside now from to more onward h =
+        changed_passed leaf_of_row (at_leaf leaf change) rows now (to - from) from to (omega (arith, more)) (rows_inside queues rows numbered (tenant_of leaf) from to onward)
+        (λ k d above below. other_stays leaf change (leaf_of_row (get_or rows k d)) (rows_onward queues rows numbered (tenant_of leaf) from to d onward k above below)) h
+
+    -- so nothing is to be changed before the tenant's first leaf
+    pub first_beside : (first : ℕ) → IsOnward (leaf_paths queues) (tenant_of leaf) 0 first → IsChanged leaf_of_row (at_leaf leaf change) rows rows first
+    first_beside first onward = changed_beside rows 0 first (omega arith) onward (changed_none leaf_of_row (at_leaf leaf change) rows)
+
+    -- and after one of its leaves nothing before the next
+    pub next_beside : (now : List LeafRow) (place next : ℕ) (row new : LeafRow) → place < next → IsOnward (leaf_paths queues) (tenant_of leaf) (place + 1) next → row ≡ get_or now place row → leaf_of_row new ≡ at_leaf leaf change (leaf_of_row row)
+        → IsChanged leaf_of_row (at_leaf leaf change) rows now place → IsChanged leaf_of_row (at_leaf leaf change) rows (set now place new) next
+    next_beside now place next row new after onward read given h =
+        let inside : place < length rows = omega (arith, after, rows_inside queues rows numbered (tenant_of leaf) (place + 1) next onward) in
+        changed_beside (set now place new) (place + 1) next (omega (arith, after)) onward
+        (changed_step leaf_of_row (at_leaf leaf change) rows now place h row new inside read (given ∙ ap (λ row. at_leaf leaf change (leaf_of_row row)) read))
+
+-- where memory is reserved for a row, all mean the same, and their marks are right as they were
+pub same_at : (rows now : List LeafRow) (place : ℕ) (row new : LeafRow) → place < length now → row ≡ get_or now place row → leaf_of_row new ≡ leaf_of_row row → leaves_of now ≡ leaves_of rows → leaves_of (set now place new) ≡ leaves_of rows
+same_at rows now place row new inside read given h = same_set leaf_of_row now place row new inside (given ∙ ap leaf_of_row read) ∙ h
+
+pub marks_at : (rows now : List LeafRow) (place : ℕ) (row new : LeafRow) → place < length now → row ≡ get_or now place row → KeepsMarksIn row new → KeepsMarks rows now → KeepsMarks rows (set now place new)
+marks_at rows now place row new inside read given h = λ s k. kept_at (AreMarkedIn s) now place row new inside read (given s) (h s k)
+
+-- and each up to a place has capacity
+pub record IsReserved (P : LeafRow → Type 0) (rows now : List LeafRow) (place : ℕ) : Type 0 where
+  pub meaning : leaves_of now ≡ leaves_of rows
+  pub marks : KeepsMarks rows now
+  pub capacity : AllByRecursion P (take place now)
+  pub inside : place ≤ length now
+
+module _ (queues : List Path) (leaf : Path) (rows : List LeafRow) (numbered : AreNumbered queues (leaves_of rows)) (P : LeafRow → Type 0) (others : (row : LeafRow) → same_path row.path leaf ≡ false → P row) where
+  -- none is to have any before the tenant's first leaf
+  pub first_reserved : (first : ℕ) → IsOnward (leaf_paths queues) (tenant_of leaf) 0 first → IsReserved P rows rows first
+  first_reserved first onward = record {
+    meaning = refl;
+    marks = λ s h. h;
+    capacity = each_beside queues leaf rows numbered P others 0 first (omega arith) onward tt;
+    inside = rows_inside queues rows numbered (tenant_of leaf) 0 first onward;
+  }
+
+  -- nor after one of its leaves before the next
+  pub next_reserved : (now : List LeafRow) (place next : ℕ) (row new : LeafRow) → place < length now → place < next → IsOnward (leaf_paths queues) (tenant_of leaf) (place + 1) next → row ≡ get_or now place row → leaf_of_row new ≡ leaf_of_row row → KeepsMarksIn row new → P new
+      → IsReserved P rows now place → IsReserved P rows (set now place new) next
+  next_reserved now place next row new here after onward read given keeps has h =
+      let same : leaves_of (set now place new) ≡ leaves_of rows = same_at rows now place row new here read given h.meaning in
+      let still : AreNumbered queues (leaves_of (set now place new)) = subst (AreNumbered queues) (sym same) numbered in
+      record {
+        meaning = same;
+        marks = marks_at rows now place row new here read keeps h.marks;
+        capacity = each_beside queues leaf (set now place new) still P others (place + 1) next (omega (arith, after)) onward (each_step P now place new here h.capacity has);
+        inside = rows_inside queues (set now place new) still (tenant_of leaf) (place + 1) next onward;
+      }
