@@ -137,9 +137,21 @@ impl Core {
             Err(refusal) => return Ok(Reply::Refused(refusal)),
         };
         let _sized = ask.size.amount();
-        reserve_ask(&mut self.tables.leaves, &leaf, &name, ask.count)?;
+        reserve_ask(
+            &mut self.tables.leaves,
+            &self.tables.numbers,
+            &leaf,
+            &name,
+            ask.count,
+        )?;
         forget_leaf(&mut self.lulls, &self.tables, &leaf);
-        ask_for(&mut self.tables.leaves, &leaf, &name, &ask);
+        ask_for(
+            &mut self.tables.leaves,
+            &self.tables.numbers,
+            &leaf,
+            &name,
+            &ask,
+        );
         wake(&mut self.tables);
         Ok(Reply::Done)
     }
@@ -183,7 +195,7 @@ impl Core {
             Err(refusal) => return Ok(Reply::Refused(refusal)),
         };
         let _sized = master.amount();
-        reserve_application(&mut self.tables.leaves, &queue)?;
+        reserve_application(&mut self.tables.leaves, &self.tables.numbers, &queue)?;
         let new = Submission {
             leaf: queue,
             name: app,
@@ -193,7 +205,7 @@ impl Core {
         };
         let alloc = *self.tables.leaves.allocator();
         forget_leaf(&mut self.lulls, &self.tables, &queue);
-        submit(&mut self.tables.leaves, &new, alloc);
+        submit(&mut self.tables.leaves, &self.tables.numbers, &new, alloc);
         wake(&mut self.tables);
         Ok(Reply::Done)
     }

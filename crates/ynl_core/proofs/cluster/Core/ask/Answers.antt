@@ -67,3 +67,9 @@ invariant_of-self c =
 
 pub forget_leaf-requires : goal.forget_leaf-requires
 forget_leaf-requires c = subst (AreNumbered c.self.inside.tables.numbers) (sym c.reserve_ask.ensures.meaning) c.self.invariant.kept.amounts.numbered
+
+pub reserve_ask-requires : goal.reserve_ask-requires
+reserve_ask-requires c = c.self.invariant.kept.amounts.numbered
+
+pub ask_for-requires-clause-numbered : goal.ask_for-requires-clause-numbered
+ask_for-requires-clause-numbered c = subst (AreNumbered c.self.inside.tables.numbers) (sym c.reserve_ask.ensures.meaning) c.self.invariant.kept.amounts.numbered

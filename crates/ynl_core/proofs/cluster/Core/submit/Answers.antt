@@ -75,3 +75,9 @@ invariant_of-self c =
 
 pub forget_leaf-requires : goal.forget_leaf-requires
 forget_leaf-requires c = subst (AreNumbered c.self.inside.tables.numbers) (sym c.reserve_application.ensures.meaning) c.self.invariant.kept.amounts.numbered
+
+pub reserve_application-requires : goal.reserve_application-requires
+reserve_application-requires c = c.self.invariant.kept.amounts.numbered
+
+pub submit-requires-clause-numbered : goal.submit-requires-clause-numbered
+submit-requires-clause-numbered c = subst (AreNumbered c.self.inside.tables.numbers) (sym c.reserve_application.ensures.meaning) c.self.invariant.kept.amounts.numbered
