@@ -34,6 +34,12 @@ at_leaf leaf change row = cond (same_path row.leaf leaf) (change row) row
 pub other_stays : (leaf : Path) (change : LeafApps → LeafApps) (row : LeafApps) → same_name (tenant_of row.leaf) (tenant_of leaf) ≡ false → at_leaf leaf change row ≡ row
 other_stays leaf change row off = ap (λ b. cond b (change row) row) (other_leaf row.leaf leaf off)
 
+-- up to a place the leaf is changed, and what is kept of the rows is kept
+pub record IsChangedBeside (leaf : Path) (change : LeafApps → LeafApps) (Keeps : List LeafRow → Type 0) (rows now : List LeafRow) (place : ℕ) : Type 0 where
+  pub changed : IsChanged leaf_of_row (at_leaf leaf change) rows now place
+  pub keeps : Keeps now
+  pub inside : place ≤ length rows
+
 module _ (queues : List Path) (leaf : Path) (rows : List LeafRow) (numbered : AreNumbered queues (leaves_of rows)) where
   -- what holds of all other leaves holds up to where the tenant's next stands
   pub each_beside : (P : LeafRow → Type 0) → ((row : LeafRow) → same_path row.path leaf ≡ false → P row) → (from to : ℕ) → from ≤ to → IsOnward (leaf_paths queues) (tenant_of leaf) from to → AllByRecursion P (take from rows) → AllByRecursion P (take to rows)
@@ -49,16 +55,26 @@ module _ (queues : List Path) (leaf : Path) (rows : List LeafRow) (numbered : Ar
         (λ k d above below. other_stays leaf change (leaf_of_row (get_or rows k d)) (rows_onward queues rows numbered (tenant_of leaf) from to d onward k above below)) h
 
     -- so nothing is to be changed before the tenant's first leaf
-    pub first_beside : (first : ℕ) → IsOnward (leaf_paths queues) (tenant_of leaf) 0 first → IsChanged leaf_of_row (at_leaf leaf change) rows rows first
-    first_beside first onward = changed_beside rows 0 first (omega arith) onward (changed_none leaf_of_row (at_leaf leaf change) rows)
+    pub first_changed : (Keeps : List LeafRow → Type 0) (first : ℕ) → IsOnward (leaf_paths queues) (tenant_of leaf) 0 first → Keeps rows → IsChangedBeside leaf change Keeps rows rows first
+    first_changed Keeps first onward keeps = record {
+      changed = changed_beside rows 0 first (omega arith) onward (changed_none leaf_of_row (at_leaf leaf change) rows);
+      keeps = keeps;
+      inside = rows_inside queues rows numbered (tenant_of leaf) 0 first onward;
+    }
 
     -- and after one of its leaves nothing before the next
-    pub next_beside : (now : List LeafRow) (place next : ℕ) (row new : LeafRow) → place < next → IsOnward (leaf_paths queues) (tenant_of leaf) (place + 1) next → row ≡ get_or now place row → leaf_of_row new ≡ at_leaf leaf change (leaf_of_row row)
-        → IsChanged leaf_of_row (at_leaf leaf change) rows now place → IsChanged leaf_of_row (at_leaf leaf change) rows (set now place new) next
-    next_beside now place next row new after onward read given h =
-        let inside : place < length rows = omega (arith, after, rows_inside queues rows numbered (tenant_of leaf) (place + 1) next onward) in
-        changed_beside (set now place new) (place + 1) next (omega (arith, after)) onward
-        (changed_step leaf_of_row (at_leaf leaf change) rows now place h row new inside read (given ∙ ap (λ row. at_leaf leaf change (leaf_of_row row)) read))
+    pub next_changed : (Keeps : List LeafRow → Type 0) (now : List LeafRow) (place next : ℕ) (row new : LeafRow) → place < next → IsOnward (leaf_paths queues) (tenant_of leaf) (place + 1) next → row ≡ get_or now place row → leaf_of_row new ≡ at_leaf leaf change (leaf_of_row row)
+        → (place < length now → Keeps (set now place new)) → IsChangedBeside leaf change Keeps rows now place → IsChangedBeside leaf change Keeps rows (set now place new) next
+    next_changed Keeps now place next row new after onward read given keeps h =
+        let within : next ≤ length rows = rows_inside queues rows numbered (tenant_of leaf) (place + 1) next onward in
+        let here : place < length rows = omega (arith, after, within) in
+        record {
+          changed =
+              changed_beside (set now place new) (place + 1) next (omega (arith, after)) onward
+              (changed_step leaf_of_row (at_leaf leaf change) rows now place h.changed row new here read (given ∙ ap (λ row. at_leaf leaf change (leaf_of_row row)) read));
+          keeps = keeps (omega (arith, here, h.changed.len));
+          inside = within;
+        }
 
 -- where memory is reserved for a row, all mean the same, and their marks are right as they were
 pub same_at : (rows now : List LeafRow) (place : ℕ) (row new : LeafRow) → place < length now → row ≡ get_or now place row → leaf_of_row new ≡ leaf_of_row row → leaves_of now ≡ leaves_of rows → leaves_of (set now place new) ≡ leaves_of rows

@@ -451,13 +451,16 @@ fn finish_on(row: &mut LeafRow, leaf: &Path, name: &Name)
     }
 }
 
-/// An application of a leaf is finished: of it only the name stays.
-fn finish_in(rows: &mut Vec<LeafRow>, leaf: &Path, name: &Name)
+/// An application of a leaf is finished: of it only the name stays. Only the leaves of its tenant are looked at.
+fn finish_in(rows: &mut Vec<LeafRow>, numbers: &QueueNumbers, leaf: &Path, name: &Name)
+    requires { AreNumbered numbers.now (leaves_of rows.old.items) }
     ensures marks { KeepsMarks rows.old.items rows.new.items }
     ensures meaning { leaves_of rows.new.items ≡ in_leaf leaf.now (finished name.now) (leaves_of rows.old.items) }
 {
-    for row in rows.iter_mut() {
-        finish_on(row, leaf, name);
+    let mut place = numbers.first_beside(leaf);
+    while place < rows.len() {
+        finish_on(&mut rows[place], leaf, name);
+        place = numbers.next_beside(place, leaf);
     }
 }
 
@@ -494,5 +497,5 @@ pub fn finish_application(config: &Config, tables: &mut Tables, leaf: &Path, nam
         tenant,
         name,
     );
-    finish_in(&mut tables.leaves, leaf, name);
+    finish_in(&mut tables.leaves, &tables.numbers, leaf, name);
 }

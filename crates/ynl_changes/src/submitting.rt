@@ -6,11 +6,11 @@ ghost use Rattle.ynl_resource.specs.Names.{same_path};
 ghost use Rattle.ynl_model.specs.Applications.{in_leaf, submitted};
 ghost use Rattle.ynl_model.specs.Cluster.{State};
 ghost use Rattle.ynl_laws.specs.Marks.{IsMarked};
-ghost use Rattle.ynl_tables.specs.Marked.{AreMarkedIn, AreMarked};
+ghost use Rattle.ynl_tables.specs.Marked.{AreMarkedIn};
 ghost use Rattle.ynl_tables.specs.Numbers.{AreNumbered};
 ghost use Rattle.ynl_tables.specs.Tables.{leaf_of_row, leaves_of};
 ghost use Rattle.ynl_changes.specs.Marking.{KeepsMarksIn, KeepsMarks};
-ghost use Rattle.ynl_changes.specs.Submitting.{application, HasAppCapacity};
+ghost use Rattle.ynl_changes.specs.Submitting.{application, HasAppCapacity, SubmitsMarks};
 
 use crate::queueing::enqueue_master;
 use crate::sharing::count_user;
@@ -90,7 +90,7 @@ fn submit_on(row: &mut LeafRow, new: &Submission, alloc: Global)
 pub fn submit(rows: &mut Vec<LeafRow>, numbers: &QueueNumbers, new: &Submission, alloc: Global)
     requires numbered { AreNumbered numbers.now (leaves_of rows.old.items) }
     requires capacity { AllByRecursion (HasAppCapacity new.now.leaf) rows.old.items }
-    ensures marks { (s : State) → IsMarked s (application new.now) 0 → AreMarked s rows.old.items → AreMarked s rows.new.items }
+    ensures marks { SubmitsMarks new.now rows.old.items rows.new.items }
     ensures meaning { leaves_of rows.new.items ≡ in_leaf new.now.leaf (submitted (application new.now)) (leaves_of rows.old.items) }
 {
     let mut place = numbers.first_beside(&new.leaf);

@@ -1,23 +1,22 @@
-use Rattle.std.proofs.Common.{cond, ◌<◌, length, sym, ap, subst, ◌∙◌, arith}
-use Rattle.ynl_resource.specs.Names.{same_path}
-use Rattle.ynl_model.specs.Applications.{LeafApps, finished}
-use Rattle.ynl_tables.specs.Tables.{leaf_of_row}
-use Rattle.ynl_changes.proofs.InPlace.{whole_kept, changed_step}
-use Rattle.ynl_tables.specs.Marked.{AreMarkedIn, AreMarked}
-use Rattle.ynl_changes.proofs.Marks.{kept_set}
+use Rattle.std.proofs.Common.{List}
+use Rattle.ynl_model.specs.Applications.{finished}
+use Rattle.ynl_tables.specs.declared.rows.LeafRow.{LeafRow}
+use Rattle.ynl_tables.specs.Marked.{AreMarkedIn}
+use Rattle.ynl_changes.specs.Marking.{KeepsMarks}
+use Rattle.ynl_changes.proofs.Beside.{first_changed, next_changed}
+use Rattle.ynl_changes.proofs.Marks.{kept_at}
 use Rattle.ynl_changes.proofs.finishing.finish_in.Goals as goal
 
-pub loop-row-preserved : goal.loop-row-preserved
-loop-row-preserved c =
-    let inside : c.loop-row.row-index < length c.loop-row.row-items = omega (arith, c.loop-row.invariant.changed.len) in
-    record {
-      changed = changed_step leaf_of_row (λ (row : LeafApps). cond (same_path row.leaf c.args.leaf.now) (finished c.args.name.now row) row) _ _ _ c.loop-row.invariant.changed c.row-item.result c.finish_on.new.row c.loop-row-test.true c.row-item.is c.finish_on.ensures.meaning;
-      marks = λ s h. kept_set (AreMarkedIn s) c.loop-row.row-items c.loop-row.row-index c.row-item.result c.finish_on.new.row inside (c.loop-row.invariant.marks s h) (c.finish_on.ensures.marks s);
-    }
+pub loop-place-init : goal.loop-place-init
+loop-place-init c =
+    let rows : List LeafRow = c.args.rows.now.items in
+    first_changed c.args.numbers.now c.args.leaf.now rows c.requires (finished c.args.name.now) (KeepsMarks rows) c.first_beside-place.result c.first_beside-place.ensures (λ s h. h)
 
-pub returns-clause-marks : goal.returns-clause-marks
-returns-clause-marks c = λ s h.
-    let items = c.loop-row.row-items in
-    let value = c.deref_mut-row-items.ensures.value in
-    let same = c.loop-row.auto.row-items ∙ ap length value in
-    whole_kept (AreMarked s) c.args.rows.now.len items c.args.rows.now.items same c.args.rows.now.ok.0 (c.loop-row.invariant.marks s (subst (AreMarked s) (sym value) h))
+pub loop-place-preserved : goal.loop-place-preserved
+loop-place-preserved c =
+    let rows : List LeafRow = c.args.rows.now.items in
+    let now : List LeafRow = c.loop-place.rows.items in
+    let row : LeafRow = c.index_mut.result.now in
+    let new : LeafRow = c.finish_on.new.row in
+    next_changed c.args.numbers.now c.args.leaf.now rows c.requires (finished c.args.name.now) (KeepsMarks rows) now c.loop-place.place c.next_beside-place.result row new c.next_beside-place.ensures.after c.next_beside-place.ensures.onward c.index_mut.ensures.value c.finish_on.ensures.meaning
+    (λ here s h. kept_at (AreMarkedIn s) now c.loop-place.place row new here c.index_mut.ensures.value (c.finish_on.ensures.marks s) (c.loop-place.invariant.keeps s h)) c.loop-place.invariant

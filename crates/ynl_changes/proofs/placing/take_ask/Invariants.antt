@@ -1,16 +1,11 @@
-use Rattle.std.proofs.Common.{◌-◌, ◌≤◌, length}
-use Rattle.ynl_tables.specs.Tables.{leaf_of_row}
-use Rattle.ynl_changes.specs.Placing.{taken_from}
-use Rattle.ynl_changes.proofs.InPlace.{IsChanged}
+use Rattle.std.proofs.Common.{◌-◌, length}
+use Rattle.ynl_model.specs.Applications.{take_one, with_app}
 use Rattle.ynl_changes.specs.Marking.{KeepsMarks}
+use Rattle.ynl_changes.proofs.Beside.{IsChangedBeside}
 use Rattle.ynl_changes.proofs.placing.take_ask.Given as goal
 
 abbrev pub invariant-loop-place : goal.invariant-loop-place
-invariant-loop-place l = record {
-  changed : IsChanged leaf_of_row (taken_from l.leaf l.name l.label l.priority) l.initial.rows.items l.rows.items l.place;
-  marks : KeepsMarks l.initial.rows.items l.rows.items;
-  inside : l.place ≤ length l.initial.rows.items;
-}
+invariant-loop-place l = IsChangedBeside l.leaf (with_app l.name (take_one l.label l.priority)) (KeepsMarks l.initial.rows.items) l.initial.rows.items l.rows.items l.place
 
 abbrev pub decreases-loop-place : goal.decreases-loop-place
 decreases-loop-place l = length l.rows.items - l.place
