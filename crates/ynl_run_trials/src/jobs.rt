@@ -18,15 +18,17 @@ const REGISTER: &[u8] =
 
 const DONE: &[u8] = b"{\"reply\":\"done\"}\n";
 
-/// Gives its bytes and then fails.
+/// Gives its bytes, and then ends or fails. All jobs here read from one kind of reader and write to one kind
+/// of writer, since what is generic is proved anew for each pair of these.
 #[derive(Drop)]
-struct Cut<'a> {
+struct Source<'a> {
     left: &'a [u8],
+    fails: bool,
 }
 
-impl Read for Cut<'_> {
+impl Read for Source<'_> {
     fn read(&mut self, buf: &mut [u8]) -> io::Result<usize> {
-        if self.left.is_empty() {
+        if self.left.is_empty() && self.fails {
             return Err(io::Error::from(io::ErrorKind::Other));
         }
         let n = self.left.len().min(buf.len());
@@ -37,41 +39,64 @@ impl Read for Cut<'_> {
     }
 }
 
-/// Takes some bytes and then fails, or takes none.
-#[derive(Drop)]
-struct Narrow {
-    taken: Vec<u8>,
-    room: usize,
-    fails: bool,
+type Reader<'a> = BufReader<Source<'a>>;
+
+/// A reader of all of a text.
+fn whole(alloc: Global, text: &[u8]) -> io::Result<Reader<'_>> {
+    let source = Source {
+        left: text,
+        fails: false,
+    };
+    BufReader::with_capacity(alloc, 64, source)
 }
 
-impl Write for Narrow {
+/// A reader that fails after a text, and shows so many bytes of it at a time.
+fn cut(alloc: Global, most: usize, text: &[u8]) -> io::Result<Reader<'_>> {
+    let source = Source {
+        left: text,
+        fails: true,
+    };
+    BufReader::with_capacity(alloc, most, source)
+}
+
+/// Takes so many bytes at a time, and so many in all; then it fails, or takes none. It counts the calls that
+/// take some.
+#[derive(Drop)]
+struct Sink {
+    taken: Vec<u8>,
+    most: usize,
+    room: usize,
+    fails: bool,
+    calls: u64,
+}
+
+impl Sink {
+    /// One that takes all that it is given.
+    fn new(taken: Vec<u8>) -> Sink {
+        Sink::narrow(taken, usize::MAX, false)
+    }
+
+    /// One that has room for so many bytes.
+    fn narrow(taken: Vec<u8>, room: usize, fails: bool) -> Sink {
+        Sink {
+            taken,
+            most: usize::MAX,
+            room,
+            fails,
+            calls: 0,
+        }
+    }
+}
+
+impl Write for Sink {
     fn write(&mut self, buf: &[u8]) -> io::Result<usize> {
         if self.room == 0 && self.fails {
             return Err(io::Error::from(io::ErrorKind::Other));
         }
-        let n = self.room.min(buf.len());
+        let n = self.most.min(self.room).min(buf.len());
         self.taken.extend_from_slice(&buf[..n])?;
         self.room -= n;
-        Ok(n)
-    }
-
-    fn flush(&mut self) -> io::Result<()> {
-        Ok(())
-    }
-}
-
-/// Takes so many bytes at a time, and no more.
-#[derive(Drop)]
-struct Slow {
-    taken: Vec<u8>,
-    most: usize,
-}
-
-impl Write for Slow {
-    fn write(&mut self, buf: &[u8]) -> io::Result<usize> {
-        let n = self.most.min(buf.len());
-        self.taken.extend_from_slice(&buf[..n])?;
+        self.calls = self.calls.wrapping_add(1);
         Ok(n)
     }
 
@@ -87,9 +112,13 @@ const TWO_REPLIES: &[u8] = b"{\"reply\":\"done\"}\n{\"placed\":[],\"reply\":\"pl
 
 /// Runs the two lines with a reader and a writer that go by so many bytes at a time.
 fn run_by(alloc: Global, most: usize) -> Result<Vec<u8>, Fail> {
-    let mut reader = BufReader::with_capacity(alloc, most, TWO_LINES)?;
-    let taken = Vec::new(alloc);
-    let mut writer = Slow { taken, most };
+    let source = Source {
+        left: TWO_LINES,
+        fails: false,
+    };
+    let mut reader = BufReader::with_capacity(alloc, most, source)?;
+    let mut writer = Sink::new(Vec::new(alloc));
+    writer.most = most;
     run_lines(alloc, built_in(alloc)?, &mut reader, &mut writer)?;
     Ok(writer.taken)
 }
@@ -104,25 +133,6 @@ fn goes_by_few_bytes(rt: HostRuntime) -> Result<(), Fail> {
     Ok(())
 }
 
-/// Takes all that it is given, and counts the calls.
-#[derive(Drop)]
-struct Counted {
-    taken: Vec<u8>,
-    calls: u64,
-}
-
-impl Write for Counted {
-    fn write(&mut self, buf: &[u8]) -> io::Result<usize> {
-        self.taken.extend_from_slice(buf)?;
-        self.calls = self.calls.wrapping_add(1);
-        Ok(buf.len())
-    }
-
-    fn flush(&mut self) -> io::Result<()> {
-        Ok(())
-    }
-}
-
 const TWO_LINES_AND_MORE: &[u8] =
     b"{\"event\":\"register\",\"label\":\"gpu\",\"memory\":10000,\"node\":\"g1\",\"vcores\":10}\n{\"event\":\"heartbeat\",\"node\":\"g1\"}\n{\"event\":\"";
 
@@ -130,12 +140,8 @@ const TWO_LINES_AND_MORE: &[u8] =
 #[test]
 fn answers_what_came_together_by_one_write(rt: HostRuntime) -> Result<(), Fail> {
     let alloc = rt.alloc();
-    let cut = Cut {
-        left: TWO_LINES_AND_MORE,
-    };
-    let mut reader = BufReader::with_capacity(alloc, 4096, cut)?;
-    let taken = Vec::new(alloc);
-    let mut writer = Counted { taken, calls: 0 };
+    let mut reader = cut(alloc, 4096, TWO_LINES_AND_MORE)?;
+    let mut writer = Sink::new(Vec::new(alloc));
     let ended = run_lines(alloc, built_in(alloc)?, &mut reader, &mut writer);
     assert!(rt; ended == Err(ToolFault::Read));
     assert!(rt; writer.taken.as_slice() == TWO_REPLIES);
@@ -146,11 +152,11 @@ fn answers_what_came_together_by_one_write(rt: HostRuntime) -> Result<(), Fail> 
 #[test]
 fn answers_before_a_read_fault(rt: HostRuntime) -> Result<(), Fail> {
     let alloc = rt.alloc();
-    let mut reader = BufReader::with_capacity(alloc, 7, Cut { left: REGISTER })?;
-    let mut out = Vec::new(alloc);
-    let ended = run_lines(alloc, built_in(alloc)?, &mut reader, &mut out);
+    let mut reader = cut(alloc, 7, REGISTER)?;
+    let mut writer = Sink::new(Vec::new(alloc));
+    let ended = run_lines(alloc, built_in(alloc)?, &mut reader, &mut writer);
     assert!(rt; ended == Err(ToolFault::Read));
-    assert!(rt; out.as_slice() == DONE);
+    assert!(rt; writer.taken.as_slice() == DONE);
     Ok(())
 }
 
@@ -158,12 +164,8 @@ fn answers_before_a_read_fault(rt: HostRuntime) -> Result<(), Fail> {
 fn writes_a_front(rt: HostRuntime) -> Result<(), Fail> {
     let alloc = rt.alloc();
     for (room, fails) in [(7, true), (0, false)] {
-        let mut reader = REGISTER;
-        let mut writer = Narrow {
-            taken: Vec::new(alloc),
-            room,
-            fails,
-        };
+        let mut reader = whole(alloc, REGISTER)?;
+        let mut writer = Sink::narrow(Vec::new(alloc), room, fails);
         let ended = run_lines(alloc, built_in(alloc)?, &mut reader, &mut writer);
         assert!(rt; ended == Err(ToolFault::Write));
         assert!(rt; writer.taken.as_slice() == &DONE[..room]);
@@ -178,11 +180,11 @@ const TOLD: &[u8] =
     b"{\"event\":{\"event\":\"register\",\"label\":\"gpu\",\"memory\":1,\"node\":\"d1\",\"vcores\":1},\"place\":1,\"reply\":{\"reply\":\"done\"}}\n{\"fault\":\"syntax\",\"line\":4}\n";
 
 /// Tells the tenant of the built-in configuration.
-fn tell_built_in<R: std::io::BufRead, W: Write>(
+fn tell_built_in(
     rt: &impl Abort,
     alloc: Global,
-    reader: &mut R,
-    writer: &mut W,
+    reader: &mut Reader<'_>,
+    writer: &mut Sink,
 ) -> Result<Result<Summary, ToolFault>, Fail> {
     let config = built_in(alloc)?;
     let tenant = Name::parse("eng")?;
@@ -194,23 +196,19 @@ fn tell_built_in<R: std::io::BufRead, W: Write>(
 #[test]
 fn tells_a_tenant_nothing_after_a_read_fault(rt: HostRuntime) -> Result<(), Fail> {
     let alloc = rt.alloc();
-    let mut cut = BufReader::with_capacity(alloc, 7, Cut { left: REGISTER })?;
-    let mut out = Vec::new(alloc);
-    let ended = tell_built_in(&rt, alloc, &mut cut, &mut out)?;
+    let mut reader = cut(alloc, 7, REGISTER)?;
+    let mut writer = Sink::new(Vec::new(alloc));
+    let ended = tell_built_in(&rt, alloc, &mut reader, &mut writer)?;
     assert!(rt; ended == Err(ToolFault::Read));
-    assert!(rt; out.is_empty());
+    assert!(rt; writer.taken.is_empty());
     Ok(())
 }
 
 #[test]
 fn tells_a_tenant_a_front(rt: HostRuntime) -> Result<(), Fail> {
     let alloc = rt.alloc();
-    let mut writer = Narrow {
-        taken: Vec::new(alloc),
-        room: 7,
-        fails: true,
-    };
-    let mut reader = SCRIPT;
+    let mut reader = whole(alloc, SCRIPT)?;
+    let mut writer = Sink::narrow(Vec::new(alloc), 7, true);
     let ended = tell_built_in(&rt, alloc, &mut reader, &mut writer)?;
     assert!(rt; ended == Err(ToolFault::Write));
     assert!(rt; writer.taken.as_slice() == &TOLD[..7]);
@@ -223,18 +221,19 @@ fn tells_a_tenant_a_front(rt: HostRuntime) -> Result<(), Fail> {
 fn answers_at_the_second_try(rt: HostRuntime) -> Result<(), Fail> {
     let alloc = rt.alloc();
     let line: &[u8] = b"{\"event\":\"heartbeat\",\"node\":\"g1\"}";
-    let mut first = line;
-    let mut out = Vec::with_capacity(alloc, 256)?;
-    let tried = run_lines(alloc, built_in(alloc)?, &mut first, &mut out);
+    let mut first = whole(alloc, line)?;
+    let mut writer = Sink::new(Vec::with_capacity(alloc, 256)?);
+    let tried = run_lines(alloc, built_in(alloc)?, &mut first, &mut writer);
     if tried == Err(ToolFault::NoMemory) {
         println!(rt; "refused")?;
-        assert!(rt; out.is_empty());
-        let mut second = line;
-        let ended = run_lines(alloc, built_in(alloc)?, &mut second, &mut out);
+        assert!(rt; writer.taken.is_empty());
+        let mut second = whole(alloc, line)?;
+        let ended = run_lines(alloc, built_in(alloc)?, &mut second, &mut writer);
         assert!(rt; ended.is_ok());
     }
     assert!(rt;
-        out.as_slice() == b"{\"refused\":\"NoSuchNode\",\"reply\":\"refused\"}\n".as_slice()
+        writer.taken.as_slice()
+            == b"{\"refused\":\"NoSuchNode\",\"reply\":\"refused\"}\n".as_slice()
     );
     Ok(())
 }
@@ -242,18 +241,18 @@ fn answers_at_the_second_try(rt: HostRuntime) -> Result<(), Fail> {
 #[test]
 fn tells_a_tenant_at_the_second_try(rt: HostRuntime) -> Result<(), Fail> {
     let alloc = rt.alloc();
-    let mut first = SCRIPT;
-    let mut out = Vec::with_capacity(alloc, 512)?;
-    let tried = tell_built_in(&rt, alloc, &mut first, &mut out)?;
+    let mut first = whole(alloc, SCRIPT)?;
+    let mut writer = Sink::new(Vec::with_capacity(alloc, 512)?);
+    let tried = tell_built_in(&rt, alloc, &mut first, &mut writer)?;
     if tried == Err(ToolFault::NoMemory) {
         println!(rt; "refused")?;
-        assert!(rt; TOLD.starts_with(&out));
-        out.clear();
-        let mut second = SCRIPT;
-        let ended = tell_built_in(&rt, alloc, &mut second, &mut out)?;
+        assert!(rt; TOLD.starts_with(&writer.taken));
+        writer.taken.clear();
+        let mut second = whole(alloc, SCRIPT)?;
+        let ended = tell_built_in(&rt, alloc, &mut second, &mut writer)?;
         assert!(rt; ended.is_ok());
     }
-    assert!(rt; out.as_slice() == TOLD);
+    assert!(rt; writer.taken.as_slice() == TOLD);
     Ok(())
 }
 
@@ -265,23 +264,19 @@ const PASSED: &[u8] = b"{\"audit\":\"ok\",\"entries\":1}\n";
 #[test]
 fn tells_nothing_of_a_journal_after_a_read_fault(rt: HostRuntime) -> Result<(), Fail> {
     let alloc = rt.alloc();
-    let mut cut = BufReader::with_capacity(alloc, 7, Cut { left: JOURNAL })?;
-    let mut out = Vec::new(alloc);
-    let ended = audit_lines(alloc, built_in(alloc)?, &mut cut, &mut out);
+    let mut reader = cut(alloc, 7, JOURNAL)?;
+    let mut writer = Sink::new(Vec::new(alloc));
+    let ended = audit_lines(alloc, built_in(alloc)?, &mut reader, &mut writer);
     assert!(rt; ended == Err(ToolFault::Read));
-    assert!(rt; out.is_empty());
+    assert!(rt; writer.taken.is_empty());
     Ok(())
 }
 
 #[test]
 fn tells_a_front_of_an_audit(rt: HostRuntime) -> Result<(), Fail> {
     let alloc = rt.alloc();
-    let mut writer = Narrow {
-        taken: Vec::new(alloc),
-        room: 7,
-        fails: false,
-    };
-    let mut reader = JOURNAL;
+    let mut reader = whole(alloc, JOURNAL)?;
+    let mut writer = Sink::narrow(Vec::new(alloc), 7, false);
     let ended = audit_lines(alloc, built_in(alloc)?, &mut reader, &mut writer);
     assert!(rt; ended == Err(ToolFault::Write));
     assert!(rt; writer.taken.as_slice() == &PASSED[..7]);
@@ -292,17 +287,17 @@ fn tells_a_front_of_an_audit(rt: HostRuntime) -> Result<(), Fail> {
 #[test]
 fn audits_at_the_second_try(rt: HostRuntime) -> Result<(), Fail> {
     let alloc = rt.alloc();
-    let mut first = JOURNAL;
-    let mut out = Vec::with_capacity(alloc, 256)?;
-    let tried = audit_lines(alloc, built_in(alloc)?, &mut first, &mut out);
+    let mut first = whole(alloc, JOURNAL)?;
+    let mut writer = Sink::new(Vec::with_capacity(alloc, 256)?);
+    let tried = audit_lines(alloc, built_in(alloc)?, &mut first, &mut writer);
     if tried == Err(ToolFault::NoMemory) {
         println!(rt; "refused")?;
-        assert!(rt; out.is_empty());
-        let mut second = JOURNAL;
-        let ended = audit_lines(alloc, built_in(alloc)?, &mut second, &mut out);
+        assert!(rt; writer.taken.is_empty());
+        let mut second = whole(alloc, JOURNAL)?;
+        let ended = audit_lines(alloc, built_in(alloc)?, &mut second, &mut writer);
         assert!(rt; ended.is_ok());
     }
-    assert!(rt; out.as_slice() == PASSED);
+    assert!(rt; writer.taken.as_slice() == PASSED);
     Ok(())
 }
 
@@ -322,11 +317,11 @@ impl Gate for Free {
 }
 
 /// Has one worker go over the nodes of a script, once.
-fn live_once<T: Threads + Wait + Sync, R: std::io::BufRead, W: Write>(
+fn live_once<T: Threads + Wait + Sync>(
     rt: &T,
     alloc: Global,
-    reader: &mut R,
-    writer: &mut W,
+    reader: &mut Reader<'_>,
+    writer: &mut Sink,
 ) -> Result<Result<Summary, ToolFault>, Fail> {
     let config = built_in(alloc)?;
     Ok(live_lines(rt, alloc, config, 1, 1, &Free, reader, writer))
@@ -341,23 +336,19 @@ const NODE: &[u8] =
 #[test]
 fn tells_nothing_of_a_session_after_a_read_fault(rt: HostRuntime) -> Result<(), Fail> {
     let alloc = rt.alloc();
-    let mut cut = BufReader::with_capacity(alloc, 7, Cut { left: NODE })?;
-    let mut out = Vec::new(alloc);
-    let ended = live_once(&rt, alloc, &mut cut, &mut out)?;
+    let mut reader = cut(alloc, 7, NODE)?;
+    let mut writer = Sink::new(Vec::new(alloc));
+    let ended = live_once(&rt, alloc, &mut reader, &mut writer)?;
     assert!(rt; ended == Err(ToolFault::Read));
-    assert!(rt; out.is_empty());
+    assert!(rt; writer.taken.is_empty());
     Ok(())
 }
 
 #[test]
 fn tells_a_front_of_a_session(rt: HostRuntime) -> Result<(), Fail> {
     let alloc = rt.alloc();
-    let mut writer = Narrow {
-        taken: Vec::new(alloc),
-        room: 120,
-        fails: true,
-    };
-    let mut reader = NODE;
+    let mut reader = whole(alloc, NODE)?;
+    let mut writer = Sink::narrow(Vec::new(alloc), 120, true);
     let ended = live_once(&rt, alloc, &mut reader, &mut writer)?;
     assert!(rt; ended == Err(ToolFault::Write));
     assert!(rt; writer.taken.as_slice() == &LIVED[..120]);
@@ -368,17 +359,17 @@ fn tells_a_front_of_a_session(rt: HostRuntime) -> Result<(), Fail> {
 #[test]
 fn lives_at_the_second_try(rt: HostRuntime) -> Result<(), Fail> {
     let alloc = rt.alloc();
-    let mut first = NODE;
-    let mut out = Vec::with_capacity(alloc, 512)?;
-    let tried = live_once(&rt, alloc, &mut first, &mut out)?;
+    let mut first = whole(alloc, NODE)?;
+    let mut writer = Sink::new(Vec::with_capacity(alloc, 512)?);
+    let tried = live_once(&rt, alloc, &mut first, &mut writer)?;
     if tried == Err(ToolFault::NoMemory) {
         println!(rt; "refused")?;
-        assert!(rt; LIVED.starts_with(&out));
-        out.clear();
-        let mut second = NODE;
-        let ended = live_once(&rt, alloc, &mut second, &mut out)?;
+        assert!(rt; LIVED.starts_with(&writer.taken));
+        writer.taken.clear();
+        let mut second = whole(alloc, NODE)?;
+        let ended = live_once(&rt, alloc, &mut second, &mut writer)?;
         assert!(rt; ended.is_ok());
     }
-    assert!(rt; out.as_slice() == LIVED);
+    assert!(rt; writer.taken.as_slice() == LIVED);
     Ok(())
 }
