@@ -58,16 +58,16 @@ impl Model for Core {
 impl Core {
     #[tactic(auto, unfolding(ynl_model::specs::Events::step, ynl_model::specs::Events::accepted))]
     #[inline(never)]
-    fn register(&mut self, name: Name, label: Label, size: Size) -> Result<Reply, NoMemory>
-        ensures ok { IfOk result (λ reply. Answers self.old (Register name label size) self.new reply) }
+    fn register(&mut self, name: &Name, label: &Label, size: &Size) -> Result<Reply, NoMemory>
+        ensures ok { IfOk result (λ reply. Answers self.old (Register name.now label.now size.now) self.new reply) }
         ensures err { OnErr result (self.new ≡ self.old) }
-        ensures sure { IsTrue (is_refused self.old (Register name label size)) → IsOk result }
+        ensures sure { IsTrue (is_refused self.old (Register name.now label.now size.now)) → IsOk result }
     {
-        if let Some(refusal) = refuse_register(&self.config, &self.tables, &name, &label) {
+        if let Some(refusal) = refuse_register(&self.config, &self.tables, name, label) {
             return Ok(Reply::Refused(refusal));
         }
         let _sized = size.amount();
-        join(&self.config, &mut self.tables, &name, &label, &size)?;
+        join(&self.config, &mut self.tables, name, label, size)?;
         self.lulls.forget_all();
         wake(&mut self.tables);
         Ok(Reply::Done)
@@ -75,10 +75,10 @@ impl Core {
 
     #[tactic(auto, unfolding(ynl_model::specs::Events::step, ynl_model::specs::Events::accepted))]
     #[inline(never)]
-    fn lost(&mut self, name: Name) -> Reply
-        ensures { Answers self.old (Lost name) self.new result }
+    fn lost(&mut self, name: &Name) -> Reply
+        ensures { Answers self.old (Lost name.now) self.new result }
     {
-        let node = match refuse_lost(&self.tables, &name) {
+        let node = match refuse_lost(&self.tables, name) {
             Ok(node) => node,
             Err(refusal) => return Reply::Refused(refusal),
         };
@@ -90,16 +90,16 @@ impl Core {
 
     #[tactic(auto, unfolding(ynl_model::specs::Events::step, ynl_model::specs::Events::accepted))]
     #[inline(never)]
-    fn relabel(&mut self, name: Name, label: Label) -> Result<Reply, NoMemory>
-        ensures ok { IfOk result (λ reply. Answers self.old (Relabel name label) self.new reply) }
+    fn relabel(&mut self, name: &Name, label: &Label) -> Result<Reply, NoMemory>
+        ensures ok { IfOk result (λ reply. Answers self.old (Relabel name.now label.now) self.new reply) }
         ensures err { OnErr result (self.new ≡ self.old) }
-        ensures sure { IsTrue (is_refused self.old (Relabel name label)) → IsOk result }
+        ensures sure { IsTrue (is_refused self.old (Relabel name.now label.now)) → IsOk result }
     {
-        let node = match refuse_relabel(&self.config, &self.tables, &name, &label) {
+        let node = match refuse_relabel(&self.config, &self.tables, name, label) {
             Ok(node) => node,
             Err(refusal) => return Ok(Reply::Refused(refusal)),
         };
-        relabel(&self.config, &mut self.tables, &name, &node, &label)?;
+        relabel(&self.config, &mut self.tables, name, &node, label)?;
         self.lulls.forget_all();
         wake(&mut self.tables);
         Ok(Reply::Done)
@@ -107,10 +107,10 @@ impl Core {
 
     #[tactic(auto, unfolding(ynl_model::specs::Events::step, ynl_model::specs::Events::accepted))]
     #[inline(never)]
-    fn exited(&mut self, name: Name, id: Id) -> Reply
-        ensures { Answers self.old (Exited name id) self.new result }
+    fn exited(&mut self, name: &Name, id: &Id) -> Reply
+        ensures { Answers self.old (Exited name.now id.now) self.new result }
     {
-        let container = match refuse_exited(&self.tables, &name, &id) {
+        let container = match refuse_exited(&self.tables, name, id) {
             Ok(container) => container,
             Err(refusal) => return Reply::Refused(refusal),
         };
@@ -127,12 +127,12 @@ impl Core {
 
     #[tactic(auto, unfolding(ynl_model::specs::Events::step, ynl_model::specs::Events::accepted))]
     #[inline(never)]
-    fn ask(&mut self, tenant: Name, name: Name, ask: AskRow) -> Result<Reply, NoMemory>
-        ensures ok { IfOk result (λ reply. Answers self.old (event.Ask tenant name ask.label ask.priority ask.count ask.size) self.new reply) }
+    fn ask(&mut self, tenant: &Name, name: &Name, ask: &AskRow) -> Result<Reply, NoMemory>
+        ensures ok { IfOk result (λ reply. Answers self.old (event.Ask tenant.now name.now ask.now.label ask.now.priority ask.now.count ask.now.size) self.new reply) }
         ensures err { OnErr result (self.new ≡ self.old) }
-        ensures sure { IsTrue (takes_no_memory self.old (event.Ask tenant name ask.label ask.priority ask.count ask.size)) → IsOk result }
+        ensures sure { IsTrue (takes_no_memory self.old (event.Ask tenant.now name.now ask.now.label ask.now.priority ask.now.count ask.now.size)) → IsOk result }
     {
-        let leaf = match refuse_ask(&self.config, &self.tables, &tenant, &name, &ask) {
+        let leaf = match refuse_ask(&self.config, &self.tables, tenant, name, ask) {
             Ok(leaf) => leaf,
             Err(refusal) => return Ok(Reply::Refused(refusal)),
         };
@@ -141,7 +141,7 @@ impl Core {
             &mut self.tables.leaves,
             &self.tables.numbers,
             &leaf,
-            &name,
+            name,
             ask.count,
         )?;
         forget_leaf(&mut self.lulls, &self.tables, &leaf);
@@ -149,8 +149,8 @@ impl Core {
             &mut self.tables.leaves,
             &self.tables.numbers,
             &leaf,
-            &name,
-            &ask,
+            name,
+            ask,
         );
         wake(&mut self.tables);
         Ok(Reply::Done)
@@ -158,10 +158,10 @@ impl Core {
 
     #[tactic(auto, unfolding(ynl_model::specs::Events::step, ynl_model::specs::Events::accepted))]
     #[inline(never)]
-    fn release(&mut self, tenant: Name, id: Id) -> Reply
-        ensures { Answers self.old (Release tenant id) self.new result }
+    fn release(&mut self, tenant: &Name, id: &Id) -> Reply
+        ensures { Answers self.old (Release tenant.now id.now) self.new result }
     {
-        let container = match refuse_release(&self.tables, &tenant, &id) {
+        let container = match refuse_release(&self.tables, tenant, id) {
             Ok(container) => container,
             Err(refusal) => return Reply::Refused(refusal),
         };
@@ -180,31 +180,31 @@ impl Core {
     #[inline(never)]
     fn submit(
         &mut self,
-        queue: Path,
-        app: Name,
-        user: Name,
-        label: Option<Label>,
-        master: Size,
+        queue: &Path,
+        app: &Name,
+        user: &Name,
+        label: &Option<Label>,
+        master: &Size,
     ) -> Result<Reply, NoMemory>
-        ensures ok { IfOk result (λ reply. Answers self.old (Submit queue app user label master) self.new reply) }
+        ensures ok { IfOk result (λ reply. Answers self.old (Submit queue.now app.now user.now label.now master.now) self.new reply) }
         ensures err { OnErr result (self.new ≡ self.old) }
-        ensures sure { IsTrue (is_refused self.old (Submit queue app user label master)) → IsOk result }
+        ensures sure { IsTrue (is_refused self.old (Submit queue.now app.now user.now label.now master.now)) → IsOk result }
     {
-        let home = match refuse_submit(&self.config, &self.tables, &queue, &app, label, &master) {
+        let home = match refuse_submit(&self.config, &self.tables, queue, app, *label, master) {
             Ok(home) => home,
             Err(refusal) => return Ok(Reply::Refused(refusal)),
         };
         let _sized = master.amount();
-        reserve_application(&mut self.tables.leaves, &self.tables.numbers, &queue)?;
+        reserve_application(&mut self.tables.leaves, &self.tables.numbers, queue)?;
         let new = Submission {
-            leaf: queue,
-            name: app,
-            user,
+            leaf: *queue,
+            name: *app,
+            user: *user,
             home,
-            master,
+            master: *master,
         };
         let alloc = *self.tables.leaves.allocator();
-        forget_leaf(&mut self.lulls, &self.tables, &queue);
+        forget_leaf(&mut self.lulls, &self.tables, queue);
         submit(&mut self.tables.leaves, &self.tables.numbers, &new, alloc);
         wake(&mut self.tables);
         Ok(Reply::Done)
@@ -212,16 +212,16 @@ impl Core {
 
     #[tactic(auto, unfolding(ynl_model::specs::Events::step, ynl_model::specs::Events::accepted))]
     #[inline(never)]
-    fn heartbeat(&mut self, name: Name) -> Result<Reply, NoMemory>
-        ensures ok { IfOk result (λ reply. Answers self.old (Heartbeat name) self.new reply) }
+    fn heartbeat(&mut self, name: &Name) -> Result<Reply, NoMemory>
+        ensures ok { IfOk result (λ reply. Answers self.old (Heartbeat name.now) self.new reply) }
         ensures err { OnErr result (self.new ≡ self.old) }
-        ensures sure { IsTrue (is_refused self.old (Heartbeat name)) → IsOk result }
+        ensures sure { IsTrue (is_refused self.old (Heartbeat name.now)) → IsOk result }
     {
         let alloc = *self.tables.leaves.allocator();
-        if self.tables.nodes.rests(&name) {
+        if self.tables.nodes.rests(name) {
             return Ok(Reply::Placed(Items::new(Vec::new(alloc))));
         }
-        let node = match refuse_heartbeat(&self.config, &self.tables, &name) {
+        let node = match refuse_heartbeat(&self.config, &self.tables, name) {
             Ok(node) => node,
             Err(refusal) => return Ok(Reply::Refused(refusal)),
         };
@@ -237,7 +237,7 @@ impl Core {
             &mut placed,
         );
         if placed.is_empty() && count > 0 {
-            rest(&mut self.tables, &name);
+            rest(&mut self.tables, name);
         } else {
             wake(&mut self.tables);
         }
@@ -246,10 +246,10 @@ impl Core {
 
     #[tactic(auto, unfolding(ynl_model::specs::Events::step, ynl_model::specs::Events::accepted))]
     #[inline(never)]
-    fn finish(&mut self, tenant: Name, name: Name) -> Reply
-        ensures { Answers self.old (Finish tenant name) self.new result }
+    fn finish(&mut self, tenant: &Name, name: &Name) -> Reply
+        ensures { Answers self.old (Finish tenant.now name.now) self.new result }
     {
-        let live = match refuse_finish(&self.tables, &tenant, &name) {
+        let live = match refuse_finish(&self.tables, tenant, name) {
             Ok(live) => live,
             Err(refusal) => return Reply::Refused(refusal),
         };
@@ -263,10 +263,10 @@ impl Core {
 
     #[tactic(auto, unfolding(ynl_model::specs::Events::step, ynl_model::specs::Events::accepted))]
     #[inline(never)]
-    fn stop(&mut self, queue: Path) -> Reply
-        ensures { Answers self.old (Stop queue) self.new result }
+    fn stop(&mut self, queue: &Path) -> Reply
+        ensures { Answers self.old (Stop queue.now) self.new result }
     {
-        if let Some(refusal) = refuse_stop(&self.config, &queue) {
+        if let Some(refusal) = refuse_stop(&self.config, queue) {
             return Reply::Refused(refusal);
         }
         self.tables.stops.stop(queue.names());
@@ -277,10 +277,10 @@ impl Core {
 
     #[tactic(auto, unfolding(ynl_model::specs::Events::step, ynl_model::specs::Events::accepted))]
     #[inline(never)]
-    fn start(&mut self, queue: Path) -> Reply
-        ensures { Answers self.old (Start queue) self.new result }
+    fn start(&mut self, queue: &Path) -> Reply
+        ensures { Answers self.old (Start queue.now) self.new result }
     {
-        if let Some(refusal) = refuse_start(&self.config, &queue) {
+        if let Some(refusal) = refuse_start(&self.config, queue) {
             return Reply::Refused(refusal);
         }
         self.tables.stops.start(queue.names());
@@ -291,13 +291,13 @@ impl Core {
 
     #[tactic(auto, unfolding(ynl_model::specs::Events::step, ynl_model::specs::Events::accepted))]
     #[inline(never)]
-    fn maximum(&mut self, queue: Path, label: Label, share: Hundredths) -> Reply
-        ensures { Answers self.old (Maximum queue label share) self.new result }
+    fn maximum(&mut self, queue: &Path, label: &Label, share: Hundredths) -> Reply
+        ensures { Answers self.old (Maximum queue.now label.now share) self.new result }
     {
-        if let Some(refusal) = refuse_maximum(&self.config, &queue, &label, share) {
+        if let Some(refusal) = refuse_maximum(&self.config, queue, label, share) {
             return Reply::Refused(refusal);
         }
-        self.tables.maxima.set(queue.names(), &label, share);
+        self.tables.maxima.set(queue.names(), label, share);
         self.lulls.forget_all();
         wake(&mut self.tables);
         Reply::Done
@@ -305,17 +305,17 @@ impl Core {
 
     #[tactic(auto, unfolding(ynl_model::specs::Events::step, ynl_model::specs::Events::accepted, ynl_model::specs::Events::held))]
     #[inline(never)]
-    fn poll(&self, tenant: Name, name: Name, label: Label) -> Result<Reply, NoMemory>
-        ensures ok { IfOk result (λ reply. Answers self.now (Poll tenant name label) self.now reply) }
-        ensures sure { IsTrue (is_refused self.now (Poll tenant name label)) → IsOk result }
+    fn poll(&self, tenant: &Name, name: &Name, label: &Label) -> Result<Reply, NoMemory>
+        ensures ok { IfOk result (λ reply. Answers self.now (Poll tenant.now name.now label.now) self.now reply) }
+        ensures sure { IsTrue (is_refused self.now (Poll tenant.now name.now label.now)) → IsOk result }
     {
-        let live = match refuse_poll(&self.config, &self.tables, &tenant, &name, &label) {
+        let live = match refuse_poll(&self.config, &self.tables, tenant, name, label) {
             Ok(live) => live,
             Err(refusal) => return Ok(Reply::Refused(refusal)),
         };
         let alloc = *self.tables.leaves.allocator();
-        let containers = own_containers(alloc, &self.tables, &tenant, &name, &label)?;
-        let asks = pending_on(alloc, live.app, &label)?;
+        let containers = own_containers(alloc, &self.tables, tenant, name, label)?;
+        let asks = pending_on(alloc, live.app, label)?;
         Ok(Reply::Held {
             containers: Items::new(containers),
             asks: Items::new(asks),
@@ -324,21 +324,21 @@ impl Core {
 
     #[tactic(auto, unfolding(ynl_model::specs::Events::step, ynl_model::specs::Events::accepted))]
     #[inline(never)]
-    fn usage(&self, queue: Path, label: Label) -> Reply
-        ensures { Answers self.now (Usage queue label) self.now result }
+    fn usage(&self, queue: &Path, label: &Label) -> Reply
+        ensures { Answers self.now (Usage queue.now label.now) self.now result }
     {
-        if let Some(refusal) = refuse_usage(&self.config, &queue, &label) {
+        if let Some(refusal) = refuse_usage(&self.config, queue, label) {
             return Reply::Refused(refusal);
         }
-        usage_of(&self.config, &self.tables, &queue, &label)
+        usage_of(&self.config, &self.tables, queue, label)
     }
 
     #[tactic(auto, unfolding(ynl_model::specs::Events::step, ynl_model::specs::Events::accepted))]
     #[inline(never)]
-    fn propose(&mut self, name: Name) -> Reply
-        ensures { Answers self.old (Propose name) self.new result }
+    fn propose(&mut self, name: &Name) -> Reply
+        ensures { Answers self.old (Propose name.now) self.new result }
     {
-        let node = match refuse_propose(&self.config, &self.tables, &name) {
+        let node = match refuse_propose(&self.config, &self.tables, name) {
             Ok(node) => node,
             Err(refusal) => return Reply::Refused(refusal),
         };
@@ -347,12 +347,12 @@ impl Core {
 
     #[tactic(auto, unfolding(ynl_model::specs::Events::step, ynl_model::specs::Events::accepted))]
     #[inline(never)]
-    fn commit(&mut self, proposal: Proposal) -> Result<Reply, NoMemory>
-        ensures ok { IfOk result (λ reply. Answers self.old (Commit proposal) self.new reply) }
+    fn commit(&mut self, proposal: &Proposal) -> Result<Reply, NoMemory>
+        ensures ok { IfOk result (λ reply. Answers self.old (Commit proposal.now) self.new reply) }
         ensures err { OnErr result (self.new ≡ self.old) }
-        ensures sure { IsTrue (is_refused self.old (Commit proposal)) → IsOk result }
+        ensures sure { IsTrue (is_refused self.old (Commit proposal.now)) → IsOk result }
     {
-        let checked = match refuse_commit(&self.config, &self.tables, &proposal) {
+        let checked = match refuse_commit(&self.config, &self.tables, proposal) {
             Ok(checked) => checked,
             Err(refusal) => return Ok(Reply::Refused(refusal)),
         };
@@ -379,12 +379,13 @@ impl Core {
         })
     }
 
-    /// Takes an event, whatever kind it is of.
+    /// Takes an event, whatever kind it is of. The parts of an event are lent and not moved: each arm of a match
+    /// that moves them has places for its own, which are set to zero for every event.
     #[inline(never)]
-    fn apply_any(&mut self, event: Event) -> Result<Reply, NoMemory>
-        ensures ok { IfOk result (λ reply. Answers self.old event self.new reply) }
+    fn apply_any(&mut self, event: &Event) -> Result<Reply, NoMemory>
+        ensures ok { IfOk result (λ reply. Answers self.old event.now self.new reply) }
         ensures err { OnErr result (self.new ≡ self.old) }
-        ensures sure { IsTrue (takes_no_memory self.old event) → IsOk result }
+        ensures sure { IsTrue (takes_no_memory self.old event.now) → IsOk result }
     {
         match event {
             Event::Register { node, label, size } => self.register(node, label, size),
@@ -409,11 +410,11 @@ impl Core {
             } => self.ask(
                 tenant,
                 app,
-                AskRow {
-                    label,
-                    priority,
-                    count,
-                    size,
+                &AskRow {
+                    label: *label,
+                    priority: *priority,
+                    count: *count,
+                    size: *size,
                 },
             ),
             Event::Release { tenant, id } => Ok(self.release(tenant, id)),
@@ -428,7 +429,7 @@ impl Core {
                 queue,
                 label,
                 maximum,
-            } => Ok(self.maximum(queue, label, maximum)),
+            } => Ok(self.maximum(queue, label, *maximum)),
         }
     }
 
@@ -443,10 +444,10 @@ impl Core {
         ensures sure { IsTrue (takes_no_memory self.old event) → IsOk result }
     {
         // A match over all kinds has room for the parts of each, and the commonest kind goes past it.
-        if let Event::Heartbeat { node } = event {
+        if let Event::Heartbeat { node } = &event {
             return self.heartbeat(node);
         }
-        self.apply_any(event)
+        self.apply_any(&event)
     }
 
     /// The containers on a partition, in the order of placement, which is that of their ids.

@@ -21,39 +21,39 @@ by_leaf None leaf s outcome e = absurd (cc)
 by_leaf (Some app) leaf s outcome e = let same : app.leaf ≡ leaf = cc in ap outcome same
 
 -- the step is that the application asks
-stepped : (c : goal.After-wake) → step c.self.inside.config (state_of c.self.inside.tables) (Ask c.args.tenant c.args.name c.args.ask.label c.args.ask.priority c.args.ask.count c.args.ask.size)
+stepped : (c : goal.After-wake) → step c.self.inside.config (state_of c.self.inside.tables) (Ask c.args.tenant.now c.args.name.now c.args.ask.now.label c.args.ask.now.priority c.args.ask.now.count c.args.ask.now.size)
     ≡ done (record { nodes = c.self.inside.tables.nodes.list; partitions = partitions_of c.self.inside.tables.partitions.items; leaves = leaves_of c.ask_for.new.rows.items; stops = c.self.inside.tables.stops; maxima = c.self.inside.tables.maxima })
 unfolding accepted
 stepped c =
     let config = c.self.inside.config in
     let s : State = state_of c.self.inside.tables in
-    let event : Event = Ask c.args.tenant c.args.name c.args.ask.label c.args.ask.priority c.args.ask.count c.args.ask.size in
-    let change : LeafApps → LeafApps = with_app c.args.name (set_ask c.args.ask) in
+    let event : Event = Ask c.args.tenant.now c.args.name.now c.args.ask.now.label c.args.ask.now.priority c.args.ask.now.count c.args.ask.now.size in
+    let change : LeafApps → LeafApps = with_app c.args.name.now (set_ask c.args.ask.now) in
     let leaves : leaves_of c.ask_for.new.rows.items ≡ in_leaf c.in-Ok.leaf change s.leaves = c.ask_for.ensures.meaning ∙ ap (in_leaf c.in-Ok.leaf change) c.reserve_ask.ensures.meaning in
     taken_in config s event c.in-Ok.ensures.free
-    ∙ by_leaf (find_app s.leaves c.args.tenant c.args.name) c.in-Ok.leaf s (λ (leaf : Path). done (record s { leaves = in_leaf leaf change s.leaves })) c.in-Ok.ensures.leaf
+    ∙ by_leaf (find_app s.leaves c.args.tenant.now c.args.name.now) c.in-Ok.leaf s (λ (leaf : Path). done (record s { leaves = in_leaf leaf change s.leaves })) c.in-Ok.ensures.leaf
     ∙ (λ i. done (record s { leaves = sym leaves i }))
 
 pub invariant_of-self-2 : goal.invariant_of-self-2
 invariant_of-self-2 c =
     let config = c.self.inside.config in
-    let event : Event = Ask c.args.tenant c.args.name c.args.ask.label c.args.ask.priority c.args.ask.count c.args.ask.size in
-    let change : LeafApps → LeafApps = with_app c.args.name (set_ask c.args.ask) in
+    let event : Event = Ask c.args.tenant.now c.args.name.now c.args.ask.now.label c.args.ask.now.priority c.args.ask.now.count c.args.ask.now.size in
+    let change : LeafApps → LeafApps = with_app c.args.name.now (set_ask c.args.ask.now) in
     let leaves : leaves_of c.ask_for.new.rows.items ≡ in_leaf c.in-Ok.leaf change (leaves_of c.self.inside.tables.leaves.items) = c.ask_for.ensures.meaning ∙ ap (in_leaf c.in-Ok.leaf change) c.reserve_ask.ensures.meaning in
     let numbers = c.self.inside.tables.numbers in
     let rows = c.self.inside.tables.partitions.items in
     let s : State = state_of c.self.inside.tables in
     let kept : IsKept (record c.self.inside.tables { leaves = c.ask_for.new.rows }) = record {
       amounts = subst (λ (leaves : List LeafApps). AreKept numbers leaves rows) (sym leaves)
-          (kept_leaf numbers c.in-Ok.leaf c.args.name (set_ask c.args.ask) (λ app. refl) (λ app. refl) (leaves_of c.self.inside.tables.leaves.items) rows c.self.invariant.kept.amounts);
+          (kept_leaf numbers c.in-Ok.leaf c.args.name.now (set_ask c.args.ask.now) (λ app. refl) (λ app. refl) (leaves_of c.self.inside.tables.leaves.items) rows c.self.invariant.kept.amounts);
       marks = c.ask_for.ensures.marks s (c.reserve_ask.ensures.marks s c.self.invariant.kept.marks);
     } in
     woken c.self.inside (record c.self.inside.tables { leaves = c.ask_for.new.rows }) c.wake.new.tables c.forget_leaf.new.lulls event c.self.invariant c.amount-sized.ensures.range (ap (λ (o : Outcome). o.state) (stepped c)) kept refl c.wake.ensures.before c.wake.ensures.resting
-    (lulls_asked config numbers s (record s { leaves = leaves_of c.ask_for.new.rows.items }) c.args.tenant c.args.name c.in-Ok.leaf c.args.ask c.reserve_ask.new.rows.items c.self.inside.lulls c.forget_leaf.new.lulls c.self.invariant.sound.working.kept c.self.invariant.sound.tabled c.in-Ok.ensures.leaf
+    (lulls_asked config numbers s (record s { leaves = leaves_of c.ask_for.new.rows.items }) c.args.tenant.now c.args.name.now c.in-Ok.leaf c.args.ask.now c.reserve_ask.new.rows.items c.self.inside.lulls c.forget_leaf.new.lulls c.self.invariant.sound.working.kept c.self.invariant.sound.tabled c.in-Ok.ensures.leaf
     (λ i. record s { leaves = leaves i }) (subst (AreNumbered numbers) (sym c.reserve_ask.ensures.meaning) c.self.invariant.kept.amounts.numbered) c.reserve_ask.ensures.meaning kept.amounts.numbered c.self.invariant.lulls c.forget_leaf.ensures.fewer c.forget_leaf.ensures.gone)
 
 pub returns-clause-ok : goal.returns-clause-ok
-returns-clause-ok c = answers_done c.self.inside c.args.self.now (Ask c.args.tenant c.args.name c.args.ask.label c.args.ask.priority c.args.ask.count c.args.ask.size) _ (state_of c.wake.new.tables) c.self.view_is (stepped c) c.wake.ensures.before.state
+returns-clause-ok c = answers_done c.self.inside c.args.self.now (Ask c.args.tenant.now c.args.name.now c.args.ask.now.label c.args.ask.now.priority c.args.ask.now.count c.args.ask.now.size) _ (state_of c.wake.new.tables) c.self.view_is (stepped c) c.wake.ensures.before.state
 
 -- where memory is refused all is as it was
 pub invariant_of-self : goal.invariant_of-self

@@ -11,13 +11,13 @@ use Rattle.ynl_core.proofs.cluster.Core.exited.Goals as goal
 
 pub invariant_of-self : goal.invariant_of-self
 unfolding step accepted
-invariant_of-self c = woken c.self.inside c.end.new.tables c.wake.new.tables c.forget_leaf_of.new.lulls (Exited c.args.name c.args.id) c.self.invariant tt (search rules) c.end.ensures.kept c.end.ensures.numbers c.wake.ensures.before c.wake.ensures.resting
+invariant_of-self c = woken c.self.inside c.end.new.tables c.wake.new.tables c.forget_leaf_of.new.lulls (Exited c.args.name.now c.args.id.now) c.self.invariant tt (search rules) c.end.ensures.kept c.end.ensures.numbers c.wake.ensures.before c.wake.ensures.resting
     (lulls_ended c.self.inside.config c.self.inside.tables.numbers (state_of c.self.inside.tables) (state_of c.end.new.tables) c.in-Ok.container c.self.inside.tables.leaves.items c.self.inside.lulls c.forget_leaf_of.new.lulls c.self.invariant.sound.working.kept c.self.invariant.sound.tabled
-    (stands_once_at c.self.inside.config (state_of c.self.inside.tables) c.args.name c.args.id c.in-Ok.container c.self.invariant.sound.working.ordered c.in-Ok.ensures.container) c.end.ensures.state c.self.invariant.kept.amounts.numbered refl
+    (stands_once_at c.self.inside.config (state_of c.self.inside.tables) c.args.name.now c.args.id.now c.in-Ok.container c.self.invariant.sound.working.ordered c.in-Ok.ensures.container) c.end.ensures.state c.self.invariant.kept.amounts.numbered refl
     (subst (λ (queues : List Path). AreNumbered queues (state_of c.end.new.tables).leaves) c.end.ensures.numbers c.end.ensures.kept.amounts.numbered) c.self.invariant.lulls c.forget_leaf_of.ensures.fewer c.forget_leaf_of.ensures.gone)
 
 pub end-requires-clause-once : goal.end-requires-clause-once
-end-requires-clause-once c = stands_once_at c.self.inside.config (state_of c.self.inside.tables) c.args.name c.args.id c.in-Ok.container c.self.invariant.sound.working.ordered c.in-Ok.ensures.container
+end-requires-clause-once c = stands_once_at c.self.inside.config (state_of c.self.inside.tables) c.args.name.now c.args.id.now c.in-Ok.container c.self.invariant.sound.working.ordered c.in-Ok.ensures.container
 
 pub forget_leaf_of-requires : goal.forget_leaf_of-requires
 forget_leaf_of-requires c = c.self.invariant.kept.amounts.numbered

@@ -24,11 +24,11 @@ pub serve-requires-clause-kept : goal.serve-requires-clause-kept
 serve-requires-clause-kept c = reserved c.self.inside.tables c.reserve_containers.new.rows c.reserve_containers.ensures.meaning c.reserve_containers.ensures.summed c.self.invariant.kept
 
 pub serve-requires-clause-stands : goal.serve-requires-clause-stands
-serve-requires-clause-stands c = stands-found (state_of c.self.inside.tables) c.args.name c.in-Ok.node (search rules)
+serve-requires-clause-stands c = stands-found (state_of c.self.inside.tables) c.args.name.now c.in-Ok.node (search rules)
 
 pub invariant_of-self-else-is_empty : goal.invariant_of-self-else-is_empty
 unfolding step accepted
-invariant_of-self-else-is_empty c = woken c.self.inside c.serve.new.tables c.wake.new.tables c.serve.new.lulls (Heartbeat c.args.name) c.self.invariant tt (search rules) c.serve.ensures.kept c.serve.ensures.numbers c.wake.ensures.before c.wake.ensures.resting c.serve.ensures.lulls
+invariant_of-self-else-is_empty c = woken c.self.inside c.serve.new.tables c.wake.new.tables c.serve.new.lulls (Heartbeat c.args.name.now) c.self.invariant tt (search rules) c.serve.ensures.kept c.serve.ensures.numbers c.wake.ensures.before c.wake.ensures.resting c.serve.ensures.lulls
 
 pub invariant_of-self-then-count-gt0 : goal.invariant_of-self-then-count-gt0
 invariant_of-self-then-count-gt0 c =
@@ -38,18 +38,18 @@ invariant_of-self-then-count-gt0 c =
     let times = c.containers_per_heartbeat-count.result in
     let reserved : State = record { nodes = tables.nodes.list; partitions = partitions_of c.reserve_containers.new.rows.items; leaves = leaves_of tables.leaves.items; stops = tables.stops; maxima = tables.maxima } in
     let as_before : state_of tables ≡ reserved = λ i. record { nodes = tables.nodes.list; partitions = sym c.reserve_containers.ensures.meaning i; leaves = leaves_of tables.leaves.items; stops = tables.stops; maxima = tables.maxima } in
-    let found : find_node reserved.nodes c.args.name ≡ Some node = search rules in
+    let found : find_node reserved.nodes c.args.name.now ≡ Some node = search rules in
     let nothing : c.serve.new.placed.items ≡ [] = empty_items c.serve.new.placed.items (search rules) in
     let unplaced : (beat config node times reserved).placed ≡ [] = unplaced_more (beat config node times reserved) c.in_ok-placed.placed.items c.serve.new.placed.items c.in_ok-placed.ensures.items c.serve.ensures.placed nothing in
     let inside : 0 < times = search rules in
-    let free = subst (λ s. first_that_holds (reasons config s (Heartbeat c.args.name)) ≡ None) as_before c.in-Ok.ensures.free in
+    let free = subst (λ s. first_that_holds (reasons config s (Heartbeat c.args.name.now)) ≡ None) as_before c.in-Ok.ensures.free in
     let sound : IsSound config reserved c.self.inside.tables.nodes.resting = subst (λ s. IsSound config s c.self.inside.tables.nodes.resting) as_before c.self.invariant.sound in
     let same : state_of c.rest.new.tables ≡ reserved = c.rest.ensures.before.state ∙ c.serve.ensures.state ∙ unplaced_same config node times reserved inside unplaced in
     record {
       sound = subst (λ s. IsSound config s c.rest.new.tables.nodes.resting) (sym same) (record {
         working = sound.working;
         tabled = sound.tabled;
-        resting = rests_more config reserved c.serve.new.tables.nodes.resting c.rest.new.tables.nodes.resting c.args.name (unplaced_rests config reserved c.args.name node times free found inside unplaced) c.rest.ensures.resting
+        resting = rests_more config reserved c.serve.new.tables.nodes.resting c.rest.new.tables.nodes.resting c.args.name.now (unplaced_rests config reserved c.args.name.now node times free found inside unplaced) c.rest.ensures.resting
             (subst (AreResting config reserved) (sym c.serve.ensures.resting) sound.resting);
       });
       kept = c.rest.ensures.before.kept c.serve.ensures.kept;
@@ -60,8 +60,8 @@ invariant_of-self-then-count-gt0 c =
 pub returns-then-rests-clause-ok : goal.returns-then-rests-clause-ok
 returns-then-rests-clause-ok c =
     let old = world_of c.self.inside in
-    let event : Event = Heartbeat c.args.name in
-    let same = resting_step old.config old.state c.args.name (c.self.invariant.sound.resting c.args.name (subst (λ b. OnTrue b (is_among c.self.inside.tables.nodes.resting c.args.name ≡ true)) c.if-rests.true c.rests.ensures)) in
+    let event : Event = Heartbeat c.args.name.now in
+    let same = resting_step old.config old.state c.args.name.now (c.self.invariant.sound.resting c.args.name.now (subst (λ b. OnTrue b (is_among c.self.inside.tables.nodes.resting c.args.name.now ≡ true)) c.if-rests.true c.rests.ensures)) in
     let P : World → Type 0 = λ w. Answers w event w (Placed c.new-then-rests.result) in
     subst P c.self.view_is (record {
       told = ap Placed (c.new-then-rests.ensures ∙ c.new.ensures.items) ∙ sym (ap (λ (o : Outcome). o.reply) same);

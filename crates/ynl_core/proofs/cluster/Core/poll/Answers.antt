@@ -16,11 +16,11 @@ unfolding accepted held
 returns-clause-ok c =
     let config = c.self.inside.config in
     let s : State = state_of c.self.inside.tables in
-    let event : Event = Poll c.args.tenant c.args.name c.args.label in
+    let event : Event = Poll c.args.tenant.now c.args.name.now c.args.label.now in
     let app : Application = app_of c.in-Ok.live.leaf.now c.in-Ok.live.app.now in
-    let found : find_app s.leaves c.args.tenant c.args.name ≡ Some app = c.in-Ok.ensures.live in
-    let own : c.new.result ≡ own_containers s c.args.tenant c.args.name c.args.label = c.new.ensures ∙ c.in_ok-containers.ensures in
-    let asks : c.new-2.result ≡ pending_on c.args.label app = c.new-2.ensures ∙ c.in_ok-asks.ensures app.leaf in
+    let found : find_app s.leaves c.args.tenant.now c.args.name.now ≡ Some app = c.in-Ok.ensures.live in
+    let own : c.new.result ≡ own_containers s c.args.tenant.now c.args.name.now c.args.label.now = c.new.ensures ∙ c.in_ok-containers.ensures in
+    let asks : c.new-2.result ≡ pending_on c.args.label.now app = c.new-2.ensures ∙ c.in_ok-asks.ensures app.leaf in
     let same : step config s event ≡ answered s (Held c.new.result c.new-2.result) = taken_in config s event c.in-Ok.ensures.free ∙ rw found (λ i. answered s (Held (sym own i) (sym asks i))) in
     let P : World → Type 0 = λ w. Answers w event w (Held c.new.result c.new-2.result) in
     subst P c.self.view_is (record {

@@ -8,7 +8,7 @@ use Rattle.ynl_core.proofs.cluster.Core.relabel.Goals as goal
 
 pub invariant_of-self-2 : goal.invariant_of-self-2
 unfolding step accepted
-invariant_of-self-2 c = woken c.self.inside c.relabel.new.tables c.wake.new.tables c.forget_all.new.self (Relabel c.args.name c.args.label) c.self.invariant tt (search rules) c.relabel.ensures.kept c.relabel.ensures.numbers c.wake.ensures.before c.wake.ensures.resting (none_known c.self.inside.config (state_of c.relabel.new.tables) c.forget_all.new.self c.forget_all.ensures.gone)
+invariant_of-self-2 c = woken c.self.inside c.relabel.new.tables c.wake.new.tables c.forget_all.new.self (Relabel c.args.name.now c.args.label.now) c.self.invariant tt (search rules) c.relabel.ensures.kept c.relabel.ensures.numbers c.wake.ensures.before c.wake.ensures.resting (none_known c.self.inside.config (state_of c.relabel.new.tables) c.forget_all.new.self c.forget_all.ensures.gone)
 
 -- where memory is refused all is as it was
 pub invariant_of-self : goal.invariant_of-self

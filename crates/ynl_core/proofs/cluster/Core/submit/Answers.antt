@@ -28,40 +28,40 @@ unfolding reasons
 unused c s queue app user label master none = (none-holds (reasons c s (Submit queue app user label master)) none).1.1.1.1.1.1.0
 
 -- the step is the submission
-stepped : (c : goal.After-wake) → (step c.self.inside.config (state_of c.self.inside.tables) (Submit c.args.queue c.args.app c.args.user c.args.label c.args.master))
+stepped : (c : goal.After-wake) → (step c.self.inside.config (state_of c.self.inside.tables) (Submit c.args.queue.now c.args.app.now c.args.user.now c.args.label.now c.args.master.now))
     ≡ done (record { nodes = c.self.inside.tables.nodes.list; partitions = partitions_of c.self.inside.tables.partitions.items; leaves = leaves_of c.submit.new.rows.items; stops = c.self.inside.tables.stops; maxima = c.self.inside.tables.maxima })
 unfolding accepted
 stepped c =
     let config = c.self.inside.config in
     let tables = c.self.inside.tables in
-    let event : Event = Submit c.args.queue c.args.app c.args.user c.args.label c.args.master in
-    let leaves = c.submit.ensures.meaning ∙ (λ i. in_leaf c.args.queue (submitted (new_app c.args.queue c.args.app c.args.user (c.in-Ok.ensures.home i) c.args.master)) (c.reserve_application.ensures.meaning i)) in
-    taken_in config (state_of tables) event (c.in-Ok.ensures.free c.args.user)
+    let event : Event = Submit c.args.queue.now c.args.app.now c.args.user.now c.args.label.now c.args.master.now in
+    let leaves = c.submit.ensures.meaning ∙ (λ i. in_leaf c.args.queue.now (submitted (new_app c.args.queue.now c.args.app.now c.args.user.now (c.in-Ok.ensures.home i) c.args.master.now)) (c.reserve_application.ensures.meaning i)) in
+    taken_in config (state_of tables) event (c.in-Ok.ensures.free c.args.user.now)
     ∙ (λ i. done (record { nodes = tables.nodes.list; partitions = partitions_of tables.partitions.items; leaves = sym leaves i; stops = tables.stops; maxima = tables.maxima }))
 
 pub invariant_of-self-2 : goal.invariant_of-self-2
 invariant_of-self-2 c =
     let config = c.self.inside.config in
-    let event : Event = Submit c.args.queue c.args.app c.args.user c.args.label c.args.master in
+    let event : Event = Submit c.args.queue.now c.args.app.now c.args.user.now c.args.label.now c.args.master.now in
     let s : State = state_of c.self.inside.tables in
-    let app : Application = new_app c.args.queue c.args.app c.args.user (home_of config c.args.queue c.args.label) c.args.master in
-    let leaves : leaves_of c.submit.new.rows.items ≡ in_leaf c.args.queue (submitted app) s.leaves =
-    c.submit.ensures.meaning ∙ (λ i. in_leaf c.args.queue (submitted (new_app c.args.queue c.args.app c.args.user (c.in-Ok.ensures.home i) c.args.master)) (c.reserve_application.ensures.meaning i)) in
+    let app : Application = new_app c.args.queue.now c.args.app.now c.args.user.now (home_of config c.args.queue.now c.args.label.now) c.args.master.now in
+    let leaves : leaves_of c.submit.new.rows.items ≡ in_leaf c.args.queue.now (submitted app) s.leaves =
+    c.submit.ensures.meaning ∙ (λ i. in_leaf c.args.queue.now (submitted (new_app c.args.queue.now c.args.app.now c.args.user.now (c.in-Ok.ensures.home i) c.args.master.now)) (c.reserve_application.ensures.meaning i)) in
     let numbers = c.self.inside.tables.numbers in
     let rows = c.self.inside.tables.partitions.items in
-    let free = unused config s c.args.queue c.args.app c.args.user c.args.label c.args.master (c.in-Ok.ensures.free c.args.user) in
+    let free = unused config s c.args.queue.now c.args.app.now c.args.user.now c.args.label.now c.args.master.now (c.in-Ok.ensures.free c.args.user.now) in
     let kept : IsKept (record c.self.inside.tables { leaves = c.submit.new.rows }) = record {
       amounts = subst (λ (leaves : List LeafApps). AreKept numbers leaves rows) (sym leaves)
           (kept_submission numbers app s.leaves rows free c.self.invariant.sound.working.kept.uses c.self.invariant.kept.amounts);
-      marks = c.submit.ensures.marks s (mark-new s (new_app c.args.queue c.args.app c.args.user c.in-Ok.home c.args.master) c.self.invariant.sound.working.kept free) (c.reserve_application.ensures.marks s c.self.invariant.kept.marks);
+      marks = c.submit.ensures.marks s (mark-new s (new_app c.args.queue.now c.args.app.now c.args.user.now c.in-Ok.home c.args.master.now) c.self.invariant.sound.working.kept free) (c.reserve_application.ensures.marks s c.self.invariant.kept.marks);
     } in
     woken c.self.inside (record c.self.inside.tables { leaves = c.submit.new.rows }) c.wake.new.tables c.forget_leaf.new.lulls event c.self.invariant c.amount-sized.ensures.range (ap (λ (o : Outcome). o.state) (stepped c)) kept refl c.wake.ensures.before c.wake.ensures.resting
-    (lulls_submitted config numbers s (record s { leaves = leaves_of c.submit.new.rows.items }) c.args.user c.args.label c.args.master app c.reserve_application.new.rows.items c.self.inside.lulls c.forget_leaf.new.lulls c.self.invariant.sound.working.kept c.self.invariant.sound.tabled c.self.invariant.numbered
-    (c.in-Ok.ensures.free c.args.user) free (λ i. record s { leaves = leaves i }) (subst (AreNumbered numbers) (sym c.reserve_application.ensures.meaning) c.self.invariant.kept.amounts.numbered) c.reserve_application.ensures.meaning kept.amounts.numbered c.self.invariant.lulls c.forget_leaf.ensures.fewer
+    (lulls_submitted config numbers s (record s { leaves = leaves_of c.submit.new.rows.items }) c.args.user.now c.args.label.now c.args.master.now app c.reserve_application.new.rows.items c.self.inside.lulls c.forget_leaf.new.lulls c.self.invariant.sound.working.kept c.self.invariant.sound.tabled c.self.invariant.numbered
+    (c.in-Ok.ensures.free c.args.user.now) free (λ i. record s { leaves = leaves i }) (subst (AreNumbered numbers) (sym c.reserve_application.ensures.meaning) c.self.invariant.kept.amounts.numbered) c.reserve_application.ensures.meaning kept.amounts.numbered c.self.invariant.lulls c.forget_leaf.ensures.fewer
     c.forget_leaf.ensures.gone)
 
 pub returns-clause-ok : goal.returns-clause-ok
-returns-clause-ok c = answers_done c.self.inside c.args.self.now (Submit c.args.queue c.args.app c.args.user c.args.label c.args.master) _ (state_of c.wake.new.tables) c.self.view_is (stepped c) c.wake.ensures.before.state
+returns-clause-ok c = answers_done c.self.inside c.args.self.now (Submit c.args.queue.now c.args.app.now c.args.user.now c.args.label.now c.args.master.now) _ (state_of c.wake.new.tables) c.self.view_is (stepped c) c.wake.ensures.before.state
 
 -- where memory is refused all is as it was
 pub invariant_of-self : goal.invariant_of-self
