@@ -56,37 +56,44 @@ fn add_at<'a>(
     next_leaf(scene, place, passed)
 }
 
-/// The best request of the leaf at a place, if one of it may be placed.
-fn best_at(scene: &Scene<'_>, lulls: &mut Lulls, at: usize, place: usize) -> Option<Candidate>
+/// The best request of the leaf at a place is held, if one of it may be placed.
+fn hold_best_at(
+    scene: &Scene<'_>,
+    lulls: &mut Lulls,
+    at: usize,
+    place: usize,
+    held: &mut Option<Candidate>,
+)
     requires scene { IsScene scene.now }
     requires own { scene.now.as_guests ≡ false }
     requires lulls { AreLulls scene.now.config.now (state_in scene.now) lulls.old }
     requires at { IsPartAt lulls.old scene.now.label at }
     requires place { place < length scene.now.tables.now.leaves.items }
-    ensures seed { IsSeed scene.now result }
+    requires none { held.old ≡ None }
+    ensures seed { IsSeed scene.now held.new }
     ensures lulls { AreLulls scene.now.config.now (state_in scene.now) lulls.new }
     ensures at { IsPartAt lulls.new scene.now.label at }
 {
-    let mut held = None;
-    add_at(scene, lulls, at, place, &mut None, &mut held);
-    held
+    add_at(scene, lulls, at, place, &mut None, held);
 }
 
-/// The best request of a leaf in which the choice is likely to be, if one is found that may be placed.
-fn first_likely(scene: &Scene<'_>, lulls: &mut Lulls, at: usize) -> Option<Candidate>
+/// The best request of a leaf in which the choice is likely to be is held, if one is found that may be placed.
+fn hold_likely(scene: &Scene<'_>, lulls: &mut Lulls, at: usize, held: &mut Option<Candidate>)
     requires scene { IsScene scene.now }
     requires own { scene.now.as_guests ≡ false }
     requires lulls { AreLulls scene.now.config.now (state_in scene.now) lulls.old }
     requires at { IsPartAt lulls.old scene.now.label at }
-    ensures seed { IsSeed scene.now result }
+    requires none { held.old ≡ None }
+    ensures seed { IsSeed scene.now held.new }
     ensures lulls { AreLulls scene.now.config.now (state_in scene.now) lulls.new }
     ensures at { IsPartAt lulls.new scene.now.label at }
 {
-    let place = likely_leaf(scene, lulls, at)?;
-    if place >= scene.tables.leaves.len() {
-        return None;
+    let Some(place) = likely_leaf(scene, lulls, at) else {
+        return;
+    };
+    if place < scene.tables.leaves.len() {
+        hold_best_at(scene, lulls, at, place, held);
     }
-    best_at(scene, lulls, at, place)
 }
 
 /// What is wanted on the partition, leaf by leaf. What is below a queue that the request that is held is before is
@@ -106,18 +113,19 @@ fn add_all(scene: &Scene<'_>, lulls: &mut Lulls, at: usize, held: &mut Option<Ca
     }
 }
 
-/// The first of what is wanted on the partition. A leaf in which it is likely to be is looked at before all others.
-fn first_wanted(scene: &Scene<'_>, lulls: &mut Lulls) -> Option<Candidate>
+/// The first of what is wanted on the partition is held. A leaf in which it is likely to be is looked at before all
+/// others.
+fn hold_first_wanted(scene: &Scene<'_>, lulls: &mut Lulls, held: &mut Option<Candidate>)
     requires scene { IsScene scene.now }
     requires own { scene.now.as_guests ≡ false }
     requires lulls { AreLulls scene.now.config.now (state_in scene.now) lulls.old }
-    ensures best { HoldsBest scene.now None (all_wanted scene.now scene.now.tables.now.leaves.items) result }
+    requires none { held.old ≡ None }
+    ensures best { HoldsBest scene.now None (all_wanted scene.now scene.now.tables.now.leaves.items) held.new }
     ensures lulls { AreLulls scene.now.config.now (state_in scene.now) lulls.new }
 {
     let at = lulls.part(&scene.label);
-    let mut held = first_likely(scene, lulls, at);
-    add_all(scene, lulls, at, &mut held);
-    held
+    hold_likely(scene, lulls, at, held);
+    add_all(scene, lulls, at, held);
 }
 
 /// What the running applications ask for on the partition.
@@ -160,7 +168,9 @@ fn first_eligible(
         total,
         board: board_of(config, tables, &node.label),
     };
-    request_in(&first_wanted(&scene, lulls))
+    let mut held = None;
+    hold_first_wanted(&scene, lulls, &mut held);
+    request_in(&held)
 }
 
 /// The first of the asks for DEFAULT that have room, as guests.
