@@ -1,5 +1,4 @@
-use Rattle.std.proofs.Common.{List, Some, ap, sym, ◌∙◌}
-use Rattle.ynl_model.specs.Applications.{LeafApps, row_of}
+use Rattle.std.proofs.Common.{Some, sym, ◌∙◌}
 use Rattle.ynl_tables.specs.Tables.{leaf_of_row, leaves_of}
 use Rattle.ynl_tables.proofs.Counting.{found_for, finished_for_none}
 use Rattle.ynl_tables.proofs.Numbering.{leaf_numbered}
