@@ -4,8 +4,7 @@ ghost use Rattle.std.specs.Prelude.{◌≡◌, length, vec_len};
 
 use crate::events::{closed_len, opened, poll};
 use crate::sessions;
-use crate::sessions::Open;
-use crate::workers::{Started, gathered, play_script, script, turns};
+use crate::workers::{Started, gathered, open, play_script, script, turns};
 use std::alloc::Global;
 use std::process::Abort;
 use std::sync::Wait;
@@ -107,11 +106,11 @@ fn run_again<R: Threads + Wait + Sync + Print>(
 ) -> Result<Vec<WorkerEnd>, Fail>
     requires { length lists.now ≡ vec_len seats }
 {
-    match run_round(rt, alloc, live, seats, lists, &Open) {
+    match run_round(rt, alloc, live, seats, lists, &open()) {
         Ok(ends) => Ok(ends),
         Err(Unrun { seats }) => {
             println!(rt; "refused")?;
-            let ends = run_round(rt, alloc, live, seats, lists, &Open);
+            let ends = run_round(rt, alloc, live, seats, lists, &open());
             Ok(ends.ok().ok_or("not run")?)
         }
     }
@@ -189,7 +188,7 @@ fn session<R: Threads + Wait + Sync>(rt: &R, alloc: Global) -> Result<usize, Ses
         Ok(config) => config,
         Err(_) => return Err(SessionFault::NoMemory),
     };
-    let entries = run_session(rt, alloc, config, &events, 1, 2, &Open)?;
+    let entries = run_session(rt, alloc, config, &events, 1, 2, &open())?;
     Ok(entries.len())
 }
 

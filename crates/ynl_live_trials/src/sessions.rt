@@ -3,7 +3,7 @@
 ghost use Rattle.std.specs.Prelude.{◌<◌};
 
 use crate::events::{ask, register_node, submit};
-use crate::workers::HaltsAt;
+use crate::workers::{HaltsAt, open};
 use std::alloc::Global;
 use std::sync::Wait;
 use std::test::Fail;
@@ -13,21 +13,7 @@ use ynl_journal::audit;
 use ynl_model::{Entry, Event};
 use ynl_resource::Name;
 use ynl_session::run_session;
-use ynl_workers::{Gate, Go};
-
-/// Lets each worker go on.
-#[derive(Drop)]
-pub(crate) struct Open;
-
-impl Gate for Open {
-    ghost is_free = { λ _. Unit {0} };
-
-    fn before_commit(&self, _worker: u64, _turn: u64) -> Go {
-        Go::On
-    }
-
-    fn after_commit(&self, _worker: u64, _turn: u64) {}
-}
+use ynl_workers::Gate;
 
 /// Two nodes, and an application that waits for its master and asks for two containers.
 pub(crate) fn script() -> Option<[Event; 4]> {
@@ -87,7 +73,7 @@ fn others(entries: &[Entry]) -> usize {
 #[test]
 fn each_node_is_asked_about_once_a_round(rt: HostRuntime) -> Result<(), Fail> {
     let alloc = rt.alloc();
-    let entries = played(&rt, alloc, 2, 2, &Open)?;
+    let entries = played(&rt, alloc, 2, 2, &open())?;
     let events = script().ok_or("no script")?;
     assert!(rt; begins_with(&entries, &events));
     assert_eq!(rt; times_asked(&entries, "g1")?, 2);
@@ -101,7 +87,7 @@ fn each_node_is_asked_about_once_a_round(rt: HostRuntime) -> Result<(), Fail> {
 
 #[test]
 fn session_without_rounds_is_its_script(rt: HostRuntime) -> Result<(), Fail> {
-    let entries = played(&rt, rt.alloc(), 2, 0, &Open)?;
+    let entries = played(&rt, rt.alloc(), 2, 0, &open())?;
     let events = script().ok_or("no script")?;
     assert!(rt; begins_with(&entries, &events));
     assert_eq!(rt; entries.len(), events.len());
@@ -120,7 +106,7 @@ fn session_that_is_halted_commits_nothing(rt: HostRuntime) -> Result<(), Fail> {
 
 #[test]
 fn workers_may_be_more_than_nodes(rt: HostRuntime) -> Result<(), Fail> {
-    let entries = played(&rt, rt.alloc(), 5, 1, &Open)?;
+    let entries = played(&rt, rt.alloc(), 5, 1, &open())?;
     assert_eq!(rt; times_asked(&entries, "g1")?, 1);
     assert_eq!(rt; times_asked(&entries, "g2")?, 1);
     assert_eq!(rt; others(&entries), 6);
