@@ -8,3 +8,6 @@ pub mod ProposalTrip
 pub mod Lists
 pub mod ReplyTrip
 pub mod Sent
+pub mod Whole
+pub mod Plain
+pub mod Treed

@@ -2,4 +2,5 @@ pub mod Fields
 pub mod Reading
 pub mod ReadingReplies
 pub mod Sending
+pub mod Trees
 pub mod Writing

@@ -1,20 +1,20 @@
 //! What stands under the keys of an event: texts and numbers, and the names and amounts that they are.
 
 ghost use Rattle.std.specs.Prelude.{◌≡◌, ◌≤◌, IfOk};
-ghost use Rattle.serde_json.specs.View.{view};
+ghost use Rattle.ynl_lines.specs.Trees.{data_at};
 ghost use Rattle.ynl_resource.specs.Amounts.{IsSize};
 ghost use Rattle.ynl_resource.specs.Ranges.{whole};
 ghost use Rattle.ynl_lines.specs.Reading.{Gives, HasClock};
 ghost use Rattle.ynl_lines.specs.Reading as spec;
 
 use crate::faults::LineFault;
-use serde_json::Value;
+use crate::fields::Fields;
 use ynl_resource::{Hundredths, Id, Label, Name, Path, Size};
 
 /// The text under a key.
 #[tactic(auto, unfolding(crate::specs::Reading::text_at))]
-pub fn text_at<'v>(event: &'v Value, key: &str) -> Result<&'v str, LineFault>
-    ensures { Gives (λ s. s.now) result (spec.text_at key.now (view event.now)) }
+pub fn text_at<'v>(event: &Fields<'v, '_>, key: &str) -> Result<&'v str, LineFault>
+    ensures { Gives (λ s. s.now) result (spec.text_at key.now (data_at event.now.stands)) }
 {
     match event.get(key) {
         Some(value) => value.as_str().ok_or(LineFault::Field),
@@ -24,8 +24,8 @@ pub fn text_at<'v>(event: &'v Value, key: &str) -> Result<&'v str, LineFault>
 
 /// The number under a key.
 #[tactic(auto, unfolding(crate::specs::Reading::number_at))]
-pub fn number_at(event: &Value, key: &str) -> Result<u64, LineFault>
-    ensures { result ≡ spec.number_at key.now (view event.now) }
+pub fn number_at(event: &Fields<'_, '_>, key: &str) -> Result<u64, LineFault>
+    ensures { result ≡ spec.number_at key.now (data_at event.now.stands) }
 {
     match event.get(key) {
         Some(value) => value.as_u64().ok_or(LineFault::Field),
@@ -35,12 +35,12 @@ pub fn number_at(event: &Value, key: &str) -> Result<u64, LineFault>
 
 /// Whether an object has so many members.
 #[tactic(auto, unfolding(crate::specs::Reading::keys_are))]
-pub fn keys_are(event: &Value, count: usize) -> Result<(), LineFault>
-    ensures { Gives (λ _. tt) result (spec.keys_are count (view event.now)) }
+pub fn keys_are(event: &Fields<'_, '_>, count: usize) -> Result<(), LineFault>
+    ensures { Gives (λ _. tt) result (spec.keys_are count (data_at event.now.stands)) }
 {
-    match event.as_object() {
+    match event.count() {
         Some(members) => {
-            if members.len() == count {
+            if members == count {
                 Ok(())
             } else {
                 Err(LineFault::Field)

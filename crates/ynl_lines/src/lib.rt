@@ -4,14 +4,16 @@
 #![tactic(auto)]
 
 pub use faults::{BadLine, InputFault, JournalFault, LineFault};
-pub use read::read_event;
+pub use read::{EventReader, read_event};
 pub use read_lines::read_line;
 pub use write::{write_audit, write_event, write_fault, write_line, write_reply};
 
 mod answers;
 mod events;
 mod faults;
+mod fields;
 mod keys;
+mod numbers;
 mod object;
 mod proposals;
 mod read;
@@ -24,4 +26,5 @@ mod read_queues;
 mod read_replies;
 mod replies;
 mod sending;
+mod trees;
 mod write;

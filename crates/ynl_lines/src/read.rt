@@ -5,14 +5,18 @@ ghost use Rattle.std.specs.List.{find};
 ghost use Rattle.std.specs.Str.{bytes_eq};
 ghost use Rattle.serde_json.specs.Errors.{IsMemory};
 ghost use Rattle.serde_json.specs.View.{view};
+ghost use Rattle.ynl_lines.specs.Trees.{data_at};
 ghost use Rattle.ynl_lines.specs.Reading.{reading, IsRanged};
 ghost use Rattle.ynl_lines.specs.Reading as spec;
 
 use crate::faults::LineFault;
+use crate::fields::Fields;
 use crate::read_applications::{ask_at, finish_at, poll_at, release_at, submit_at};
 use crate::read_nodes::{exited_at, heartbeat_at, lost_at, register_at, relabel_at};
 use crate::read_proposals::{commit_at, propose_at};
 use crate::read_queues::{maximum_at, start_at, stop_at, usage_at};
+use crate::trees::{is_plain, tree_of};
+use json::Scratch;
 use serde_json::{Error, Value};
 use std::alloc::{AllocError, Global};
 use ynl_model::Event;
@@ -99,8 +103,8 @@ fn kind_of(word: &str) -> Option<Kind>
 
 /// The event of an object.
 #[tactic(auto, unfolding(crate::specs::Reading::event_at))]
-pub fn event_at(event: &Value) -> Result<Event, LineFault>
-    ensures event { result ≡ spec.event_at (view event.now) }
+pub fn event_at(event: &Fields<'_, '_>) -> Result<Event, LineFault>
+    ensures event { result ≡ spec.event_at (data_at event.now.stands) }
     ensures ranged { IfOk result (λ event. IsRanged event) }
 {
     let word = match event.get("event") {
@@ -127,6 +131,55 @@ pub fn event_at(event: &Value) -> Result<Event, LineFault>
     }
 }
 
+/// The event that a line is, by the value that serde_json reads of it.
+fn read_by_value(alloc: Global, line: &[u8]) -> Result<Result<Event, LineFault>, AllocError>
+    ensures event { IfOk result (λ read. read ≡ spec.event_of_line line.now) }
+    ensures ranged { IfOk result (λ read. IfOk read (λ event. IsRanged event)) }
+{
+    match parse(alloc, line)? {
+        Some(value) => Ok(event_at(&Fields::value(&value))),
+        None => Ok(Err(LineFault::Syntax)),
+    }
+}
+
+/// How deep a line nests at most to be taken as a tree: a proposal stands in an event.
+const MOST_DEPTH: usize = 2;
+
+/// Reads the events of lines one after another, with memory that is kept from line to line.
+#[derive(Drop)]
+pub struct EventReader {
+    scratch: Scratch,
+}
+
+impl EventReader {
+    /// One that keeps no memory yet.
+    pub fn new(alloc: Global) -> EventReader {
+        EventReader {
+            scratch: Scratch::new(alloc),
+        }
+    }
+
+    /// The event that a line is, or its first fault, as [`read_event`] tells it.
+    pub fn read(
+        &mut self,
+        alloc: Global,
+        line: &[u8],
+    ) -> Result<Result<Event, LineFault>, AllocError>
+        ensures event { IfOk result (λ read. read ≡ spec.event_of_line line.now) }
+        ensures ranged { IfOk result (λ read. IfOk read (λ event. IsRanged event)) }
+    {
+        let Some(tree) = tree_of(alloc, &mut self.scratch, line)? else {
+            return Ok(Err(LineFault::Syntax));
+        };
+        if is_plain(&tree, MOST_DEPTH) {
+            return Ok(event_at(&Fields::tree(&tree)));
+        }
+        // There is no room for two of a long line.
+        drop(tree);
+        read_by_value(alloc, line)
+    }
+}
+
 /// The event that a line is, or its first fault; the line is without its newline.
 ///
 /// The line is a JSON object with `event` and exactly the keys of that event:
@@ -148,8 +201,6 @@ pub fn read_event(alloc: Global, line: &[u8]) -> Result<Result<Event, LineFault>
     ensures event { IfOk result (λ read. read ≡ spec.event_of_line line.now) }
     ensures ranged { IfOk result (λ read. IfOk read (λ event. IsRanged event)) }
 {
-    match parse(alloc, line)? {
-        Some(value) => Ok(event_at(&value)),
-        None => Ok(Err(LineFault::Syntax)),
-    }
+    let mut reader = EventReader::new(alloc);
+    reader.read(alloc, line)
 }

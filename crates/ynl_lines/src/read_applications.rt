@@ -1,22 +1,22 @@
 //! From objects to the events of applications.
 
 ghost use Rattle.std.specs.Prelude.{◌≡◌, option_map, IfOk, IsTrue};
-ghost use Rattle.serde_json.specs.View.{view};
+ghost use Rattle.ynl_lines.specs.Trees.{data_at};
 ghost use Rattle.ynl_lines.specs.Reading.{Gives, IsRanged};
 ghost use Rattle.ynl_lines.specs.Reading as spec;
 
 use crate::faults::LineFault;
+use crate::fields::Fields;
 use crate::keys::{
     id_at, keys_are, label_at, name_at, number_at, path_at, size_at, text_at, within_small,
 };
-use serde_json::Value;
 use ynl_model::Event;
 use ynl_resource::{Label, MOST_COUNT};
 
 /// The text of a submit's label, which may be absent.
 #[tactic(auto, unfolding(crate::specs::Reading::label_text_at))]
-fn label_text_at(event: &Value) -> Result<Option<&str>, LineFault>
-    ensures { Gives (λ o. option_map (λ s. s.now) o) result (spec.label_text_at (view event.now)) }
+fn label_text_at<'v>(event: &Fields<'v, '_>) -> Result<Option<&'v str>, LineFault>
+    ensures { Gives (λ o. option_map (λ s. s.now) o) result (spec.label_text_at (data_at event.now.stands)) }
 {
     match event.get("label") {
         None => {
@@ -48,8 +48,8 @@ fn optional_label_at(text: Option<&str>) -> Result<Option<Label>, LineFault>
 
 /// `submit`: an application comes to a leaf.
 #[tactic(auto, unfolding(crate::specs::Reading::submit_at))]
-pub fn submit_at(event: &Value) -> Result<Event, LineFault>
-    ensures event { result ≡ spec.submit_at (view event.now) }
+pub fn submit_at(event: &Fields<'_, '_>) -> Result<Event, LineFault>
+    ensures event { result ≡ spec.submit_at (data_at event.now.stands) }
     ensures ranged { IfOk result (λ event. IsRanged event) }
 {
     let label = label_text_at(event)?;
@@ -74,8 +74,8 @@ pub fn submit_at(event: &Value) -> Result<Event, LineFault>
 
 /// `ask`: an application asks for containers.
 #[tactic(auto, unfolding(crate::specs::Reading::ask_at))]
-pub fn ask_at(event: &Value) -> Result<Event, LineFault>
-    ensures event { result ≡ spec.ask_at (view event.now) }
+pub fn ask_at(event: &Fields<'_, '_>) -> Result<Event, LineFault>
+    ensures event { result ≡ spec.ask_at (data_at event.now.stands) }
     ensures ranged { IfOk result (λ event. IsRanged event) }
 {
     keys_are(event, 8)?;
@@ -104,8 +104,8 @@ pub fn ask_at(event: &Value) -> Result<Event, LineFault>
 
 /// `release`: a container is given back.
 #[tactic(auto, unfolding(crate::specs::Reading::release_at))]
-pub fn release_at(event: &Value) -> Result<Event, LineFault>
-    ensures event { result ≡ spec.release_at (view event.now) }
+pub fn release_at(event: &Fields<'_, '_>) -> Result<Event, LineFault>
+    ensures event { result ≡ spec.release_at (data_at event.now.stands) }
     ensures ranged { IfOk result (λ event. IsRanged event) }
 {
     keys_are(event, 3)?;
@@ -118,8 +118,8 @@ pub fn release_at(event: &Value) -> Result<Event, LineFault>
 
 /// `finish`: an application is finished.
 #[tactic(auto, unfolding(crate::specs::Reading::finish_at))]
-pub fn finish_at(event: &Value) -> Result<Event, LineFault>
-    ensures event { result ≡ spec.finish_at (view event.now) }
+pub fn finish_at(event: &Fields<'_, '_>) -> Result<Event, LineFault>
+    ensures event { result ≡ spec.finish_at (data_at event.now.stands) }
     ensures ranged { IfOk result (λ event. IsRanged event) }
 {
     keys_are(event, 3)?;
@@ -132,8 +132,8 @@ pub fn finish_at(event: &Value) -> Result<Event, LineFault>
 
 /// `poll`: what does an application hold?
 #[tactic(auto, unfolding(crate::specs::Reading::poll_at))]
-pub fn poll_at(event: &Value) -> Result<Event, LineFault>
-    ensures event { result ≡ spec.poll_at (view event.now) }
+pub fn poll_at(event: &Fields<'_, '_>) -> Result<Event, LineFault>
+    ensures event { result ≡ spec.poll_at (data_at event.now.stands) }
     ensures ranged { IfOk result (λ event. IsRanged event) }
 {
     keys_are(event, 4)?;

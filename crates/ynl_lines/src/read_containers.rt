@@ -1,10 +1,12 @@
 //! From objects to containers, and to what is still asked for.
 
 ghost use Rattle.std.specs.Prelude.{◌≡◌, [], ◌∷◌, ◌++◌, IfOk, OnOk};
-ghost use Rattle.serde_json.specs.View.{view, items_view};
+ghost use Rattle.serde_json.specs.View.{items_view};
+ghost use Rattle.ynl_lines.specs.Trees.{data_at};
 ghost use Rattle.ynl_lines.specs.ReadingReplies as spec;
 
 use crate::faults::LineFault;
+use crate::fields::Fields;
 use crate::keys::{id_at, keys_are, name_at, number_at, size_at, text_at, within_small};
 use crate::read_proposals::{wanted_at, wanted_label_at, what_at};
 use serde_json::Value;
@@ -14,8 +16,8 @@ use ynl_resource::{Id, MOST_COUNT, Name, Size};
 
 /// The name that is under a key.
 #[tactic(auto, unfolding(crate::specs::ReadingReplies::name_under))]
-fn name_under(object: &Value, key: &str) -> Result<Name, LineFault>
-    ensures { result ≡ spec.name_under key.now (view object.now) }
+fn name_under(object: &Fields<'_, '_>, key: &str) -> Result<Name, LineFault>
+    ensures { result ≡ spec.name_under key.now (data_at object.now.stands) }
 {
     let text = text_at(object, key)?;
     name_at(text)
@@ -23,8 +25,8 @@ fn name_under(object: &Value, key: &str) -> Result<Name, LineFault>
 
 /// The id that is under a key.
 #[tactic(auto, unfolding(crate::specs::ReadingReplies::id_under))]
-fn id_under(object: &Value, key: &str) -> Result<Id, LineFault>
-    ensures { result ≡ spec.id_under key.now (view object.now) }
+fn id_under(object: &Fields<'_, '_>, key: &str) -> Result<Id, LineFault>
+    ensures { result ≡ spec.id_under key.now (data_at object.now.stands) }
 {
     let text = text_at(object, key)?;
     id_at(text)
@@ -32,8 +34,8 @@ fn id_under(object: &Value, key: &str) -> Result<Id, LineFault>
 
 /// The size whose memory (in MB) and virtual cores an object tells.
 #[tactic(auto, unfolding(crate::specs::ReadingReplies::size_in))]
-fn size_in(object: &Value) -> Result<Size, LineFault>
-    ensures { result ≡ spec.size_in (view object.now) }
+fn size_in(object: &Fields<'_, '_>) -> Result<Size, LineFault>
+    ensures { result ≡ spec.size_in (data_at object.now.stands) }
 {
     let memory = number_at(object, "memory")?;
     let vcores = number_at(object, "vcores")?;
@@ -42,8 +44,8 @@ fn size_in(object: &Value) -> Result<Size, LineFault>
 
 /// What a container is for.
 #[tactic(auto, unfolding(crate::specs::ReadingReplies::what_in))]
-fn what_in(object: &Value) -> Result<What, LineFault>
-    ensures { result ≡ spec.what_in (view object.now) }
+fn what_in(object: &Fields<'_, '_>) -> Result<What, LineFault>
+    ensures { result ≡ spec.what_in (data_at object.now.stands) }
 {
     let wanted = wanted_at(object)?;
     let wanted = wanted_label_at(wanted)?;
@@ -52,8 +54,8 @@ fn what_in(object: &Value) -> Result<What, LineFault>
 
 /// A container; its `label` and `priority` are there just where it was asked for.
 #[tactic(auto, unfolding(crate::specs::ReadingReplies::placed_at))]
-pub fn placed_at(object: &Value) -> Result<Placed, LineFault>
-    ensures { result ≡ spec.placed_at (view object.now) }
+pub fn placed_at(object: &Fields<'_, '_>) -> Result<Placed, LineFault>
+    ensures { result ≡ spec.placed_at (data_at object.now.stands) }
 {
     let what = what_in(object)?;
     let app = name_under(object, "app")?;
@@ -73,8 +75,8 @@ pub fn placed_at(object: &Value) -> Result<Placed, LineFault>
 
 /// What is still asked for at one priority.
 #[tactic(auto, unfolding(crate::specs::ReadingReplies::pending_at))]
-fn pending_at(object: &Value) -> Result<Pending, LineFault>
-    ensures { result ≡ spec.pending_at (view object.now) }
+fn pending_at(object: &Fields<'_, '_>) -> Result<Pending, LineFault>
+    ensures { result ≡ spec.pending_at (data_at object.now.stands) }
 {
     keys_are(object, 4)?;
     let count = number_at(object, "count")?;
@@ -116,7 +118,7 @@ pub fn each_placed(
 {
     let mut list = Vec::new(alloc);
     for value in values {
-        match placed_at(value) {
+        match placed_at(&Fields::value(value)) {
             Ok(one) => push_copy(&mut list, &one)?,
             Err(fault) => return Ok(Err(fault)),
         }
@@ -133,7 +135,7 @@ pub fn each_pending(
 {
     let mut list = Vec::new(alloc);
     for value in values {
-        match pending_at(value) {
+        match pending_at(&Fields::value(value)) {
             Ok(one) => list.push(one)?,
             Err(fault) => return Ok(Err(fault)),
         }

@@ -1,33 +1,33 @@
 //! From the lines of a journal to its entries.
 
 ghost use Rattle.std.specs.Prelude.{◌≡◌, IfOk};
-ghost use Rattle.serde_json.specs.View.{view};
+ghost use Rattle.ynl_lines.specs.Trees.{data_at};
 ghost use Rattle.ynl_lines.specs.Reading.{IsRanged};
 ghost use Rattle.ynl_lines.specs.ReadingReplies as spec;
 
 use crate::faults::{BadLine, LineFault};
+use crate::fields::Fields;
 use crate::keys::{keys_are, number_at};
 use crate::read::{event_at, parse};
 use crate::read_replies::{reply_at, value_under};
-use serde_json::Value;
 use std::alloc::{AllocError, Global};
 use ynl_model::{Entry, Event, Reply};
 
 /// The place of a line, and its event.
 #[tactic(auto, unfolding(crate::specs::ReadingReplies::placed_event_at))]
-fn placed_event_at(line: &Value) -> Result<(u64, Event), LineFault>
-    ensures event { result ≡ spec.placed_event_at (view line.now) }
+fn placed_event_at(line: &Fields<'_, '_>) -> Result<(u64, Event), LineFault>
+    ensures event { result ≡ spec.placed_event_at (data_at line.now.stands) }
     ensures ranged { IfOk result (λ read. IsRanged read.1) }
 {
     let place = number_at(line, "place")?;
     let value = value_under(line, "event")?;
-    let event = event_at(value)?;
+    let event = event_at(&value)?;
     Ok((place, event))
 }
 
 /// The reply of a line that has none: that of a propose alone may have none.
-fn unanswered(line: &Value, event: &Event) -> Result<Option<Reply>, LineFault>
-    ensures { result ≡ spec.unanswered event.now (view line.now) }
+fn unanswered(line: &Fields<'_, '_>, event: &Event) -> Result<Option<Reply>, LineFault>
+    ensures { result ≡ spec.unanswered event.now (data_at line.now.stands) }
 {
     match event {
         Event::Propose { .. } => {
@@ -41,10 +41,10 @@ fn unanswered(line: &Value, event: &Event) -> Result<Option<Reply>, LineFault>
 /// The reply of a line, from the value that stands under its key.
 fn answered(
     alloc: Global,
-    line: &Value,
-    reply: &Value,
+    line: &Fields<'_, '_>,
+    reply: &Fields<'_, '_>,
 ) -> Result<Result<Option<Reply>, LineFault>, AllocError>
-    ensures { IfOk result (λ read. read ≡ spec.answered (view reply.now) (view line.now)) }
+    ensures { IfOk result (λ read. read ≡ spec.answered (data_at reply.now.stands) (data_at line.now.stands)) }
 {
     if let Err(fault) = keys_are(line, 3) {
         return Ok(Err(fault));
@@ -59,21 +59,24 @@ fn answered(
 #[tactic(auto, unfolding(crate::specs::ReadingReplies::answer_at))]
 fn answer_at(
     alloc: Global,
-    line: &Value,
+    line: &Fields<'_, '_>,
     event: &Event,
 ) -> Result<Result<Option<Reply>, LineFault>, AllocError>
-    ensures { IfOk result (λ read. read ≡ spec.answer_at event.now (view line.now)) }
+    ensures { IfOk result (λ read. read ≡ spec.answer_at event.now (data_at line.now.stands)) }
 {
     match line.get("reply") {
-        Some(value) => answered(alloc, line, value),
+        Some(value) => answered(alloc, line, &value),
         None => Ok(unanswered(line, event)),
     }
 }
 
 /// The place and the entry of an object.
 #[tactic(auto, unfolding(crate::specs::ReadingReplies::line_at))]
-fn line_at(alloc: Global, line: &Value) -> Result<Result<(u64, Entry), BadLine>, AllocError>
-    ensures entry { IfOk result (λ read. read ≡ spec.or_bad (spec.line_at (view line.now))) }
+fn line_at(
+    alloc: Global,
+    line: &Fields<'_, '_>,
+) -> Result<Result<(u64, Entry), BadLine>, AllocError>
+    ensures entry { IfOk result (λ read. read ≡ spec.or_bad (spec.line_at (data_at line.now.stands))) }
     ensures ranged { IfOk result (λ read. IfOk read (λ line. IsRanged line.1.event)) }
 {
     let Ok((place, event)) = placed_event_at(line) else {
@@ -95,7 +98,7 @@ pub fn read_line(alloc: Global, line: &[u8]) -> Result<Result<(u64, Entry), BadL
     ensures ranged { IfOk result (λ read. IfOk read (λ line. IsRanged line.1.event)) }
 {
     match parse(alloc, line)? {
-        Some(value) => line_at(alloc, &value),
+        Some(value) => line_at(alloc, &Fields::value(&value)),
         None => Ok(Err(BadLine)),
     }
 }

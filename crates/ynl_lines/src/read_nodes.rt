@@ -1,20 +1,20 @@
 //! From objects to the events of nodes.
 
 ghost use Rattle.std.specs.Prelude.{◌≡◌, IfOk, IsTrue};
-ghost use Rattle.serde_json.specs.View.{view};
+ghost use Rattle.ynl_lines.specs.Trees.{data_at};
 ghost use Rattle.ynl_lines.specs.Reading.{IsRanged};
 ghost use Rattle.ynl_lines.specs.Reading as spec;
 
 use crate::faults::LineFault;
+use crate::fields::Fields;
 use crate::keys::{id_at, keys_are, label_at, name_at, number_at, size_at, text_at};
-use serde_json::Value;
 use ynl_model::Event;
 use ynl_resource::Name;
 
 /// `register`: a node joins.
 #[tactic(auto, unfolding(crate::specs::Reading::register_at))]
-pub fn register_at(event: &Value) -> Result<Event, LineFault>
-    ensures event { result ≡ spec.register_at (view event.now) }
+pub fn register_at(event: &Fields<'_, '_>) -> Result<Event, LineFault>
+    ensures event { result ≡ spec.register_at (data_at event.now.stands) }
     ensures ranged { IfOk result (λ event. IsRanged event) }
 {
     keys_are(event, 5)?;
@@ -30,8 +30,8 @@ pub fn register_at(event: &Value) -> Result<Event, LineFault>
 
 /// The node of an event that names nothing but a node.
 #[tactic(auto, unfolding(crate::specs::Reading::node_at))]
-pub fn node_at(event: &Value) -> Result<Name, LineFault>
-    ensures { result ≡ spec.node_at (view event.now) }
+pub fn node_at(event: &Fields<'_, '_>) -> Result<Name, LineFault>
+    ensures { result ≡ spec.node_at (data_at event.now.stands) }
 {
     keys_are(event, 2)?;
     let node = text_at(event, "node")?;
@@ -40,8 +40,8 @@ pub fn node_at(event: &Value) -> Result<Name, LineFault>
 
 /// `lost`: a node is lost.
 #[tactic(auto, unfolding(crate::specs::Reading::lost_at))]
-pub fn lost_at(event: &Value) -> Result<Event, LineFault>
-    ensures event { result ≡ spec.lost_at (view event.now) }
+pub fn lost_at(event: &Fields<'_, '_>) -> Result<Event, LineFault>
+    ensures event { result ≡ spec.lost_at (data_at event.now.stands) }
     ensures ranged { IfOk result (λ event. IsRanged event) }
 {
     let node = node_at(event)?;
@@ -50,8 +50,8 @@ pub fn lost_at(event: &Value) -> Result<Event, LineFault>
 
 /// `relabel`: a node goes to another partition.
 #[tactic(auto, unfolding(crate::specs::Reading::relabel_at))]
-pub fn relabel_at(event: &Value) -> Result<Event, LineFault>
-    ensures event { result ≡ spec.relabel_at (view event.now) }
+pub fn relabel_at(event: &Fields<'_, '_>) -> Result<Event, LineFault>
+    ensures event { result ≡ spec.relabel_at (data_at event.now.stands) }
     ensures ranged { IfOk result (λ event. IsRanged event) }
 {
     keys_are(event, 3)?;
@@ -64,8 +64,8 @@ pub fn relabel_at(event: &Value) -> Result<Event, LineFault>
 
 /// `heartbeat`: a node is ready for more.
 #[tactic(auto, unfolding(crate::specs::Reading::heartbeat_at))]
-pub fn heartbeat_at(event: &Value) -> Result<Event, LineFault>
-    ensures event { result ≡ spec.heartbeat_at (view event.now) }
+pub fn heartbeat_at(event: &Fields<'_, '_>) -> Result<Event, LineFault>
+    ensures event { result ≡ spec.heartbeat_at (data_at event.now.stands) }
     ensures ranged { IfOk result (λ event. IsRanged event) }
 {
     let node = node_at(event)?;
@@ -74,8 +74,8 @@ pub fn heartbeat_at(event: &Value) -> Result<Event, LineFault>
 
 /// `exited`: a container ended by itself.
 #[tactic(auto, unfolding(crate::specs::Reading::exited_at))]
-pub fn exited_at(event: &Value) -> Result<Event, LineFault>
-    ensures event { result ≡ spec.exited_at (view event.now) }
+pub fn exited_at(event: &Fields<'_, '_>) -> Result<Event, LineFault>
+    ensures event { result ≡ spec.exited_at (data_at event.now.stands) }
     ensures ranged { IfOk result (λ event. IsRanged event) }
 {
     keys_are(event, 3)?;

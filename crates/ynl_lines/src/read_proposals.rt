@@ -1,22 +1,22 @@
 //! From objects to proposals, and to the events that speak of them.
 
 ghost use Rattle.std.specs.Prelude.{◌≡◌, option_map, IfOk, IsTrue};
-ghost use Rattle.serde_json.specs.View.{view};
+ghost use Rattle.ynl_lines.specs.Trees.{data_at};
 ghost use Rattle.ynl_resource.specs.Amounts.{IsSize};
 ghost use Rattle.ynl_lines.specs.Reading.{Gives, HasPriority, HasProposalNumbers, IsRanged};
 ghost use Rattle.ynl_lines.specs.Reading as spec;
 
 use crate::faults::LineFault;
+use crate::fields::Fields;
 use crate::keys::{keys_are, label_at, name_at, number_at, size_at, text_at, within, within_small};
 use crate::read_nodes::node_at;
-use serde_json::Value;
 use ynl_model::{Event, Proposal, What};
 use ynl_resource::{Label, MOST_CLOCK};
 
 /// `propose`: what would be placed on a node?
 #[tactic(auto, unfolding(crate::specs::Reading::propose_at))]
-pub fn propose_at(event: &Value) -> Result<Event, LineFault>
-    ensures event { result ≡ spec.propose_at (view event.now) }
+pub fn propose_at(event: &Fields<'_, '_>) -> Result<Event, LineFault>
+    ensures event { result ≡ spec.propose_at (data_at event.now.stands) }
     ensures ranged { IfOk result (λ event. IsRanged event) }
 {
     let node = node_at(event)?;
@@ -25,8 +25,8 @@ pub fn propose_at(event: &Value) -> Result<Event, LineFault>
 
 /// The label's text and the priority of a container that was asked for; nothing of a master.
 #[tactic(auto, unfolding(crate::specs::Reading::wanted_at))]
-pub fn wanted_at(proposal: &Value) -> Result<Option<(&str, u64)>, LineFault>
-    ensures { Gives (λ o. option_map (λ wanted. (wanted.0.now, wanted.1)) o) result (spec.wanted_at (view proposal.now)) }
+pub fn wanted_at<'v>(proposal: &Fields<'v, '_>) -> Result<Option<(&'v str, u64)>, LineFault>
+    ensures { Gives (λ o. option_map (λ wanted. (wanted.0.now, wanted.1)) o) result (spec.wanted_at (data_at proposal.now.stands)) }
 {
     let what = text_at(proposal, "what")?;
     if what == "master" {
@@ -73,8 +73,8 @@ pub fn what_at(wanted: Option<(Label, u64)>) -> Result<What, LineFault>
 
 /// A proposal; its `label` and `priority` are there just where it is for an ask.
 #[tactic(auto, unfolding(crate::specs::Reading::proposal_at))]
-pub fn proposal_at(proposal: &Value) -> Result<Proposal, LineFault>
-    ensures proposal { result ≡ spec.proposal_at (view proposal.now) }
+pub fn proposal_at(proposal: &Fields<'_, '_>) -> Result<Proposal, LineFault>
+    ensures proposal { result ≡ spec.proposal_at (data_at proposal.now.stands) }
     ensures ranged { IfOk result (λ proposal. IsSize proposal.size × HasProposalNumbers proposal) }
 {
     let wanted = wanted_at(proposal)?;
@@ -103,14 +103,14 @@ pub fn proposal_at(proposal: &Value) -> Result<Proposal, LineFault>
 
 /// `commit`: a proposal is to be placed.
 #[tactic(auto, unfolding(crate::specs::Reading::commit_at))]
-pub fn commit_at(event: &Value) -> Result<Event, LineFault>
-    ensures event { result ≡ spec.commit_at (view event.now) }
+pub fn commit_at(event: &Fields<'_, '_>) -> Result<Event, LineFault>
+    ensures event { result ≡ spec.commit_at (data_at event.now.stands) }
     ensures ranged { IfOk result (λ event. IsRanged event) }
 {
     keys_are(event, 2)?;
     match event.get("proposal") {
         Some(value) => {
-            let proposal = proposal_at(value)?;
+            let proposal = proposal_at(&value)?;
             Ok(Event::Commit { proposal })
         }
         None => Err(LineFault::Field),

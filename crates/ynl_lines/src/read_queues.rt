@@ -1,20 +1,20 @@
 //! From objects to the events of queues.
 
 ghost use Rattle.std.specs.Prelude.{◌≡◌, IfOk, IsTrue};
-ghost use Rattle.serde_json.specs.View.{view};
+ghost use Rattle.ynl_lines.specs.Trees.{data_at};
 ghost use Rattle.ynl_lines.specs.Reading.{IsRanged};
 ghost use Rattle.ynl_lines.specs.Reading as spec;
 
 use crate::faults::LineFault;
+use crate::fields::Fields;
 use crate::keys::{keys_are, label_at, number_at, path_at, share_at, text_at};
-use serde_json::Value;
 use ynl_model::Event;
 use ynl_resource::Path;
 
 /// The queue of an event that names nothing but a queue.
 #[tactic(auto, unfolding(crate::specs::Reading::queue_at))]
-fn queue_at(event: &Value) -> Result<Path, LineFault>
-    ensures { result ≡ spec.queue_at (view event.now) }
+fn queue_at(event: &Fields<'_, '_>) -> Result<Path, LineFault>
+    ensures { result ≡ spec.queue_at (data_at event.now.stands) }
 {
     keys_are(event, 2)?;
     let queue = text_at(event, "queue")?;
@@ -23,8 +23,8 @@ fn queue_at(event: &Value) -> Result<Path, LineFault>
 
 /// `stop`: a queue is stopped.
 #[tactic(auto, unfolding(crate::specs::Reading::stop_at))]
-pub fn stop_at(event: &Value) -> Result<Event, LineFault>
-    ensures event { result ≡ spec.stop_at (view event.now) }
+pub fn stop_at(event: &Fields<'_, '_>) -> Result<Event, LineFault>
+    ensures event { result ≡ spec.stop_at (data_at event.now.stands) }
     ensures ranged { IfOk result (λ event. IsRanged event) }
 {
     let queue = queue_at(event)?;
@@ -33,8 +33,8 @@ pub fn stop_at(event: &Value) -> Result<Event, LineFault>
 
 /// `start`: a stopped queue takes applications again.
 #[tactic(auto, unfolding(crate::specs::Reading::start_at))]
-pub fn start_at(event: &Value) -> Result<Event, LineFault>
-    ensures event { result ≡ spec.start_at (view event.now) }
+pub fn start_at(event: &Fields<'_, '_>) -> Result<Event, LineFault>
+    ensures event { result ≡ spec.start_at (data_at event.now.stands) }
     ensures ranged { IfOk result (λ event. IsRanged event) }
 {
     let queue = queue_at(event)?;
@@ -43,8 +43,8 @@ pub fn start_at(event: &Value) -> Result<Event, LineFault>
 
 /// `usage`: what does a queue use?
 #[tactic(auto, unfolding(crate::specs::Reading::usage_at))]
-pub fn usage_at(event: &Value) -> Result<Event, LineFault>
-    ensures event { result ≡ spec.usage_at (view event.now) }
+pub fn usage_at(event: &Fields<'_, '_>) -> Result<Event, LineFault>
+    ensures event { result ≡ spec.usage_at (data_at event.now.stands) }
     ensures ranged { IfOk result (λ event. IsRanged event) }
 {
     keys_are(event, 3)?;
@@ -57,8 +57,8 @@ pub fn usage_at(event: &Value) -> Result<Event, LineFault>
 
 /// `maximum`: a queue's maximum is set, in hundredths of a percent.
 #[tactic(auto, unfolding(crate::specs::Reading::maximum_at))]
-pub fn maximum_at(event: &Value) -> Result<Event, LineFault>
-    ensures event { result ≡ spec.maximum_at (view event.now) }
+pub fn maximum_at(event: &Fields<'_, '_>) -> Result<Event, LineFault>
+    ensures event { result ≡ spec.maximum_at (data_at event.now.stands) }
     ensures ranged { IfOk result (λ event. IsRanged event) }
 {
     keys_are(event, 4)?;

@@ -1,11 +1,13 @@
 //! From objects to replies.
 
 ghost use Rattle.std.specs.Prelude.{◌≡◌, option_map, IfOk};
-ghost use Rattle.serde_json.specs.View.{view, items_view};
+ghost use Rattle.serde_json.specs.View.{items_view};
+ghost use Rattle.ynl_lines.specs.Trees.{data_at};
 ghost use Rattle.ynl_lines.specs.Reading.{Gives};
 ghost use Rattle.ynl_lines.specs.ReadingReplies as spec;
 
 use crate::faults::LineFault;
+use crate::fields::Fields;
 use crate::keys::{keys_are, number_at, text_at};
 use crate::read_containers::{each_pending, each_placed, placed_at};
 use crate::read_proposals::proposal_at;
@@ -53,8 +55,8 @@ fn reply_kind_of(word: &str) -> Option<ReplyKind>
 
 /// The kind of a reply, from its word.
 #[tactic(auto, unfolding(crate::specs::ReadingReplies::reply_kind_at))]
-fn reply_kind_at(reply: &Value) -> Result<ReplyKind, LineFault>
-    ensures { result ≡ spec.reply_kind_at (view reply.now) }
+fn reply_kind_at(reply: &Fields<'_, '_>) -> Result<ReplyKind, LineFault>
+    ensures { result ≡ spec.reply_kind_at (data_at reply.now.stands) }
 {
     let word = text_at(reply, "reply")?;
     reply_kind_of(word).ok_or(LineFault::Field)
@@ -62,16 +64,16 @@ fn reply_kind_at(reply: &Value) -> Result<ReplyKind, LineFault>
 
 /// The value that is under a key.
 #[tactic(auto, unfolding(crate::specs::ReadingReplies::value_under))]
-pub fn value_under<'v>(object: &'v Value, key: &str) -> Result<&'v Value, LineFault>
-    ensures { Gives (λ v. view v.now) result (spec.value_under key.now (view object.now)) }
+pub fn value_under<'v, 'a>(object: &Fields<'v, 'a>, key: &str) -> Result<Fields<'v, 'a>, LineFault>
+    ensures { Gives (λ v. data_at v.stands) result (spec.value_under key.now (data_at object.now.stands)) }
 {
     object.get(key).ok_or(LineFault::Field)
 }
 
 /// The list that is under a key.
 #[tactic(auto, unfolding(crate::specs::ReadingReplies::list_under))]
-fn list_under<'v>(object: &'v Value, key: &str) -> Result<&'v Vec<Value>, LineFault>
-    ensures { Gives (λ v. items_view v.now.items) result (spec.list_under key.now (view object.now)) }
+fn list_under<'v>(object: &Fields<'v, '_>, key: &str) -> Result<&'v Vec<Value>, LineFault>
+    ensures { Gives (λ v. items_view v.now.items) result (spec.list_under key.now (data_at object.now.stands)) }
 {
     match object.get(key) {
         Some(value) => value.as_array().ok_or(LineFault::Field),
@@ -81,8 +83,8 @@ fn list_under<'v>(object: &'v Value, key: &str) -> Result<&'v Vec<Value>, LineFa
 
 /// An amount: MB of memory, and virtual cores.
 #[tactic(auto, unfolding(crate::specs::ReadingReplies::amount_at))]
-fn amount_at(object: &Value) -> Result<Resource, LineFault>
-    ensures { result ≡ spec.amount_at (view object.now) }
+fn amount_at(object: &Fields<'_, '_>) -> Result<Resource, LineFault>
+    ensures { result ≡ spec.amount_at (data_at object.now.stands) }
 {
     keys_are(object, 2)?;
     let memory = number_at(object, "memory")?;
@@ -92,17 +94,17 @@ fn amount_at(object: &Value) -> Result<Resource, LineFault>
 
 /// The amount that is under a key.
 #[tactic(auto, unfolding(crate::specs::ReadingReplies::amount_under))]
-fn amount_under(object: &Value, key: &str) -> Result<Resource, LineFault>
-    ensures { result ≡ spec.amount_under key.now (view object.now) }
+fn amount_under(object: &Fields<'_, '_>, key: &str) -> Result<Resource, LineFault>
+    ensures { result ≡ spec.amount_under key.now (data_at object.now.stands) }
 {
     let value = value_under(object, key)?;
-    amount_at(value)
+    amount_at(&value)
 }
 
 /// A reply that is its word alone.
 #[tactic(auto, unfolding(crate::specs::ReadingReplies::alone))]
-fn alone(object: &Value, reply: Reply) -> Result<Reply, LineFault>
-    ensures { result ≡ spec.alone reply (view object.now) }
+fn alone(object: &Fields<'_, '_>, reply: Reply) -> Result<Reply, LineFault>
+    ensures { result ≡ spec.alone reply (data_at object.now.stands) }
 {
     keys_are(object, 1)?;
     Ok(reply)
@@ -110,8 +112,8 @@ fn alone(object: &Value, reply: Reply) -> Result<Reply, LineFault>
 
 /// `refused`: the event was refused, and why.
 #[tactic(auto, unfolding(crate::specs::ReadingReplies::refused_at))]
-fn refused_at(object: &Value) -> Result<Reply, LineFault>
-    ensures { result ≡ spec.refused_at (view object.now) }
+fn refused_at(object: &Fields<'_, '_>) -> Result<Reply, LineFault>
+    ensures { result ≡ spec.refused_at (data_at object.now.stands) }
 {
     keys_are(object, 2)?;
     let word = text_at(object, "refused")?;
@@ -121,30 +123,30 @@ fn refused_at(object: &Value) -> Result<Reply, LineFault>
 
 /// `proposal`: what would be placed.
 #[tactic(auto, unfolding(crate::specs::ReadingReplies::proposed_at))]
-fn proposed_at(object: &Value) -> Result<Reply, LineFault>
-    ensures { result ≡ spec.proposed_at (view object.now) }
+fn proposed_at(object: &Fields<'_, '_>) -> Result<Reply, LineFault>
+    ensures { result ≡ spec.proposed_at (data_at object.now.stands) }
 {
     keys_are(object, 2)?;
     let value = value_under(object, "proposal")?;
-    let proposal = proposal_at(value)?;
+    let proposal = proposal_at(&value)?;
     Ok(Reply::Proposed(Some(proposal)))
 }
 
 /// `committed`: the container that a proposal became.
 #[tactic(auto, unfolding(crate::specs::ReadingReplies::committed_at))]
-fn committed_at(object: &Value) -> Result<Reply, LineFault>
-    ensures { result ≡ spec.committed_at (view object.now) }
+fn committed_at(object: &Fields<'_, '_>) -> Result<Reply, LineFault>
+    ensures { result ≡ spec.committed_at (data_at object.now.stands) }
 {
     keys_are(object, 2)?;
     let value = value_under(object, "container")?;
-    let container = placed_at(value)?;
+    let container = placed_at(&value)?;
     Ok(Reply::Committed(container))
 }
 
 /// `usage`: what a queue uses of a partition.
 #[tactic(auto, unfolding(crate::specs::ReadingReplies::usage_reply_at))]
-fn usage_reply_at(object: &Value) -> Result<Reply, LineFault>
-    ensures { result ≡ spec.usage_reply_at (view object.now) }
+fn usage_reply_at(object: &Fields<'_, '_>) -> Result<Reply, LineFault>
+    ensures { result ≡ spec.usage_reply_at (data_at object.now.stands) }
 {
     keys_are(object, 6)?;
     let used = amount_under(object, "used")?;
@@ -163,8 +165,12 @@ fn usage_reply_at(object: &Value) -> Result<Reply, LineFault>
 
 /// The list that is under a key of an object with so many keys.
 #[tactic(auto, unfolding(crate::specs::ReadingReplies::list_of))]
-fn list_of<'v>(object: &'v Value, count: usize, key: &str) -> Result<&'v Vec<Value>, LineFault>
-    ensures { Gives (λ v. items_view v.now.items) result (spec.list_of count key.now (view object.now)) }
+fn list_of<'v>(
+    object: &Fields<'v, '_>,
+    count: usize,
+    key: &str,
+) -> Result<&'v Vec<Value>, LineFault>
+    ensures { Gives (λ v. items_view v.now.items) result (spec.list_of count key.now (data_at object.now.stands)) }
 {
     keys_are(object, count)?;
     list_under(object, key)
@@ -172,8 +178,11 @@ fn list_of<'v>(object: &'v Value, count: usize, key: &str) -> Result<&'v Vec<Val
 
 /// `placed`: the containers that a heartbeat placed.
 #[tactic(auto, unfolding(crate::specs::ReadingReplies::placed_reply_at))]
-fn placed_reply_at(alloc: Global, object: &Value) -> Result<Result<Reply, LineFault>, AllocError>
-    ensures { IfOk result (λ read. read ≡ spec.placed_reply_at (view object.now)) }
+fn placed_reply_at(
+    alloc: Global,
+    object: &Fields<'_, '_>,
+) -> Result<Result<Reply, LineFault>, AllocError>
+    ensures { IfOk result (λ read. read ≡ spec.placed_reply_at (data_at object.now.stands)) }
 {
     let values = match list_of(object, 2, "placed") {
         Ok(values) => values,
@@ -187,8 +196,8 @@ fn placed_reply_at(alloc: Global, object: &Value) -> Result<Result<Reply, LineFa
 
 /// `held`: what an application holds and asks for.
 #[tactic(auto, unfolding(crate::specs::ReadingReplies::held_at))]
-fn held_at(alloc: Global, object: &Value) -> Result<Result<Reply, LineFault>, AllocError>
-    ensures { IfOk result (λ read. read ≡ spec.held_at (view object.now)) }
+fn held_at(alloc: Global, object: &Fields<'_, '_>) -> Result<Result<Reply, LineFault>, AllocError>
+    ensures { IfOk result (λ read. read ≡ spec.held_at (data_at object.now.stands)) }
 {
     let values = match list_of(object, 3, "containers") {
         Ok(values) => values,
@@ -212,9 +221,9 @@ fn held_at(alloc: Global, object: &Value) -> Result<Result<Reply, LineFault>, Al
 fn reply_by(
     alloc: Global,
     kind: ReplyKind,
-    object: &Value,
+    object: &Fields<'_, '_>,
 ) -> Result<Result<Reply, LineFault>, AllocError>
-    ensures { IfOk result (λ read. read ≡ spec.reply_by kind (view object.now)) }
+    ensures { IfOk result (λ read. read ≡ spec.reply_by kind (data_at object.now.stands)) }
 {
     match kind {
         ReplyKind::Done => Ok(alone(object, Reply::Done)),
@@ -230,8 +239,11 @@ fn reply_by(
 
 /// The reply of an object.
 #[tactic(auto, unfolding(crate::specs::ReadingReplies::reply_at))]
-pub fn reply_at(alloc: Global, object: &Value) -> Result<Result<Reply, LineFault>, AllocError>
-    ensures { IfOk result (λ read. read ≡ spec.reply_at (view object.now)) }
+pub fn reply_at(
+    alloc: Global,
+    object: &Fields<'_, '_>,
+) -> Result<Result<Reply, LineFault>, AllocError>
+    ensures { IfOk result (λ read. read ≡ spec.reply_at (data_at object.now.stands)) }
 {
     match reply_kind_at(object) {
         Ok(kind) => reply_by(alloc, kind, object),

@@ -8,7 +8,7 @@ ghost use Rattle.ynl_tool.specs.Keeping.{KeepsLine, KeepsScript, SaysEvent};
 use crate::lines_in::{Lines, Next, ReadFault, is_blank, newline_or_end};
 use std::alloc::{AllocError, Global};
 use std::io::BufRead;
-use ynl_lines::{LineFault, read_event};
+use ynl_lines::{EventReader, LineFault};
 
 /// A script of which the text is kept: the lines of its events, each with its newline, how many lines
 /// were read for them, and the fault that ended it, if one did.
@@ -28,10 +28,14 @@ pub fn first_line(text: &[u8]) -> &[u8]
 }
 
 /// The fault of a line, or none where it says an event.
-fn event_fault(alloc: Global, line: &[u8]) -> Result<Option<LineFault>, AllocError>
+fn event_fault(
+    alloc: Global,
+    events: &mut EventReader,
+    line: &[u8],
+) -> Result<Option<LineFault>, AllocError>
     ensures { SaysEvent line.now result }
 {
-    match read_event(alloc, line) {
+    match events.read(alloc, line) {
         Ok(Ok(_)) => Ok(None),
         Ok(Err(fault)) => Ok(Some(fault)),
         Err(e) => Err(e),
@@ -41,6 +45,7 @@ fn event_fault(alloc: Global, line: &[u8]) -> Result<Option<LineFault>, AllocErr
 /// Adds a line to the text, or gives its fault. Of a blank line nothing is kept.
 fn keep_line(
     alloc: Global,
+    events: &mut EventReader,
     text: &mut Vec<u8>,
     line: &[u8],
 ) -> Result<Option<LineFault>, AllocError>
@@ -49,7 +54,7 @@ fn keep_line(
     if is_blank(line) {
         return Ok(None);
     }
-    if let Some(fault) = event_fault(alloc, line)? {
+    if let Some(fault) = event_fault(alloc, events, line)? {
         return Ok(Some(fault));
     }
     text.extend_from_slice(line)?;
@@ -63,6 +68,7 @@ pub fn keep_script<R: BufRead>(alloc: Global, reader: &mut R) -> Result<KeptScri
     ensures { KeepsScript (between (R.remaining reader.old) (R.remaining reader.new)) result }
 {
     let mut text = Vec::new(alloc);
+    let mut events = EventReader::new(alloc);
     let mut input = Lines::new(alloc);
     'lines: loop {
         match input.next(reader)? {
@@ -82,7 +88,7 @@ pub fn keep_script<R: BufRead>(alloc: Global, reader: &mut R) -> Result<KeptScri
             }
             Next::Line => {}
         }
-        if let Some(fault) = keep_line(alloc, &mut text, &input.line)? {
+        if let Some(fault) = keep_line(alloc, &mut events, &mut text, &input.line)? {
             return Ok(KeptScript {
                 text,
                 lines: input.count,

@@ -15,7 +15,7 @@ use std::alloc::{AllocError, Global};
 use std::io::{BufRead, Write};
 use thiserror::Error;
 use ynl_core::{Core, NoMemory};
-use ynl_lines::{InputFault, LineFault, read_event, write_fault, write_reply};
+use ynl_lines::{EventReader, InputFault, LineFault, write_fault, write_reply};
 use ynl_queues::Config;
 
 /// Why a run ended before its input did.
@@ -101,6 +101,7 @@ pub fn with_newline(mut text: Vec<u8>) -> Result<Vec<u8>, AllocError>
 /// nothing for a blank line; or gives the line's fault. Nothing but memory can be wanting here.
 fn reply_to(
     alloc: Global,
+    events: &mut EventReader,
     core: &mut Core,
     line: &[u8],
 ) -> Result<Result<Vec<u8>, LineFault>, NoMemory>
@@ -109,7 +110,7 @@ fn reply_to(
     if is_blank(line) {
         return Ok(Ok(Vec::new(alloc)));
     }
-    let event = match read_event(alloc, line)? {
+    let event = match events.read(alloc, line)? {
         Ok(event) => event,
         Err(fault) => return Ok(Err(fault)),
     };
@@ -124,13 +125,14 @@ const HELD: usize = 65536;
 /// Answers one line, with the text added to what is held back, or gives its fault.
 fn answer(
     alloc: Global,
+    events: &mut EventReader,
     core: &mut Core,
     line: &[u8],
     held: &mut Vec<u8>,
 ) -> Result<Option<LineFault>, NoMemory>
     ensures { Holds held.old.items held.new.items core.old.config core.old.state core.new line.now result }
 {
-    match reply_to(alloc, core, line)? {
+    match reply_to(alloc, events, core, line)? {
         Ok(text) => {
             held.extend_from_slice(&text)?;
             Ok(None)
@@ -178,6 +180,7 @@ fn answer_lines<R: BufRead, W: Write>(
     ensures { Runs (between (R.remaining reader.old) (R.remaining reader.new)) (between (W.contents writer.old) (W.contents writer.new)) core.old.config core.old.state result }
 {
     let mut input = Lines::new(alloc);
+    let mut events = EventReader::new(alloc);
     let mut held = Vec::new(alloc);
     'lines: loop {
         match go_on(&mut input, reader, &mut held, writer)? {
@@ -191,7 +194,7 @@ fn answer_lines<R: BufRead, W: Write>(
             }),
             Next::Line => {}
         }
-        match answer(alloc, core, &input.line, &mut held) {
+        match answer(alloc, &mut events, core, &input.line, &mut held) {
             Ok(None) => {}
             Ok(Some(fault)) => {
                 write_held(writer, &mut held)?;

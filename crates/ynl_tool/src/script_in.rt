@@ -8,7 +8,7 @@ ghost use Rattle.ynl_tool.specs.Script.{script_read, Adds, ReadsScript, ReadsWho
 use crate::lines_in::{Lines, Next, ReadFault, is_blank};
 use std::alloc::{AllocError, Global};
 use std::io::BufRead;
-use ynl_lines::{LineFault, read_event};
+use ynl_lines::{EventReader, LineFault};
 use ynl_model::Event;
 
 /// The events of an input, to its end or to the first line with a fault: how many lines were read for
@@ -23,6 +23,7 @@ pub struct Script {
 /// Adds what a line says to the events, or gives the line's fault.
 fn add_line(
     alloc: Global,
+    lines: &mut EventReader,
     events: &mut Vec<Event>,
     line: &[u8],
 ) -> Result<Option<LineFault>, AllocError>
@@ -31,7 +32,7 @@ fn add_line(
     if is_blank(line) {
         return Ok(None);
     }
-    match read_event(alloc, line) {
+    match lines.read(alloc, line) {
         Ok(Ok(event)) => {
             // As a slice of one: of a push of an event the kit makes no proof.
             events.extend_from_slice(&[event])?;
@@ -60,6 +61,7 @@ pub fn read_script<R: BufRead>(alloc: Global, reader: &mut R) -> Result<Script, 
     ensures steps { ReadsScript (between (R.remaining reader.old) (R.remaining reader.new)) result }
 {
     let mut events = Vec::new(alloc);
+    let mut lines = EventReader::new(alloc);
     let mut input = Lines::new(alloc);
     'lines: loop {
         match input.next(reader)? {
@@ -67,7 +69,7 @@ pub fn read_script<R: BufRead>(alloc: Global, reader: &mut R) -> Result<Script, 
             Next::End => return Ok(end_script(events, input.count, None)),
             Next::Line => {}
         }
-        if let Some(fault) = add_line(alloc, &mut events, &input.line)? {
+        if let Some(fault) = add_line(alloc, &mut lines, &mut events, &input.line)? {
             return Ok(end_script(events, input.count, Some(fault)));
         }
     }

@@ -16,7 +16,7 @@ use crate::run::{Summary, ToolFault, report, with_newline};
 use std::alloc::Global;
 use std::io::{BufRead, Write};
 use ynl_core::{Core, NoMemory};
-use ynl_lines::{InputFault, read_event, write_line};
+use ynl_lines::{EventReader, InputFault, write_line};
 use ynl_model::Event;
 use ynl_queues::Config;
 use ynl_resource::{Label, Name};
@@ -94,6 +94,7 @@ fn tell_sight<W: Write>(
 /// Reads the next line again, and tells of its event.
 fn tell_line<W: Write>(
     alloc: Global,
+    events: &mut EventReader,
     config: &Config,
     tenant: &Name,
     label: &Label,
@@ -104,7 +105,7 @@ fn tell_line<W: Write>(
 ) -> Result<(), ToolFault>
     ensures { (event : Event) → event_of_line line.now ≡ Ok event → TellsSight (W.contents writer.old) (W.contents writer.new) config.now tenant.now label.now stand.old stand.new place event result }
 {
-    match read_event(alloc, line)? {
+    match events.read(alloc, line)? {
         Ok(event) => tell_sight(alloc, config, tenant, label, stand, place, &event, writer),
         // No line that is kept has a fault.
         Err(_) => Ok(()),
@@ -123,11 +124,22 @@ fn tell_lines<W: Write>(
 ) -> Result<(), ToolFault>
     ensures { (events : List Event) → Keeps text.now events → SaysLines (W.contents writer.old) (W.contents writer.new) (lines_from config.now tenant.now label.now stand.old.core 0 stand.old.track events) result }
 {
+    let mut events = EventReader::new(alloc);
     let mut at = 0;
     let mut place = 0u64;
     while at < text.len() {
         let line = first_line(&text[at..]);
-        tell_line(alloc, config, tenant, label, stand, place, line, writer)?;
+        tell_line(
+            alloc,
+            &mut events,
+            config,
+            tenant,
+            label,
+            stand,
+            place,
+            line,
+            writer,
+        )?;
         at += line.len() + 1;
         place += 1;
     }

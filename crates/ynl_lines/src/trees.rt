@@ -1,0 +1,83 @@
+//! Lines as trees over their own text. A line is mostly an object of texts and whole numbers, and is read as that
+//! with no memory for its keys and texts. Any other text is read by [serde_json].
+
+ghost use Rattle.std.specs.Prelude.{◌≡◌, true, is_some, IfOk};
+ghost use Rattle.std.specs.Bool.{OnTrue};
+ghost use Rattle.std.specs.Option.{option_and_then};
+ghost use Rattle.json.specs.Find.{get_member};
+ghost use Rattle.json.specs.Value.{value_view, members_view};
+ghost use Rattle.serde_json.specs.Read.{of_json};
+ghost use Rattle.ynl_lines.specs.Reading.{reading};
+ghost use Rattle.ynl_lines.specs.Trees.{is_plain};
+
+use crate::numbers::whole_of;
+use json::{Error, Reader, Scratch, Value};
+use std::alloc::{AllocError, Global};
+
+/// Whether a key is among those of some members.
+fn has_key(members: &[(&str, Value<'_>)], key: &str) -> bool
+    ensures { result ≡ is_some (get_member key.now (members_view members.now)) }
+{
+    for (name, _) in members {
+        if *name == key {
+            return true;
+        }
+    }
+    false
+}
+
+/// The most keys of an object that is taken as a tree, since each of them is compared with all behind it.
+const MOST_KEYS: usize = 16;
+
+/// Whether a value is a text, a whole number, or an object of few such values with no key twice, and no deeper than
+/// this.
+pub fn is_plain(value: &Value<'_>, depth: usize) -> bool
+    ensures { OnTrue result (is_plain (value_view value.now) ≡ true) }
+{
+    match value {
+        Value::String(_) => true,
+        Value::Number(text) => whole_of(text).is_some(),
+        Value::Object(members) => {
+            if depth == 0 || members.len() > MOST_KEYS {
+                return false;
+            }
+            let mut left = members.len();
+            while left > 0 {
+                left -= 1;
+                let (key, member) = &members[left];
+                if has_key(&members[left + 1..], key) || !is_plain(member, depth - 1) {
+                    return false;
+                }
+            }
+            true
+        }
+        _ => false,
+    }
+}
+
+/// How deep serde_json reads.
+const MAX_DEPTH: usize = 127;
+
+/// The value of some bytes as a tree, if they are the text of one.
+pub fn tree_of<'a>(
+    alloc: Global,
+    scratch: &'a mut Scratch,
+    bytes: &'a [u8],
+) -> Result<Option<Value<'a>>, AllocError>
+    ensures { IfOk result (λ found. reading bytes.now ≡ option_and_then (λ tree. of_json (value_view tree)) found) }
+{
+    let Ok(text) = str::from_utf8(bytes) else {
+        return Ok(None);
+    };
+    let mut reader = Reader::new(text, scratch)?;
+    match Value::read(alloc, &mut reader, MAX_DEPTH) {
+        Ok(tree) => {
+            if reader.next().is_some() {
+                return Ok(None);
+            }
+            Ok(Some(tree))
+        }
+        Err(Error::Invalid) => Ok(None),
+        Err(_) => Err(AllocError),
+    }
+}
