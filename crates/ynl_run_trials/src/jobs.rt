@@ -149,26 +149,57 @@ fn answers_what_came_together_by_one_write(rt: HostRuntime) -> Result<(), Fail> 
     Ok(())
 }
 
-#[test]
-fn answers_before_a_read_fault(rt: HostRuntime) -> Result<(), Fail> {
-    let alloc = rt.alloc();
-    let mut reader = cut(alloc, 7, REGISTER)?;
+/// An event of each kind, of which none is refused.
+const ALL_KINDS: &[u8] =
+    b"{\"event\":\"register\",\"label\":\"gpu\",\"memory\":10000,\"node\":\"g1\",\"vcores\":10}\n{\"app\":\"j1\",\"event\":\"submit\",\"label\":\"gpu\",\"memory\":1000,\"queue\":\"root.eng\",\"user\":\"ann\",\"vcores\":1}\n{\"event\":\"heartbeat\",\"node\":\"g1\"}\n{\"app\":\"j1\",\"count\":2,\"event\":\"ask\",\"label\":\"gpu\",\"memory\":1000,\"priority\":1,\"tenant\":\"eng\",\"vcores\":1}\n{\"event\":\"propose\",\"node\":\"g1\"}\n{\"event\":\"commit\",\"proposal\":{\"app\":\"j1\",\"label\":\"gpu\",\"memory\":1000,\"node\":\"g1\",\"priority\":1,\"stamp\":2,\"tenant\":\"eng\",\"vcores\":1,\"what\":\"ask\"}}\n{\"event\":\"heartbeat\",\"node\":\"g1\"}\n{\"app\":\"j1\",\"event\":\"poll\",\"label\":\"gpu\",\"tenant\":\"eng\"}\n{\"event\":\"usage\",\"label\":\"gpu\",\"queue\":\"root.eng\"}\n{\"event\":\"release\",\"id\":\"gpu#3\",\"tenant\":\"eng\"}\n{\"event\":\"exited\",\"id\":\"gpu#4\",\"node\":\"g1\"}\n{\"event\":\"maximum\",\"label\":\"gpu\",\"maximum\":10000,\"queue\":\"root.eng\"}\n{\"event\":\"stop\",\"queue\":\"root.eng\"}\n{\"event\":\"start\",\"queue\":\"root.eng\"}\n{\"app\":\"j1\",\"event\":\"finish\",\"tenant\":\"eng\"}\n{\"event\":\"relabel\",\"label\":\"\",\"node\":\"g1\"}\n{\"event\":\"lost\",\"node\":\"g1\"}\n";
+
+/// The replies to all of them.
+fn all_replies(alloc: Global) -> Result<Vec<u8>, Fail> {
+    let mut reader = whole(alloc, ALL_KINDS)?;
     let mut writer = Sink::new(Vec::new(alloc));
-    let ended = run_lines(alloc, built_in(alloc)?, &mut reader, &mut writer);
-    assert!(rt; ended == Err(ToolFault::Read));
-    assert!(rt; writer.taken.as_slice() == DONE);
-    Ok(())
+    run_lines(alloc, built_in(alloc)?, &mut reader, &mut writer)?;
+    Ok(writer.taken)
+}
+
+fn lines(text: &[u8]) -> usize {
+    text.iter().filter(|byte| **byte == b'\n').count()
+}
+
+/// Whether these are the replies to all whole lines of a front of the events.
+fn are_replies_to(front: &[u8], replies: &[u8], told: &[u8]) -> bool {
+    replies.starts_with(told)
+        && told.last().is_none_or(|byte| *byte == b'\n')
+        && lines(told) == lines(front)
 }
 
 #[test]
-fn writes_a_front(rt: HostRuntime) -> Result<(), Fail> {
+fn answers_before_a_read_fault_at_any_byte(rt: HostRuntime) -> Result<(), Fail> {
     let alloc = rt.alloc();
-    for (room, fails) in [(7, true), (0, false)] {
-        let mut reader = whole(alloc, REGISTER)?;
-        let mut writer = Sink::narrow(Vec::new(alloc), room, fails);
+    let replies = all_replies(alloc)?;
+    for end in 0..ALL_KINDS.len() {
+        let front = &ALL_KINDS[..end];
+        let mut reader = cut(alloc, 64, front)?;
+        let mut writer = Sink::new(Vec::new(alloc));
         let ended = run_lines(alloc, built_in(alloc)?, &mut reader, &mut writer);
-        assert!(rt; ended == Err(ToolFault::Write));
-        assert!(rt; writer.taken.as_slice() == &DONE[..room]);
+        assert!(rt; ended == Err(ToolFault::Read), "{end}");
+        assert!(rt; are_replies_to(front, &replies, &writer.taken), "{end}");
+    }
+    Ok(())
+}
+
+/// The writer fails at a byte, or takes no more from there on.
+#[test]
+fn writes_a_front_up_to_any_byte(rt: HostRuntime) -> Result<(), Fail> {
+    let alloc = rt.alloc();
+    let replies = all_replies(alloc)?;
+    for room in 0..replies.len() {
+        for fails in [true, false] {
+            let mut reader = whole(alloc, ALL_KINDS)?;
+            let mut writer = Sink::narrow(Vec::new(alloc), room, fails);
+            let ended = run_lines(alloc, built_in(alloc)?, &mut reader, &mut writer);
+            assert!(rt; ended == Err(ToolFault::Write), "{room}");
+            assert!(rt; writer.taken.as_slice() == &replies[..room], "{room}");
+        }
     }
     Ok(())
 }
@@ -220,21 +251,18 @@ fn tells_a_tenant_a_front(rt: HostRuntime) -> Result<(), Fail> {
 #[test]
 fn answers_at_the_second_try(rt: HostRuntime) -> Result<(), Fail> {
     let alloc = rt.alloc();
-    let line: &[u8] = b"{\"event\":\"heartbeat\",\"node\":\"g1\"}";
-    let mut first = whole(alloc, line)?;
-    let mut writer = Sink::new(Vec::with_capacity(alloc, 256)?);
+    let mut first = whole(alloc, ALL_KINDS)?;
+    let mut writer = Sink::new(Vec::with_capacity(alloc, 4096)?);
     let tried = run_lines(alloc, built_in(alloc)?, &mut first, &mut writer);
     if tried == Err(ToolFault::NoMemory) {
         println!(rt; "refused")?;
-        assert!(rt; writer.taken.is_empty());
-        let mut second = whole(alloc, line)?;
+        assert!(rt; all_replies(alloc)?.starts_with(&writer.taken));
+        writer.taken.clear();
+        let mut second = whole(alloc, ALL_KINDS)?;
         let ended = run_lines(alloc, built_in(alloc)?, &mut second, &mut writer);
         assert!(rt; ended.is_ok());
     }
-    assert!(rt;
-        writer.taken.as_slice()
-            == b"{\"refused\":\"NoSuchNode\",\"reply\":\"refused\"}\n".as_slice()
-    );
+    assert!(rt; writer.taken == all_replies(alloc)?);
     Ok(())
 }
 
