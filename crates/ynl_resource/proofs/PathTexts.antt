@@ -13,7 +13,7 @@ use Rattle.ynl_resource.specs.Padded.{IsPadded}
 use Rattle.ynl_resource.specs.PathFields.{filler}
 use Rattle.ynl_resource.specs.declared.paths.PathFault.TheVariants.{TooDeep, BadPath}
 use Rattle.ynl_resource.specs.Texts.{is_dot, read_path, path_of}
-use Rattle.ynl_resource.specs.Ranges.{most_names, whole}
+use Rattle.ynl_resource.specs.Ranges.{most_names}
 use Rattle.ynl_resource.proofs.Bytes.{slice_split-Lacks, slice_split-at}
 use Rattle.ynl_resource.proofs.IdTexts.{is_name_lacks}
 

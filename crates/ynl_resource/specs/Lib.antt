@@ -1,4 +1,5 @@
 pub mod Amounts
+pub mod Heads
 pub mod NameFields
 pub mod NameText
 pub mod Names

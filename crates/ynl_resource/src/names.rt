@@ -1,10 +1,12 @@
 //! Names of nodes, users, applications, queues and labels.
 
 ghost use Rattle.std.specs.Prelude.{◌≡◌, length, ◌≤◌, IsTrue, Some, Ok, refl, nat_eq};
+ghost use Rattle.std.specs.Bool.{OnTrue};
 ghost use Rattle.std.specs.List.{list_all};
 ghost use Rattle.std.specs.Cmp.{partial_equiv_from_equiv};
 ghost use Rattle.std.specs.Ordering.{nat_cmp};
 ghost use Rattle.std.specs.Cmp.Lexicographic.{slice_cmp, pointwise, nat_list_eq_equiv, nat_list_cmp_total, texts_po, texts_ties};
+ghost use Rattle.ynl_resource.specs.Heads.{head_of};
 ghost use Rattle.ynl_resource.specs.NameText.{is_name, is_name_byte};
 ghost use Rattle.ynl_resource.specs.Padded.{padded};
 ghost use Rattle.ynl_resource.specs.Texts.{read_name};
@@ -105,6 +107,22 @@ impl Name {
         &self.bytes[..self.len as usize]
     }
 
+    /// The first eight bytes as one number.
+    fn head(&self) -> u64
+        ensures value { result ≡ head_of 8 self.now }
+        ensures name { IsTrue (is_name self.now) }
+    {
+        let b = &self.bytes;
+        u64::from_be_bytes([b[0], b[1], b[2], b[3], b[4], b[5], b[6], b[7]])
+    }
+
+    /// Whether the number of its first bytes is all of it.
+    fn is_short(&self) -> bool
+        ensures { OnTrue result (length self.now ≤ 8) }
+    {
+        self.len <= 8
+    }
+
     /// The name's text.
     #[tactic(auto, using(crate::proofs::Ascii::utf8_name), unfolding(crate::specs::Texts::read_name))]
     pub fn as_str(&self) -> &str
@@ -136,6 +154,12 @@ impl PartialEq for Name {
     ghost laws = { partial_equiv_from_equiv nat_list_eq_equiv };
 
     fn eq(&self, other: &Name) -> bool {
+        if self.head() != other.head() {
+            return false;
+        }
+        if self.is_short() && other.is_short() {
+            return true;
+        }
         self.as_bytes() == other.as_bytes()
     }
 }
@@ -164,6 +188,14 @@ impl Ord for Name {
     ghost matches_eq = { texts_ties };
 
     fn cmp(&self, other: &Name) -> Ordering {
+        // Most names differ early, and the numbers are compared in one step.
+        let (mine, theirs) = (self.head(), other.head());
+        if mine != theirs {
+            return mine.cmp(&theirs);
+        }
+        if self.is_short() && other.is_short() {
+            return Ordering::Equal;
+        }
         self.as_bytes().cmp(other.as_bytes())
     }
 }
