@@ -5,14 +5,9 @@ use Rattle.std.specs.Prelude.{◌&&◌, ◌==◌, nat_lt, nat_le, slice_index}
 use Rattle.std.specs.Float.{binary64, float_is_finite}
 use Rattle.std.proofs.lemmas.Bool.Decides.{nat_tests}
 use Rattle.fast_float.specs.Text.{Parts, IsInteger, scan, digits_of, nearest, with_sign}
-use Rattle.serde_json.specs.Data.{Num, unsigned, negative, float}
+use Rattle.serde_json.specs.Data.{unsigned, negative, float}
 use Rattle.serde_json.specs.Read.{number_of, number_from, float_of, is_integer}
-
-abbrev is_unsigned : Option Num → Bool
-is_unsigned None = false
-is_unsigned (Some (unsigned n)) = true
-is_unsigned (Some (negative z)) = false
-is_unsigned (Some (float x)) = false
+use Rattle.ynl_lines.specs.Trees.{is_unsigned}
 
 -- a float is none
 no_float : (sign : Bool) (p : Parts) → is_unsigned (float_of sign p) ≡ false

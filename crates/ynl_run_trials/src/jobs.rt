@@ -16,8 +16,6 @@ use ynl_workers::{Gate, Go};
 const REGISTER: &[u8] =
     b"{\"event\":\"register\",\"label\":\"gpu\",\"memory\":10000,\"node\":\"g1\",\"vcores\":10}\n{\"event\":\"";
 
-const DONE: &[u8] = b"{\"reply\":\"done\"}\n";
-
 /// Gives its bytes, and then ends or fails. All jobs here read from one kind of reader and write to one kind
 /// of writer, since what is generic is proved anew for each pair of these.
 #[derive(Drop)]
