@@ -14,17 +14,18 @@ use std::alloc::{AllocError, Global};
 use std::collections::BTreeMap;
 use std::marker::Model;
 use ynl_model::Node;
-use ynl_resource::{Label, MOST_NODES, Name, Resource};
+use ynl_resource::{Hints, Label, MOST_NODES, Name, Resource};
 use ynl_roster::Roster;
 
 /// The nodes of a cluster in the order of joining, no two of one name, and which of them rest. A node is found by
-/// its name in few steps, and what the nodes of a label come to is kept. That a node rests is a mark under
-/// its number: the count of wakings at which it came to rest. So to wake all is to count once more, and past the
-/// last count none rests any more. A contract sees the list, and the names of those that rest.
+/// its name where the hint says, and else in few steps, and what the nodes of a label come to is kept. That a node
+/// rests is a mark under its number: the count of wakings at which it came to rest. So to wake all is to count once
+/// more, and past the last count none rests any more. A contract sees the list, and the names of those that rest.
 #[derive(Drop)]
 pub struct Nodes {
     roster: Roster<Node>,
     numbers: BTreeMap<Name, u64>,
+    hints: Hints<u64>,
     sums: Vec<SumRow>,
     marks: Roster<u64>,
     wakings: Option<u64>,
@@ -64,6 +65,7 @@ impl Nodes {
         Nodes {
             roster: Roster::new(alloc),
             numbers: BTreeMap::new(alloc),
+            hints: Hints::new(alloc),
             sums: Vec::new(alloc),
             marks: Roster::new(alloc),
             wakings: Some(AWAKE + 1),
@@ -74,7 +76,7 @@ impl Nodes {
     pub fn find(&self, name: &Name) -> Option<Node>
         ensures { result ≡ find_node self.now.list name.now }
     {
-        match spot_of(&self.numbers, &self.roster, name) {
+        match spot_of(&self.hints, &self.numbers, &self.roster, name) {
             Some(spot) => Some(spot.node),
             None => None,
         }
@@ -102,7 +104,7 @@ impl Nodes {
         ensures list { self.new.list ≡ stamped name.now label.now stamp self.old.list }
         ensures resting { self.new.resting ≡ self.old.resting }
     {
-        let Some(spot) = spot_of(&self.numbers, &self.roster, name) else {
+        let Some(spot) = spot_of(&self.hints, &self.numbers, &self.roster, name) else {
             return;
         };
         if spot.node.label == *label {
@@ -125,7 +127,7 @@ impl Nodes {
         let Some(wakings) = self.wakings else {
             return false;
         };
-        let Some(spot) = spot_of(&self.numbers, &self.roster, name) else {
+        let Some(spot) = spot_of(&self.hints, &self.numbers, &self.roster, name) else {
             return false;
         };
         match self.marks.get(spot.number) {
@@ -142,7 +144,7 @@ impl Nodes {
         let Some(wakings) = self.wakings else {
             return;
         };
-        if let Some(spot) = spot_of(&self.numbers, &self.roster, name) {
+        if let Some(spot) = spot_of(&self.hints, &self.numbers, &self.roster, name) {
             self.marks.set(spot.number, wakings);
         }
     }
@@ -161,7 +163,7 @@ impl Nodes {
         ensures list { self.new.list ≡ left node.now self.old.list }
         ensures resting { (other : Name) → is_among self.new.resting other ≡ true → is_among self.old.resting other ≡ true }
     {
-        let Some(spot) = spot_of(&self.numbers, &self.roster, &node.name) else {
+        let Some(spot) = spot_of(&self.hints, &self.numbers, &self.roster, &node.name) else {
             return;
         };
         if spot.node.label == node.label {
@@ -193,6 +195,7 @@ impl Nodes {
             Ok(_) => {
                 self.roster.push_reserved(number, node);
                 self.marks.push_reserved(number, AWAKE);
+                self.hints.note(&node.name, number, self.roster.len());
                 raise(&mut self.sums, &node.label, size);
                 Ok(())
             }
@@ -211,7 +214,7 @@ impl Nodes {
         ensures resting { OnOk result ((other : Name) → is_among self.new.resting other ≡ true → is_among self.old.resting other ≡ true) }
         ensures err { OnErr result ((self.new.list ≡ self.old.list) × (self.new.resting ≡ self.old.resting)) }
     {
-        let Some(spot) = spot_of(&self.numbers, &self.roster, &node.name) else {
+        let Some(spot) = spot_of(&self.hints, &self.numbers, &self.roster, &node.name) else {
             return Err(AllocError);
         };
         let Some(number) = self.roster.top().checked_add(1) else {
@@ -235,6 +238,7 @@ impl Nodes {
                     },
                 );
                 self.marks.push_reserved(number, AWAKE);
+                self.hints.note(&node.name, number, self.roster.len());
                 lower(&mut self.sums, &node.label, size);
                 raise(&mut self.sums, label, size);
                 Ok(())

@@ -3,11 +3,11 @@
 ghost use Rattle.std.specs.Prelude.{◌≡◌, false, IfSome, IfNone};
 ghost use Rattle.std.specs.List.{AllByRecursion};
 ghost use Rattle.ynl_resource.specs.Names.{same_name};
-ghost use Rattle.ynl_nodes.specs.Nodes.{AreIndexed, IsSpot};
+ghost use Rattle.ynl_nodes.specs.Nodes.{AreIndexed, IsLedTo, IsSpot};
 
 use std::collections::BTreeMap;
 use ynl_model::Node;
-use ynl_resource::Name;
+use ynl_resource::{Hints, Name};
 use ynl_roster::Roster;
 
 /// A node, and the number under which it stands.
@@ -17,12 +17,28 @@ pub(crate) struct Spot {
     pub(crate) node: Node,
 }
 
-/// The node of a name, with its number.
-pub(crate) fn spot_of(
-    numbers: &BTreeMap<Name, u64>,
-    roster: &Roster<Node>,
-    name: &Name,
-) -> Option<Spot>
+/// The node of a name, with its number, if it stands where the hint says.
+fn spot_hinted(hints: &Hints<u64>, roster: &Roster<Node>, name: &Name) -> Option<Spot>
+    ensures { IfSome result (λ spot. IsLedTo roster.now name.now spot.number spot.node) }
+{
+    let Some(number) = hints.of(name) else {
+        return None;
+    };
+    let Some(node) = roster.get(number) else {
+        return None;
+    };
+    if node.name == *name {
+        Some(Spot {
+            number,
+            node: *node,
+        })
+    } else {
+        None
+    }
+}
+
+/// The node of a name, with its number, by the map of names.
+fn spot_named(numbers: &BTreeMap<Name, u64>, roster: &Roster<Node>, name: &Name) -> Option<Spot>
     requires { AreIndexed numbers.now roster.now }
     ensures found { IfSome result (λ spot. IsSpot numbers.now roster.now name.now spot.number spot.node) }
     ensures none { IfNone result (AllByRecursion (λ e. same_name e.1.name name.now ≡ false) roster.now.entries) }
@@ -36,5 +52,22 @@ pub(crate) fn spot_of(
             node: *node,
         }),
         None => None,
+    }
+}
+
+/// The node of a name, with its number. It is looked for first where the hint says.
+pub(crate) fn spot_of(
+    hints: &Hints<u64>,
+    numbers: &BTreeMap<Name, u64>,
+    roster: &Roster<Node>,
+    name: &Name,
+) -> Option<Spot>
+    requires { AreIndexed numbers.now roster.now }
+    ensures found { IfSome result (λ spot. IsSpot numbers.now roster.now name.now spot.number spot.node) }
+    ensures none { IfNone result (AllByRecursion (λ e. same_name e.1.name name.now ≡ false) roster.now.entries) }
+{
+    match spot_hinted(hints, roster, name) {
+        Some(spot) => Some(spot),
+        None => spot_named(numbers, roster, name),
     }
 }

@@ -218,12 +218,33 @@ fn close<T: Drop>(slots: &mut Vec<Slot<T>>)
     slots.retain(|slot| slot.item.is_some());
 }
 
+/// The place of a number as it is where no number is left out from the first on, if the number stands there.
+fn guess<T>(slots: &Vec<Slot<T>>, number: u64) -> Option<usize>
+    ensures { IfSome result (IsPlaceOf number slots.now.items) }
+{
+    if slots.len() == 0 {
+        return None;
+    }
+    let first = slots[0].number;
+    if number < first {
+        return None;
+    }
+    let place = (number - first) as usize;
+    if place < slots.len() && slots[place].number == number {
+        return Some(place);
+    }
+    None
+}
+
 /// The place of a number.
 fn find<T>(slots: &Vec<Slot<T>>, number: u64) -> Option<usize>
     requires { Rises slots.now.items }
     ensures found { IfSome result (IsPlaceOf number slots.now.items) }
     ensures absent { IfNone result (IsAbsent number slots.now.items) }
 {
+    if let Some(place) = guess(slots, number) {
+        return Some(place);
+    }
     match slots.binary_search_by_key(&number, |slot| slot.number) {
         Ok(place) => Some(place),
         Err(_) => None,
