@@ -145,6 +145,11 @@ other_row label k clock row of off =
     let same : row.tenant ≡ tenant_of row.path = same-name_sym row.tenant (tenant_of row.path) of in
     other_apps label k clock row.path (subst (λ (n : Name). (is_master k && same_name k.tenant n) ≡ false) same off) row.apps.items
 
+-- and none has where the container is no master
+pub other_rows : (label : Label) (k : Placed) (clock : ℕ) (rows : List LeafRow) → is_master k ≡ false → noted_rows rows ≡ map (map (remarked label k clock)) (noted_rows rows)
+other_rows label k clock [] off = refl
+other_rows label k clock (row ∷ rows) off = λ i. other_row label k clock row row.of_tenant (ap (λ b. b && same_name k.tenant row.tenant) off) i ∷ other_rows label k clock rows off i
+
 -- ---- the containers on a node, one after another
 
 any_push : (f : Placed → Bool) (xs : List Placed) (x : Placed) → list_any f (xs ++ x ∷ []) ≡ (list_any f xs || f x)

@@ -1,18 +1,19 @@
 //! What is kept of the use of queues, with a container more or less.
 
-ghost use Rattle.std.specs.Prelude.{◌≡◌, ◌<◌, ◌∷◌, length, true};
+ghost use Rattle.std.specs.Prelude.{◌≡◌, ◌<◌, ◌∷◌, List, length};
 ghost use Rattle.std.specs.List.{AllByRecursion};
 ghost use Rattle.ynl_resource.specs.Amounts.{less};
 ghost use Rattle.ynl_resource.specs.Names.{root};
 ghost use Rattle.ynl_laws.specs.Uses.{raised, lowered};
-ghost use Rattle.ynl_laws.specs.Ways.{AreApart, along};
-ghost use Rattle.ynl_tables.specs.Numbers.{AreNumbered};
-ghost use Rattle.ynl_tables.specs.Tables.{leaves_of};
+ghost use Rattle.ynl_resource.specs.declared.paths.Path.{Path};
+ghost use Rattle.ynl_model.specs.Applications.{LeafApps};
+ghost use Rattle.ynl_laws.specs.Ways.{AreApart, IsWay, along};
+ghost use Rattle.ynl_tables.specs.Numbers.{is_above_app};
 ghost use Rattle.ynl_changes.specs.Cells.{IsSmallUse, LowersAll, RaisesAll};
 
 use ynl_model::{Placed, Use};
 use ynl_resource::Resource;
-use ynl_tables::{LeafRow, QueueNumbers, is_guest_on, is_master, way_of_app};
+use ynl_tables::{is_guest_on, is_master};
 
 /// The use with one more container.
 fn raised(kept: &Use, container: &Placed) -> Use
@@ -107,24 +108,22 @@ fn lower_along(uses: &mut Vec<Use>, way: &[usize], container: &Placed)
     }
 }
 
-/// What the queues above a container's leaf use is raised by the container.
-pub fn raise(uses: &mut Vec<Use>, numbers: &QueueNumbers, leaves: &[LeafRow], container: &Placed)
-    requires numbered { AreNumbered numbers.now (leaves_of leaves.now) }
-    requires len { length uses.old.items ≡ length (root ∷ numbers.now) }
+/// What the queues above a container's leaf use is raised by the container; the way is that to the leaf.
+pub fn raise(uses: &mut Vec<Use>, way: &[usize], container: &Placed)
     requires small { AllByRecursion IsSmallUse uses.old.items }
-    ensures { RaisesAll numbers.now (leaves_of leaves.now) container.now uses.old.items uses.new.items }
+    requires apart { AreApart way.now }
+    requires inside { AllByRecursion (λ n. n < length uses.old.items) way.now }
+    ensures { (queues : List Path) (leaves : List LeafApps) → IsWay (root ∷ queues) (is_above_app leaves container.now.tenant container.now.app) way.now → RaisesAll queues leaves container.now uses.old.items uses.new.items }
 {
-    let way = way_of_app(numbers, leaves, &container.tenant, &container.app);
     raise_along(uses, way, container);
 }
 
-/// What the queues above a container's leaf use is lowered by the container.
-pub fn lower(uses: &mut Vec<Use>, numbers: &QueueNumbers, leaves: &[LeafRow], container: &Placed)
-    requires numbered { AreNumbered numbers.now (leaves_of leaves.now) }
-    requires len { length uses.old.items ≡ length (root ∷ numbers.now) }
-    ensures uses { LowersAll numbers.now (leaves_of leaves.now) container.now uses.old.items uses.new.items }
-    ensures len { length uses.new.items ≡ length (root ∷ numbers.now) }
+/// What the queues above a container's leaf use is lowered by the container; the way is that to the leaf.
+pub fn lower(uses: &mut Vec<Use>, way: &[usize], container: &Placed)
+    requires apart { AreApart way.now }
+    requires inside { AllByRecursion (λ n. n < length uses.old.items) way.now }
+    ensures uses { (queues : List Path) (leaves : List LeafApps) → IsWay (root ∷ queues) (is_above_app leaves container.now.tenant container.now.app) way.now → LowersAll queues leaves container.now uses.old.items uses.new.items }
+    ensures len { length uses.new.items ≡ length uses.old.items }
 {
-    let way = way_of_app(numbers, leaves, &container.tenant, &container.app);
     lower_along(uses, way, container);
 }

@@ -19,15 +19,14 @@ ghost use Rattle.ynl_changes.specs.Cells.{AreUses, AreUserUses, AreFilled, Leave
 ghost use Rattle.ynl_changes.specs.Rows.{KeepsSum, in_row, without_id};
 
 use crate::cells::lower;
-use crate::chaining::unchain;
 use crate::marking::mark;
 use crate::users::{Change, change_users};
 use ynl_model::{Placed, Use};
 use ynl_queues::Config;
 use ynl_resource::{Id, Label, Name};
 use ynl_tables::{
-    ContainerRow, LeafRow, Listed, PartitionRow, QueueNumbers, Sums, Tables, clear_ended,
-    container_of, end_at, is_own_row, is_same, next_clock, place_at,
+    ContainerRow, LeafRow, Listed, PartitionRow, QueueNumbers, Sums, Tables, account_of,
+    clear_ended, container_of, end_at, is_own_row, is_same, link, next_clock, place_at,
 };
 
 /// Which containers go.
@@ -77,7 +76,9 @@ fn lower_if(
     ensures { LeavesIf (is_live_and label.now (goes going.entry) row.now) row.now (AreUses numbers.now (leaves_of leaves.now) label.now uses.old.items) (AreUses numbers.now (leaves_of leaves.now) label.now uses.new.items) }
 {
     if row_goes(going, row) {
-        lower(uses, numbers, leaves, &container_of(label, row));
+        let container = container_of(label, row);
+        let account = account_of(numbers, leaves, &container);
+        lower(uses, account.way, &container);
     }
 }
 
@@ -104,7 +105,7 @@ fn free_if(filled: &mut Sums, row: &ContainerRow, going: Going<'_>)
     ensures { (label : Labelled) → LeavesIf (is_live_and label (goes going.entry) row.now) row.now (AreFilled label filled.old) (AreFilled label filled.new) }
 {
     if row_goes(going, row) {
-        filled.lower(&row.node, &row.size);
+        filled.lower(&row.node, &row.size, None);
     }
 }
 
@@ -132,7 +133,8 @@ fn lower_users_if(
 {
     if row_goes(going, row) {
         let container = container_of(label, row);
-        change_users(users, numbers, leaves, Change::Less, &container);
+        let account = account_of(numbers, leaves, &container);
+        change_users(users, numbers, &account.owner, Change::Less, &container);
     }
 }
 
@@ -228,18 +230,20 @@ pub fn drop_at(row: &mut PartitionRow, numbers: &QueueNumbers, leaves: &[LeafRow
     let container = container_of(&row.label, &row.containers[place]);
     let before = row.containers[place].before;
     let after = row.containers[place].after;
-    lower(&mut row.uses, numbers, leaves, &container);
-    change_users(&mut row.users, numbers, leaves, Change::Less, &container);
-    row.filled.lower(&container.node, &container.size);
+    let account = account_of(numbers, leaves, &container);
+    lower(&mut row.uses, account.way, &container);
+    change_users(
+        &mut row.users,
+        numbers,
+        &account.owner,
+        Change::Less,
+        &container,
+    );
+    let last = if after == 0 { Some(before) } else { None };
+    row.filled.lower(&container.node, &container.size, last);
     row.listed.remove(&container);
     end_at(&mut row.containers, place);
-    unchain(
-        &mut row.filled,
-        &mut row.containers,
-        &container.node,
-        before,
-        after,
-    );
+    link(&mut row.containers, before, after);
     row.ended = row.ended.saturating_add(1);
 }
 

@@ -13,7 +13,6 @@ pub use submitting::{Submission, reserve_application, submit};
 
 mod asking;
 mod cells;
-mod chaining;
 mod ending;
 mod finishing;
 mod leaving;

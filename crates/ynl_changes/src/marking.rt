@@ -139,11 +139,15 @@ fn mark_in(row: &mut LeafRow, label: &Label, container: &Placed, clock: u64)
     }
 }
 
-/// The application whose master a container on a partition is, at its home, gets a mark.
+/// The application whose master a container on a partition is, at its home, gets a mark. No row is looked at where it
+/// is no master.
 pub fn mark(rows: &mut Vec<LeafRow>, label: &Label, container: &Placed, clock: u64)
     ensures meaning { leaves_of rows.new.items ≡ leaves_of rows.old.items }
     ensures marks { noted_rows rows.new.items ≡ map (map (remarked label.now container.now clock)) (noted_rows rows.old.items) }
 {
+    if !is_master(container) {
+        return;
+    }
     for row in rows.iter_mut() {
         mark_in(row, label, container, clock);
     }

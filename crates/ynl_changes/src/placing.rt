@@ -24,7 +24,6 @@ ghost use Rattle.ynl_changes.specs.Rows.{KeepsSum, KeepsSums, lists_of, rows_at,
 ghost use Rattle.ynl_waiting.specs.declared.waiting.Waiting.{Waiting};
 
 use crate::cells::raise;
-use crate::chaining::chain;
 use crate::marking::mark;
 use crate::queueing::{Which, enqueue_asks, withdraw_asks};
 use crate::users::{Change, change_users};
@@ -34,8 +33,8 @@ use ynl_model::{AskRow, Node, Placed, What};
 use ynl_queues::Config;
 use ynl_resource::{Id, Label, Name, Path};
 use ynl_tables::{
-    App, LeafRow, PartitionRow, QueueNumbers, Spot, Tables, is_ask_of, is_same, make_last,
-    next_clock, row_of, spot_of,
+    App, LeafRow, PartitionRow, QueueNumbers, Spot, Tables, account_of, is_ask_of, is_same, link,
+    make_last, next_clock, row_of, spot_of,
 };
 use ynl_waiting::Waiting;
 
@@ -62,18 +61,22 @@ fn put(
 {
     if is_same(&row.label, label) {
         row.clock = clock;
-        raise(&mut row.uses, numbers, leaves, container);
-        change_users(&mut row.users, numbers, leaves, Change::More, container);
-        row.filled.raise(&container.node, &container.size);
+        let account = account_of(numbers, leaves, container);
+        raise(&mut row.uses, account.way, container);
+        change_users(
+            &mut row.users,
+            numbers,
+            &account.owner,
+            Change::More,
+            container,
+        );
+        let before = row
+            .filled
+            .raise(&container.node, &container.size, container.id.clock);
         row.listed.add(container);
         make_last(&mut row.containers, container.id.clock);
         row.containers.push_reserved(row_of(container));
-        chain(
-            &mut row.filled,
-            &mut row.containers,
-            &container.node,
-            container.id.clock,
-        );
+        link(&mut row.containers, before, container.id.clock);
     }
 }
 

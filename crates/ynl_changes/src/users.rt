@@ -1,16 +1,16 @@
 //! What is kept of the use of users, with a container more or less.
 
-ghost use Rattle.std.specs.Prelude.{◌≡◌, ◌<◌, ◌∷◌, length, true};
+ghost use Rattle.std.specs.Prelude.{◌≡◌, ◌<◌, ◌∷◌, List, length, true, IfSome};
 ghost use Rattle.std.specs.List.{AllByRecursion, list_any};
 ghost use Rattle.ynl_resource.specs.Names.{root, same_path};
 ghost use Rattle.ynl_laws.specs.Ways.{AreApart, has_number};
-ghost use Rattle.ynl_tables.specs.Numbers.{AreNumbered};
-ghost use Rattle.ynl_tables.specs.Tables.{leaves_of};
+ghost use Rattle.ynl_model.specs.Applications.{LeafApps};
+ghost use Rattle.ynl_tables.specs.Uses.{IsOwner};
 ghost use Rattle.ynl_changes.specs.Users.{Changes, ChangesEach, ChangesAbove, ChangesUsers};
 
 use ynl_model::Placed;
 use ynl_resource::{Name, Size};
-use ynl_tables::{LeafRow, Owner, QueueNumbers, Sums, owner_of};
+use ynl_tables::{Owner, QueueNumbers, Sums};
 
 /// Whether there is a container more or less.
 #[derive(Clone, Copy)]
@@ -19,12 +19,17 @@ pub enum Change {
     Less,
 }
 
+/// No clock is kept of a user's containers.
+const NO_CLOCK: u64 = 0;
+
 fn change_one(sums: &mut Sums, kind: Change, user: &Name, size: &Size)
     ensures { Changes kind sums.old sums.new user.now size.now }
 {
     match kind {
-        Change::More => sums.raise(user, size),
-        Change::Less => sums.lower(user, size),
+        Change::More => {
+            let _last = sums.raise(user, size, NO_CLOCK);
+        }
+        Change::Less => sums.lower(user, size, None),
     }
 }
 
@@ -56,19 +61,19 @@ fn change_above(
     change_along(users, way, kind, owner.user, size);
 }
 
-/// What users use of queues has a container more or less.
+/// What users use of queues has a container more or less; the owner is whose use it counts in.
 pub fn change_users(
     users: &mut Vec<Sums>,
     numbers: &QueueNumbers,
-    leaves: &[LeafRow],
+    owner: &Option<Owner<'_>>,
     kind: Change,
     container: &Placed,
 )
-    requires numbered { AreNumbered numbers.now (leaves_of leaves.now) }
+    requires numbered { IfSome owner.now (λ owner. list_any (same_path owner.leaf.now) numbers.now ≡ true) }
     requires len { length users.old.items ≡ length (root ∷ numbers.now) }
-    ensures { ChangesUsers kind numbers.now (leaves_of leaves.now) container.now users.old.items users.new.items }
+    ensures { (leaves : List LeafApps) → IsOwner leaves container.now owner.now → ChangesUsers kind numbers.now leaves container.now users.old.items users.new.items }
 {
-    if let Some(owner) = owner_of(numbers, leaves, container) {
-        change_above(users, numbers, kind, &owner, &container.size);
+    if let Some(owner) = owner {
+        change_above(users, numbers, kind, owner, &container.size);
     }
 }

@@ -61,21 +61,6 @@ same_sums counts others sums cs ds same kept = go sums.entries kept
     go None was = tt
     go (Some m) was = λ name. was name ∙ same name
 
--- where a name's entry has the size that it had, what was right is so still
-pub noted_sum : (counts : Name → Placed → Bool) (sums : Sums) (old new : BTreeMap Name Sum) (name : Name) (sum noted : Sum) (cs : List Placed) → sums.entries ≡ Some old → get name_order old name ≡ Some sum → noted.size ≡ sum.size
-    → ((q : Name) → get name_order new q ≡ cond (is_at (name_order name) q) (Some noted) (get name_order old q)) → AreSums counts sums cs → AreSums counts (record { entries = Some new }) cs
-noted_sum counts sums old new name sum noted cs is found same updates kept = λ other. each other ∙ was other
-  where
-    was : (other : Name) → kept_for old other ≡ sizes_for counts other cs
-    was = subst (λ o. IfSome o (λ entries. (n : Name) → kept_for entries n ≡ sizes_for counts n cs)) is kept
-
-    each : (other : Name) → kept_for new other ≡ kept_for old other
-    each other = ap (λ o. option_map_or (λ (r : Sum). r.size) o nothing) (updates other) ∙ go (is_at (name_order name) other) (texts_ties name other)
-      where
-        go : (b : Bool) → same_name name other ≡ b → option_map_or (λ (r : Sum). r.size) (cond b (Some noted) (get name_order old other)) nothing ≡ kept_for old other
-        go true e = same ∙ ap (λ o. option_map_or (λ (r : Sum). r.size) o nothing) (sym found) ∙ ap (kept_for old) (same-name_sym name other e)
-        go false e = refl
-
 less-plus : (a b : Resource) → less (plus a b) b ≡ a
 less-plus a b = grind (arith)
 

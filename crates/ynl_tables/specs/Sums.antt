@@ -51,7 +51,3 @@ Raises old new name size = (counts : Name → Placed → Bool) (k : Placed) → 
 abbrev pub Lowers : Sums → Sums → Name → Resource → Type 0
 Lowers old new name size = (counts : Name → Placed → Bool) (k : Placed) → CountsFor counts k name size
     → (before after : List Placed) → AreSums counts old (before ++ k ∷ after) → AreSums counts new (before ++ after)
-
--- what was right is so still, whatever counts for whom
-abbrev pub KeepsRight : Sums → Sums → Type 0
-KeepsRight old new = (counts : Name → Placed → Bool) (containers : List Placed) → AreSums counts old containers → AreSums counts new containers

@@ -1,7 +1,7 @@
 //! The chain of the containers on a node: each row has the clocks of those beside it. These are hints, and what
 //! they lead to is looked at again.
 
-ghost use Rattle.std.specs.Prelude.{◌≡◌, IsTrue, vec_len, vec_capacity};
+ghost use Rattle.std.specs.Prelude.{◌≡◌, ◌<◌, IsTrue, IfSome, length, vec_len, vec_capacity};
 ghost use Rattle.ynl_tables.specs.Living.{IsSameButHints, row_clock};
 ghost use Rattle.ynl_tables.specs.Rising.{numbers_rise};
 
@@ -18,13 +18,28 @@ pub fn clock_before(rows: &[ContainerRow], clock: u64) -> u64
     }
 }
 
+/// The place of the row of a clock, which is often the last. No row has the clock 0.
+fn row_at(rows: &[ContainerRow], clock: u64) -> Option<usize>
+    requires { IsTrue (numbers_rise row_clock rows.now) }
+    ensures { IfSome result (λ place. place < length rows.now) }
+{
+    let len = rows.len();
+    if clock == 0 || len == 0 {
+        return None;
+    }
+    if rows[len - 1].clock == clock {
+        return Some(len - 1);
+    }
+    place_at(rows, clock)
+}
+
 fn set_before(rows: &mut Vec<ContainerRow>, clock: u64, before: u64)
     requires { IsTrue (numbers_rise row_clock rows.old.items) }
     ensures same { IsSameButHints rows.old.items rows.new.items }
     ensures len { vec_len rows.new ≡ vec_len rows.old }
     ensures capacity { vec_capacity rows.new ≡ vec_capacity rows.old }
 {
-    if let Some(place) = place_at(rows, clock) {
+    if let Some(place) = row_at(rows, clock) {
         let row = &mut rows[place];
         row.before = before;
     }
@@ -36,7 +51,7 @@ fn set_after(rows: &mut Vec<ContainerRow>, clock: u64, after: u64)
     ensures len { vec_len rows.new ≡ vec_len rows.old }
     ensures capacity { vec_capacity rows.new ≡ vec_capacity rows.old }
 {
-    if let Some(place) = place_at(rows, clock) {
+    if let Some(place) = row_at(rows, clock) {
         let row = &mut rows[place];
         row.after = after;
     }

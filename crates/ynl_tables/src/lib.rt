@@ -16,7 +16,7 @@ pub use holders::{Holder, Listed};
 pub use known::{Known, Spot};
 pub use live::{Live, live_at};
 pub use named::{place_of, spot_of};
-pub use numbers::{QueueNumbers, way_of_app};
+pub use numbers::QueueNumbers;
 pub use polling::{own_containers, pending_on};
 pub use queue_use::{free, guests, masters_used, no_master_in, runs, used, user_used, uses_on};
 pub use resting::{rest, wake};
@@ -29,7 +29,7 @@ pub use tables::{
 };
 pub use usage::usage_of;
 pub use user_counts::UserCounts;
-pub use uses::{Owner, is_guest_on, is_live_on, is_master, owner_of};
+pub use uses::{Account, Owner, account_of, is_guest_on, is_live_on, is_master};
 
 mod applications;
 mod asks;

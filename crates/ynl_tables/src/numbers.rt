@@ -9,9 +9,9 @@ ghost use Rattle.ynl_tables.specs.Siblings.{leaf_paths, leaf_at, IsPast};
 ghost use Rattle.ynl_tables.specs.Tables.{leaves_of};
 ghost use Rattle.ynl_tables.specs.Tenants.{IsOnward};
 
-use crate::rows::{LeafRow, Way};
+use crate::rows::Way;
 use crate::siblings::{ends_of, leaves_in};
-use crate::tables::{leaf_row_by, tenant_bytes};
+use crate::tables::tenant_bytes;
 use crate::tenants::Tenants;
 use std::alloc::{AllocError, Global};
 use std::marker::Model;
@@ -257,22 +257,4 @@ fn way_to<'a>(ways: &'a [Way], queue: &Path) -> Option<&'a Way>
     ensures { option_map (λ r. r.now) result ≡ find (λ way. same_path way.queue queue.now) ways.now }
 {
     ways.iter().find(|way| way.queue == *queue)
-}
-
-/// The numbers of root and of the queues on the way to the leaf of an application, and none where
-/// there is no such application.
-#[tactic(auto, unfolding(ynl_model::specs::Applications::leaf_of))]
-pub fn way_of_app<'a>(
-    numbers: &'a QueueNumbers,
-    leaves: &[LeafRow],
-    tenant: &Name,
-    app: &Name,
-) -> &'a [usize]
-    requires { AreNumbered numbers.now (leaves_of leaves.now) }
-    ensures { IsWay (root ∷ numbers.now) (is_above_app (leaves_of leaves.now) tenant.now app.now) result.now }
-{
-    match leaf_row_by(numbers, leaves, tenant, app) {
-        Some(row) => numbers.way_near(row.near.place, &row.path),
-        None => &[],
-    }
 }

@@ -4,7 +4,7 @@ ghost use Rattle.std.specs.Prelude.{◌≡◌, Bool, []};
 ghost use Rattle.ynl_resource.specs.Amounts.{plus, less, IsSize, IsSmall};
 ghost use Rattle.ynl_resource.specs.declared.names.Name.{Name};
 ghost use Rattle.ynl_model.specs.declared.containers.Placed.{Placed};
-ghost use Rattle.ynl_tables.specs.Sums.{kept_for, AreSums, Sets, Raises, Lowers, KeepsRight, IsSumFor};
+ghost use Rattle.ynl_tables.specs.Sums.{kept_for, AreSums, Sets, Raises, Lowers, IsSumFor};
 
 use std::alloc::Global;
 use std::collections::BTreeMap;
@@ -80,36 +80,40 @@ impl Sums {
     }
 
     /// The sum of a name is set; where there is no memory for it nothing is kept any more.
-    fn set(&mut self, name: &Name, sum: Resource)
-        ensures { Sets self.old self.new name.now sum }
+    fn set(&mut self, name: &Name, size: Resource, last: u64)
+        ensures { Sets self.old self.new name.now size }
     {
         let Some(entries) = &mut self.entries else {
             return;
         };
-        match entries.insert(*name, Sum { size: sum, last: 0 }) {
+        match entries.insert(*name, Sum { size, last }) {
             Ok(_) => {}
             Err(_) => self.entries = None,
         }
     }
 
-    /// One container more, which counts for one name.
-    pub fn raise(&mut self, name: &Name, size: &Size)
+    /// One container more, which counts for one name, and whose clock is noted for it. The clock is given that was
+    /// noted for the name before, and 0 where none is known.
+    pub fn raise(&mut self, name: &Name, size: &Size, clock: u64) -> u64
         ensures sums { Raises self.old self.new name.now size.now }
         ensures size { IsSize size.now }
     {
         let amount = size.amount();
         let Some(entries) = &mut self.entries else {
-            return;
+            return 0;
         };
         if let Some(sum) = entries.get_mut(name) {
+            let last = sum.last;
             sum.size = with(&sum.size, size);
-            return;
+            sum.last = clock;
+            return last;
         }
-        self.set(name, amount);
+        self.set(name, amount, clock);
+        0
     }
 
-    /// One container less, which counted for one name.
-    pub fn lower(&mut self, name: &Name, size: &Size)
+    /// One container less, which counted for one name. A clock is noted for the name, if one is given.
+    pub fn lower(&mut self, name: &Name, size: &Size, clock: Option<u64>)
         ensures { Lowers self.old self.new name.now size.now }
     {
         let Some(entries) = &mut self.entries else {
@@ -117,6 +121,7 @@ impl Sums {
         };
         if let Some(sum) = entries.get_mut(name) {
             sum.size = without(&sum.size, size);
+            sum.last = clock.unwrap_or(sum.last);
         }
     }
 
@@ -128,18 +133,6 @@ impl Sums {
         match entries.get(name) {
             Some(sum) => sum.last,
             None => 0,
-        }
-    }
-
-    /// A clock is noted for a name, if it has a sum.
-    pub fn note(&mut self, name: &Name, clock: u64)
-        ensures { KeepsRight self.old self.new }
-    {
-        let Some(entries) = &mut self.entries else {
-            return;
-        };
-        if let Some(sum) = entries.get_mut(name) {
-            sum.last = clock;
         }
     }
 }

@@ -1,16 +1,18 @@
 //! What containers use: sums over the containers of a partition.
 
-ghost use Rattle.std.specs.Prelude.{◌≡◌, ◌&&◌, IsTrue, List, true, filter, IfSome, if◌then◌else◌};
+ghost use Rattle.std.specs.Prelude.{◌≡◌, ◌&&◌, ◌∷◌, IsTrue, List, true, filter, Some, IfSome, if◌then◌else◌};
 ghost use Rattle.std.specs.List.{list_any};
 ghost use Rattle.ynl_resource.specs.Amounts.{plus, fits_in};
-ghost use Rattle.ynl_resource.specs.Names.{same_name, same_path};
+ghost use Rattle.ynl_resource.specs.Names.{root, same_name, same_path};
 ghost use Rattle.ynl_resource.specs.declared.paths.Path.{Path as Names};
+ghost use Rattle.ynl_model.specs.Applications.{LeafApps, row_of};
 ghost use Rattle.ynl_model.specs.Cluster.{is_master, is_guest_on, is_below, sizes};
-ghost use Rattle.ynl_tables.specs.Numbers.{AreNumbered};
+ghost use Rattle.ynl_tables.specs.Numbers.{AreNumbered, is_above_app};
 ghost use Rattle.ynl_tables.specs.Living.{is_live_and, live_in};
-ghost use Rattle.ynl_tables.specs.Tables.{leaves_of};
+ghost use Rattle.ynl_tables.specs.Tables.{leaf_of_row, leaves_of};
 ghost use Rattle.ynl_tables.specs.Bounds.{IsTotal};
 ghost use Rattle.ynl_laws.specs.Uses.{counts};
+ghost use Rattle.ynl_laws.specs.Ways.{IsWay};
 ghost use Rattle.ynl_tables.specs.Uses.{is_of_other, of_user, is_counted, IsOwner};
 
 use crate::containers::container_of;
@@ -38,6 +40,14 @@ pub struct Owner<'a> {
     pub leaf: &'a Path,
     pub place: usize,
     pub user: &'a Name,
+}
+
+/// Where a container counts: the numbers of the queues on the way to its leaf, root included, and whose use it
+/// counts in, if it does in that of a user. Where there is no such leaf there are no numbers.
+#[derive(Clone, Copy)]
+pub struct Account<'a> {
+    pub way: &'a [usize],
+    pub owner: Option<Owner<'a>>,
 }
 
 const NOTHING: Resource = Resource {
@@ -111,30 +121,47 @@ fn is_of_user(leaves: &[LeafRow], user: &Name, container: &Placed) -> bool
     }
 }
 
-/// Whose use a container counts in; none for a guest, and where the application is not live.
+/// Whose use a container counts in, by the row of its leaf; none for a guest, and where the application is not
+/// live.
 #[tactic(auto, unfolding(ynl_model::specs::Applications::leaf_of, ynl_model::specs::Applications::find_app))]
-pub fn owner_of<'a>(
-    numbers: &QueueNumbers,
-    leaves: &'a [LeafRow],
-    container: &Placed,
-) -> Option<Owner<'a>>
-    requires { AreNumbered numbers.now (leaves_of leaves.now) }
-    ensures owner { IsOwner (leaves_of leaves.now) container.now result }
-    ensures numbered { IfSome result (λ owner. list_any (same_path owner.leaf.now) numbers.now ≡ true) }
+fn owner_in<'a>(row: &'a LeafRow, container: &Placed) -> Option<Owner<'a>>
+    ensures owner { (leaves : List LeafApps) → Some (leaf_of_row row.now) ≡ row_of leaves container.now.tenant container.now.app → IsOwner leaves container.now result }
+    ensures leaf { IfSome result (λ owner. owner.leaf.now ≡ row.now.path) }
 {
     if is_guest_on(&container.id.label, &container.what) {
         return None;
     }
-    match leaf_row_by(numbers, leaves, &container.tenant, &container.app) {
-        Some(row) => match app_named(row, &container.app) {
-            Some(app) => Some(Owner {
-                leaf: &row.path,
-                place: row.near.place,
-                user: &app.user,
-            }),
-            None => None,
-        },
+    match app_named(row, &container.app) {
+        Some(app) => Some(Owner {
+            leaf: &row.path,
+            place: row.near.place,
+            user: &app.user,
+        }),
         None => None,
+    }
+}
+
+/// Where a container counts. Its application is looked for once.
+#[tactic(auto, unfolding(ynl_model::specs::Applications::leaf_of, ynl_model::specs::Applications::find_app))]
+pub fn account_of<'a>(
+    numbers: &'a QueueNumbers,
+    leaves: &'a [LeafRow],
+    container: &Placed,
+) -> Account<'a>
+    requires { AreNumbered numbers.now (leaves_of leaves.now) }
+    ensures way { IsWay (root ∷ numbers.now) (is_above_app (leaves_of leaves.now) container.now.tenant container.now.app) result.way.now }
+    ensures owner { IsOwner (leaves_of leaves.now) container.now result.owner }
+    ensures numbered { IfSome result.owner (λ owner. list_any (same_path owner.leaf.now) numbers.now ≡ true) }
+{
+    match leaf_row_by(numbers, leaves, &container.tenant, &container.app) {
+        Some(row) => Account {
+            way: numbers.way_near(row.near.place, &row.path),
+            owner: owner_in(row, container),
+        },
+        None => Account {
+            way: &[],
+            owner: None,
+        },
     }
 }
 

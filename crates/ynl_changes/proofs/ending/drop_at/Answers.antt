@@ -18,17 +18,17 @@ use Rattle.ynl_changes.proofs.ending.drop_at.Goals as goal
 -- the clocks of the rows are as they were
 pub invariant_of-row : goal.invariant_of-row
 invariant_of-row c = record {
-  rising = c.unchain.ensures.same.rising (c.end_at.ensures.rising c.args.row.now.rising);
-  sized = sized_less c.args.row.now.label c.args.row.now.containers.items c.args.place c.requires.place c.unchain.new.rows.items (c.unchain.ensures.same.live c.args.row.now.label ∙ c.end_at.ensures.live c.args.row.now.label) c.args.row.now.sized;
+  rising = c.link.ensures.same.rising (c.end_at.ensures.rising c.args.row.now.rising);
+  sized = sized_less c.args.row.now.label c.args.row.now.containers.items c.args.place c.requires.place c.link.new.rows.items (c.link.ensures.same.live c.args.row.now.label ∙ c.end_at.ensures.live c.args.row.now.label) c.args.row.now.sized;
 }
 
-pub unchain-requires : goal.unchain-requires
-unchain-requires c = c.end_at.ensures.rising c.args.row.now.rising
+pub link-requires : goal.link-requires
+link-requires c = c.end_at.ensures.rising c.args.row.now.rising
 
 pub returns-clause-meaning : goal.returns-clause-meaning
 returns-clause-meaning c =
     let label = c.args.row.now.label in
-    ap (λ (ks : List Placed). record (partition_of c.args.row.now) { containers = ks }) (c.unchain.ensures.same.live label ∙ c.end_at.ensures.live label)
+    ap (λ (ks : List Placed). record (partition_of c.args.row.now) { containers = ks }) (c.link.ensures.same.live label ∙ c.end_at.ensures.live label)
 
 pub returns-clause-summed : goal.returns-clause-summed
 returns-clause-summed c =
@@ -45,11 +45,11 @@ returns-clause-summed c =
     let live : row.is_live ≡ true = ap (λ (row : ContainerRow). row.is_live) c.index.ensures ∙ c.requires.live row in
     let whole : live_in label rows ≡ before ++ k ∷ after =
     ap (live_in label) (split_at rows c.args.place row c.requires.place c.index.ensures) ∙ live_between label first rest row live ∙ ap (λ (k : Placed). before ++ k ∷ after) (sym c.container_of-container.ensures) in
-    let left = sym (c.unchain.ensures.same.live label ∙ c.end_at.ensures.live label ∙ live_append label first rest) in
+    let left = sym (c.link.ensures.same.live label ∙ c.end_at.ensures.live label ∙ live_append label first rest) in
     let by = λ (ks : List Placed). map (λ queue. use_by leaves queue ks) (root ∷ queues) in
     record {
-      uses = use_less queues leaves k c.args.row.now.uses.items c.lower.new.uses.items c.lower.ensures.uses before after (c.requires.summed.uses ∙ ap by whole) ∙ ap by left;
-      users = subst (AreByUser queues leaves c.change_users.new.users.items) left (c.change_users.ensures before after (subst (AreByUser queues leaves c.args.row.now.users.items) whole c.requires.summed.users));
-      filled = subst (AreSums stands_on c.unchain.new.filled) left (c.unchain.ensures.filled stands_on (before ++ after) (c.lower-2.ensures stands_on k (record { sized = refl; alone = λ other. refl }) before after (subst (AreSums stands_on c.args.row.now.filled) whole c.requires.summed.filled)));
+      uses = use_less queues leaves k c.args.row.now.uses.items c.lower.new.uses.items (c.lower.ensures.uses queues leaves c.account_of-account.ensures.way) before after (c.requires.summed.uses ∙ ap by whole) ∙ ap by left;
+      users = subst (AreByUser queues leaves c.change_users.new.users.items) left (c.change_users.ensures leaves c.account_of-account.ensures.owner before after (subst (AreByUser queues leaves c.args.row.now.users.items) whole c.requires.summed.users));
+      filled = subst (AreSums stands_on c.lower-2.new.self) left (c.lower-2.ensures stands_on k (record { sized = refl; alone = λ other. refl }) before after (subst (AreSums stands_on c.args.row.now.filled) whole c.requires.summed.filled));
       listed = subst (AreListed c.remove.new.self) left (c.remove.ensures before after (subst (λ (ks : List Placed). numbers_rise clock_of ks ≡ true) whole (live_rise label rows c.args.row.now.rising)) (subst (AreListed c.args.row.now.listed) whole c.requires.summed.listed));
     }

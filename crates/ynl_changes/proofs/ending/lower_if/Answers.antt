@@ -21,4 +21,4 @@ returns-then-row_goes c =
     let uses : List Placed → List Use = λ ks. map (λ queue. use_by leaves queue ks) (root ∷ numbers) in
     subst (λ (b : Bool). LeavesIf b row (AreUses numbers leaves label c.args.uses.now.items) (AreUses numbers leaves label c.lower.new.uses.items)) (sym passes)
     (leaves_row label (λ ks. c.args.uses.now.items ≡ uses ks) (λ ks. c.lower.new.uses.items ≡ uses ks) row live (use_less numbers leaves (container_in label row) c.args.uses.now.items c.lower.new.uses.items
-    (subst (λ (k : Placed). LowersAll numbers leaves k c.args.uses.now.items c.lower.new.uses.items) c.container_of.ensures c.lower.ensures.uses)))
+    (subst (λ (k : Placed). LowersAll numbers leaves k c.args.uses.now.items c.lower.new.uses.items) c.container_of-container.ensures (c.lower.ensures.uses numbers leaves c.account_of-account.ensures.way))))

@@ -18,4 +18,4 @@ returns-then-row_goes c =
     let leaves = leaves_of c.args.leaves.now in
     subst (λ (b : Bool). LeavesIf b row (AreUserUses numbers leaves label c.args.users.now.items) (AreUserUses numbers leaves label c.change_users.new.users.items)) (sym passes)
     (leaves_row label (AreByUser numbers leaves c.args.users.now.items) (AreByUser numbers leaves c.change_users.new.users.items) row live
-    (subst (λ (k : Placed). LeavesIf true k (AreByUser numbers leaves c.args.users.now.items) (AreByUser numbers leaves c.change_users.new.users.items)) c.container_of-container.ensures c.change_users.ensures))
+    (subst (λ (k : Placed). LeavesIf true k (AreByUser numbers leaves c.args.users.now.items) (AreByUser numbers leaves c.change_users.new.users.items)) c.container_of-container.ensures (c.change_users.ensures leaves c.account_of-account.ensures.owner)))

@@ -9,7 +9,7 @@ returns-in-Some-clause-same c =
     let rows = c.args.rows.now.items in
     let old : ContainerRow = c.index_mut-row.result.now in
     let new : ContainerRow = record old { before = c.args.before } in
-    let inside : c.in-Some.place < length rows = subst (λ (rows : List ContainerRow). c.in-Some.place < length rows) c.deref.ensures.value c.in-Some.ensures.found.within in
+    let inside : c.in-Some.place < length rows = subst (λ (rows : List ContainerRow). c.in-Some.place < length rows) c.deref.ensures.value c.in-Some.ensures in
     record {
       live = λ label. live_set label rows c.in-Some.place old new inside (ap (live_of label) c.index_mut-row.ensures.value);
       rising = rise_set rows c.in-Some.place old new inside (ap row_clock c.index_mut-row.ensures.value);

@@ -16,10 +16,10 @@ returns-in-Some-get_mut c = λ counts k for before after kept.
     let was : BTreeMap Name Sum = c.in-Some.entries in
     let sum : Sum = c.in-Some-get_mut.sum.now in
     let fewer : Resource = c.without-sum.result in
-    let is : BTreeMap Name Sum = c.get_mut.follows.lender (record sum { size = fewer }) in
+    let is : BTreeMap Name Sum = c.get_mut.follows.lender (record { size = fewer; last = c.unwrap_or-sum.result }) in
     let found : get name_order was name ≡ Some sum = sym c.get_mut.ensures.value ∙ ap option_copied_mut c.in-Some-get_mut.is in
     let known = known_sum counts c.args.self.now was name (Some sum) (before ++ k ∷ after) c.in-Some.is found kept in
-    let sets = inserted_sum c.args.self.now.entries was is name (record sum { size = fewer }) c.in-Some.is ((c.get_mut.follows.holds (record sum { size = fewer })).3 (subst IsSome (sym found) refl)).0 in
+    let sets = inserted_sum c.args.self.now.entries was is name (record { size = fewer; last = c.unwrap_or-sum.result }) c.in-Some.is ((c.get_mut.follows.holds (record { size = fewer; last = c.unwrap_or-sum.result })).3 (subst IsSome (sym found) refl)).0 in
     set_fewer counts c.args.self.now (record { entries = Some is }) k name c.args.size.now sum.size fewer before after for sets kept known c.without-sum.ensures
 
 -- from a name that has no entry nothing is taken

@@ -16,10 +16,10 @@ returns-in-Some-get_mut-clause-sums c = λ counts k for containers small kept.
     let was : BTreeMap Name Sum = c.in-Some.entries in
     let sum : Sum = c.in-Some-get_mut.sum.now in
     let more : Resource = c.with-sum.result in
-    let is : BTreeMap Name Sum = c.get_mut.follows.lender (record sum { size = more }) in
+    let is : BTreeMap Name Sum = c.get_mut.follows.lender (record { size = more; last = c.args.clock }) in
     let found : get name_order was name ≡ Some sum = sym c.get_mut.ensures.value ∙ ap option_copied_mut c.in-Some-get_mut.is in
     let known = known_sum counts c.args.self.now was name (Some sum) containers c.in-Some.is found kept in
-    let sets = inserted_sum c.args.self.now.entries was is name (record sum { size = more }) c.in-Some.is ((c.get_mut.follows.holds (record sum { size = more })).3 (subst IsSome (sym found) refl)).0 in
+    let sets = inserted_sum c.args.self.now.entries was is name (record { size = more; last = c.args.clock }) c.in-Some.is ((c.get_mut.follows.holds (record { size = more; last = c.args.clock })).3 (subst IsSome (sym found) refl)).0 in
     set_more counts c.args.self.now (record { entries = Some is }) k name c.args.size.now sum.size more containers for sets kept known (c.with-sum.ensures (little counts name containers sum.size known small))
 
 -- a name that has no entry gets one
