@@ -12,7 +12,7 @@ use Rattle.ynl_model.specs.Queues.{Config}
 use Rattle.ynl_laws.specs.Lulls.{IsLull}
 use Rattle.ynl_choice.specs.declared.lulls.Lull.{Lull}
 use Rattle.ynl_choice.specs.declared.lulls.Lulls.{Lulls}
-use Rattle.ynl_choice.specs.declared.lulls.PartLulls.{PartLulls}
+use Rattle.ynl_choice.specs.declared.blocks.PartLulls.{PartLulls}
 use Rattle.ynl_choice.specs.Lulls.{lull_at, AreFewer, AreLulls, ArePartLulls, IsFewer, IsGone, IsPartAt}
 use Rattle.ynl_choice.proofs.Placed.{each_at}
 

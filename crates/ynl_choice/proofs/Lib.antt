@@ -20,5 +20,6 @@ mod Lessened
 mod Wanted
 mod Over
 pub mod Known
+mod InBlocks
 pub mod Quiet
 mod Seeded

@@ -1,11 +1,11 @@
 -- Leaves of which nothing may be placed: what is known of them then, and that it tells so later.
-use Rattle.std.proofs.Common.{◌≡◌, ℕ, ◌<◌, Bool, true, false, not, ◌&&◌, ◌||◌, List, [], ◌∷◌, length, get_or, map, Option, Some, None, refl, sym, ap, subst, ◌∙◌}
+use Rattle.std.proofs.Common.{◌≡◌, ℕ, ◌<◌, Bool, true, false, not, ◌&&◌, ◌||◌, List, [], ◌∷◌, length, get_or, map, Option, Some, None, refl, sym, ap, subst, ◌∙◌, arith}
 use Rattle.std.specs.Prelude.{find, fold, IfSome}
 use Rattle.std.specs.Bool.{OnTrue}
 use Rattle.std.specs.List.{AllByRecursion, list_any}
 use Rattle.std.specs.Option.{option_map_or}
 use Rattle.std.proofs.lemmas.Bool.{and_from}
-use Rattle.std.proofs.lemmas.List.{get_or-map}
+use Rattle.std.proofs.lemmas.List.{get_or-map, get_or_default, length-map}
 use mathlib.Core.Bool.{true≢false}
 use Rattle.ynl_resource.specs.Amounts.{fits_in}
 use Rattle.ynl_resource.specs.Names.{same_label, same_path}
@@ -34,7 +34,7 @@ use Rattle.ynl_choice.specs.declared.lulls.Lull.{Lull}
 use Rattle.ynl_choice.specs.declared.scenes.Scene.{Scene}
 use Rattle.ynl_choice.specs.Choosing.{state_in, item_of, ArePlaced, key_in, passes, asks_in, masters_of, wanted_in, IsScene, HoldsBest}
 use Rattle.ynl_choice.specs.LeafUses.{allows, IsLeafUse}
-use Rattle.ynl_choice.specs.Lulls.{IsLeastOf, IsQuiet, NonePass}
+use Rattle.ynl_choice.specs.Lulls.{IsLeastOf, IsQuiet, IsStill, NonePass}
 use Rattle.ynl_choice.specs.Waits.{is_placeable, IsFirstTurn, IsPartOf}
 use Rattle.ynl_choice.specs.declared.standings.Candidate.{Candidate}
 use Rattle.ynl_choice.proofs.Classed.{masters-told, masters-gathered, asks-told, asks-gathered}
@@ -216,6 +216,15 @@ module _ (scene : Scene) (h : IsScene scene) (place : ℕ) (inside : place < len
       let requests = requests-there scene.tables.now h.readable.tabled place row inside read scene refl in
       told-quiet scene h own lull.least lull.room (wanted_in scene row) (sym e) (subst (λ (items : List Item). AllByRecursion (λ item. fits_in lull.least item.size ≡ true) items) requests there.above)
       (subst (λ (items : List Item). AllByRecursion (λ item. fits_in item.size lull.room ≡ true → keeps_own_limits scene.config.now (state_in scene) scene.label item ≡ false) items) requests there.none)
+
+  -- so does a lull that says so for what is free
+  pub still-told : scene.as_guests ≡ false → ((d : LeafApps) → IsStill scene.config.now (state_in scene) scene.label (get_or (state_in scene).leaves place d).leaf scene.free)
+      → (row : LeafRow) → row ≡ get_or scene.tables.now.leaves.items place row → NonePass scene (wanted_in scene row)
+  still-told own still row read =
+      let d : LeafApps = leaf_of_row row in
+      let here = still d in
+      let there : place < length (state_in scene).leaves = omega (arith, inside, length-map scene.tables.now.leaves.items leaf_of_row) in
+      quiet-told own here.lull (λ e. subst (λ (leaf : LeafApps). IsLull scene.config.now (state_in scene) scene.label leaf.leaf here.lull.least here.lull.room) (get_or_default (state_in scene).leaves place d e there) here.is) true (sym here.still) row read
 
   -- and what was found of it is a lull of its path
   pub lull-found : (row : LeafRow) → row ≡ get_or scene.tables.now.leaves.items place row → (lull : Option Lull) → IfSome lull (IsQuiet scene (wanted_in scene row))

@@ -1,5 +1,5 @@
 -- Leaves that are passed over together.
-use Rattle.std.proofs.Common.{◌≡◌, ℕ, zero, suc, ◌+◌, ◌-◌, ◌<◌, ◌≤◌, Bool, true, List, [], ◌∷◌, ◌++◌, length, map, filter, take, get_or, append-nil, take-suc, Option, Some, sym, ap, subst, ◌∙◌, arith}
+use Rattle.std.proofs.Common.{◌≡◌, ℕ, zero, suc, ◌+◌, ◌-◌, ◌<◌, ◌≤◌, Bool, true, List, [], ◌∷◌, ◌++◌, length, map, filter, take, get_or, append-nil, take-suc, Option, Some, refl, sym, ap, subst, ◌∙◌, arith}
 use Rattle.std.specs.Prelude.{flat_map}
 use Rattle.std.specs.Borrow.{Bor}
 use Rattle.std.proofs.lemmas.Grind.{flat_map-append}
@@ -19,12 +19,14 @@ use Rattle.ynl_tables.specs.Siblings.{leaf_at, leaf_paths, IsPast}
 use Rattle.ynl_tables.specs.Tables.{app_of, leaf_of_row, leaves_of}
 use Rattle.ynl_choice.specs.Candidates.{is_ahead}
 use Rattle.ynl_choice.specs.Choosing.{state_in, standings_to, masters_of, asks_in, wanted_in, all_asks, all_wanted, HoldsBest, IsNext, IsPassed}
+use Rattle.ynl_choice.specs.Lulls.{AreQuiet}
 use Rattle.ynl_choice.specs.declared.scenes.Scene.{Scene}
 use Rattle.ynl_choice.specs.declared.standings.Candidate.{Candidate}
 use Rattle.ynl_choice.proofs.Classed.{masters-gathered, asks-gathered}
 use Rattle.ynl_choice.proofs.Considering.{then}
 use Rattle.ynl_choice.proofs.FirstTurn.{held-ahead}
 use Rattle.ynl_choice.proofs.Passed.{ahead-below}
+use Rattle.ynl_choice.proofs.Quiet.{quiet-held}
 
 -- ---- what is gathered of one row more
 
@@ -52,19 +54,18 @@ wanted-behind scene held row ahead =
     then scene held held held (masters_of scene row.path row.apps.items) (asks_in scene row.path row.apps.items)
     (held-ahead scene row.path (masters_of scene row.path) row.apps.items held (masters-gathered scene row.path) ahead) (asks-behind scene held row ahead)
 
--- what is held after some rows is held after those more that are behind it
-behind : (scene : Scene) (first held : Option Candidate) (each : LeafRow → List Item) (all : List LeafRow → List Item) → ((rows : List LeafRow) (row : LeafRow) → all (rows ++ row ∷ []) ≡ all rows ++ each row)
-    → ((row : LeafRow) → is_ahead held (standings_to scene row.path) ≡ true → HoldsBest scene held (each row) held)
-    → (rows : List LeafRow) (d : LeafRow) (more from next : ℕ) → from + more ≡ next → next ≤ length rows → ((k : ℕ) → from ≤ k → k < next → is_ahead held (standings_to scene (get_or rows k d).path) ≡ true)
+-- what is held after some rows is held after those more of which each leaves it held
+still : (scene : Scene) (first held : Option Candidate) (each : LeafRow → List Item) (all : List LeafRow → List Item) → ((rows : List LeafRow) (row : LeafRow) → all (rows ++ row ∷ []) ≡ all rows ++ each row)
+    → (rows : List LeafRow) (d : LeafRow) (more from next : ℕ) → from + more ≡ next → next ≤ length rows → ((k : ℕ) → from ≤ k → k < next → HoldsBest scene held (each (get_or rows k d)) held)
     → HoldsBest scene first (all (take from rows)) held → HoldsBest scene first (all (take next rows)) held
-behind scene first held each all one quiet rows d zero from next sum inside ahead h = subst (λ n. HoldsBest scene first (all (take n rows)) held) (omega (arith, sum)) h
-behind scene first held each all one quiet rows d (suc more) from next sum inside ahead h =
+still scene first held each all one rows d zero from next sum inside stays h = subst (λ n. HoldsBest scene first (all (take n rows)) held) (omega (arith, sum)) h
+still scene first held each all one rows d (suc more) from next sum inside stays h =
     let before : from < next = omega (arith, sum) in
     let row : LeafRow = get_or rows from d in
     let taken : take (suc from) rows ≡ take from rows ++ row ∷ [] = take-suc rows from d (omega (arith, before, inside)) in
     let longer : all (take from rows) ++ each row ≡ all (take (suc from) rows) = sym (ap all taken ∙ one (take from rows) row) in
-    behind scene first held each all one quiet rows d more (suc from) next (omega (arith, sum)) inside (λ k above below. ahead k (omega (arith, above)) below)
-    (subst (λ items. HoldsBest scene first items held) longer (then scene first held held (all (take from rows)) (each row) h (quiet row (ahead from (omega arith) before))))
+    still scene first held each all one rows d more (suc from) next (omega (arith, sum)) inside (λ k above below. stays k (omega (arith, above)) below)
+    (subst (λ items. HoldsBest scene first items held) longer (then scene first held held (all (take from rows)) (each row) h (stays from (omega arith) before)))
 
 -- after one row more, and after those that are passed over then
 passed-over : (scene : Scene) (first mid held : Option Candidate) (passed : Option (Bor Path)) (row : LeafRow) (place next : ℕ) (each : LeafRow → List Item) (all : List LeafRow → List Item)
@@ -76,7 +77,7 @@ passed-over scene first mid held passed row place next each all one quiet read t
     let inside : place < length rows = omega (arith, to.after, to.inside) in
     let taken : take (suc place) rows ≡ take place rows ++ row ∷ [] = take-suc rows place row inside ∙ ap (λ last. take place rows ++ last ∷ []) (sym read) in
     let longer : all (take place rows) ++ each row ≡ all (take (suc place) rows) = sym (ap all taken ∙ one (take place rows) row) in
-    behind scene first held each all one quiet rows row (next - suc place) (suc place) next (omega (arith, to.after)) to.inside (λ k above below. to.between held over k row (omega (arith, above)) below)
+    still scene first held each all one rows row (next - suc place) (suc place) next (omega (arith, to.after)) to.inside (λ k above below. quiet (get_or rows k row) (to.between held over k row (omega (arith, above)) below))
     (subst (λ items. HoldsBest scene first items held) longer (then scene first mid held (all (take place rows)) (each row) h best))
 
 pub wanted-passed : (scene : Scene) (first mid held : Option Candidate) (passed : Option (Bor Path)) (row : LeafRow) (place next : ℕ) → row ≡ get_or scene.tables.now.leaves.items place row → IsNext scene passed place next → IsPassed scene held passed
@@ -87,6 +88,23 @@ pub asks-passed : (scene : Scene) (first mid held : Option Candidate) (passed : 
     → HoldsBest scene first (all_asks scene (take place scene.tables.now.leaves.items)) mid → HoldsBest scene mid (asks_in scene row.path row.apps.items) held → HoldsBest scene first (all_asks scene (take next scene.tables.now.leaves.items)) held
 asks-passed scene first mid held passed row place next read to over h best =
     passed-over scene first mid held passed row place next (λ row. asks_in scene row.path row.apps.items) (all_asks scene) (asks-more scene) (asks-behind scene held) read to over h best
+
+-- ---- rows of which nothing may be placed
+
+pub wanted-quiet : (scene : Scene) (first held : Option Candidate) (from to end : ℕ) → AreQuiet scene from to end → end ≤ length scene.tables.now.leaves.items
+    → HoldsBest scene first (all_wanted scene (take from scene.tables.now.leaves.items)) held → HoldsBest scene first (all_wanted scene (take to scene.tables.now.leaves.items)) held
+wanted-quiet scene first held from to end quiet inside h = go scene.tables.now.leaves.items refl
+  where
+    go : (rows : List LeafRow) → rows ≡ scene.tables.now.leaves.items → HoldsBest scene first (all_wanted scene (take to scene.tables.now.leaves.items)) held
+    go [] e =
+        let none : length scene.tables.now.leaves.items ≡ 0 = ap length (sym e) in
+        subst (λ n. HoldsBest scene first (all_wanted scene (take n scene.tables.now.leaves.items)) held) (omega (arith, none, inside, quiet.after, quiet.inside)) h
+    go (d ∷ rows) e =
+        let all : List LeafRow = scene.tables.now.leaves.items in
+        still scene first held (wanted_in scene) (all_wanted scene) (wanted-more scene) all d (to - from) from to (omega (arith, quiet.after)) (omega (arith, quiet.inside, inside))
+        (λ k above below.
+        quiet-held scene held (wanted_in scene (get_or all k d)) (quiet.none k (get_or all k d) above below (get_or_default all k d (get_or all k d) (omega (arith, below, quiet.inside, inside)))))
+        h
 
 -- ---- the next place
 

@@ -5,3 +5,4 @@ pub mod Checking
 pub mod Waits
 pub mod Boards
 pub mod Lulls
+pub mod Blocks

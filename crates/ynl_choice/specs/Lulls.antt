@@ -1,5 +1,5 @@
 -- What is known of leaves of which nothing could be placed.
-use Rattle.std.specs.Prelude.{ℕ, ◌≡◌, ◌<◌, Bool, true, false, List, [], length, slice_index_or, Option, None, Some, IfSome, if◌then◌else◌}
+use Rattle.std.specs.Prelude.{ℕ, ◌≡◌, ◌<◌, ◌≤◌, Bool, true, false, List, [], length, slice_index_or, Option, None, Some, IfSome, if◌then◌else◌}
 use Rattle.std.specs.List.{AllByRecursion, list_any}
 use Rattle.ynl_resource.specs.Amounts.{fits_in}
 use Rattle.ynl_resource.specs.Names.{same_label, same_path}
@@ -16,9 +16,10 @@ use Rattle.ynl_waiting.specs.declared.classes.Class.{Class}
 use Rattle.ynl_waiting.specs.declared.classes.Turn.{Turn}
 use Rattle.ynl_choice.specs.declared.lulls.Lull.{Lull}
 use Rattle.ynl_choice.specs.declared.lulls.Lulls.{Lulls}
-use Rattle.ynl_choice.specs.declared.lulls.PartLulls.{PartLulls}
+use Rattle.ynl_choice.specs.declared.blocks.PartLulls.{PartLulls}
 use Rattle.ynl_choice.specs.declared.scenes.Scene.{Scene}
-use Rattle.ynl_choice.specs.Choosing.{state_in, passes}
+use Rattle.ynl_choice.specs.Blocks.{is_still}
+use Rattle.ynl_choice.specs.Choosing.{state_in, passes, wanted_in}
 use Rattle.ynl_choice.specs.Waits.{item_for}
 use Rattle.ynl_model.specs.declared.proposals.What.{What}
 
@@ -52,6 +53,12 @@ pub record AreFewer (old new : List PartLulls) : Type 0 where
   pub len : length new ≡ length old
   pub each : (at : ℕ) (d : PartLulls) → at < length new → IsFewer (slice_index_or old at d) (slice_index_or new at d)
 
+-- a leaf has a lull that says that nothing may be placed where so much is free
+pub record IsStill (c : Config) (s : State) (label : Label) (leaf : Path) (free : Resource) : Type 0 where
+  pub lull : Lull
+  pub is : IsLull c s label leaf lull.least lull.room
+  pub still : is_still lull free ≡ true
+
 -- nothing is known of the leaf at a place, on any partition
 abbrev pub IsGone : ℕ → List PartLulls → Type 0
 IsGone place parts = (at : ℕ) (d : PartLulls) → at < length parts → lull_at (slice_index_or parts at d) place ≡ None
@@ -63,6 +70,12 @@ IsForgotten leaf rows lulls = (place : ℕ) (d : LeafRow) → place < length row
 -- none of some requests may be placed
 abbrev pub NonePass : Scene → List Item → Type 0
 NonePass scene items = list_any (passes scene) items ≡ false
+
+-- of the leaves from one place on none has a request that may be placed before another place, which is not past an end
+pub record AreQuiet (scene : Scene) (from to end : ℕ) : Type 0 where
+  pub after : from ≤ to
+  pub inside : to ≤ end
+  pub none : (k : ℕ) (row : LeafRow) → from ≤ k → k < to → row ≡ slice_index_or scene.tables.now.leaves.items k row → NonePass scene (wanted_in scene row)
 
 -- a lull of a leaf, by the requests that are wanted there
 pub record IsQuiet (scene : Scene) (items : List Item) (lull : Lull) : Type 0 where

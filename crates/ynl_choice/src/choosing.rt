@@ -1,7 +1,7 @@
 //! The choice on a node: of the eligible requests the first in the order of service, or else the
 //! first guest. The leaves are gone through once, and the first so far is held.
 
-ghost use Rattle.std.specs.Prelude.{◌≡◌, ◌<◌, false, None, filter, length, slice_index_or};
+ghost use Rattle.std.specs.Prelude.{◌≡◌, ◌<◌, ◌≤◌, false, Option, None, filter, length, slice_index_or, take};
 ghost use Rattle.ynl_resource.specs.declared.labels.Label.TheVariants.{Unlabelled};
 ghost use Rattle.ynl_model.specs.Cluster.{free as free_on};
 ghost use Rattle.ynl_model.specs.Service.{first_of, key, eligible, has_room, asks_for, some_eligible, takes_guests, choice};
@@ -10,10 +10,11 @@ ghost use Rattle.ynl_tables.specs.Numbers.{AreQueuesOf};
 ghost use Rattle.ynl_tables.specs.Tables.{state_of};
 ghost use Rattle.ynl_tables.specs.declared.rows.LeafRow.{LeafRow};
 ghost use Rattle.ynl_choice.specs.Choosing.{item_of, state_in, IsScene, IsNext, IsPassed, HoldsBest, IsSeed, all_asks, all_wanted, wanted_in};
-ghost use Rattle.ynl_choice.specs.Lulls.{AreLulls, IsPartAt, NonePass};
+ghost use Rattle.ynl_choice.specs.Lulls.{AreLulls, IsPartAt};
+ghost use Rattle.ynl_choice.specs.declared.standings.Candidate.{Candidate as Held};
 
 use crate::boards::board_of;
-use crate::going::{is_quiet, next_leaf};
+use crate::going::{next_leaf, next_open};
 use crate::leaves::{add_asks, add_leaf};
 use crate::likely::likely_leaf;
 use crate::lulls::Lulls;
@@ -25,8 +26,8 @@ use ynl_queues::Config;
 use ynl_resource::{Label, Name, Resource};
 use ynl_tables::{Tables, free};
 
-/// What is wanted of the leaf at a place, where it is not known that nothing may be placed; if nothing may, that is known
-/// then. The place of the leaf that is looked at next.
+/// What is wanted of the leaf at a place; if nothing of it may be placed, that is known then. The place of the leaf
+/// that is looked at next.
 fn add_at<'a>(
     scene: &Scene<'a>,
     lulls: &mut Lulls,
@@ -47,13 +48,42 @@ fn add_at<'a>(
     ensures passed { IsPassed scene.now held.new passed.new }
     ensures next { IsNext scene.now passed.new place result }
 {
-    if is_quiet(scene, lulls, at, place) {
-        return place + 1;
-    }
     let rows = scene.tables.leaves.as_slice();
     let lull = add_leaf(scene, &rows[place], passed, held);
     lulls.note(at, place, &lull);
     next_leaf(scene, place, passed)
+}
+
+/// What is wanted of the leaves from a place on, up to the one that is looked at next: past those of which it is known
+/// that nothing may be placed, and one more with those that are passed over after it.
+fn add_next<'a>(
+    scene: &Scene<'a>,
+    lulls: &mut Lulls,
+    at: usize,
+    place: usize,
+    passed: &mut Option<&'a [Name]>,
+    held: &mut Option<Candidate>,
+) -> usize
+    requires scene { IsScene scene.now }
+    requires own { scene.now.as_guests ≡ false }
+    requires lulls { AreLulls scene.now.config.now (state_in scene.now) lulls.old }
+    requires at { IsPartAt lulls.old scene.now.label at }
+    requires place { place < length scene.now.tables.now.leaves.items }
+    requires passed { IsPassed scene.now held.old passed.old }
+    ensures lulls { AreLulls scene.now.config.now (state_in scene.now) lulls.new }
+    ensures at { IsPartAt lulls.new scene.now.label at }
+    ensures best { (first : Option Held) → HoldsBest scene.now first (all_wanted scene.now (take place scene.now.tables.now.leaves.items)) held.old → HoldsBest scene.now first (all_wanted scene.now (take result scene.now.tables.now.leaves.items)) held.new }
+    ensures passed { IsPassed scene.now held.new passed.new }
+    ensures after { place < result }
+    ensures inside { result ≤ length scene.now.tables.now.leaves.items }
+{
+    let count = scene.tables.leaves.len();
+    let open = next_open(scene, lulls, at, place, count);
+    if open < count {
+        add_at(scene, lulls, at, open, passed, held)
+    } else {
+        count
+    }
 }
 
 /// The best request of the leaf at a place is held, if one of it may be placed.
@@ -109,7 +139,7 @@ fn add_all(scene: &Scene<'_>, lulls: &mut Lulls, at: usize, held: &mut Option<Ca
     let mut passed = None;
     let mut place = 0;
     while place < scene.tables.leaves.len() {
-        place = add_at(scene, lulls, at, place, &mut passed, held);
+        place = add_next(scene, lulls, at, place, &mut passed, held);
     }
 }
 

@@ -1,10 +1,8 @@
 //! Going from leaf to leaf: which are passed over.
 
-ghost use Rattle.std.specs.Bool.{OnTrue};
-ghost use Rattle.std.specs.Prelude.{◌≡◌, ◌<◌, false, length, slice_index_or};
-ghost use Rattle.ynl_tables.specs.declared.rows.LeafRow.{LeafRow};
-ghost use Rattle.ynl_choice.specs.Choosing.{state_in, IsScene, IsNext, wanted_in};
-ghost use Rattle.ynl_choice.specs.Lulls.{AreLulls, IsPartAt, NonePass};
+ghost use Rattle.std.specs.Prelude.{◌≡◌, ◌<◌, ◌≤◌, false, length};
+ghost use Rattle.ynl_choice.specs.Choosing.{state_in, IsScene, IsNext};
+ghost use Rattle.ynl_choice.specs.Lulls.{AreLulls, AreQuiet, IsPartAt};
 
 use crate::lulls::Lulls;
 use crate::scenes::Scene;
@@ -28,18 +26,24 @@ pub fn next_leaf(scene: &Scene<'_>, place: usize, passed: &Option<&[Name]>) -> u
     scene.tables.numbers.after_leaf(place, queue)
 }
 
-/// Whether it is known that nothing of the leaf at a place may be placed: nothing is for so little as what is free, or
-/// nothing that fits there keeps its limits.
-pub fn is_quiet(scene: &Scene<'_>, lulls: &Lulls, at: usize, place: usize) -> bool
+/// The next leaf, from one place on and before another, of which it is not known that nothing may be placed; or the
+/// other place. Blocks of leaves of which it is known are passed over together.
+pub fn next_open(scene: &Scene<'_>, lulls: &Lulls, at: usize, from: usize, end: usize) -> usize
     requires scene { IsScene scene.now }
     requires own { scene.now.as_guests ≡ false }
     requires lulls { AreLulls scene.now.config.now (state_in scene.now) lulls.now }
     requires at { IsPartAt lulls.now scene.now.label at }
-    requires place { place < length scene.now.tables.now.leaves.items }
-    ensures { OnTrue result ((row : LeafRow) → row ≡ slice_index_or scene.now.tables.now.leaves.items place row → NonePass scene.now (wanted_in scene.now row)) }
+    requires from { from ≤ end }
+    requires end { end ≤ length scene.now.tables.now.leaves.items }
+    ensures { AreQuiet scene.now from result end }
 {
-    match lulls.at(at, place) {
-        Some(lull) => lull.holds_for(&scene.free),
-        None => false,
+    let mut place = from;
+    while place < end {
+        let next = lulls.still_to(at, place, &scene.free);
+        if next == place {
+            return place;
+        }
+        place = next.min(end);
     }
+    end
 }

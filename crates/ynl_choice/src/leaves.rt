@@ -17,6 +17,7 @@ ghost use Rattle.ynl_waiting.specs.declared.classes.Turn.{Turn};
 ghost use Rattle.ynl_choice.specs.declared.scenes.Scene.{Scene};
 ghost use Rattle.ynl_choice.specs.declared.standings.Candidate.{Candidate};
 
+use crate::blocks::{MOST, less_of};
 use crate::holding::{add_ask_at, add_asks_of, add_master, desk_of};
 use crate::leaf_use::LeafUse;
 use crate::lulls::Lull;
@@ -265,12 +266,6 @@ pub fn add_asks<'a>(
     add_first_ask(scene, limits, row, part, held)
 }
 
-/// The greatest amount, above all sizes.
-const MOST: Resource = Resource {
-    memory: u64::MAX,
-    vcores: u64::MAX,
-};
-
 /// An amount that none of what waits for the partition is below.
 fn least_in(scene: &Scene<'_>, waiting: &Rows) -> Resource
     ensures { (waits : Class → Turn → Bool) → ((class : Class) (turn : Turn) → has waiting.now.classes.items class turn ≡ waits class turn) → IsLeastOf scene.now waits result }
@@ -278,17 +273,6 @@ fn least_in(scene: &Scene<'_>, waiting: &Rows) -> Resource
     match part_for(scene, waiting) {
         Some(part) => part.least.amount(),
         None => MOST,
-    }
-}
-
-/// The less of two amounts, in memory and in virtual cores.
-fn less_of(a: &Resource, b: &Resource) -> Resource
-    ensures first { fits_in result a.now ≡ true }
-    ensures second { fits_in result b.now ≡ true }
-{
-    Resource {
-        memory: a.memory.min(b.memory),
-        vcores: a.vcores.min(b.vcores),
     }
 }
 

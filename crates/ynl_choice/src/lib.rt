@@ -11,6 +11,7 @@ pub use proposing::propose;
 pub use requests::Request;
 
 mod access;
+mod blocks;
 mod boards;
 mod checking;
 mod choosing;

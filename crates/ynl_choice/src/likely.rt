@@ -8,7 +8,7 @@ ghost use Rattle.ynl_choice.specs.Choosing.{state_in, IsScene};
 ghost use Rattle.ynl_choice.specs.Lulls.{AreLulls, IsPartAt};
 
 use crate::boards::Board;
-use crate::going::{is_quiet, next_leaf};
+use crate::going::{next_leaf, next_open};
 use crate::lulls::Lulls;
 use crate::order::product;
 use crate::scenes::Scene;
@@ -40,22 +40,6 @@ fn is_likelier(a: &Mark<'_>, b: &Mark<'_>) -> bool {
         Ordering::Equal => *a.name < *b.name,
         Ordering::Greater => false,
     }
-}
-
-/// The first leaf, from one place up to another, of which it is not known that nothing may be placed; or the other.
-fn first_open(scene: &Scene<'_>, lulls: &Lulls, at: usize, from: usize, end: usize) -> usize
-    requires scene { IsScene scene.now }
-    requires own { scene.now.as_guests ≡ false }
-    requires lulls { AreLulls scene.now.config.now (state_in scene.now) lulls.now }
-    requires at { IsPartAt lulls.now scene.now.label at }
-    requires end { end ≤ length scene.now.tables.now.leaves.items }
-{
-    for place in from..end {
-        if !is_quiet(scene, lulls, at, place) {
-            return place;
-        }
-    }
-    end
 }
 
 /// The mark of the queue on the way to a leaf that has so many above it.
@@ -105,23 +89,24 @@ fn likeliest<'a>(
     let mut best: Option<Mark<'a>> = None;
     let mut place = first;
     while place < end {
+        place = next_open(scene, lulls, at, place, end);
+        if place >= end {
+            return best;
+        }
         let names = rows[place].path.names();
         if depth >= names.len() {
             return best;
         }
         let next = next_leaf(scene, place, &Some(step_at(names, depth + 1)));
-        let open = first_open(scene, lulls, at, place, next);
-        if open < next {
-            if let Some(steps) = scene.config.steps(rows[place].near.place, names) {
-                let mark = mark_of(scene, board, steps, names, depth, open, next);
-                match &best {
-                    Some(other) => {
-                        if is_likelier(&mark, other) {
-                            best = Some(mark);
-                        }
+        if let Some(steps) = scene.config.steps(rows[place].near.place, names) {
+            let mark = mark_of(scene, board, steps, names, depth, place, next);
+            match &best {
+                Some(other) => {
+                    if is_likelier(&mark, other) {
+                        best = Some(mark);
                     }
-                    None => best = Some(mark),
                 }
+                None => best = Some(mark),
             }
         }
         place = next;

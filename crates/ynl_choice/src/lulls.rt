@@ -1,15 +1,17 @@
 //! What is known of leaves of which nothing could be placed, until they change: a heartbeat need not look at them again.
 
-ghost use Rattle.std.specs.Prelude.{◌≡◌, ℕ, ◌<◌, ◌⊎◌, ◌||◌, not, false, None, Some, IfOk, IfSome, length, slice_index_or};
-ghost use Rattle.ynl_resource.specs.Amounts.{fits_in};
+ghost use Rattle.std.specs.Prelude.{◌≡◌, ℕ, ◌<◌, ◌≤◌, ◌+◌, ◌⊎◌, true, false, None, Some, IfOk, IfSome, length, slice_index_or};
+ghost use Rattle.std.specs.Option.{option_map_or};
 ghost use Rattle.ynl_resource.specs.declared.labels.Label.{Label as Labelled};
 ghost use Rattle.ynl_model.specs.Applications.{LeafApps};
 ghost use Rattle.ynl_model.specs.Cluster.{State};
 ghost use Rattle.ynl_model.specs.Queues.{Config};
 ghost use Rattle.ynl_laws.specs.Lulls.{IsLull};
-ghost use Rattle.ynl_choice.specs.Lulls.{lull_at, AreFewer, AreLulls, IsFewer, IsGone, IsPartAt};
-ghost use Rattle.ynl_choice.specs.declared.lulls.PartLulls.{PartLulls as Part};
+ghost use Rattle.ynl_choice.specs.Blocks.{is_still};
+ghost use Rattle.ynl_choice.specs.Lulls.{lull_at, AreFewer, AreLulls, IsFewer, IsGone, IsPartAt, IsStill};
+ghost use Rattle.ynl_choice.specs.declared.blocks.PartLulls.{PartLulls as Part};
 
+use crate::blocks::{BLOCK, PartLulls, all_from, clear, none_of};
 use std::alloc::{AllocError, Global};
 use ynl_labels::Labels;
 use ynl_resource::{Label, Resource};
@@ -25,18 +27,10 @@ pub struct Lull {
 impl Lull {
     /// Whether nothing of the leaf may be placed where so much is free: all is for more, or what fits there keeps no limits.
     pub fn holds_for(&self, free: &Resource) -> bool
-        ensures { result ≡ (not (fits_in self.now.least free.now) || fits_in free.now self.now.room) }
+        ensures { result ≡ is_still self.now free.now }
     {
         !self.least.fits_in(*free) || free.fits_in(self.room)
     }
-}
-
-/// The lulls of the leaves on a partition, by their places. Where the mark says so none is known, whatever stands there.
-#[derive(Drop)]
-struct PartLulls {
-    label: Label,
-    is_known: bool,
-    leaves: Vec<Option<Lull>>,
 }
 
 /// The lulls of the leaves on all partitions.
@@ -49,25 +43,12 @@ pub struct Lulls {
 fn unknown(alloc: Global, label: Label, count: usize) -> Result<PartLulls, AllocError>
     ensures { IfOk result (λ part. part.is_known ≡ false) }
 {
-    let mut leaves = Vec::with_capacity(alloc, count)?;
-    for _ in 0..count {
-        leaves.push(None)?;
-    }
     Ok(PartLulls {
         label,
         is_known: false,
-        leaves,
+        leaves: none_of(alloc, count)?,
+        blocks: none_of(alloc, count / BLOCK + 1)?,
     })
-}
-
-/// Nothing is known of any leaf from now on.
-fn clear(leaves: &mut Vec<Option<Lull>>)
-    ensures len { length leaves.new.items ≡ length leaves.old.items }
-    ensures none { (place : ℕ) → slice_index_or leaves.new.items place None ≡ None }
-{
-    for i in 0..leaves.len() {
-        leaves[i] = None;
-    }
 }
 
 /// A lull of the leaf at a place is known.
@@ -80,9 +61,14 @@ fn note_at(part: &mut PartLulls, place: usize, lull: &Lull)
     }
     if !part.is_known {
         clear(&mut part.leaves);
+        clear(&mut part.blocks);
     }
     part.is_known = true;
     part.leaves[place] = Some(*lull);
+    let block = place / BLOCK;
+    if block < part.blocks.len() {
+        part.blocks[block] = all_from(&part.leaves, block * BLOCK);
+    }
 }
 
 /// Nothing is known of the leaf at a place from now on.
@@ -92,6 +78,40 @@ fn forget_at(part: &mut PartLulls, place: usize)
 {
     if place < part.leaves.len() {
         part.leaves[place] = None;
+        let block = place / BLOCK;
+        if block < part.blocks.len() {
+            part.blocks[block] = None;
+        }
+    }
+}
+
+/// The place up to which it is known of the leaves of a partition, from a place on, that nothing may be placed where
+/// so much is free: past its block, or past one leaf; or the place itself.
+fn still_to(part: &PartLulls, place: usize, free: &Resource) -> usize
+    ensures after { place ≤ result }
+    ensures still { (k : ℕ) → place ≤ k → k < result → option_map_or (λ lull. is_still lull free.now) (lull_at part.now k) false ≡ true }
+{
+    let count = part.leaves.len();
+    if !part.is_known || place >= count {
+        return place;
+    }
+    let block = place / BLOCK;
+    if block < part.blocks.len() {
+        if let Some(all) = &part.blocks[block] {
+            if all.holds_for(free) {
+                return count.min((block * BLOCK).saturating_add(BLOCK));
+            }
+        }
+    }
+    match &part.leaves[place] {
+        Some(lull) => {
+            if lull.holds_for(free) {
+                place + 1
+            } else {
+                place
+            }
+        }
+        None => place,
     }
 }
 
@@ -129,18 +149,17 @@ impl Lulls {
         self.parts.len()
     }
 
-    /// The lull of the leaf at a place on a partition, which stands at `at`, if one is known.
-    pub fn at(&self, at: usize, place: usize) -> Option<Lull>
-        ensures { (c : Config) (s : State) (label : Labelled) (d : LeafApps) → AreLulls c s self.now → IsPartAt self.now label at → place < length s.leaves → IfSome result (λ lull. IsLull c s label (slice_index_or s.leaves place d).leaf lull.least lull.room) }
+    /// The place up to which it is known of the leaves on a partition, which stands at `at`, from a place on, that
+    /// nothing may be placed where so much is free; the place itself where it is not known of the leaf there.
+    pub fn still_to(&self, at: usize, place: usize, free: &Resource) -> usize
+        ensures after { place ≤ result }
+        ensures still { (c : Config) (s : State) (label : Labelled) → AreLulls c s self.now → IsPartAt self.now label at → (k : ℕ) (d : LeafApps) → place ≤ k → k < result → k < length s.leaves → IsStill c s label (slice_index_or s.leaves k d).leaf free.now }
     {
-        if at >= self.parts.len() {
-            return None;
+        if at < self.parts.len() {
+            still_to(&self.parts[at], place, free)
+        } else {
+            place
         }
-        let part = &self.parts[at];
-        if !part.is_known || place >= part.leaves.len() {
-            return None;
-        }
-        part.leaves[place]
     }
 
     /// The lull of the leaf at a place on a partition is known from now on, if there is one.

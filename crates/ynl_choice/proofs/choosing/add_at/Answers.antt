@@ -1,25 +1,10 @@
-use Rattle.std.proofs.Common.{◌≡◌, ◌<◌, List, length, get_or, sym, ap, subst, ◌∙◌, arith}
-use Rattle.std.specs.Bool.{OnTrue}
+use Rattle.std.proofs.Common.{◌≡◌, ◌<◌, List, length, get_or, sym, ap, subst, ◌∙◌}
 use Rattle.std.proofs.lemmas.List.{get_or_default}
 use Rattle.ynl_tables.specs.declared.rows.LeafRow.{LeafRow}
 use Rattle.ynl_choice.specs.Choosing.{state_in, wanted_in, HoldsBest}
-use Rattle.ynl_choice.specs.Lulls.{NonePass}
 use Rattle.ynl_choice.proofs.Placed.{row_placed_at}
-use Rattle.ynl_choice.proofs.Quiet.{lull-found, quiet-held}
+use Rattle.ynl_choice.proofs.Quiet.{lull-found}
 use Rattle.ynl_choice.proofs.choosing.add_at.Goals as goal
-
-pub returns-then-is_quiet-clause-best : goal.returns-then-is_quiet-clause-best
-returns-then-is_quiet-clause-best c row read =
-    let scene = c.args.scene.now in
-    quiet-held scene c.args.held.now (wanted_in scene row)
-    (subst (λ b. OnTrue b ((row : LeafRow) → row ≡ get_or scene.tables.now.leaves.items c.args.place row → NonePass scene (wanted_in scene row))) c.if-is_quiet.true c.is_quiet.ensures row read)
-
-pub returns-then-is_quiet-clause-next : goal.returns-then-is_quiet-clause-next
-returns-then-is_quiet-clause-next c = let inside = c.requires.place in record {
-  after = omega arith;
-  inside = omega (arith, inside);
-  between = λ held over k d above below. absurd (omega (arith, above, below));
-}
 
 pub add_leaf-lull-requires-clause-placed : goal.add_leaf-lull-requires-clause-placed
 add_leaf-lull-requires-clause-placed c =

@@ -9,7 +9,7 @@ use Rattle.ynl_resource.specs.declared.paths.Path.{Path}
 use Rattle.ynl_laws.proofs.Names.{same-name_self, same-path}
 use Rattle.ynl_tables.specs.declared.rows.LeafRow.{LeafRow}
 use Rattle.ynl_tables.proofs.Onward.{rows_inside, rows_onward}
-use Rattle.ynl_choice.specs.declared.lulls.PartLulls.{PartLulls}
+use Rattle.ynl_choice.specs.declared.blocks.PartLulls.{PartLulls}
 use Rattle.ynl_choice.specs.Lulls.{AreFewer, IsGone}
 use Rattle.ynl_choice.proofs.Known.{are_fewer_self, are_fewer_then, still_gone}
 use Rattle.ynl_choice.proofs.forgetting.forget_of.Goals as goal

@@ -1,5 +1,5 @@
 use Rattle.std.proofs.Common.{◌≡◌, ℕ, ◌<◌, length, get_or, None}
-use Rattle.ynl_choice.specs.declared.lulls.PartLulls.{PartLulls}
+use Rattle.ynl_choice.specs.declared.blocks.PartLulls.{PartLulls}
 use Rattle.ynl_choice.specs.Lulls.{lull_at, AreFewer}
 use Rattle.ynl_choice.proofs.lulls.Lulls.forget.Given as goal
 

@@ -1,0 +1,91 @@
+//! What is known of the leaves on a partition, one by one and in blocks.
+
+ghost use Rattle.std.proofs.Props.{props};
+ghost use Rattle.std.specs.Prelude.{◌≡◌, ℕ, ◌<◌, ◌≤◌, ◌+◌, true, None, Some, IfOk, IfSome, length, slice_index_or};
+ghost use Rattle.ynl_resource.specs.Amounts.{fits_in};
+ghost use Rattle.ynl_choice.specs.Blocks.{is_under, AreBlocks};
+
+use crate::lulls::Lull;
+use std::alloc::{AllocError, Global};
+use ynl_resource::{Label, Resource};
+
+/// How many leaves that stand next to each other have a lull together.
+pub(crate) const BLOCK: usize = 32;
+
+/// The lulls of the leaves on a partition, by their places; and of each block of them a lull that each of its leaves
+/// has, if all have one and it is known. Where the mark says so none is known, whatever stands there.
+#[derive(Drop)]
+pub(crate) struct PartLulls {
+    pub(crate) label: Label,
+    pub(crate) is_known: bool,
+    pub(crate) leaves: Vec<Option<Lull>>,
+    pub(crate) blocks: Vec<Option<Lull>>,
+    ghost below: { AreBlocks leaves.items blocks.items } by { Prim.hlevel props },
+}
+
+/// The greatest amount, above all sizes.
+pub const MOST: Resource = Resource {
+    memory: u64::MAX,
+    vcores: u64::MAX,
+};
+
+/// The less of two amounts, in memory and in virtual cores.
+pub fn less_of(a: &Resource, b: &Resource) -> Resource
+    ensures first { fits_in result a.now ≡ true }
+    ensures second { fits_in result b.now ≡ true }
+{
+    Resource {
+        memory: a.memory.min(b.memory),
+        vcores: a.vcores.min(b.vcores),
+    }
+}
+
+/// A lull of all that have either of two.
+fn both(a: &Lull, b: &Lull) -> Lull
+    ensures first { is_under result (Some a.now) ≡ true }
+    ensures second { is_under result (Some b.now) ≡ true }
+{
+    Lull {
+        least: less_of(&a.least, &b.least),
+        room: less_of(&a.room, &b.room),
+    }
+}
+
+/// A lull of the leaves of a block, by the place of its first, if all have one.
+pub(crate) fn all_from(leaves: &[Option<Lull>], from: usize) -> Option<Lull>
+    ensures { IfSome result (λ lull. (k : ℕ) → from ≤ k → k < from + 32 → k < length leaves.now → is_under lull (slice_index_or leaves.now k None) ≡ true) }
+{
+    let end = leaves.len().min(from.saturating_add(BLOCK));
+    let mut all = Lull {
+        least: MOST,
+        room: MOST,
+    };
+    for place in from..end {
+        let Some(lull) = &leaves[place] else {
+            return None;
+        };
+        all = both(&all, lull);
+    }
+    Some(all)
+}
+
+/// So many of which nothing is known.
+pub(crate) fn none_of(alloc: Global, count: usize) -> Result<Vec<Option<Lull>>, AllocError>
+    ensures { IfOk result (λ lulls. (place : ℕ) → slice_index_or lulls.items place None ≡ None) }
+{
+    let mut lulls = Vec::with_capacity(alloc, count)?;
+    for _ in 0..count {
+        lulls.push(None)?;
+    }
+    Ok(lulls)
+}
+
+/// Nothing is known of any from now on.
+pub(crate) fn clear(leaves: &mut Vec<Option<Lull>>)
+    ensures len { length leaves.new.items ≡ length leaves.old.items }
+    ensures none { (place : ℕ) → slice_index_or leaves.new.items place None ≡ None }
+{
+    for i in 0..leaves.len() {
+        leaves[i] = None;
+    }
+}
