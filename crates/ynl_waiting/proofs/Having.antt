@@ -1,12 +1,13 @@
 -- Classes, sizes and turns that are the same, and what waits of them where a turn comes or goes.
-use Rattle.std.proofs.Common.{◌≡◌, ℕ, ◌==◌, ◌&&◌, ◌||◌, not, Bool, true, false, cond, List, [], ◌∷◌, length, refl, ap, sym, ◌∙◌, arith}
+use Rattle.std.proofs.Common.{◌≡◌, ℕ, ◌==◌, ◌&&◌, ◌||◌, not, Bool, true, false, cond, List, [], ◌∷◌, length, refl, ap, subst, sym, ◌∙◌, arith}
 use Rattle.std.specs.BTreeMap.{is_at}
 use Rattle.std.specs.BTreeSet.{BTreeSet, contains}
-use Rattle.std.specs.Cmp.{both_tied, unsigned_ties}
+use Rattle.std.specs.Cmp.{IsTotalOrder, both_tied, nat_cmp_total, on_total, then_total, unsigned_ties}
 use Rattle.std.specs.Cmp.Lexicographic.{texts_ties}
 use Rattle.std.specs.Ordering.{nat_cmp}
 use Rattle.std.proofs.lemmas.Bool.{and_from, and_parts}
 use Rattle.std.proofs.lemmas.Bool.Decides.{nat_tests}
+use Rattle.std.proofs.lemmas.Cmp.{upto}
 use mathlib.Core.Bool.{true≢false}
 use Rattle.ynl_laws.proofs.Amounts.{fits-trans}
 use Rattle.ynl_laws.proofs.Names.{same-name_sym, same-name_self, same-label_path, same-label_self}
@@ -18,7 +19,7 @@ use Rattle.ynl_resource.specs.declared.names.Name.{Name}
 use Rattle.ynl_resource.specs.declared.amounts.Resource.{Resource}
 use Rattle.ynl_waiting.specs.declared.classes.Class.{Class}
 use Rattle.ynl_waiting.specs.declared.classes.Turn.{Turn}
-use Rattle.ynl_waiting.specs.Classes.{turn_order, size_order, same_turn, same_size, same_class, has_size, IsBelow}
+use Rattle.ynl_waiting.specs.Classes.{turn_order, size_order, same_turn, same_size, same_class, has_size, is_turn_later, with_size, without_size, IsBelow, IsFrom}
 use Rattle.ynl_waiting.specs.Parts.{label_order}
 use Rattle.ynl_waiting.specs.Users.{has_user}
 use Rattle.ynl_waiting.specs.declared.groups.Group.{Group}
@@ -61,10 +62,21 @@ label-ties (Named m) (Named n) = texts_ties m n
 pub size-ties : (a b : Resource) → same_size a b ≡ is_at (size_order a) b
 size-ties a b = both_tied (a.memory == b.memory) (a.vcores == b.vcores) (nat_cmp a.memory b.memory) (nat_cmp a.vcores b.vcores) (unsigned_ties a.memory b.memory) (unsigned_ties a.vcores b.vcores)
 
+pub turn_order_total : IsTotalOrder turn_order
+turn_order_total = then_total (on_total (λ (s : Turn). s.number) nat_cmp_total) (on_total (λ (s : Turn). s.priority) nat_cmp_total)
+
 turn-ties : (a b : Turn) → same_turn a b ≡ is_at (turn_order a) b
 turn-ties a b = both_tied (a.number == b.number) (a.priority == b.priority) (nat_cmp a.number b.number) (nat_cmp a.priority b.priority) (unsigned_ties a.number b.number) (unsigned_ties a.priority b.priority)
 
 -- ---- turns
+
+-- what is not before a turn is not before one that is not before that
+pub turns-chained : (x y z : Turn) → is_turn_later x y ≡ false → is_turn_later y z ≡ false → is_turn_later x z ≡ false
+turns-chained x y z h k = upto turn_order_total x y z h k
+
+-- nor is a turn before itself
+pub not-later : (x : Turn) → is_turn_later x x ≡ false
+not-later x = grind (arith, nat_tests)
 
 -- a turn less
 pub turn-less : (turn t : Turn) (b : Bool) → cond (is_at (turn_order turn) t) false b ≡ (not (same_turn turn t) && b)
@@ -110,6 +122,42 @@ size-below low entry sizes fits rest size turn there = go (same_size size entry.
     go : (b : Bool) → same_size size entry.0 ≡ b → ((b && contains turn_order entry.1 turn) || has_size sizes size turn) ≡ true → fits_in low size ≡ true
     go true same h = ap (fits_in low) (size-is size entry.0 same) ∙ fits
     go false same h = rest size turn h
+
+-- where nothing waits, no turn is before any
+pub none-turns : (first : Turn) (sizes : List (Resource × BTreeSet Turn)) → sizes ≡ [] → IsFrom first (has_size sizes)
+none-turns first sizes none size turn there = absurd (true≢false (sym there ∙ ap (λ (entries : List (Resource × BTreeSet Turn)). has_size entries size turn) none))
+
+-- before none of an entry's turns, and none of the others
+pub size-from : (first : Turn) (entry : Resource × BTreeSet Turn) (sizes : List (Resource × BTreeSet Turn)) → ((turn : Turn) → contains turn_order entry.1 turn ≡ true → is_turn_later first turn ≡ false) → IsFrom first (has_size sizes) → IsFrom first (has_size (entry ∷ sizes))
+size-from first entry sizes own rest size turn there = go (same_size size entry.0) (contains turn_order entry.1 turn) refl there
+  where
+    go : (b mine : Bool) → contains turn_order entry.1 turn ≡ mine → ((b && mine) || has_size sizes size turn) ≡ true → is_turn_later first turn ≡ false
+    go true true is h = own turn is
+    go true false is h = rest size turn h
+    go false mine is h = rest size turn h
+
+turn-is : (a b : Turn) → same_turn a b ≡ true → a ≡ b
+turn-is a b h =
+    let turns = and_parts (a.number == b.number) (a.priority == b.priority) h in
+    let number = same-number a.number b.number turns.0 in
+    let priority = same-number a.priority b.priority turns.1 in
+    λ i. record { number = number i; priority = priority i }
+
+-- what holds of one request more, where it was kept, and of all that waited, holds of all that wait now
+pub with-more : (P : Resource → Turn → Type 0) (size : Resource) (turn : Turn) (kept : Bool) (waits now : Resource → Turn → Bool) → ((s : Resource) (t : Turn) → now s t ≡ with_size kept waits size turn s t)
+    → P size turn → ((s : Resource) (t : Turn) → waits s t ≡ true → P s t) → (s : Resource) (t : Turn) → now s t ≡ true → P s t
+with-more P size turn kept waits now more own old s t there = go (same_size size s) (same_turn turn t) kept refl refl (sym (more s t) ∙ there)
+  where
+    go : (b mine k : Bool) → same_size size s ≡ b → same_turn turn t ≡ mine → ((b && (mine && k)) || waits s t) ≡ true → P s t
+    go true true true sized turned h = subst (λ (x : Resource). P x t) (size-is size s sized) (subst (P size) (turn-is turn t turned) own)
+    go true true false sized turned h = old s t h
+    go true false k sized turned h = old s t h
+    go false mine k sized turned h = old s t h
+
+-- and what holds of all that waited holds of all that wait without one request
+pub with-less : (P : Resource → Turn → Type 0) (size : Resource) (turn : Turn) (waits now : Resource → Turn → Bool) → ((s : Resource) (t : Turn) → now s t ≡ without_size waits size turn s t)
+    → ((s : Resource) (t : Turn) → waits s t ≡ true → P s t) → (s : Resource) (t : Turn) → now s t ≡ true → P s t
+with-less P size turn waits now less old s t there = old s t (and_parts (not (same_size size s && same_turn turn t)) (waits s t) (sym (less s t) ∙ there)).1
 
 -- at most a user's least, and at most what the others have
 pub group-below : (low : Resource) (entry : Name × Group) (users : List (Name × Group)) (user : Name) → fits_in low entry.1.least ≡ true → IsBelow low (has_user users user) → IsBelow low (has_user (entry ∷ users) user)

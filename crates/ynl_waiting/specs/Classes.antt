@@ -1,5 +1,5 @@
 -- Classes, and turns of their requests; and what waits of one user, by sizes.
-use Rattle.std.specs.Prelude.{◌≡◌, Bool, true, List, ◌&&◌, ◌||◌, ◌==◌, not}
+use Rattle.std.specs.Prelude.{◌≡◌, Bool, true, false, List, Option, IfSome, ◌&&◌, ◌||◌, ◌==◌, not}
 use Rattle.std.specs.BTreeSet.{BTreeSet, contains}
 use Rattle.std.specs.List.{list_any}
 use Rattle.std.specs.Ordering.{nat_cmp, ordering_then, is_gt}
@@ -41,6 +41,14 @@ has_size sizes size turn = list_any (λ entry. same_size size entry.0 && contain
 -- no size of which something waits is below an amount, in memory or in virtual cores
 abbrev pub IsBelow : Resource → (Resource → Turn → Bool) → Type 0
 IsBelow least waits = (size : Resource) (turn : Turn) → waits size turn ≡ true → fits_in least size ≡ true
+
+-- no turn of what waits is before a turn
+abbrev pub IsFrom : Turn → (Resource → Turn → Bool) → Type 0
+IsFrom first waits = (size : Resource) (turn : Turn) → waits size turn ≡ true → is_turn_later first turn ≡ false
+
+-- nor is another one, where there is one
+abbrev pub IsUpTo : Turn → Option Turn → Type 0
+IsUpTo low first = IfSome first (λ turn. is_turn_later low turn ≡ false)
 
 -- some turns, and one more where it was kept
 abbrev pub with_turn : Bool → (Turn → Bool) → Turn → Turn → Bool

@@ -1,6 +1,6 @@
 //! Classes of requests, and their turns.
 
-ghost use Rattle.std.specs.Prelude.{◌≡◌, true};
+ghost use Rattle.std.specs.Prelude.{◌≡◌, true, IsFalse};
 ghost use Rattle.std.specs.BTreeSet.{contains};
 ghost use Rattle.ynl_laws.specs.First.{IsFirst};
 ghost use Rattle.ynl_waiting.specs.Classes.{turn_order, is_turn_later};
@@ -23,6 +23,14 @@ pub struct Class {
 pub struct Turn {
     pub number: u64,
     pub priority: u32,
+}
+
+/// A turn that neither of two is before.
+pub fn earlier(a: &Turn, b: &Turn) -> Turn
+    ensures first { IsFalse (is_turn_later result a.now) }
+    ensures second { IsFalse (is_turn_later result b.now) }
+{
+    (*a).min(*b)
 }
 
 /// The first of some turns.

@@ -4,10 +4,10 @@ ghost use Rattle.std.specs.Prelude.{IfOk, IfErr};
 ghost use Rattle.ynl_waiting.specs.Entries.{AreOrdered, HasEntry, LacksEntry};
 
 /// Where the entry of a key stands, or where it would.
-pub fn place_of<K: Ord + Copy + Drop, V>(entries: &[(K, V)], key: &K) -> Result<usize, usize>
+pub fn place_of<K: Ord, V>(entries: &[(K, V)], key: &K) -> Result<usize, usize>
     requires { AreOrdered K.cmp entries.now }
     ensures found { IfOk result (HasEntry K.cmp entries.now key.now) }
     ensures lacks { IfErr result (LacksEntry K.cmp entries.now key.now) }
 {
-    entries.binary_search_by_key(key, |entry| entry.0)
+    entries.binary_search_by(|entry| entry.0.cmp(key))
 }

@@ -48,6 +48,7 @@ fn put_user(
     let mut group = Group {
         sizes: Vec::with_capacity(alloc, 1)?,
         least: *size,
+        first: *turn,
     };
     add_size(&mut group, alloc, size, turn)?;
     users.insert(place, (*user, group))?;

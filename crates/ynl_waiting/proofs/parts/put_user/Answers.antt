@@ -10,7 +10,7 @@ use Rattle.ynl_waiting.specs.Entries.{AreOrdered}
 use Rattle.ynl_waiting.specs.Users.{has_user}
 use Rattle.ynl_waiting.specs.declared.classes.Turn.{Turn}
 use Rattle.ynl_waiting.specs.declared.groups.Group.{Group}
-use Rattle.ynl_waiting.proofs.Having.{none-waits}
+use Rattle.ynl_waiting.proofs.Having.{none-waits, none-turns}
 use Rattle.ynl_waiting.proofs.Keyed.{more-inserted, no-more, ordered-none, order-inserted}
 use Rattle.ynl_waiting.proofs.Levels.{of_group}
 use Rattle.ynl_waiting.proofs.parts.put_user.Goals as goal
@@ -18,7 +18,7 @@ use Rattle.ynl_waiting.proofs.parts.put_user.Goals as goal
 pub invariant_of-group : goal.invariant_of-group
 invariant_of-group c =
     let none : c.in_ok-with_capacity.field-0.items ≡ [] = c.in_ok-with_capacity.ensures.items in
-    record { ordered = ordered-none size_order c.in_ok-with_capacity.field-0.items none; none_below = none-waits c.args.size.now c.in_ok-with_capacity.field-0.items none }
+    record { ordered = ordered-none size_order c.in_ok-with_capacity.field-0.items none; none_below = none-waits c.args.size.now c.in_ok-with_capacity.field-0.items none; none_before = none-turns c.args.turn.now c.in_ok-with_capacity.field-0.items none }
 
 pub returns-clause-ordered : goal.returns-clause-ordered
 returns-clause-ordered c =
