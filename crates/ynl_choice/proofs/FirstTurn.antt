@@ -24,7 +24,7 @@ use Rattle.ynl_waiting.specs.Classes.{is_turn_later}
 use Rattle.ynl_choice.specs.declared.scenes.Scene.{Scene}
 use Rattle.ynl_choice.specs.declared.standings.Candidate.{Candidate}
 use Rattle.ynl_choice.specs.Choosing.{state_in, key_in, item_of, considered, HoldsBest, IsKeyed, ArePlaced, standings_to}
-use Rattle.ynl_choice.specs.Candidates.{is_ahead, key_of, standings_of}
+use Rattle.ynl_choice.specs.Candidates.{is_ahead, key_of, standings_of, request_of}
 use Rattle.ynl_choice.specs.Waits.{is_placeable, IsTurnOf, IsFirstTurn}
 use Rattle.ynl_choice.proofs.Classed.{IsToldBy, any-at, any-none}
 use Rattle.ynl_choice.proofs.Foremost.{any_passes, IsGathered, none-gathered, all-behind, decided-at}
@@ -130,7 +130,7 @@ module _ (scene : Scene) (row : LeafRow) (what : What) (waits : Class → Turn �
 
 -- a leaf that stands behind the candidate that is held has nothing before it
 module _ (scene : Scene) (leaf : Path) where
-  late : (best : Candidate) (item : Item) → item.leaf ≡ leaf → IsKeyed scene best → is_ahead (Some best) (standings_to scene leaf) ≡ true → is_later (key_in scene) best.request item ≡ false
+  late : (best : Candidate) (item : Item) → item.leaf ≡ leaf → IsKeyed scene best → is_ahead (Some best) (standings_to scene leaf) ≡ true → is_later (key_in scene) (request_of best) item ≡ false
   unfolding key
   late best item of keyed ahead =
       ap (λ k. is_gt (key_order k (key_in scene item))) (sym keyed)
@@ -144,4 +144,4 @@ module _ (scene : Scene) (leaf : Path) where
 
   pub held-ahead : (gather : List App → List Item) (apps : List App) (held : Option Candidate) → IsGathered leaf gather → is_ahead held (standings_to scene leaf) ≡ true → HoldsBest scene held (gather apps) held
   held-ahead gather apps None gathered ahead h = absurd (true≢false (sym ahead))
-  held-ahead gather apps (Some best) gathered ahead h = record { is = sym (all-behind scene leaf gather gathered apps best.request (λ item of. late best item of h ahead)); keyed = h }
+  held-ahead gather apps (Some best) gathered ahead h = record { is = sym (all-behind scene leaf gather gathered apps (request_of best) (λ item of. late best item of h ahead)); keyed = h }

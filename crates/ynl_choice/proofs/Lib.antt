@@ -23,3 +23,6 @@ pub mod Known
 mod InBlocks
 pub mod Quiet
 mod Seeded
+mod Seen
+mod Leading
+mod Alone

@@ -20,6 +20,7 @@ use Rattle.ynl_tables.specs.Queued.{are_apart}
 use Rattle.ynl_tables.specs.Tables.{app_of, leaves_of}
 use Rattle.ynl_choice.specs.declared.scenes.Scene.{Scene}
 use Rattle.ynl_choice.specs.declared.standings.Candidate.{Candidate}
+use Rattle.ynl_choice.specs.Candidates.{request_of}
 use Rattle.ynl_choice.specs.Choosing.{state_in, key_in, passes, masters_of, asks_in, wanted_in, all_masters, all_asks, all_items, all_wanted, HoldsBest, IsScene, IsSeed}
 use Rattle.ynl_choice.proofs.FirstAsk.{apart-pairs}
 use Rattle.ynl_choice.proofs.Placed.{each_at}
@@ -92,7 +93,7 @@ module _ (scene : Scene) where
       let r = best tt in
       let items : List Item = filter (passes scene) (wanted_in scene row) in
       let first = subst (IsFirst (is_later (key_in scene)) (Contains items)) (sym (r.is ∙ least_is_first (key_in scene) items)) (is_first_found (key_in scene) items) in
-      (r.keyed, among (Contains (filter (passes scene) (all_items scene))) items candidate.request (filtered-in (passes scene) (wanted_in scene row) (all_items scene) (wanted-among place row inside read)) first.0)
+      (r.keyed, among (Contains (filter (passes scene) (all_items scene))) items (request_of candidate) (filtered-in (passes scene) (wanted_in scene row) (all_items scene) (wanted-among place row inside read)) first.0)
 
   -- the asks of the applications of some leaves differ
   distinct-apps : (leaf : Path) (apps : List App) → list_all (λ app. are_apart app.asks.items) apps ≡ true → AllByRecursion Distinct (map (app_of leaf) apps)
@@ -115,8 +116,8 @@ module _ (scene : Scene) where
       let r = best seed.0 in
       record {
         is = r.is
-            ∙ by-leaves scene rows (Some candidate.request)
-            ∙ held-before (key_in scene) (filter (passes scene) (all_items scene)) candidate.request (untied-filter (key_in scene) (passes scene) (all_items scene) (own-keys at)) seed.1
+            ∙ by-leaves scene rows (Some (request_of candidate))
+            ∙ held-before (key_in scene) (filter (passes scene) (all_items scene)) (request_of candidate) (untied-filter (key_in scene) (passes scene) (all_items scene) (own-keys at)) seed.1
             ∙ sym (by-leaves scene rows None);
         keyed = r.keyed;
       }

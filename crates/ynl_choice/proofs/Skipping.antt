@@ -30,7 +30,7 @@ use Rattle.ynl_choice.proofs.Quiet.{quiet-held}
 
 -- ---- what is gathered of one row more
 
-wanted-more : (scene : Scene) (rows : List LeafRow) (row : LeafRow) → all_wanted scene (rows ++ row ∷ []) ≡ all_wanted scene rows ++ wanted_in scene row
+pub wanted-more : (scene : Scene) (rows : List LeafRow) (row : LeafRow) → all_wanted scene (rows ++ row ∷ []) ≡ all_wanted scene rows ++ wanted_in scene row
 wanted-more scene rows row = flat_map-append (wanted_in scene) rows (row ∷ []) ∙ ap (λ items. all_wanted scene rows ++ items) (append-nil (wanted_in scene row))
 
 asks-more : (scene : Scene) (rows : List LeafRow) (row : LeafRow) → all_asks scene (rows ++ row ∷ []) ≡ all_asks scene rows ++ asks_in scene row.path row.apps.items
@@ -55,7 +55,7 @@ wanted-behind scene held row ahead =
     (held-ahead scene row.path (masters_of scene row.path) row.apps.items held (masters-gathered scene row.path) ahead) (asks-behind scene held row ahead)
 
 -- what is held after some rows is held after those more of which each leaves it held
-still : (scene : Scene) (first held : Option Candidate) (each : LeafRow → List Item) (all : List LeafRow → List Item) → ((rows : List LeafRow) (row : LeafRow) → all (rows ++ row ∷ []) ≡ all rows ++ each row)
+pub still : (scene : Scene) (first held : Option Candidate) (each : LeafRow → List Item) (all : List LeafRow → List Item) → ((rows : List LeafRow) (row : LeafRow) → all (rows ++ row ∷ []) ≡ all rows ++ each row)
     → (rows : List LeafRow) (d : LeafRow) (more from next : ℕ) → from + more ≡ next → next ≤ length rows → ((k : ℕ) → from ≤ k → k < next → HoldsBest scene held (each (get_or rows k d)) held)
     → HoldsBest scene first (all (take from rows)) held → HoldsBest scene first (all (take next rows)) held
 still scene first held each all one rows d zero from next sum inside stays h = subst (λ n. HoldsBest scene first (all (take n rows)) held) (omega (arith, sum)) h
@@ -117,7 +117,7 @@ some_row (first ∷ rows) place inside = (get_or (first ∷ rows) place first, g
 pub paths_read : (t : Tables) → IsReadable t → map (λ (row : LeafRow). row.path) t.leaves.items ≡ leaf_paths t.numbers
 paths_read t h = sym (map-map (λ (leaf : LeafApps). leaf.leaf) leaf_of_row t.leaves.items) ∙ h.kept.amounts.numbered
 
-path_at : (rows : List LeafRow) (leaves : List Path) (k : ℕ) (d : LeafRow) → map (λ (row : LeafRow). row.path) rows ≡ leaves → k < length rows → leaf_at leaves k ≡ (get_or rows k d).path
+pub path_at : (rows : List LeafRow) (leaves : List Path) (k : ℕ) (d : LeafRow) → map (λ (row : LeafRow). row.path) rows ≡ leaves → k < length rows → leaf_at leaves k ≡ (get_or rows k d).path
 path_at rows leaves k d same inside = ap (λ paths. leaf_at paths k) (sym same) ∙ get_or-map (λ (row : LeafRow). row.path) rows k d root inside
 
 pub within_at : (rows : List LeafRow) (leaves : List Path) (queue : Path) (place : ℕ) (row : LeafRow) → map (λ (row : LeafRow). row.path) rows ≡ leaves → place < length rows → row ≡ get_or rows place row → is_within queue row.path ≡ true → is_within queue (leaf_at leaves place) ≡ true

@@ -1,14 +1,13 @@
 -- The first turn of what waits, one size and one user after another.
 use Rattle.std.proofs.Common.{◌≡◌, Bool, true, false, cond, ◌&&◌, ◌||◌, ◌⊎◌, inl, inr, List, [], ◌∷◌, ◌++◌, Option, Some, None, refl, sym, ap, ◌∙◌}
 use Rattle.std.specs.BTreeSet.{BTreeSet, contains}
+use Rattle.std.specs.Bool.{OnFalse}
 use Rattle.std.specs.Borrow.{Bor}
 use Rattle.std.specs.Option.{option_map_or}
-use Rattle.std.specs.Cmp.{IsTotalOrder, nat_cmp_total, then_total, on_total}
 use Rattle.std.specs.Ordering.{is_gt, ordering_reverse}
 use Rattle.std.specs.declared.cmp.Ordering.{Ordering}
 use Rattle.std.specs.declared.cmp.Ordering.TheVariants.{Less, Equal, Greater}
 use Rattle.std.proofs.lemmas.Bool.{and_from, and_parts}
-use Rattle.std.proofs.lemmas.Cmp.{upto}
 use Rattle.std.proofs.lemmas.List.Folds.{list_any-append}
 use mathlib.Core.Bool.{true≢false}
 use Rattle.ynl_resource.specs.Names.{same_label, same_name}
@@ -28,16 +27,10 @@ use Rattle.ynl_waiting.specs.declared.parts.Part.{Part}
 use Rattle.ynl_waiting.specs.Classes.{turn_order, same_size, is_turn_later, has_size}
 use Rattle.ynl_waiting.specs.Users.{has_user}
 use Rattle.ynl_waiting.specs.Waiting.{has, has_part}
-use Rattle.ynl_waiting.proofs.Having.{size-is, number-self}
+use Rattle.ynl_waiting.proofs.Having.{size-is, number-self, turn_order_total, turns-chained}
 use Rattle.ynl_choice.specs.declared.scenes.Scene.{Scene}
 use Rattle.ynl_choice.specs.Choosing.{state_in, label_for, passes}
 use Rattle.ynl_choice.specs.Waits.{item_for, item_of_size, fits_leaf, fits_user, is_placeable, is_before, IsBehind, IsFirstTurn, IsPartOf, IsPartFor, is_of_size, is_of_sizes, is_of_users}
-
-turn_order_total : IsTotalOrder turn_order
-turn_order_total = then_total (on_total (λ (s : Turn). s.number) nat_cmp_total) (on_total (λ (s : Turn). s.priority) nat_cmp_total)
-
-chained : (x y z : Turn) → is_turn_later x y ≡ false → is_turn_later y z ≡ false → is_turn_later x z ≡ false
-chained x y z h k = upto turn_order_total x y z h k
 
 turned : (x y : Turn) → is_turn_later x y ≡ true → is_turn_later y x ≡ false
 turned x y h = ap is_gt (turn_order_total.antisymm y x) ∙ go (turn_order x y) h
@@ -98,23 +91,16 @@ right false b h = h
 -- nor is one that is not before another one that is not
 behind : (held : Option Turn) (turn : Turn) → is_before held turn ≡ false → (t : Turn) → is_turn_later turn t ≡ false → IsBehind held t
 behind None turn late t h = true≢false late
-behind (Some best) turn late t h = chained best turn t late h
+behind (Some best) turn late t h = turns-chained best turn t late h
 
 -- no turn of some sizes is before the one that is held
 abbrev pub AreBehind : Option Turn → List (Resource × BTreeSet Turn) → Type 0
 AreBehind held sizes = (size : Resource) (turn : Turn) → has_size sizes size turn ≡ true → IsBehind held turn
 
--- nor one of those of which the first is not
-pub turns-behind : (held : Option Turn) (turns : BTreeSet Turn) (turn : Turn) → ((t : Turn) → contains turn_order turns t ≡ true → is_turn_later turn t ≡ false) → is_before held turn ≡ false → (t : Turn) → contains turn_order turns t ≡ true → IsBehind held t
-turns-behind held turns turn top late t there = behind held turn late t (top t there)
-
--- nor one of one size more, where none of it is
-pub size-behind : (held : Option Turn) (entry : Resource × BTreeSet Turn) (rest : List (Resource × BTreeSet Turn)) → ((t : Turn) → contains turn_order entry.1 t ≡ true → IsBehind held t) → AreBehind held rest → AreBehind held (entry ∷ rest)
-size-behind held entry rest mine others size t there = go (either (same_size size entry.0 && contains turn_order entry.1 t) (has_size rest size t) there)
-  where
-    go : ((same_size size entry.0 && contains turn_order entry.1 t) ≡ true) ⊎ (has_size rest size t ≡ true) → IsBehind held t
-    go (inl h) = mine t (and_parts (same_size size entry.0) (contains turn_order entry.1 t) h).1
-    go (inr h) = others size t h
+-- where the first that is kept of a user's turns is not
+pub group-behind : (held : Option Turn) (group : Group) (soon : Bool) → soon ≡ is_before held group.first → OnFalse soon (AreBehind held group.sizes.items)
+group-behind held group true e = tt
+group-behind held group false e = λ size turn there. behind held group.first (sym e) turn (group.none_before size turn there)
 
 module _ (test : Class → Bool) where
   -- what waits alike of the classes that pass has the same first turn
@@ -147,7 +133,7 @@ module _ (test : Class → Bool) where
         go : (held : Option Turn) → is_before held turn ≡ true → IsFirstTurn test waits held → (next : Turn) (c : Class) → test c ≡ true → (waits c next ≡ true) ⊎ (own c next ≡ true) → is_turn_later turn next ≡ false
         go held soon first next c ok (inr h) = top c next h
         go None soon first next c ok (inl h) = absurd (first next (c, ok, h))
-        go (Some best) soon first next c ok (inl h) = chained turn best next (turned best turn soon) (first.1 next (c, ok, h))
+        go (Some best) soon first next c ok (inl h) = turns-chained turn best next (turned best turn soon) (first.1 next (c, ok, h))
 
 -- ---- the turns of a size
 

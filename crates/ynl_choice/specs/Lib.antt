@@ -6,3 +6,4 @@ pub mod Waits
 pub mod Boards
 pub mod Lulls
 pub mod Blocks
+pub mod Likely

@@ -1,7 +1,9 @@
 //! The choice on a node: of the eligible requests the first in the order of service, or else the
-//! first guest. The leaves are gone through once, and the first so far is held.
+//! first guest. The leaves are gone through once, and the first so far is held; where it is sure that a leaf has it, that
+//! leaf alone is looked at.
 
-ghost use Rattle.std.specs.Prelude.{◌≡◌, ◌<◌, ◌≤◌, false, Option, None, filter, length, slice_index_or, take};
+ghost use Rattle.std.specs.Prelude.{◌≡◌, ◌<◌, ◌≤◌, false, Option, Some, None, IfSome, filter, length, slice_index_or, take};
+ghost use Rattle.std.specs.Bool.{OnTrue};
 ghost use Rattle.ynl_resource.specs.declared.labels.Label.TheVariants.{Unlabelled};
 ghost use Rattle.ynl_model.specs.Cluster.{free as free_on};
 ghost use Rattle.ynl_model.specs.Service.{first_of, key, eligible, has_room, asks_for, some_eligible, takes_guests, choice};
@@ -9,7 +11,9 @@ ghost use Rattle.ynl_tables.specs.Bounds.{IsReadable};
 ghost use Rattle.ynl_tables.specs.Numbers.{AreQueuesOf};
 ghost use Rattle.ynl_tables.specs.Tables.{state_of};
 ghost use Rattle.ynl_tables.specs.declared.rows.LeafRow.{LeafRow};
-ghost use Rattle.ynl_choice.specs.Choosing.{item_of, state_in, IsScene, IsNext, IsPassed, HoldsBest, IsSeed, all_asks, all_wanted, wanted_in};
+ghost use Rattle.ynl_choice.specs.Candidates.{standings_of};
+ghost use Rattle.ynl_choice.specs.Choosing.{item_of, state_in, standings_to, IsScene, IsNext, IsPassed, HoldsBest, IsSeed, IsSeen, all_asks, all_wanted, wanted_in};
+ghost use Rattle.ynl_choice.specs.Likely.{path_at};
 ghost use Rattle.ynl_choice.specs.Lulls.{AreLulls, IsPartAt};
 ghost use Rattle.ynl_choice.specs.declared.standings.Candidate.{Candidate as Held};
 
@@ -18,7 +22,7 @@ use crate::going::{next_leaf, next_open};
 use crate::leaves::{add_asks, add_leaf};
 use crate::likely::likely_leaf;
 use crate::lulls::Lulls;
-use crate::requests::Request;
+use crate::requests::{Request, request_of};
 use crate::scenes::Scene;
 use crate::standings::Candidate;
 use ynl_model::Node;
@@ -34,7 +38,7 @@ fn add_at<'a>(
     at: usize,
     place: usize,
     passed: &mut Option<&'a [Name]>,
-    held: &mut Option<Candidate>,
+    held: &mut Option<Candidate<'a>>,
 ) -> usize
     requires scene { IsScene scene.now }
     requires own { scene.now.as_guests ≡ false }
@@ -54,15 +58,27 @@ fn add_at<'a>(
     next_leaf(scene, place, passed)
 }
 
+/// Whether a leaf is the one that was looked at before.
+fn is_seen(seen: Option<usize>, place: usize) -> bool
+    ensures { OnTrue result (seen ≡ Some place) }
+{
+    match seen {
+        Some(at) => at == place,
+        None => false,
+    }
+}
+
 /// What is wanted of the leaves from a place on, up to the one that is looked at next: past those of which it is known
-/// that nothing may be placed, and one more with those that are passed over after it.
+/// that nothing may be placed, and one more with those that are passed over after it. The leaf that was looked at before
+/// is not looked at again.
 fn add_next<'a>(
     scene: &Scene<'a>,
     lulls: &mut Lulls,
     at: usize,
     place: usize,
+    seen: Option<usize>,
     passed: &mut Option<&'a [Name]>,
-    held: &mut Option<Candidate>,
+    held: &mut Option<Candidate<'a>>,
 ) -> usize
     requires scene { IsScene scene.now }
     requires own { scene.now.as_guests ≡ false }
@@ -70,8 +86,10 @@ fn add_next<'a>(
     requires at { IsPartAt lulls.old scene.now.label at }
     requires place { place < length scene.now.tables.now.leaves.items }
     requires passed { IsPassed scene.now held.old passed.old }
+    requires seen { IsSeen scene.now seen held.old }
     ensures lulls { AreLulls scene.now.config.now (state_in scene.now) lulls.new }
     ensures at { IsPartAt lulls.new scene.now.label at }
+    ensures seen { IsSeen scene.now seen held.new }
     ensures best { (first : Option Held) → HoldsBest scene.now first (all_wanted scene.now (take place scene.now.tables.now.leaves.items)) held.old → HoldsBest scene.now first (all_wanted scene.now (take result scene.now.tables.now.leaves.items)) held.new }
     ensures passed { IsPassed scene.now held.new passed.new }
     ensures after { place < result }
@@ -79,20 +97,22 @@ fn add_next<'a>(
 {
     let count = scene.tables.leaves.len();
     let open = next_open(scene, lulls, at, place, count);
-    if open < count {
-        add_at(scene, lulls, at, open, passed, held)
-    } else {
-        count
+    if open >= count {
+        return count;
     }
+    if is_seen(seen, open) {
+        return next_leaf(scene, open, passed);
+    }
+    add_at(scene, lulls, at, open, passed, held)
 }
 
 /// The best request of the leaf at a place is held, if one of it may be placed.
-fn hold_best_at(
-    scene: &Scene<'_>,
+fn hold_best_at<'a>(
+    scene: &Scene<'a>,
     lulls: &mut Lulls,
     at: usize,
     place: usize,
-    held: &mut Option<Candidate>,
+    held: &mut Option<Candidate<'a>>,
 )
     requires scene { IsScene scene.now }
     requires own { scene.now.as_guests ≡ false }
@@ -101,51 +121,116 @@ fn hold_best_at(
     requires place { place < length scene.now.tables.now.leaves.items }
     requires none { held.old ≡ None }
     ensures seed { IsSeed scene.now held.new }
+    ensures seen { IsSeen scene.now (Some place) held.new }
+    ensures of_leaf { IfSome held.new (λ best. standings_of best.standings ≡ standings_to scene.now (path_at scene.now place)) }
     ensures lulls { AreLulls scene.now.config.now (state_in scene.now) lulls.new }
     ensures at { IsPartAt lulls.new scene.now.label at }
 {
     add_at(scene, lulls, at, place, &mut None, held);
 }
 
+/// How many likely leaves are looked at before all leaves are gone through.
+const TRIES: usize = 8;
+
+/// What came of the leaf that was looked at before all others: its place, if one was looked at, and whether what is held
+/// is known to be the first of all that is wanted.
+#[derive(Clone, Copy)]
+struct Looked {
+    seen: Option<usize>,
+    is_first: bool,
+}
+
 /// The best request of a leaf in which the choice is likely to be is held, if one is found that may be placed.
-fn hold_likely(scene: &Scene<'_>, lulls: &mut Lulls, at: usize, held: &mut Option<Candidate>)
+fn hold_likely<'a>(
+    scene: &Scene<'a>,
+    lulls: &mut Lulls,
+    at: usize,
+    held: &mut Option<Candidate<'a>>,
+) -> Looked
     requires scene { IsScene scene.now }
     requires own { scene.now.as_guests ≡ false }
     requires lulls { AreLulls scene.now.config.now (state_in scene.now) lulls.old }
     requires at { IsPartAt lulls.old scene.now.label at }
     requires none { held.old ≡ None }
     ensures seed { IsSeed scene.now held.new }
+    ensures seen { IsSeen scene.now result.seen held.new }
+    ensures first { OnTrue result.is_first (HoldsBest scene.now None (all_wanted scene.now scene.now.tables.now.leaves.items) held.new) }
     ensures lulls { AreLulls scene.now.config.now (state_in scene.now) lulls.new }
     ensures at { IsPartAt lulls.new scene.now.label at }
 {
-    let Some(place) = likely_leaf(scene, lulls, at) else {
-        return;
+    let Some(likely) = likely_leaf(scene, lulls, at) else {
+        return Looked {
+            seen: None,
+            is_first: false,
+        };
     };
-    if place < scene.tables.leaves.len() {
-        hold_best_at(scene, lulls, at, place, held);
+    hold_best_at(scene, lulls, at, likely.place, held);
+    Looked {
+        seen: Some(likely.place),
+        is_first: likely.is_sure && held.is_some(),
     }
 }
 
-/// What is wanted on the partition, leaf by leaf. What is below a queue that the request that is held is before is
-/// passed over.
-fn add_all(scene: &Scene<'_>, lulls: &mut Lulls, at: usize, held: &mut Option<Candidate>)
+/// Likely leaves are looked at one after another, until a request is held, none is left, or one comes twice, since of
+/// some it is not kept that nothing of them may be placed.
+fn hold_any_likely<'a>(
+    scene: &Scene<'a>,
+    lulls: &mut Lulls,
+    at: usize,
+    held: &mut Option<Candidate<'a>>,
+) -> Looked
     requires scene { IsScene scene.now }
     requires own { scene.now.as_guests ≡ false }
     requires lulls { AreLulls scene.now.config.now (state_in scene.now) lulls.old }
     requires at { IsPartAt lulls.old scene.now.label at }
+    requires none { held.old ≡ None }
+    ensures seed { IsSeed scene.now held.new }
+    ensures seen { IsSeen scene.now result.seen held.new }
+    ensures first { OnTrue result.is_first (HoldsBest scene.now None (all_wanted scene.now scene.now.tables.now.leaves.items) held.new) }
+    ensures lulls { AreLulls scene.now.config.now (state_in scene.now) lulls.new }
+    ensures at { IsPartAt lulls.new scene.now.label at }
+{
+    let mut last = None;
+    for _ in 0..TRIES {
+        let looked = hold_likely(scene, lulls, at, held);
+        if held.is_some() || looked.seen == last {
+            return looked;
+        }
+        last = looked.seen;
+    }
+    Looked {
+        seen: None,
+        is_first: false,
+    }
+}
+
+/// What is wanted on the partition, leaf by leaf. What is below a queue that the request that is held is before is
+/// passed over, and so is the leaf that was looked at before.
+fn add_all<'a>(
+    scene: &Scene<'a>,
+    lulls: &mut Lulls,
+    at: usize,
+    seen: Option<usize>,
+    held: &mut Option<Candidate<'a>>,
+)
+    requires scene { IsScene scene.now }
+    requires own { scene.now.as_guests ≡ false }
+    requires lulls { AreLulls scene.now.config.now (state_in scene.now) lulls.old }
+    requires at { IsPartAt lulls.old scene.now.label at }
+    requires seen { IsSeen scene.now seen held.old }
     ensures best { HoldsBest scene.now held.old (all_wanted scene.now scene.now.tables.now.leaves.items) held.new }
     ensures lulls { AreLulls scene.now.config.now (state_in scene.now) lulls.new }
 {
     let mut passed = None;
     let mut place = 0;
     while place < scene.tables.leaves.len() {
-        place = add_next(scene, lulls, at, place, &mut passed, held);
+        place = add_next(scene, lulls, at, place, seen, &mut passed, held);
     }
 }
 
-/// The first of what is wanted on the partition is held. A leaf in which it is likely to be is looked at before all
-/// others.
-fn hold_first_wanted(scene: &Scene<'_>, lulls: &mut Lulls, held: &mut Option<Candidate>)
+/// The first of what is wanted on the partition is held. Leaves in which it is likely to be are looked at before all
+/// others, and these not at all where nothing of them can be before what is held.
+fn hold_first_wanted<'a>(scene: &Scene<'a>, lulls: &mut Lulls, held: &mut Option<Candidate<'a>>)
     requires scene { IsScene scene.now }
     requires own { scene.now.as_guests ≡ false }
     requires lulls { AreLulls scene.now.config.now (state_in scene.now) lulls.old }
@@ -154,12 +239,15 @@ fn hold_first_wanted(scene: &Scene<'_>, lulls: &mut Lulls, held: &mut Option<Can
     ensures lulls { AreLulls scene.now.config.now (state_in scene.now) lulls.new }
 {
     let at = lulls.part(&scene.label);
-    hold_likely(scene, lulls, at, held);
-    add_all(scene, lulls, at, held);
+    let looked = hold_any_likely(scene, lulls, at, held);
+    if looked.is_first {
+        return;
+    }
+    add_all(scene, lulls, at, looked.seen, held);
 }
 
 /// What the running applications ask for on the partition.
-fn add_all_asks(scene: &Scene<'_>, held: &mut Option<Candidate>)
+fn add_all_asks<'a>(scene: &Scene<'a>, held: &mut Option<Candidate<'a>>)
     requires { IsScene scene.now }
     ensures { HoldsBest scene.now held.old (all_asks scene.now scene.now.tables.now.leaves.items) held.new }
 {
@@ -226,11 +314,16 @@ fn first_guest(config: &Config, tables: &Tables, node: &Node, free: &Resource) -
     request_in(&held)
 }
 
-fn request_in(held: &Option<Candidate>) -> Option<Request>
+fn request_in(held: &Option<Candidate<'_>>) -> Option<Request>
     ensures { result ≡ item_of held.now }
 {
     match held {
-        Some(candidate) => Some(candidate.request),
+        Some(candidate) => Some(request_of(
+            candidate.row,
+            candidate.app,
+            &candidate.what,
+            &candidate.size,
+        )),
         None => None,
     }
 }

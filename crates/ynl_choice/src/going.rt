@@ -1,7 +1,10 @@
 //! Going from leaf to leaf: which are passed over.
 
-ghost use Rattle.std.specs.Prelude.{◌≡◌, ◌<◌, ◌≤◌, false, length};
+ghost use Rattle.std.specs.Prelude.{◌≡◌, ◌<◌, ◌≤◌, false, true, length};
+ghost use Rattle.ynl_resource.specs.Names.{is_within};
+ghost use Rattle.ynl_tables.specs.Siblings.{leaf_paths, IsPast};
 ghost use Rattle.ynl_choice.specs.Choosing.{state_in, IsScene, IsNext};
+ghost use Rattle.ynl_choice.specs.Likely.{path_at};
 ghost use Rattle.ynl_choice.specs.Lulls.{AreLulls, AreQuiet, IsPartAt};
 
 use crate::lulls::Lulls;
@@ -24,6 +27,24 @@ pub fn next_leaf(scene: &Scene<'_>, place: usize, passed: &Option<&[Name]>) -> u
         return place + 1;
     }
     scene.tables.numbers.after_leaf(place, queue)
+}
+
+/// A place past that of a leaf within a queue, and past those after it that are within the queue too, up to an end;
+/// leaves below other queues stand between none of them.
+pub fn past_within(scene: &Scene<'_>, queue: &[Name], place: usize, end: usize) -> usize
+    requires scene { IsScene scene.now }
+    requires place { place < end }
+    requires end { end ≤ length scene.now.tables.now.leaves.items }
+    requires within { is_within queue.now (path_at scene.now place) ≡ true }
+    ensures past { IsPast (leaf_paths scene.now.tables.now.numbers) queue.now place result }
+    ensures end { result ≤ end }
+{
+    let rows = scene.tables.leaves.as_slice();
+    let mut past = scene.tables.numbers.after_leaf(place, queue).min(end);
+    while past < end && is_within(queue, rows[past].path.names()) {
+        past = scene.tables.numbers.after_leaf(past, queue).min(end);
+    }
+    past
 }
 
 /// The next leaf, from one place on and before another, of which it is not known that nothing may be placed; or the

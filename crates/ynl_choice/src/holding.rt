@@ -13,7 +13,7 @@ use crate::eligible::is_eligible;
 use crate::leaf_use::LeafUse;
 use crate::order::{Next, is_overtaken};
 use crate::ranking::{standings_by, standings_on};
-use crate::requests::{RequestParts, parts_of, request_of};
+use crate::requests::{RequestParts, parts_of};
 use crate::scenes::{Desk, Scene, limits_at};
 use crate::standings::{Candidate, Standings};
 use ynl_model::{AskRow, What};
@@ -21,7 +21,7 @@ use ynl_resource::Size;
 use ynl_tables::{App, LeafRow, ask_of, is_same, runs};
 
 /// How the queues on the way to a leaf stand, found by their places where the configuration has an index.
-fn standings_to(scene: &Scene<'_>, row: &LeafRow) -> Standings
+fn standings_to<'a>(scene: &Scene<'_>, row: &'a LeafRow) -> Standings<'a>
     requires { IsScene scene.now }
     ensures { standings_of result ≡ standings_in scene.now row.now.path }
 {
@@ -43,7 +43,7 @@ fn standings_to(scene: &Scene<'_>, row: &LeafRow) -> Standings
 
 /// What is worked out of a leaf for its requests: how it stands, and its limits, if they were worked out; else the
 /// first request that is tested against them has them worked out.
-pub fn desk_of(scene: &Scene<'_>, row: &LeafRow, limits: &Option<LeafUse>) -> Desk
+pub fn desk_of<'a>(scene: &Scene<'_>, row: &'a LeafRow, limits: &Option<LeafUse>) -> Desk<'a>
     requires scene { IsScene scene.now }
     requires limits { AreLimits scene.now row.now.path limits.now }
     ensures { IsDesk scene.now row.now.path result }
@@ -71,7 +71,7 @@ fn is_wanted(scene: &Scene<'_>, row: &LeafRow, app: &App, what: &What) -> bool
 /// first, since it takes no sum, and the leaf's limits and its user's use last.
 fn may_be_placed(
     scene: &Scene<'_>,
-    desk: &mut Desk,
+    desk: &mut Desk<'_>,
     row: &LeafRow,
     app: &App,
     request: &RequestParts<'_>,
@@ -96,7 +96,7 @@ fn may_be_placed(
 }
 
 /// Whether a request that comes up is before the one that is held.
-fn overtakes(held: &Option<Candidate>, next: &Next<'_>) -> bool
+fn overtakes(held: &Option<Candidate<'_>>, next: &Next<'_>) -> bool
     ensures { (scene : Scene) (item : Item) → IfSome held.now (IsKeyed scene) → next_key next.now ≡ key_in scene item → result ≡ overtakes (key_in scene) (item_of held.now) item }
 {
     match held {
@@ -106,16 +106,16 @@ fn overtakes(held: &Option<Candidate>, next: &Next<'_>) -> bool
 }
 
 /// One request more, if its application wants it. The order is looked at first, and only a request that
-/// would be first is made.
-fn add_request(
+/// would be first is tested.
+fn add_request<'a>(
     scene: &Scene<'_>,
-    desk: &mut Desk,
-    row: &LeafRow,
-    app: &App,
+    desk: &mut Desk<'a>,
+    row: &'a LeafRow,
+    app: &'a App,
     place: u64,
     what: &What,
     size: &Size,
-    held: &mut Option<Candidate>,
+    held: &mut Option<Candidate<'a>>,
 )
     requires scene { IsScene scene.now }
     requires desk { IsDesk scene.now row.now.path desk.old }
@@ -134,7 +134,10 @@ fn add_request(
     }
     if may_be_placed(scene, desk, row, app, &parts_of(row, app, what, size)) {
         *held = Some(Candidate {
-            request: request_of(row, app, what, size),
+            row,
+            app,
+            what: *what,
+            size: *size,
             standings: desk.standings,
             place,
         });
@@ -142,13 +145,13 @@ fn add_request(
 }
 
 /// An application's master, if it is wanted on the partition.
-pub fn add_master(
+pub fn add_master<'a>(
     scene: &Scene<'_>,
-    desk: &mut Desk,
-    row: &LeafRow,
-    app: &App,
+    desk: &mut Desk<'a>,
+    row: &'a LeafRow,
+    app: &'a App,
     place: u64,
-    held: &mut Option<Candidate>,
+    held: &mut Option<Candidate<'a>>,
 )
     requires scene { IsScene scene.now }
     requires desk { IsDesk scene.now row.now.path desk.old }
@@ -172,14 +175,14 @@ pub fn add_master(
 }
 
 /// One ask of an application, if it is for the partition and the application runs.
-fn add_ask(
+fn add_ask<'a>(
     scene: &Scene<'_>,
-    desk: &mut Desk,
-    row: &LeafRow,
-    app: &App,
+    desk: &mut Desk<'a>,
+    row: &'a LeafRow,
+    app: &'a App,
     place: u64,
     ask: &AskRow,
-    held: &mut Option<Candidate>,
+    held: &mut Option<Candidate<'a>>,
 )
     requires scene { IsScene scene.now }
     requires desk { IsDesk scene.now row.now.path desk.old }
@@ -195,13 +198,13 @@ fn add_ask(
 }
 
 /// What an application asks for on the partition, if it runs.
-pub fn add_asks_of(
+pub fn add_asks_of<'a>(
     scene: &Scene<'_>,
-    desk: &mut Desk,
-    row: &LeafRow,
-    app: &App,
+    desk: &mut Desk<'a>,
+    row: &'a LeafRow,
+    app: &'a App,
     place: u64,
-    held: &mut Option<Candidate>,
+    held: &mut Option<Candidate<'a>>,
 )
     requires scene { IsScene scene.now }
     requires desk { IsDesk scene.now row.now.path desk.old }
@@ -216,14 +219,14 @@ pub fn add_asks_of(
 }
 
 /// What an application asks for on the partition with a priority, if it runs.
-pub fn add_ask_at(
+pub fn add_ask_at<'a>(
     scene: &Scene<'_>,
-    desk: &mut Desk,
-    row: &LeafRow,
-    app: &App,
+    desk: &mut Desk<'a>,
+    row: &'a LeafRow,
+    app: &'a App,
     place: u64,
     priority: u32,
-    held: &mut Option<Candidate>,
+    held: &mut Option<Candidate<'a>>,
 )
     requires scene { IsScene scene.now }
     requires desk { IsDesk scene.now row.now.path desk.old }

@@ -47,7 +47,7 @@ fn is_below(passed: &Option<&[Name]>, row: &LeafRow) -> bool
 fn queue_behind<'a>(
     scene: &Scene<'_>,
     row: &'a LeafRow,
-    held: &Option<Candidate>,
+    held: &Option<Candidate<'_>>,
 ) -> Option<&'a [Name]>
     requires { IsScene scene.now }
     ensures passed { IsPassed scene.now held.now result }
@@ -72,7 +72,7 @@ fn is_passed<'a>(
     scene: &Scene<'_>,
     row: &'a LeafRow,
     passed: &mut Option<&'a [Name]>,
-    held: &Option<Candidate>,
+    held: &Option<Candidate<'_>>,
 ) -> bool
     requires { IsScene scene.now }
     ensures ahead { OnTrue result (is_ahead held.now (standings_to scene.now row.now.path) ≡ true) }
@@ -84,7 +84,7 @@ fn is_passed<'a>(
 }
 
 /// The masters wanted on the partition by the applications of a leaf, one after another.
-fn add_each_master(scene: &Scene<'_>, row: &LeafRow, held: &mut Option<Candidate>)
+fn add_each_master<'a>(scene: &Scene<'_>, row: &'a LeafRow, held: &mut Option<Candidate<'a>>)
     requires scene { IsScene scene.now }
     requires placed { ArePlaced (state_in scene.now) row.now }
     requires marked { AreMarkedIn (state_in scene.now) row.now }
@@ -100,12 +100,12 @@ fn add_each_master(scene: &Scene<'_>, row: &LeafRow, held: &mut Option<Candidate
 }
 
 /// The first of the masters that wait in a leaf for the partition, by their classes. Whether none may be placed.
-fn add_first_master(
+fn add_first_master<'a>(
     scene: &Scene<'_>,
     limits: &mut Option<LeafUse>,
-    row: &LeafRow,
+    row: &'a LeafRow,
     part: &Part,
-    held: &mut Option<Candidate>,
+    held: &mut Option<Candidate<'a>>,
 ) -> bool
     requires scene { IsScene scene.now }
     requires limits { AreLimits scene.now row.now.path limits.old }
@@ -135,7 +135,7 @@ fn add_masters<'a>(
     limits: &mut Option<LeafUse>,
     row: &'a LeafRow,
     passed: &mut Option<&'a [Name]>,
-    held: &mut Option<Candidate>,
+    held: &mut Option<Candidate<'a>>,
 ) -> bool
     requires scene { IsScene scene.now }
     requires passed { IsPassed scene.now held.old passed.old }
@@ -171,7 +171,7 @@ fn add_masters<'a>(
 }
 
 /// What the running applications of a leaf ask for on the partition, one after another.
-fn add_each_ask(scene: &Scene<'_>, row: &LeafRow, held: &mut Option<Candidate>)
+fn add_each_ask<'a>(scene: &Scene<'_>, row: &'a LeafRow, held: &mut Option<Candidate<'a>>)
     requires scene { IsScene scene.now }
     requires placed { ArePlaced (state_in scene.now) row.now }
     requires marked { AreMarkedIn (state_in scene.now) row.now }
@@ -187,12 +187,12 @@ fn add_each_ask(scene: &Scene<'_>, row: &LeafRow, held: &mut Option<Candidate>)
 }
 
 /// The first of what is asked for in a leaf on the partition, by classes. Whether nothing of it may be placed.
-fn add_first_ask(
+fn add_first_ask<'a>(
     scene: &Scene<'_>,
     limits: &mut Option<LeafUse>,
-    row: &LeafRow,
+    row: &'a LeafRow,
     part: &Part,
-    held: &mut Option<Candidate>,
+    held: &mut Option<Candidate<'a>>,
 ) -> bool
     requires scene { IsScene scene.now }
     requires limits { AreLimits scene.now row.now.path limits.old }
@@ -231,7 +231,7 @@ pub fn add_asks<'a>(
     limits: &mut Option<LeafUse>,
     row: &'a LeafRow,
     passed: &mut Option<&'a [Name]>,
-    held: &mut Option<Candidate>,
+    held: &mut Option<Candidate<'a>>,
 ) -> bool
     requires scene { IsScene scene.now }
     requires passed { IsPassed scene.now held.old passed.old }
@@ -331,7 +331,7 @@ pub fn add_leaf<'a>(
     scene: &Scene<'_>,
     row: &'a LeafRow,
     passed: &mut Option<&'a [Name]>,
-    held: &mut Option<Candidate>,
+    held: &mut Option<Candidate<'a>>,
 ) -> Option<Lull>
     requires scene { IsScene scene.now }
     requires own { scene.now.as_guests ≡ false }

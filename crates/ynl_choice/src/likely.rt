@@ -1,141 +1,179 @@
-//! A leaf in which the choice is likely to be. Nothing that is chosen hangs on which one that is, but time does: once
-//! its best request is held, most of the other leaves are known to stand behind.
+//! A leaf in which the choice is likely to be, and whether all others are known to stand behind it. What is chosen
+//! hangs on no guess, but time does: where it is sure no other leaf is looked at.
 
-ghost use Rattle.std.specs.Prelude.{◌≡◌, ◌<◌, ◌≤◌, false, length};
-ghost use Rattle.ynl_queues.specs.Index.{AreSteps};
+ghost use Rattle.std.specs.Prelude.{◌≡◌, ◌<◌, ◌≤◌, ◌+◌, false, true, ℕ, IfSome, length};
+ghost use Rattle.std.specs.Bool.{OnTrue};
+ghost use Rattle.ynl_resource.specs.Amounts.{fits_in};
+ghost use Rattle.ynl_resource.specs.declared.amounts.Resource.{Resource as Amount};
 ghost use Rattle.ynl_choice.specs.Boards.{IsBoard};
-ghost use Rattle.ynl_choice.specs.Choosing.{state_in, IsScene};
-ghost use Rattle.ynl_choice.specs.Lulls.{AreLulls, IsPartAt};
+ghost use Rattle.ynl_choice.specs.Choosing.{state_in, guaranteed_after, IsScene};
+ghost use Rattle.ynl_choice.specs.Likely.{path_at, AreBehind, AreBelow, IsMark, IsLead, IsLeadOf};
+ghost use Rattle.ynl_choice.specs.Lulls.{AreLulls, AreQuiet, IsPartAt};
+ghost use Rattle.ynl_choice.specs.declared.scenes.Scene.{Scene as Stage};
 
 use crate::boards::Board;
-use crate::going::{next_leaf, next_open};
+use crate::going::{next_open, past_within};
 use crate::lulls::Lulls;
-use crate::order::product;
+use crate::order::standing_order;
+use crate::ranking::footing_of;
 use crate::scenes::Scene;
+use crate::standings::Standing;
 use std::cmp::Ordering;
 use ynl_queues::step_at;
-use ynl_resource::Name;
+use ynl_resource::Resource;
 
 /// The most queues on a way.
 const DEPTHS: usize = 7;
 
-/// A queue as it is likely to stand among its siblings, by what it uses and its part of what their parent has; and the
-/// places of the leaves below it, from the first of which it is not known that nothing may be placed.
+/// A leaf in which the choice is likely to be. Where that is sure all others stand behind it, or have nothing that may
+/// be placed.
+#[derive(Clone, Copy)]
+pub struct Likely {
+    pub place: usize,
+    pub is_sure: bool,
+}
+
+/// A queue as it stands among its siblings, and what it is guaranteed; and the places of the leaves below it, from the
+/// first of which it is not known that nothing may be placed.
 #[derive(Clone, Copy)]
 struct Mark<'a> {
-    used: u64,
-    share: u64,
-    name: &'a Name,
+    standing: Standing<'a>,
+    guaranteed: Resource,
     first: usize,
     end: usize,
 }
 
-/// Whether a queue is likely to stand before its sibling. One that is given nothing comes last.
-fn is_likelier(a: &Mark<'_>, b: &Mark<'_>) -> bool {
-    if a.share == 0 || b.share == 0 {
-        return a.share > b.share;
-    }
-    match product(a.used, b.share).cmp(&product(b.used, a.share)) {
-        Ordering::Less => true,
-        Ordering::Equal => *a.name < *b.name,
-        Ordering::Greater => false,
-    }
+/// The mark of the queue that stands first of some siblings, and whether that is sure.
+#[derive(Clone, Copy)]
+struct Lead<'a> {
+    mark: Mark<'a>,
+    is_sure: bool,
 }
 
-/// The mark of the queue on the way to a leaf that has so many above it.
+/// The mark of the queue on the way to the leaf at a place that has so many above it, of what is guaranteed to the last
+/// of those. None where the leaf has no more above it, or the configuration no index.
 fn mark_of<'a>(
-    scene: &Scene<'_>,
+    scene: &Scene<'a>,
     board: &Board<'_>,
-    steps: &[usize],
-    leaf: &'a [Name],
     depth: usize,
-    first: usize,
+    above: &Resource,
+    place: usize,
     end: usize,
-) -> Mark<'a>
+) -> Option<Mark<'a>>
     requires scene { IsScene scene.now }
     requires board { IsBoard scene.now.config.now (state_in scene.now) scene.now.label board.now }
-    requires steps { AreSteps scene.now.config.now.queues leaf.now steps.now }
-    requires depth { depth < length leaf.now }
+    requires above { above.now ≡ guaranteed_after scene.now (path_at scene.now place) depth }
+    requires within { fits_in above.now scene.now.total ≡ true }
+    requires place { place < end }
+    requires end { end ≤ length scene.now.tables.now.leaves.items }
+    ensures is { IfSome result (IsMark scene.now depth) }
+    ensures first { IfSome result (λ mark. mark.first ≡ place) }
+    ensures end { IfSome result (λ mark. mark.end ≤ end) }
 {
-    let place = steps[depth];
-    Mark {
-        used: board.uses[place + 1].used.memory,
-        share: board.capacities[place].number(),
-        name: &leaf[depth],
-        first,
-        end,
+    let row = &scene.tables.leaves.as_slice()[place];
+    let names = row.path.names();
+    if depth >= names.len() {
+        return None;
+    }
+    let steps = scene.config.steps(row.near.place, names)?;
+    let footing = footing_of(scene, board, steps, names, depth, above);
+    Some(Mark {
+        standing: footing.standing,
+        guaranteed: footing.guaranteed,
+        first: place,
+        end: past_within(scene, step_at(names, depth + 1), place, end),
+    })
+}
+
+/// Which of a queue and those before it stands first. Where two stand alike nothing is sure.
+fn lead_of<'a>(best: &Option<Lead<'a>>, mark: &Mark<'a>) -> Lead<'a>
+    ensures { (scene : Stage) (depth from place end : ℕ) (above : Amount) → AreBelow scene depth above from end → IsLeadOf scene depth from place best.now → IsMark scene depth mark.now → AreQuiet scene place mark.now.first end → mark.now.end ≤ end → IsLead scene depth from mark.now.end result }
+{
+    let Some(lead) = best else {
+        return Lead {
+            mark: *mark,
+            is_sure: true,
+        };
+    };
+    match standing_order(&mark.standing, &lead.mark.standing) {
+        Ordering::Less => Lead {
+            mark: *mark,
+            is_sure: lead.is_sure,
+        },
+        Ordering::Equal => Lead {
+            mark: lead.mark,
+            is_sure: false,
+        },
+        Ordering::Greater => *lead,
     }
 }
 
-/// Of the queues with so many above them on the way to the leaves from one place up to another, the mark of that which is
-/// likely to stand first; of those below which nothing may be placed, none.
+/// Of the queues with so many above them on the way to the leaves of a range, the mark of that which stands first; of
+/// those below which it is known that nothing may be placed, none.
 fn likeliest<'a>(
     scene: &Scene<'a>,
     board: &Board<'_>,
     lulls: &Lulls,
     at: usize,
     depth: usize,
+    above: &Resource,
     first: usize,
     end: usize,
-) -> Option<Mark<'a>>
+) -> Option<Lead<'a>>
     requires scene { IsScene scene.now }
     requires own { scene.now.as_guests ≡ false }
     requires board { IsBoard scene.now.config.now (state_in scene.now) scene.now.label board.now }
     requires lulls { AreLulls scene.now.config.now (state_in scene.now) lulls.now }
     requires at { IsPartAt lulls.now scene.now.label at }
+    requires below { AreBelow scene.now depth above.now first end }
+    requires order { first ≤ end }
     requires end { end ≤ length scene.now.tables.now.leaves.items }
+    ensures { IfSome result (IsLead scene.now depth first end) }
 {
-    let rows = scene.tables.leaves.as_slice();
-    let mut best: Option<Mark<'a>> = None;
+    let mut best: Option<Lead<'a>> = None;
     let mut place = first;
     while place < end {
-        place = next_open(scene, lulls, at, place, end);
-        if place >= end {
+        let open = next_open(scene, lulls, at, place, end);
+        if open >= end {
             return best;
         }
-        let names = rows[place].path.names();
-        if depth >= names.len() {
-            return best;
-        }
-        let next = next_leaf(scene, place, &Some(step_at(names, depth + 1)));
-        if let Some(steps) = scene.config.steps(rows[place].near.place, names) {
-            let mark = mark_of(scene, board, steps, names, depth, place, next);
-            match &best {
-                Some(other) => {
-                    if is_likelier(&mark, other) {
-                        best = Some(mark);
-                    }
-                }
-                None => best = Some(mark),
-            }
-        }
-        place = next;
+        let mark = mark_of(scene, board, depth, above, open, end)?;
+        best = Some(lead_of(&best, &mark));
+        place = mark.end;
     }
     best
 }
 
-/// The place of a leaf in which the choice is likely to be: from root down below the child that is likely to stand
-/// first. Where it is known of all leaves that nothing may be placed, or the configuration has no index, there is none.
-pub fn likely_leaf(scene: &Scene<'_>, lulls: &Lulls, at: usize) -> Option<usize>
+/// The leaf in which the choice is likely to be: from root down below the child that stands first, among those below
+/// which something may have to be looked at. Where it is known of all leaves that nothing may be placed, or the
+/// configuration has no index, there is none.
+pub fn likely_leaf(scene: &Scene<'_>, lulls: &Lulls, at: usize) -> Option<Likely>
     requires scene { IsScene scene.now }
     requires own { scene.now.as_guests ≡ false }
     requires lulls { AreLulls scene.now.config.now (state_in scene.now) lulls.now }
     requires at { IsPartAt lulls.now scene.now.label at }
+    ensures inside { IfSome result (λ likely. likely.place < length scene.now.tables.now.leaves.items) }
+    ensures behind { IfSome result (λ likely. OnTrue likely.is_sure (AreBehind scene.now 0 (length scene.now.tables.now.leaves.items) likely.place (likely.place + 1))) }
 {
     let Some(board) = &scene.board else {
         return None;
     };
-    let count = scene.tables.leaves.len();
-    let mut likely = None;
+    let mut above = scene.total;
     let mut first = 0;
-    let mut end = count;
+    let mut end = scene.tables.leaves.len();
+    let mut is_sure = true;
     for depth in 0..DEPTHS {
-        let Some(mark) = likeliest(scene, board, lulls, at, depth, first, end.min(count)) else {
-            return likely;
-        };
-        likely = Some(mark.first);
-        first = mark.first;
-        end = mark.end;
+        let lead = likeliest(scene, board, lulls, at, depth, &above, first, end)?;
+        is_sure = is_sure && lead.is_sure;
+        above = lead.mark.guaranteed;
+        first = lead.mark.first;
+        end = lead.mark.end;
+        if end - first == 1 {
+            return Some(Likely {
+                place: first,
+                is_sure,
+            });
+        }
     }
-    likely
+    None
 }

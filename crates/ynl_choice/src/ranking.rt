@@ -9,7 +9,7 @@ ghost use Rattle.ynl_tables.specs.Tables.{state_of};
 ghost use Rattle.ynl_tables.specs.Bounds.{IsReadable};
 ghost use Rattle.ynl_queues.specs.Index.{AreSteps};
 ghost use Rattle.ynl_choice.specs.Boards.{IsBoard};
-ghost use Rattle.ynl_choice.specs.Candidates.{come_before, standings_of};
+ghost use Rattle.ynl_choice.specs.Candidates.{come_before, standings_of, stands_of};
 ghost use Rattle.ynl_choice.specs.Choosing.{state_in, standings_to, guaranteed_after, IsScene};
 
 use crate::boards::Board;
@@ -21,25 +21,25 @@ use ynl_queues::{Config, share_of, step_at};
 use ynl_resource::{Label, Name, Resource};
 use ynl_tables::{Tables, used};
 
-fn last_of(queue: &[Name]) -> Name
+fn last_of(queue: &[Name]) -> &Name
     requires { 0 < length queue.now }
-    ensures { result ≡ last_name queue.now }
+    ensures { result.now ≡ last_name queue.now }
 {
-    queue[queue.len() - 1]
+    &queue[queue.len() - 1]
 }
 
 #[tactic(auto, unfolding(ynl_model::specs::Cluster::guaranteed))]
-fn standing_of(
+fn standing_of<'a>(
     config: &Config,
     tables: &Tables,
-    queue: &[Name],
+    queue: &'a [Name],
     label: &Label,
     total: &Resource,
-) -> Standing
+) -> Standing<'a>
     requires readable { IsReadable tables.now }
     requires total { total.now ≡ total_on (state_of tables.now) label.now }
     requires below_root { 0 < length queue.now }
-    ensures { result ≡ standing config.now (state_of tables.now) label.now queue.now }
+    ensures { stands_of result ≡ standing config.now (state_of tables.now) label.now queue.now }
 {
     let used = used(tables, queue, label);
     let guaranteed = config.guaranteed(queue, label, total);
@@ -51,14 +51,14 @@ fn standing_of(
 }
 
 /// How the queues on the way to a leaf stand on a partition.
-pub fn standings_on(
+pub fn standings_on<'a>(
     config: &Config,
     tables: &Tables,
-    leaf: &[Name],
-    tenant: &Name,
+    leaf: &'a [Name],
+    tenant: &'a Name,
     label: &Label,
     total: &Resource,
-) -> Standings
+) -> Standings<'a>
     requires readable { IsReadable tables.now }
     requires total { total.now ≡ total_on (state_of tables.now) label.now }
     requires depth { length leaf.now ≤ 7 }
@@ -67,7 +67,7 @@ pub fn standings_on(
     let mut places = [Standing {
         used: 0,
         guaranteed: 0,
-        name: *tenant,
+        name: tenant,
     }; 7];
     for depth in 0..leaf.len() {
         let step = step_at(leaf, depth + 1);
@@ -82,28 +82,28 @@ pub fn standings_on(
 /// How a queue on the way to a leaf stands, and what it is guaranteed, of which the queues below it are
 /// guaranteed their parts.
 #[derive(Clone, Copy)]
-struct Footing {
-    standing: Standing,
-    guaranteed: Resource,
+pub struct Footing<'a> {
+    pub standing: Standing<'a>,
+    pub guaranteed: Resource,
 }
 
 /// How the next queue on the way to a leaf stands, of what the one above it is guaranteed; it is found by its
 /// place.
-fn footing_of(
+pub fn footing_of<'a>(
     scene: &Scene<'_>,
     board: &Board<'_>,
     steps: &[usize],
-    leaf: &[Name],
+    leaf: &'a [Name],
     depth: usize,
     above: &Resource,
-) -> Footing
+) -> Footing<'a>
     requires scene { IsScene scene.now }
     requires board { IsBoard scene.now.config.now (state_in scene.now) scene.now.label board.now }
     requires steps { AreSteps scene.now.config.now.queues leaf.now steps.now }
     requires depth { depth < length leaf.now }
     requires above { above.now ≡ guaranteed_after scene.now leaf.now depth }
     requires within { IsTrue (fits_in above.now scene.now.total) }
-    ensures standing { result.standing ≡ standing scene.now.config.now (state_in scene.now) scene.now.label (take (depth + 1) leaf.now) }
+    ensures standing { stands_of result.standing ≡ standing scene.now.config.now (state_in scene.now) scene.now.label (take (depth + 1) leaf.now) }
     ensures guaranteed { result.guaranteed ≡ guaranteed_after scene.now leaf.now (depth + 1) }
     ensures within { IsTrue (fits_in result.guaranteed scene.now.total) }
 {
@@ -113,7 +113,7 @@ fn footing_of(
         standing: Standing {
             used: board.uses[place + 1].used.memory,
             guaranteed: guaranteed.memory,
-            name: leaf[depth],
+            name: &leaf[depth],
         },
         guaranteed,
     }
@@ -121,13 +121,13 @@ fn footing_of(
 
 /// How the queues on the way to a leaf stand on the scene's partition, each found by its place; what each is
 /// guaranteed is its part of what its parent is.
-pub fn standings_by(
+pub fn standings_by<'a>(
     scene: &Scene<'_>,
     board: &Board<'_>,
     steps: &[usize],
-    leaf: &[Name],
-    tenant: &Name,
-) -> Standings
+    leaf: &'a [Name],
+    tenant: &'a Name,
+) -> Standings<'a>
     requires scene { IsScene scene.now }
     requires board { IsBoard scene.now.config.now (state_in scene.now) scene.now.label board.now }
     requires steps { AreSteps scene.now.config.now.queues leaf.now steps.now }
@@ -137,7 +137,7 @@ pub fn standings_by(
     let mut places = [Standing {
         used: 0,
         guaranteed: 0,
-        name: *tenant,
+        name: tenant,
     }; 7];
     let mut above = scene.total;
     for depth in 0..leaf.len() {
@@ -155,7 +155,7 @@ pub fn standings_by(
 /// come before it, and so before all leaves below it. Of the standings of the way no more are worked out than
 /// decide it.
 pub fn first_behind<'a>(
-    standings: &Standings,
+    standings: &Standings<'_>,
     scene: &Scene<'_>,
     board: &Board<'_>,
     steps: &[usize],

@@ -2,13 +2,12 @@
 //! since those of one class may be placed together, and none of a user for whose least there is no place.
 
 ghost use Rattle.std.specs.Prelude.{◌≡◌, Bool, true, None, ◌||◌, IfSome};
-ghost use Rattle.std.specs.BTreeSet.{contains};
 ghost use Rattle.std.specs.Bool.{OnFalse};
 ghost use Rattle.ynl_resource.specs.declared.amounts.Resource.{Resource};
 ghost use Rattle.ynl_resource.specs.declared.paths.Path.{Path};
 ghost use Rattle.ynl_model.specs.Service.{has_room};
 ghost use Rattle.ynl_model.specs.declared.proposals.What.{What};
-ghost use Rattle.ynl_waiting.specs.Classes.{turn_order, has_size};
+ghost use Rattle.ynl_waiting.specs.Classes.{has_size};
 ghost use Rattle.ynl_waiting.specs.Waiting.{has};
 ghost use Rattle.ynl_waiting.specs.declared.classes.Class.{Class};
 ghost use Rattle.ynl_waiting.specs.declared.classes.Turn.{Turn};
@@ -26,7 +25,7 @@ use std::collections::BTreeSet;
 use ynl_model::What;
 use ynl_resource::{Name, Resource, Size};
 use ynl_tables::LeafRow;
-use ynl_waiting::{Group, Part, Rows, Sizes, Turn, first_of};
+use ynl_waiting::{Group, Part, Rows, Turn, first_of};
 
 /// What waits in a leaf for the partition. Where nothing does nothing may be placed.
 pub fn part_for<'a>(scene: &Scene<'_>, waiting: &'a Rows) -> Option<&'a Part>
@@ -195,26 +194,12 @@ fn add_size(
     }
 }
 
-/// Whether the first of some turns is before the one that is held.
-fn is_first_before(held: &Option<Turn>, turns: &BTreeSet<Turn>) -> bool
-    ensures { OnFalse result ((turn : Turn) → contains turn_order turns.now turn ≡ true → IsBehind held.now turn) }
+/// Whether some turn of a user may be before the one that is held: whether the first that is kept of them is. It
+/// takes no sum, and no size is looked at.
+fn is_any_before(held: &Option<Turn>, group: &Group) -> bool
+    ensures { OnFalse result ((size : Resource) (turn : Turn) → has_size group.now.sizes.items size turn ≡ true → IsBehind held.now turn) }
 {
-    match first_of(turns) {
-        Some(turn) => is_before(held, &turn),
-        None => false,
-    }
-}
-
-/// Whether some turn of a user is before the one that is held. It takes no sum.
-fn is_any_before(held: &Option<Turn>, sizes: &Sizes) -> bool
-    ensures { OnFalse result ((size : Resource) (turn : Turn) → has_size sizes.now.items size turn ≡ true → IsBehind held.now turn) }
-{
-    for (_, turns) in sizes.iter() {
-        if is_first_before(held, turns) {
-            return true;
-        }
-    }
-    false
+    is_before(held, &group.first)
 }
 
 /// Looks at one user more. Where no turn of the user's would be first, or their least may not be placed, nothing of
@@ -232,7 +217,7 @@ fn add_group(
     requires tests { AreTests scene.now row.now.path tests.now }
     ensures { (waits : Class → Turn → Bool) → IsFirstTurn (is_placeable scene.now row.now.path what.now) waits held.old → IsFirstTurn (is_placeable scene.now row.now.path what.now) (λ class turn. waits class turn || is_of_sizes scene.now user.now group.now.sizes.items class turn) held.new }
 {
-    if !is_any_before(held, &group.sizes) {
+    if !is_any_before(held, group) {
         return;
     }
     let mut used = None;

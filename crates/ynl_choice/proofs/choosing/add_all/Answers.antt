@@ -6,5 +6,6 @@ loop-place-preserved c = record {
   lulls = c.add_next-place.ensures.lulls;
   at = c.add_next-place.ensures.at;
   passed = c.add_next-place.ensures.passed;
+  seen = c.add_next-place.ensures.seen;
   inside = c.add_next-place.ensures.inside;
 }

@@ -1,5 +1,5 @@
 use Rattle.std.proofs.Common.{◌-◌, ◌≤◌, length, take}
-use Rattle.ynl_choice.specs.Choosing.{state_in, HoldsBest, IsPassed, all_wanted}
+use Rattle.ynl_choice.specs.Choosing.{state_in, HoldsBest, IsPassed, IsSeen, all_wanted}
 use Rattle.ynl_choice.specs.Lulls.{AreLulls, IsPartAt}
 use Rattle.ynl_choice.proofs.choosing.add_all.Given as goal
 
@@ -9,6 +9,7 @@ invariant-loop-place l = record {
   lulls : AreLulls l.scene.config.now (state_in l.scene) l.lulls;
   at : IsPartAt l.lulls l.scene.label l.at;
   passed : IsPassed l.scene l.held l.passed;
+  seen : IsSeen l.scene l.seen l.held;
   inside : l.place ≤ length l.scene.tables.now.leaves.items;
 }
 

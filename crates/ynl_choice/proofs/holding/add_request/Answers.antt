@@ -1,10 +1,9 @@
-use Rattle.std.proofs.Common.{◌≡◌, true, Some, [], ◌∷◌, ◌&&◌, cond, sym, ap, subst, ◌∙◌}
+use Rattle.std.proofs.Common.{◌≡◌, true, ◌&&◌, sym, ap, subst, ◌∙◌}
 use Rattle.ynl_model.specs.Service.{Item}
 use Rattle.ynl_model.specs.Service.{item_of as request_item}
 use Rattle.ynl_tables.specs.Tables.{app_of}
-use Rattle.ynl_choice.specs.declared.standings.Candidate.{Candidate}
 use Rattle.ynl_choice.specs.declared.scenes.Desk.{Desk}
-use Rattle.ynl_choice.specs.Choosing.{state_in, item_of, passes, wants, IsDesk, Holds, considered}
+use Rattle.ynl_choice.specs.Choosing.{state_in, item_of, passes, wants, IsDesk}
 use Rattle.ynl_choice.proofs.Considering.{keyed, taken_as_wanted, behind}
 use Rattle.ynl_choice.proofs.holding.add_request.Goals as goal
 
@@ -29,8 +28,7 @@ returns-then-may_be_placed-clause-best c = λ h.
     let w = wants (state_in scene) app c.args.what.now in
     let may : (w && passes scene item) ≡ true =
     ap (λ (r : Item). wants (state_in scene) app r.what && passes scene r) (sym c.parts_of.ensures) ∙ sym c.may_be_placed.ensures.passes ∙ c.if-may_be_placed.true in
-    let candidate : Item → Candidate = λ r. record { request = r; standings = desk.standings; place = c.args.place } in
-    subst (λ (r : Item). Holds scene (Some (candidate r)) (considered scene (item_of c.args.held.now) (cond w (item ∷ []) []))) (sym c.request_of.ensures) (record {
+    record {
       is = taken_as_wanted scene (item_of c.args.held.now) item w (sym (c.overtakes.ensures scene item h k) ∙ c.if-not-overtakes.false) may;
       keyed = keyed scene desk item c.args.place on_desk c.requires.place;
-    })
+    }
