@@ -36,11 +36,21 @@ use ynl_tables::{
 /// A cluster: what it is configured with, and its state. A node on which nothing is to be placed rests, so that
 /// its heartbeats take no search; a change of the cluster wakes all nodes. What is known of leaves of which nothing could
 /// be placed is kept until they change.
-#[derive(Drop)]
 pub struct Core {
     config: Config,
     tables: Tables,
     lulls: Lulls,
+}
+
+// By hand, so that crates above call it: one that is derived is proved anew in each of them, with all that it holds.
+impl Drop for Core {
+    fn drop(self) {
+        let Core {
+            config: _,
+            tables: _,
+            lulls: _,
+        } = self;
+    }
 }
 
 impl Model for Core {
