@@ -31,10 +31,16 @@ pub enum CallFault {
 
 /// A cluster that many callers use at once: its book behind one lock. A contract sees the configuration
 /// alone, since what stands behind the lock can change at any time.
-#[derive(Drop)]
 pub struct Live {
-    pub(crate) config: Config,
-    pub(crate) book: Mutex<Book>,
+    config: Config,
+    book: Mutex<Book>,
+}
+
+// By hand, so that crates above call it: one that is derived is proved anew in each of them, with all that it holds.
+impl Drop for Live {
+    fn drop(self) {
+        let Live { config: _, book: _ } = self;
+    }
 }
 
 impl Model for Live {
@@ -52,11 +58,25 @@ impl Live {
         ensures { IfOk result (λ opened. (opened.0 ≡ config) × (opened.1 ≡ record { calls = 0; front = 0 })) }
     {
         let book = Book::open(alloc, config.copy(alloc)?)?;
-        let live = Live {
+        Ok((Live::of(config, book), Seat::first()))
+    }
+
+    /// The scheduler of a book.
+    pub(crate) fn of(config: Config, book: Book) -> Live
+        ensures { result ≡ config }
+    {
+        Live {
             config,
             book: Mutex::new(book),
-        };
-        Ok((live, Seat::first()))
+        }
+    }
+
+    /// The configuration, and the book as it stands when nobody calls any more.
+    pub(crate) fn into_parts(self) -> (Config, Book)
+        ensures { result.0 ≡ self }
+    {
+        let Live { config, book } = self;
+        (config, book.into_inner())
     }
 
     /// Waits for its turn, has the event entered, and gives the receipt. `Behind` comes of a seat of

@@ -13,7 +13,6 @@ use crate::matching::{are_calls, is_one_for_each, mark_lists};
 use crate::receipts::Receipt;
 use crate::seats::Seat;
 use std::alloc::Global;
-use std::sync::Mutex;
 use thiserror::Error;
 use ynl_core::NoMemory;
 use ynl_journal::replay_history;
@@ -74,16 +73,12 @@ pub fn close(
     ensures seats { IfErr result (λ unclosed. unclosed.seats ≡ seats) }
     ensures cause { IfErr result (λ unclosed. IsCauseFor seats.items lists.now unclosed.cause) }
 {
-    let Live { config, book } = live;
-    let book = book.into_inner();
+    let (config, book) = live.into_parts();
     match closed_entries(alloc, &config, book.entries(), seats.as_slice(), lists) {
         Ok(entries) => Ok(Closed { config, entries }),
         Err(cause) => Err(Unclosed {
             cause,
-            live: Live {
-                config,
-                book: Mutex::new(book),
-            },
+            live: Live::of(config, book),
             seats,
         }),
     }

@@ -14,7 +14,6 @@ pub struct Pending {
 }
 
 /// What an event is answered.
-#[derive(Drop)]
 pub enum Reply {
     /// It was done.
     Done,
@@ -40,4 +39,28 @@ pub enum Reply {
         masters: Resource,
         guests: Resource,
     },
+}
+
+// By hand, so that crates above call it: one that is derived is proved anew in each of them, with all that it holds.
+impl Drop for Reply {
+    fn drop(self) {
+        match self {
+            Reply::Done => (),
+            Reply::Refused(_) => (),
+            Reply::Placed(_) => (),
+            Reply::Proposed(_) => (),
+            Reply::Committed(_) => (),
+            Reply::Held {
+                containers: _,
+                asks: _,
+            } => (),
+            Reply::Usage {
+                used: _,
+                guaranteed: _,
+                maximum: _,
+                masters: _,
+                guests: _,
+            } => (),
+        }
+    }
 }

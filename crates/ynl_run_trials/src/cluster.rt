@@ -185,7 +185,7 @@ fn none_is_refused(rt: &HostRuntime, core: &mut Core, numbers: Range<u64>) -> Re
     let mut none = true;
     for number in numbers {
         let reply = answered(rt, core, number)?;
-        none = none && !matches!(reply, Reply::Refused(_));
+        none = none && !matches!(&reply, Reply::Refused(_));
     }
     Ok(none)
 }
@@ -199,7 +199,7 @@ fn polled(rt: &HostRuntime, core: &mut Core) -> Result<Option<(usize, usize)>, F
 /// Whether what is placed next is committed.
 fn is_committed(rt: &HostRuntime, core: &mut Core) -> Result<bool, Fail> {
     let reply = committed(rt, core)?;
-    Ok(matches!(reply, Reply::Committed(_)))
+    Ok(matches!(&reply, Reply::Committed(_)))
 }
 
 /// Whether each kind of event has its answer, until nothing is left.

@@ -3,4 +3,4 @@ use Rattle.ynl_live.proofs.closing.close.Goals as goal
 
 pub returns-in-Ok-clause-alone : goal.returns-in-Ok-clause-alone
 returns-in-Ok-clause-alone c accepted t p sole =
-    histories_show_alone c.live.inside.config c.in-Ok.entries.items t p c.in-Ok.ensures.history accepted sole
+    histories_show_alone c.into_parts-config.result.0 c.in-Ok.entries.items t p c.in-Ok.ensures.history accepted sole
