@@ -9,4 +9,5 @@ pub mod Owners
 pub mod Tabling
 pub mod Waiting
 pub mod Lulls
+pub mod Elsewhere
 pub mod Untied

@@ -13,7 +13,7 @@ use Rattle.ynl_model.specs.declared.applications.AskRow.{AskRow}
 use Rattle.ynl_model.specs.declared.containers.Placed.{Placed as Container}
 use Rattle.ynl_model.specs.Queues.{Config}
 use Rattle.ynl_model.specs.Applications.{Application, apps_of, leaf_of, in_leaf, submitted, with_app, set_ask}
-use Rattle.ynl_model.specs.Cluster.{State, containers_on, runs, waits}
+use Rattle.ynl_model.specs.Cluster.{State, containers_on, is_master_what, runs, waits}
 use Rattle.ynl_model.specs.Changes.{place, end, app_finishes}
 use Rattle.ynl_model.specs.Service.{Item, master_item, asks_of, within_user_limit, within_master_share}
 use Rattle.ynl_laws.specs.Tabled.{Tabled}
@@ -70,3 +70,22 @@ abbrev pub DoLullsLastFinishing : Type 0
 DoLullsLastFinishing = (c : Config) (s : State) (found : Application) (label : Label) (leaf : Path)
     → IsOrdered c s → Kept s → Tabled s → IsKnown s.leaves found.leaf found.name → is_within leaf found.leaf ≡ false
     → Lasts c s (app_finishes c found s) label leaf
+
+-- what is asked for is placed: on other partitions than the node's each leaf stays as it was, its own too
+abbrev pub DoLullsLastPlacingElsewhere : Type 0
+DoLullsLastPlacingElsewhere = (c : Config) (s : State) (node : Node) (item : Item) (label : Label) (leaf : Path)
+    → Kept s → Tabled s → has_row s.partitions node.label ≡ true → IsKnown s.leaves item.leaf item.app → is_master_what item.what ≡ false → same_label label node.label ≡ false
+    → Lasts c s (place c node item s) label leaf
+
+-- a container of another partition ends
+abbrev pub DoLullsLastEndingElsewhere : Type 0
+DoLullsLastEndingElsewhere = (c : Config) (s : State) (container : Container) (label : Label) (leaf : Path)
+    → Kept s → Tabled s → has_row s.partitions container.id.label ≡ true → filter (λ k. same_id k.id container.id) (containers_on s container.id.label) ≡ container ∷ []
+    → same_label label container.id.label ≡ false
+    → Lasts c s (end c s container) label leaf
+
+-- an application asks under another label
+abbrev pub DoLullsLastAskingElsewhere : Type 0
+DoLullsLastAskingElsewhere = (c : Config) (s : State) (other : Path) (name : Name) (ask : AskRow) (label : Label) (leaf : Path)
+    → Kept s → Tabled s → same_label label ask.label ≡ false
+    → Lasts c s (record s { leaves = in_leaf other (with_app name (set_ask ask)) s.leaves }) label leaf

@@ -28,7 +28,7 @@ use Rattle.ynl_model.specs.Changes.{changed_at, container_of, place, taken, end,
 use Rattle.ynl_laws.specs.Lulls.{requests_of, requests_at, keeps_own_limits, Lasts, DoLullsLastPlacing, DoLullsLastEnding, DoLullsLastSubmitting, DoLullsLastAsking, DoLullsLastFinishing}
 use Rattle.ynl_laws.specs.Marks.{is_master_of}
 use Rattle.ynl_laws.specs.Owners.{owner}
-use Rattle.ynl_laws.specs.Sharers.{shares}
+use Rattle.ynl_laws.specs.Sharers.{shares, sharers}
 use Rattle.ynl_laws.specs.Tabled.{Tabled}
 use Rattle.ynl_laws.specs.Uses.{counts}
 use Rattle.ynl_laws.specs.Working.{IsKnown, Kept}
@@ -58,14 +58,35 @@ record Alike (s t : State) (label : Label) (leaf : Path) : Type 0 where
   pub nodes : total_on t.nodes label ≡ total_on s.nodes label
   pub maxima : t.maxima ≡ s.maxima
 
+-- two states limit a leaf alike on a partition: it has the same containers there, whose owners stay, the same users share it,
+-- and the partition's total and the maxima are the same
+pub record LimitsAlike (s t : State) (label : Label) (leaf : Path) : Type 0 where
+  pub own : filter (is_below s.leaves leaf) (containers_on t label) ≡ filter (is_below s.leaves leaf) (containers_on s label)
+  pub found : AllByRecursion (λ k. leaf_of t.leaves k.tenant k.app ≡ leaf_of s.leaves k.tenant k.app) (containers_on t label)
+  pub owners : (tenant name : Name) → is_in leaf (leaf_of s.leaves tenant name) ≡ true → owner t.leaves tenant name ≡ owner s.leaves tenant name
+  pub users : sharers t.leaves leaf label ≡ sharers s.leaves leaf label
+  pub nodes : total_on t.nodes label ≡ total_on s.nodes label
+  pub maxima : t.maxima ≡ s.maxima
+
+-- those that are alike limit it alike
+limits-alike : (s t : State) (label : Label) (leaf : Path) → Alike s t label leaf → LimitsAlike s t label leaf
+limits-alike s t label leaf h = record {
+  own = h.own label;
+  found = h.found;
+  owners = h.owners;
+  users = ap (λ apps. map (λ (app : Application). app.user) (filter (shares label) apps)) h.apps;
+  nodes = h.nodes;
+  maxima = h.maxima;
+}
+
 -- ---- the limits
 
-module _ (c : Config) (s t : State) (label : Label) (leaf : Path) (h : Alike s t label leaf) where
+module _ (c : Config) (s t : State) (label : Label) (leaf : Path) (h : LimitsAlike s t label leaf) where
   -- the same containers count
   counted-same : counted t leaf label ≡ counted s leaf label
   counted-same =
       filter-agree (λ k. leaf_of t.leaves k.tenant k.app ≡ leaf_of s.leaves k.tenant k.app) (counts t.leaves leaf) (counts s.leaves leaf) (λ k e i. not (is_guest k) && is_in leaf (e i)) (containers_on t label) h.found
-      ∙ sym (within (containers_on t label)) ∙ ap (filter (counts s.leaves leaf)) (h.own label) ∙ within (containers_on s label)
+      ∙ sym (within (containers_on t label)) ∙ ap (filter (counts s.leaves leaf)) h.own ∙ within (containers_on s label)
     where
       within : (ks : List Container) → filter (counts s.leaves leaf) (filter (is_below s.leaves leaf) ks) ≡ filter (counts s.leaves leaf) ks
       within ks = filter-filter (is_below s.leaves leaf) (counts s.leaves leaf) (λ k e. (and_parts (not (is_guest k)) _ e).1) ks
@@ -100,7 +121,7 @@ module _ (c : Config) (s t : State) (label : Label) (leaf : Path) (h : Alike s t
 
   users-same : users t leaf label ≡ users s leaf label
   unfolding users
-  users-same = ap (λ apps. max 1 (length (distinct (map (λ (app : Application). app.user) (filter (shares label) apps))))) h.apps
+  users-same = ap (λ names. max 1 (length (distinct names))) h.users
 
   -- a user's limit
   user_limit-same : (size : Resource) → user_limit c t leaf label size ≡ user_limit c s leaf label size
@@ -121,7 +142,7 @@ module _ (c : Config) (s t : State) (label : Label) (leaf : Path) (h : Alike s t
   share-same (Asked asked priority) size = refl
 
 -- a request of the leaf keeps the limits in both states, or in neither
-limits-same : (c : Config) (s t : State) (label : Label) (item : Item) → Alike s t label item.leaf → keeps_own_limits c t label item ≡ keeps_own_limits c s label item
+limits-same : (c : Config) (s t : State) (label : Label) (item : Item) → LimitsAlike s t label item.leaf → keeps_own_limits c t label item ≡ keeps_own_limits c s label item
 unfolding within_user_limit
 limits-same c s t label item h = λ i.
     fits_in (plus (user-same c s t label item.leaf h item.user i) item.size) (user_limit-same c s t label item.leaf h item.size i)
@@ -176,20 +197,21 @@ requests-own s label leaf apps own = Each-append (λ (item : Item). item.leaf �
     asked : (app : Application) → app.leaf ≡ leaf → (asks : List AskRow) → AllByRecursion (λ item. item.leaf ≡ leaf) (map (ask_item app) asks)
     asked app at asks = Each-map (λ (ask : AskRow). app.leaf ≡ leaf) (λ (item : Item). item.leaf ≡ leaf) (ask_item app) (λ ask e. e) asks (Each-all (λ (ask : AskRow). app.leaf ≡ leaf) (λ ask. at) asks)
 
--- what is a lull in one of two states that are alike is one in the other
-lasts : (c : Config) (s t : State) (label : Label) (leaf : Path) → Kept s → Tabled s → Alike s t label leaf → Lasts c s t label leaf
-lasts c s t label leaf kept tabled h least room lull = record {
-  above = subst (AllByRecursion (λ item. fits_in least item.size ≡ true)) (sym same) lull.above;
-  none = subst (AllByRecursion (λ item. fits_in item.size room ≡ true → keeps_own_limits c t label item ≡ false)) (sym same)
+-- what is a lull in one of two states that limit the leaf alike is one in the other, where what holds of all requests in the one holds of all in the other
+pub lasts-limited : (c : Config) (s t : State) (label : Label) (leaf : Path) → Kept s → Tabled s → LimitsAlike s t label leaf
+    → ((P : Item → Type 0) → AllByRecursion P (requests_at s label leaf) → AllByRecursion P (requests_at t label leaf)) → Lasts c s t label leaf
+lasts-limited c s t label leaf kept tabled h stay least room lull = record {
+  above = stay (λ item. fits_in least item.size ≡ true) lull.above;
+  none = stay (λ item. fits_in item.size room ≡ true → keeps_own_limits c t label item ≡ false)
       (Each-with (λ item. item.leaf ≡ leaf) (λ item. fits_in item.size room ≡ true → keeps_own_limits c s label item ≡ false) (λ item. fits_in item.size room ≡ true → keeps_own_limits c t label item ≡ false)
-      (λ item at no fits. limits-same c s t label item (subst (Alike s t label) (sym at) h) ∙ no fits) (requests_at s label leaf) (requests-own s label leaf (apps_of s.leaves leaf) own) lull.none);
+      (λ item at no fits. limits-same c s t label item (subst (LimitsAlike s t label) (sym at) h) ∙ no fits) (requests_at s label leaf)
+      (requests-own s label leaf (apps_of s.leaves leaf) (own-apps s leaf kept tabled)) lull.none);
 }
-  where
-    own : AllByRecursion (IsOwn s leaf) (apps_of s.leaves leaf)
-    own = own-apps s leaf kept tabled
 
-    same : requests_at t label leaf ≡ requests_at s label leaf
-    same = requests-same s t label leaf h own
+-- so it is where they are alike altogether
+lasts : (c : Config) (s t : State) (label : Label) (leaf : Path) → Kept s → Tabled s → Alike s t label leaf → Lasts c s t label leaf
+lasts c s t label leaf kept tabled h =
+    lasts-limited c s t label leaf kept tabled (limits-alike s t label leaf h) (λ P. subst (AllByRecursion P) (sym (requests-same s t label leaf h (own-apps s leaf kept tabled))))
 
 -- ---- other leaves
 

@@ -247,7 +247,7 @@ counts-down user rows names fewer is h = record { apart = apart-down user rows h
 -- ---- leaves
 
 -- the applications of a leaf, once one leaf is changed
-apps-changed : (changed leaf : Path) (change : LeafApps → LeafApps) (at : List Application → List Application) → ((row : LeafApps) → (change row).leaf ≡ row.leaf) → ((row : LeafApps) → (change row).apps ≡ at row.apps) → (leaves : List LeafApps) →
+pub apps-changed : (changed leaf : Path) (change : LeafApps → LeafApps) (at : List Application → List Application) → ((row : LeafApps) → (change row).leaf ≡ row.leaf) → ((row : LeafApps) → (change row).apps ≡ at row.apps) → (leaves : List LeafApps) →
     (list_any (λ row. same_path row.leaf changed) leaves ≡ true) ⊎ (at [] ≡ []) → apps_of (in_leaf changed change leaves) leaf ≡ cond (same_path changed leaf) (at (apps_of leaves leaf)) (apps_of leaves leaf)
 apps-changed changed leaf change at named is leaves there =
     ap (λ o. option_map_or (λ (row : LeafApps). row.apps) o []) (find-through (λ row. if same_path row.leaf changed then change row else row) (λ row. same_path row.leaf leaf)
