@@ -52,8 +52,9 @@ capacities_on c label = map (λ row. capacity_on c row.path label) c.queues
 abbrev pub AreShares : Config → LabelShares → Type 0
 AreShares c shares = shares.capacities.items ≡ capacities_on c shares.label
 
--- what is kept is that of the configuration's queues
+-- what is kept is that of the configuration's queues, in their order
 pub record IsIndexOf (c : Config) (index : QueueIndex) : Type 0 where
   pub rows : All (IsKeptOf c.queues) index.rows.items
+  pub paths : map (λ row. row.path) index.rows.items ≡ map (λ row. row.path) c.queues
   pub places : ArePlaces c.queues index.places
   pub shares : All (AreShares c) index.shares.items

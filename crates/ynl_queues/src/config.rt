@@ -17,13 +17,25 @@ use ynl_resource::{Hundredths, Label, Name, Size};
 /// What does not change while a cluster runs: the labels, the queues below root, the most containers
 /// that a heartbeat places, and the largest request. An index of the queues may be kept beside them,
 /// which no contract sees.
-#[derive(Drop)]
 pub struct Config {
     labels: Labels,
     tree: QueueTree,
     containers_per_heartbeat: u32,
     maximum_allocation: Size,
     index: Option<QueueIndex>,
+}
+
+// By hand, so that crates above call it: one that is derived is proved anew in each of them, with all that it holds.
+impl Drop for Config {
+    fn drop(self) {
+        let Config {
+            labels: _,
+            tree: _,
+            containers_per_heartbeat: _,
+            maximum_allocation: _,
+            index: _,
+        } = self;
+    }
 }
 
 impl Model for Config {
@@ -82,7 +94,14 @@ impl Config {
     pub(crate) fn into_tree(self) -> QueueTree
         ensures { result ≡ self.queues }
     {
-        self.tree
+        let Config {
+            labels: _,
+            tree,
+            containers_per_heartbeat: _,
+            maximum_allocation: _,
+            index: _,
+        } = self;
+        tree
     }
 
     /// The same configuration with an index of its queues.
@@ -99,29 +118,22 @@ impl Config {
         requires { IsIndexOf self index }
         ensures { result ≡ self }
     {
-        Config {
-            labels: self.labels,
-            tree: self.tree,
-            containers_per_heartbeat: self.containers_per_heartbeat,
-            maximum_allocation: self.maximum_allocation,
-            index: Some(index),
-        }
+        let mut config = self;
+        config.index = Some(index);
+        config
     }
 
     fn with_shares(self, shares: Vec<LabelShares>) -> Config
         requires { All (AreShares self) shares.items }
         ensures { result ≡ self }
     {
-        Config {
-            labels: self.labels,
-            tree: self.tree,
-            containers_per_heartbeat: self.containers_per_heartbeat,
-            maximum_allocation: self.maximum_allocation,
-            index: match self.index {
-                Some(index) => Some(index.with_shares(shares)),
-                None => None,
-            },
-        }
+        let mut config = self;
+        let index = match config.index.take() {
+            Some(index) => Some(index.with_shares(shares)),
+            None => None,
+        };
+        config.index = index;
+        config
     }
 
     /// The index, where there is one.

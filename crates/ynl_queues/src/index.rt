@@ -1,6 +1,6 @@
 //! An index of the queues, and how it is built.
 
-ghost use Rattle.std.specs.Prelude.{◌≡◌, map, IfOk, IfSome, OnOk, List, Some, None, if◌then◌else◌};
+ghost use Rattle.std.specs.Prelude.{◌≡◌, [], ◌∷◌, ◌++◌, map, slice_index_or, IfOk, IfSome, OnOk, List, Some, None, if◌then◌else◌};
 ghost use Rattle.std.specs.List.{All, position};
 ghost use Rattle.std.specs.Option.{option_or};
 ghost use Rattle.ynl_resource.specs.Names.{same_path};
@@ -77,12 +77,20 @@ impl QueueIndex {
         place_of(&self.places, queue)
     }
 
+    /// What is kept of the queue at a place.
+    pub fn row_at(&self, place: usize) -> Option<&IndexRow>
+        ensures kept { (rows : List Row) → All (IsKeptOf rows) self.now.rows.items → IfSome result (λ row. IsKeptOf rows row.now) }
+        ensures path { (rows : List Row) (d : Row) → map (λ row. row.path) self.now.rows.items ≡ map (λ row. row.path) rows → IfSome result (λ row. row.now.path ≡ (slice_index_or rows place d).path) }
+    {
+        self.rows.get(place)
+    }
+
     /// What is kept of the queue at a place, where that is its path.
     pub fn row(&self, place: usize, path: &[Name]) -> Option<&IndexRow>
         ensures kept { (rows : List Row) → All (IsKeptOf rows) self.now.rows.items → IfSome result (λ row. IsKeptOf rows row.now) }
         ensures path { IfSome result (λ row. row.now.path ≡ path.now) }
     {
-        let row = self.rows.get(place)?;
+        let row = self.row_at(place)?;
         if row.path.names() == path {
             Some(row)
         } else {
@@ -159,7 +167,8 @@ fn push_row(
     path: &Path,
 ) -> Result<(), AllocError>
     requires { ArePlaces rows.now places.now }
-    ensures { OnOk result (All (IsKeptOf rows.now) kept.old.items → All (IsKeptOf rows.now) kept.new.items) }
+    ensures kept { OnOk result (All (IsKeptOf rows.now) kept.old.items → All (IsKeptOf rows.now) kept.new.items) }
+    ensures paths { OnOk result (map (λ row. row.path) kept.new.items ≡ map (λ row. row.path) kept.old.items ++ path.now ∷ []) }
 {
     let steps = steps_to(alloc, places, path.names())?;
     kept.push(IndexRow {
@@ -177,7 +186,8 @@ fn all_rows(
     places: &BTreeMap<Vec<Name>, usize>,
 ) -> Result<Vec<IndexRow>, AllocError>
     requires { ArePlaces rows.now places.now }
-    ensures { IfOk result (λ kept. All (IsKeptOf rows.now) kept.items) }
+    ensures kept { IfOk result (λ kept. All (IsKeptOf rows.now) kept.items) }
+    ensures paths { IfOk result (λ kept. map (λ row. row.path) kept.items ≡ map (λ row. row.path) rows.now) }
 {
     let mut kept = Vec::with_capacity(alloc, rows.len())?;
     for row in rows {

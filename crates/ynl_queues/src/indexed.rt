@@ -38,6 +38,18 @@ impl Config {
         }
     }
 
+    /// The same of the queue that stands at a place, with no look at its path: nothing where there is no index, where
+    /// no queue has the place, or where a queue above it has no row.
+    pub fn steps_at(&self, place: usize) -> Option<&[usize]>
+        ensures { IfSome result (λ steps. (d : QueueRow) → AreSteps self.now.queues (slice_index_or self.now.queues place d).path steps.now) }
+    {
+        let row = self.index()?.row_at(place)?;
+        match &row.steps {
+            Some(steps) => Some(steps),
+            None => None,
+        }
+    }
+
     /// What each queue's capacity on a partition is, in the order of the configuration; nothing where
     /// there is no index or no such partition.
     pub fn capacities(&self, label: &Label) -> Option<&[Hundredths]>

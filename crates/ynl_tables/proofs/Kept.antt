@@ -1,5 +1,5 @@
 -- What is kept of use, as it is read.
-use Rattle.std.proofs.Common.{◌≡◌, ℕ, ◌<◌, Bool, true, false, cond, ◌||◌, List, [], ◌∷◌, length, get_or, map, filter, find, Option, Some, None, IfSome, option_map, refl, sym, ap, ◌∙◌, arith}
+use Rattle.std.proofs.Common.{◌≡◌, ℕ, ◌<◌, Bool, true, false, cond, ◌||◌, List, [], ◌∷◌, length, get_or, map, filter, find, Option, Some, None, IfSome, option_map, refl, sym, ap, subst, ◌∙◌, arith}
 use Rattle.std.specs.Prelude.{nat_lt}
 use Rattle.std.specs.List.{list_any}
 use Rattle.std.specs.Option.{option_map_or}
@@ -22,7 +22,7 @@ use Rattle.ynl_tables.specs.Bounds.{IsBounded, IsTotal}
 use Rattle.ynl_resource.specs.declared.amounts.Resource.{Resource}
 use Rattle.ynl_resource.specs.declared.names.Name.{Name}
 use Rattle.ynl_tables.specs.declared.sums.Sums.{Sums}
-use Rattle.ynl_tables.specs.Kept.{IsSummed, AreSummed, stands_on}
+use Rattle.ynl_tables.specs.Kept.{AreByUser, IsSummed, AreSummed, stands_on}
 use Rattle.ynl_tables.specs.Living.{live_in}
 use Rattle.ynl_tables.specs.Numbers.{IsNumberOf, queue_at}
 use Rattle.ynl_tables.specs.Sums.{sizes_for, IsSumFor}
@@ -101,6 +101,15 @@ kept_uses t label row h e =
     let there : containers_on (state_of t) label ≡ live_in row.label row.containers.items = row_holds t label row e in
     (summed_row t.numbers leaves t.partitions.items label row h e).uses
     ∙ (λ i. map (λ queue. (sym (ap (use_by leaves queue) there) ∙ sym (use-is (state_of t) label queue)) i) (root ∷ t.numbers))
+
+-- what is kept of all users is what they use
+pub kept_users : (t : Tables) (label : Label) (row : PartitionRow) (users : List Sums) → AreSummed t.numbers (leaves_of t.leaves.items) t.partitions.items → Some row ≡ find (λ row. same_label row.label label) t.partitions.items
+    → users ≡ row.users.items → AreByUser t.numbers (leaves_of t.leaves.items) users (containers_on (state_of t) label)
+kept_users t label row users h e read =
+    let leaves : List LeafApps = leaves_of t.leaves.items in
+    let there : containers_on (state_of t) label ≡ live_in row.label row.containers.items = row_holds t label row e in
+    subst (λ (users : List Sums). AreByUser t.numbers leaves users (containers_on (state_of t) label)) (sym read)
+    (subst (λ (ks : List Placed). AreByUser t.numbers leaves row.users.items ks) (sym there) (summed_row t.numbers leaves t.partitions.items label row h e).users)
 
 -- what is kept of use is small
 pub used_small : (s : State) (p : Label) (queue : Path) (kept : Use) → IsBounded s → kept ≡ use_of s p queue → IsTotal kept.used

@@ -1,6 +1,6 @@
 -- Leaves that stand next to each other below one queue.
-use Rattle.std.specs.Prelude.{◌≡◌, ℕ, ◌<◌, ◌≤◌, Bool, true, ◌&&◌, not, List, length, filter, slice_index_or}
-use Rattle.std.specs.List.{list_any}
+use Rattle.std.specs.Prelude.{◌≡◌, ℕ, ◌<◌, ◌≤◌, Bool, true, ◌&&◌, not, List, length, map, filter, slice_index_or}
+use Rattle.std.specs.List.{All, list_any}
 use Rattle.ynl_resource.specs.Names.{root, is_within, same_path}
 use Rattle.ynl_resource.specs.declared.paths.Path.{Path}
 use Rattle.ynl_model.specs.Accepted.{parent_of}
@@ -16,6 +16,11 @@ leaf_paths queues = filter (is_leaf_of queues) queues
 -- the path of the leaf at a place
 abbrev pub leaf_at : List Path → ℕ → Path
 leaf_at leaves place = slice_index_or leaves place root
+
+-- the places among some queues of those that are leaves, in their order
+pub record AreLeafPlaces (queues : List Path) (places : List ℕ) : Type 0 where
+  pub inside : All (λ place. place < length queues) places
+  pub leaves : map (λ place. slice_index_or queues place root) places ≡ leaf_paths queues
 
 -- a place after that of a leaf, before which all from it on have one parent
 pub record IsEnd (leaves : List Path) (place end : ℕ) : Type 0 where

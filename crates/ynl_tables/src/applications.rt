@@ -4,9 +4,10 @@ ghost use Rattle.std.specs.Prelude.{◌≡◌};
 ghost use Rattle.ynl_resource.specs.Names.{tenant_of};
 ghost use Rattle.ynl_model.specs.Applications.{is_used};
 ghost use Rattle.ynl_model.specs.Events.{has_most_apps, home_of};
+ghost use Rattle.ynl_tables.specs.Numbers.{AreNumbered};
 ghost use Rattle.ynl_tables.specs.Tables.{state_of, leaves_of};
 
-use crate::tables::{Tables, apps_at, leaf_row_of, tenant_bytes};
+use crate::tables::{Tables, apps_at, leaf_row_beside};
 use ynl_queues::Config;
 use ynl_resource::{Label, Name, Path};
 
@@ -23,9 +24,10 @@ pub fn home_of(config: &Config, queue: &Path, label: Option<Label>) -> Label
 /// Whether the tenant of a queue ever had an application of that name.
 #[tactic(auto, unfolding(ynl_model::specs::Applications::leaf_of))]
 pub fn is_used(tables: &Tables, queue: &Path, name: &Name) -> bool
+    requires { AreNumbered tables.now.numbers (leaves_of tables.now.leaves.items) }
     ensures { result ≡ is_used (leaves_of tables.now.leaves.items) (tenant_of queue.now) name.now }
 {
-    leaf_row_of(&tables.leaves, tenant_bytes(queue), name).is_some()
+    leaf_row_beside(&tables.numbers, &tables.leaves, queue, name).is_some()
 }
 
 /// Whether a leaf has as many live applications as it may have.

@@ -18,7 +18,9 @@ pub use live::{Live, live_at};
 pub use named::{place_of, spot_of};
 pub use numbers::QueueNumbers;
 pub use polling::{own_containers, pending_on};
-pub use queue_use::{free, guests, masters_used, no_master_in, runs, used, user_used, uses_on};
+pub use queue_use::{
+    free, guests, masters_used, no_master_in, runs, used, user_used, users_on, uses_on,
+};
 pub use resting::{rest, wake};
 pub use rows::{App, ContainerRow, Kind, LeafPart, LeafRow, Near, PartitionRow};
 pub use sharing::{shares, users};

@@ -1,6 +1,6 @@
 //! The numbers of queues, by which it is kept what they use.
 
-ghost use Rattle.std.specs.Prelude.{◌≡◌, ◌<◌, ◌+◌, ◌^◌, ◌++◌, ◌∷◌, [], true, length, map, find, option_map, IfOk, IfSome, OnOk, if◌then◌else◌};
+ghost use Rattle.std.specs.Prelude.{◌≡◌, ◌<◌, ◌+◌, ◌^◌, ◌++◌, ◌∷◌, [], true, length, map, slice_index_or, find, option_map, IfOk, IfSome, OnOk, if◌then◌else◌};
 ghost use Rattle.std.specs.List.{AllByRecursion, list_any, position};
 ghost use Rattle.ynl_resource.specs.Names.{root, is_within, same_path, tenant_of};
 ghost use Rattle.ynl_laws.specs.Ways.{IsWay};
@@ -10,7 +10,7 @@ ghost use Rattle.ynl_tables.specs.Tables.{leaves_of};
 ghost use Rattle.ynl_tables.specs.Tenants.{IsOnward};
 
 use crate::rows::Way;
-use crate::siblings::{ends_of, leaves_in};
+use crate::siblings::{ends_of, leaf_places, paths_at};
 use crate::tables::tenant_bytes;
 use crate::tenants::Tenants;
 use std::alloc::{AllocError, Global};
@@ -19,12 +19,13 @@ use ynl_queues::{Config, is_within};
 use ynl_resource::{Name, Path};
 
 /// The numbers of the queues of a configuration. Root has number 0, and the queues below follow in
-/// the order of the configuration; and of its leaves which stand next to each other below one queue, and which are of one
-/// tenant. A contract sees the queues below root.
+/// the order of the configuration; and of its leaves where they stand among these, which stand next to each other below
+/// one queue, and which are of one tenant. A contract sees the queues below root.
 #[derive(Drop)]
 pub struct QueueNumbers {
     queues: Vec<Path>,
     ways: Vec<Way>,
+    places: Vec<usize>,
     leaves: Vec<Path>,
     ends: Vec<usize>,
     tenants: Tenants,
@@ -49,12 +50,14 @@ impl QueueNumbers {
     {
         let queues = paths_of(alloc, config)?;
         let ways = ways_to(alloc, &queues)?;
-        let leaves = leaves_in(alloc, config)?;
+        let places = leaf_places(alloc, config, &queues)?;
+        let leaves = paths_at(alloc, &queues, &places)?;
         let ends = ends_of(alloc, &leaves)?;
         let tenants = Tenants::new(alloc, &leaves)?;
         Ok(QueueNumbers {
             queues,
             ways,
+            places,
             leaves,
             ends,
             tenants,
@@ -124,6 +127,16 @@ impl QueueNumbers {
         self.way(queue)
     }
 
+    /// The place among the queues below root of the leaf that has a place among the leaves.
+    pub fn queue_of(&self, place: usize) -> usize
+        requires { place < length (leaf_paths self.now) }
+        ensures inside { result < length self.now }
+        ensures leaf { slice_index_or self.now result root ≡ leaf_at (leaf_paths self.now) place }
+    {
+        let places = self.places.as_slice();
+        places[place]
+    }
+
     /// A place after that of a leaf, before which all leaves from it on are within a queue: past those that stand next
     /// to it below its parent, if the queue is not the leaf itself.
     pub fn after_leaf(&self, place: usize, queue: &[Name]) -> usize
@@ -149,7 +162,7 @@ impl QueueNumbers {
 
     /// A place after another, before which no leaf after the other is a tenant's; the tenant is given by the bytes
     /// of its name.
-    fn next_by(&self, place: usize, tenant: &[u8]) -> usize
+    pub(crate) fn next_by(&self, place: usize, tenant: &[u8]) -> usize
         requires { place < length (leaf_paths self.now) }
         ensures after { place < result }
         ensures onward { IsOnward (leaf_paths self.now) tenant.now (place + 1) result }

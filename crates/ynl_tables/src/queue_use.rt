@@ -10,12 +10,13 @@ ghost use Rattle.ynl_tables.specs.Living.{is_live_and};
 ghost use Rattle.ynl_tables.specs.Tables.{state_of, app_of, leaves_of};
 ghost use Rattle.ynl_laws.specs.Uses.{counts, use_of};
 ghost use Rattle.ynl_tables.specs.Bounds.{IsBounded, IsReadable, IsTotal};
-ghost use Rattle.ynl_tables.specs.Kept.{IsKept};
+ghost use Rattle.ynl_tables.specs.Kept.{AreByUser, IsKept};
 ghost use Rattle.ynl_tables.specs.Marked.{IsMarkedApp};
 ghost use Rattle.ynl_tables.specs.Uses.{is_counted};
 
 use crate::containers::container_of;
 use crate::rows::{App, ContainerRow, LeafRow};
+use crate::sums::Sums;
 use crate::tables::{Tables, containers_at, partition_row};
 use crate::uses::{Counted, counts, is_master, used_by, used_on};
 use ynl_model::{Node, Use};
@@ -29,6 +30,18 @@ pub fn uses_on<'a>(tables: &'a Tables, label: &Label) -> Option<&'a [Use]>
 {
     match partition_row(&tables.partitions, label) {
         Some(row) => Some(&row.uses),
+        None => None,
+    }
+}
+
+/// What is kept of what users use of a partition: for all queues, root first, as `uses_on` has them. Nothing where
+/// the configuration has no such partition.
+pub fn users_on<'a>(tables: &'a Tables, label: &Label) -> Option<&'a [Sums]>
+    requires { IsKept tables.now }
+    ensures { IfSome result (λ users. AreByUser tables.now.numbers (state_of tables.now).leaves users.now (containers_on (state_of tables.now) label.now)) }
+{
+    match partition_row(&tables.partitions, label) {
+        Some(row) => Some(&row.users),
         None => None,
     }
 }

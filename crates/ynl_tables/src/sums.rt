@@ -1,6 +1,6 @@
 //! What containers come to, by the names for which they count.
 
-ghost use Rattle.std.specs.Prelude.{◌≡◌, Bool, []};
+ghost use Rattle.std.specs.Prelude.{◌≡◌, Bool, List, []};
 ghost use Rattle.ynl_resource.specs.Amounts.{plus, less, IsSize, IsSmall};
 ghost use Rattle.ynl_resource.specs.declared.names.Name.{Name};
 ghost use Rattle.ynl_model.specs.declared.containers.Placed.{Placed};
@@ -19,7 +19,7 @@ struct Sum {
 }
 
 /// What containers come to, by the names for which they count: kept while there is memory for it. Where
-/// that was refused nothing is kept, and each sum has to be worked out.
+/// that was refused, or it is not wanted, nothing is kept, and each sum has to be worked out.
 #[derive(Drop)]
 pub struct Sums {
     entries: Option<BTreeMap<Name, Sum>>,
@@ -67,6 +67,13 @@ impl Sums {
         Sums {
             entries: Some(BTreeMap::new(alloc)),
         }
+    }
+
+    /// Nothing is kept, whatever containers there are.
+    pub fn none() -> Sums
+        ensures { (counts : Name → Placed → Bool) (containers : List Placed) → AreSums counts result containers }
+    {
+        Sums { entries: None }
     }
 
     /// What the containers that count for a name come to, where it is kept.

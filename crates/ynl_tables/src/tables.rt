@@ -12,7 +12,9 @@ ghost use Rattle.ynl_tables.specs.Living.{live_in, row_clock};
 ghost use Rattle.ynl_tables.specs.Marked.{AreMarkedIn, AreMarked};
 ghost use Rattle.ynl_tables.specs.Numbers.{AreNumbered};
 ghost use Rattle.ynl_tables.specs.Rising.{numbers_rise};
+ghost use Rattle.ynl_tables.specs.Siblings.{leaf_paths};
 ghost use Rattle.ynl_tables.specs.Tables.{leaf_of_row, leaves_of, partition_of, partitions_of, app_of};
+ghost use Rattle.ynl_tables.specs.Tenants.{IsOnward};
 
 use crate::numbers::QueueNumbers;
 use crate::rows::{App, ContainerRow, LeafRow, PartitionRow};
@@ -21,7 +23,6 @@ use ynl_nodes::Nodes;
 use ynl_resource::{Label, Name, Path};
 
 /// The tables of a cluster.
-#[derive(Drop)]
 pub struct Tables {
     pub nodes: Nodes,
     pub partitions: Vec<PartitionRow>,
@@ -29,6 +30,20 @@ pub struct Tables {
     pub stops: Stops,
     pub maxima: Maxima,
     pub numbers: QueueNumbers,
+}
+
+// By hand, so that crates above call it: one that is derived is proved anew in each of them, with all that it holds.
+impl Drop for Tables {
+    fn drop(self) {
+        let Tables {
+            nodes: _,
+            partitions: _,
+            leaves: _,
+            stops: _,
+            maxima: _,
+            numbers: _,
+        } = self;
+    }
 }
 
 /// Whether two labels name the same partition.
@@ -122,23 +137,25 @@ pub fn leaf_row_of<'a>(rows: &'a [LeafRow], tenant: &[u8], name: &Name) -> Optio
     submitted_row(rows, tenant, name)
 }
 
-/// That of a tenant whose name is given, where the leaves have numbers: only the tenant's are looked at.
-fn submitted_by<'a>(
+/// The same, where the leaves have numbers, and the tenant has none before a place: only the tenant's are looked at.
+fn submitted_from<'a>(
     numbers: &QueueNumbers,
     rows: &'a [LeafRow],
-    tenant: &Name,
+    first: usize,
+    tenant: &[u8],
     name: &Name,
 ) -> Option<&'a LeafRow>
-    requires { AreNumbered numbers.now (leaves_of rows.now) }
+    requires numbered { AreNumbered numbers.now (leaves_of rows.now) }
+    requires first { IsOnward (leaf_paths numbers.now) tenant.now 0 first }
     ensures { option_map (λ r. r.now) result ≡ find (λ row. same_name (tenant_of row.path) tenant.now && list_any (same_name name.now) row.names.items) rows.now }
 {
-    let mut place = numbers.first_of(tenant);
+    let mut place = first;
     while place < rows.len() {
         let row = &rows[place];
-        if is_submitted(row, tenant.as_bytes(), name) {
+        if is_submitted(row, tenant, name) {
             return Some(row);
         }
-        place = numbers.next_of(place, tenant);
+        place = numbers.next_by(place, tenant);
     }
     None
 }
@@ -154,7 +171,22 @@ pub fn leaf_row_by<'a>(
     ensures meaning { option_map (λ r. leaf_of_row r.now) result ≡ row_of (leaves_of rows.now) tenant.now name.now }
     ensures marks { (s : State) → AreMarked s rows.now → IfSome result (λ r. AreMarkedIn s r.now) }
 {
-    submitted_by(numbers, rows, tenant, name)
+    let first = numbers.first_of(tenant);
+    submitted_from(numbers, rows, first, tenant.as_bytes(), name)
+}
+
+/// The row of the leaf to which an application of that name was submitted by the tenant of a queue.
+pub(crate) fn leaf_row_beside<'a>(
+    numbers: &QueueNumbers,
+    rows: &'a [LeafRow],
+    queue: &Path,
+    name: &Name,
+) -> Option<&'a LeafRow>
+    requires { AreNumbered numbers.now (leaves_of rows.now) }
+    ensures { option_map (λ r. leaf_of_row r.now) result ≡ row_of (leaves_of rows.now) (tenant_of queue.now) name.now }
+{
+    let first = numbers.first_beside(queue);
+    submitted_from(numbers, rows, first, tenant_bytes(queue), name)
 }
 
 fn leaf_row<'a>(rows: &'a [LeafRow], leaf: &Path) -> Option<&'a LeafRow>
