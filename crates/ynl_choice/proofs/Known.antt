@@ -13,7 +13,7 @@ use Rattle.ynl_laws.specs.Lulls.{IsLull}
 use Rattle.ynl_choice.specs.declared.lulls.Lull.{Lull}
 use Rattle.ynl_choice.specs.declared.lulls.Lulls.{Lulls}
 use Rattle.ynl_choice.specs.declared.blocks.PartLulls.{PartLulls}
-use Rattle.ynl_choice.specs.Lulls.{lull_at, AreFewer, AreLulls, ArePartLulls, IsFewer, IsGone, IsPartAt}
+use Rattle.ynl_choice.specs.Lulls.{lull_at, AreFewer, AreLulls, ArePartLulls, IsFewer, IsGone, IsPartAt, is_meant}
 use Rattle.ynl_choice.proofs.Placed.{each_at}
 
 -- ---- one partition
@@ -91,12 +91,15 @@ are_fewer_then a b c h k = record {
 }
 
 -- what is not known is not known of fewer
-pub still_gone : (place : ℕ) (old fewer : List PartLulls) → IsGone place old → AreFewer old fewer → IsGone place fewer
-still_gone place old fewer gone less at d inside = go (lull_at (get_or fewer at d) place) refl ((less.each at d inside).each place)
+pub still_gone : (on : Option Label) (place : ℕ) (old fewer : List PartLulls) → IsGone on place old → AreFewer old fewer → IsGone on place fewer
+still_gone on place old fewer gone less at d inside meant = go (lull_at (get_or fewer at d) place) refl ((less.each at d inside).each place)
   where
+    before : is_meant on (get_or old at d).label ≡ true
+    before = ap (is_meant on) (sym (less.each at d inside).label) ∙ meant
+
     go : (o : Option Lull) → lull_at (get_or fewer at d) place ≡ o → IfSome o (λ known. lull_at (get_or old at d) place ≡ Some known) → lull_at (get_or fewer at d) place ≡ None
     go None e k = e
-    go (Some known) e k = absurd (let none : None ≡ Some known = sym (gone at d (omega (arith, inside, less.len))) ∙ k in cc)
+    go (Some known) e k = absurd (let none : None ≡ Some known = sym (gone at d (omega (arith, inside, less.len)) before) ∙ k in cc)
 
 -- one partition of which fewer is known
 pub set_fewer : (first parts : List PartLulls) (i : ℕ) (old new : PartLulls) → i < length parts → old ≡ get_or parts i old → AreFewer first parts → IsFewer old new → AreFewer first (set parts i new)
@@ -107,10 +110,10 @@ set_fewer first parts i old new inside read less here = record {
       (λ k d within other e. subst (IsFewer (get_or first k e)) (get_or_default parts k e d within) (less.each k e within)) k d below d;
 }
 
-pub set_gone : (place : ℕ) (parts : List PartLulls) (i : ℕ) (new : PartLulls) → ((k : ℕ) (d : PartLulls) → k < i → k < length parts → lull_at (get_or parts k d) place ≡ None) → lull_at new place ≡ None
-    → (k : ℕ) (d : PartLulls) → k < i + 1 → k < length (set parts i new) → lull_at (get_or (set parts i new) k d) place ≡ None
-set_gone place parts i new gone here k d below inside =
-    set_each (λ k part. k < i + 1 → lull_at part place ≡ None) parts i new (λ _. here) (λ k d within other under. gone k d (omega (arith, under, other)) within) k d inside below
+pub set_gone : (on : Option Label) (place : ℕ) (parts : List PartLulls) (i : ℕ) (new : PartLulls) → ((k : ℕ) (d : PartLulls) → k < i → k < length parts → is_meant on (get_or parts k d).label ≡ true → lull_at (get_or parts k d) place ≡ None) → (is_meant on new.label ≡ true → lull_at new place ≡ None)
+    → (k : ℕ) (d : PartLulls) → k < i + 1 → k < length (set parts i new) → is_meant on (get_or (set parts i new) k d).label ≡ true → lull_at (get_or (set parts i new) k d) place ≡ None
+set_gone on place parts i new gone here k d below inside =
+    set_each (λ k part. k < i + 1 → is_meant on part.label ≡ true → lull_at part place ≡ None) parts i new (λ _. here) (λ k d within other under. gone k d (omega (arith, under, other)) within) k d inside below
 
 -- a partition of which nothing is known any more
 pub unknown_gone : (part : PartLulls) (place : ℕ) → part.is_known ≡ false → lull_at part place ≡ None
@@ -166,7 +169,7 @@ labels_stay parts at old new label other inside read same own d below =
 
 -- what is known of a partition stays right where the cluster changes, if of each leaf nothing is known or its lull lasts
 part_moved : (c : Config) (s new : State) (old fewer : PartLulls) → ArePartLulls c s old → IsFewer old fewer → length new.leaves ≡ length s.leaves
-    → ((place : ℕ) (d : LeafApps) → place < length new.leaves → (lull_at fewer place ≡ None) ⊎ ((label : Label) (least room : Resource) → IsLull c s label (get_or s.leaves place d).leaf least room → IsLull c new label (get_or new.leaves place d).leaf least room))
+    → ((place : ℕ) (d : LeafApps) → place < length new.leaves → (lull_at fewer place ≡ None) ⊎ ((least room : Resource) → IsLull c s fewer.label (get_or s.leaves place d).leaf least room → IsLull c new fewer.label (get_or new.leaves place d).leaf least room))
     → ArePartLulls c new fewer
 part_moved c s new old fewer h less len each place d inside = go (lull_at fewer place) refl (less.each place)
   where
@@ -177,23 +180,33 @@ part_moved c s new old fewer h less len each place d inside = go (lull_at fewer 
     go None e known = tt
     go (Some known) e k = move (each place d inside)
       where
-        move : (lull_at fewer place ≡ None) ⊎ ((label : Label) (least room : Resource) → IsLull c s label (get_or s.leaves place d).leaf least room → IsLull c new label (get_or new.leaves place d).leaf least room)
+        move : (lull_at fewer place ≡ None) ⊎ ((least room : Resource) → IsLull c s fewer.label (get_or s.leaves place d).leaf least room → IsLull c new fewer.label (get_or new.leaves place d).leaf least room)
             → IsLull c new fewer.label (get_or new.leaves place d).leaf known.least known.room
         move (inl gone) = absurd (let none : None ≡ Some known = sym gone ∙ e in cc)
-        move (inr lasts) = lasts fewer.label known.least known.room (subst (λ (label : Label). IsLull c s label (get_or s.leaves place d).leaf known.least known.room) (sym less.label) (there known k))
+        move (inr lasts) = lasts known.least known.room (subst (λ (label : Label). IsLull c s label (get_or s.leaves place d).leaf known.least known.room) (sym less.label) (there known k))
 
-pub lulls_moved : (c : Config) (s new : State) (old fewer : Lulls) → AreLulls c s old → AreFewer old.parts.items fewer.parts.items → length new.leaves ≡ length s.leaves
-    → ((place : ℕ) (d : LeafApps) → place < length new.leaves → IsGone place fewer.parts.items ⊎ ((label : Label) (least room : Resource) → IsLull c s label (get_or s.leaves place d).leaf least room → IsLull c new label (get_or new.leaves place d).leaf least room))
+-- the lull of the leaf at a place lasts on a partition
+abbrev pub LastsAt : Config → State → State → ℕ → LeafApps → Label → Type 0
+LastsAt c s new place d label = (least room : Resource) → IsLull c s label (get_or s.leaves place d).leaf least room → IsLull c new label (get_or new.leaves place d).leaf least room
+
+-- so on all partitions, if on those that are not meant each lull lasts, and on the others those that are left
+pub lulls_moved : (c : Config) (s new : State) (on : Option Label) (old fewer : Lulls) → AreLulls c s old → AreFewer old.parts.items fewer.parts.items → length new.leaves ≡ length s.leaves
+    → ((place : ℕ) (d : LeafApps) (label : Label) → place < length new.leaves → is_meant on label ≡ false → LastsAt c s new place d label)
+    → ((place : ℕ) (d : LeafApps) → place < length new.leaves → IsGone on place fewer.parts.items ⊎ ((label : Label) → LastsAt c s new place d label))
     → AreLulls c new fewer
-lulls_moved c s new old fewer h less len each at d inside =
-    part_moved c s new (get_or old.parts.items at d) (get_or fewer.parts.items at d) (h at d (omega (arith, inside, less.len))) (less.each at d inside) len (λ place row below. go place row (each place row below))
+lulls_moved c s new on old fewer h less len elsewhere each at d inside =
+    part_moved c s new (get_or old.parts.items at d) part (h at d (omega (arith, inside, less.len))) (less.each at d inside) len (λ place row below. go place row below (is_meant on part.label) refl (each place row below))
   where
-    go : (place : ℕ) (row : LeafApps) → IsGone place fewer.parts.items ⊎ ((label : Label) (least room : Resource) → IsLull c s label (get_or s.leaves place row).leaf least room → IsLull c new label (get_or new.leaves place row).leaf least room)
-        → (lull_at (get_or fewer.parts.items at d) place ≡ None) ⊎ ((label : Label) (least room : Resource) → IsLull c s label (get_or s.leaves place row).leaf least room → IsLull c new label (get_or new.leaves place row).leaf least room)
-    go place row (inl gone) = inl (gone at d inside)
-    go place row (inr lasts) = inr lasts
+    part : PartLulls
+    part = get_or fewer.parts.items at d
+
+    go : (place : ℕ) (row : LeafApps) → place < length new.leaves → (b : Bool) → is_meant on part.label ≡ b → IsGone on place fewer.parts.items ⊎ ((label : Label) → LastsAt c s new place row label)
+        → (lull_at part place ≡ None) ⊎ LastsAt c s new place row part.label
+    go place row below false e known = inr (elsewhere place row part.label below e)
+    go place row below true e (inl gone) = inl (gone at d inside e)
+    go place row below true e (inr lasts) = inr (lasts part.label)
 
 -- where nothing is known nothing is wrong
-pub none_known : (c : Config) (s : State) (lulls : Lulls) → ((place : ℕ) → IsGone place lulls.parts.items) → AreLulls c s lulls
+pub none_known : (c : Config) (s : State) (lulls : Lulls) → ((place : ℕ) → IsGone None place lulls.parts.items) → AreLulls c s lulls
 none_known c s lulls gone at d inside place row below =
-    subst (λ o. IfSome o (λ (lull : Lull). IsLull c s (get_or lulls.parts.items at d).label (get_or s.leaves place row).leaf lull.least lull.room)) (sym (gone place at d inside)) tt
+    subst (λ o. IfSome o (λ (lull : Lull). IsLull c s (get_or lulls.parts.items at d).label (get_or s.leaves place row).leaf lull.least lull.room)) (sym (gone place at d inside refl)) tt

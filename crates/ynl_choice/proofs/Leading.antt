@@ -1,5 +1,5 @@
 -- Leaves that stand behind those below the queue that stands first.
-use Rattle.std.proofs.Common.{◌≡◌, ℕ, zero, suc, ◌+◌, ◌<◌, ◌≤◌, Bool, true, false, List, [], ◌∷◌, length, get_or, take, drop, map, fold, nat_lt, refl, sym, ap, ◌∙◌, arith, add-one, take-take, length-take-le}
+use Rattle.std.proofs.Common.{◌≡◌, ℕ, zero, suc, ◌+◌, ◌<◌, ◌≤◌, Bool, true, false, List, [], ◌∷◌, length, get_or, take, drop, map, fold, nat_lt, refl, sym, ap, subst, ◌∙◌, arith, add-one, take-take, length-take-le}
 use Rattle.std.specs.Cmp.{IsTotalOrder}
 use Rattle.std.specs.Cmp.Lexicographic.{slice_cmp, lists_total}
 use Rattle.std.specs.Ordering.{is_lt, ordering_then, ordering_reverse}
@@ -8,17 +8,18 @@ use Rattle.std.specs.declared.cmp.Ordering.TheVariants.{Less, Equal, Greater}
 use Rattle.std.proofs.lemmas.Bool.{and_parts, OnTrue_at, OnTrue_from}
 use Rattle.std.proofs.lemmas.Bool.Decides.{nat_tests}
 use Rattle.std.proofs.lemmas.Cmp.{tied_itself}
-use Rattle.std.proofs.lemmas.List.{length-map, length-take}
+use Rattle.std.proofs.lemmas.List.{get_or-map, length-map, length-take}
 use mathlib.Core.Bool.{true≢false}
 use Rattle.ynl_resource.specs.Amounts.{scale_floor}
 use Rattle.ynl_resource.specs.Ranges.{whole}
-use Rattle.ynl_resource.specs.Names.{is_within, same_name, way_to}
+use Rattle.ynl_resource.specs.Names.{root, is_within, same_name, way_to}
 use Rattle.ynl_resource.specs.declared.amounts.Resource.{Resource}
 use Rattle.ynl_resource.specs.declared.paths.Path.{Path}
-use Rattle.ynl_model.specs.Queues.{capacity_on}
+use Rattle.ynl_model.specs.Queues.{QueueRow, capacity_on}
 use Rattle.ynl_model.specs.Service.{Standing, standing, standing_order}
 use Rattle.ynl_laws.proofs.Names.{same-name_sym}
 use Rattle.ynl_laws.proofs.Service.OrderTotal.{standing_order_total}
+use Rattle.ynl_queues.specs.Index.{AreSteps}
 use Rattle.ynl_queues.proofs.Prefixes.{length_way}
 use Rattle.ynl_tables.specs.Siblings.{leaf_paths}
 use Rattle.ynl_tables.specs.declared.rows.LeafRow.{LeafRow}
@@ -30,7 +31,7 @@ use Rattle.ynl_choice.specs.Choosing.{state_in, standings_to, guaranteed_after, 
 use Rattle.ynl_choice.specs.Likely.{path_at, comes_before, AreBehind, AreBelow, IsMark, IsLead}
 use Rattle.ynl_choice.specs.Lulls.{AreQuiet}
 use Rattle.ynl_choice.proofs.Before.{step-more, way-at}
-use Rattle.ynl_choice.proofs.Placing.{way_front}
+use Rattle.ynl_choice.proofs.Placing.{no_row, way_front}
 use Rattle.ynl_choice.proofs.Skipping.{paths_read, path_at as path-read}
 
 -- ---- paths with one front
@@ -55,6 +56,16 @@ taken-long n p q e long = omega (arith, length-take n p, ap length e, length-tak
 pub row-path : (scene : Scene) → IsScene scene → (place : ℕ) → place < length scene.tables.now.leaves.items → (row : LeafRow) → row ≡ get_or scene.tables.now.leaves.items place row → path_at scene place ≡ row.path
 row-path scene at place inside row read =
     path-read scene.tables.now.leaves.items (leaf_paths scene.tables.now.numbers) place row (paths_read scene.tables.now at.readable) inside ∙ ap (λ (row : LeafRow). row.path) (sym read)
+
+-- the steps to the queue that a leaf is are those to the leaf
+pub steps-to : (scene : Scene) → IsScene scene → (place at : ℕ) (steps : List ℕ) → at < length scene.tables.now.numbers → get_or scene.tables.now.numbers at root ≡ path_at scene place
+    → ((d : QueueRow) → AreSteps scene.config.now.queues (get_or scene.config.now.queues at d).path steps) → AreSteps scene.config.now.queues (path_at scene place) steps
+steps-to scene is place at steps inside same found =
+    let rows : List QueueRow = scene.config.now.queues in
+    let within : at < length rows = omega (arith, inside, ap length is.numbered, length-map rows (λ (row : QueueRow). row.path)) in
+    let path : (get_or rows at no_row).path ≡ path_at scene place =
+    sym (get_or-map (λ (row : QueueRow). row.path) rows at no_row root within) ∙ ap (λ (paths : List Path). get_or paths at root) (sym is.numbered) ∙ same in
+    subst (λ (queue : Path). AreSteps rows queue steps) path (found no_row)
 
 -- what is guaranteed after so many queues hangs on these
 pub same-guaranteed : (scene : Scene) (p q : Path) (depth : ℕ) → take depth p ≡ take depth q → guaranteed_after scene p depth ≡ guaranteed_after scene q depth

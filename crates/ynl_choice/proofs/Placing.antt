@@ -1,10 +1,10 @@
 -- What queues are given and use, read by their places.
-use Rattle.std.proofs.Common.{◌≡◌, ℕ, zero, suc, ◌+◌, ◌<◌, List, [], ◌∷◌, length, get_or, map, take, fold, refl, sym, ap, ◌∙◌, arith, add-one, Option}
+use Rattle.std.proofs.Common.{◌≡◌, ℕ, zero, suc, ◌+◌, ◌<◌, List, [], ◌∷◌, length, get_or, map, take, fold, refl, sym, ap, subst, ◌∙◌, arith, add-one, Option}
 use Rattle.std.specs.Option.{option_map_or}
 use Rattle.std.proofs.lemmas.List.{get_or-map, length-map, take-map}
 use Rattle.ynl_resource.specs.Amounts.{scale_floor}
 use Rattle.ynl_resource.specs.Ranges.{whole}
-use Rattle.ynl_resource.specs.Names.{way_to, top_level}
+use Rattle.ynl_resource.specs.Names.{root, way_to, top_level}
 use Rattle.ynl_resource.specs.declared.amounts.Resource.{Resource}
 use Rattle.ynl_resource.specs.declared.labels.Label.{Label}
 use Rattle.ynl_resource.specs.declared.names.Name.{Name}
@@ -17,12 +17,13 @@ use Rattle.ynl_model.specs.Service.{last_name}
 use Rattle.ynl_laws.specs.Uses.{use_of}
 use Rattle.ynl_queues.specs.Index.{IsPlaceOf}
 use Rattle.ynl_queues.proofs.Places.{place_path, place_row}
+use Rattle.ynl_tables.specs.declared.sums.Sums.{Sums}
 use Rattle.ynl_choice.specs.declared.boards.Board.{Board}
-use Rattle.ynl_choice.specs.Boards.{IsBoard}
+use Rattle.ynl_choice.specs.Boards.{AreUsersOf, IsBoard}
 
 -- ---- what stands at a place
 
-no_row : QueueRow
+pub no_row : QueueRow
 no_row = record { path = []; stopped = Rattle.std.proofs.Common.false; capacity = 0; maximum = 0; access = queues.Inherited; leaf = record { default_label = Rattle.ynl_resource.specs.declared.labels.Label.TheVariants.Unlabelled; minimum_user_limit_percent = 0; user_limit_factor = 0; maximum_am_resource_percent = 0; maximum_applications = 0 }; capacities = [] }
 
 module _ (c : Config) (s : State) (label : Label) (board : Board) (h : IsBoard c s label board) (queue : Path) (place : ℕ) (at : IsPlaceOf c.queues queue place) where
@@ -38,6 +39,14 @@ module _ (c : Config) (s : State) (label : Label) (board : Board) (h : IsBoard c
       ∙ ap (λ (xs : List Use). get_or xs (suc place) d) h.uses
       ∙ get_or-map (use_of s label) (map (λ (row : QueueRow). row.path) c.queues) place [] d (omega (arith, at.inside, length-map c.queues (λ (row : QueueRow). row.path)))
       ∙ ap (use_of s label) (get_or-map (λ (row : QueueRow). row.path) c.queues place no_row [] at.inside ∙ place_path c.queues queue place at no_row)
+
+  pub users_at : (sums : Sums) → sums ≡ get_or board.users.now (place + 1) sums → AreUsersOf s label queue sums
+  users_at sums read =
+      let queues : List Path = map (λ (row : QueueRow). row.path) c.queues in
+      let inside : place < length queues = omega (arith, at.inside, length-map c.queues (λ (row : QueueRow). row.path)) in
+      let is : get_or (root ∷ queues) (place + 1) root ≡ queue =
+      ap (λ (n : ℕ). get_or (root ∷ queues) n root) (add-one place) ∙ get_or-map (λ (row : QueueRow). row.path) c.queues place no_row root at.inside ∙ place_path c.queues queue place at no_row in
+      subst (λ (q : Path). AreUsersOf s label q sums) is (h.users.each (place + 1) sums (omega (arith, h.users.len, inside)) read)
 
 -- ---- on the way
 

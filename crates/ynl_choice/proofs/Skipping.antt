@@ -1,5 +1,5 @@
 -- Leaves that are passed over together.
-use Rattle.std.proofs.Common.{◌≡◌, ℕ, zero, suc, ◌+◌, ◌-◌, ◌<◌, ◌≤◌, Bool, true, List, [], ◌∷◌, ◌++◌, length, map, filter, take, get_or, append-nil, take-suc, Option, Some, refl, sym, ap, subst, ◌∙◌, arith}
+use Rattle.std.proofs.Common.{◌≡◌, ℕ, zero, suc, ◌+◌, ◌-◌, ◌<◌, ◌≤◌, Bool, true, List, [], ◌∷◌, ◌++◌, length, map, filter, take, take_all, get_or, append-nil, take-suc, Option, Some, None, refl, sym, ap, subst, ◌∙◌, arith}
 use Rattle.std.specs.Prelude.{flat_map}
 use Rattle.std.specs.Borrow.{Bor}
 use Rattle.std.proofs.lemmas.Grind.{flat_map-append}
@@ -23,7 +23,7 @@ use Rattle.ynl_choice.specs.Lulls.{AreQuiet}
 use Rattle.ynl_choice.specs.declared.scenes.Scene.{Scene}
 use Rattle.ynl_choice.specs.declared.standings.Candidate.{Candidate}
 use Rattle.ynl_choice.proofs.Classed.{masters-gathered, asks-gathered}
-use Rattle.ynl_choice.proofs.Considering.{then}
+use Rattle.ynl_choice.proofs.Considering.{none_more, then}
 use Rattle.ynl_choice.proofs.FirstTurn.{held-ahead}
 use Rattle.ynl_choice.proofs.Passed.{ahead-below}
 use Rattle.ynl_choice.proofs.Quiet.{quiet-held}
@@ -105,6 +105,12 @@ wanted-quiet scene first held from to end quiet inside h = go scene.tables.now.l
         (λ k above below.
         quiet-held scene held (wanted_in scene (get_or all k d)) (quiet.none k (get_or all k d) above below (get_or_default all k d (get_or all k d) (omega (arith, below, quiet.inside, inside)))))
         h
+
+-- where nothing may be placed of any row none is held
+pub none-wanted : (scene : Scene) → AreQuiet scene 0 (length scene.tables.now.leaves.items) (length scene.tables.now.leaves.items) → HoldsBest scene None (all_wanted scene scene.tables.now.leaves.items) None
+none-wanted scene quiet =
+    let rows : List LeafRow = scene.tables.now.leaves.items in
+    subst (λ (rows : List LeafRow). HoldsBest scene None (all_wanted scene rows) None) (take_all (length rows) rows (omega arith)) (wanted-quiet scene None None 0 (length rows) (length rows) quiet (omega arith) (none_more scene None))
 
 -- ---- the next place
 

@@ -11,6 +11,9 @@ use Rattle.ynl_model.specs.Service.{standing, standing_order}
 use Rattle.ynl_tables.specs.Siblings.{leaf_at, leaf_paths}
 use Rattle.ynl_tables.specs.declared.rows.LeafRow.{LeafRow}
 use Rattle.ynl_choice.specs.declared.likely.Lead.{Lead}
+use Rattle.ynl_choice.specs.declared.likely.Guess.{Guess}
+use Rattle.ynl_choice.specs.declared.likely.Guess.TheVariants.{NoLeaf, Unknown, Leaf}
+use Rattle.ynl_choice.specs.declared.likely.Likely.{Likely}
 use Rattle.ynl_choice.specs.declared.likely.Mark.{Mark}
 use Rattle.ynl_choice.specs.declared.scenes.Scene.{Scene}
 use Rattle.ynl_choice.specs.Candidates.{stands_of}
@@ -55,3 +58,14 @@ pub record IsLead (scene : Scene) (depth from to : ℕ) (lead : Lead) : Type 0 w
 abbrev pub IsLeadOf : Scene → ℕ → ℕ → ℕ → Option Lead → Type 0
 IsLeadOf scene depth from to None = AreQuiet scene from to to
 IsLeadOf scene depth from to (Some lead) = IsLead scene depth from to lead
+
+-- of all leaves that which is likely to have the choice is first, if that is sure
+pub record IsLikely (scene : Scene) (likely : Likely) : Type 0 where
+  pub inside : likely.place < length scene.tables.now.leaves.items
+  pub behind : OnTrue likely.is_sure (AreBehind scene 0 (length scene.tables.now.leaves.items) likely.place (likely.place + 1))
+
+-- and where there is none nothing may be placed
+abbrev pub IsGuess : Scene → Guess → Type 0
+IsGuess scene NoLeaf = AreQuiet scene 0 (length scene.tables.now.leaves.items) (length scene.tables.now.leaves.items)
+IsGuess scene Unknown = Unit {0}
+IsGuess scene (Leaf likely) = IsLikely scene likely

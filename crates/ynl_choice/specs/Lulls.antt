@@ -22,6 +22,7 @@ use Rattle.ynl_choice.specs.Blocks.{is_still}
 use Rattle.ynl_choice.specs.Choosing.{state_in, passes, wanted_in}
 use Rattle.ynl_choice.specs.Waits.{item_for}
 use Rattle.ynl_model.specs.declared.proposals.What.{What}
+use Rattle.ynl_model.specs.declared.proposals.What.TheVariants.{Master, Ask}
 
 -- what is known of the leaves on a partition, by their places
 abbrev pub known_of : PartLulls → List (Option Lull)
@@ -59,13 +60,24 @@ pub record IsStill (c : Config) (s : State) (label : Label) (leaf : Path) (free 
   pub is : IsLull c s label leaf lull.least lull.room
   pub still : is_still lull free ≡ true
 
--- nothing is known of the leaf at a place, on any partition
-abbrev pub IsGone : ℕ → List PartLulls → Type 0
-IsGone place parts = (at : ℕ) (d : PartLulls) → at < length parts → lull_at (slice_index_or parts at d) place ≡ None
+-- whether a partition is meant: the one that is told, or each where none is
+abbrev pub is_meant : Option Label → Label → Bool
+is_meant None label = true
+is_meant (Some one) label = same_label label one
 
--- nothing is known of the leaves of a path
-abbrev pub IsForgotten : Path → List LeafRow → Lulls → Type 0
-IsForgotten leaf rows lulls = (place : ℕ) (d : LeafRow) → place < length rows → same_path (slice_index_or rows place d).path leaf ≡ true → IsGone place lulls.parts.items
+-- nothing is known of the leaf at a place, on the partitions that are meant
+abbrev pub IsGone : Option Label → ℕ → List PartLulls → Type 0
+IsGone on place parts = (at : ℕ) (d : PartLulls) → at < length parts → is_meant on (slice_index_or parts at d).label ≡ true → lull_at (slice_index_or parts at d) place ≡ None
+
+-- nothing is known there of the leaves of a path
+abbrev pub IsForgotten : Option Label → Path → List LeafRow → Lulls → Type 0
+IsForgotten on leaf rows lulls = (place : ℕ) (d : LeafRow) → place < length rows → same_path (slice_index_or rows place d).path leaf ≡ true → IsGone on place lulls.parts.items
+
+-- the one partition on which a placement changes what may be placed of its leaf, if it is one: what is asked for changes its node's, and with a master that starts all that
+-- its application asks for may be placed
+abbrev pub changed_on : Label → What → Option Label
+changed_on label Master = None
+changed_on label (Ask asked priority) = Some label
 
 -- none of some requests may be placed
 abbrev pub NonePass : Scene → List Item → Type 0

@@ -3,17 +3,17 @@
 ghost use Rattle.std.proofs.Props.{props};
 ghost use Rattle.std.specs.Prelude.{◌≡◌, ℕ, ◌<◌, ◌≤◌, ◌+◌, true, None, Some, IfOk, IfSome, length, slice_index_or};
 ghost use Rattle.ynl_resource.specs.Amounts.{fits_in};
-ghost use Rattle.ynl_choice.specs.Blocks.{is_under, AreBlocks};
+ghost use Rattle.ynl_choice.specs.Blocks.{block_size, is_still, Implies, AreBlocks};
 
 use crate::lulls::Lull;
 use std::alloc::{AllocError, Global};
 use ynl_resource::{Label, Resource};
 
 /// How many leaves that stand next to each other have a lull together.
-pub(crate) const BLOCK: usize = 32;
+pub(crate) const BLOCK: usize = 16;
 
-/// The lulls of the leaves on a partition, by their places; and of each block of them a lull that each of its leaves
-/// has, if all have one and it is known. Where the mark says so none is known, whatever stands there.
+/// The lulls of the leaves on a partition, by their places; and of each block of them, if it is known, one that holds only
+/// where those of all its leaves do. Where the mark says so none is known, whatever stands there.
 #[derive(Drop)]
 pub(crate) struct PartLulls {
     pub(crate) label: Label,
@@ -42,8 +42,8 @@ pub fn less_of(a: &Resource, b: &Resource) -> Resource
 
 /// A lull of all that have either of two.
 fn both(a: &Lull, b: &Lull) -> Lull
-    ensures first { is_under result (Some a.now) ≡ true }
-    ensures second { is_under result (Some b.now) ≡ true }
+    ensures first { Implies result (Some a.now) }
+    ensures second { Implies result (Some b.now) }
 {
     Lull {
         least: less_of(&a.least, &b.least),
@@ -51,9 +51,25 @@ fn both(a: &Lull, b: &Lull) -> Lull
     }
 }
 
-/// A lull of the leaves of a block, by the place of its first, if all have one.
-pub(crate) fn all_from(leaves: &[Option<Lull>], from: usize) -> Option<Lull>
-    ensures { IfSome result (λ lull. (k : ℕ) → from ≤ k → k < from + 32 → k < length leaves.now → is_under lull (slice_index_or leaves.now k None) ≡ true) }
+/// A lull of what has one that holds where so much is free, with a room that is no less than that: what holds where so much
+/// is free holds where less is.
+fn with_room(lull: &Lull, free: &Resource) -> Lull
+    requires { is_still lull.now free.now ≡ true }
+    ensures { Implies result (Some lull.now) }
+{
+    if free.fits_in(lull.room) {
+        *lull
+    } else {
+        Lull {
+            least: lull.least,
+            room: *free,
+        }
+    }
+}
+
+/// A lull of the leaves of a block, by the place of its first, if all have one that holds where so much is free.
+pub(crate) fn all_from(leaves: &[Option<Lull>], from: usize, free: &Resource) -> Option<Lull>
+    ensures { IfSome result (λ lull. (k : ℕ) → from ≤ k → k < from + block_size → k < length leaves.now → Implies lull (slice_index_or leaves.now k None)) }
 {
     let end = leaves.len().min(from.saturating_add(BLOCK));
     let mut all = Lull {
@@ -64,7 +80,10 @@ pub(crate) fn all_from(leaves: &[Option<Lull>], from: usize) -> Option<Lull>
         let Some(lull) = &leaves[place] else {
             return None;
         };
-        all = both(&all, lull);
+        if !lull.holds_for(free) {
+            return None;
+        }
+        all = both(&all, &with_room(lull, free));
     }
     Some(all)
 }

@@ -7,19 +7,20 @@ ghost use Rattle.ynl_tables.specs.Bounds.{IsBounded, IsTotal};
 ghost use Rattle.ynl_tables.specs.Kept.{IsKept};
 ghost use Rattle.ynl_tables.specs.Numbers.{AreQueuesOf};
 ghost use Rattle.ynl_tables.specs.Tables.{state_of};
-ghost use Rattle.ynl_choice.specs.Boards.{IsBoard};
+ghost use Rattle.ynl_choice.specs.Boards.{AreUsersOf, IsBoard};
 
 use ynl_model::Use;
 use ynl_queues::Config;
 use ynl_resource::{Hundredths, Label, Name};
-use ynl_tables::{Tables, partition_place, uses_on};
+use ynl_tables::{Sums, Tables, partition_place, users_on, uses_on};
 
-/// What the capacities of queues on a partition are, by their places in the configuration, and what is
-/// kept of their use of it, of which root's is the first; and where the partition stands, DEFAULT first.
+/// What the capacities of queues on a partition are, by their places in the configuration; what is kept of their
+/// use of it and of their users', of which root's is the first; and where the partition stands, DEFAULT first.
 #[derive(Clone, Copy)]
 pub struct Board<'a> {
     pub capacities: &'a [Hundredths],
     pub uses: &'a [Use],
+    pub users: &'a [Sums],
     pub partition: usize,
 }
 
@@ -32,14 +33,18 @@ pub fn board_of<'a>(config: &'a Config, tables: &'a Tables, label: &Label) -> Op
     let Some(capacities) = config.capacities(label) else {
         return None;
     };
-    match uses_on(tables, label) {
-        Some(uses) => Some(Board {
-            capacities,
-            uses,
-            partition: partition_place(&tables.partitions, label).unwrap_or(0),
-        }),
-        None => None,
-    }
+    let Some(uses) = uses_on(tables, label) else {
+        return None;
+    };
+    let Some(users) = users_on(tables, label) else {
+        return None;
+    };
+    Some(Board {
+        capacities,
+        uses,
+        users,
+        partition: partition_place(&tables.partitions, label).unwrap_or(0),
+    })
 }
 
 /// What is kept of the use of the queue at a place.
@@ -58,4 +63,20 @@ pub fn use_at(
     ensures small { (IsTotal result.used) × (IsTotal result.masters) }
 {
     board.uses[place + 1]
+}
+
+/// What is kept of what the users of the queue at a place use.
+pub fn users_at<'a>(
+    config: &Config,
+    tables: &Tables,
+    board: &Board<'a>,
+    label: &Label,
+    queue: &[Name],
+    place: usize,
+) -> &'a Sums
+    requires board { IsBoard config.now (state_of tables.now) label.now board.now }
+    requires place { IsPlaceOf config.now.queues queue.now place }
+    ensures { AreUsersOf (state_of tables.now) label.now queue.now result.now }
+{
+    &board.users[place + 1]
 }

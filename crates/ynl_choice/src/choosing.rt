@@ -12,7 +12,7 @@ ghost use Rattle.ynl_tables.specs.Numbers.{AreQueuesOf};
 ghost use Rattle.ynl_tables.specs.Tables.{state_of};
 ghost use Rattle.ynl_tables.specs.declared.rows.LeafRow.{LeafRow};
 ghost use Rattle.ynl_choice.specs.Candidates.{standings_of};
-ghost use Rattle.ynl_choice.specs.Choosing.{item_of, state_in, standings_to, IsScene, IsNext, IsPassed, HoldsBest, IsSeed, IsSeen, all_asks, all_wanted, wanted_in};
+ghost use Rattle.ynl_choice.specs.Choosing.{item_of, state_in, standings_to, IsScene, IsNext, IsPassed, HoldsBest, IsLooked, IsSeed, IsSeen, all_asks, all_wanted, wanted_in};
 ghost use Rattle.ynl_choice.specs.Likely.{path_at};
 ghost use Rattle.ynl_choice.specs.Lulls.{AreLulls, IsPartAt};
 ghost use Rattle.ynl_choice.specs.declared.standings.Candidate.{Candidate as Held};
@@ -20,7 +20,7 @@ ghost use Rattle.ynl_choice.specs.declared.standings.Candidate.{Candidate as Hel
 use crate::boards::board_of;
 use crate::going::{next_leaf, next_open};
 use crate::leaves::{add_asks, add_leaf};
-use crate::likely::likely_leaf;
+use crate::likely::{Guess, likely_leaf};
 use crate::lulls::Lulls;
 use crate::requests::{Request, request_of};
 use crate::scenes::Scene;
@@ -140,7 +140,8 @@ struct Looked {
     is_first: bool,
 }
 
-/// The best request of a leaf in which the choice is likely to be is held, if one is found that may be placed.
+/// The best request of a leaf in which the choice is likely to be is held, if one is found that may be placed. Where it is
+/// known of all leaves that nothing may be, blocks of them are made to say so for the next search.
 fn hold_likely<'a>(
     scene: &Scene<'a>,
     lulls: &mut Lulls,
@@ -152,27 +153,34 @@ fn hold_likely<'a>(
     requires lulls { AreLulls scene.now.config.now (state_in scene.now) lulls.old }
     requires at { IsPartAt lulls.old scene.now.label at }
     requires none { held.old ≡ None }
-    ensures seed { IsSeed scene.now held.new }
-    ensures seen { IsSeen scene.now result.seen held.new }
-    ensures first { OnTrue result.is_first (HoldsBest scene.now None (all_wanted scene.now scene.now.tables.now.leaves.items) held.new) }
+    ensures looked { IsLooked scene.now result held.new }
     ensures lulls { AreLulls scene.now.config.now (state_in scene.now) lulls.new }
     ensures at { IsPartAt lulls.new scene.now.label at }
 {
-    let Some(likely) = likely_leaf(scene, lulls, at) else {
-        return Looked {
+    match likely_leaf(scene, lulls, at) {
+        Guess::NoLeaf => {
+            lulls.settle(at, &scene.free);
+            Looked {
+                seen: None,
+                is_first: true,
+            }
+        }
+        Guess::Unknown => Looked {
             seen: None,
             is_first: false,
-        };
-    };
-    hold_best_at(scene, lulls, at, likely.place, held);
-    Looked {
-        seen: Some(likely.place),
-        is_first: likely.is_sure && held.is_some(),
+        },
+        Guess::Leaf(likely) => {
+            hold_best_at(scene, lulls, at, likely.place, held);
+            Looked {
+                seen: Some(likely.place),
+                is_first: likely.is_sure && held.is_some(),
+            }
+        }
     }
 }
 
-/// Likely leaves are looked at one after another, until a request is held, none is left, or one comes twice, since of
-/// some it is not kept that nothing of them may be placed.
+/// Likely leaves are looked at one after another, until the first of all that is wanted is known or a request is held, or
+/// one comes twice, since of some it is not kept that nothing of them may be placed.
 fn hold_any_likely<'a>(
     scene: &Scene<'a>,
     lulls: &mut Lulls,
@@ -184,16 +192,14 @@ fn hold_any_likely<'a>(
     requires lulls { AreLulls scene.now.config.now (state_in scene.now) lulls.old }
     requires at { IsPartAt lulls.old scene.now.label at }
     requires none { held.old ≡ None }
-    ensures seed { IsSeed scene.now held.new }
-    ensures seen { IsSeen scene.now result.seen held.new }
-    ensures first { OnTrue result.is_first (HoldsBest scene.now None (all_wanted scene.now scene.now.tables.now.leaves.items) held.new) }
+    ensures looked { IsLooked scene.now result held.new }
     ensures lulls { AreLulls scene.now.config.now (state_in scene.now) lulls.new }
     ensures at { IsPartAt lulls.new scene.now.label at }
 {
     let mut last = None;
     for _ in 0..TRIES {
         let looked = hold_likely(scene, lulls, at, held);
-        if held.is_some() || looked.seen == last {
+        if looked.is_first || held.is_some() || looked.seen == last {
             return looked;
         }
         last = looked.seen;

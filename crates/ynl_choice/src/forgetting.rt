@@ -1,4 +1,4 @@
-//! Leaves that change, of which nothing is known any more.
+//! Leaves that change, of which nothing is known any more: on one partition, or on all, where none is told.
 
 ghost use Rattle.std.specs.Prelude.{◌≡◌, true, Some};
 ghost use Rattle.ynl_resource.specs.Names.{same_path, tenant_of};
@@ -6,66 +6,85 @@ ghost use Rattle.ynl_resource.specs.declared.paths.Path.{Path as Names};
 ghost use Rattle.ynl_model.specs.Applications.{leaf_of};
 ghost use Rattle.ynl_tables.specs.Numbers.{AreNumbered};
 ghost use Rattle.ynl_tables.specs.Tables.{leaves_of};
-ghost use Rattle.ynl_choice.specs.Lulls.{AreFewer, IsForgotten, IsGone};
+ghost use Rattle.ynl_choice.specs.Lulls.{AreFewer, IsForgotten, IsGone, changed_on};
 
 use crate::lulls::Lulls;
 use crate::requests::Request;
-use ynl_resource::{Name, Path};
+use ynl_model::What;
+use ynl_resource::{Label, Name, Path};
 use ynl_tables::{LeafRow, Tables, leaf_row_by};
 
 /// Nothing is known of the leaf at a place from now on, if it is that one.
-fn forget_if(lulls: &mut Lulls, row: &LeafRow, leaf: &Path, place: usize)
+fn forget_if(lulls: &mut Lulls, row: &LeafRow, leaf: &Path, place: usize, on: &Option<Label>)
     ensures fewer { AreFewer lulls.old.parts.items lulls.new.parts.items }
-    ensures gone { same_path row.now.path leaf.now ≡ true → IsGone place lulls.new.parts.items }
+    ensures gone { same_path row.now.path leaf.now ≡ true → IsGone on.now place lulls.new.parts.items }
 {
     if row.path == *leaf {
-        lulls.forget(place);
+        lulls.forget(place, on);
     }
 }
 
 /// Nothing is known of a tenant's leaf from now on. Only the leaves of the tenant are looked at.
-fn forget_of(lulls: &mut Lulls, tables: &Tables, tenant: &Name, leaf: &Path)
+fn forget_of(lulls: &mut Lulls, tables: &Tables, tenant: &Name, leaf: &Path, on: &Option<Label>)
     requires numbered { AreNumbered tables.now.numbers (leaves_of tables.now.leaves.items) }
     requires tenant { tenant.now ≡ tenant_of leaf.now }
     ensures fewer { AreFewer lulls.old.parts.items lulls.new.parts.items }
-    ensures gone { IsForgotten leaf.now tables.now.leaves.items lulls.new }
+    ensures gone { IsForgotten on.now leaf.now tables.now.leaves.items lulls.new }
 {
     let mut place = tables.numbers.first_of(tenant);
     while place < tables.leaves.len() {
-        forget_if(lulls, &tables.leaves[place], leaf, place);
+        forget_if(lulls, &tables.leaves[place], leaf, place, on);
         place = tables.numbers.next_of(place, tenant);
     }
 }
 
 /// Nothing is known of a leaf from now on.
-pub fn forget_leaf(lulls: &mut Lulls, tables: &Tables, leaf: &Path)
+pub fn forget_leaf(lulls: &mut Lulls, tables: &Tables, leaf: &Path, on: &Option<Label>)
     requires { AreNumbered tables.now.numbers (leaves_of tables.now.leaves.items) }
     ensures fewer { AreFewer lulls.old.parts.items lulls.new.parts.items }
-    ensures gone { IsForgotten leaf.now tables.now.leaves.items lulls.new }
+    ensures gone { IsForgotten on.now leaf.now tables.now.leaves.items lulls.new }
 {
     match leaf.names().first() {
-        Some(tenant) => forget_of(lulls, tables, tenant, leaf),
+        Some(tenant) => forget_of(lulls, tables, tenant, leaf, on),
         None => lulls.forget_all(),
     }
 }
 
 /// Nothing is known from now on of the leaf to which a tenant's application was submitted.
-pub fn forget_leaf_of(lulls: &mut Lulls, tables: &Tables, tenant: &Name, app: &Name)
+pub fn forget_leaf_of(
+    lulls: &mut Lulls,
+    tables: &Tables,
+    tenant: &Name,
+    app: &Name,
+    on: &Option<Label>,
+)
     requires { AreNumbered tables.now.numbers (leaves_of tables.now.leaves.items) }
     ensures fewer { AreFewer lulls.old.parts.items lulls.new.parts.items }
-    ensures gone { (leaf : Names) → leaf_of (leaves_of tables.now.leaves.items) tenant.now app.now ≡ Some leaf → IsForgotten leaf tables.now.leaves.items lulls.new }
+    ensures gone { (leaf : Names) → leaf_of (leaves_of tables.now.leaves.items) tenant.now app.now ≡ Some leaf → IsForgotten on.now leaf tables.now.leaves.items lulls.new }
 {
     match leaf_row_by(&tables.numbers, &tables.leaves, tenant, app) {
-        Some(row) => forget_leaf(lulls, tables, &row.path),
+        Some(row) => forget_leaf(lulls, tables, &row.path, on),
         None => lulls.forget_all(),
     }
 }
 
-/// Nothing is known from now on of the leaf of a request.
-pub fn forget_leaf_for(lulls: &mut Lulls, tables: &Tables, request: &Request)
+/// The partition alone on which a placement changes what may be placed of its leaf, if it is one. A master that starts
+/// lets its application ask on all.
+fn changed_on(label: &Label, what: &What) -> Option<Label>
+    ensures { result ≡ changed_on label.now what.now }
+{
+    match what {
+        What::Master => None,
+        What::Ask(_, _) => Some(*label),
+    }
+}
+
+/// Nothing is known from now on of the leaf of a request that is placed on a partition, where the placement changes it.
+pub fn forget_leaf_for(lulls: &mut Lulls, tables: &Tables, request: &Request, label: &Label)
     requires { AreNumbered tables.now.numbers (leaves_of tables.now.leaves.items) }
     ensures fewer { AreFewer lulls.old.parts.items lulls.new.parts.items }
-    ensures gone { IsForgotten request.now.leaf tables.now.leaves.items lulls.new }
+    ensures gone { IsForgotten (changed_on label.now request.now.what) request.now.leaf tables.now.leaves.items lulls.new }
 {
-    forget_leaf(lulls, tables, &request.leaf);
+    let on = changed_on(label, &request.what);
+    forget_leaf(lulls, tables, &request.leaf, &on);
 }

@@ -43,7 +43,7 @@ fn standings_to<'a>(scene: &Scene<'_>, row: &'a LeafRow) -> Standings<'a>
 
 /// What is worked out of a leaf for its requests: how it stands, and its limits, if they were worked out; else the
 /// first request that is tested against them has them worked out.
-pub fn desk_of<'a>(scene: &Scene<'_>, row: &'a LeafRow, limits: &Option<LeafUse>) -> Desk<'a>
+pub fn desk_of<'a>(scene: &Scene<'a>, row: &'a LeafRow, limits: &Option<LeafUse<'a>>) -> Desk<'a>
     requires scene { IsScene scene.now }
     requires limits { AreLimits scene.now row.now.path limits.now }
     ensures { IsDesk scene.now row.now.path result }
@@ -69,9 +69,9 @@ fn is_wanted(scene: &Scene<'_>, row: &LeafRow, app: &App, what: &What) -> bool
 
 /// Whether a request is wanted and may be placed on the node; a guest wants room alone. Room is looked at
 /// first, since it takes no sum, and the leaf's limits and its user's use last.
-fn may_be_placed(
-    scene: &Scene<'_>,
-    desk: &mut Desk<'_>,
+fn may_be_placed<'a>(
+    scene: &Scene<'a>,
+    desk: &mut Desk<'a>,
     row: &LeafRow,
     app: &App,
     request: &RequestParts<'_>,
@@ -108,7 +108,7 @@ fn overtakes(held: &Option<Candidate<'_>>, next: &Next<'_>) -> bool
 /// One request more, if its application wants it. The order is looked at first, and only a request that
 /// would be first is tested.
 fn add_request<'a>(
-    scene: &Scene<'_>,
+    scene: &Scene<'a>,
     desk: &mut Desk<'a>,
     row: &'a LeafRow,
     app: &'a App,
@@ -146,7 +146,7 @@ fn add_request<'a>(
 
 /// An application's master, if it is wanted on the partition.
 pub fn add_master<'a>(
-    scene: &Scene<'_>,
+    scene: &Scene<'a>,
     desk: &mut Desk<'a>,
     row: &'a LeafRow,
     app: &'a App,
@@ -176,7 +176,7 @@ pub fn add_master<'a>(
 
 /// One ask of an application, if it is for the partition and the application runs.
 fn add_ask<'a>(
-    scene: &Scene<'_>,
+    scene: &Scene<'a>,
     desk: &mut Desk<'a>,
     row: &'a LeafRow,
     app: &'a App,
@@ -199,7 +199,7 @@ fn add_ask<'a>(
 
 /// What an application asks for on the partition, if it runs.
 pub fn add_asks_of<'a>(
-    scene: &Scene<'_>,
+    scene: &Scene<'a>,
     desk: &mut Desk<'a>,
     row: &'a LeafRow,
     app: &'a App,
@@ -220,7 +220,7 @@ pub fn add_asks_of<'a>(
 
 /// What an application asks for on the partition with a priority, if it runs.
 pub fn add_ask_at<'a>(
-    scene: &Scene<'_>,
+    scene: &Scene<'a>,
     desk: &mut Desk<'a>,
     row: &'a LeafRow,
     app: &'a App,

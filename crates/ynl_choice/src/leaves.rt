@@ -84,7 +84,7 @@ fn is_passed<'a>(
 }
 
 /// The masters wanted on the partition by the applications of a leaf, one after another.
-fn add_each_master<'a>(scene: &Scene<'_>, row: &'a LeafRow, held: &mut Option<Candidate<'a>>)
+fn add_each_master<'a>(scene: &Scene<'a>, row: &'a LeafRow, held: &mut Option<Candidate<'a>>)
     requires scene { IsScene scene.now }
     requires placed { ArePlaced (state_in scene.now) row.now }
     requires marked { AreMarkedIn (state_in scene.now) row.now }
@@ -101,8 +101,8 @@ fn add_each_master<'a>(scene: &Scene<'_>, row: &'a LeafRow, held: &mut Option<Ca
 
 /// The first of the masters that wait in a leaf for the partition, by their classes. Whether none may be placed.
 fn add_first_master<'a>(
-    scene: &Scene<'_>,
-    limits: &mut Option<LeafUse>,
+    scene: &Scene<'a>,
+    limits: &mut Option<LeafUse<'a>>,
     row: &'a LeafRow,
     part: &Part,
     held: &mut Option<Candidate<'a>>,
@@ -131,8 +131,8 @@ fn add_first_master<'a>(
 /// the request that is held is before all of it, or where none of them has room; what costs least is looked at
 /// first, and how the leaf stands last, for one that may be placed. Whether it is known that none may be placed.
 fn add_masters<'a>(
-    scene: &Scene<'_>,
-    limits: &mut Option<LeafUse>,
+    scene: &Scene<'a>,
+    limits: &mut Option<LeafUse<'a>>,
     row: &'a LeafRow,
     passed: &mut Option<&'a [Name]>,
     held: &mut Option<Candidate<'a>>,
@@ -171,7 +171,7 @@ fn add_masters<'a>(
 }
 
 /// What the running applications of a leaf ask for on the partition, one after another.
-fn add_each_ask<'a>(scene: &Scene<'_>, row: &'a LeafRow, held: &mut Option<Candidate<'a>>)
+fn add_each_ask<'a>(scene: &Scene<'a>, row: &'a LeafRow, held: &mut Option<Candidate<'a>>)
     requires scene { IsScene scene.now }
     requires placed { ArePlaced (state_in scene.now) row.now }
     requires marked { AreMarkedIn (state_in scene.now) row.now }
@@ -188,8 +188,8 @@ fn add_each_ask<'a>(scene: &Scene<'_>, row: &'a LeafRow, held: &mut Option<Candi
 
 /// The first of what is asked for in a leaf on the partition, by classes. Whether nothing of it may be placed.
 fn add_first_ask<'a>(
-    scene: &Scene<'_>,
-    limits: &mut Option<LeafUse>,
+    scene: &Scene<'a>,
+    limits: &mut Option<LeafUse<'a>>,
     row: &'a LeafRow,
     part: &Part,
     held: &mut Option<Candidate<'a>>,
@@ -227,8 +227,8 @@ fn add_first_ask<'a>(
 /// of it is looked for, and nothing else is considered; and the leaf is passed over as for masters. Whether it is known
 /// that nothing of it may be placed.
 pub fn add_asks<'a>(
-    scene: &Scene<'_>,
-    limits: &mut Option<LeafUse>,
+    scene: &Scene<'a>,
+    limits: &mut Option<LeafUse<'a>>,
     row: &'a LeafRow,
     passed: &mut Option<&'a [Name]>,
     held: &mut Option<Candidate<'a>>,
@@ -294,7 +294,7 @@ fn least_wanted(scene: &Scene<'_>, row: &LeafRow) -> Option<Resource>
 /// does, and no limit is worked out. Where nothing keeps the limit of its user or of the leaf's masters, that is so in any
 /// room. Else what fits in what is free, and in what the queues on the way can take, does not keep them. None is known
 /// where what waits is not kept, or where a queue on the way stands above its maximum.
-fn lull_of(scene: &Scene<'_>, limits: &mut Option<LeafUse>, row: &LeafRow) -> Option<Lull>
+fn lull_of<'a>(scene: &Scene<'a>, limits: &mut Option<LeafUse<'a>>, row: &LeafRow) -> Option<Lull>
     requires scene { IsScene scene.now }
     requires own { scene.now.as_guests ≡ false }
     requires limits { AreLimits scene.now row.now.path limits.old }
@@ -328,7 +328,7 @@ fn lull_of(scene: &Scene<'_>, limits: &mut Option<LeafUse>, row: &LeafRow) -> Op
 /// both. Nothing of it is looked at where the request that is held is before all of it. Its lull, if nothing of it may be
 /// placed and one is known.
 pub fn add_leaf<'a>(
-    scene: &Scene<'_>,
+    scene: &Scene<'a>,
     row: &'a LeafRow,
     passed: &mut Option<&'a [Name]>,
     held: &mut Option<Candidate<'a>>,

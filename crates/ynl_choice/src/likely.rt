@@ -1,13 +1,13 @@
-//! A leaf in which the choice is likely to be, and whether all others are known to stand behind it. What is chosen
-//! hangs on no guess, but time does: where it is sure no other leaf is looked at.
+//! A leaf in which the choice is likely to be, and whether all others are known to stand behind it; or that it is known
+//! of all leaves that nothing may be placed. What is chosen hangs on no guess, but time does: where it is sure no other
+//! leaf is looked at.
 
 ghost use Rattle.std.specs.Prelude.{◌≡◌, ◌<◌, ◌≤◌, ◌+◌, false, true, ℕ, IfSome, length};
-ghost use Rattle.std.specs.Bool.{OnTrue};
 ghost use Rattle.ynl_resource.specs.Amounts.{fits_in};
 ghost use Rattle.ynl_resource.specs.declared.amounts.Resource.{Resource as Amount};
 ghost use Rattle.ynl_choice.specs.Boards.{IsBoard};
 ghost use Rattle.ynl_choice.specs.Choosing.{state_in, guaranteed_after, IsScene};
-ghost use Rattle.ynl_choice.specs.Likely.{path_at, AreBehind, AreBelow, IsMark, IsLead, IsLeadOf};
+ghost use Rattle.ynl_choice.specs.Likely.{path_at, AreBelow, IsMark, IsLead, IsLeadOf, IsLikely, IsGuess};
 ghost use Rattle.ynl_choice.specs.Lulls.{AreLulls, AreQuiet, IsPartAt};
 ghost use Rattle.ynl_choice.specs.declared.scenes.Scene.{Scene as Stage};
 
@@ -31,6 +31,17 @@ const DEPTHS: usize = 7;
 pub struct Likely {
     pub place: usize,
     pub is_sure: bool,
+}
+
+/// What is told of the leaf in which the choice is likely to be.
+#[derive(Clone, Copy)]
+pub enum Guess {
+    /// There is none: it is known of all leaves that nothing may be placed.
+    NoLeaf,
+    /// None was found, since the configuration has no index. What may be placed is not known.
+    Unknown,
+    /// It is this one.
+    Leaf(Likely),
 }
 
 /// A queue as it stands among its siblings, and what it is guaranteed; and the places of the leaves below it, from the
@@ -75,7 +86,7 @@ fn mark_of<'a>(
     if depth >= names.len() {
         return None;
     }
-    let steps = scene.config.steps(row.near.place, names)?;
+    let steps = scene.config.steps_at(scene.tables.numbers.queue_of(place))?;
     let footing = footing_of(scene, board, steps, names, depth, above);
     Some(Mark {
         standing: footing.standing,
@@ -144,22 +155,21 @@ fn likeliest<'a>(
     best
 }
 
-/// The leaf in which the choice is likely to be: from root down below the child that stands first, among those below
-/// which something may have to be looked at. Where it is known of all leaves that nothing may be placed, or the
-/// configuration has no index, there is none.
-pub fn likely_leaf(scene: &Scene<'_>, lulls: &Lulls, at: usize) -> Option<Likely>
+/// The leaf in which the choice is likely to be: from root down below the child that stands first, among those from a
+/// place on below which something may have to be looked at. None where the configuration has no index.
+fn descend(scene: &Scene<'_>, lulls: &Lulls, at: usize, from: usize) -> Option<Likely>
     requires scene { IsScene scene.now }
     requires own { scene.now.as_guests ≡ false }
     requires lulls { AreLulls scene.now.config.now (state_in scene.now) lulls.now }
     requires at { IsPartAt lulls.now scene.now.label at }
-    ensures inside { IfSome result (λ likely. likely.place < length scene.now.tables.now.leaves.items) }
-    ensures behind { IfSome result (λ likely. OnTrue likely.is_sure (AreBehind scene.now 0 (length scene.now.tables.now.leaves.items) likely.place (likely.place + 1))) }
+    requires quiet { AreQuiet scene.now 0 from (length scene.now.tables.now.leaves.items) }
+    ensures { IfSome result (IsLikely scene.now) }
 {
     let Some(board) = &scene.board else {
         return None;
     };
     let mut above = scene.total;
-    let mut first = 0;
+    let mut first = from;
     let mut end = scene.tables.leaves.len();
     let mut is_sure = true;
     for depth in 0..DEPTHS {
@@ -176,4 +186,24 @@ pub fn likely_leaf(scene: &Scene<'_>, lulls: &Lulls, at: usize) -> Option<Likely
         }
     }
     None
+}
+
+/// The leaf in which the choice is likely to be, or that there is none, or that it is not known. The leaves before the
+/// first of which it is not known that nothing may be placed are gone over once.
+pub fn likely_leaf(scene: &Scene<'_>, lulls: &Lulls, at: usize) -> Guess
+    requires scene { IsScene scene.now }
+    requires own { scene.now.as_guests ≡ false }
+    requires lulls { AreLulls scene.now.config.now (state_in scene.now) lulls.now }
+    requires at { IsPartAt lulls.now scene.now.label at }
+    ensures { IsGuess scene.now result }
+{
+    let count = scene.tables.leaves.len();
+    let open = next_open(scene, lulls, at, 0, count);
+    if open >= count {
+        return Guess::NoLeaf;
+    }
+    match descend(scene, lulls, at, open) {
+        Some(likely) => Guess::Leaf(likely),
+        None => Guess::Unknown,
+    }
 }

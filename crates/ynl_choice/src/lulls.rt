@@ -1,6 +1,6 @@
 //! What is known of leaves of which nothing could be placed, until they change: a heartbeat need not look at them again.
 
-ghost use Rattle.std.specs.Prelude.{◌≡◌, ℕ, ◌<◌, ◌≤◌, ◌+◌, ◌⊎◌, true, false, None, Some, IfOk, IfSome, length, slice_index_or};
+ghost use Rattle.std.specs.Prelude.{◌≡◌, ℕ, ◌<◌, ◌≤◌, ◌+◌, ◌⊎◌, true, false, None, Some, IfOk, IfSome, length, slice_index_or, slice_set};
 ghost use Rattle.std.specs.Option.{option_map_or};
 ghost use Rattle.ynl_resource.specs.declared.labels.Label.{Label as Labelled};
 ghost use Rattle.ynl_model.specs.Applications.{LeafApps};
@@ -8,7 +8,7 @@ ghost use Rattle.ynl_model.specs.Cluster.{State};
 ghost use Rattle.ynl_model.specs.Queues.{Config};
 ghost use Rattle.ynl_laws.specs.Lulls.{IsLull};
 ghost use Rattle.ynl_choice.specs.Blocks.{is_still};
-ghost use Rattle.ynl_choice.specs.Lulls.{lull_at, AreFewer, AreLulls, IsFewer, IsGone, IsPartAt, IsStill};
+ghost use Rattle.ynl_choice.specs.Lulls.{lull_at, AreFewer, AreLulls, IsFewer, IsGone, IsPartAt, IsStill, is_meant};
 ghost use Rattle.ynl_choice.specs.declared.blocks.PartLulls.{PartLulls as Part};
 
 use crate::blocks::{BLOCK, PartLulls, all_from, clear, none_of};
@@ -51,23 +51,42 @@ fn unknown(alloc: Global, label: Label, count: usize) -> Result<PartLulls, Alloc
     })
 }
 
+/// The lull of the leaf at a place is this from now on, or none. Of its block none is known then.
+fn set_at(part: &mut PartLulls, place: usize, lull: Option<Lull>)
+    requires { place < length part.old.leaves.items }
+    ensures label { part.new.label ≡ part.old.label }
+    ensures known { part.new.is_known ≡ part.old.is_known }
+    ensures leaves { part.new.leaves.items ≡ slice_set part.old.leaves.items place lull }
+{
+    part.leaves[place] = lull;
+    let block = place / BLOCK;
+    if block < part.blocks.len() {
+        part.blocks[block] = None;
+    }
+}
+
+/// What stands there is known from now on: where nothing was known, nothing stands there.
+fn make_known(part: &mut PartLulls)
+    ensures label { part.new.label ≡ part.old.label }
+    ensures known { part.new.is_known ≡ true }
+    ensures len { length part.new.leaves.items ≡ length part.old.leaves.items }
+    ensures same { (p : ℕ) → lull_at part.new p ≡ lull_at part.old p }
+{
+    if !part.is_known {
+        clear(&mut part.leaves);
+        clear(&mut part.blocks);
+        part.is_known = true;
+    }
+}
+
 /// A lull of the leaf at a place is known.
 fn note_at(part: &mut PartLulls, place: usize, lull: &Lull)
     ensures label { part.new.label ≡ part.old.label }
     ensures each { (p : ℕ) → IfSome (lull_at part.new p) (λ known. (lull_at part.old p ≡ Some known) ⊎ ((p ≡ place) × (known ≡ lull.now))) }
 {
-    if place >= part.leaves.len() {
-        return;
-    }
-    if !part.is_known {
-        clear(&mut part.leaves);
-        clear(&mut part.blocks);
-    }
-    part.is_known = true;
-    part.leaves[place] = Some(*lull);
-    let block = place / BLOCK;
-    if block < part.blocks.len() {
-        part.blocks[block] = all_from(&part.leaves, block * BLOCK);
+    if place < part.leaves.len() {
+        make_known(part);
+        set_at(part, place, Some(*lull));
     }
 }
 
@@ -77,11 +96,64 @@ fn forget_at(part: &mut PartLulls, place: usize)
     ensures gone { lull_at part.new place ≡ None }
 {
     if place < part.leaves.len() {
-        part.leaves[place] = None;
-        let block = place / BLOCK;
-        if block < part.blocks.len() {
-            part.blocks[block] = None;
+        set_at(part, place, None);
+    }
+}
+
+/// The block of the leaf at a place gets a lull that holds where so much is free, if it has none and each of its leaves has
+/// one.
+fn settle_block(part: &mut PartLulls, place: usize, free: &Resource)
+    ensures label { part.new.label ≡ part.old.label }
+    ensures known { part.new.is_known ≡ part.old.is_known }
+    ensures leaves { part.new.leaves.items ≡ part.old.leaves.items }
+{
+    let block = place / BLOCK;
+    if block >= part.blocks.len() {
+        return;
+    }
+    if let Some(all) = &part.blocks[block] {
+        if all.holds_for(free) {
+            return;
         }
+    }
+    let all = all_from(&part.leaves, block * BLOCK, free);
+    if all.is_some() {
+        part.blocks[block] = all;
+    }
+}
+
+/// Each block gets such a lull, if each of its leaves has one. Where nothing is known none does.
+fn settle_all(part: &mut PartLulls, free: &Resource)
+    ensures label { part.new.label ≡ part.old.label }
+    ensures same { (p : ℕ) → lull_at part.new p ≡ lull_at part.old p }
+{
+    if !part.is_known {
+        return;
+    }
+    let mut place = 0;
+    while place < part.leaves.len() {
+        settle_block(part, place, free);
+        place = place.saturating_add(BLOCK);
+    }
+}
+
+/// Whether a partition is meant: the one that is told, or each where none is.
+fn is_meant(on: &Option<Label>, label: &Label) -> bool
+    ensures { result ≡ is_meant on.now label.now }
+{
+    match on {
+        Some(one) => *label == *one,
+        None => true,
+    }
+}
+
+/// Nothing is known of the leaf at a place from now on, if the partition is meant.
+fn forget_if(part: &mut PartLulls, place: usize, on: &Option<Label>)
+    ensures fewer { IsFewer part.old part.new }
+    ensures gone { is_meant on.now part.new.label ≡ true → lull_at part.new place ≡ None }
+{
+    if is_meant(on, &part.label) {
+        forget_at(part, place);
     }
 }
 
@@ -175,20 +247,32 @@ impl Lulls {
         }
     }
 
-    /// Nothing is known of the leaf at a place from now on, on any partition.
-    pub fn forget(&mut self, place: usize)
+    /// Each block of the leaves on a partition has a lull from now on that holds where so much is free, if each of its
+    /// leaves has one: a search on a node on which no more is free takes one look at each block then. What is known of
+    /// leaves stays.
+    pub fn settle(&mut self, at: usize, free: &Resource)
+        ensures lulls { (c : Config) (s : State) → AreLulls c s self.old → AreLulls c s self.new }
+        ensures parts { (label : Labelled) (other : ℕ) → IsPartAt self.old label other → IsPartAt self.new label other }
+    {
+        if at < self.parts.len() {
+            settle_all(&mut self.parts[at], free);
+        }
+    }
+
+    /// Nothing is known of the leaf at a place from now on, on one partition, or on all.
+    pub fn forget(&mut self, place: usize, on: &Option<Label>)
         ensures fewer { AreFewer self.old.parts.items self.new.parts.items }
-        ensures gone { IsGone place self.new.parts.items }
+        ensures gone { IsGone on.now place self.new.parts.items }
     {
         for i in 0..self.parts.len() {
-            forget_at(&mut self.parts[i], place);
+            forget_if(&mut self.parts[i], place, on);
         }
     }
 
     /// Nothing is known of any leaf from now on.
     pub fn forget_all(&mut self)
         ensures fewer { AreFewer self.old.parts.items self.new.parts.items }
-        ensures gone { (place : ℕ) → IsGone place self.new.parts.items }
+        ensures gone { (place : ℕ) → IsGone None place self.new.parts.items }
     {
         for i in 0..self.parts.len() {
             self.parts[i].is_known = false;

@@ -26,7 +26,7 @@ use ynl_waiting::{Part, Rows};
 
 /// Whether a request keeps the limits of its user and of the leaf's masters.
 #[tactic(auto, unfolding(ynl_model::specs::Service::within_master_share))]
-fn keeps_own_limits(scene: &Scene<'_>, limits: &LeafUse, request: &RequestParts<'_>) -> bool
+fn keeps_own_limits(scene: &Scene<'_>, limits: &LeafUse<'_>, request: &RequestParts<'_>) -> bool
     requires scene { IsScene scene.now }
     requires limits { IsLeafUse scene.now.config.now (state_in scene.now) scene.now.label request.now.leaf.now limits.now }
     requires modest { IsModest limits.now }
@@ -39,7 +39,7 @@ fn keeps_own_limits(scene: &Scene<'_>, limits: &LeafUse, request: &RequestParts<
 /// Whether of what waits for the partition nothing keeps those limits: whether the least of no user does.
 fn are_users_over(
     scene: &Scene<'_>,
-    limits: &LeafUse,
+    limits: &LeafUse<'_>,
     row: &LeafRow,
     what: &What,
     part: &Part,
@@ -59,7 +59,13 @@ fn are_users_over(
 }
 
 /// Whether of what waits in a leaf nothing that is for the partition keeps those limits.
-fn is_over(scene: &Scene<'_>, limits: &LeafUse, row: &LeafRow, what: &What, waiting: &Rows) -> bool
+fn is_over(
+    scene: &Scene<'_>,
+    limits: &LeafUse<'_>,
+    row: &LeafRow,
+    what: &What,
+    waiting: &Rows,
+) -> bool
     requires scene { IsScene scene.now }
     requires limits { IsLeafUse scene.now.config.now (state_in scene.now) scene.now.label row.now.path limits.now }
     requires modest { IsModest limits.now }
@@ -73,7 +79,7 @@ fn is_over(scene: &Scene<'_>, limits: &LeafUse, row: &LeafRow, what: &What, wait
 
 /// Whether nothing that is wanted in a leaf on the partition keeps the limits of its user and of the leaf's masters.
 /// Where what waits is not kept it is not known.
-pub fn are_all_over(scene: &Scene<'_>, limits: &LeafUse, row: &LeafRow) -> bool
+pub fn are_all_over(scene: &Scene<'_>, limits: &LeafUse<'_>, row: &LeafRow) -> bool
     requires scene { IsScene scene.now }
     requires limits { IsLeafUse scene.now.config.now (state_in scene.now) scene.now.label row.now.path limits.now }
     requires modest { IsModest limits.now }

@@ -45,9 +45,9 @@ pub fn may_fit(scene: &Scene<'_>, part: &Part) -> bool
 
 /// Whether the queues on the way to a leaf may take some of what waits there: whether they may take the least of it.
 /// Where they may not, nothing of it may be placed. Guests are placed whatever the queues use.
-pub fn may_be_taken(
-    scene: &Scene<'_>,
-    limits: &mut Option<LeafUse>,
+pub fn may_be_taken<'a>(
+    scene: &Scene<'a>,
+    limits: &mut Option<LeafUse<'a>>,
     row: &LeafRow,
     part: &Part,
 ) -> bool
@@ -64,7 +64,11 @@ pub fn may_be_taken(
 }
 
 /// The limits that the requests of a leaf are tested against, which guests have none of.
-fn tests_of(scene: &Scene<'_>, limits: &mut Option<LeafUse>, row: &LeafRow) -> Option<LeafUse>
+fn tests_of<'a>(
+    scene: &Scene<'a>,
+    limits: &mut Option<LeafUse<'a>>,
+    row: &LeafRow,
+) -> Option<LeafUse<'a>>
     requires scene { IsScene scene.now }
     requires limits { AreLimits scene.now row.now.path limits.old }
     ensures tests { AreTests scene.now row.now.path result }
@@ -86,7 +90,7 @@ fn has_room(scene: &Scene<'_>, request: &RequestParts<'_>) -> bool
 
 /// Whether the limits that a leaf has for all of its users allow a request.
 #[tactic(auto, unfolding(ynl_model::specs::Service::within_maximum, ynl_model::specs::Service::within_master_share))]
-fn fits_leaf(tests: &Option<LeafUse>, request: &RequestParts<'_>) -> bool
+fn fits_leaf(tests: &Option<LeafUse<'_>>, request: &RequestParts<'_>) -> bool
     requires { IfSome tests.now IsModest }
     ensures { (scene : Scene) → AreTests scene request.now.leaf.now tests.now → result ≡ fits_leaf scene (item_by request.now) }
 {
@@ -99,7 +103,7 @@ fn fits_leaf(tests: &Option<LeafUse>, request: &RequestParts<'_>) -> bool
 /// Whether the limit of its user allows a request. What the user uses is held.
 fn fits_user(
     scene: &Scene<'_>,
-    tests: &Option<LeafUse>,
+    tests: &Option<LeafUse<'_>>,
     request: &RequestParts<'_>,
     used: &mut Option<Resource>,
 ) -> bool
@@ -118,7 +122,7 @@ fn fits_user(
 /// Whether a request may be placed. What costs least is looked at first.
 fn is_allowed(
     scene: &Scene<'_>,
-    tests: &Option<LeafUse>,
+    tests: &Option<LeafUse<'_>>,
     request: &RequestParts<'_>,
     used: &mut Option<Resource>,
 ) -> bool
@@ -170,7 +174,7 @@ pub fn request_for<'a>(
 /// The cheap tests come first, and that of the user last.
 fn add_size(
     scene: &Scene<'_>,
-    tests: &Option<LeafUse>,
+    tests: &Option<LeafUse<'_>>,
     request: &RequestParts<'_>,
     turns: &BTreeSet<Turn>,
     used: &mut Option<Resource>,
@@ -206,7 +210,7 @@ fn is_any_before(held: &Option<Turn>, group: &Group) -> bool
 /// theirs is taken, and no size is looked at; what the user uses is looked for once.
 fn add_group(
     scene: &Scene<'_>,
-    tests: &Option<LeafUse>,
+    tests: &Option<LeafUse<'_>>,
     row: &LeafRow,
     what: &What,
     user: &Name,
@@ -232,9 +236,9 @@ fn add_group(
 }
 
 /// The first turn of what waits for the partition that may be placed, one user after another.
-pub fn first_turn(
-    scene: &Scene<'_>,
-    limits: &mut Option<LeafUse>,
+pub fn first_turn<'a>(
+    scene: &Scene<'a>,
+    limits: &mut Option<LeafUse<'a>>,
     row: &LeafRow,
     what: &What,
     part: &Part,

@@ -13,4 +13,4 @@ returns-in-Some-clause-gone c leaf e =
     let found : Path = c.in-Some.row.now.path in
     let same : Some found ≡ Some leaf = ap (option_map (λ (row : LeafApps). row.leaf)) (c.in-Some.ensures.meaning ∙ ap (λ (rows : List LeafRow). row_of (leaves_of rows) c.args.tenant.now c.args.app.now) c.deref.ensures.value) ∙ e in
     let at : found ≡ leaf = cc in
-    subst (λ (path : Path). IsForgotten path c.args.tables.now.leaves.items c.forget_leaf.new.lulls) at c.forget_leaf.ensures.gone
+    subst (λ (path : Path). IsForgotten c.args.on.now path c.args.tables.now.leaves.items c.forget_leaf.new.lulls) at c.forget_leaf.ensures.gone

@@ -1,9 +1,10 @@
-use Rattle.std.proofs.Common.{◌≡◌, ℕ, ◌+◌, ◌<◌, ◌≤◌, Bool, true, false, List, length, get_or, refl, sym, ap, subst, ◌∙◌, arith}
+use Rattle.std.proofs.Common.{◌≡◌, ℕ, ◌+◌, ◌<◌, ◌≤◌, Bool, true, false, List, Option, length, get_or, refl, sym, ap, subst, ◌∙◌, arith}
 use Rattle.std.specs.Prelude.{◌==◌, nat_lt}
 use Rattle.std.proofs.lemmas.Bool.Decides.{nat_tests}
 use Rattle.std.proofs.lemmas.List.{get_or_default}
 use mathlib.Core.Bool.{true≢false}
 use Rattle.ynl_resource.specs.Names.{same_name, same_path, tenant_of}
+use Rattle.ynl_resource.specs.declared.labels.Label.{Label}
 use Rattle.ynl_resource.specs.declared.names.Name.{Name}
 use Rattle.ynl_resource.specs.declared.paths.Path.{Path}
 use Rattle.ynl_laws.proofs.Names.{same-name_self, same-path}
@@ -19,17 +20,17 @@ other-leaf : (path leaf : Path) (tenant : Name) → tenant ≡ tenant_of leaf �
 other-leaf path leaf tenant own off e = sym (same-name_self tenant) ∙ ap (λ t. same_name t tenant) (own ∙ sym (ap tenant_of (same-path path leaf e))) ∙ off
 
 -- what is forgotten up to a place, there, and up to the tenant's next leaf
-all-gone : (rows : List LeafRow) (leaf : Path) (tenant : Name) (place next : ℕ) (row : LeafRow) (old new : List PartLulls) → AreFewer old new → tenant ≡ tenant_of leaf → ((d : LeafRow) → place < length rows → row ≡ get_or rows place d)
-    → ((k : ℕ) (d : LeafRow) → k < place → k < length rows → same_path (get_or rows k d).path leaf ≡ true → IsGone k old) → (same_path row.path leaf ≡ true → IsGone place new)
+all-gone : (on : Option Label) (rows : List LeafRow) (leaf : Path) (tenant : Name) (place next : ℕ) (row : LeafRow) (old new : List PartLulls) → AreFewer old new → tenant ≡ tenant_of leaf → ((d : LeafRow) → place < length rows → row ≡ get_or rows place d)
+    → ((k : ℕ) (d : LeafRow) → k < place → k < length rows → same_path (get_or rows k d).path leaf ≡ true → IsGone on k old) → (same_path row.path leaf ≡ true → IsGone on place new)
     → ((k : ℕ) (d : LeafRow) → place + 1 ≤ k → k < next → same_name (tenant_of (get_or rows k d).path) tenant ≡ false)
-    → (k : ℕ) (d : LeafRow) → k < next → k < length rows → same_path (get_or rows k d).path leaf ≡ true → IsGone k new
-all-gone rows leaf tenant place next row old new less own read gone here between k d below inside e = go (nat_lt k place) (k == place) refl refl
+    → (k : ℕ) (d : LeafRow) → k < next → k < length rows → same_path (get_or rows k d).path leaf ≡ true → IsGone on k new
+all-gone on rows leaf tenant place next row old new less own read gone here between k d below inside e = go (nat_lt k place) (k == place) refl refl
   where
-    go : (a b : Bool) → nat_lt k place ≡ a → (k == place) ≡ b → IsGone k new
-    go true b f g = still_gone k old new (gone k d (grind (arith, nat_tests, f)) inside e) less
+    go : (a b : Bool) → nat_lt k place ≡ a → (k == place) ≡ b → IsGone on k new
+    go true b f g = still_gone on k old new (gone k d (grind (arith, nat_tests, f)) inside e) less
     go false true f g =
         let same : k ≡ place = grind (arith, nat_tests, g) in
-        subst (λ n. IsGone n new) (sym same) (here (ap (λ (row : LeafRow). same_path row.path leaf) (read d (subst (λ n. n < length rows) same inside) ∙ ap (λ n. get_or rows n d) (sym same)) ∙ e))
+        subst (λ n. IsGone on n new) (sym same) (here (ap (λ (row : LeafRow). same_path row.path leaf) (read d (subst (λ n. n < length rows) same inside) ∙ ap (λ n. get_or rows n d) (sym same)) ∙ e))
     go false false f g = absurd (true≢false (other-leaf (get_or rows k d).path leaf tenant own (between k d (grind (arith, nat_tests, f, g)) below) e))
 
 -- what is read at a place, whatever stands for what is not there
@@ -62,7 +63,7 @@ loop-place-preserved c =
     let here : (d : LeafRow) → place < length rows → row ≡ get_or rows place d = λ d inside. at_any rows place row d inside c.index.ensures in
     record {
       fewer = are_fewer_then c.args.lulls.now.parts.items old new c.loop-place.invariant.fewer less;
-      gone = all-gone rows leaf tenant place next row old new less c.requires.tenant here c.loop-place.invariant.gone c.forget_if.ensures.gone
+      gone = all-gone c.args.on.now rows leaf tenant place next row old new less c.requires.tenant here c.loop-place.invariant.gone c.forget_if.ensures.gone
           (λ k d after before. rows_onward c.args.tables.now.numbers rows c.requires.numbered tenant (place + 1) next d c.next_of-place.ensures.onward k after before);
       inside = rows_inside c.args.tables.now.numbers rows c.requires.numbered tenant (place + 1) next c.next_of-place.ensures.onward;
     }

@@ -7,7 +7,7 @@ use Rattle.ynl_choice.proofs.forgetting.forget_of.Given as goal
 abbrev pub invariant-loop-place : goal.invariant-loop-place
 invariant-loop-place l = record {
   fewer : AreFewer l.initial.lulls.parts.items l.lulls.parts.items;
-  gone : (k : ℕ) (d : LeafRow) → k < l.place → k < length l.tables.leaves.items → same_path (get_or l.tables.leaves.items k d).path l.leaf ≡ true → IsGone k l.lulls.parts.items;
+  gone : (k : ℕ) (d : LeafRow) → k < l.place → k < length l.tables.leaves.items → same_path (get_or l.tables.leaves.items k d).path l.leaf ≡ true → IsGone l.on k l.lulls.parts.items;
   inside : l.place ≤ length l.tables.leaves.items;
 }
 

@@ -1,4 +1,4 @@
-use Rattle.std.proofs.Common.{ℕ, ◌∷◌, not, rules, ap, ◌∙◌}
+use Rattle.std.proofs.Common.{ℕ, ◌∷◌, not, rules, ap, subst, ◌∙◌}
 use Rattle.std.specs.Prelude.{nat_lt}
 use Rattle.std.specs.List.{list_all}
 use Rattle.ynl_resource.specs.Amounts.{scale_floor}
@@ -14,6 +14,7 @@ use Rattle.ynl_laws.specs.Uses.{use_of}
 use Rattle.ynl_queues.specs.Index.{IsPlaceOf}
 use Rattle.ynl_tables.specs.Tables.{state_of}
 use Rattle.ynl_tables.proofs.Kept.{some_counted}
+use Rattle.ynl_choice.specs.Boards.{AreUsersOf}
 use Rattle.ynl_choice.specs.LeafUses.{keeps_maximum}
 use Rattle.ynl_choice.proofs.Placing.{setting_at}
 use Rattle.ynl_choice.proofs.leaf_use.use_by.Goals as goal
@@ -45,4 +46,5 @@ returns-clause-meaning c =
       masters = ap (λ (u : Use). u.masters) kept;
       master_limit = c.share_of.ensures.value ∙ (λ i. scale_floor (most i) (percent i) whole);
       no_master = ap (λ (u : Use). not (nat_lt 0 u.master_count)) kept ∙ ap not (some_counted is_master (counted s leaf label));
+      users_used = subst (λ (q : Path). AreUsersOf s label q c.users_at.result.now) c.names-3.ensures.names c.users_at.ensures;
     }

@@ -1,12 +1,13 @@
-use Rattle.std.proofs.Common.{◌≡◌, ◌+◌, ◌<◌, ℕ, List, length, get_or, take, sym, ap, ◌∙◌, arith, length-take-le}
+use Rattle.std.proofs.Common.{◌≡◌, ◌+◌, ◌<◌, ℕ, List, length, get_or, take, sym, ap, subst, ◌∙◌, arith, length-take-le}
 use Rattle.ynl_resource.specs.Names.{is_within}
 use Rattle.ynl_resource.specs.declared.paths.Path.{Path}
 use Rattle.ynl_model.specs.Service.{standing}
+use Rattle.ynl_queues.specs.Index.{AreSteps}
 use Rattle.ynl_tables.specs.declared.rows.LeafRow.{LeafRow}
 use Rattle.ynl_choice.specs.Choosing.{state_in, guaranteed_after}
 use Rattle.ynl_choice.specs.Likely.{path_at}
 use Rattle.ynl_choice.proofs.Before.{taken-within}
-use Rattle.ynl_choice.proofs.Leading.{row-path, taken-front}
+use Rattle.ynl_choice.proofs.Leading.{row-path, steps-to, taken-front}
 use Rattle.ynl_choice.proofs.likely.mark_of.Goals as goal
 
 pub footing_of-footing-requires-clause-above : goal.footing_of-footing-requires-clause-above
@@ -18,6 +19,16 @@ footing_of-footing-requires-clause-above c =
     let inside : place < length scene.tables.now.leaves.items = omega (arith, c.requires.place, c.requires.end) in
     let path : path_at scene place ≡ c.names-names.result.now = row-path scene c.requires.scene place inside row read ∙ sym c.names-names.ensures.names in
     c.requires.above ∙ ap (λ (leaf : Path). guaranteed_after scene leaf c.args.depth) path
+
+pub footing_of-footing-requires-clause-steps : goal.footing_of-footing-requires-clause-steps
+footing_of-footing-requires-clause-steps c =
+    let scene = c.args.scene.now in
+    let place = c.args.place in
+    let row : LeafRow = c.index-as_slice-place.result in
+    let read : row ≡ get_or scene.tables.now.leaves.items place row = c.index-as_slice-place.is ∙ ap (λ (rows : List LeafRow). get_or rows place row) c.as_slice.ensures.value in
+    let inside : place < length scene.tables.now.leaves.items = omega (arith, c.requires.place, c.requires.end) in
+    let path : path_at scene place ≡ c.names-names.result.now = row-path scene c.requires.scene place inside row read ∙ sym c.names-names.ensures.names in
+    subst (λ (leaf : Path). AreSteps scene.config.now.queues leaf c.in_ok-steps.steps.now) path (steps-to scene c.requires.scene place c.queue_of.result c.in_ok-steps.steps.now c.queue_of.ensures.inside c.queue_of.ensures.leaf c.in_ok-steps.ensures)
 
 pub past_within-requires-clause-within : goal.past_within-requires-clause-within
 past_within-requires-clause-within c =

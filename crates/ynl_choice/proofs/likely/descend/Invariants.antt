@@ -1,7 +1,7 @@
 use Rattle.std.proofs.Common.{◌≤◌, length}
 use Rattle.std.specs.Bool.{OnTrue}
 use Rattle.ynl_choice.specs.Likely.{AreBehind, AreBelow}
-use Rattle.ynl_choice.proofs.likely.likely_leaf.Given as goal
+use Rattle.ynl_choice.proofs.likely.descend.Given as goal
 
 -- all leaves that are not in the range stand behind it, if that is sure
 abbrev pub invariant-loop-depth : goal.invariant-loop-depth
