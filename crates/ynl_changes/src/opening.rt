@@ -1,13 +1,16 @@
 //! The tables of a cluster at first.
 
-ghost use Rattle.std.specs.Prelude.{◌≡◌, List, [], ◌∷◌, ◌++◌, map, IfOk, OnOk};
+ghost use Rattle.std.specs.Prelude.{◌≡◌, Bool, List, [], ◌∷◌, ◌++◌, map, IfOk, OnOk};
 ghost use Rattle.std.specs.List.{position};
 ghost use Rattle.ynl_resource.specs.Names.{root, same_path};
+ghost use Rattle.ynl_resource.specs.declared.names.Name.{Name};
 ghost use Rattle.ynl_model.specs.Applications.{LeafApps, no_apps};
 ghost use Rattle.ynl_model.specs.Cluster.{opening, no_containers};
+ghost use Rattle.ynl_model.specs.declared.containers.Placed.{Placed};
 ghost use Rattle.ynl_laws.specs.Uses.{use_by};
 ghost use Rattle.ynl_tables.specs.Kept.{AreByUser, AreSummed, IsKept};
 ghost use Rattle.ynl_tables.specs.Numbers.{AreQueuesOf};
+ghost use Rattle.ynl_tables.specs.Sums.{AreSums};
 ghost use Rattle.ynl_tables.specs.Tables.{state_of, leaves_of, partitions_of};
 ghost use Rattle.ynl_changes.specs.Sharing.{AreCountedParts};
 
@@ -51,14 +54,30 @@ fn no_uses(alloc: Global, numbers: &QueueNumbers) -> Result<Vec<Use>, AllocError
     Ok(uses)
 }
 
+/// What users use of the queue at a place of the configuration where there are no containers. It is kept of leaves
+/// alone, since no other queue has a limit for its users.
+fn no_use_at(alloc: Global, config: &Config, place: usize) -> Sums
+    ensures { (counts : Name → Placed → Bool) → AreSums counts result [] }
+{
+    let is_kept = match config.queues().get(place) {
+        Some(row) => config.is_leaf(row.path.names()),
+        None => false,
+    };
+    if is_kept {
+        Sums::new(alloc)
+    } else {
+        Sums::none()
+    }
+}
+
 /// What users use of queues where there are no containers.
-fn no_users(alloc: Global, numbers: &QueueNumbers) -> Result<Vec<Sums>, AllocError>
+fn no_users(alloc: Global, config: &Config, numbers: &QueueNumbers) -> Result<Vec<Sums>, AllocError>
     ensures { IfOk result (λ users. (leaves : List LeafApps) → AreByUser numbers.now leaves users.items []) }
 {
     let mut users = Vec::new(alloc);
-    users.push(Sums::new(alloc))?;
-    for _i in 0..numbers.len() {
-        users.push(Sums::new(alloc))?;
+    users.push(Sums::none())?;
+    for i in 0..numbers.len() {
+        users.push(no_use_at(alloc, config, i))?;
     }
     Ok(users)
 }
@@ -66,6 +85,7 @@ fn no_users(alloc: Global, numbers: &QueueNumbers) -> Result<Vec<Sums>, AllocErr
 fn push_partition(
     rows: &mut Vec<PartitionRow>,
     alloc: Global,
+    config: &Config,
     numbers: &QueueNumbers,
     label: Label,
 ) -> Result<(), AllocError>
@@ -73,7 +93,7 @@ fn push_partition(
     ensures summed { OnOk result ((leaves : List LeafApps) → AreSummed numbers.now leaves rows.old.items → AreSummed numbers.now leaves rows.new.items) }
 {
     let uses = no_uses(alloc, numbers)?;
-    let users = no_users(alloc, numbers)?;
+    let users = no_users(alloc, config, numbers)?;
     rows.push(PartitionRow {
         label,
         clock: 0,
@@ -90,16 +110,16 @@ fn push_partition(
 /// A row for each partition, DEFAULT first, without containers, and with the clock at 0.
 fn partitions(
     alloc: Global,
-    labels: &Labels,
+    config: &Config,
     numbers: &QueueNumbers,
 ) -> Result<Vec<PartitionRow>, AllocError>
-    ensures meaning { IfOk result (λ rows. partitions_of rows.items ≡ no_containers labels.now) }
+    ensures meaning { IfOk result (λ rows. partitions_of rows.items ≡ no_containers config.now.labels) }
     ensures summed { IfOk result (λ rows. (leaves : List LeafApps) → AreSummed numbers.now leaves rows.items) }
 {
     let mut rows = Vec::new(alloc);
-    push_partition(&mut rows, alloc, numbers, Label::Unlabelled)?;
-    for row in labels.rows() {
-        push_partition(&mut rows, alloc, numbers, Label::Named(row.name))?;
+    push_partition(&mut rows, alloc, config, numbers, Label::Unlabelled)?;
+    for row in config.labels().rows() {
+        push_partition(&mut rows, alloc, config, numbers, Label::Named(row.name))?;
     }
     Ok(rows)
 }
@@ -170,7 +190,7 @@ pub fn opening_tables(alloc: Global, config: &Config) -> Result<Tables, AllocErr
     let numbers = QueueNumbers::new(alloc, config)?;
     Ok(Tables {
         nodes: Nodes::new(alloc),
-        partitions: partitions(alloc, config.labels(), &numbers)?,
+        partitions: partitions(alloc, config, &numbers)?,
         leaves: leaves(alloc, config)?,
         stops: Stops::new(alloc, config)?,
         maxima: Maxima::new(alloc, config)?,

@@ -59,7 +59,7 @@ pub fn serve(
         let Some(request) = next_request(config, tables, lulls, node) else {
             return;
         };
-        forget_leaf_for(lulls, tables, &request);
+        forget_leaf_for(lulls, tables, &request, &node.label);
         let container = place(config, tables, node, &request);
         push_copy(placed, &container);
     }

@@ -31,6 +31,7 @@ use Rattle.ynl_laws.proofs.Events.Kept.{kept-find, kept-on}
 use Rattle.ynl_laws.proofs.Lists.{Each-filter}
 use Rattle.ynl_laws.proofs.Logic.{not-false, not-true}
 use Rattle.ynl_laws.proofs.Names.{same-path}
+use Rattle.ynl_laws.proofs.Totals.Elsewhere.{lulls-last_asking_elsewhere, lulls-last_ending_elsewhere}
 use Rattle.ynl_laws.proofs.Totals.Lulls.{lulls-last_asking, lulls-last_ending, lulls-last_finishing, lulls-last_submitting}
 use Rattle.ynl_tables.specs.declared.rows.LeafRow.{LeafRow}
 use Rattle.ynl_tables.specs.Numbers.{AreNumbered, AreQueuesOf}
@@ -39,8 +40,8 @@ use Rattle.ynl_tables.specs.declared.tables.Tables.{Tables}
 use Rattle.ynl_tables.specs.Tables.{leaves_of, partitions_of, state_of}
 use Rattle.ynl_tables.proofs.Numbering.{path_self}
 use Rattle.ynl_choice.specs.declared.lulls.Lulls.{Lulls}
-use Rattle.ynl_choice.specs.Lulls.{AreFewer, AreLulls, IsForgotten}
-use Rattle.ynl_changes.proofs.Lulling.{known_numbered, lulls_last, lulls_placed}
+use Rattle.ynl_choice.specs.Lulls.{AreFewer, AreLulls, IsForgotten, changed_on}
+use Rattle.ynl_changes.proofs.Lulling.{known_numbered, lulls_last, lulls_placed, nowhere-else}
 use Rattle.ynl_core.proofs.Reserved.{placeable_reserved, with_rows}
 
 -- the partition of a container that stands there is there
@@ -54,7 +55,7 @@ row_there s label test container once = go (find (is_partition label) s.partitio
 -- a container ends whose leaf is forgotten
 pub lulls_ended : (c : Config) (queues : List Path) (s new : State) (container : Placed) (rows : List LeafRow) (old fewer : Lulls) → Kept s → Tabled s → filter (λ other. same_id other.id container.id) (containers_on s container.id.label) ≡ container ∷ []
     → new ≡ end c s container → AreNumbered queues (leaves_of rows) → leaves_of rows ≡ s.leaves → AreNumbered queues new.leaves → AreLulls c s old → AreFewer old.parts.items fewer.parts.items
-    → ((leaf : Path) → leaf_of (leaves_of rows) container.tenant container.app ≡ Some leaf → IsForgotten leaf rows fewer) → AreLulls c new fewer
+    → ((leaf : Path) → leaf_of (leaves_of rows) container.tenant container.app ≡ Some leaf → IsForgotten (Some container.id.label) leaf rows fewer) → AreLulls c new fewer
 lulls_ended c queues s new container rows old fewer kept tabled once moved seen same after h less gone = go (leaf_of s.leaves container.tenant container.app) refl used
   where
     used : is_some (leaf_of s.leaves container.tenant container.app) ≡ true
@@ -68,8 +69,11 @@ lulls_ended c queues s new container rows old fewer kept tabled once moved seen 
     go : (o : Option Path) → leaf_of s.leaves container.tenant container.app ≡ o → is_some o ≡ true → AreLulls c new fewer
     go None e some = absurd (true≢false (sym some))
     go (Some leaf) e some =
-        lulls_last c queues s new rows leaf old fewer before after seen (known_numbered queues s.leaves container.tenant container.app leaf before e) h less
+        lulls_last c queues s new rows (Some container.id.label) leaf old fewer before after seen (known_numbered queues s.leaves container.tenant container.app leaf before e) h less
         (gone leaf (ap (λ leaves. leaf_of leaves container.tenant container.app) same ∙ e))
+        (λ label other off.
+        subst (λ z. Lasts c s z label other) (sym moved)
+        (lulls-last_ending_elsewhere c s container label other kept tabled (row_there s container.id.label (λ k. same_id k.id container.id) container once) once off))
         (λ label other off. subst (λ z. Lasts c s z label other) (sym moved) (lulls-last_ending c s container leaf label other kept tabled (row_there s container.id.label (λ k. same_id k.id container.id) container once) once e off))
 
 -- the leaf of an application that is found has a number
@@ -80,7 +84,7 @@ app_numbered queues s tenant name app kept numbered found =
 -- an application asks whose leaf is forgotten
 pub lulls_asked : (c : Config) (queues : List Path) (s new : State) (tenant name : Name) (leaf : Path) (ask : AskRow) (rows : List LeafRow) (old fewer : Lulls) → Kept s → Tabled s → option_map (λ (app : Application). app.leaf) (find_app s.leaves tenant name) ≡ Some leaf
     → new ≡ record s { leaves = in_leaf leaf (with_app name (set_ask ask)) s.leaves } → AreNumbered queues (leaves_of rows) → leaves_of rows ≡ s.leaves → AreNumbered queues new.leaves → AreLulls c s old → AreFewer old.parts.items fewer.parts.items
-    → IsForgotten leaf rows fewer → AreLulls c new fewer
+    → IsForgotten (Some ask.label) leaf rows fewer → AreLulls c new fewer
 lulls_asked c queues s new tenant name leaf ask rows old fewer kept tabled of moved seen same after h less gone = go (find_app s.leaves tenant name) refl of
   where
     before : AreNumbered queues s.leaves
@@ -90,16 +94,17 @@ lulls_asked c queues s new tenant name leaf ask rows old fewer kept tabled of mo
     go None e k = absurd (cc)
     go (Some app) e k =
         let at : app.leaf ≡ leaf = cc in
-        lulls_last c queues s new rows leaf old fewer before after seen (subst (λ path. list_any (same_path path) queues ≡ true) at (app_numbered queues s tenant name app kept before e)) h less gone
+        lulls_last c queues s new rows (Some ask.label) leaf old fewer before after seen (subst (λ path. list_any (same_path path) queues ≡ true) at (app_numbered queues s tenant name app kept before e)) h less gone
+        (λ label other off. subst (λ z. Lasts c s z label other) (sym moved) (lulls-last_asking_elsewhere c s leaf name ask label other kept tabled off))
         (λ label other off. subst (λ z. Lasts c s z label other) (sym moved) (lulls-last_asking c s leaf name ask label other kept tabled off))
 
 -- an application finishes whose leaf is forgotten
 pub lulls_finished : (c : Config) (queues : List Path) (s new : State) (tenant name : Name) (app : Application) (rows : List LeafRow) (old fewer : Lulls) → IsOrdered c s → Kept s → Tabled s → find_app s.leaves tenant name ≡ Some app
-    → new ≡ app_finishes c app s → AreNumbered queues (leaves_of rows) → leaves_of rows ≡ s.leaves → AreNumbered queues new.leaves → AreLulls c s old → AreFewer old.parts.items fewer.parts.items → IsForgotten app.leaf rows fewer → AreLulls c new fewer
+    → new ≡ app_finishes c app s → AreNumbered queues (leaves_of rows) → leaves_of rows ≡ s.leaves → AreNumbered queues new.leaves → AreLulls c s old → AreFewer old.parts.items fewer.parts.items → IsForgotten None app.leaf rows fewer → AreLulls c new fewer
 lulls_finished c queues s new tenant name app rows old fewer ordered kept tabled found moved seen same after h less gone =
     let before : AreNumbered queues s.leaves = subst (AreNumbered queues) same seen in
     let known : IsKnown s.leaves app.leaf app.name = subst (λ o. IfSome o (λ (app : Application). IsKnown s.leaves app.leaf app.name)) found (kept-find s kept tenant name) in
-    lulls_last c queues s new rows app.leaf old fewer before after seen (app_numbered queues s tenant name app kept before found) h less gone
+    lulls_last c queues s new rows None app.leaf old fewer before after seen (app_numbered queues s tenant name app kept before found) h less gone (nowhere-else c s new)
     (λ label other off. subst (λ z. Lasts c s z label other) (sym moved) (lulls-last_finishing c s app label other ordered kept tabled known off))
 
 -- a queue of the configuration is listed
@@ -137,15 +142,15 @@ leaf_listed c s queue app user label master none =
 pub lulls_submitted : (c : Config) (queues : List Path) (s new : State) (user : Name) (label : Option Label) (master : Resource) (app : Application) (rows : List LeafRow) (old fewer : Lulls) → Kept s → Tabled s → AreQueuesOf c queues
     → first_that_holds (reasons c s (Submit app.leaf app.name user label master)) ≡ None → is_some (leaf_of s.leaves (tenant_of app.leaf) app.name) ≡ false
     → new ≡ record s { leaves = in_leaf app.leaf (submitted app) s.leaves } → AreNumbered queues (leaves_of rows) → leaves_of rows ≡ s.leaves → AreNumbered queues new.leaves → AreLulls c s old → AreFewer old.parts.items fewer.parts.items
-    → IsForgotten app.leaf rows fewer → AreLulls c new fewer
+    → IsForgotten None app.leaf rows fewer → AreLulls c new fewer
 lulls_submitted c queues s new user label master app rows old fewer kept tabled queued free unused moved seen same after h less gone =
-    lulls_last c queues s new rows app.leaf old fewer (subst (AreNumbered queues) same seen) after seen (subst (λ qs. list_any (same_path app.leaf) qs ≡ true) (sym queued) (leaf_listed c s app.leaf app.name user label master free)) h less gone
+    lulls_last c queues s new rows None app.leaf old fewer (subst (AreNumbered queues) same seen) after seen (subst (λ qs. list_any (same_path app.leaf) qs ≡ true) (sym queued) (leaf_listed c s app.leaf app.name user label master free)) h less gone (nowhere-else c s new)
     (λ part other off. subst (λ z. Lasts c s z part other) (sym moved) (lulls-last_submitting c s app part other kept tabled unused off))
 
 -- what is committed is placed, and its leaf is forgotten
 pub lulls_committed : (c : Config) (t : Tables) (rows : List PartitionRow) (new : State) (proposal : Proposal) (node : Node) (item : Item) (old fewer : Lulls) → partitions_of rows ≡ partitions_of t.partitions.items → IsWorking c (state_of t) → Tabled (state_of t)
     → first_that_holds (commit_reasons c (state_of t) proposal) ≡ None → node_of (state_of t) proposal.node ≡ Some node → option_map (proposed_item proposal) (find_app (state_of t).leaves proposal.tenant proposal.app) ≡ Some item
-    → new ≡ place c node item (with_rows t rows) → AreNumbered t.numbers (leaves_of t.leaves.items) → AreNumbered t.numbers new.leaves → AreLulls c (state_of t) old → AreFewer old.parts.items fewer.parts.items → IsForgotten item.leaf t.leaves.items fewer → AreLulls c new fewer
+    → new ≡ place c node item (with_rows t rows) → AreNumbered t.numbers (leaves_of t.leaves.items) → AreNumbered t.numbers new.leaves → AreLulls c (state_of t) old → AreFewer old.parts.items fewer.parts.items → IsForgotten (changed_on node.label item.what) item.leaf t.leaves.items fewer → AreLulls c new fewer
 lulls_committed c t rows new proposal node item old fewer meaning working tabled none at of moved seen after h less gone =
     let same : with_rows t rows ≡ state_of t = λ i. record (state_of t) { partitions = meaning i } in
     let placeable = placeable_reserved c t rows proposal node item meaning working tabled none at of in

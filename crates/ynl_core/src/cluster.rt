@@ -129,6 +129,7 @@ impl Core {
             &self.tables,
             &container.tenant,
             &container.app,
+            &Some(container.id.label),
         );
         end(&self.config, &mut self.tables, &container);
         wake(&mut self.tables);
@@ -154,7 +155,7 @@ impl Core {
             name,
             ask.count,
         )?;
-        forget_leaf(&mut self.lulls, &self.tables, &leaf);
+        forget_leaf(&mut self.lulls, &self.tables, &leaf, &Some(ask.label));
         ask_for(
             &mut self.tables.leaves,
             &self.tables.numbers,
@@ -180,6 +181,7 @@ impl Core {
             &self.tables,
             &container.tenant,
             &container.app,
+            &Some(container.id.label),
         );
         end(&self.config, &mut self.tables, &container);
         wake(&mut self.tables);
@@ -214,7 +216,7 @@ impl Core {
             master: *master,
         };
         let alloc = *self.tables.leaves.allocator();
-        forget_leaf(&mut self.lulls, &self.tables, queue);
+        forget_leaf(&mut self.lulls, &self.tables, queue, &None);
         submit(&mut self.tables.leaves, &self.tables.numbers, &new, alloc);
         wake(&mut self.tables);
         Ok(Reply::Done)
@@ -265,7 +267,7 @@ impl Core {
         };
         let leaf = *live.leaf;
         let app = live.app.name;
-        forget_leaf(&mut self.lulls, &self.tables, &leaf);
+        forget_leaf(&mut self.lulls, &self.tables, &leaf, &None);
         finish_application(&self.config, &mut self.tables, &leaf, &app);
         wake(&mut self.tables);
         Reply::Done
@@ -369,7 +371,7 @@ impl Core {
         let _sized = proposal.size.amount();
         let node = checked.node;
         reserve_containers(&mut self.tables.partitions, &node.label, 1)?;
-        forget_leaf_for(&mut self.lulls, &self.tables, &checked.request);
+        forget_leaf_for(&mut self.lulls, &self.tables, &checked.request, &node.label);
         let container = place(&self.config, &mut self.tables, &node, &checked.request);
         wake(&mut self.tables);
         Ok(Reply::Committed(container))

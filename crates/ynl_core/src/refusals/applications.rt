@@ -8,7 +8,8 @@ ghost use Rattle.ynl_model.specs.Applications.{find_app};
 ghost use Rattle.ynl_model.specs.Events.{home_of, reasons};
 ghost use Rattle.ynl_model.specs.declared.events.Event.TheVariants.{Submit, Finish, Poll};
 ghost use Rattle.ynl_model.specs.declared.events.Event.TheVariants as event;
-ghost use Rattle.ynl_tables.specs.Tables.{state_of, app_of};
+ghost use Rattle.ynl_tables.specs.Numbers.{AreNumbered};
+ghost use Rattle.ynl_tables.specs.Tables.{state_of, leaves_of, app_of};
 
 use ynl_model::AskRow;
 use ynl_queues::Config;
@@ -35,6 +36,7 @@ pub(crate) fn refuse_submit(
     label: Option<Label>,
     master: &Size,
 ) -> Result<Label, Refusal>
+    requires numbered { AreNumbered tables.now.numbers (leaves_of tables.now.leaves.items) }
     ensures refused { IfErr result (λ refusal. (user : List ℕ) → first_that_holds (reasons config.now (state_of tables.now) (Submit queue.now app.now user label master.now)) ≡ Some refusal) }
     ensures free { IfOk result (λ _. (user : List ℕ) → first_that_holds (reasons config.now (state_of tables.now) (Submit queue.now app.now user label master.now)) ≡ None) }
     ensures home { IfOk result (λ home. home ≡ home_of config.now queue.now label) }
@@ -77,11 +79,12 @@ pub(crate) fn refuse_ask(
     name: &Name,
     ask: &AskRow,
 ) -> Result<Path, Refusal>
+    requires numbered { AreNumbered tables.now.numbers (leaves_of tables.now.leaves.items) }
     ensures refused { IfErr result (λ refusal. first_that_holds (reasons config.now (state_of tables.now) (event.Ask tenant.now name.now ask.now.label ask.now.priority ask.now.count ask.now.size)) ≡ Some refusal) }
     ensures free { IfOk result (λ _. first_that_holds (reasons config.now (state_of tables.now) (event.Ask tenant.now name.now ask.now.label ask.now.priority ask.now.count ask.now.size)) ≡ None) }
     ensures leaf { IfOk result (λ leaf. option_map (λ app. app.leaf) (find_app (state_of tables.now).leaves tenant.now name.now) ≡ Some leaf) }
 {
-    let Some(live) = live_at(&tables.leaves, tenant.as_bytes(), name) else {
+    let Some(live) = live_at(&tables.numbers, &tables.leaves, tenant, name) else {
         return Err(Refusal::NoSuchApplication);
     };
     if !config.labels().has(&ask.label) {
@@ -106,11 +109,12 @@ pub(crate) fn refuse_finish<'a>(
     tenant: &Name,
     name: &Name,
 ) -> Result<Live<'a>, Refusal>
+    requires numbered { AreNumbered tables.now.numbers (leaves_of tables.now.leaves.items) }
     ensures refused { IfErr result (λ refusal. (c : Config) → first_that_holds (reasons c (state_of tables.now) (Finish tenant.now name.now)) ≡ Some refusal) }
     ensures free { IfOk result (λ _. (c : Config) → first_that_holds (reasons c (state_of tables.now) (Finish tenant.now name.now)) ≡ None) }
     ensures live { IfOk result (λ live. find_app (state_of tables.now).leaves tenant.now name.now ≡ Some (app_of live.leaf.now live.app.now)) }
 {
-    match live_at(&tables.leaves, tenant.as_bytes(), name) {
+    match live_at(&tables.numbers, &tables.leaves, tenant, name) {
         Some(live) => Ok(live),
         None => Err(Refusal::NoSuchApplication),
     }
@@ -125,11 +129,12 @@ pub(crate) fn refuse_poll<'a>(
     name: &Name,
     label: &Label,
 ) -> Result<Live<'a>, Refusal>
+    requires numbered { AreNumbered tables.now.numbers (leaves_of tables.now.leaves.items) }
     ensures refused { IfErr result (λ refusal. first_that_holds (reasons config.now (state_of tables.now) (Poll tenant.now name.now label.now)) ≡ Some refusal) }
     ensures free { IfOk result (λ _. first_that_holds (reasons config.now (state_of tables.now) (Poll tenant.now name.now label.now)) ≡ None) }
     ensures live { IfOk result (λ live. find_app (state_of tables.now).leaves tenant.now name.now ≡ Some (app_of live.leaf.now live.app.now)) }
 {
-    let Some(live) = live_at(&tables.leaves, tenant.as_bytes(), name) else {
+    let Some(live) = live_at(&tables.numbers, &tables.leaves, tenant, name) else {
         return Err(Refusal::NoSuchApplication);
     };
     if !config.labels().has(label) {

@@ -13,12 +13,12 @@ pub loop-i-preserved : goal.loop-i-preserved
 loop-i-preserved c =
     let users = c.loop-i.users.items in
     let items = c.in_ok-push-2.ensures.items in
-    let longer : length c.push-in-loop-i.new.self.items ≡ length users + 1 = ap length items ∙ length-append users (c.new-in-loop-i.result ∷ []) in
+    let longer : length c.push-in-loop-i.new.self.items ≡ length users + 1 = ap length items ∙ length-append users (c.no_use_at.result ∷ []) in
     record {
       len = longer ∙ ap (λ n. n + 1) c.loop-i.invariant.len;
       each = λ (counts : Name → Placed → Bool).
           let P : Sums → Type 0 = λ sums. AreSums counts sums [] in
-          subst (AllByRecursion P) (sym items) (Each-append P users (c.new-in-loop-i.result ∷ []) (c.loop-i.invariant.each counts) (c.new-in-loop-i.ensures counts, tt));
+          subst (AllByRecursion P) (sym items) (Each-append P users (c.no_use_at.result ∷ []) (c.loop-i.invariant.each counts) (c.no_use_at.ensures counts, tt));
     }
 
 pub returns : goal.returns

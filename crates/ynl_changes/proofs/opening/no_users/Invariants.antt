@@ -7,6 +7,6 @@ use Rattle.ynl_changes.proofs.opening.no_users.Given as goal
 
 abbrev pub invariant-loop-i : goal.invariant-loop-i
 invariant-loop-i l = record {
-  len : length l.users.items ≡ l._i + 1;
+  len : length l.users.items ≡ l.i + 1;
   each : (counts : Name → Placed → Bool) → AllByRecursion (λ sums. AreSums counts sums []) l.users.items;
 }
