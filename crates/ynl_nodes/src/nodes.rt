@@ -195,7 +195,7 @@ impl Nodes {
             Ok(_) => {
                 self.roster.push_reserved(number, node);
                 self.marks.push_reserved(number, AWAKE);
-                self.hints.note(&node.name, number, self.roster.len());
+                self.hints.note(&[&node.name], number, self.roster.len());
                 raise(&mut self.sums, &node.label, size);
                 Ok(())
             }
@@ -238,7 +238,7 @@ impl Nodes {
                     },
                 );
                 self.marks.push_reserved(number, AWAKE);
-                self.hints.note(&node.name, number, self.roster.len());
+                self.hints.note(&[&node.name], number, self.roster.len());
                 lower(&mut self.sums, &node.label, size);
                 raise(&mut self.sums, label, size);
                 Ok(())

@@ -21,7 +21,7 @@ pub(crate) struct Spot {
 fn spot_hinted(hints: &Hints<u64>, roster: &Roster<Node>, name: &Name) -> Option<Spot>
     ensures { IfSome result (λ spot. IsLedTo roster.now name.now spot.number spot.node) }
 {
-    let Some(number) = hints.of(name) else {
+    let Some(number) = hints.of(&[name]) else {
         return None;
     };
     let Some(node) = roster.get(number) else {

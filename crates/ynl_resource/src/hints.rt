@@ -4,17 +4,18 @@
 use crate::names::Name;
 use std::alloc::{AllocError, Global};
 
-/// Hints by names. A name has a slot, which others may have too: there stands the hint that was noted last for any
-/// of them. There are more slots than names while there is memory for it, so most names have a slot of their own.
+/// Hints by names, of which one thing may have several. Its names have a slot, which those of others may have too: there
+/// stands the hint that was noted last for any of them. There are more slots than things while there is memory for it, so
+/// most have a slot of their own.
 #[derive(Drop)]
 pub struct Hints<T> {
     slots: Vec<T>,
 }
 
-/// The slots for each name.
+/// The slots for each thing.
 const SLOTS: usize = 2;
 
-/// How many slots there are at first.
+/// How many slots there are at first. It is a power of two, and they are only ever doubled.
 const FIRST: usize = 64;
 
 /// What the bytes of names are mixed by: start and factor of FNV-1a of 64 bits.
@@ -22,13 +23,22 @@ const START: u64 = 0xcbf2_9ce4_8422_2325;
 
 const FACTOR: u64 = 0x0000_0100_0000_01b3;
 
-/// A number in which every byte of the name counts.
-fn mixed(name: &Name) -> u64 {
-    let mut mixed = START;
+/// A number in which every byte of a name counts, and all that was mixed before.
+fn mixed(before: u64, name: &Name) -> u64 {
+    let mut mixed = before;
     for byte in name.as_bytes() {
         mixed = (mixed ^ u64::from(*byte)).wrapping_mul(FACTOR);
     }
     mixed
+}
+
+/// A number in which every byte of some names counts.
+fn mixed_of(names: &[&Name]) -> u64 {
+    let mut all = START;
+    for name in names {
+        all = mixed(all, name);
+    }
+    all
 }
 
 impl<T: Copy + Drop> Hints<T> {
@@ -39,18 +49,18 @@ impl<T: Copy + Drop> Hints<T> {
         }
     }
 
-    /// Where the slot of a name is; none where there are no slots.
-    fn slot(&self, name: &Name) -> Option<usize> {
+    /// Where the slot of some names is; none where there are no slots.
+    fn slot(&self, names: &[&Name]) -> Option<usize> {
         let count = self.slots.len();
         if count == 0 {
             return None;
         }
-        Some(mixed(name) as usize % count)
+        Some(mixed_of(names) as usize & (count - 1))
     }
 
-    /// The hint of a name, if any was noted.
-    pub fn of(&self, name: &Name) -> Option<T> {
-        let slot = self.slot(name)?;
+    /// The hint of the thing of some names, if any was noted.
+    pub fn of(&self, names: &[&Name]) -> Option<T> {
+        let slot = self.slot(names)?;
         if slot < self.slots.len() {
             Some(self.slots[slot])
         } else {
@@ -67,7 +77,7 @@ impl<T: Copy + Drop> Hints<T> {
         Ok(())
     }
 
-    /// Twice as many slots: what stands in one stands in both that it becomes, since a name is in one of them.
+    /// Twice as many slots: what stands in one stands in both that it becomes, since names are in one of them.
     fn double(&mut self) -> Result<(), AllocError> {
         let count = self.slots.len();
         self.slots.reserve(count)?;
@@ -80,25 +90,25 @@ impl<T: Copy + Drop> Hints<T> {
         Ok(())
     }
 
-    /// More slots, if there are too few for so many names.
-    fn widen(&mut self, hint: T, names: usize) -> Result<(), AllocError> {
+    /// More slots, if there are too few for so many things.
+    fn widen(&mut self, hint: T, things: usize) -> Result<(), AllocError> {
         let count = self.slots.len();
         if count == 0 {
             return self.open(hint);
         }
-        if count / SLOTS < names {
+        if count / SLOTS < things {
             return self.double();
         }
         Ok(())
     }
 
-    /// A hint for one of so many names. Where memory is refused there are as many slots as before.
-    pub fn note(&mut self, name: &Name, hint: T, names: usize) {
-        match self.widen(hint, names) {
+    /// A hint for one of so many things, by its names. Where memory is refused there are as many slots as before.
+    pub fn note(&mut self, names: &[&Name], hint: T, things: usize) {
+        match self.widen(hint, things) {
             Ok(()) => {}
             Err(_) => {}
         }
-        if let Some(slot) = self.slot(name) {
+        if let Some(slot) = self.slot(names) {
             if slot < self.slots.len() {
                 self.slots[slot] = hint;
             }

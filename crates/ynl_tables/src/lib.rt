@@ -23,6 +23,7 @@ pub use queue_use::{
 };
 pub use resting::{rest, wake};
 pub use rows::{App, ContainerRow, Kind, LeafPart, LeafRow, Near, PartitionRow};
+pub use seats::Seat;
 pub use sharing::{shares, users};
 pub use sums::Sums;
 pub use tables::{
@@ -49,6 +50,7 @@ mod polling;
 mod queue_use;
 mod resting;
 mod rows;
+mod seats;
 mod sharing;
 mod siblings;
 mod sums;

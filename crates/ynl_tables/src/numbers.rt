@@ -10,6 +10,7 @@ ghost use Rattle.ynl_tables.specs.Tables.{leaves_of};
 ghost use Rattle.ynl_tables.specs.Tenants.{IsOnward};
 
 use crate::rows::Way;
+use crate::seats::{Seat, Seats};
 use crate::siblings::{ends_of, leaf_places, paths_at};
 use crate::tables::tenant_bytes;
 use crate::tenants::Tenants;
@@ -20,7 +21,8 @@ use ynl_resource::{Name, Path};
 
 /// The numbers of the queues of a configuration. Root has number 0, and the queues below follow in
 /// the order of the configuration; and of its leaves where they stand among these, which stand next to each other below
-/// one queue, and which are of one tenant. A contract sees the queues below root.
+/// one queue, and which are of one tenant; and hints where applications stand in these. A contract sees the queues below
+/// root.
 #[derive(Drop)]
 pub struct QueueNumbers {
     queues: Vec<Path>,
@@ -29,6 +31,7 @@ pub struct QueueNumbers {
     leaves: Vec<Path>,
     ends: Vec<usize>,
     tenants: Tenants,
+    seats: Seats,
 }
 
 impl Model for QueueNumbers {
@@ -61,7 +64,20 @@ impl QueueNumbers {
             leaves,
             ends,
             tenants,
+            seats: Seats::new(alloc),
         })
+    }
+
+    /// Where the application of a tenant and a name is thought to stand, if that was noted.
+    pub fn seat(&self, tenant: &Name, name: &Name) -> Option<Seat> {
+        self.seats.of(tenant, name)
+    }
+
+    /// Where an application of a tenant and a name stands that was submitted, for later.
+    pub fn note_seat(&mut self, tenant: &Name, name: &Name, seat: Seat)
+        ensures { self.new ≡ self.old }
+    {
+        self.seats.note(tenant, name, seat);
     }
 
     /// How many queues there are below root.
