@@ -1,9 +1,6 @@
 -- A plain tree, and what serde_json reads of it.
 use mathlib.Core.Bool.{true≢false}
-use Rattle.std.specs.Prelude.{⊤, is_none, is_some}
-use Rattle.std.proofs.Common.{zero, ◌<◌, ◌++◌, take, get_or}
-use Rattle.std.proofs.lemmas.List.{take_more}
-use Rattle.json.proofs.Trees.{get_member-push}
+use Rattle.std.specs.Prelude.{⊤, is_none}
 use Rattle.std.proofs.Common.{◌≡◌, ℕ, suc, ◌+◌, Bool, true, false, cond, List, [], ◌∷◌, length, Option, Some, None, refl, sym, ap, subst, ◌∙◌, arith, option_map, option_and_then}
 use Rattle.std.proofs.Common.{Ordering, Less, Equal, Greater, nat_cmp}
 use Rattle.std.specs.Ordering.{match_ordering}
@@ -190,27 +187,3 @@ no_object (json.object ms) h e = absurd (let impossible : Some ms ≡ None = e i
 pub count_view : {A : Type 0} → (ms : List (Bor (List ℕ) × Value A)) → count (members_view ms) ≡ length ms
 count_view [] = refl
 count_view (m ∷ ms) = ap suc (count_view ms)
-
--- ---- members in a list
-
-some_later : (o p : Option json.Json) → is_some o ≡ true → is_some (json_find.later_or o p) ≡ true
-some_later None p h = absurd (true≢false (sym h))
-some_later (Some j) p h = refl
-
-some_here : (o : Option json.Json) (b : Bool) (j : json.Json) → b ≡ true → is_some (json_find.later_or o (cond b (Some j) None)) ≡ true
-some_here None true j h = refl
-some_here None false j h = absurd (true≢false (sym h))
-some_here (Some i) b j h = refl
-
-module _ {A : Type 0} (key : List ℕ) where
-  pub has_at : (ms : List (Bor (List ℕ) × Value A)) (i : ℕ) (m : Bor (List ℕ) × Value A) → i < length ms → m ≡ get_or ms i m → bytes_eq m.0.now key ≡ true → is_some (json_find.get_member key (members_view ms)) ≡ true
-  has_at [] i m inside e same = absurd (omega arith)
-  has_at (n ∷ ms) zero m inside e same = some_here (json_find.get_member key (members_view ms)) (bytes_eq n.0.now key) (value_view n.1) (ap (λ (m : Bor (List ℕ) × Value A). bytes_eq m.0.now key) (sym e) ∙ same)
-  has_at (n ∷ ms) (suc i) m inside e same = some_later (json_find.get_member key (members_view ms)) (cond (bytes_eq n.0.now key) (Some (value_view n.1)) None) (has_at ms i m (omega arith) e same)
-
-  pub lacks_next : (ms : List (Bor (List ℕ) × Value A)) (i : ℕ) (m : Bor (List ℕ) × Value A) → i < length ms → m ≡ get_or ms i m → bytes_eq m.0.now key ≡ false → json_find.get_member key (members_view (take i ms)) ≡ None → json_find.get_member key (members_view (take (i + 1) ms)) ≡ None
-  lacks_next ms i m inside e differs before =
-      ap (λ (ns : List (Bor (List ℕ) × Value A)). json_find.get_member key (members_view ns)) (take_more ms i m inside ∙ ap (λ n. take i ms ++ n ∷ []) (sym e))
-      ∙ get_member-push key (take i ms) m
-      ∙ ap (λ b. cond b (Some (value_view m.1)) (json_find.get_member key (members_view (take i ms)))) differs
-      ∙ before

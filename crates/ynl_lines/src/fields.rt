@@ -11,6 +11,7 @@ ghost use Rattle.serde_json.specs.View.{view, items_view};
 ghost use Rattle.ynl_lines.specs.Trees.{is_plain, is_plain_at, data_at, data_of};
 
 use crate::numbers::whole_of;
+use crate::trees::value_at;
 
 /// Where a value stands: in a plain tree, or in a value of serde_json's.
 #[derive(Clone, Copy)]
@@ -62,7 +63,7 @@ impl<'t, 'a> Fields<'t, 'a> {
         ensures { option_map (λ f. data_at f.stands) result ≡ get key.now (data_at self.now.stands) }
     {
         match self.stands {
-            Stands::Tree(tree) => match tree.get(key) {
+            Stands::Tree(tree) => match value_at(tree, key) {
                 Some(found) => Some(Fields::tree(found)),
                 None => None,
             },

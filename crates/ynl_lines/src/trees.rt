@@ -1,10 +1,11 @@
 //! Lines as trees over their own text. A line is mostly an object of texts and whole numbers, and is read as that
 //! with no memory for its keys and texts. Any other text is read by [serde_json].
 
-ghost use Rattle.std.specs.Prelude.{◌≡◌, true, is_some, IfOk};
+ghost use Rattle.std.specs.Prelude.{◌≡◌, true, is_some, IfOk, option_map};
 ghost use Rattle.std.specs.Bool.{OnTrue};
 ghost use Rattle.std.specs.Option.{option_and_then};
-ghost use Rattle.json.specs.Find.{get_member};
+ghost use Rattle.std.specs.Str.{bytes_eq};
+ghost use Rattle.json.specs.Find.{get, get_member};
 ghost use Rattle.json.specs.Value.{value_view, members_view};
 ghost use Rattle.serde_json.specs.Read.{of_json};
 ghost use Rattle.ynl_lines.specs.Reading.{reading};
@@ -14,45 +15,83 @@ use crate::numbers::whole_of;
 use json::{Error, Reader, Scratch, Value};
 use std::alloc::{AllocError, Global};
 
-/// Whether a key is among those of some members.
-fn has_key(members: &[(&str, Value<'_>)], key: &str) -> bool
-    ensures { result ≡ is_some (get_member key.now (members_view members.now)) }
+/// Whether two keys are one. Most keys of a line are told apart by their lengths alone, which costs no call.
+fn is_same_key(key: &str, other: &str) -> bool
+    ensures { result ≡ bytes_eq key.now other.now }
 {
-    for (name, _) in members {
-        if *name == key {
-            return true;
+    key.len() == other.len() && key == other
+}
+
+/// The value of the last member with a key.
+fn find<'t, 'a>(members: &'t [(&'a str, Value<'a>)], key: &str) -> Option<&'t Value<'a>>
+    ensures { option_map (λ v. value_view v.now) result ≡ get_member key.now (members_view members.now) }
+{
+    let mut left = members.len();
+    while left > 0 {
+        left -= 1;
+        let member = &members[left];
+        if is_same_key(member.0, key) {
+            return Some(&member.1);
         }
     }
-    false
+    None
+}
+
+/// What stands under a key, where the value is an object.
+pub fn value_at<'t, 'a>(tree: &'t Value<'a>, key: &str) -> Option<&'t Value<'a>>
+    ensures { option_map (λ v. value_view v.now) result ≡ get key.now (value_view tree.now) }
+{
+    match tree {
+        Value::Object(members) => find(members, key),
+        _ => None,
+    }
+}
+
+/// Whether a key is among those of some members.
+fn has_key<'a>(members: &[(&'a str, Value<'a>)], key: &str) -> bool
+    ensures { result ≡ is_some (get_member key.now (members_view members.now)) }
+{
+    find(members, key).is_some()
 }
 
 /// The most keys of an object that is taken as a tree, since each of them is compared with all behind it.
 const MOST_KEYS: usize = 16;
+
+/// Whether a value is a text or a whole number.
+fn is_scalar(value: &Value<'_>) -> bool
+    ensures { OnTrue result (is_plain (value_view value.now) ≡ true) }
+{
+    match value {
+        Value::String(_) => true,
+        Value::Number(text) => whole_of(text).is_some(),
+        _ => false,
+    }
+}
 
 /// Whether a value is a text, a whole number, or an object of few such values with no key twice, and no deeper than
 /// this.
 pub fn is_plain(value: &Value<'_>, depth: usize) -> bool
     ensures { OnTrue result (is_plain (value_view value.now) ≡ true) }
 {
-    match value {
-        Value::String(_) => true,
-        Value::Number(text) => whole_of(text).is_some(),
-        Value::Object(members) => {
-            if depth == 0 || members.len() > MOST_KEYS {
-                return false;
-            }
-            let mut left = members.len();
-            while left > 0 {
-                left -= 1;
-                let (key, member) = &members[left];
-                if has_key(&members[left + 1..], key) || !is_plain(member, depth - 1) {
-                    return false;
-                }
-            }
-            true
-        }
-        _ => false,
+    let Value::Object(members) = value else {
+        return is_scalar(value);
+    };
+    if depth == 0 || members.len() > MOST_KEYS {
+        return false;
     }
+    let mut left = members.len();
+    while left > 0 {
+        left -= 1;
+        let (key, member) = &members[left];
+        if has_key(&members[left + 1..], key) {
+            return false;
+        }
+        // Most members are no objects, and are worth no deeper call.
+        if !is_scalar(member) && !is_plain(member, depth - 1) {
+            return false;
+        }
+    }
+    true
 }
 
 /// How deep serde_json reads.
