@@ -12,20 +12,25 @@ use crate::replies::{asked_fields, master_fields, pending_fields, refused_fields
 use crate::sending::{begin_with, end_with, send_key, send_object};
 use serde::{Described, Serialize, Serializer};
 use std::alloc::Global;
+use std::fmt::Write;
 use ynl_model::{Pending, Placed, Proposal, Reply, What};
 
-fn send_placed<S: Serializer>(alloc: Global, placed: &Placed, out: &mut S) -> Result<(), S::Error>
+/// Sends a container. The text of its id stands in `room`, which is kept from container to container.
+fn send_placed<S: Serializer>(
+    room: &mut String,
+    placed: &Placed,
+    out: &mut S,
+) -> Result<(), S::Error>
     ensures { OnOk result (Sends (spec.placed_data placed.now) (S.written out.old) (S.written out.new)) }
 {
-    let Ok(id) = placed.id.text(alloc) else {
+    room.clear();
+    if write!(room, "{}", placed.id).is_err() {
         return Err(out.custom("out of memory"));
-    };
+    }
+    let id = room.as_str();
     match &placed.what {
-        What::Master => send_object(&master_fields(placed, id.as_str()), out),
-        What::Ask(label, priority) => send_object(
-            &asked_fields(placed, id.as_str(), label, *priority),
-            out,
-        ),
+        What::Master => send_object(&master_fields(placed, id), out),
+        What::Ask(label, priority) => send_object(&asked_fields(placed, id, label, *priority), out),
     }
 }
 
@@ -36,9 +41,10 @@ fn send_placed_list<S: Serializer>(
 ) -> Result<(), S::Error>
     ensures { OnOk result (Sends (array (items_of (map spec.placed_data list.now))) (S.written out.old) (S.written out.new)) }
 {
+    let mut room = String::new(alloc);
     out.begin_seq(Some(list.len()))?;
     for one in list {
-        send_placed(alloc, one, out)?;
+        send_placed(&mut room, one, out)?;
     }
     out.end_seq()
 }
@@ -109,7 +115,7 @@ fn send_committed<S: Serializer>(
     ensures { OnOk result (Sends (spec.committed_reply placed.now) (S.written out.old) (S.written out.new)) }
 {
     begin_with(2, "container", out)?;
-    send_placed(alloc, placed, out)?;
+    send_placed(&mut String::new(alloc), placed, out)?;
     end_with(&[("reply", Field::Word("committed"))], out)
 }
 
