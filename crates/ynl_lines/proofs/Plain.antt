@@ -10,7 +10,7 @@ use Rattle.std.specs.Str.{bytes_eq}
 use Rattle.std.proofs.lemmas.Slice.Eq.{bytes_eq-Decides}
 use Rattle.json.specs.Json as json
 use Rattle.json.specs.Find as json_find
-use Rattle.json.specs.Value.{value_view, members_view}
+use Rattle.json.specs.Value.{members_view}
 use Rattle.json.specs.declared.value.Value.{Value}
 use Rattle.serde_json.specs.Data.{Data, Num, Members, object, number, string, unsigned, negative, float, no_members, member, put}
 use Rattle.serde_json.specs.Events.{members_len}

@@ -1,6 +1,6 @@
 //! From lines to events.
 
-ghost use Rattle.std.specs.Prelude.{◌≡◌, option_map, IfOk, IfErr, IsErr, IsTrue, Ok, Some, None};
+ghost use Rattle.std.specs.Prelude.{◌≡◌, option_map, IfOk, IfErr, IsErr, IsTrue, Ok, Err, Some, None};
 ghost use Rattle.std.specs.List.{find};
 ghost use Rattle.std.specs.Str.{bytes_eq};
 ghost use Rattle.serde_json.specs.Errors.{IsMemory};
@@ -8,6 +8,7 @@ ghost use Rattle.serde_json.specs.View.{view};
 ghost use Rattle.ynl_lines.specs.Trees.{data_at};
 ghost use Rattle.ynl_lines.specs.Reading.{reading, IsRanged};
 ghost use Rattle.ynl_lines.specs.Reading as spec;
+ghost use Rattle.ynl_lines.specs.declared.faults.LineFault.TheVariants as fault;
 
 use crate::faults::LineFault;
 use crate::fields::Fields;
@@ -67,23 +68,23 @@ pub fn parse(alloc: Global, bytes: &[u8]) -> Result<Option<Value>, AllocError>
     found(Value::from_slice(alloc, bytes))
 }
 
-/// The word of each kind.
+/// The word of each kind, those that come most often first.
 const KINDS: [(&str, Kind); 16] = [
-    ("register", Kind::Register),
-    ("lost", Kind::Lost),
-    ("relabel", Kind::Relabel),
     ("heartbeat", Kind::Heartbeat),
-    ("exited", Kind::Exited),
-    ("submit", Kind::Submit),
     ("ask", Kind::Ask),
+    ("submit", Kind::Submit),
     ("release", Kind::Release),
+    ("exited", Kind::Exited),
     ("finish", Kind::Finish),
-    ("stop", Kind::Stop),
-    ("start", Kind::Start),
+    ("register", Kind::Register),
     ("poll", Kind::Poll),
-    ("usage", Kind::Usage),
     ("propose", Kind::Propose),
     ("commit", Kind::Commit),
+    ("usage", Kind::Usage),
+    ("relabel", Kind::Relabel),
+    ("lost", Kind::Lost),
+    ("stop", Kind::Stop),
+    ("start", Kind::Start),
     ("maximum", Kind::Maximum),
 ];
 
@@ -142,6 +143,14 @@ fn read_by_value(alloc: Global, line: &[u8]) -> Result<Result<Event, LineFault>,
     }
 }
 
+/// What is told of a line that is no JSON. It stands alone, since a function clears the room of each answer that it
+/// makes whenever it is called.
+fn no_json() -> Result<Result<Event, LineFault>, AllocError>
+    ensures { result ≡ Ok (Err fault.Syntax) }
+{
+    Ok(Err(LineFault::Syntax))
+}
+
 /// How deep a line nests at most to be taken as a tree: a proposal stands in an event.
 const MOST_DEPTH: usize = 2;
 
@@ -169,7 +178,7 @@ impl EventReader {
         ensures ranged { IfOk result (λ read. IfOk read (λ event. IsRanged event)) }
     {
         let Some(tree) = tree_of(alloc, &mut self.scratch, line)? else {
-            return Ok(Err(LineFault::Syntax));
+            return no_json();
         };
         if is_plain(&tree, MOST_DEPTH) {
             return Ok(event_at(&Fields::tree(&tree)));
