@@ -1,18 +1,18 @@
 -- What is sent, put together.
 use Rattle.std.proofs.Common.{codes, map, ◌≡◌, ◌∙◌, ◌+◌, ◌<◌, ◌≤◌, ℕ, List, [], ◌∷◌, length, drop, get_or, suc, Some, OnOk, Result, Bor, refl, ap, sym, subst, drop-cons, add-one}
 use Rattle.std.proofs.lemmas.List.{drop_all}
-use Rattle.serde.specs.Event.{Log, Logs, unsigned, field_key, seq_begins, seq_ends, map_begins, map_ends}
+use Rattle.serde.specs.Event.{Log, Logs, text, unsigned, field_key, seq_begins, seq_ends, map_begins, map_ends}
 use Rattle.serde.specs.declared.name.Case.TheVariants.{AsIs}
-use Rattle.serde_json.specs.Data.{Data, array, object, Items, Members, member, no_members}
+use Rattle.serde_json.specs.Data.{Data, array, object, string, Items, Members, member, no_members}
 use Rattle.serde_json.specs.Events.{items_len, members_len, SendsItems, SendsMembers}
 use Rattle.serde_json.specs.View.{items_of}
 use Rattle.ynl_lines.specs.Fields.{field_data, fields_before}
 use Rattle.ynl_resource.specs.declared.amounts.Resource.{Resource}
 use Rattle.ynl_resource.specs.declared.labels.Label.{Label}
-use Rattle.ynl_resource.specs.Texts.{id_text}
+use Rattle.ynl_resource.specs.Texts.{id_text, label_text}
 use Rattle.ynl_model.specs.declared.containers.Placed.{Placed as Container}
 use Rattle.ynl_model.specs.declared.proposals.What.TheVariants.{Ask as Asked}
-use Rattle.ynl_lines.specs.Writing.{amount_data, asked_data, placed_by, placed_data}
+use Rattle.ynl_lines.specs.Writing.{amount_data, count, asked_data, placed_by, placed_data}
 use Rattle.ynl_lines.specs.Sending.{Sends, SendsFields, SendsKey, Begins, Ends}
 use Rattle.ynl_lines.specs.declared.object.Field.{Field}
 
@@ -109,3 +109,56 @@ pub amount_sent : (amount : Resource) (old a b c d new : Log) → Begins 2 (code
     → SendsKey (codes "vcores") b c → Logs c d (unsigned amount.vcores) → Logs d new map_ends → Sends (amount_data amount) old new
 unfolding Sends Begins SendsKey
 amount_sent amount old a b c d new begun memory key vcores ended = (begun.0, begun.1, (a, b, begun.2, memory, (c, d, key, vcores, ended)))
+
+-- ---- a container that was asked for, member by member
+
+module _ (app id word node tenant : List ℕ) (size : Resource) (number : ℕ) where
+  abbrev pub asked_of : Data
+  asked_of =
+      object (member (codes "app") (string app) (member (codes "id") (string id) (member (codes "label") (string word)
+      (member (codes "memory") (count size.memory) (member (codes "node") (string node) (member (codes "priority") (count number)
+      (member (codes "tenant") (string tenant) (member (codes "vcores") (count size.vcores)
+      (member (codes "what") (string (codes "ask")) no_members)))))))))
+
+  pub asked_told : (p : Container) (label : Label) (priority : ℕ) → app ≡ p.app → word ≡ label_text label → size ≡ p.size → node ≡ p.node → number ≡ priority → tenant ≡ p.tenant
+      → asked_of ≡ asked_data id p label priority
+  asked_told p label priority is_app is_word is_size is_node is_number is_tenant = rw (is_app, is_word, is_size, is_node, is_number, is_tenant) refl
+
+  pub asked_sent : (old a b c d e f h i j k l m n o q r s t new : Log)
+      → Begins 9 (codes "app") old a → Logs a b (text app) → SendsKey (codes "id") b c → Logs c d (text id) → SendsKey (codes "label") d e
+      → Logs e f (text word) → SendsKey (codes "memory") f h → Logs h i (unsigned size.memory) → SendsKey (codes "node") i j → Logs j k (text node)
+      → SendsKey (codes "priority") k l → Logs l m (unsigned number) → SendsKey (codes "tenant") m n → Logs n o (text tenant)
+      → SendsKey (codes "vcores") o q → Logs q r (unsigned size.vcores) → SendsKey (codes "what") r s → Logs s t (text (codes "ask"))
+      → Logs t new map_ends
+      → Sends asked_of old new
+  unfolding Sends Begins SendsKey
+  asked_sent old a b c d e f h i j k l m n o q r s t new begun is_app id_key is_id label_key is_label memory_key is_memory node_key is_node priority_key is_priority
+      tenant_key is_tenant vcores_key is_vcores what_key is_what ended = (
+        begun.0,
+        begun.1,
+        (
+          a,
+          b,
+          begun.2,
+          is_app,
+          (
+            c,
+            d,
+            id_key,
+            is_id,
+            (
+              e,
+              f,
+              label_key,
+              is_label,
+              (
+                h,
+                i,
+                memory_key,
+                is_memory,
+                (j, k, node_key, is_node, (l, m, priority_key, is_priority, (n, o, tenant_key, is_tenant, (q, r, vcores_key, is_vcores, (s, t, what_key, is_what, ended))))),
+              ),
+            ),
+          ),
+        ),
+      )

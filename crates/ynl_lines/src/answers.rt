@@ -8,12 +8,46 @@ ghost use Rattle.ynl_lines.specs.Writing as spec;
 
 use crate::object::Field;
 use crate::proposals;
-use crate::replies::{asked_fields, master_fields, pending_fields, refused_fields, usage_fields};
+use crate::replies::{master_fields, pending_fields, refused_fields, usage_fields};
 use crate::sending::{begin_with, end_with, send_key, send_object};
 use serde::{Described, Serialize, Serializer};
 use std::alloc::Global;
 use std::fmt::Write;
 use ynl_model::{Pending, Placed, Proposal, Reply, What};
+use ynl_resource::Label;
+
+/// Sends a container that was asked for. Heartbeats send more of these than of all else, so no list of the members is
+/// made first.
+fn send_asked<S: Serializer>(
+    placed: &Placed,
+    id: &str,
+    label: &Label,
+    priority: u32,
+    out: &mut S,
+) -> Result<(), S::Error>
+    ensures { OnOk result (Sends (spec.asked_data id.now placed.now label.now priority) (S.written out.old) (S.written out.new)) }
+{
+    let size = placed.size.amount();
+    begin_with(9, "app", out)?;
+    out.str(placed.app.as_str())?;
+    send_key("id", out)?;
+    out.str(id)?;
+    send_key("label", out)?;
+    out.str(label.as_str())?;
+    send_key("memory", out)?;
+    out.u64(size.memory)?;
+    send_key("node", out)?;
+    out.str(placed.node.as_str())?;
+    send_key("priority", out)?;
+    out.u64(u64::from(priority))?;
+    send_key("tenant", out)?;
+    out.str(placed.tenant.as_str())?;
+    send_key("vcores", out)?;
+    out.u64(size.vcores)?;
+    send_key("what", out)?;
+    out.str("ask")?;
+    out.end_map()
+}
 
 /// Sends a container. The text of its id stands in `room`, which is kept from container to container.
 fn send_placed<S: Serializer>(
@@ -30,7 +64,7 @@ fn send_placed<S: Serializer>(
     let id = room.as_str();
     match &placed.what {
         What::Master => send_object(&master_fields(placed, id), out),
-        What::Ask(label, priority) => send_object(&asked_fields(placed, id, label, *priority), out),
+        What::Ask(label, priority) => send_asked(placed, id, label, *priority, out),
     }
 }
 

@@ -1,5 +1,5 @@
 use mathlib.Core.Bool.{true≢false}
-use Rattle.std.proofs.Common.{◌≡◌, ◌∙◌, ◌++◌, ℕ, List, [], false, Result, Ok, Err, OnOk, ap, sym}
+use Rattle.std.proofs.Common.{◌≡◌, ◌∙◌, ◌++◌, ℕ, List, [], false, Result, Ok, Err, OnOk, refl, ap, sym}
 use Rattle.std.specs.Result.{is_err}
 use Rattle.ynl_resource.specs.Texts.{id_text}
 use Rattle.ynl_lines.proofs.Sent.{same_sent, asked_is}
@@ -14,6 +14,6 @@ pub returns-in-Ask : goal.returns-in-Ask
 returns-in-Ask g c =
     let told : c.as_str-id.result.now ≡ id_text c.args.placed.now.id =
     c.as_str-id.ensures.value ∙ alone c.write.result _ _ _ (sym c.is_err.ensures.value ∙ c.if-is_err.false) c.write.ensures.bytes c.clear.ensures.bytes in
-    same_sent _ _ c.send_object-in-Ask.result _ _
-    (asked_is c.args.placed.now c.as_str-id.result.now c.in-Ask.label c.in-Ask.priority _ c.asked_fields.ensures.in_order told c.in-Ask.is)
-    c.send_object-in-Ask.ensures
+    same_sent _ _ c.send_asked.result _ _
+    (asked_is c.args.placed.now c.as_str-id.result.now c.in-Ask.label c.in-Ask.priority _ refl told c.in-Ask.is)
+    c.send_asked.ensures
