@@ -49,6 +49,14 @@ fn send_asked<S: Serializer>(
     out.end_map()
 }
 
+/// Sends a container that is a master. It stands alone, since a function clears the room of each list that it makes
+/// whenever it is called.
+fn send_master<S: Serializer>(placed: &Placed, id: &str, out: &mut S) -> Result<(), S::Error>
+    ensures { OnOk result (Sends (spec.master_data id.now placed.now) (S.written out.old) (S.written out.new)) }
+{
+    send_object(&master_fields(placed, id), out)
+}
+
 /// Sends a container. The text of its id stands in `room`, which is kept from container to container.
 fn send_placed<S: Serializer>(
     room: &mut String,
@@ -63,7 +71,7 @@ fn send_placed<S: Serializer>(
     }
     let id = room.as_str();
     match &placed.what {
-        What::Master => send_object(&master_fields(placed, id), out),
+        What::Master => send_master(placed, id, out),
         What::Ask(label, priority) => send_asked(placed, id, label, *priority, out),
     }
 }
