@@ -1,7 +1,9 @@
 -- What is over the limits of its user and of the leaf's masters, whatever room there is.
-use Rattle.std.proofs.Common.{◌≡◌, ℕ, Bool, true, false, ◌&&◌, ◌||◌, List, [], ◌∷◌, refl, sym, ap, ◌∙◌}
+use Rattle.std.proofs.Common.{◌≡◌, ℕ, Bool, true, false, ◌&&◌, ◌||◌, List, [], ◌∷◌, ◌++◌, Option, Some, None, refl, sym, ap, subst, ◌∙◌}
+use Rattle.std.specs.Prelude.{is_some}
 use Rattle.std.specs.Bool.{OnTrue}
 use Rattle.std.specs.List.{AllByRecursion}
+use Rattle.std.proofs.lemmas.Option.{same_Some}
 use mathlib.Core.Bool.{true≢false}
 use Rattle.ynl_resource.specs.Names.{same_name}
 use Rattle.ynl_resource.specs.declared.amounts.Resource.{Resource}
@@ -22,16 +24,26 @@ use Rattle.ynl_waiting.specs.Users.{has_user}
 use Rattle.ynl_waiting.specs.declared.classes.Class.{Class}
 use Rattle.ynl_waiting.specs.declared.classes.Turn.{Turn}
 use Rattle.ynl_waiting.specs.declared.groups.Group.{Group}
+use Rattle.ynl_waiting.specs.declared.parts.Part.{Part}
 use Rattle.ynl_choice.specs.declared.leaf_use.LeafUse.{LeafUse}
 use Rattle.ynl_choice.specs.declared.scenes.Scene.{Scene}
-use Rattle.ynl_choice.specs.Choosing.{state_in, masters_of, asks_in, wanted_in}
+use Rattle.ynl_choice.specs.Choosing.{state_in, masters_of, asks_in, wanted_in, AreTests}
 use Rattle.ynl_choice.specs.LeafUses.{IsLeafUse, IsModest}
 use Rattle.ynl_choice.specs.Lulls.{AreOver}
-use Rattle.ynl_choice.specs.Waits.{item_of_size}
+use Rattle.ynl_choice.specs.Waits.{fits_user, item_of_size, IsPartFor, IsPartOf}
 use Rattle.ynl_choice.proofs.Lessened.{own-less}
 use Rattle.ynl_choice.proofs.Wanted.{asks-hold, masters-hold}
 
 module _ (scene : Scene) where
+  -- what the limit of its user does not allow keeps no such limit
+  pub user-over : (item : Item) → fits_user scene item ≡ false → keeps_own_limits scene.config.now (state_in scene) scene.label item ≡ false
+  user-over item h = go scene.as_guests (within_user_limit scene.config.now (state_in scene) scene.label item) (within_master_share scene.config.now (state_in scene) scene.label item.leaf item.what item.size) h
+    where
+      go : (guests u t : Bool) → (guests || u) ≡ false → (u && t) ≡ false
+      go true u t h = absurd (true≢false h)
+      go false true t h = absurd (true≢false h)
+      go false false t h = refl
+
   abbrev keeps : Item → Bool
   keeps item = keeps_own_limits scene.config.now (state_in scene) scene.label item
 
@@ -74,3 +86,31 @@ module _ (scene : Scene) where
   pub wanted-when : (row : LeafRow) (b : Bool) → AreMarkedIn (state_in scene) row → AreOver scene row.path Master (masters_waiting row.apps.items) → OnTrue b (AreOver scene row.path (Asked scene.label 0) (asks_waiting row.apps.items)) → OnTrue b (AllByRecursion (λ item. keeps item ≡ false) (wanted_in scene row))
   wanted-when row true marked masters asks = wanted-over row marked masters asks
   wanted-when row false marked masters asks = tt
+
+  -- ---- one user after another, and of a part
+
+  -- with one user more
+  pub more-over : (leaf : Path) (what : What) (users : List (Name × Group)) (entry : Name × Group) (old new : Bool) → OnTrue new (old ≡ true) → OnTrue new (IsOver leaf what entry) → OnTrue old (AllByRecursion (IsOver leaf what) users)
+      → OnTrue new (AllByRecursion (IsOver leaf what) (users ++ entry ∷ []))
+  more-over leaf what users entry old true before here so-far = Each-append (IsOver leaf what) users (entry ∷ []) (subst (λ b. OnTrue b (AllByRecursion (IsOver leaf what) users)) before so-far) (here, tt)
+  more-over leaf what users entry old false before here so-far = tt
+
+  -- where there are limits, and the least of no user keeps them, nothing of a part does
+  pub part-over : (leaf : Path) (what : What) (part : Part) (tests : Option LeafUse) (over : Bool) → AreTests scene leaf tests → OnTrue over (AllByRecursion (IsOver leaf what) part.users.items)
+      → (waits : Class → Turn → Bool) → IsPartOf scene waits part → OnTrue (over && is_some tests) (AreOver scene leaf what waits)
+  part-over leaf what part None true known all waits of = tt
+  part-over leaf what part None false known all waits of = tt
+  part-over leaf what part (Some limits) true known all waits of = λ class turn label there. users-over leaf what limits known.1 known.2 part.users.items all class.user class.size turn (sym (of class turn label) ∙ there)
+  part-over leaf what part (Some limits) false known all waits of = tt
+
+  -- what is said of what waits holds of what is the same
+  pub over-alike : (leaf : Path) (what : What) (kept waits others : Class → Turn → Bool) → ((class : Class) (turn : Turn) → kept class turn ≡ waits class turn) → ((class : Class) (turn : Turn) → kept class turn ≡ others class turn) → AreOver scene leaf what waits → AreOver scene leaf what others
+  over-alike leaf what kept waits others same alike over = λ class turn label there. over class turn label (sym (same class turn) ∙ alike class turn ∙ there)
+
+  -- where nothing waits for the partition
+  pub none-over : (leaf : Path) (what : What) (waits : Class → Turn → Bool) → IsPartFor scene waits None → AreOver scene leaf what waits
+  none-over leaf what waits none = λ class turn label there. absurd (true≢false (sym there ∙ none class turn label))
+
+  -- where that was told
+  pub told-over : (leaf : Path) (what : What) (waits : Class → Turn → Bool) (over : Bool) → OnTrue over (AreOver scene leaf what waits) → Some over ≡ Some true → AreOver scene leaf what waits
+  told-over leaf what waits over known told = subst (λ b. OnTrue b (AreOver scene leaf what waits)) (same_Some over true told) known

@@ -7,3 +7,4 @@ pub mod Boards
 pub mod Lulls
 pub mod Blocks
 pub mod Likely
+pub mod Verdicts

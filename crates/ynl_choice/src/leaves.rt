@@ -1,15 +1,16 @@
 //! The first request of a leaf. Where what waits there is kept, it is found by partition, user, size and turn,
 //! and else the applications are gone through.
 
-ghost use Rattle.std.specs.Prelude.{◌≡◌, Bool, true, false, Option, None, IfSome};
+ghost use Rattle.std.specs.Prelude.{◌≡◌, Bool, true, false, Option, None, Some, IfSome};
 ghost use Rattle.std.specs.Bool.{OnTrue, OnFalse};
 ghost use Rattle.std.specs.List.{AllByRecursion};
 ghost use Rattle.ynl_resource.specs.Amounts.{fits_in};
+ghost use Rattle.ynl_model.specs.declared.proposals.What.TheVariants.{Master, Ask};
 ghost use Rattle.ynl_tables.specs.Marked.{AreMarkedIn};
 ghost use Rattle.ynl_tables.specs.Queued.{masters_waiting, asks_waiting};
 ghost use Rattle.ynl_choice.specs.Choosing.{state_in, standings_to, ArePlaced, IsScene, AreLimits, IsPassed, HoldsBest, masters_of as masters_in, asks_in, wanted_in};
 ghost use Rattle.ynl_choice.specs.Candidates.{is_ahead};
-ghost use Rattle.ynl_choice.specs.Lulls.{IsLeastOf, IsQuiet, NonePass};
+ghost use Rattle.ynl_choice.specs.Lulls.{AreOver, IsLeastOf, IsQuiet, NonePass};
 ghost use Rattle.ynl_choice.specs.Waits.{IsPartFor, IsPartOf};
 ghost use Rattle.ynl_waiting.specs.Waiting.{has};
 ghost use Rattle.ynl_waiting.specs.declared.classes.Class.{Class};
@@ -31,6 +32,32 @@ use ynl_queues::is_within;
 use ynl_resource::{Name, Resource};
 use ynl_tables::{LeafRow, place_of};
 use ynl_waiting::{Part, Rows};
+
+/// What is known of what waits in a leaf for the partition, as masters or as asks: whether nothing of it may be placed; and
+/// whether nothing of it keeps the limits of its user and of the leaf's masters, if that was looked at.
+#[derive(Clone, Copy)]
+pub struct Outlook {
+    pub is_none: bool,
+    pub is_over: Option<bool>,
+}
+
+/// Nothing is known.
+const UNKNOWN: Outlook = Outlook {
+    is_none: false,
+    is_over: None,
+};
+
+/// Nothing of it may be placed, and no limit was looked at.
+const BARRED: Outlook = Outlook {
+    is_none: true,
+    is_over: None,
+};
+
+/// Nothing waits.
+const EMPTY: Outlook = Outlook {
+    is_none: true,
+    is_over: Some(true),
+};
 
 /// Whether a leaf is within a queue that is passed over.
 fn is_below(passed: &Option<&[Name]>, row: &LeafRow) -> bool
@@ -99,14 +126,14 @@ fn add_each_master<'a>(scene: &Scene<'a>, row: &'a LeafRow, held: &mut Option<Ca
     }
 }
 
-/// The first of the masters that wait in a leaf for the partition, by their classes. Whether none may be placed.
+/// The first of the masters that wait in a leaf for the partition, by their classes, and what is known of them then.
 fn add_first_master<'a>(
     scene: &Scene<'a>,
     limits: &mut Option<LeafUse<'a>>,
     row: &'a LeafRow,
     part: &Part,
     held: &mut Option<Candidate<'a>>,
-) -> bool
+) -> Outlook
     requires scene { IsScene scene.now }
     requires limits { AreLimits scene.now row.now.path limits.old }
     requires placed { ArePlaced (state_in scene.now) row.now }
@@ -114,29 +141,34 @@ fn add_first_master<'a>(
     requires part { IsPartOf scene.now (masters_waiting row.now.apps.items) part.now }
     ensures best { HoldsBest scene.now held.old (masters_in scene.now row.now.path row.now.apps.items) held.new }
     ensures limits { AreLimits scene.now row.now.path limits.new }
-    ensures none { OnTrue result (NonePass scene.now (masters_in scene.now row.now.path row.now.apps.items)) }
+    ensures none { OnTrue result.is_none (NonePass scene.now (masters_in scene.now row.now.path row.now.apps.items)) }
+    ensures over { result.is_over ≡ Some true → AreOver scene.now row.now.path Master (masters_waiting row.now.apps.items) }
 {
-    let Some(turn) = first_turn(scene, limits, row, &What::Master, part) else {
-        return true;
+    let search = first_turn(scene, limits, row, &What::Master, part);
+    let Some(turn) = search.first else {
+        return Outlook {
+            is_none: true,
+            is_over: Some(search.is_over),
+        };
     };
     if let Some(place) = place_of(row, turn.number) {
         let mut desk = desk_of(scene, row, limits);
         add_master(scene, &mut desk, row, &row.apps[place], place as u64, held);
     }
-    false
+    UNKNOWN
 }
 
 /// The masters wanted on the partition by the applications of a leaf. Where what waits is kept, the first of
 /// them is looked for, and no other is considered. Nothing is worked out of the leaf where it is passed over, where
 /// the request that is held is before all of it, or where none of them has room; what costs least is looked at
-/// first, and how the leaf stands last, for one that may be placed. Whether it is known that none may be placed.
+/// first, and how the leaf stands last, for one that may be placed. What is known of them then.
 fn add_masters<'a>(
     scene: &Scene<'a>,
     limits: &mut Option<LeafUse<'a>>,
     row: &'a LeafRow,
     passed: &mut Option<&'a [Name]>,
     held: &mut Option<Candidate<'a>>,
-) -> bool
+) -> Outlook
     requires scene { IsScene scene.now }
     requires passed { IsPassed scene.now held.old passed.old }
     requires limits { AreLimits scene.now row.now.path limits.old }
@@ -145,27 +177,28 @@ fn add_masters<'a>(
     ensures best { HoldsBest scene.now held.old (masters_in scene.now row.now.path row.now.apps.items) held.new }
     ensures limits { AreLimits scene.now row.now.path limits.new }
     ensures passed { IsPassed scene.now held.new passed.new }
-    ensures none { OnTrue result (NonePass scene.now (masters_in scene.now row.now.path row.now.apps.items)) }
+    ensures none { OnTrue result.is_none (NonePass scene.now (masters_in scene.now row.now.path row.now.apps.items)) }
+    ensures over { result.is_over ≡ Some true → AreOver scene.now row.now.path Master (masters_waiting row.now.apps.items) }
 {
     if is_below(passed, row) {
-        return false;
+        return UNKNOWN;
     }
     let Some(waiting) = row.masters.rows() else {
         *passed = None;
         add_each_master(scene, row, held);
-        return false;
+        return UNKNOWN;
     };
     let Some(part) = part_for(scene, waiting) else {
-        return true;
+        return EMPTY;
     };
     if !may_fit(scene, part) {
-        return true;
+        return BARRED;
     }
     if is_passed(scene, row, passed, held) {
-        return false;
+        return UNKNOWN;
     }
     if !may_be_taken(scene, limits, row, part) {
-        return true;
+        return BARRED;
     }
     add_first_master(scene, limits, row, part, held)
 }
@@ -186,14 +219,14 @@ fn add_each_ask<'a>(scene: &Scene<'a>, row: &'a LeafRow, held: &mut Option<Candi
     }
 }
 
-/// The first of what is asked for in a leaf on the partition, by classes. Whether nothing of it may be placed.
+/// The first of what is asked for in a leaf on the partition, by classes, and what is known of it then.
 fn add_first_ask<'a>(
     scene: &Scene<'a>,
     limits: &mut Option<LeafUse<'a>>,
     row: &'a LeafRow,
     part: &Part,
     held: &mut Option<Candidate<'a>>,
-) -> bool
+) -> Outlook
     requires scene { IsScene scene.now }
     requires limits { AreLimits scene.now row.now.path limits.old }
     requires placed { ArePlaced (state_in scene.now) row.now }
@@ -201,11 +234,16 @@ fn add_first_ask<'a>(
     requires part { IsPartOf scene.now (asks_waiting row.now.apps.items) part.now }
     ensures best { HoldsBest scene.now held.old (asks_in scene.now row.now.path row.now.apps.items) held.new }
     ensures limits { AreLimits scene.now row.now.path limits.new }
-    ensures none { OnTrue result (NonePass scene.now (asks_in scene.now row.now.path row.now.apps.items)) }
+    ensures none { OnTrue result.is_none (NonePass scene.now (asks_in scene.now row.now.path row.now.apps.items)) }
+    ensures over { result.is_over ≡ Some true → AreOver scene.now row.now.path (Ask scene.now.label 0) (asks_waiting row.now.apps.items) }
 {
     let what = What::Ask(scene.label, 0);
-    let Some(turn) = first_turn(scene, limits, row, &what, part) else {
-        return true;
+    let search = first_turn(scene, limits, row, &what, part);
+    let Some(turn) = search.first else {
+        return Outlook {
+            is_none: true,
+            is_over: Some(search.is_over),
+        };
     };
     if let Some(place) = place_of(row, turn.number) {
         let mut desk = desk_of(scene, row, limits);
@@ -220,19 +258,19 @@ fn add_first_ask<'a>(
             held,
         );
     }
-    false
+    UNKNOWN
 }
 
 /// What the running applications of a leaf ask for on the partition. Where what waits is kept, the first
-/// of it is looked for, and nothing else is considered; and the leaf is passed over as for masters. Whether it is known
-/// that nothing of it may be placed.
+/// of it is looked for, and nothing else is considered; and the leaf is passed over as for masters. What is known of it
+/// then.
 pub fn add_asks<'a>(
     scene: &Scene<'a>,
     limits: &mut Option<LeafUse<'a>>,
     row: &'a LeafRow,
     passed: &mut Option<&'a [Name]>,
     held: &mut Option<Candidate<'a>>,
-) -> bool
+) -> Outlook
     requires scene { IsScene scene.now }
     requires passed { IsPassed scene.now held.old passed.old }
     requires limits { AreLimits scene.now row.now.path limits.old }
@@ -241,27 +279,28 @@ pub fn add_asks<'a>(
     ensures best { HoldsBest scene.now held.old (asks_in scene.now row.now.path row.now.apps.items) held.new }
     ensures limits { AreLimits scene.now row.now.path limits.new }
     ensures passed { IsPassed scene.now held.new passed.new }
-    ensures none { OnTrue result (NonePass scene.now (asks_in scene.now row.now.path row.now.apps.items)) }
+    ensures none { OnTrue result.is_none (NonePass scene.now (asks_in scene.now row.now.path row.now.apps.items)) }
+    ensures over { result.is_over ≡ Some true → AreOver scene.now row.now.path (Ask scene.now.label 0) (asks_waiting row.now.apps.items) }
 {
     if is_below(passed, row) {
-        return false;
+        return UNKNOWN;
     }
     let Some(waiting) = row.asks.rows() else {
         *passed = None;
         add_each_ask(scene, row, held);
-        return false;
+        return UNKNOWN;
     };
     let Some(part) = part_for(scene, waiting) else {
-        return true;
+        return EMPTY;
     };
     if !may_fit(scene, part) {
-        return true;
+        return BARRED;
     }
     if is_passed(scene, row, passed, held) {
-        return false;
+        return UNKNOWN;
     }
     if !may_be_taken(scene, limits, row, part) {
-        return true;
+        return BARRED;
     }
     add_first_ask(scene, limits, row, part, held)
 }
@@ -294,12 +333,20 @@ fn least_wanted(scene: &Scene<'_>, row: &LeafRow) -> Option<Resource>
 /// does, and no limit is worked out. Where nothing keeps the limit of its user or of the leaf's masters, that is so in any
 /// room. Else what fits in what is free, and in what the queues on the way can take, does not keep them. None is known
 /// where what waits is not kept, or where a queue on the way stands above its maximum.
-fn lull_of<'a>(scene: &Scene<'a>, limits: &mut Option<LeafUse<'a>>, row: &LeafRow) -> Option<Lull>
+fn lull_of<'a>(
+    scene: &Scene<'a>,
+    limits: &mut Option<LeafUse<'a>>,
+    row: &LeafRow,
+    masters: &Outlook,
+    asks: &Outlook,
+) -> Option<Lull>
     requires scene { IsScene scene.now }
     requires own { scene.now.as_guests ≡ false }
     requires limits { AreLimits scene.now row.now.path limits.old }
     requires marked { AreMarkedIn (state_in scene.now) row.now }
     requires none { NonePass scene.now (wanted_in scene.now row.now) }
+    requires masters { masters.now.is_over ≡ Some true → AreOver scene.now row.now.path Master (masters_waiting row.now.apps.items) }
+    requires asks { asks.now.is_over ≡ Some true → AreOver scene.now row.now.path (Ask scene.now.label 0) (asks_waiting row.now.apps.items) }
     ensures { IfSome result (IsQuiet scene.now (wanted_in scene.now row.now)) }
 {
     let Some(least) = least_wanted(scene, row) else {
@@ -312,7 +359,7 @@ fn lull_of<'a>(scene: &Scene<'a>, limits: &mut Option<LeafUse<'a>>, row: &LeafRo
         });
     }
     let limits = limits_at(scene, limits, &row.path, &row.near);
-    if are_all_over(scene, &limits, row) {
+    if are_all_over(scene, &limits, row, masters.is_over, asks.is_over) {
         return Some(Lull { least, room: MOST });
     }
     if !limits.headroom.is_open {
@@ -346,10 +393,10 @@ pub fn add_leaf<'a>(
         return None;
     }
     let mut limits = None;
-    let no_master = add_masters(scene, &mut limits, row, passed, held);
-    let no_ask = add_asks(scene, &mut limits, row, passed, held);
-    if no_master && no_ask {
-        return lull_of(scene, &mut limits, row);
+    let masters = add_masters(scene, &mut limits, row, passed, held);
+    let asks = add_asks(scene, &mut limits, row, passed, held);
+    if masters.is_none && asks.is_none {
+        return lull_of(scene, &mut limits, row, &masters, &asks);
     }
     None
 }

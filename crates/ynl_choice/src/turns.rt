@@ -1,12 +1,13 @@
 //! The first turn of what waits in a leaf that may be placed. One request of each class is looked at,
 //! since those of one class may be placed together, and none of a user for whose least there is no place.
 
-ghost use Rattle.std.specs.Prelude.{◌≡◌, Bool, true, None, ◌||◌, IfSome};
-ghost use Rattle.std.specs.Bool.{OnFalse};
+ghost use Rattle.std.specs.Prelude.{◌≡◌, Bool, true, false, None, ◌&&◌, ◌||◌, IfSome, is_some};
+ghost use Rattle.std.specs.Bool.{OnTrue, OnFalse};
 ghost use Rattle.ynl_resource.specs.declared.amounts.Resource.{Resource};
 ghost use Rattle.ynl_resource.specs.declared.paths.Path.{Path};
 ghost use Rattle.ynl_model.specs.Service.{has_room};
 ghost use Rattle.ynl_model.specs.declared.proposals.What.{What};
+ghost use Rattle.ynl_laws.specs.Lulls.{keeps_own_limits};
 ghost use Rattle.ynl_waiting.specs.Classes.{has_size};
 ghost use Rattle.ynl_waiting.specs.Waiting.{has};
 ghost use Rattle.ynl_waiting.specs.declared.classes.Class.{Class};
@@ -14,11 +15,14 @@ ghost use Rattle.ynl_waiting.specs.declared.classes.Turn.{Turn};
 ghost use Rattle.ynl_choice.specs.Candidates.{item_by};
 ghost use Rattle.ynl_choice.specs.Choosing.{state_in, passes, IsScene, AreLimits, AreTests};
 ghost use Rattle.ynl_choice.specs.LeafUses.{IsModest, IsUseOf};
+ghost use Rattle.ynl_choice.specs.Lulls.{AreOver};
+ghost use Rattle.ynl_choice.specs.Verdicts.{IsVerdict};
 ghost use Rattle.ynl_choice.specs.declared.scenes.Scene.{Scene};
 ghost use Rattle.ynl_choice.specs.Waits.{item_of_size, fits_leaf, fits_user, is_of_size, is_of_sizes, is_placeable, is_before, IsBehind, IsFirstTurn, IsPartOf, IsPartFor};
 
 use crate::eligible::{allows, keeps_leaf_limits, keeps_user_limit};
 use crate::leaf_use::LeafUse;
+use crate::own_limits::keeps_own_limits;
 use crate::requests::RequestParts;
 use crate::scenes::{Scene, limits_at};
 use std::collections::BTreeSet;
@@ -119,7 +123,44 @@ fn fits_user(
     }
 }
 
-/// Whether a request may be placed. What costs least is looked at first.
+/// What comes of a request that is put to the tests.
+#[derive(Clone, Copy)]
+enum Verdict {
+    /// It may be placed.
+    Allowed,
+    /// It may not, and would not in any room: it is over the limit of its user.
+    OverLimit,
+    /// It may not, and no more is known.
+    Barred,
+}
+
+/// What comes of a request. What costs least is looked at first.
+fn verdict_on(
+    scene: &Scene<'_>,
+    tests: &Option<LeafUse<'_>>,
+    request: &RequestParts<'_>,
+    used: &mut Option<Resource>,
+) -> Verdict
+    requires scene { IsScene scene.now }
+    requires tests { AreTests scene.now request.now.leaf.now tests.now }
+    requires used { IsUseOf (state_in scene.now) scene.now.label request.now.leaf.now request.now.user.now used.old }
+    ensures verdict { IsVerdict scene.now (item_by request.now) result }
+    ensures used { IsUseOf (state_in scene.now) scene.now.label request.now.leaf.now request.now.user.now used.new }
+{
+    if !has_room(scene, request) {
+        return Verdict::Barred;
+    }
+    if !fits_leaf(tests, request) {
+        return Verdict::Barred;
+    }
+    if fits_user(scene, tests, request, used) {
+        Verdict::Allowed
+    } else {
+        Verdict::OverLimit
+    }
+}
+
+/// Whether a request may be placed.
 fn is_allowed(
     scene: &Scene<'_>,
     tests: &Option<LeafUse<'_>>,
@@ -132,13 +173,29 @@ fn is_allowed(
     ensures allowed { result ≡ passes scene.now (item_by request.now) }
     ensures used { IsUseOf (state_in scene.now) scene.now.label request.now.leaf.now request.now.user.now used.new }
 {
-    if !has_room(scene, request) {
-        return false;
+    match verdict_on(scene, tests, request, used) {
+        Verdict::Allowed => true,
+        Verdict::OverLimit | Verdict::Barred => false,
     }
-    if !fits_leaf(tests, request) {
-        return false;
+}
+
+/// Whether a request is over the limits of its user and of the leaf's masters, which guests have none of.
+fn is_over_limits(
+    scene: &Scene<'_>,
+    tests: &Option<LeafUse<'_>>,
+    request: &RequestParts<'_>,
+    used: &mut Option<Resource>,
+) -> bool
+    requires scene { IsScene scene.now }
+    requires tests { AreTests scene.now request.now.leaf.now tests.now }
+    requires used { IsUseOf (state_in scene.now) scene.now.label request.now.leaf.now request.now.user.now used.old }
+    ensures over { OnTrue result (keeps_own_limits scene.now.config.now (state_in scene.now) scene.now.label (item_by request.now) ≡ false) }
+    ensures used { IsUseOf (state_in scene.now) scene.now.label request.now.leaf.now request.now.user.now used.new }
+{
+    match tests {
+        Some(limits) => !keeps_own_limits(scene, limits, request, used),
+        None => false,
     }
-    fits_user(scene, tests, request, used)
 }
 
 /// Whether a turn is before the one that is held.
@@ -206,6 +263,14 @@ fn is_any_before(held: &Option<Turn>, group: &Group) -> bool
     is_before(held, &group.first)
 }
 
+/// What came of a search: the first turn that may be placed, and whether nothing that was looked at keeps the limits of its
+/// user and of the leaf's masters, in whatever room.
+#[derive(Clone, Copy)]
+pub struct Search {
+    pub first: Option<Turn>,
+    pub is_over: bool,
+}
+
 /// Looks at one user more. Where no turn of the user's would be first, or their least may not be placed, nothing of
 /// theirs is taken, and no size is looked at; what the user uses is looked for once.
 fn add_group(
@@ -216,18 +281,31 @@ fn add_group(
     user: &Name,
     group: &Group,
     held: &mut Option<Turn>,
+    is_over: &mut bool,
 )
     requires scene { IsScene scene.now }
     requires tests { AreTests scene.now row.now.path tests.now }
-    ensures { (waits : Class → Turn → Bool) → IsFirstTurn (is_placeable scene.now row.now.path what.now) waits held.old → IsFirstTurn (is_placeable scene.now row.now.path what.now) (λ class turn. waits class turn || is_of_sizes scene.now user.now group.now.sizes.items class turn) held.new }
+    ensures first { (waits : Class → Turn → Bool) → IsFirstTurn (is_placeable scene.now row.now.path what.now) waits held.old → IsFirstTurn (is_placeable scene.now row.now.path what.now) (λ class turn. waits class turn || is_of_sizes scene.now user.now group.now.sizes.items class turn) held.new }
+    ensures before { OnTrue is_over.new (is_over.old ≡ true) }
+    ensures over { OnTrue is_over.new (keeps_own_limits scene.now.config.now (state_in scene.now) scene.now.label (item_of_size row.now.path what.now user.now group.now.least) ≡ false) }
 {
+    let were_over = *is_over;
+    *is_over = false;
     if !is_any_before(held, group) {
         return;
     }
     let mut used = None;
     let least = request_for(row, what, user, &group.least);
-    if !is_allowed(scene, tests, &least, &mut used) {
-        return;
+    match verdict_on(scene, tests, &least, &mut used) {
+        Verdict::Allowed => {}
+        Verdict::OverLimit => {
+            *is_over = were_over;
+            return;
+        }
+        Verdict::Barred => {
+            *is_over = were_over && is_over_limits(scene, tests, &least, &mut used);
+            return;
+        }
     }
     for (size, turns) in group.sizes.iter() {
         let request = request_for(row, what, user, size);
@@ -235,23 +313,45 @@ fn add_group(
     }
 }
 
-/// The first turn of what waits for the partition that may be placed, one user after another.
+/// Whether nothing keeps the limits that there are, if there are any.
+fn is_over_with(tests: &Option<LeafUse<'_>>, is_over: bool) -> bool
+    ensures { result ≡ (is_over && is_some tests.now) }
+{
+    is_over && tests.is_some()
+}
+
+/// The first turn of what waits for the partition that may be placed, one user after another; and whether the least of
+/// no user keeps the limits of its own.
 pub fn first_turn<'a>(
     scene: &Scene<'a>,
     limits: &mut Option<LeafUse<'a>>,
     row: &LeafRow,
     what: &What,
     part: &Part,
-) -> Option<Turn>
+) -> Search
     requires scene { IsScene scene.now }
     requires limits { AreLimits scene.now row.now.path limits.old }
-    ensures first { (waits : Class → Turn → Bool) → IsPartOf scene.now waits part.now → IsFirstTurn (is_placeable scene.now row.now.path what.now) waits result }
+    ensures first { (waits : Class → Turn → Bool) → IsPartOf scene.now waits part.now → IsFirstTurn (is_placeable scene.now row.now.path what.now) waits result.first }
+    ensures over { (waits : Class → Turn → Bool) → IsPartOf scene.now waits part.now → OnTrue result.is_over (AreOver scene.now row.now.path what.now waits) }
     ensures limits { AreLimits scene.now row.now.path limits.new }
 {
     let tests = tests_of(scene, limits, row);
-    let mut held = None;
+    let mut first = None;
+    let mut is_over = true;
     for (user, group) in part.users.iter() {
-        add_group(scene, &tests, row, what, user, group, &mut held);
+        add_group(
+            scene,
+            &tests,
+            row,
+            what,
+            user,
+            group,
+            &mut first,
+            &mut is_over,
+        );
     }
-    held
+    Search {
+        first,
+        is_over: is_over_with(&tests, is_over),
+    }
 }

@@ -8,6 +8,7 @@ use Rattle.ynl_choice.specs.Waits.{is_placeable, IsFirstTurn}
 use Rattle.ynl_choice.proofs.Classed.{asks-gathered}
 use Rattle.ynl_choice.proofs.Waits.{no-part}
 use Rattle.ynl_choice.proofs.FirstTurn.{held-ahead}
+use Rattle.ynl_choice.proofs.Over.{none-over}
 use Rattle.ynl_choice.proofs.Quiet.{asks-none, quiet-held}
 use Rattle.ynl_choice.proofs.leaves.add_asks.Goals as goal
 
@@ -72,3 +73,10 @@ pub add_first_ask-requires-clause-part : goal.add_first_ask-requires-clause-part
 add_first_ask-requires-clause-part c =
     let waits = asks_waiting c.args.row.now.apps.items in
     c.in-Some-part_for.ensures waits (c.in-Some.ensures waits c.args.row.now.asks_wait)
+
+pub returns-in_default-part_for-clause-over : goal.returns-in_default-part_for-clause-over
+returns-in_default-part_for-clause-over c told =
+    let scene = c.args.scene.now in
+    let row = c.args.row.now in
+    let waits = asks_waiting row.apps.items in
+    none-over scene row.path (Asked scene.label 0) waits (c.in_default-part_for.ensures waits (c.in-Some.ensures waits row.asks_wait))

@@ -21,7 +21,7 @@ loop-user-preserved c =
     let inside : index < length users = search rules in
     let at : entry ≡ get_or users index entry = search rules in
     subst (AllByRecursion over) (sym (taken users index entry inside at))
-    (Each-append over (take index users) (entry ∷ []) c.loop-user.invariant (ap (keeps_own_limits scene.config.now (state_in scene) scene.label) (sym c.request_for-least.ensures) ∙ sym c.keeps_own_limits.ensures ∙ c.if-keeps_own_limits.false, tt))
+    (Each-append over (take index users) (entry ∷ []) c.loop-user.invariant (ap (keeps_own_limits scene.config.now (state_in scene) scene.label) (sym c.request_for-least.ensures) ∙ sym c.keeps_own_limits.ensures.keeps ∙ c.if-keeps_own_limits.false, tt))
 
 pub returns : goal.returns
 returns c waits of class turn label there =
