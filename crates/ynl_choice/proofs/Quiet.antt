@@ -1,5 +1,5 @@
 -- Leaves of which nothing may be placed: what is known of them then, and that it tells so later.
-use Rattle.std.proofs.Common.{◌≡◌, ℕ, ◌<◌, Bool, true, false, not, ◌&&◌, ◌||◌, List, [], ◌∷◌, length, get_or, map, Option, Some, None, refl, sym, ap, subst, ◌∙◌, arith}
+use Rattle.std.proofs.Common.{◌≡◌, ℕ, ◌<◌, Bool, true, false, not, ◌&&◌, ◌||◌, List, [], ◌∷◌, ◌++◌, length, get_or, map, Option, Some, None, refl, sym, ap, subst, ◌∙◌, arith}
 use Rattle.std.specs.Prelude.{find, fold, IfSome}
 use Rattle.std.specs.Bool.{OnTrue}
 use Rattle.std.specs.List.{AllByRecursion, list_any}
@@ -64,6 +64,15 @@ all-fail : (scene : Scene) (items : List Item) → AllByRecursion (λ item. pass
 all-fail scene [] h = refl
 all-fail scene (item ∷ items) h = ap (λ b. b || list_any (passes scene) items) h.0 ∙ all-fail scene items h.1
 
+-- of which none passes, none of the last ones does
+pub none-last : (scene : Scene) (items more : List Item) → NonePass scene (items ++ more) → NonePass scene more
+none-last scene [] more h = h
+none-last scene (item ∷ items) more h = none-last scene items more (go (passes scene item) h)
+  where
+    go : (b : Bool) → (b || list_any (passes scene) (items ++ more)) ≡ false → list_any (passes scene) (items ++ more) ≡ false
+    go true h = absurd (true≢false h)
+    go false h = h
+
 -- where there is no first turn of the masters that wait in a leaf none of them passes, and so with what is asked for
 pub masters-none : (scene : Scene) (row : LeafRow) → ArePlaced (state_in scene) row → AreMarkedIn (state_in scene) row → IsFirstTurn (is_placeable scene row.path Master) (masters_waiting row.apps.items) None → NonePass scene (masters_of scene row.path row.apps.items)
 masters-none scene row placed marked first = none-passes scene row Master master_waits (masters_of scene row.path) (masters-told scene row.path) (masters-gathered scene row.path) placed marked row.in_turn first
@@ -97,6 +106,14 @@ only-share true false true e h = refl
 only-share true false false e h = refl
 only-share false t u e h = absurd (true≢false (sym e))
 
+-- nothing of a leaf passes where all its requests are above what is free
+fails-above : (scene : Scene) → IsScene scene → (item : Item) (least : Resource) → fits_in least scene.free ≡ false → fits_in least item.size ≡ true → passes scene item ≡ false
+fails-above scene h item least above below = go (has_room (state_in scene) scene.node item.size) refl
+  where
+    go : (b : Bool) → has_room (state_in scene) scene.node item.size ≡ b → passes scene item ≡ false
+    go false e = no_room scene item e
+    go true e = absurd (true≢false (sym (fits-trans least item.size scene.free below (ap (fits_in item.size) h.free ∙ e)) ∙ above))
+
 -- ---- what is known then
 
 module _ (scene : Scene) (h : IsScene scene) (own : scene.as_guests ≡ false) where
@@ -127,14 +144,6 @@ module _ (scene : Scene) (h : IsScene scene) (own : scene.as_guests ≡ false) w
 
   -- ---- and what it tells
 
-  -- nothing of a leaf passes where all its requests are above what is free
-  fails-above : (item : Item) (least : Resource) → fits_in least scene.free ≡ false → fits_in least item.size ≡ true → passes scene item ≡ false
-  fails-above item least above below = go (has_room (state_in scene) scene.node item.size) refl
-    where
-      go : (b : Bool) → has_room (state_in scene) scene.node item.size ≡ b → passes scene item ≡ false
-      go false e = no_room scene item e
-      go true e = absurd (true≢false (sym (fits-trans least item.size scene.free below (ap (fits_in item.size) h.free ∙ e)) ∙ above))
-
   -- or where what is free is within the room in which none keeps its limits
   fails-within : (item : Item) (room : Resource) → fits_in scene.free room ≡ true → (fits_in item.size room ≡ true → keeps_own_limits scene.config.now (state_in scene) scene.label item ≡ false) → passes scene item ≡ false
   fails-within item room within none = go (has_room (state_in scene) scene.node item.size) refl
@@ -153,7 +162,7 @@ module _ (scene : Scene) (h : IsScene scene) (own : scene.as_guests ≡ false) w
     where
       either : (a b : Bool) (item : Item) → fits_in least scene.free ≡ a → fits_in scene.free room ≡ b → (not a || b) ≡ true → fits_in least item.size ≡ true
           → (fits_in item.size room ≡ true → keeps_own_limits scene.config.now (state_in scene) scene.label item ≡ false) → passes scene item ≡ false
-      either false b item e f t below over = fails-above item least e below
+      either false b item e f t below over = fails-above scene h item least e below
       either true true item e f t below over = fails-within item room f over
       either true false item e f t below over = absurd (true≢false (sym t))
 
@@ -216,6 +225,22 @@ module _ (scene : Scene) (h : IsScene scene) (place : ℕ) (inside : place < len
       let requests = requests-there scene.tables.now h.readable.tabled place row inside read scene refl in
       told-quiet scene h own lull.least lull.room (wanted_in scene row) (sym e) (subst (λ (items : List Item). AllByRecursion (λ item. fits_in lull.least item.size ≡ true) items) requests there.above)
       (subst (λ (items : List Item). AllByRecursion (λ item. fits_in item.size lull.room ≡ true → keeps_own_limits scene.config.now (state_in scene) scene.label item ≡ false) items) requests there.none)
+
+  -- and where all of it is for more than what is free, nothing may, guests neither
+  pub above-told : (lull : Lull) → ((d : LeafApps) → IsLull scene.config.now (state_in scene) scene.label (get_or (state_in scene).leaves place d).leaf lull.least lull.room)
+      → (b : Bool) → b ≡ not (fits_in lull.least scene.free) → OnTrue b ((row : LeafRow) → row ≡ get_or scene.tables.now.leaves.items place row → NonePass scene (wanted_in scene row))
+  above-told lull known false e = tt
+  above-told lull known true e = λ row read.
+      let there : IsLull scene.config.now (state_in scene) scene.label row.path lull.least lull.room =
+      subst (λ path. IsLull scene.config.now (state_in scene) scene.label path lull.least lull.room) (leaf-there scene.tables.now h.readable.tabled place row inside read (leaf_of_row row)) (known (leaf_of_row row)) in
+      let requests = requests-there scene.tables.now h.readable.tabled place row inside read scene refl in
+      all-fail scene (wanted_in scene row) (
+      Each-weaker (λ item. fits_in lull.least item.size ≡ true) _ (λ item below. fails-above scene h item lull.least (not-fits (fits_in lull.least scene.free) e) below) (wanted_in scene row)
+      (subst (λ (items : List Item). AllByRecursion (λ item. fits_in lull.least item.size ≡ true) items) requests there.above))
+    where
+      not-fits : (f : Bool) → true ≡ not f → f ≡ false
+      not-fits true h = absurd (true≢false h)
+      not-fits false h = refl
 
   -- so does a lull that says so for what is free
   pub still-told : scene.as_guests ≡ false → ((d : LeafApps) → IsStill scene.config.now (state_in scene) scene.label (get_or (state_in scene).leaves place d).leaf scene.free)

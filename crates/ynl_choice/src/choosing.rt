@@ -14,7 +14,7 @@ ghost use Rattle.ynl_tables.specs.declared.rows.LeafRow.{LeafRow};
 ghost use Rattle.ynl_choice.specs.Candidates.{standings_of};
 ghost use Rattle.ynl_choice.specs.Choosing.{item_of, state_in, standings_to, IsScene, IsNext, IsPassed, HoldsBest, IsLooked, IsSeed, IsSeen, all_asks, all_wanted, wanted_in};
 ghost use Rattle.ynl_choice.specs.Likely.{path_at};
-ghost use Rattle.ynl_choice.specs.Lulls.{AreLulls, IsPartAt};
+ghost use Rattle.ynl_choice.specs.Lulls.{AreLulls, IsPartAt, NonePass};
 ghost use Rattle.ynl_choice.specs.declared.standings.Candidate.{Candidate as Held};
 
 use crate::boards::board_of;
@@ -252,17 +252,60 @@ fn hold_first_wanted<'a>(scene: &Scene<'a>, lulls: &mut Lulls, held: &mut Option
     add_all(scene, lulls, at, looked.seen, held);
 }
 
-/// What the running applications ask for on the partition.
-fn add_all_asks<'a>(scene: &Scene<'a>, held: &mut Option<Candidate<'a>>)
-    requires { IsScene scene.now }
-    ensures { HoldsBest scene.now held.old (all_asks scene.now scene.now.tables.now.leaves.items) held.new }
+/// Whether it is known of the leaf at a place that all of it is for more than what is free.
+fn is_above(scene: &Scene<'_>, lulls: &Lulls, at: usize, place: usize) -> bool
+    requires scene { IsScene scene.now }
+    requires lulls { AreLulls scene.now.config.now (state_in scene.now) lulls.now }
+    requires at { IsPartAt lulls.now scene.now.label at }
+    requires place { place < length scene.now.tables.now.leaves.items }
+    ensures { OnTrue result ((row : LeafRow) → row ≡ slice_index_or scene.now.tables.now.leaves.items place row → NonePass scene.now (wanted_in scene.now row)) }
+{
+    match lulls.known(at, place) {
+        Some(lull) => !lull.least.fits_in(scene.free),
+        None => false,
+    }
+}
+
+/// What the running applications of the leaf at a place ask for, if it is not known that all of it is for more than what is
+/// free. The place of the leaf that is looked at next.
+fn add_asks_at<'a>(
+    scene: &Scene<'a>,
+    lulls: &Lulls,
+    at: usize,
+    place: usize,
+    passed: &mut Option<&'a [Name]>,
+    held: &mut Option<Candidate<'a>>,
+) -> usize
+    requires scene { IsScene scene.now }
+    requires lulls { AreLulls scene.now.config.now (state_in scene.now) lulls.now }
+    requires at { IsPartAt lulls.now scene.now.label at }
+    requires place { place < length scene.now.tables.now.leaves.items }
+    requires passed { IsPassed scene.now held.old passed.old }
+    ensures best { (first : Option Held) → HoldsBest scene.now first (all_asks scene.now (take place scene.now.tables.now.leaves.items)) held.old → HoldsBest scene.now first (all_asks scene.now (take result scene.now.tables.now.leaves.items)) held.new }
+    ensures passed { IsPassed scene.now held.new passed.new }
+    ensures after { place < result }
+    ensures inside { result ≤ length scene.now.tables.now.leaves.items }
 {
     let rows = scene.tables.leaves.as_slice();
+    let row = &rows[place];
+    if is_above(scene, lulls, at, place) {
+        return place + 1;
+    }
+    add_asks(scene, &mut None, row, passed, held);
+    next_leaf(scene, place, passed)
+}
+
+/// What the running applications ask for on the partition.
+fn add_all_asks<'a>(scene: &Scene<'a>, lulls: &Lulls, at: usize, held: &mut Option<Candidate<'a>>)
+    requires scene { IsScene scene.now }
+    requires lulls { AreLulls scene.now.config.now (state_in scene.now) lulls.now }
+    requires at { IsPartAt lulls.now scene.now.label at }
+    ensures { HoldsBest scene.now held.old (all_asks scene.now scene.now.tables.now.leaves.items) held.new }
+{
     let mut passed = None;
     let mut place = 0;
-    while place < rows.len() {
-        add_asks(scene, &mut None, &rows[place], &mut passed, held);
-        place = next_leaf(scene, place, &passed);
+    while place < scene.tables.leaves.len() {
+        place = add_asks_at(scene, lulls, at, place, &mut passed, held);
     }
 }
 
@@ -298,9 +341,16 @@ fn first_eligible(
 }
 
 /// The first of the asks for DEFAULT that have room, as guests.
-fn first_guest(config: &Config, tables: &Tables, node: &Node, free: &Resource) -> Option<Request>
+fn first_guest(
+    config: &Config,
+    tables: &Tables,
+    lulls: &Lulls,
+    node: &Node,
+    free: &Resource,
+) -> Option<Request>
     requires readable { IsReadable tables.now }
     requires numbered { AreQueuesOf config.now tables.now.numbers }
+    requires lulls { AreLulls config.now (state_of tables.now) lulls.now }
     requires free { free.now ≡ free_on (state_of tables.now) node.now }
     ensures { result ≡ first_of (key config.now (state_of tables.now) Unlabelled) (filter (λ item. has_room (state_of tables.now) node.now item.size) (asks_for (state_of tables.now) Unlabelled)) }
 {
@@ -316,7 +366,8 @@ fn first_guest(config: &Config, tables: &Tables, node: &Node, free: &Resource) -
         board: board_of(config, tables, &Label::Unlabelled),
     };
     let mut held = None;
-    add_all_asks(&scene, &mut held);
+    let at = lulls.part(&scene.label);
+    add_all_asks(&scene, lulls, at, &mut held);
     request_in(&held)
 }
 
@@ -369,7 +420,7 @@ pub fn choose(config: &Config, tables: &Tables, lulls: &mut Lulls, node: &Node) 
         Some(request) => Some(request),
         None => {
             if takes_guests(config, &node.label) {
-                first_guest(config, tables, node, &free)
+                first_guest(config, tables, lulls, node, &free)
             } else {
                 None
             }

@@ -79,6 +79,16 @@ fn make_known(part: &mut PartLulls)
     }
 }
 
+/// What is known of the leaf at a place.
+fn known_at(part: &PartLulls, place: usize) -> Option<Lull>
+    ensures { result ≡ lull_at part.now place }
+{
+    if !part.is_known || place >= part.leaves.len() {
+        return None;
+    }
+    part.leaves[place]
+}
+
 /// A lull of the leaf at a place is known.
 fn note_at(part: &mut PartLulls, place: usize, lull: &Lull)
     ensures label { part.new.label ≡ part.old.label }
@@ -231,6 +241,17 @@ impl Lulls {
             still_to(&self.parts[at], place, free)
         } else {
             place
+        }
+    }
+
+    /// What is known of the leaf at a place on a partition, which stands at `at`.
+    pub fn known(&self, at: usize, place: usize) -> Option<Lull>
+        ensures { (c : Config) (s : State) (label : Labelled) (d : LeafApps) → AreLulls c s self.now → IsPartAt self.now label at → place < length s.leaves → IfSome result (λ lull. IsLull c s label (slice_index_or s.leaves place d).leaf lull.least lull.room) }
+    {
+        if at < self.parts.len() {
+            known_at(&self.parts[at], place)
+        } else {
+            None
         }
     }
 
