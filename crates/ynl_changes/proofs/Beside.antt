@@ -1,38 +1,28 @@
--- The rows of one tenant's leaves, changed in place one after another: those between are as they are to be.
+-- The rows of one leaf, changed in place one after another: those between are as they are to be.
 use Rattle.std.proofs.Common.{◌≡◌, ℕ, ◌+◌, ◌-◌, ◌<◌, ◌≤◌, Bool, true, false, cond, List, length, get_or, take, refl, sym, ap, subst, ◌∙◌, arith}
 use Rattle.std.specs.List.{AllByRecursion}
 use Rattle.std.proofs.Math.ListN.{set}
-use mathlib.Core.Bool.{true≢false}
-use Rattle.ynl_resource.specs.Names.{same_name, same_path, tenant_of}
+use Rattle.ynl_resource.specs.Names.{same_path}
 use Rattle.ynl_resource.specs.declared.paths.Path.{Path}
 use Rattle.ynl_model.specs.Applications.{LeafApps}
-use Rattle.ynl_laws.proofs.Names.{same-name_self, same-path}
 use Rattle.ynl_tables.specs.declared.rows.LeafRow.{LeafRow}
 use Rattle.ynl_tables.specs.Marked.{AreMarkedIn}
 use Rattle.ynl_tables.specs.Numbers.{AreNumbered}
 use Rattle.ynl_tables.specs.Siblings.{leaf_paths}
 use Rattle.ynl_tables.specs.Tables.{leaf_of_row, leaves_of}
-use Rattle.ynl_tables.specs.Tenants.{IsOnward}
-use Rattle.ynl_tables.proofs.Onward.{rows_inside, rows_onward}
+use Rattle.ynl_tables.specs.Apart.{IsPassing}
+use Rattle.ynl_tables.proofs.Only.{rows_within, rows_passing}
 use Rattle.ynl_changes.specs.Marking.{KeepsMarks, KeepsMarksIn}
 use Rattle.ynl_changes.proofs.InPlace.{IsChanged, changed_none, changed_passed, changed_step, each_passed, each_step, same_set}
 use Rattle.ynl_changes.proofs.Marks.{kept_at}
-
--- a leaf of another tenant is another
-other_leaf : (path leaf : Path) → same_name (tenant_of path) (tenant_of leaf) ≡ false → same_path path leaf ≡ false
-other_leaf path leaf off = go (same_path path leaf) refl
-  where
-    go : (b : Bool) → same_path path leaf ≡ b → b ≡ false
-    go true e = absurd (true≢false (sym (same-name_self (tenant_of leaf)) ∙ ap (λ t. same_name t (tenant_of leaf)) (sym (ap tenant_of (same-path path leaf e))) ∙ off))
-    go false e = refl
 
 -- one leaf is changed, and others stay
 abbrev pub at_leaf : Path → (LeafApps → LeafApps) → LeafApps → LeafApps
 at_leaf leaf change row = cond (same_path row.leaf leaf) (change row) row
 
--- nothing is changed at another tenant's leaf
-pub other_stays : (leaf : Path) (change : LeafApps → LeafApps) (row : LeafApps) → same_name (tenant_of row.leaf) (tenant_of leaf) ≡ false → at_leaf leaf change row ≡ row
-other_stays leaf change row off = ap (λ b. cond b (change row) row) (other_leaf row.leaf leaf off)
+-- nothing is changed at another leaf
+pub other_stays : (leaf : Path) (change : LeafApps → LeafApps) (row : LeafApps) → same_path row.leaf leaf ≡ false → at_leaf leaf change row ≡ row
+other_stays leaf change row off = ap (λ b. cond b (change row) row) off
 
 -- up to a place the leaf is changed, and what is kept of the rows is kept
 pub record IsChangedBeside (leaf : Path) (change : LeafApps → LeafApps) (Keeps : List LeafRow → Type 0) (rows now : List LeafRow) (place : ℕ) : Type 0 where
@@ -41,32 +31,32 @@ pub record IsChangedBeside (leaf : Path) (change : LeafApps → LeafApps) (Keeps
   pub inside : place ≤ length rows
 
 module _ (queues : List Path) (leaf : Path) (rows : List LeafRow) (numbered : AreNumbered queues (leaves_of rows)) where
-  -- what holds of all other leaves holds up to where the tenant's next stands
-  pub each_beside : (P : LeafRow → Type 0) → ((row : LeafRow) → same_path row.path leaf ≡ false → P row) → (from to : ℕ) → from ≤ to → IsOnward (leaf_paths queues) (tenant_of leaf) from to → AllByRecursion P (take from rows) → AllByRecursion P (take to rows)
+  -- what holds of all other leaves holds up to where the leaf may stand next
+  pub each_beside : (P : LeafRow → Type 0) → ((row : LeafRow) → same_path row.path leaf ≡ false → P row) → (from to : ℕ) → from ≤ to → IsPassing (leaf_paths queues) leaf from to → AllByRecursion P (take from rows) → AllByRecursion P (take to rows)
   each_beside P others from to more onward h =
-      each_passed P rows (to - from) from to (omega (arith, more)) (rows_inside queues rows numbered (tenant_of leaf) from to onward)
-      (λ k d above below. others (get_or rows k d) (other_leaf (get_or rows k d).path leaf (rows_onward queues rows numbered (tenant_of leaf) from to d onward k above below))) h
+      each_passed P rows (to - from) from to (omega (arith, more)) (rows_within queues rows numbered leaf from to onward)
+      (λ k d above below. others (get_or rows k d) (rows_passing queues rows numbered leaf from to d onward k above below)) h
 
   module _ (change : LeafApps → LeafApps) where
     -- up to there all are as they are to be
-    changed_beside : (now : List LeafRow) (from to : ℕ) → from ≤ to → IsOnward (leaf_paths queues) (tenant_of leaf) from to → IsChanged leaf_of_row (at_leaf leaf change) rows now from → IsChanged leaf_of_row (at_leaf leaf change) rows now to
+    changed_beside : (now : List LeafRow) (from to : ℕ) → from ≤ to → IsPassing (leaf_paths queues) leaf from to → IsChanged leaf_of_row (at_leaf leaf change) rows now from → IsChanged leaf_of_row (at_leaf leaf change) rows now to
     changed_beside now from to more onward h =
-        changed_passed leaf_of_row (at_leaf leaf change) rows now (to - from) from to (omega (arith, more)) (rows_inside queues rows numbered (tenant_of leaf) from to onward)
-        (λ k d above below. other_stays leaf change (leaf_of_row (get_or rows k d)) (rows_onward queues rows numbered (tenant_of leaf) from to d onward k above below)) h
+        changed_passed leaf_of_row (at_leaf leaf change) rows now (to - from) from to (omega (arith, more)) (rows_within queues rows numbered leaf from to onward)
+        (λ k d above below. other_stays leaf change (leaf_of_row (get_or rows k d)) (rows_passing queues rows numbered leaf from to d onward k above below)) h
 
-    -- so nothing is to be changed before the tenant's first leaf
-    pub first_changed : (Keeps : List LeafRow → Type 0) (first : ℕ) → IsOnward (leaf_paths queues) (tenant_of leaf) 0 first → Keeps rows → IsChangedBeside leaf change Keeps rows rows first
+    -- so nothing is to be changed before it may stand first
+    pub first_changed : (Keeps : List LeafRow → Type 0) (first : ℕ) → IsPassing (leaf_paths queues) leaf 0 first → Keeps rows → IsChangedBeside leaf change Keeps rows rows first
     first_changed Keeps first onward keeps = record {
       changed = changed_beside rows 0 first (omega arith) onward (changed_none leaf_of_row (at_leaf leaf change) rows);
       keeps = keeps;
-      inside = rows_inside queues rows numbered (tenant_of leaf) 0 first onward;
+      inside = rows_within queues rows numbered leaf 0 first onward;
     }
 
-    -- and after one of its leaves nothing before the next
-    pub next_changed : (Keeps : List LeafRow → Type 0) (now : List LeafRow) (place next : ℕ) (row new : LeafRow) → place < next → IsOnward (leaf_paths queues) (tenant_of leaf) (place + 1) next → row ≡ get_or now place row → leaf_of_row new ≡ at_leaf leaf change (leaf_of_row row)
+    -- and after it nothing before it may stand next
+    pub next_changed : (Keeps : List LeafRow → Type 0) (now : List LeafRow) (place next : ℕ) (row new : LeafRow) → place < next → IsPassing (leaf_paths queues) leaf (place + 1) next → row ≡ get_or now place row → leaf_of_row new ≡ at_leaf leaf change (leaf_of_row row)
         → (place < length now → Keeps (set now place new)) → IsChangedBeside leaf change Keeps rows now place → IsChangedBeside leaf change Keeps rows (set now place new) next
     next_changed Keeps now place next row new after onward read given keeps h =
-        let within : next ≤ length rows = rows_inside queues rows numbered (tenant_of leaf) (place + 1) next onward in
+        let within : next ≤ length rows = rows_within queues rows numbered leaf (place + 1) next onward in
         let here : place < length rows = omega (arith, after, within) in
         record {
           changed =
@@ -91,17 +81,17 @@ pub record IsReserved (P : LeafRow → Type 0) (rows now : List LeafRow) (place 
   pub inside : place ≤ length now
 
 module _ (queues : List Path) (leaf : Path) (rows : List LeafRow) (numbered : AreNumbered queues (leaves_of rows)) (P : LeafRow → Type 0) (others : (row : LeafRow) → same_path row.path leaf ≡ false → P row) where
-  -- none is to have any before the tenant's first leaf
-  pub first_reserved : (first : ℕ) → IsOnward (leaf_paths queues) (tenant_of leaf) 0 first → IsReserved P rows rows first
+  -- none is to have any before the leaf may stand first
+  pub first_reserved : (first : ℕ) → IsPassing (leaf_paths queues) leaf 0 first → IsReserved P rows rows first
   first_reserved first onward = record {
     meaning = refl;
     marks = λ s h. h;
     capacity = each_beside queues leaf rows numbered P others 0 first (omega arith) onward tt;
-    inside = rows_inside queues rows numbered (tenant_of leaf) 0 first onward;
+    inside = rows_within queues rows numbered leaf 0 first onward;
   }
 
-  -- nor after one of its leaves before the next
-  pub next_reserved : (now : List LeafRow) (place next : ℕ) (row new : LeafRow) → place < length now → place < next → IsOnward (leaf_paths queues) (tenant_of leaf) (place + 1) next → row ≡ get_or now place row → leaf_of_row new ≡ leaf_of_row row → KeepsMarksIn row new → P new
+  -- nor after it before it may stand next
+  pub next_reserved : (now : List LeafRow) (place next : ℕ) (row new : LeafRow) → place < length now → place < next → IsPassing (leaf_paths queues) leaf (place + 1) next → row ≡ get_or now place row → leaf_of_row new ≡ leaf_of_row row → KeepsMarksIn row new → P new
       → IsReserved P rows now place → IsReserved P rows (set now place new) next
   next_reserved now place next row new here after onward read given keeps has h =
       let same : leaves_of (set now place new) ≡ leaves_of rows = same_at rows now place row new here read given h.meaning in
@@ -110,5 +100,5 @@ module _ (queues : List Path) (leaf : Path) (rows : List LeafRow) (numbered : Ar
         meaning = same;
         marks = marks_at rows now place row new here read keeps h.marks;
         capacity = each_beside queues leaf (set now place new) still P others (place + 1) next (omega (arith, after)) onward (each_step P now place new here h.capacity has);
-        inside = rows_inside queues (set now place new) still (tenant_of leaf) (place + 1) next onward;
+        inside = rows_within queues (set now place new) still leaf (place + 1) next onward;
       }

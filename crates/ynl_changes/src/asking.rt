@@ -134,7 +134,7 @@ fn ask_in(row: &mut LeafRow, leaf: &Path, name: &Name, ask: &AskRow)
     }
 }
 
-/// An application of a leaf asks. Only the leaves of its tenant are looked at.
+/// An application of a leaf asks. Only the leaf is looked at, where it is known that no other has its path.
 pub fn ask_for(
     rows: &mut Vec<LeafRow>,
     numbers: &QueueNumbers,
@@ -147,10 +147,10 @@ pub fn ask_for(
     ensures marks { KeepsMarks rows.old.items rows.new.items }
     ensures meaning { leaves_of rows.new.items ≡ in_leaf leaf.now (with_app name.now (set_ask ask.now)) (leaves_of rows.old.items) }
 {
-    let mut place = numbers.first_beside(leaf);
+    let mut place = numbers.first_with(leaf);
     while place < rows.len() {
         ask_in(&mut rows[place], leaf, name, ask);
-        place = numbers.next_beside(place, leaf);
+        place = numbers.next_with(place, leaf);
     }
 }
 
@@ -210,8 +210,8 @@ fn reserve_in(row: &mut LeafRow, leaf: &Path, name: &Name, count: u32) -> Result
     Ok(())
 }
 
-/// Capacity for one more ask of an application of a leaf, where the count is above 0. Only the leaves of its
-/// tenant are looked at.
+/// Capacity for one more ask of an application of a leaf, where the count is above 0. Only the leaf is
+/// looked at, where it is known that no other has its path.
 pub fn reserve_ask(
     rows: &mut Vec<LeafRow>,
     numbers: &QueueNumbers,
@@ -225,10 +225,10 @@ pub fn reserve_ask(
     ensures capacity { OnOk result (AllByRecursion (HasAskCapacityIn leaf.now name.now count) rows.new.items) }
     ensures sure { count ≡ 0 → IsOk result }
 {
-    let mut place = numbers.first_beside(leaf);
+    let mut place = numbers.first_with(leaf);
     while place < rows.len() {
         reserve_in(&mut rows[place], leaf, name, count)?;
-        place = numbers.next_beside(place, leaf);
+        place = numbers.next_with(place, leaf);
     }
     Ok(())
 }

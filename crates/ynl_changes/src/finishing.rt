@@ -451,16 +451,17 @@ fn finish_on(row: &mut LeafRow, leaf: &Path, name: &Name)
     }
 }
 
-/// An application of a leaf is finished: of it only the name stays. Only the leaves of its tenant are looked at.
+/// An application of a leaf is finished: of it only the name stays. Only the leaf is looked at, where it is known that
+/// no other has its path.
 fn finish_in(rows: &mut Vec<LeafRow>, numbers: &QueueNumbers, leaf: &Path, name: &Name)
     requires { AreNumbered numbers.now (leaves_of rows.old.items) }
     ensures marks { KeepsMarks rows.old.items rows.new.items }
     ensures meaning { leaves_of rows.new.items ≡ in_leaf leaf.now (finished name.now) (leaves_of rows.old.items) }
 {
-    let mut place = numbers.first_beside(leaf);
+    let mut place = numbers.first_with(leaf);
     while place < rows.len() {
         finish_on(&mut rows[place], leaf, name);
-        place = numbers.next_beside(place, leaf);
+        place = numbers.next_with(place, leaf);
     }
 }
 

@@ -252,7 +252,7 @@ fn take_in(row: &mut LeafRow, leaf: &Path, name: &Name, label: &Label, priority:
     }
 }
 
-/// An application of a leaf asks for one less. Only the leaves of its tenant are looked at.
+/// An application of a leaf asks for one less. Only the leaf is looked at, where it is known that no other has its path.
 fn take_ask(
     rows: &mut Vec<LeafRow>,
     numbers: &QueueNumbers,
@@ -265,10 +265,10 @@ fn take_ask(
     ensures marks { KeepsMarks rows.old.items rows.new.items }
     ensures meaning { leaves_of rows.new.items ≡ in_leaf leaf.now (with_app name.now (take_one label.now priority)) (leaves_of rows.old.items) }
 {
-    let mut place = numbers.first_beside(leaf);
+    let mut place = numbers.first_with(leaf);
     while place < rows.len() {
         take_in(&mut rows[place], leaf, name, label, priority);
-        place = numbers.next_beside(place, leaf);
+        place = numbers.next_with(place, leaf);
     }
 }
 

@@ -41,7 +41,7 @@ fn reserve_application_on(row: &mut LeafRow, leaf: &Path) -> Result<(), AllocErr
     Ok(())
 }
 
-/// Capacity for one more application in a leaf. Only the leaves of its tenant are looked at.
+/// Capacity for one more application in a leaf. Only the leaf is looked at, where it is known that no other has its path.
 pub fn reserve_application(
     rows: &mut Vec<LeafRow>,
     numbers: &QueueNumbers,
@@ -52,10 +52,10 @@ pub fn reserve_application(
     ensures marks { KeepsMarks rows.old.items rows.new.items }
     ensures capacity { OnOk result (AllByRecursion (HasAppCapacity leaf.now) rows.new.items) }
 {
-    let mut place = numbers.first_beside(leaf);
+    let mut place = numbers.first_with(leaf);
     while place < rows.len() {
         reserve_application_on(&mut rows[place], leaf)?;
-        place = numbers.next_beside(place, leaf);
+        place = numbers.next_with(place, leaf);
     }
     Ok(())
 }
@@ -85,17 +85,17 @@ fn submit_on(row: &mut LeafRow, new: &Submission, alloc: Global)
     }
 }
 
-/// The application comes last in its leaf, and its name is used for good. Only the leaves of its tenant are
-/// looked at.
+/// The application comes last in its leaf, and its name is used for good. Only the leaf is looked at,
+/// where it is known that no other has its path.
 pub fn submit(rows: &mut Vec<LeafRow>, numbers: &QueueNumbers, new: &Submission, alloc: Global)
     requires numbered { AreNumbered numbers.now (leaves_of rows.old.items) }
     requires capacity { AllByRecursion (HasAppCapacity new.now.leaf) rows.old.items }
     ensures marks { SubmitsMarks new.now rows.old.items rows.new.items }
     ensures meaning { leaves_of rows.new.items ≡ in_leaf new.now.leaf (submitted (application new.now)) (leaves_of rows.old.items) }
 {
-    let mut place = numbers.first_beside(&new.leaf);
+    let mut place = numbers.first_with(&new.leaf);
     while place < rows.len() {
         submit_on(&mut rows[place], new, alloc);
-        place = numbers.next_beside(place, &new.leaf);
+        place = numbers.next_with(place, &new.leaf);
     }
 }

@@ -1,7 +1,7 @@
 //! Leaves that change, of which nothing is known any more: on one partition, or on all, where none is told.
 
 ghost use Rattle.std.specs.Prelude.{◌≡◌, true, Some};
-ghost use Rattle.ynl_resource.specs.Names.{same_path, tenant_of};
+ghost use Rattle.ynl_resource.specs.Names.{same_path};
 ghost use Rattle.ynl_resource.specs.declared.paths.Path.{Path as Names};
 ghost use Rattle.ynl_model.specs.Applications.{leaf_of};
 ghost use Rattle.ynl_tables.specs.Numbers.{AreNumbered};
@@ -24,29 +24,16 @@ fn forget_if(lulls: &mut Lulls, row: &LeafRow, leaf: &Path, place: usize, on: &O
     }
 }
 
-/// Nothing is known of a tenant's leaf from now on. Only the leaves of the tenant are looked at.
-fn forget_of(lulls: &mut Lulls, tables: &Tables, tenant: &Name, leaf: &Path, on: &Option<Label>)
-    requires numbered { AreNumbered tables.now.numbers (leaves_of tables.now.leaves.items) }
-    requires tenant { tenant.now ≡ tenant_of leaf.now }
-    ensures fewer { AreFewer lulls.old.parts.items lulls.new.parts.items }
-    ensures gone { IsForgotten on.now leaf.now tables.now.leaves.items lulls.new }
-{
-    let mut place = tables.numbers.first_of(tenant);
-    while place < tables.leaves.len() {
-        forget_if(lulls, &tables.leaves[place], leaf, place, on);
-        place = tables.numbers.next_of(place, tenant);
-    }
-}
-
 /// Nothing is known of a leaf from now on.
 pub fn forget_leaf(lulls: &mut Lulls, tables: &Tables, leaf: &Path, on: &Option<Label>)
     requires { AreNumbered tables.now.numbers (leaves_of tables.now.leaves.items) }
     ensures fewer { AreFewer lulls.old.parts.items lulls.new.parts.items }
     ensures gone { IsForgotten on.now leaf.now tables.now.leaves.items lulls.new }
 {
-    match leaf.names().first() {
-        Some(tenant) => forget_of(lulls, tables, tenant, leaf, on),
-        None => lulls.forget_all(),
+    let mut place = tables.numbers.first_with(leaf);
+    while place < tables.leaves.len() {
+        forget_if(lulls, &tables.leaves[place], leaf, place, on);
+        place = tables.numbers.next_with(place, leaf);
     }
 }
 

@@ -18,3 +18,4 @@ pub mod Held
 pub mod Leaves
 pub mod Firsts
 pub mod Onward
+pub mod Only

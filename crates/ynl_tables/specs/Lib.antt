@@ -1,3 +1,4 @@
+pub mod Apart
 pub mod Bounds
 pub mod Kept
 pub mod Resting

@@ -34,6 +34,7 @@ pub use usage::usage_of;
 pub use user_counts::UserCounts;
 pub use uses::{Account, Owner, account_of, is_guest_on, is_live_on, is_master};
 
+mod apart;
 mod applications;
 mod asks;
 mod chains;

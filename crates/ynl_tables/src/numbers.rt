@@ -4,11 +4,13 @@ ghost use Rattle.std.specs.Prelude.{◌≡◌, ◌<◌, ◌+◌, ◌^◌, ◌++�
 ghost use Rattle.std.specs.List.{AllByRecursion, list_any, position};
 ghost use Rattle.ynl_resource.specs.Names.{root, is_within, same_path, tenant_of};
 ghost use Rattle.ynl_laws.specs.Ways.{IsWay};
+ghost use Rattle.ynl_tables.specs.Apart.{IsOnlyPlace, IsPassing};
 ghost use Rattle.ynl_tables.specs.Numbers.{AreNumbered, is_above, is_above_app, IsNumberOf, IsWayTo};
 ghost use Rattle.ynl_tables.specs.Siblings.{leaf_paths, leaf_at, IsPast};
 ghost use Rattle.ynl_tables.specs.Tables.{leaves_of};
 ghost use Rattle.ynl_tables.specs.Tenants.{IsOnward};
 
+use crate::apart::{LeafHints, are_apart};
 use crate::rows::Way;
 use crate::seats::{Seat, Seats};
 use crate::siblings::{ends_of, leaf_places, paths_at};
@@ -21,8 +23,8 @@ use ynl_resource::{Name, Path};
 
 /// The numbers of the queues of a configuration. Root has number 0, and the queues below follow in
 /// the order of the configuration; and of its leaves where they stand among these, which stand next to each other below
-/// one queue, and which are of one tenant; and hints where applications stand in these. A contract sees the queues below
-/// root.
+/// one queue, which are of one tenant, and whether no two have one path; and hints where they stand, and where
+/// applications stand in them. A contract sees the queues below root.
 #[derive(Drop)]
 pub struct QueueNumbers {
     queues: Vec<Path>,
@@ -31,6 +33,8 @@ pub struct QueueNumbers {
     leaves: Vec<Path>,
     ends: Vec<usize>,
     tenants: Tenants,
+    are_apart: bool,
+    hints: LeafHints,
     seats: Seats,
 }
 
@@ -57,6 +61,8 @@ impl QueueNumbers {
         let leaves = paths_at(alloc, &queues, &places)?;
         let ends = ends_of(alloc, &leaves)?;
         let tenants = Tenants::new(alloc, &leaves)?;
+        let are_apart = are_apart(config, &queues);
+        let hints = LeafHints::new(alloc, &leaves);
         Ok(QueueNumbers {
             queues,
             ways,
@@ -64,6 +70,8 @@ impl QueueNumbers {
             leaves,
             ends,
             tenants,
+            are_apart,
+            hints,
             seats: Seats::new(alloc),
         })
     }
@@ -201,7 +209,7 @@ impl QueueNumbers {
     }
 
     /// A place before which no leaf is of the tenant of a leaf.
-    pub fn first_beside(&self, leaf: &Path) -> usize
+    pub(crate) fn first_beside(&self, leaf: &Path) -> usize
         ensures { IsOnward (leaf_paths self.now) (tenant_of leaf.now) 0 result }
     {
         match leaf.names().first() {
@@ -210,13 +218,43 @@ impl QueueNumbers {
         }
     }
 
-    /// A place after another, before which no leaf after the other is of the tenant of a leaf.
-    pub fn next_beside(&self, place: usize, leaf: &Path) -> usize
+    /// The place of the leaf of a path, if it is found by one look, and it is known that no other has the path.
+    pub fn only_place(&self, leaf: &Path) -> Option<usize>
+        ensures { IfSome result (IsOnlyPlace (leaf_paths self.now) leaf.now) }
+    {
+        let place = self.hints.of(leaf)?;
+        let leaves = self.leaves.as_slice();
+        if self.are_apart && place < leaves.len() && leaves[place] == *leaf {
+            Some(place)
+        } else {
+            None
+        }
+    }
+
+    /// A place before which no leaf has a path. Where it is not found by one look, the leaves of its tenant are gone
+    /// through.
+    pub fn first_with(&self, leaf: &Path) -> usize
+        ensures { IsPassing (leaf_paths self.now) leaf.now 0 result }
+    {
+        match self.only_place(leaf) {
+            Some(place) => place,
+            None => self.first_beside(leaf),
+        }
+    }
+
+    /// A place after another, before which no leaf after the other has a path: past all, if the other has it and it is
+    /// known that no two have one.
+    pub fn next_with(&self, place: usize, leaf: &Path) -> usize
         requires { place < length (leaf_paths self.now) }
         ensures after { place < result }
-        ensures onward { IsOnward (leaf_paths self.now) (tenant_of leaf.now) (place + 1) result }
+        ensures onward { IsPassing (leaf_paths self.now) leaf.now (place + 1) result }
     {
-        self.next_by(place, tenant_bytes(leaf))
+        let leaves = self.leaves.as_slice();
+        if self.are_apart && leaves[place] == *leaf {
+            leaves.len()
+        } else {
+            self.next_by(place, tenant_bytes(leaf))
+        }
     }
 }
 

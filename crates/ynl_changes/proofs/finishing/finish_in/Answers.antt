@@ -10,7 +10,7 @@ use Rattle.ynl_changes.proofs.finishing.finish_in.Goals as goal
 pub loop-place-init : goal.loop-place-init
 loop-place-init c =
     let rows : List LeafRow = c.args.rows.now.items in
-    first_changed c.args.numbers.now c.args.leaf.now rows c.requires (finished c.args.name.now) (KeepsMarks rows) c.first_beside-place.result c.first_beside-place.ensures (λ s h. h)
+    first_changed c.args.numbers.now c.args.leaf.now rows c.requires (finished c.args.name.now) (KeepsMarks rows) c.first_with-place.result c.first_with-place.ensures (λ s h. h)
 
 pub loop-place-preserved : goal.loop-place-preserved
 loop-place-preserved c =
@@ -18,5 +18,5 @@ loop-place-preserved c =
     let now : List LeafRow = c.loop-place.rows.items in
     let row : LeafRow = c.index_mut.result.now in
     let new : LeafRow = c.finish_on.new.row in
-    next_changed c.args.numbers.now c.args.leaf.now rows c.requires (finished c.args.name.now) (KeepsMarks rows) now c.loop-place.place c.next_beside-place.result row new c.next_beside-place.ensures.after c.next_beside-place.ensures.onward c.index_mut.ensures.value c.finish_on.ensures.meaning
+    next_changed c.args.numbers.now c.args.leaf.now rows c.requires (finished c.args.name.now) (KeepsMarks rows) now c.loop-place.place c.next_with-place.result row new c.next_with-place.ensures.after c.next_with-place.ensures.onward c.index_mut.ensures.value c.finish_on.ensures.meaning
     (λ here s h. kept_at (AreMarkedIn s) now c.loop-place.place row new here c.index_mut.ensures.value (c.finish_on.ensures.marks s) (c.loop-place.invariant.keeps s h)) c.loop-place.invariant

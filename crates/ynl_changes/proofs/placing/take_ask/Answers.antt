@@ -10,7 +10,7 @@ use Rattle.ynl_changes.proofs.placing.take_ask.Goals as goal
 pub loop-place-init : goal.loop-place-init
 loop-place-init c =
     let rows : List LeafRow = c.args.rows.now.items in
-    first_changed c.args.numbers.now c.args.leaf.now rows c.requires (with_app c.args.name.now (take_one c.args.label.now c.args.priority)) (KeepsMarks rows) c.first_beside-place.result c.first_beside-place.ensures (λ s h. h)
+    first_changed c.args.numbers.now c.args.leaf.now rows c.requires (with_app c.args.name.now (take_one c.args.label.now c.args.priority)) (KeepsMarks rows) c.first_with-place.result c.first_with-place.ensures (λ s h. h)
 
 pub loop-place-preserved : goal.loop-place-preserved
 loop-place-preserved c =
@@ -18,5 +18,5 @@ loop-place-preserved c =
     let now : List LeafRow = c.loop-place.rows.items in
     let row : LeafRow = c.index_mut.result.now in
     let new : LeafRow = c.take_in.new.row in
-    next_changed c.args.numbers.now c.args.leaf.now rows c.requires (with_app c.args.name.now (take_one c.args.label.now c.args.priority)) (KeepsMarks rows) now c.loop-place.place c.next_beside-place.result row new c.next_beside-place.ensures.after c.next_beside-place.ensures.onward c.index_mut.ensures.value c.take_in.ensures.meaning
+    next_changed c.args.numbers.now c.args.leaf.now rows c.requires (with_app c.args.name.now (take_one c.args.label.now c.args.priority)) (KeepsMarks rows) now c.loop-place.place c.next_with-place.result row new c.next_with-place.ensures.after c.next_with-place.ensures.onward c.index_mut.ensures.value c.take_in.ensures.meaning
     (λ here s h. kept_at (AreMarkedIn s) now c.loop-place.place row new here c.index_mut.ensures.value (c.take_in.ensures.marks s) (c.loop-place.invariant.keeps s h)) c.loop-place.invariant

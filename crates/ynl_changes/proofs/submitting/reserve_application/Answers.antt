@@ -7,13 +7,13 @@ use Rattle.ynl_changes.proofs.submitting.reserve_application.Goals as goal
 
 pub loop-place-init : goal.loop-place-init
 loop-place-init c =
-    first_reserved c.args.numbers.now c.args.leaf.now c.args.rows.now.items c.requires (HasAppCapacity c.args.leaf.now) (λ row off is. absurd (true≢false (sym is ∙ off))) c.first_beside-place.result c.first_beside-place.ensures
+    first_reserved c.args.numbers.now c.args.leaf.now c.args.rows.now.items c.requires (HasAppCapacity c.args.leaf.now) (λ row off is. absurd (true≢false (sym is ∙ off))) c.first_with-place.result c.first_with-place.ensures
 
 pub loop-place-preserved : goal.loop-place-preserved
 loop-place-preserved c =
     let now : List LeafRow = c.loop-place.rows.items in
     let here : c.loop-place.place < length now = omega arith in
-    next_reserved c.args.numbers.now c.args.leaf.now c.args.rows.now.items c.requires (HasAppCapacity c.args.leaf.now) (λ row off is. absurd (true≢false (sym is ∙ off))) now c.loop-place.place c.next_beside-place.result c.index_mut.result.now c.reserve_application_on.new.row here c.next_beside-place.ensures.after c.next_beside-place.ensures.onward
+    next_reserved c.args.numbers.now c.args.leaf.now c.args.rows.now.items c.requires (HasAppCapacity c.args.leaf.now) (λ row off is. absurd (true≢false (sym is ∙ off))) now c.loop-place.place c.next_with-place.result c.index_mut.result.now c.reserve_application_on.new.row here c.next_with-place.ensures.after c.next_with-place.ensures.onward
     c.index_mut.ensures.value c.reserve_application_on.ensures.meaning c.reserve_application_on.ensures.marks c.in_ok-reserve_application_on.ensures.capacity c.loop-place.invariant
 
 pub returns-in_err-reserve_application_on-clause-meaning : goal.returns-in_err-reserve_application_on-clause-meaning

@@ -3,35 +3,29 @@ use Rattle.std.specs.Prelude.{◌==◌, nat_lt}
 use Rattle.std.proofs.lemmas.Bool.Decides.{nat_tests}
 use Rattle.std.proofs.lemmas.List.{get_or_default}
 use mathlib.Core.Bool.{true≢false}
-use Rattle.ynl_resource.specs.Names.{same_name, same_path, tenant_of}
+use Rattle.ynl_resource.specs.Names.{same_path}
 use Rattle.ynl_resource.specs.declared.labels.Label.{Label}
-use Rattle.ynl_resource.specs.declared.names.Name.{Name}
 use Rattle.ynl_resource.specs.declared.paths.Path.{Path}
-use Rattle.ynl_laws.proofs.Names.{same-name_self, same-path}
 use Rattle.ynl_tables.specs.declared.rows.LeafRow.{LeafRow}
-use Rattle.ynl_tables.proofs.Onward.{rows_inside, rows_onward}
+use Rattle.ynl_tables.proofs.Only.{rows_within, rows_passing}
 use Rattle.ynl_choice.specs.declared.blocks.PartLulls.{PartLulls}
 use Rattle.ynl_choice.specs.Lulls.{AreFewer, IsGone}
 use Rattle.ynl_choice.proofs.Known.{are_fewer_self, are_fewer_then, still_gone}
-use Rattle.ynl_choice.proofs.forgetting.forget_of.Goals as goal
+use Rattle.ynl_choice.proofs.forgetting.forget_leaf.Goals as goal
 
--- another tenant's leaf is another
-other-leaf : (path leaf : Path) (tenant : Name) → tenant ≡ tenant_of leaf → same_name (tenant_of path) tenant ≡ false → same_path path leaf ≡ true → true ≡ false
-other-leaf path leaf tenant own off e = sym (same-name_self tenant) ∙ ap (λ t. same_name t tenant) (own ∙ sym (ap tenant_of (same-path path leaf e))) ∙ off
-
--- what is forgotten up to a place, there, and up to the tenant's next leaf
-all-gone : (on : Option Label) (rows : List LeafRow) (leaf : Path) (tenant : Name) (place next : ℕ) (row : LeafRow) (old new : List PartLulls) → AreFewer old new → tenant ≡ tenant_of leaf → ((d : LeafRow) → place < length rows → row ≡ get_or rows place d)
+-- what is forgotten up to a place, there, and up to where the leaf may stand next
+all-gone : (on : Option Label) (rows : List LeafRow) (leaf : Path) (place next : ℕ) (row : LeafRow) (old new : List PartLulls) → AreFewer old new → ((d : LeafRow) → place < length rows → row ≡ get_or rows place d)
     → ((k : ℕ) (d : LeafRow) → k < place → k < length rows → same_path (get_or rows k d).path leaf ≡ true → IsGone on k old) → (same_path row.path leaf ≡ true → IsGone on place new)
-    → ((k : ℕ) (d : LeafRow) → place + 1 ≤ k → k < next → same_name (tenant_of (get_or rows k d).path) tenant ≡ false)
+    → ((k : ℕ) (d : LeafRow) → place + 1 ≤ k → k < next → same_path (get_or rows k d).path leaf ≡ false)
     → (k : ℕ) (d : LeafRow) → k < next → k < length rows → same_path (get_or rows k d).path leaf ≡ true → IsGone on k new
-all-gone on rows leaf tenant place next row old new less own read gone here between k d below inside e = go (nat_lt k place) (k == place) refl refl
+all-gone on rows leaf place next row old new less read gone here between k d below inside e = go (nat_lt k place) (k == place) refl refl
   where
     go : (a b : Bool) → nat_lt k place ≡ a → (k == place) ≡ b → IsGone on k new
     go true b f g = still_gone on k old new (gone k d (grind (arith, nat_tests, f)) inside e) less
     go false true f g =
         let same : k ≡ place = grind (arith, nat_tests, g) in
         subst (λ n. IsGone on n new) (sym same) (here (ap (λ (row : LeafRow). same_path row.path leaf) (read d (subst (λ n. n < length rows) same inside) ∙ ap (λ n. get_or rows n d) (sym same)) ∙ e))
-    go false false f g = absurd (true≢false (other-leaf (get_or rows k d).path leaf tenant own (between k d (grind (arith, nat_tests, f, g)) below) e))
+    go false false f g = absurd (true≢false (sym e ∙ between k d (grind (arith, nat_tests, f, g)) below))
 
 -- what is read at a place, whatever stands for what is not there
 at_any : (rows : List LeafRow) (place : ℕ) (row d : LeafRow) → place < length rows → row ≡ get_or rows place row → row ≡ get_or rows place d
@@ -40,22 +34,20 @@ at_any rows place row d inside read = read ∙ get_or_default rows place row d i
 pub loop-place-init : goal.loop-place-init
 loop-place-init c =
     let rows : List LeafRow = c.args.tables.now.leaves.items in
-    let tenant : Name = c.args.tenant.now in
-    let first : ℕ = c.first_of-place.result in
+    let leaf : Path = c.args.leaf.now in
+    let first : ℕ = c.first_with-place.result in
     record {
       fewer = are_fewer_self c.args.lulls.now.parts.items;
-      gone = λ k d below inside e.
-          absurd (true≢false (other-leaf (get_or rows k d).path c.args.leaf.now tenant c.requires.tenant (rows_onward c.args.tables.now.numbers rows c.requires.numbered tenant 0 first d c.first_of-place.ensures k (omega arith) below) e));
-      inside = rows_inside c.args.tables.now.numbers rows c.requires.numbered tenant 0 first c.first_of-place.ensures;
+      gone = λ k d below inside e. absurd (true≢false (sym e ∙ rows_passing c.args.tables.now.numbers rows c.requires leaf 0 first d c.first_with-place.ensures k (omega arith) below));
+      inside = rows_within c.args.tables.now.numbers rows c.requires leaf 0 first c.first_with-place.ensures;
     }
 
 pub loop-place-preserved : goal.loop-place-preserved
 loop-place-preserved c =
     let rows : List LeafRow = c.args.tables.now.leaves.items in
-    let tenant : Name = c.args.tenant.now in
     let leaf : Path = c.args.leaf.now in
     let place : ℕ = c.loop-place.place in
-    let next : ℕ = c.next_of-place.result in
+    let next : ℕ = c.next_with-place.result in
     let row : LeafRow = c.index.result.now in
     let old = c.loop-place.lulls.parts.items in
     let new = c.forget_if.new.lulls.parts.items in
@@ -63,7 +55,7 @@ loop-place-preserved c =
     let here : (d : LeafRow) → place < length rows → row ≡ get_or rows place d = λ d inside. at_any rows place row d inside c.index.ensures in
     record {
       fewer = are_fewer_then c.args.lulls.now.parts.items old new c.loop-place.invariant.fewer less;
-      gone = all-gone c.args.on.now rows leaf tenant place next row old new less c.requires.tenant here c.loop-place.invariant.gone c.forget_if.ensures.gone
-          (λ k d after before. rows_onward c.args.tables.now.numbers rows c.requires.numbered tenant (place + 1) next d c.next_of-place.ensures.onward k after before);
-      inside = rows_inside c.args.tables.now.numbers rows c.requires.numbered tenant (place + 1) next c.next_of-place.ensures.onward;
+      gone = all-gone c.args.on.now rows leaf place next row old new less here c.loop-place.invariant.gone c.forget_if.ensures.gone
+          (λ k d after before. rows_passing c.args.tables.now.numbers rows c.requires leaf (place + 1) next d c.next_with-place.ensures.onward k after before);
+      inside = rows_within c.args.tables.now.numbers rows c.requires leaf (place + 1) next c.next_with-place.ensures.onward;
     }

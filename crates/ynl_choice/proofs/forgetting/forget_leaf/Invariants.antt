@@ -2,7 +2,7 @@ use Rattle.std.proofs.Common.{◌≡◌, ℕ, ◌-◌, ◌<◌, ◌≤◌, true,
 use Rattle.ynl_resource.specs.Names.{same_path}
 use Rattle.ynl_tables.specs.declared.rows.LeafRow.{LeafRow}
 use Rattle.ynl_choice.specs.Lulls.{AreFewer, IsGone}
-use Rattle.ynl_choice.proofs.forgetting.forget_of.Given as goal
+use Rattle.ynl_choice.proofs.forgetting.forget_leaf.Given as goal
 
 abbrev pub invariant-loop-place : goal.invariant-loop-place
 invariant-loop-place l = record {
