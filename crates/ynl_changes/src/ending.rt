@@ -13,6 +13,7 @@ ghost use Rattle.ynl_tables.specs.Listed.{AreListed};
 ghost use Rattle.ynl_tables.specs.Living.{container_in, is_live_and, live_in, row_clock};
 ghost use Rattle.ynl_tables.specs.Numbers.{AreNumbered};
 ghost use Rattle.ynl_tables.specs.Rising.{numbers_rise};
+ghost use Rattle.ynl_tables.specs.Seats.{AreFound};
 ghost use Rattle.ynl_tables.specs.Sums.{AreSums};
 ghost use Rattle.ynl_tables.specs.Tables.{state_of, leaves_of, partition_of, partitions_of};
 ghost use Rattle.ynl_changes.specs.Cells.{AreUses, AreUserUses, AreFilled, LeavesIf, IsListing, goes};
@@ -72,6 +73,7 @@ fn lower_if(
     going: Going<'_>,
 )
     requires numbered { AreNumbered numbers.now (leaves_of leaves.now) }
+    requires found { AreFound (leaves_of leaves.now) }
     requires len { length uses.old.items ≡ length (root ∷ numbers.now) }
     ensures { LeavesIf (is_live_and label.now (goes going.entry) row.now) row.now (AreUses numbers.now (leaves_of leaves.now) label.now uses.old.items) (AreUses numbers.now (leaves_of leaves.now) label.now uses.new.items) }
 {
@@ -92,6 +94,7 @@ fn lower_by(
     going: Going<'_>,
 )
     requires numbered { AreNumbered numbers.now (leaves_of leaves.now) }
+    requires found { AreFound (leaves_of leaves.now) }
     requires uses { AreUses numbers.now (leaves_of leaves.now) label.now uses.old.items rows.now }
     ensures { uses.new.items ≡ map (λ queue. use_by (leaves_of leaves.now) queue (without (goes going.entry) (live_in label.now rows.now))) (root ∷ numbers.now) }
 {
@@ -128,6 +131,7 @@ fn lower_users_if(
     going: Going<'_>,
 )
     requires numbered { AreNumbered numbers.now (leaves_of leaves.now) }
+    requires found { AreFound (leaves_of leaves.now) }
     requires len { length users.old.items ≡ length (root ∷ numbers.now) }
     ensures { LeavesIf (is_live_and label.now (goes going.entry) row.now) row.now (AreUserUses numbers.now (leaves_of leaves.now) label.now users.old.items) (AreUserUses numbers.now (leaves_of leaves.now) label.now users.new.items) }
 {
@@ -148,6 +152,7 @@ fn lower_users_by(
     going: Going<'_>,
 )
     requires numbered { AreNumbered numbers.now (leaves_of leaves.now) }
+    requires found { AreFound (leaves_of leaves.now) }
     requires users { AreUserUses numbers.now (leaves_of leaves.now) label.now users.old.items rows.now }
     ensures { AreByUser numbers.now (leaves_of leaves.now) users.new.items (without (goes going.entry) (live_in label.now rows.now)) }
 {
@@ -191,6 +196,7 @@ pub fn drop_going(
     going: Going<'_>,
 )
     requires numbered { AreNumbered numbers.now (leaves_of leaves.now) }
+    requires found { AreFound (leaves_of leaves.now) }
     requires summed { IsSummed numbers.now (leaves_of leaves.now) row.old }
     ensures meaning { partition_of row.new ≡ record (partition_of row.old) { containers = without (goes going.entry) (live_in row.old.label row.old.containers.items) } }
     ensures summed { IsSummed numbers.now (leaves_of leaves.now) row.new }
@@ -223,6 +229,7 @@ pub fn drop_at(row: &mut PartitionRow, numbers: &QueueNumbers, leaves: &[LeafRow
     requires place { place < length row.old.containers.items }
     requires live { (other : ContainerRow) → (slice_index_or row.old.containers.items place other).is_live ≡ true }
     requires numbered { AreNumbered numbers.now (leaves_of leaves.now) }
+    requires found { AreFound (leaves_of leaves.now) }
     requires summed { IsSummed numbers.now (leaves_of leaves.now) row.old }
     ensures meaning { partition_of row.new ≡ record (partition_of row.old) { containers = live_in row.old.label (remove row.old.containers.items place) } }
     ensures summed { IsSummed numbers.now (leaves_of leaves.now) row.new }
@@ -268,6 +275,7 @@ fn is_live_with(label: &Label, row: &ContainerRow, id: &Id) -> bool
 /// The container of an id goes from a row.
 fn drop_of_id(row: &mut PartitionRow, numbers: &QueueNumbers, leaves: &[LeafRow], id: &Id)
     requires numbered { AreNumbered numbers.now (leaves_of leaves.now) }
+    requires found { AreFound (leaves_of leaves.now) }
     requires summed { IsSummed numbers.now (leaves_of leaves.now) row.old }
     ensures meaning { partition_of row.new ≡ record (partition_of row.old) { containers = without (λ other. same_id other.id id.now) (live_in row.old.label row.old.containers.items) } }
     ensures summed { IsSummed numbers.now (leaves_of leaves.now) row.new }
@@ -291,6 +299,7 @@ fn end_in(
     id: &Id,
 )
     requires numbered { AreNumbered numbers.now (leaves_of leaves.now) }
+    requires found { AreFound (leaves_of leaves.now) }
     requires summed { IsSummed numbers.now (leaves_of leaves.now) row.old }
     ensures meaning { partition_of row.new ≡ in_row label.now (without_id id.now clock) (partition_of row.old) }
     ensures summed { IsSummed numbers.now (leaves_of leaves.now) row.new }
@@ -310,7 +319,8 @@ fn end_on(
     clock: u64,
     id: &Id,
 )
-    requires { AreKept numbers.now (leaves_of leaves.now) rows.old.items }
+    requires kept { AreKept numbers.now (leaves_of leaves.now) rows.old.items }
+    requires found { AreFound (leaves_of leaves.now) }
     ensures meaning { partitions_of rows.new.items ≡ in_partition label.now (without_id id.now clock) (partitions_of rows.old.items) }
     ensures kept { AreKept numbers.now (leaves_of leaves.now) rows.new.items }
 {
@@ -324,6 +334,7 @@ fn end_on(
 pub fn end(config: &Config, tables: &mut Tables, container: &Placed)
     requires once { filter (λ other. same_id other.id container.now.id) (containers_on (state_of tables.old) container.now.id.label) ≡ container.now ∷ [] }
     requires kept { IsKept tables.old }
+    requires found { AreFound (leaves_of tables.old.leaves.items) }
     ensures state { state_of tables.new ≡ end config.now (state_of tables.old) container.now }
     ensures kept { IsKept tables.new }
     ensures numbers { tables.new.numbers ≡ tables.old.numbers }

@@ -21,6 +21,7 @@ ghost use Rattle.ynl_tables.specs.Living.{container_in, live_at, live_in};
 ghost use Rattle.ynl_tables.specs.Numbers.{AreNumbered};
 ghost use Rattle.ynl_tables.specs.Listed.{holds, clocks_held, AreListed};
 ghost use Rattle.ynl_tables.specs.Rising.{numbers_rise, clock_of, IsAlone};
+ghost use Rattle.ynl_tables.specs.Seats.{AreFound};
 ghost use Rattle.ynl_tables.specs.Tables.{state_of, app_of, leaf_of_row, leaves_of, partition_of, partitions_of};
 ghost use Rattle.ynl_changes.specs.Marking.{KeepsMarksAmong, KeepsMarksIn, KeepsMarks};
 ghost use Rattle.ynl_tables.specs.Queued.{are_in_turn, masters_waiting, asks_waiting};
@@ -292,6 +293,7 @@ fn place_of_last(row: &PartitionRow, holder: &Holder) -> Option<usize>
 /// The last container goes from a row that is listed of an application.
 fn drop_last(row: &mut PartitionRow, numbers: &QueueNumbers, leaves: &[LeafRow], holder: &Holder)
     requires numbered { AreNumbered numbers.now (leaves_of leaves.now) }
+    requires found { AreFound (leaves_of leaves.now) }
     requires summed { IsSummed numbers.now (leaves_of leaves.now) row.old }
     ensures others { without_own holder.now.tenant holder.now.app (partition_of row.new) ≡ without_own holder.now.tenant holder.now.app (partition_of row.old) }
     ensures summed { IsSummed numbers.now (leaves_of leaves.now) row.new }
@@ -304,6 +306,7 @@ fn drop_last(row: &mut PartitionRow, numbers: &QueueNumbers, leaves: &[LeafRow],
 /// Those containers go from a row that are listed of an application, one by one from the last.
 fn drop_listed(row: &mut PartitionRow, numbers: &QueueNumbers, leaves: &[LeafRow], holder: &Holder)
     requires numbered { AreNumbered numbers.now (leaves_of leaves.now) }
+    requires found { AreFound (leaves_of leaves.now) }
     requires summed { IsSummed numbers.now (leaves_of leaves.now) row.old }
     ensures others { without_own holder.now.tenant holder.now.app (partition_of row.new) ≡ without_own holder.now.tenant holder.now.app (partition_of row.old) }
     ensures summed { IsSummed numbers.now (leaves_of leaves.now) row.new }
@@ -338,6 +341,7 @@ fn drop_own(
     app: &Name,
 )
     requires numbered { AreNumbered numbers.now (leaves_of leaves.now) }
+    requires found { AreFound (leaves_of leaves.now) }
     requires summed { IsSummed numbers.now (leaves_of leaves.now) row.old }
     requires holder { IsHolder tenant.now app.now holder.now }
     ensures meaning { partition_of row.new ≡ without_own tenant.now app.now (partition_of row.old) }
@@ -363,6 +367,7 @@ fn drop_all_own(
     app: &Name,
 )
     requires kept { AreKept numbers.now (leaves_of leaves.now) rows.old.items }
+    requires found { AreFound (leaves_of leaves.now) }
     requires holder { IsHolder tenant.now app.now holder.now }
     ensures meaning { partitions_of rows.new.items ≡ map (without_own tenant.now app.now) (partitions_of rows.old.items) }
     ensures kept { AreKept numbers.now (leaves_of leaves.now) rows.new.items }

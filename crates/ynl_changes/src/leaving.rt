@@ -11,6 +11,7 @@ ghost use Rattle.ynl_tables.specs.Kept.{AreKept, IsKept, IsSummed, stands_on};
 ghost use Rattle.ynl_tables.specs.Living.{live_in, row_clock};
 ghost use Rattle.ynl_tables.specs.Numbers.{AreNumbered};
 ghost use Rattle.ynl_tables.specs.Rising.{numbers_rise};
+ghost use Rattle.ynl_tables.specs.Seats.{AreFound};
 ghost use Rattle.ynl_tables.specs.Sums.{AreSums};
 ghost use Rattle.ynl_tables.specs.Tables.{leaves_of, partition_of, partitions_of, state_of};
 ghost use Rattle.ynl_changes.specs.Marking.{noted_rows, unmarked};
@@ -58,6 +59,7 @@ fn place_on(rows: &[ContainerRow], node: &Name, clock: u64) -> Option<usize>
 /// application whose master it is.
 fn end_at_place(tables: &mut Tables, node: &Node, at: usize, place: usize)
     requires kept { IsKept tables.old }
+    requires found { AreFound (leaves_of tables.old.leaves.items) }
     requires at { position (λ row. same_label row.label node.now.label) tables.old.partitions.items ≡ Some at }
     requires within { (d : PartitionRow) → place < length (slice_index_or tables.old.partitions.items at d).containers.items }
     requires live { (d : PartitionRow) (e : ContainerRow) → (slice_index_or (slice_index_or tables.old.partitions.items at d).containers.items place e).is_live ≡ true }
@@ -75,7 +77,8 @@ fn end_at_place(tables: &mut Tables, node: &Node, at: usize, place: usize)
 
 /// The container of a clock ends, if it is on a node; the clock is given of the one before it there.
 fn end_next(tables: &mut Tables, node: &Node, clock: u64) -> u64
-    requires { IsKept tables.old }
+    requires kept { IsKept tables.old }
+    requires found { AreFound (leaves_of tables.old.leaves.items) }
     ensures state { vacated node.now (state_of tables.new) ≡ vacated node.now (state_of tables.old) }
     ensures kept { IsKept tables.new }
     ensures numbers { tables.new.numbers ≡ tables.old.numbers }
@@ -112,7 +115,8 @@ fn most_on(rows: &[PartitionRow], node: &Node) -> u64 {
 
 /// The containers on a node end that its chain leads to, one by one from the last. No clock of a container is 0.
 fn end_chained(tables: &mut Tables, node: &Node)
-    requires { IsKept tables.old }
+    requires kept { IsKept tables.old }
+    requires found { AreFound (leaves_of tables.old.leaves.items) }
     ensures state { vacated node.now (state_of tables.new) ≡ vacated node.now (state_of tables.old) }
     ensures kept { IsKept tables.new }
     ensures numbers { tables.new.numbers ≡ tables.old.numbers }
@@ -160,6 +164,7 @@ fn unmark_on(leaves: &mut Vec<LeafRow>, rows: &[PartitionRow], node: &Node)
 /// The containers on a node go from a row.
 fn drop_on(row: &mut PartitionRow, numbers: &QueueNumbers, leaves: &[LeafRow], node: &Name)
     requires numbered { AreNumbered numbers.now (leaves_of leaves.now) }
+    requires found { AreFound (leaves_of leaves.now) }
     requires summed { IsSummed numbers.now (leaves_of leaves.now) row.old }
     ensures meaning { partition_of row.new ≡ emptied node.now (partition_of row.old) }
     ensures summed { IsSummed numbers.now (leaves_of leaves.now) row.new }
@@ -179,6 +184,7 @@ fn drop_in(
     node: &Name,
 )
     requires numbered { AreNumbered numbers.now (leaves_of leaves.now) }
+    requires found { AreFound (leaves_of leaves.now) }
     requires summed { IsSummed numbers.now (leaves_of leaves.now) row.old }
     ensures meaning { partition_of row.new ≡ in_row label.now (emptied node.now) (partition_of row.old) }
     ensures summed { IsSummed numbers.now (leaves_of leaves.now) row.new }
@@ -196,7 +202,8 @@ fn drop_containers(
     label: &Label,
     node: &Name,
 )
-    requires { AreKept numbers.now (leaves_of leaves.now) rows.old.items }
+    requires kept { AreKept numbers.now (leaves_of leaves.now) rows.old.items }
+    requires found { AreFound (leaves_of leaves.now) }
     ensures meaning { partitions_of rows.new.items ≡ in_partition label.now (emptied node.now) (partitions_of rows.old.items) }
     ensures kept { AreKept numbers.now (leaves_of leaves.now) rows.new.items }
 {
@@ -207,7 +214,8 @@ fn drop_containers(
 
 /// The containers on a node end, and the marks go of the applications whose masters are among them.
 pub fn vacate(tables: &mut Tables, node: &Node)
-    requires { IsKept tables.old }
+    requires kept { IsKept tables.old }
+    requires found { AreFound (leaves_of tables.old.leaves.items) }
     ensures state { state_of tables.new ≡ vacated node.now (state_of tables.old) }
     ensures kept { IsKept tables.new }
     ensures numbers { tables.new.numbers ≡ tables.old.numbers }

@@ -4,7 +4,8 @@ ghost use Rattle.std.specs.Prelude.{◌≡◌, Some, None, false, OnOk, OnErr};
 ghost use Rattle.ynl_model.specs.Nodes.{find_node, is_full};
 ghost use Rattle.ynl_model.specs.Changes.{node_joins, node_leaves};
 ghost use Rattle.ynl_tables.specs.Kept.{IsKept};
-ghost use Rattle.ynl_tables.specs.Tables.{state_of};
+ghost use Rattle.ynl_tables.specs.Seats.{AreFound};
+ghost use Rattle.ynl_tables.specs.Tables.{leaves_of, state_of};
 
 use crate::leaving::vacate;
 use crate::placing::set_clock;
@@ -46,7 +47,8 @@ pub fn join(
 /// A node leaves, and its containers end with it; the clock of the partition that it leaves stays.
 #[tactic(auto, unfolding(ynl_model::specs::Changes::node_leaves))]
 pub fn leave(tables: &mut Tables, node: &Node)
-    requires { IsKept tables.old }
+    requires kept { IsKept tables.old }
+    requires found { AreFound (leaves_of tables.old.leaves.items) }
     ensures state { state_of tables.new ≡ node_leaves node.now (state_of tables.old) }
     ensures kept { IsKept tables.new }
     ensures numbers { tables.new.numbers ≡ tables.old.numbers }
@@ -67,6 +69,7 @@ pub fn relabel(
     requires here { find_node tables.old.nodes.list name.now ≡ Some node.now }
     requires room { is_full tables.old.nodes.list label.now ≡ false }
     requires kept { IsKept tables.old }
+    requires found { AreFound (leaves_of tables.old.leaves.items) }
     ensures ok { OnOk result (state_of tables.new ≡ node_joins config.now name.now label.now node.now.size (node_leaves node.now (state_of tables.old))) }
     ensures err { OnErr result (state_of tables.new ≡ state_of tables.old) }
     ensures resting { OnErr result (tables.new.nodes.resting ≡ tables.old.nodes.resting) }

@@ -16,6 +16,7 @@ ghost use Rattle.ynl_tables.specs.Kept.{AreKept, IsKept, IsSummed};
 ghost use Rattle.ynl_tables.specs.Living.{is_suited, live_in};
 ghost use Rattle.ynl_tables.specs.Numbers.{AreNumbered};
 ghost use Rattle.ynl_tables.specs.Rising.{clock_of};
+ghost use Rattle.ynl_tables.specs.Seats.{AreFound};
 ghost use Rattle.ynl_tables.specs.Tables.{state_of, app_of, leaf_of_row, leaves_of, partition_of, partitions_of, HasCapacity};
 ghost use Rattle.ynl_changes.specs.Marking.{KeepsMark, KeepsMarksAmong, KeepsMarksIn, KeepsMarks, IsPlaceable};
 ghost use Rattle.ynl_changes.specs.Placing.{put_on, taken_from, taken_at, taken_asks, is_last_of};
@@ -49,6 +50,7 @@ fn put(
     container: &Placed,
 )
     requires numbered { AreNumbered numbers.now (leaves_of leaves.now) }
+    requires found { AreFound (leaves_of leaves.now) }
     requires summed { IsSummed numbers.now (leaves_of leaves.now) row.old }
     requires label { container.now.id.label ≡ label.now }
     requires suited { is_suited label.now container.now.what ≡ true }
@@ -90,6 +92,7 @@ fn put_container(
     container: &Placed,
 )
     requires kept { AreKept numbers.now (leaves_of leaves.now) rows.old.items }
+    requires found { AreFound (leaves_of leaves.now) }
     requires label { container.now.id.label ≡ label.now }
     requires suited { is_suited label.now container.now.what ≡ true }
     requires small { AllByRecursion (λ row. IsTotal (sizes (live_in row.label row.containers.items))) rows.old.items }

@@ -16,7 +16,7 @@ use crate::queueing::enqueue_master;
 use crate::sharing::count_user;
 use std::alloc::{AllocError, Global};
 use ynl_resource::{Label, Name, Path, Size};
-use ynl_tables::{App, LeafRow, QueueNumbers};
+use ynl_tables::{App, LeafRow, QueueNumbers, Seat};
 
 /// What a new application is: it asks for nothing yet.
 #[derive(Clone, Copy)]
@@ -85,17 +85,38 @@ fn submit_on(row: &mut LeafRow, new: &Submission, alloc: Global)
     }
 }
 
-/// The application comes last in its leaf, and its name is used for good. Only the leaf is looked at,
+/// The seat of an application that comes next to the row at a place, if that is the row of its leaf; else what was
+/// known of it before.
+fn seat_on(row: &LeafRow, place: usize, leaf: &Path, before: Option<Seat>) -> Option<Seat> {
+    if row.path == *leaf {
+        Some(Seat {
+            leaf: place,
+            number: row.names.len() as u64,
+        })
+    } else {
+        before
+    }
+}
+
+/// The application comes last in its leaf, and its name is used for good; its seat is given. Only the leaf is looked at,
 /// where it is known that no other has its path.
-pub fn submit(rows: &mut Vec<LeafRow>, numbers: &QueueNumbers, new: &Submission, alloc: Global)
+pub fn submit(
+    rows: &mut Vec<LeafRow>,
+    numbers: &QueueNumbers,
+    new: &Submission,
+    alloc: Global,
+) -> Option<Seat>
     requires numbered { AreNumbered numbers.now (leaves_of rows.old.items) }
     requires capacity { AllByRecursion (HasAppCapacity new.now.leaf) rows.old.items }
     ensures marks { SubmitsMarks new.now rows.old.items rows.new.items }
     ensures meaning { leaves_of rows.new.items ≡ in_leaf new.now.leaf (submitted (application new.now)) (leaves_of rows.old.items) }
 {
+    let mut seat = None;
     let mut place = numbers.first_with(&new.leaf);
     while place < rows.len() {
+        seat = seat_on(&rows[place], place, &new.leaf, seat);
         submit_on(&mut rows[place], new, alloc);
         place = numbers.next_with(place, &new.leaf);
     }
+    seat
 }

@@ -5,6 +5,7 @@ ghost use Rattle.ynl_resource.specs.Names.{same_path};
 ghost use Rattle.ynl_resource.specs.declared.paths.Path.{Path as Names};
 ghost use Rattle.ynl_model.specs.Applications.{leaf_of};
 ghost use Rattle.ynl_tables.specs.Numbers.{AreNumbered};
+ghost use Rattle.ynl_tables.specs.Seats.{AreFound};
 ghost use Rattle.ynl_tables.specs.Tables.{leaves_of};
 ghost use Rattle.ynl_choice.specs.Lulls.{AreFewer, IsForgotten, IsGone, changed_on};
 
@@ -12,7 +13,7 @@ use crate::lulls::Lulls;
 use crate::requests::Request;
 use ynl_model::What;
 use ynl_resource::{Label, Name, Path};
-use ynl_tables::{LeafRow, Tables, leaf_row_by};
+use ynl_tables::{LeafRow, Tables, leaf_path_of};
 
 /// Nothing is known of the leaf at a place from now on, if it is that one.
 fn forget_if(lulls: &mut Lulls, row: &LeafRow, leaf: &Path, place: usize, on: &Option<Label>)
@@ -45,12 +46,13 @@ pub fn forget_leaf_of(
     app: &Name,
     on: &Option<Label>,
 )
-    requires { AreNumbered tables.now.numbers (leaves_of tables.now.leaves.items) }
+    requires numbered { AreNumbered tables.now.numbers (leaves_of tables.now.leaves.items) }
+    requires found { AreFound (leaves_of tables.now.leaves.items) }
     ensures fewer { AreFewer lulls.old.parts.items lulls.new.parts.items }
     ensures gone { (leaf : Names) → leaf_of (leaves_of tables.now.leaves.items) tenant.now app.now ≡ Some leaf → IsForgotten on.now leaf tables.now.leaves.items lulls.new }
 {
-    match leaf_row_by(&tables.numbers, &tables.leaves, tenant, app) {
-        Some(row) => forget_leaf(lulls, tables, &row.path, on),
+    match leaf_path_of(&tables.numbers, &tables.leaves, tenant, app) {
+        Some(leaf) => forget_leaf(lulls, tables, leaf, on),
         None => lulls.forget_all(),
     }
 }

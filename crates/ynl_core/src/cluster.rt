@@ -30,7 +30,7 @@ use ynl_model::{AskRow, Event, Items, Placed, Proposal, Reply};
 use ynl_queues::Config;
 use ynl_resource::{Hundredths, Id, Label, Name, Path, Refusal, Resource, Size};
 use ynl_tables::{
-    Tables, containers_at, list_live, own_containers, pending_on, rest, usage_of, wake,
+    Tables, containers_at, list_live, note_seat, own_containers, pending_on, rest, usage_of, wake,
 };
 
 /// A cluster: what it is configured with, and its state. A node on which nothing is to be placed rests, so that
@@ -217,7 +217,8 @@ impl Core {
         };
         let alloc = *self.tables.leaves.allocator();
         forget_leaf(&mut self.lulls, &self.tables, queue, &None);
-        submit(&mut self.tables.leaves, &self.tables.numbers, &new, alloc);
+        let seat = submit(&mut self.tables.leaves, &self.tables.numbers, &new, alloc);
+        note_seat(&mut self.tables, queue, app, seat);
         wake(&mut self.tables);
         Ok(Reply::Done)
     }

@@ -8,6 +8,7 @@ pub mod Shared
 pub mod Sorted
 pub mod Knowing
 pub mod Changing
+pub mod Seated
 pub mod Counting
 pub mod CountingUsers
 pub mod Searching

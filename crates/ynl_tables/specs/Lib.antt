@@ -9,6 +9,7 @@ pub mod Marked
 pub mod NumberFields
 pub mod Numbers
 pub mod Rising
+pub mod Seats
 pub mod Sharing
 pub mod Siblings
 pub mod Sums

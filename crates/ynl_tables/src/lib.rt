@@ -14,7 +14,7 @@ pub use containers::{
 pub use ended::{clear_ended, end_at, list_live, live_of, make_last};
 pub use holders::{Holder, Listed};
 pub use known::{Known, Spot};
-pub use live::{Live, live_at};
+pub use live::{Live, leaf_path_of, live_at};
 pub use named::{place_of, spot_of};
 pub use numbers::QueueNumbers;
 pub use polling::{own_containers, pending_on};
@@ -23,7 +23,7 @@ pub use queue_use::{
 };
 pub use resting::{rest, wake};
 pub use rows::{App, ContainerRow, Kind, LeafPart, LeafRow, Near, PartitionRow};
-pub use seats::Seat;
+pub use seats::{Seat, note_seat};
 pub use sharing::{shares, users};
 pub use sums::Sums;
 pub use tables::{

@@ -1,8 +1,11 @@
 //! Hints where applications stand. A hint may be wrong: whoever takes one looks at what it leads to, so no contract says
 //! what it is.
 
+ghost use Rattle.std.specs.Prelude.{◌≡◌};
+
+use crate::tables::Tables;
 use std::alloc::Global;
-use ynl_resource::{Hints, Name};
+use ynl_resource::{Hints, Name, Path};
 
 /// Where an application is thought to stand: the place of its leaf among the leaves, and its number there.
 #[derive(Clone, Copy)]
@@ -37,4 +40,17 @@ impl Seats {
         self.count = self.count.saturating_add(1);
         self.hints.note(&[name, tenant], seat, self.count);
     }
+}
+
+/// Where the application of a name stands that was submitted to a leaf, for later.
+pub fn note_seat(tables: &mut Tables, leaf: &Path, name: &Name, seat: Option<Seat>)
+    ensures { tables.new ≡ tables.old }
+{
+    let Some(tenant) = leaf.tenant() else {
+        return;
+    };
+    let Some(seat) = seat else {
+        return;
+    };
+    tables.numbers.note_seat(&tenant, name, seat);
 }

@@ -5,17 +5,19 @@ ghost use Rattle.std.specs.List.{list_any};
 ghost use Rattle.ynl_resource.specs.Amounts.{plus, fits_in};
 ghost use Rattle.ynl_resource.specs.Names.{root, same_name, same_path};
 ghost use Rattle.ynl_resource.specs.declared.paths.Path.{Path as Names};
-ghost use Rattle.ynl_model.specs.Applications.{LeafApps, row_of};
+ghost use Rattle.ynl_model.specs.Applications.{LeafApps, find_app, leaf_of, row_of};
 ghost use Rattle.ynl_model.specs.Cluster.{is_master, is_guest_on, is_below, sizes};
 ghost use Rattle.ynl_tables.specs.Numbers.{AreNumbered, is_above_app};
 ghost use Rattle.ynl_tables.specs.Living.{is_live_and, live_in};
-ghost use Rattle.ynl_tables.specs.Tables.{leaf_of_row, leaves_of};
+ghost use Rattle.ynl_tables.specs.Seats.{AreFound};
+ghost use Rattle.ynl_tables.specs.Tables.{app_of, leaf_of_row, leaves_of};
 ghost use Rattle.ynl_tables.specs.Bounds.{IsTotal};
 ghost use Rattle.ynl_laws.specs.Uses.{counts};
 ghost use Rattle.ynl_laws.specs.Ways.{IsWay};
 ghost use Rattle.ynl_tables.specs.Uses.{is_of_other, of_user, is_counted, IsOwner};
 
 use crate::containers::container_of;
+use crate::live::{Live, live_hinted};
 use crate::named::app_named;
 use crate::numbers::QueueNumbers;
 use crate::rows::{ContainerRow, LeafRow};
@@ -121,29 +123,43 @@ fn is_of_user(leaves: &[LeafRow], user: &Name, container: &Placed) -> bool
     }
 }
 
-/// Whose use a container counts in, by the row of its leaf; none for a guest, and where the application is not
-/// live.
-#[tactic(auto, unfolding(ynl_model::specs::Applications::leaf_of, ynl_model::specs::Applications::find_app))]
-fn owner_in<'a>(row: &'a LeafRow, container: &Placed) -> Option<Owner<'a>>
-    ensures owner { (leaves : List LeafApps) → Some (leaf_of_row row.now) ≡ row_of leaves container.now.tenant container.now.app → IsOwner leaves container.now result }
-    ensures leaf { IfSome result (λ owner. owner.leaf.now ≡ row.now.path) }
+/// Whose use a container of a live application counts in; none for a guest.
+fn owner_of<'a>(live: Live<'a>, container: &Placed) -> Option<Owner<'a>>
+    ensures owner { (leaves : List LeafApps) → find_app leaves container.now.tenant container.now.app ≡ Some (app_of live.entry.leaf.now live.entry.app.now) → leaf_of leaves container.now.tenant container.now.app ≡ Some live.entry.leaf.now → IsOwner leaves container.now result }
+    ensures leaf { IfSome result (λ owner. owner.leaf.now ≡ live.entry.leaf.now) }
 {
     if is_guest_on(&container.id.label, &container.what) {
         return None;
     }
+    Some(Owner {
+        leaf: live.leaf,
+        place: live.near.place,
+        user: &live.app.user,
+    })
+}
+
+/// Whose use a container counts in, by the row of its leaf; none for a guest, and where the application is not
+/// live.
+fn owner_in<'a>(row: &'a LeafRow, container: &Placed) -> Option<Owner<'a>>
+    ensures owner { (leaves : List LeafApps) → Some (leaf_of_row row.now) ≡ row_of leaves container.now.tenant container.now.app → IsOwner leaves container.now result }
+    ensures leaf { IfSome result (λ owner. owner.leaf.now ≡ row.now.path) }
+{
     match app_named(row, &container.app) {
-        Some(app) => Some(Owner {
-            leaf: &row.path,
-            place: row.near.place,
-            user: &app.user,
-        }),
+        Some(app) => owner_of(
+            Live {
+                leaf: &row.path,
+                near: row.near,
+                app,
+            },
+            container,
+        ),
         None => None,
     }
 }
 
-/// Where a container counts. Its application is looked for once.
+/// Where a container counts, by the row of its application's leaf.
 #[tactic(auto, unfolding(ynl_model::specs::Applications::leaf_of, ynl_model::specs::Applications::find_app))]
-pub fn account_of<'a>(
+fn account_by<'a>(
     numbers: &'a QueueNumbers,
     leaves: &'a [LeafRow],
     container: &Placed,
@@ -162,6 +178,27 @@ pub fn account_of<'a>(
             way: &[],
             owner: None,
         },
+    }
+}
+
+/// Where a container counts. Its application is looked for once, and first where its seat says.
+pub fn account_of<'a>(
+    numbers: &'a QueueNumbers,
+    leaves: &'a [LeafRow],
+    container: &Placed,
+) -> Account<'a>
+    requires numbered { AreNumbered numbers.now (leaves_of leaves.now) }
+    requires found { AreFound (leaves_of leaves.now) }
+    ensures way { IsWay (root ∷ numbers.now) (is_above_app (leaves_of leaves.now) container.now.tenant container.now.app) result.way.now }
+    ensures owner { IsOwner (leaves_of leaves.now) container.now result.owner }
+    ensures numbered { IfSome result.owner (λ owner. list_any (same_path owner.leaf.now) numbers.now ≡ true) }
+{
+    match live_hinted(numbers, leaves, &container.tenant, &container.app) {
+        Some(live) => Account {
+            way: numbers.way_near(live.near.place, live.leaf),
+            owner: owner_of(live, container),
+        },
+        None => account_by(numbers, leaves, container),
     }
 }
 

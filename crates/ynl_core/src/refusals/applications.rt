@@ -9,6 +9,7 @@ ghost use Rattle.ynl_model.specs.Events.{home_of, reasons};
 ghost use Rattle.ynl_model.specs.declared.events.Event.TheVariants.{Submit, Finish, Poll};
 ghost use Rattle.ynl_model.specs.declared.events.Event.TheVariants as event;
 ghost use Rattle.ynl_tables.specs.Numbers.{AreNumbered};
+ghost use Rattle.ynl_tables.specs.Seats.{AreFound};
 ghost use Rattle.ynl_tables.specs.Tables.{state_of, leaves_of, app_of};
 
 use ynl_model::AskRow;
@@ -80,6 +81,7 @@ pub(crate) fn refuse_ask(
     ask: &AskRow,
 ) -> Result<Path, Refusal>
     requires numbered { AreNumbered tables.now.numbers (leaves_of tables.now.leaves.items) }
+    requires found { AreFound (leaves_of tables.now.leaves.items) }
     ensures refused { IfErr result (λ refusal. first_that_holds (reasons config.now (state_of tables.now) (event.Ask tenant.now name.now ask.now.label ask.now.priority ask.now.count ask.now.size)) ≡ Some refusal) }
     ensures free { IfOk result (λ _. first_that_holds (reasons config.now (state_of tables.now) (event.Ask tenant.now name.now ask.now.label ask.now.priority ask.now.count ask.now.size)) ≡ None) }
     ensures leaf { IfOk result (λ leaf. option_map (λ app. app.leaf) (find_app (state_of tables.now).leaves tenant.now name.now) ≡ Some leaf) }
@@ -110,6 +112,7 @@ pub(crate) fn refuse_finish<'a>(
     name: &Name,
 ) -> Result<Live<'a>, Refusal>
     requires numbered { AreNumbered tables.now.numbers (leaves_of tables.now.leaves.items) }
+    requires found { AreFound (leaves_of tables.now.leaves.items) }
     ensures refused { IfErr result (λ refusal. (c : Config) → first_that_holds (reasons c (state_of tables.now) (Finish tenant.now name.now)) ≡ Some refusal) }
     ensures free { IfOk result (λ _. (c : Config) → first_that_holds (reasons c (state_of tables.now) (Finish tenant.now name.now)) ≡ None) }
     ensures live { IfOk result (λ live. find_app (state_of tables.now).leaves tenant.now name.now ≡ Some (app_of live.leaf.now live.app.now)) }
@@ -130,6 +133,7 @@ pub(crate) fn refuse_poll<'a>(
     label: &Label,
 ) -> Result<Live<'a>, Refusal>
     requires numbered { AreNumbered tables.now.numbers (leaves_of tables.now.leaves.items) }
+    requires found { AreFound (leaves_of tables.now.leaves.items) }
     ensures refused { IfErr result (λ refusal. first_that_holds (reasons config.now (state_of tables.now) (Poll tenant.now name.now label.now)) ≡ Some refusal) }
     ensures free { IfOk result (λ _. first_that_holds (reasons config.now (state_of tables.now) (Poll tenant.now name.now label.now)) ≡ None) }
     ensures live { IfOk result (λ live. find_app (state_of tables.now).leaves tenant.now name.now ≡ Some (app_of live.leaf.now live.app.now)) }

@@ -4,6 +4,7 @@ use Rattle.ynl_model.specs.Cluster.{State, in_partition}
 use Rattle.ynl_model.specs.Changes.{changed_at, end}
 use Rattle.ynl_tables.specs.declared.rows.LeafRow.{LeafRow}
 use Rattle.ynl_tables.specs.Kept.{AreKept}
+use Rattle.ynl_tables.specs.Seats.{AreFound}
 use Rattle.ynl_tables.specs.Tables.{leaves_of, partitions_of, state_of}
 use Rattle.ynl_changes.specs.Rows.{without_id}
 use Rattle.ynl_changes.proofs.Marks.{by_partitions, marks_ended}
@@ -26,5 +27,8 @@ returns-clause-kept c =
       marks = by_partitions (end config s k) (record s { partitions = partitions_of rows }) new (sym partitions) (marks_ended config s k old new c.requires.once c.mark.ensures.marks c.requires.kept.marks);
     }
 
-pub end_on-requires : goal.end_on-requires
-end_on-requires c = subst (λ (leaves : List LeafRow). AreKept c.args.tables.now.numbers (leaves_of leaves) c.args.tables.now.partitions.items) (sym c.deref.ensures.value) c.requires.kept.amounts
+pub end_on-requires-clause-kept : goal.end_on-requires-clause-kept
+end_on-requires-clause-kept c = subst (λ (leaves : List LeafRow). AreKept c.args.tables.now.numbers (leaves_of leaves) c.args.tables.now.partitions.items) (sym c.deref.ensures.value) c.requires.kept.amounts
+
+pub end_on-requires-clause-found : goal.end_on-requires-clause-found
+end_on-requires-clause-found c = subst (λ (rows : List LeafRow). AreFound (leaves_of rows)) (sym c.deref.ensures.value) c.requires.found

@@ -11,6 +11,7 @@ use Rattle.ynl_laws.proofs.Lives.Finished.{own-end}
 use Rattle.ynl_tables.specs.declared.rows.LeafRow.{LeafRow}
 use Rattle.ynl_tables.specs.Kept.{AreKept}
 use Rattle.ynl_tables.specs.Marked.{AreMarked}
+use Rattle.ynl_tables.specs.Seats.{AreFound}
 use Rattle.ynl_tables.specs.Tables.{state_of, leaves_of, partitions_of}
 use Rattle.ynl_changes.proofs.Marks.{marks_finished}
 use Rattle.ynl_changes.proofs.Own.{leaves_stay}
@@ -38,6 +39,10 @@ pub drop_all_own-requires-clause-kept : goal.drop_all_own-requires-clause-kept
 drop_all_own-requires-clause-kept c =
     let tables = c.raise_clocks.new.tables in
     subst (λ (rows : List LeafRow). AreKept tables.numbers (leaves_of rows) tables.partitions.items) (sym c.deref.ensures.value) (c.raise_clocks.ensures.kept c.requires.kept.amounts)
+
+pub drop_all_own-requires-clause-found : goal.drop_all_own-requires-clause-found
+drop_all_own-requires-clause-found c =
+    subst (λ (rows : List LeafRow). AreFound (leaves_of rows)) (sym c.deref.ensures.value) (subst (λ (rows : List LeafRow). AreFound (leaves_of rows)) (sym c.raise_clocks.ensures.leaves) c.requires.tabled.finds)
 
 pub returns-clause-kept : goal.returns-clause-kept
 returns-clause-kept c =

@@ -22,6 +22,6 @@ returns-clause-kept c =
     let items = c.loop-row.row-items in
     let same = c.loop-row.auto.row-items ∙ ap length c.deref_mut-row-items.ensures.value in
     record {
-      numbered = c.requires.numbered;
+      numbered = c.requires.kept.numbered;
       summed = whole_kept (AreSummed c.args.numbers.now (leaves_of c.args.leaves.now)) c.args.rows.now.len items c.args.rows.now.items same c.args.rows.now.ok.0 c.loop-row.invariant.summed;
     }

@@ -14,6 +14,7 @@ use Rattle.ynl_tables.specs.declared.rows.PartitionRow.{PartitionRow}
 use Rattle.ynl_tables.specs.Kept.{AreKept, IsSummed}
 use Rattle.ynl_tables.specs.Living.{container_in, live_in}
 use Rattle.ynl_tables.specs.Numbers.{AreNumbered}
+use Rattle.ynl_tables.specs.Seats.{AreFound}
 use Rattle.ynl_tables.specs.Tables.{leaves_of, partition_of, partitions_of, state_of}
 use Rattle.ynl_tables.proofs.Living.{live_append, live_between}
 use Rattle.ynl_changes.specs.Rows.{emptied}
@@ -104,3 +105,6 @@ drop_at-requires-clause-summed c =
     let first = is_first c.args.node.now.label items c.args.at row c.requires.at e in
     subst (λ (rows : List LeafRow). IsSummed numbers (leaves_of rows) row) (sym c.deref.ensures.value)
     (subst (IsSummed numbers (leaves_of c.args.tables.now.leaves.items)) (sym e) (all-of (IsSummed numbers (leaves_of c.args.tables.now.leaves.items)) items c.requires.kept.amounts.summed c.args.at row first.inside))
+
+pub drop_at-requires-clause-found : goal.drop_at-requires-clause-found
+drop_at-requires-clause-found c = subst (λ (rows : List LeafRow). AreFound (leaves_of rows)) (sym c.deref.ensures.value) c.requires.found

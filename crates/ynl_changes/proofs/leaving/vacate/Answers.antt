@@ -9,6 +9,7 @@ use Rattle.ynl_model.specs.Changes.{node_leaves}
 use Rattle.ynl_tables.specs.declared.rows.LeafRow.{LeafRow}
 use Rattle.ynl_tables.specs.declared.rows.PartitionRow.{PartitionRow}
 use Rattle.ynl_tables.specs.Kept.{AreKept, IsSummed, stands_on}
+use Rattle.ynl_tables.specs.Seats.{AreFound}
 use Rattle.ynl_tables.specs.Tables.{leaves_of, partitions_of, state_of}
 use Rattle.ynl_changes.specs.Marking.{noted_rows, unmarked}
 use Rattle.ynl_changes.proofs.Vacated.{containers_in}
@@ -21,11 +22,16 @@ unmark_on-requires c =
     let P : PartitionRow → Type 0 = λ row. AreSums stands_on row.filled (live_in row.label row.containers.items) in
     subst (AllByRecursion P) (sym c.deref.ensures.value) (Each-weaker (IsSummed t.numbers (leaves_of t.leaves.items)) P (λ row h. h.filled) t.partitions.items c.end_chained.ensures.kept.amounts.summed)
 
-pub drop_containers-requires : goal.drop_containers-requires
-drop_containers-requires c =
+pub drop_containers-requires-clause-kept : goal.drop_containers-requires-clause-kept
+drop_containers-requires-clause-kept c =
     let t = c.end_chained.new.tables in
     subst (λ (leaves : List LeafRow). AreKept t.numbers (leaves_of leaves) t.partitions.items) (sym c.deref-2.ensures.value)
     (subst (λ (leaves : List LeafApps). AreKept t.numbers leaves t.partitions.items) (sym c.unmark_on.ensures.meaning) c.end_chained.ensures.kept.amounts)
+
+pub drop_containers-requires-clause-found : goal.drop_containers-requires-clause-found
+drop_containers-requires-clause-found c =
+    subst (λ (rows : List LeafRow). AreFound (leaves_of rows)) (sym c.deref-2.ensures.value)
+    (subst AreFound (sym (c.unmark_on.ensures.meaning ∙ ap (λ (s : State). s.leaves) c.end_chained.ensures.state)) c.requires.found)
 
 pub returns-clause-state : goal.returns-clause-state
 returns-clause-state c =

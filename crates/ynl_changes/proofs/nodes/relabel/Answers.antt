@@ -28,8 +28,8 @@ returns-clause-ok c =
     ∙ ap (λ clock. in_partition label (λ row. record row { clock = clock }) (node_leaves node old).partitions) same in
     λ i. record { nodes = nodes i; partitions = partitions i; leaves = (c.vacate.ensures.state i).leaves; stops = (c.vacate.ensures.state i).stops; maxima = (c.vacate.ensures.state i).maxima }
 
-pub vacate-requires : goal.vacate-requires
-vacate-requires c = record { amounts = c.requires.kept.amounts; marks = c.requires.kept.marks }
+pub vacate-requires-clause-kept : goal.vacate-requires-clause-kept
+vacate-requires-clause-kept c = record { amounts = c.requires.kept.amounts; marks = c.requires.kept.marks }
 
 pub returns-clause-kept : goal.returns-clause-kept
 unfolding node_joins node_leaves next_clock clock

@@ -10,6 +10,7 @@ use Rattle.ynl_laws.proofs.Totals.Owners.{taken-user}
 use Rattle.ynl_tables.specs.declared.rows.LeafRow.{LeafRow}
 use Rattle.ynl_tables.specs.Kept.{AreKept}
 use Rattle.ynl_tables.specs.Living.{is_suited}
+use Rattle.ynl_tables.specs.Seats.{AreFound}
 use Rattle.ynl_tables.specs.Tables.{leaves_of, partitions_of, state_of}
 use Rattle.ynl_changes.proofs.Marks.{by_partitions, marks_placed}
 use Rattle.ynl_changes.proofs.Summing.{rows_small, rows_below, kept_leaf}
@@ -26,6 +27,9 @@ put_container-requires-clause-last c = rows_below c.args.config.now c.args.table
 
 pub put_container-requires-clause-kept : goal.put_container-requires-clause-kept
 put_container-requires-clause-kept c = subst (λ (leaves : List LeafRow). AreKept c.args.tables.now.numbers (leaves_of leaves) c.args.tables.now.partitions.items) (sym c.deref.ensures.value) c.requires.kept.amounts
+
+pub put_container-requires-clause-found : goal.put_container-requires-clause-found
+put_container-requires-clause-found c = subst (λ (rows : List LeafRow). AreFound (leaves_of rows)) (sym c.deref.ensures.value) c.requires.tabled.finds
 
 pub returns-clause-kept : goal.returns-clause-kept
 unfolding place changed_at container_of

@@ -73,3 +73,6 @@ reserve_ask-requires c = c.self.invariant.kept.amounts.numbered
 
 pub ask_for-requires-clause-numbered : goal.ask_for-requires-clause-numbered
 ask_for-requires-clause-numbered c = subst (AreNumbered c.self.inside.tables.numbers) (sym c.reserve_ask.ensures.meaning) c.self.invariant.kept.amounts.numbered
+
+pub refuse_ask-requires-clause-found : goal.refuse_ask-requires-clause-found
+refuse_ask-requires-clause-found c = c.self.invariant.sound.tabled.finds

@@ -40,3 +40,6 @@ finish_application-requires-clause-live c =
 
 pub forget_leaf-requires : goal.forget_leaf-requires
 forget_leaf-requires c = c.self.invariant.kept.amounts.numbered
+
+pub refuse_finish-requires-clause-found : goal.refuse_finish-requires-clause-found
+refuse_finish-requires-clause-found c = c.self.invariant.sound.tabled.finds

@@ -27,3 +27,6 @@ returns-clause-ok c =
       told = sym (ap (λ (o : Outcome). o.reply) same);
       left = λ i. record { config = config; state = sym (ap (λ (o : Outcome). o.state) same) i };
     })
+
+pub refuse_poll-requires-clause-found : goal.refuse_poll-requires-clause-found
+refuse_poll-requires-clause-found c = c.self.invariant.sound.tabled.finds

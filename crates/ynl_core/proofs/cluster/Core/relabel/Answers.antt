@@ -13,3 +13,6 @@ invariant_of-self-2 c = woken c.self.inside c.relabel.new.tables c.wake.new.tabl
 -- where memory is refused all is as it was
 pub invariant_of-self : goal.invariant_of-self
 invariant_of-self c = unchanged c.self.inside c.relabel.new.tables c.self.invariant c.in_err-relabel.ensures.err c.in_err-relabel.ensures.resting c.relabel.ensures.kept c.relabel.ensures.numbers
+
+pub relabel-requires-clause-found : goal.relabel-requires-clause-found
+relabel-requires-clause-found c = c.self.invariant.sound.tabled.finds

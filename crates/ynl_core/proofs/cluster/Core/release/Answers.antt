@@ -19,5 +19,11 @@ invariant_of-self c = woken c.self.inside c.end.new.tables c.wake.new.tables c.f
 pub end-requires-clause-once : goal.end-requires-clause-once
 end-requires-clause-once c = stands_once c.self.inside.config (state_of c.self.inside.tables) c.args.id.now.label _ c.in-Ok.container c.self.invariant.sound.working.ordered c.in-Ok.ensures.container
 
-pub forget_leaf_of-requires : goal.forget_leaf_of-requires
-forget_leaf_of-requires c = c.self.invariant.kept.amounts.numbered
+pub forget_leaf_of-requires-clause-numbered : goal.forget_leaf_of-requires-clause-numbered
+forget_leaf_of-requires-clause-numbered c = c.self.invariant.kept.amounts.numbered
+
+pub forget_leaf_of-requires-clause-found : goal.forget_leaf_of-requires-clause-found
+forget_leaf_of-requires-clause-found c = c.self.invariant.sound.tabled.finds
+
+pub end-requires-clause-found : goal.end-requires-clause-found
+end-requires-clause-found c = c.self.invariant.sound.tabled.finds

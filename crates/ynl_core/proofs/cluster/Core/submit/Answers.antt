@@ -12,7 +12,9 @@ use Rattle.ynl_model.specs.Cluster.{State}
 use Rattle.ynl_model.specs.Applications.{Application, LeafApps, leaf_of, in_leaf, submitted, new_app}
 use Rattle.ynl_model.specs.Events.{Outcome, done, home_of, reasons, step, accepted}
 use Rattle.ynl_laws.proofs.Events.Chosen.{none-holds}
+use Rattle.ynl_tables.specs.declared.tables.Tables.{Tables}
 use Rattle.ynl_tables.specs.Kept.{AreKept, IsKept}
+use Rattle.ynl_tables.specs.Resting.{IsAsBefore}
 use Rattle.ynl_tables.specs.Tables.{state_of, leaves_of, partitions_of}
 use Rattle.ynl_laws.proofs.Totals.Marks.{mark-new}
 use Rattle.ynl_changes.proofs.Summing.{kept_submission}
@@ -29,13 +31,13 @@ unused c s queue app user label master none = (none-holds (reasons c s (Submit q
 
 -- the step is the submission
 stepped : (c : goal.After-wake) → (step c.self.inside.config (state_of c.self.inside.tables) (Submit c.args.queue.now c.args.app.now c.args.user.now c.args.label.now c.args.master.now))
-    ≡ done (record { nodes = c.self.inside.tables.nodes.list; partitions = partitions_of c.self.inside.tables.partitions.items; leaves = leaves_of c.submit.new.rows.items; stops = c.self.inside.tables.stops; maxima = c.self.inside.tables.maxima })
+    ≡ done (record { nodes = c.self.inside.tables.nodes.list; partitions = partitions_of c.self.inside.tables.partitions.items; leaves = leaves_of c.submit-seat.new.rows.items; stops = c.self.inside.tables.stops; maxima = c.self.inside.tables.maxima })
 unfolding accepted
 stepped c =
     let config = c.self.inside.config in
     let tables = c.self.inside.tables in
     let event : Event = Submit c.args.queue.now c.args.app.now c.args.user.now c.args.label.now c.args.master.now in
-    let leaves = c.submit.ensures.meaning ∙ (λ i. in_leaf c.args.queue.now (submitted (new_app c.args.queue.now c.args.app.now c.args.user.now (c.in-Ok.ensures.home i) c.args.master.now)) (c.reserve_application.ensures.meaning i)) in
+    let leaves = c.submit-seat.ensures.meaning ∙ (λ i. in_leaf c.args.queue.now (submitted (new_app c.args.queue.now c.args.app.now c.args.user.now (c.in-Ok.ensures.home i) c.args.master.now)) (c.reserve_application.ensures.meaning i)) in
     taken_in config (state_of tables) event (c.in-Ok.ensures.free c.args.user.now)
     ∙ (λ i. done (record { nodes = tables.nodes.list; partitions = partitions_of tables.partitions.items; leaves = sym leaves i; stops = tables.stops; maxima = tables.maxima }))
 
@@ -45,23 +47,23 @@ invariant_of-self-2 c =
     let event : Event = Submit c.args.queue.now c.args.app.now c.args.user.now c.args.label.now c.args.master.now in
     let s : State = state_of c.self.inside.tables in
     let app : Application = new_app c.args.queue.now c.args.app.now c.args.user.now (home_of config c.args.queue.now c.args.label.now) c.args.master.now in
-    let leaves : leaves_of c.submit.new.rows.items ≡ in_leaf c.args.queue.now (submitted app) s.leaves =
-    c.submit.ensures.meaning ∙ (λ i. in_leaf c.args.queue.now (submitted (new_app c.args.queue.now c.args.app.now c.args.user.now (c.in-Ok.ensures.home i) c.args.master.now)) (c.reserve_application.ensures.meaning i)) in
+    let leaves : leaves_of c.submit-seat.new.rows.items ≡ in_leaf c.args.queue.now (submitted app) s.leaves =
+    c.submit-seat.ensures.meaning ∙ (λ i. in_leaf c.args.queue.now (submitted (new_app c.args.queue.now c.args.app.now c.args.user.now (c.in-Ok.ensures.home i) c.args.master.now)) (c.reserve_application.ensures.meaning i)) in
     let numbers = c.self.inside.tables.numbers in
     let rows = c.self.inside.tables.partitions.items in
     let free = unused config s c.args.queue.now c.args.app.now c.args.user.now c.args.label.now c.args.master.now (c.in-Ok.ensures.free c.args.user.now) in
-    let kept : IsKept (record c.self.inside.tables { leaves = c.submit.new.rows }) = record {
+    let kept : IsKept (record c.self.inside.tables { leaves = c.submit-seat.new.rows }) = record {
       amounts = subst (λ (leaves : List LeafApps). AreKept numbers leaves rows) (sym leaves)
           (kept_submission numbers app s.leaves rows free c.self.invariant.sound.working.kept.uses c.self.invariant.kept.amounts);
-      marks = c.submit.ensures.marks s (mark-new s (new_app c.args.queue.now c.args.app.now c.args.user.now c.in-Ok.home c.args.master.now) c.self.invariant.sound.working.kept free) (c.reserve_application.ensures.marks s c.self.invariant.kept.marks);
+      marks = c.submit-seat.ensures.marks s (mark-new s (new_app c.args.queue.now c.args.app.now c.args.user.now c.in-Ok.home c.args.master.now) c.self.invariant.sound.working.kept free) (c.reserve_application.ensures.marks s c.self.invariant.kept.marks);
     } in
-    woken c.self.inside (record c.self.inside.tables { leaves = c.submit.new.rows }) c.wake.new.tables c.forget_leaf.new.lulls event c.self.invariant c.amount-sized.ensures.range (ap (λ (o : Outcome). o.state) (stepped c)) kept refl c.wake.ensures.before c.wake.ensures.resting
-    (lulls_submitted config numbers s (record s { leaves = leaves_of c.submit.new.rows.items }) c.args.user.now c.args.label.now c.args.master.now app c.reserve_application.new.rows.items c.self.inside.lulls c.forget_leaf.new.lulls c.self.invariant.sound.working.kept c.self.invariant.sound.tabled c.self.invariant.numbered
+    woken c.self.inside (record c.self.inside.tables { leaves = c.submit-seat.new.rows }) c.wake.new.tables c.forget_leaf.new.lulls event c.self.invariant c.amount-sized.ensures.range (ap (λ (o : Outcome). o.state) (stepped c)) kept refl (subst (λ (t : Tables). IsAsBefore t c.wake.new.tables) c.note_seat.ensures c.wake.ensures.before) c.wake.ensures.resting
+    (lulls_submitted config numbers s (record s { leaves = leaves_of c.submit-seat.new.rows.items }) c.args.user.now c.args.label.now c.args.master.now app c.reserve_application.new.rows.items c.self.inside.lulls c.forget_leaf.new.lulls c.self.invariant.sound.working.kept c.self.invariant.sound.tabled c.self.invariant.numbered
     (c.in-Ok.ensures.free c.args.user.now) free (λ i. record s { leaves = leaves i }) (subst (AreNumbered numbers) (sym c.reserve_application.ensures.meaning) c.self.invariant.kept.amounts.numbered) c.reserve_application.ensures.meaning kept.amounts.numbered c.self.invariant.lulls c.forget_leaf.ensures.fewer
     c.forget_leaf.ensures.gone)
 
 pub returns-clause-ok : goal.returns-clause-ok
-returns-clause-ok c = answers_done c.self.inside c.args.self.now (Submit c.args.queue.now c.args.app.now c.args.user.now c.args.label.now c.args.master.now) _ (state_of c.wake.new.tables) c.self.view_is (stepped c) c.wake.ensures.before.state
+returns-clause-ok c = answers_done c.self.inside c.args.self.now (Submit c.args.queue.now c.args.app.now c.args.user.now c.args.label.now c.args.master.now) _ (state_of c.wake.new.tables) c.self.view_is (stepped c) (c.wake.ensures.before.state ∙ ap state_of c.note_seat.ensures)
 
 -- where memory is refused all is as it was
 pub invariant_of-self : goal.invariant_of-self
@@ -79,5 +81,5 @@ forget_leaf-requires c = subst (AreNumbered c.self.inside.tables.numbers) (sym c
 pub reserve_application-requires : goal.reserve_application-requires
 reserve_application-requires c = c.self.invariant.kept.amounts.numbered
 
-pub submit-requires-clause-numbered : goal.submit-requires-clause-numbered
-submit-requires-clause-numbered c = subst (AreNumbered c.self.inside.tables.numbers) (sym c.reserve_application.ensures.meaning) c.self.invariant.kept.amounts.numbered
+pub submit-seat-requires-clause-numbered : goal.submit-seat-requires-clause-numbered
+submit-seat-requires-clause-numbered c = subst (AreNumbered c.self.inside.tables.numbers) (sym c.reserve_application.ensures.meaning) c.self.invariant.kept.amounts.numbered

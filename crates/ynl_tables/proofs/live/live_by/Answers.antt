@@ -4,7 +4,7 @@ use Rattle.ynl_tables.specs.declared.rows.App.{App}
 use Rattle.ynl_tables.specs.Marked.{IsMarkedApp}
 use Rattle.ynl_tables.specs.Tables.{leaves_of}
 use Rattle.ynl_tables.proofs.Finding.{live_found, found_each}
-use Rattle.ynl_tables.proofs.live.live_at.Goals as goal
+use Rattle.ynl_tables.proofs.live.live_by.Goals as goal
 
 pub returns-in-Some-app_named-clause-meaning : goal.returns-in-Some-app_named-clause-meaning
 returns-in-Some-app_named-clause-meaning c =
