@@ -1,20 +1,28 @@
 -- The rows of one leaf, changed in place one after another: those between are as they are to be.
-use Rattle.std.proofs.Common.{◌≡◌, ℕ, ◌+◌, ◌-◌, ◌<◌, ◌≤◌, Bool, true, false, cond, List, length, get_or, take, refl, sym, ap, subst, ◌∙◌, arith}
+use Rattle.std.proofs.Common.{◌≡◌, ℕ, ◌+◌, ◌-◌, ◌<◌, ◌≤◌, Bool, true, false, cond, List, length, get_or, map, take, refl, sym, ap, subst, ◌∙◌, arith}
+use Rattle.std.specs.Prelude.{◌&&◌}
 use Rattle.std.specs.List.{AllByRecursion}
 use Rattle.std.proofs.Math.ListN.{set}
-use Rattle.ynl_resource.specs.Names.{same_path}
+use Rattle.ynl_resource.specs.Names.{same_name, same_path, tenant_of}
+use Rattle.ynl_resource.specs.declared.labels.Label.{Label}
+use Rattle.ynl_resource.specs.declared.names.Name.{Name}
 use Rattle.ynl_resource.specs.declared.paths.Path.{Path}
+use Rattle.ynl_model.specs.declared.containers.Placed.{Placed}
 use Rattle.ynl_model.specs.Applications.{LeafApps}
+use Rattle.ynl_model.specs.Cluster.{is_master}
+use Rattle.ynl_laws.proofs.Names.{same-name_sym}
 use Rattle.ynl_tables.specs.declared.rows.LeafRow.{LeafRow}
 use Rattle.ynl_tables.specs.Marked.{AreMarkedIn}
 use Rattle.ynl_tables.specs.Numbers.{AreNumbered}
 use Rattle.ynl_tables.specs.Siblings.{leaf_paths}
 use Rattle.ynl_tables.specs.Tables.{leaf_of_row, leaves_of}
+use Rattle.ynl_tables.specs.Tenants.{IsOnward}
+use Rattle.ynl_tables.proofs.Onward.{rows_inside, rows_onward}
 use Rattle.ynl_tables.specs.Apart.{IsPassing}
 use Rattle.ynl_tables.proofs.Only.{rows_within, rows_passing}
-use Rattle.ynl_changes.specs.Marking.{KeepsMarks, KeepsMarksIn}
+use Rattle.ynl_changes.specs.Marking.{KeepsMarks, KeepsMarksIn, noted_row, remarked}
 use Rattle.ynl_changes.proofs.InPlace.{IsChanged, changed_none, changed_passed, changed_step, each_passed, each_step, same_set}
-use Rattle.ynl_changes.proofs.Marks.{kept_at}
+use Rattle.ynl_changes.proofs.Marks.{kept_at, other_row}
 
 -- one leaf is changed, and others stay
 abbrev pub at_leaf : Path → (LeafApps → LeafApps) → LeafApps → LeafApps
@@ -102,3 +110,28 @@ module _ (queues : List Path) (leaf : Path) (rows : List LeafRow) (numbered : Ar
         capacity = each_beside queues leaf (set now place new) still P others (place + 1) next (omega (arith, after)) onward (each_step P now place new here h.capacity has);
         inside = rows_within queues (set now place new) still leaf (place + 1) next onward;
       }
+
+-- ---- the rows of other tenants
+
+off_back : (a b : Name) → same_name a b ≡ false → same_name b a ≡ false
+off_back a b off = go (same_name b a) refl
+  where
+    go : (t : Bool) → same_name b a ≡ t → t ≡ false
+    go true e = sym e ∙ ap (λ n. same_name n a) (same-name_sym b a e) ∙ ap (same_name a) (sym (same-name_sym b a e)) ∙ off
+    go false e = refl
+
+never_both : (b : Bool) → (b && false) ≡ false
+never_both true = refl
+never_both false = refl
+
+other_tenant : (label : Label) (k : Placed) (clock : ℕ) (row : LeafRow) → same_name (tenant_of row.path) k.tenant ≡ false → noted_row row ≡ map (remarked label k clock) (noted_row row)
+other_tenant label k clock row off =
+    let same : row.tenant ≡ tenant_of row.path = same-name_sym row.tenant (tenant_of row.path) row.of_tenant in
+    other_row label k clock row row.of_tenant (ap (λ b. is_master k && b) (ap (same_name k.tenant) same ∙ off_back (tenant_of row.path) k.tenant off) ∙ never_both (is_master k))
+
+module _ (queues : List Path) (label : Label) (k : Placed) (clock : ℕ) (rows now : List LeafRow) (numbered : AreNumbered queues (leaves_of rows)) where
+  -- none of them gets a mark
+  pub marked_onward : (from to : ℕ) → from ≤ to → IsOnward (leaf_paths queues) k.tenant from to → IsChanged noted_row (map (remarked label k clock)) rows now from → IsChanged noted_row (map (remarked label k clock)) rows now to
+  marked_onward from to more onward h =
+      changed_passed noted_row (map (remarked label k clock)) rows now (to - from) from to (omega (arith, more)) (rows_inside queues rows numbered k.tenant from to onward)
+      (λ i d above below. sym (other_tenant label k clock (get_or rows i d) (rows_onward queues rows numbered k.tenant from to d onward i above below))) h

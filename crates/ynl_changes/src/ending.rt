@@ -350,5 +350,5 @@ pub fn end(config: &Config, tables: &mut Tables, container: &Placed)
         clock,
         &container.id,
     );
-    mark(&mut tables.leaves, &label, container, 0);
+    mark(&mut tables.leaves, &tables.numbers, &label, container, 0);
 }

@@ -72,7 +72,13 @@ fn end_at_place(tables: &mut Tables, node: &Node, at: usize, place: usize)
     let container = container_of(&node.label, &row.containers[place]);
     drop_at(row, &tables.numbers, &tables.leaves, place);
     clear_if_many(row);
-    mark(&mut tables.leaves, &node.label, &container, 0);
+    mark(
+        &mut tables.leaves,
+        &tables.numbers,
+        &node.label,
+        &container,
+        0,
+    );
 }
 
 /// The container of a clock ends, if it is on a node; the clock is given of the one before it there.
@@ -143,8 +149,9 @@ fn has_none_on(row: &PartitionRow, node: &Name) -> bool
 }
 
 /// The marks go of the applications whose masters are on a node.
-fn unmark_on(leaves: &mut Vec<LeafRow>, rows: &[PartitionRow], node: &Node)
-    requires { AllByRecursion (λ row. AreSums stands_on row.filled (live_in row.label row.containers.items)) rows.now }
+fn unmark_on(leaves: &mut Vec<LeafRow>, numbers: &QueueNumbers, rows: &[PartitionRow], node: &Node)
+    requires numbered { AreNumbered numbers.now (leaves_of leaves.old.items) }
+    requires filled { AllByRecursion (λ row. AreSums stands_on row.filled (live_in row.label row.containers.items)) rows.now }
     ensures meaning { leaves_of leaves.new.items ≡ leaves_of leaves.old.items }
     ensures marks { noted_rows leaves.new.items ≡ map (map (unmarked node.now.label node.now.name (option_map_or (λ row. row.containers) (find (is_partition node.now.label) (partitions_of rows.now)) []))) (noted_rows leaves.old.items) }
 {
@@ -155,6 +162,7 @@ fn unmark_on(leaves: &mut Vec<LeafRow>, rows: &[PartitionRow], node: &Node)
     }
     unmark(
         leaves,
+        numbers,
         &node.label,
         &node.name,
         containers_at(rows, &node.label),
@@ -221,7 +229,12 @@ pub fn vacate(tables: &mut Tables, node: &Node)
     ensures numbers { tables.new.numbers ≡ tables.old.numbers }
 {
     end_chained(tables, node);
-    unmark_on(&mut tables.leaves, &tables.partitions, node);
+    unmark_on(
+        &mut tables.leaves,
+        &tables.numbers,
+        &tables.partitions,
+        node,
+    );
     drop_containers(
         &mut tables.partitions,
         &tables.numbers,

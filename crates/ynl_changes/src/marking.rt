@@ -7,6 +7,7 @@ ghost use Rattle.ynl_model.specs.Cluster.{is_master};
 ghost use Rattle.ynl_laws.specs.Marks.{is_master_of};
 ghost use Rattle.ynl_tables.specs.Known.{IsSpot};
 ghost use Rattle.ynl_tables.specs.Living.{container_in, is_live_and, live_in};
+ghost use Rattle.ynl_tables.specs.Numbers.{AreNumbered};
 ghost use Rattle.ynl_tables.specs.Tables.{app_of, leaf_of_row, leaves_of};
 ghost use Rattle.ynl_changes.specs.Marking.{noted, noted_row, noted_rows, remarked, unmarked};
 ghost use Rattle.ynl_changes.specs.Queueing.{Requeues, AreRequeued};
@@ -15,8 +16,8 @@ use crate::queueing::{Which, enqueue_asks, enqueue_master, withdraw_asks, withdr
 use ynl_model::Placed;
 use ynl_resource::{Label, Name, Path};
 use ynl_tables::{
-    App, ContainerRow, LeafRow, Spot, container_of, is_live_on, is_master, is_own, is_same,
-    spot_of, tenant_bytes,
+    App, ContainerRow, LeafRow, QueueNumbers, Spot, container_of, is_live_on, is_master, is_own,
+    is_same, spot_of, tenant_bytes,
 };
 use ynl_waiting::Waiting;
 
@@ -140,36 +141,59 @@ fn mark_in(row: &mut LeafRow, label: &Label, container: &Placed, clock: u64)
 }
 
 /// The application whose master a container on a partition is, at its home, gets a mark. No row is looked at where it
-/// is no master.
-pub fn mark(rows: &mut Vec<LeafRow>, label: &Label, container: &Placed, clock: u64)
+/// is no master, and else those of its tenant's leaves.
+pub fn mark(
+    rows: &mut Vec<LeafRow>,
+    numbers: &QueueNumbers,
+    label: &Label,
+    container: &Placed,
+    clock: u64,
+)
+    requires { AreNumbered numbers.now (leaves_of rows.old.items) }
     ensures meaning { leaves_of rows.new.items ≡ leaves_of rows.old.items }
     ensures marks { noted_rows rows.new.items ≡ map (map (remarked label.now container.now clock)) (noted_rows rows.old.items) }
 {
     if !is_master(container) {
         return;
     }
-    for row in rows.iter_mut() {
-        mark_in(row, label, container, clock);
+    let mut place = numbers.first_of(&container.tenant);
+    while place < rows.len() {
+        mark_in(&mut rows[place], label, container, clock);
+        place = numbers.next_of(place, &container.tenant);
     }
 }
 
 /// The mark of the application of the container of a partition's row goes, if the row is live and the container
 /// on the node.
-fn unmark_if(rows: &mut Vec<LeafRow>, label: &Label, node: &Name, row: &ContainerRow)
+fn unmark_if(
+    rows: &mut Vec<LeafRow>,
+    numbers: &QueueNumbers,
+    label: &Label,
+    node: &Name,
+    row: &ContainerRow,
+)
+    requires { AreNumbered numbers.now (leaves_of rows.old.items) }
     ensures meaning { leaves_of rows.new.items ≡ leaves_of rows.old.items }
     ensures marks { noted_rows rows.new.items ≡ (if is_live_and label.now (λ k. same_name k.node node.now) row.now then map (map (remarked label.now (container_in label.now row.now) 0)) (noted_rows rows.old.items) else noted_rows rows.old.items) }
 {
     if is_live_on(node, row) {
-        mark(rows, label, &container_of(label, row), 0);
+        mark(rows, numbers, label, &container_of(label, row), 0);
     }
 }
 
 /// The marks go of the applications whose masters are among the live containers of a partition on a node.
-pub fn unmark(rows: &mut Vec<LeafRow>, label: &Label, node: &Name, containers: &[ContainerRow])
+pub fn unmark(
+    rows: &mut Vec<LeafRow>,
+    numbers: &QueueNumbers,
+    label: &Label,
+    node: &Name,
+    containers: &[ContainerRow],
+)
+    requires { AreNumbered numbers.now (leaves_of rows.old.items) }
     ensures meaning { leaves_of rows.new.items ≡ leaves_of rows.old.items }
     ensures marks { noted_rows rows.new.items ≡ map (map (unmarked label.now node.now (live_in label.now containers.now))) (noted_rows rows.old.items) }
 {
     for row in containers {
-        unmark_if(rows, label, node, row);
+        unmark_if(rows, numbers, label, node, row);
     }
 }

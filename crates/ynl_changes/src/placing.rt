@@ -325,7 +325,13 @@ pub fn place(config: &Config, tables: &mut Tables, node: &Node, request: &Reques
         clock,
         &container,
     );
-    mark(&mut tables.leaves, &node.label, &container, clock);
+    mark(
+        &mut tables.leaves,
+        &tables.numbers,
+        &node.label,
+        &container,
+        clock,
+    );
     take_request(&mut tables.leaves, &tables.numbers, request);
     container
 }

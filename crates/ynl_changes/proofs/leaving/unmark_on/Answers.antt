@@ -16,7 +16,7 @@ has_none_on-requires c =
     let row : PartitionRow = c.index-rows-at.result in
     let P : PartitionRow → Type 0 = λ row. AreSums stands_on row.filled (live_in row.label row.containers.items) in
     let first = is_first c.args.node.now.label c.args.rows.now c.in-Some.at row (sym c.partition_place.ensures ∙ c.in-Some.is) c.index-rows-at.is in
-    subst P (sym c.index-rows-at.is) (all-of P c.args.rows.now c.requires c.in-Some.at row first.inside)
+    subst P (sym c.index-rows-at.is) (all-of P c.args.rows.now c.requires.filled c.in-Some.at row first.inside)
 
 pub returns-then-has_none_on-clause-marks : goal.returns-then-has_none_on-clause-marks
 returns-then-has_none_on-clause-marks c =

@@ -16,8 +16,8 @@ use Rattle.ynl_changes.proofs.Vacated.{containers_in}
 use Rattle.ynl_changes.proofs.Marks.{by_partitions, marks_left}
 use Rattle.ynl_changes.proofs.leaving.vacate.Goals as goal
 
-pub unmark_on-requires : goal.unmark_on-requires
-unmark_on-requires c =
+pub unmark_on-requires-clause-filled : goal.unmark_on-requires-clause-filled
+unmark_on-requires-clause-filled c =
     let t = c.end_chained.new.tables in
     let P : PartitionRow → Type 0 = λ row. AreSums stands_on row.filled (live_in row.label row.containers.items) in
     subst (AllByRecursion P) (sym c.deref.ensures.value) (Each-weaker (IsSummed t.numbers (leaves_of t.leaves.items)) P (λ row h. h.filled) t.partitions.items c.end_chained.ensures.kept.amounts.summed)
