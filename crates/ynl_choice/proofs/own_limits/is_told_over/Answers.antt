@@ -1,8 +1,5 @@
 use Rattle.std.proofs.Common.{◌≡◌, Bool, true, false, Some, refl, ap, ◌∙◌}
 use Rattle.std.specs.Bool.{OnTrue}
-use Rattle.ynl_waiting.specs.Waiting.{has}
-use Rattle.ynl_waiting.specs.declared.classes.Class.{Class}
-use Rattle.ynl_waiting.specs.declared.classes.Turn.{Turn}
 use Rattle.ynl_choice.specs.Lulls.{AreOver}
 use Rattle.ynl_choice.proofs.own_limits.is_told_over.Goals as goal
 
