@@ -58,6 +58,15 @@ Each-kept P p (x ∷ xs) h = go (p x) refl (Each-kept P p xs h.1)
     go true e rest = (h.0 e, rest)
     go false e rest = rest
 
+-- what holds of what a filter leaves holds of each that it passes
+pub Each-unkept : {X : Type 0} (P : X → Type 0) (p : X → Bool) (xs : List X) → AllByRecursion P (filter p xs) → AllByRecursion (λ x. p x ≡ true → P x) xs
+Each-unkept P p [] h = tt
+Each-unkept P p (x ∷ xs) h = go (p x) refl h (Each-unkept P p xs)
+  where
+    go : (b : Bool) → p x ≡ b → AllByRecursion P (cond b (x ∷ filter p xs) (filter p xs)) → (AllByRecursion P (filter p xs) → AllByRecursion (λ x. p x ≡ true → P x) xs) → (p x ≡ true → P x) × AllByRecursion (λ x. p x ≡ true → P x) xs
+    go true e h rest = (λ f. h.0, rest h.1)
+    go false e h rest = (λ f. absurd (true≢false (sym f ∙ e)), rest h)
+
 pub Each-weaker : {X : Type 0} (P Q : X → Type 0) → ((x : X) → P x → Q x) → (xs : List X) → AllByRecursion P xs → AllByRecursion Q xs
 Each-weaker P Q step [] h = tt
 Each-weaker P Q step (x ∷ xs) h = (step x h.0, Each-weaker P Q step xs h.1)

@@ -10,4 +10,5 @@ pub mod Tabling
 pub mod Waiting
 pub mod Lulls
 pub mod Elsewhere
+pub mod Faint
 pub mod Untied

@@ -1,6 +1,6 @@
 //! How long a leaf that has nothing to place on a partition stays so.
 
-ghost use Rattle.ynl_laws.specs.Lulls.{DoLullsLastPlacing, DoLullsLastEnding, DoLullsLastSubmitting, DoLullsLastAsking, DoLullsLastFinishing, DoLullsLastPlacingElsewhere, DoLullsLastEndingElsewhere, DoLullsLastAskingElsewhere};
+ghost use Rattle.ynl_laws.specs.Lulls.{DoLullsLastPlacing, DoLullsLastEnding, DoLullsLastSubmitting, DoLullsLastAsking, DoLullsLastFinishing, DoLullsLastPlacingElsewhere, DoLullsLastEndingElsewhere, DoLullsLastAskingElsewhere, DoFaintLullsLastPlacing, DoFaintLullsLastEnding, DoFaintLullsLastSubmitting, DoFaintLullsLastAsking, DoFaintLullsLastFinishing};
 
 /// A lull of a leaf lasts while requests of other leaves are placed.
 pub fn lulls_last_placing()
@@ -40,4 +40,30 @@ pub fn lulls_last_ending_elsewhere()
 /// It lasts while applications ask under other labels.
 pub fn lulls_last_asking_elsewhere()
     ensures { DoLullsLastAskingElsewhere }
+{}
+
+/// One in whose room nothing fits lasts for the leaf itself too, while its requests are placed, if what a master's
+/// application asks for is for as much.
+pub fn faint_lulls_last_placing()
+    ensures { DoFaintLullsLastPlacing }
+{}
+
+/// It lasts while containers of the leaf end, if a master's application wants as much.
+pub fn faint_lulls_last_ending()
+    ensures { DoFaintLullsLastEnding }
+{}
+
+/// It lasts while applications are submitted that want as much.
+pub fn faint_lulls_last_submitting()
+    ensures { DoFaintLullsLastSubmitting }
+{}
+
+/// It lasts while applications ask for as much.
+pub fn faint_lulls_last_asking()
+    ensures { DoFaintLullsLastAsking }
+{}
+
+/// It lasts while applications of the leaf finish.
+pub fn faint_lulls_last_finishing()
+    ensures { DoFaintLullsLastFinishing }
 {}

@@ -39,7 +39,7 @@ use Rattle.ynl_laws.proofs.Totals.Sharers.{apps-changed, sharers-kept}
 -- ---- lists
 
 -- what holds of all that some lists have together holds of all that each has
-Each-unflat : {X Y : Type 0} (P : Y → Type 0) (f : X → List Y) (xs : List X) → AllByRecursion P (flat_map f xs) → AllByRecursion (λ x. AllByRecursion P (f x)) xs
+pub Each-unflat : {X Y : Type 0} (P : Y → Type 0) (f : X → List Y) (xs : List X) → AllByRecursion P (flat_map f xs) → AllByRecursion (λ x. AllByRecursion P (f x)) xs
 Each-unflat P f [] h = tt
 Each-unflat P f (x ∷ xs) h = let rest = Each-split P (f x) (flat_map f xs) h in (rest.0, Each-unflat P f xs rest.1)
 
@@ -56,7 +56,7 @@ Each-passed Q w v f before step (x ∷ xs) h = go (v (f x)) (w x) (before x) h (
     go false false before h rest = rest h
 
 -- what passes in a filter passes in the whole
-any-left : {X : Type 0} (q w : X → Bool) (xs : List X) → list_any q (filter w xs) ≡ true → list_any q xs ≡ true
+pub any-left : {X : Type 0} (q w : X → Bool) (xs : List X) → list_any q (filter w xs) ≡ true → list_any q xs ≡ true
 any-left q w [] h = h
 any-left q w (x ∷ xs) h = go (w x) h (any-left q w xs)
   where
@@ -121,7 +121,7 @@ requests-still P s t label on before apps h =
 
 module _ (P : Item → Type 0) (label : Label) where
   -- of what is asked for one is taken: the ask stays with its size and priority, or goes
-  asks-taken : (what : What) (app : Application) → AllByRecursion P (asks_of label app) → AllByRecursion P (asks_of label (taken what app))
+  pub asks-taken : (what : What) (app : Application) → AllByRecursion P (asks_of label app) → AllByRecursion P (asks_of label (taken what app))
   asks-taken Master app h = h
   asks-taken (Asked other priority) app h = Each-map (λ ask. P (ask_item app ask)) P (ask_item app) (λ ask k. k) _ (
       subst (AllByRecursion (λ ask. P (ask_item app ask))) (filter-swap wanted (λ ask. not (is_ask_of other priority ask && (ask.count == 0))) (map lower app.asks))
