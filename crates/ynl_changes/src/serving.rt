@@ -10,7 +10,7 @@ ghost use Rattle.ynl_tables.specs.Tables.{state_of, HasCapacity};
 ghost use Rattle.ynl_choice.specs.Lulls.{AreLulls};
 
 use crate::placing::place;
-use ynl_choice::{Lulls, Request, choose, forget_leaf_for};
+use ynl_choice::{Lulls, Request, choose, fade_leaf_for};
 use ynl_model::{Node, Placed};
 use ynl_queues::Config;
 use ynl_tables::{Tables, is_spent, push_copy};
@@ -59,7 +59,7 @@ pub fn serve(
         let Some(request) = next_request(config, tables, lulls, node) else {
             return;
         };
-        forget_leaf_for(lulls, tables, &request, &node.label);
+        fade_leaf_for(lulls, tables, &request, &node.label);
         let container = place(config, tables, node, &request);
         push_copy(placed, &container);
     }

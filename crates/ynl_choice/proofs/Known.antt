@@ -6,14 +6,17 @@ use Rattle.std.proofs.Math.ListN.{set}
 use Rattle.std.proofs.lemmas.List.{get_or_default, get_or_read, length-set}
 use Rattle.ynl_resource.specs.declared.amounts.Resource.{Resource}
 use Rattle.ynl_resource.specs.declared.labels.Label.{Label}
+use Rattle.ynl_resource.specs.declared.paths.Path.{Path}
 use Rattle.ynl_model.specs.Applications.{LeafApps}
 use Rattle.ynl_model.specs.Cluster.{State}
 use Rattle.ynl_model.specs.Queues.{Config}
 use Rattle.ynl_laws.specs.Lulls.{IsLull}
+use Rattle.ynl_laws.proofs.Amounts.{fits-trans}
+use Rattle.ynl_laws.proofs.Totals.Faint.{faint-lull}
 use Rattle.ynl_choice.specs.declared.lulls.Lull.{Lull}
 use Rattle.ynl_choice.specs.declared.lulls.Lulls.{Lulls}
 use Rattle.ynl_choice.specs.declared.blocks.PartLulls.{PartLulls}
-use Rattle.ynl_choice.specs.Lulls.{lull_at, AreFewer, AreLulls, ArePartLulls, IsFewer, IsGone, IsPartAt, is_meant}
+use Rattle.ynl_choice.specs.Lulls.{lull_at, AreFewer, AreLulls, ArePartLulls, IsFaded, IsFaint, IsFewer, IsFrom, IsGone, IsPartAt, is_meant}
 use Rattle.ynl_choice.proofs.Placed.{each_at}
 
 -- ---- one partition
@@ -71,18 +74,33 @@ set_each P (x ∷ xs) (suc i) new here each (suc k) d below =
     set_each (λ k. P (suc k)) xs i new here (λ k d inside other. each (suc k) d (omega (arith, inside)) (λ e. other (omega (arith, e)))) k d (omega (arith, below))
 
 -- fewer and fewer
+from_itself : (o : Option Lull) → IfSome o (IsFrom o)
+from_itself None = tt
+from_itself (Some lull) = inl refl
+
+from_then : (a b c : Option Lull) → IfSome b (IsFrom a) → IfSome c (IsFrom b) → IfSome c (IsFrom a)
+from_then a b None h k = tt
+from_then a None (Some z) h k = absurd k
+from_then None (Some y) (Some z) h k = absurd h
+from_then (Some x) (Some y) (Some z) (inl e) k = subst (λ lull. IsFrom (Some lull) z) (sym e) k
+from_then (Some x) (Some y) (Some z) (inr h) (inl e) = inr (subst (IsFaint x.least) e h)
+from_then (Some x) (Some y) (Some z) (inr h) (inr k) = inr (record { least = fits-trans z.least y.least x.least k.least h.least; room = k.room })
+
+-- what is left of a lull says no more than for how much at least all is
+faint_from : (below : Resource) (a b : Option Lull) → IfSome a (IsFaint below) → IfSome b (IsFrom a) → IfSome b (IsFaint below)
+faint_from below a None h k = tt
+faint_from below None (Some z) h k = absurd k
+faint_from below (Some y) (Some z) h (inl e) = subst (IsFaint below) e h
+faint_from below (Some y) (Some z) h (inr k) = record { least = fits-trans z.least y.least below k.least h.least; room = k.room }
+
 fewer_self : (part : PartLulls) → IsFewer part part
-fewer_self part = record { label = refl; each = λ place. itself (lull_at part place) }
+fewer_self part = record { label = refl; each = λ place. from_itself (lull_at part place) }
 
 pub are_fewer_self : (parts : List PartLulls) → AreFewer parts parts
 are_fewer_self parts = record { len = refl; each = λ at d inside. fewer_self (get_or parts at d) }
 
 fewer_then : (a b c : PartLulls) → IsFewer a b → IsFewer b c → IsFewer a c
-fewer_then a b c h k = record { label = k.label ∙ h.label; each = λ place. go place (lull_at c place) (k.each place) }
-  where
-    go : (place : ℕ) (o : Option Lull) → IfSome o (λ known. lull_at b place ≡ Some known) → IfSome o (λ known. lull_at a place ≡ Some known)
-    go place None e = tt
-    go place (Some known) e = subst (λ o. IfSome o (λ (x : Lull). lull_at a place ≡ Some x)) e (h.each place)
+fewer_then a b c h k = record { label = k.label ∙ h.label; each = λ place. from_then (lull_at a place) (lull_at b place) (lull_at c place) (h.each place) (k.each place) }
 
 pub are_fewer_then : (a b c : List PartLulls) → AreFewer a b → AreFewer b c → AreFewer a c
 are_fewer_then a b c h k = record {
@@ -90,16 +108,11 @@ are_fewer_then a b c h k = record {
   each = λ at d inside. fewer_then (get_or a at d) (get_or b at d) (get_or c at d) (h.each at d (omega (arith, inside, k.len))) (k.each at d inside);
 }
 
--- what is not known is not known of fewer
-pub still_gone : (on : Option Label) (place : ℕ) (old fewer : List PartLulls) → IsGone on place old → AreFewer old fewer → IsGone on place fewer
-still_gone on place old fewer gone less at d inside meant = go (lull_at (get_or fewer at d) place) refl ((less.each at d inside).each place)
-  where
-    before : is_meant on (get_or old at d).label ≡ true
-    before = ap (is_meant on) (sym (less.each at d inside).label) ∙ meant
-
-    go : (o : Option Lull) → lull_at (get_or fewer at d) place ≡ o → IfSome o (λ known. lull_at (get_or old at d) place ≡ Some known) → lull_at (get_or fewer at d) place ≡ None
-    go None e k = e
-    go (Some known) e k = absurd (let none : None ≡ Some known = sym (gone at d (omega (arith, inside, less.len)) before) ∙ k in cc)
+-- what is known no better is not of fewer
+pub still_faded : (on : Option Label) (below : Resource) (place : ℕ) (old fewer : List PartLulls) → IsFaded on below place old → AreFewer old fewer → IsFaded on below place fewer
+still_faded on below place old fewer faded less at d inside meant =
+    let here : IsFewer (get_or old at d) (get_or fewer at d) = less.each at d inside in
+    faint_from below (lull_at (get_or old at d) place) (lull_at (get_or fewer at d) place) (faded at d (omega (arith, inside, less.len)) (ap (is_meant on) (sym here.label) ∙ meant)) (here.each place)
 
 -- one partition of which fewer is known
 pub set_fewer : (first parts : List PartLulls) (i : ℕ) (old new : PartLulls) → i < length parts → old ≡ get_or parts i old → AreFewer first parts → IsFewer old new → AreFewer first (set parts i new)
@@ -115,12 +128,22 @@ pub set_gone : (on : Option Label) (place : ℕ) (parts : List PartLulls) (i : �
 set_gone on place parts i new gone here k d below inside =
     set_each (λ k part. k < i + 1 → is_meant on part.label ≡ true → lull_at part place ≡ None) parts i new (λ _. here) (λ k d within other under. gone k d (omega (arith, under, other)) within) k d inside below
 
+pub set_faded : (on : Option Label) (below : Resource) (place : ℕ) (parts : List PartLulls) (i : ℕ) (new : PartLulls) → ((k : ℕ) (d : PartLulls) → k < i → k < length parts → is_meant on (get_or parts k d).label ≡ true → IfSome (lull_at (get_or parts k d) place) (IsFaint below))
+    → (is_meant on new.label ≡ true → IfSome (lull_at new place) (IsFaint below))
+    → (k : ℕ) (d : PartLulls) → k < i + 1 → k < length (set parts i new) → is_meant on (get_or (set parts i new) k d).label ≡ true → IfSome (lull_at (get_or (set parts i new) k d) place) (IsFaint below)
+set_faded on below place parts i new faded here k d under inside =
+    set_each (λ k part. k < i + 1 → is_meant on part.label ≡ true → IfSome (lull_at part place) (IsFaint below)) parts i new (λ _. here) (λ k d within other under. faded k d (omega (arith, under, other)) within) k d inside under
+
+-- where nothing is known no more is than that
+pub gone_faded : (below : Resource) (on : Option Label) (place : ℕ) (parts : List PartLulls) → IsGone None place parts → IsFaded on below place parts
+gone_faded below on place parts gone at d inside meant = subst (λ o. IfSome o (IsFaint below)) (sym (gone at d inside refl)) tt
+
 -- a partition of which nothing is known any more
 pub unknown_gone : (part : PartLulls) (place : ℕ) → part.is_known ≡ false → lull_at part place ≡ None
 unknown_gone part place e = ap (λ b. get_or (cond b part.leaves.items nothing) place None) e ∙ none_at place
 
 pub unknown_fewer : (old new : PartLulls) → new.label ≡ old.label → new.is_known ≡ false → IsFewer old new
-unknown_fewer old new label e = record { label = label; each = λ place. subst (λ o. IfSome o (λ (known : Lull). lull_at old place ≡ Some known)) (sym (unknown_gone new place e)) tt }
+unknown_fewer old new label e = record { label = label; each = λ place. subst (λ o. IfSome o (IsFrom (lull_at old place))) (sym (unknown_gone new place e)) tt }
 
 pub unknown_right : (c : Config) (s : State) (lulls : Lulls) → AllByRecursion (λ (part : PartLulls). part.is_known ≡ false) lulls.parts.items → AreLulls c s lulls
 unknown_right c s lulls all at d inside place row below =
@@ -167,44 +190,59 @@ labels_stay parts at old new label other inside read same own d below =
     (λ e. same ∙ ap (λ (p : PartLulls). p.label) read ∙ subst (λ n. (get_or parts n old).label ≡ label) (sym e) (own old (subst (λ n. n < length parts) e inside)))
     (λ k d within away e. subst (λ n. (get_or parts n d).label ≡ label) (sym e) (own d (subst (λ n. n < length parts) e within))) other d below refl
 
--- what is known of a partition stays right where the cluster changes, if of each leaf nothing is known or its lull lasts
-part_moved : (c : Config) (s new : State) (old fewer : PartLulls) → ArePartLulls c s old → IsFewer old fewer → length new.leaves ≡ length s.leaves
-    → ((place : ℕ) (d : LeafApps) → place < length new.leaves → (lull_at fewer place ≡ None) ⊎ ((least room : Resource) → IsLull c s fewer.label (get_or s.leaves place d).leaf least room → IsLull c new fewer.label (get_or new.leaves place d).leaf least room))
-    → ArePartLulls c new fewer
-part_moved c s new old fewer h less len each place d inside = go (lull_at fewer place) refl (less.each place)
-  where
-    there : (known : Lull) → lull_at old place ≡ Some known → IsLull c s old.label (get_or s.leaves place d).leaf known.least known.room
-    there known e = subst (λ o. IfSome o (λ (lull : Lull). IsLull c s old.label (get_or s.leaves place d).leaf lull.least lull.room)) e (h place d (omega (arith, inside, len)))
+-- what is left of a lull is one
+from_lull : (c : Config) (s : State) (label : Label) (leaf : Path) (known : Option Lull) (lull : Lull) → IfSome known (λ lull. IsLull c s label leaf lull.least lull.room) → IsFrom known lull → IsLull c s label leaf lull.least lull.room
+from_lull c s label leaf None lull h from = absurd from
+from_lull c s label leaf (Some known) lull h (inl e) = subst (λ (lull : Lull). IsLull c s label leaf lull.least lull.room) e h
+from_lull c s label leaf (Some known) lull h (inr faint) = faint-lull c s label leaf known.least known.room lull.least lull.room faint.least faint.room h
 
-    go : (o : Option Lull) → lull_at fewer place ≡ o → IfSome o (λ known. lull_at old place ≡ Some known) → IfSome o (λ (lull : Lull). IsLull c new fewer.label (get_or new.leaves place d).leaf lull.least lull.room)
-    go None e known = tt
-    go (Some known) e k = move (each place d inside)
-      where
-        move : (lull_at fewer place ≡ None) ⊎ ((least room : Resource) → IsLull c s fewer.label (get_or s.leaves place d).leaf least room → IsLull c new fewer.label (get_or new.leaves place d).leaf least room)
-            → IsLull c new fewer.label (get_or new.leaves place d).leaf known.least known.room
-        move (inl gone) = absurd (let none : None ≡ Some known = sym gone ∙ e in cc)
-        move (inr lasts) = lasts known.least known.room (subst (λ (label : Label). IsLull c s label (get_or s.leaves place d).leaf known.least known.room) (sym less.label) (there known k))
+-- a lull of the leaf at a place is one after a change
+abbrev pub MovesAt : Config → State → State → ℕ → LeafApps → Label → Lull → Type 0
+MovesAt c s new place d label lull = IsLull c s label (get_or s.leaves place d).leaf lull.least lull.room → IsLull c new label (get_or new.leaves place d).leaf lull.least lull.room
 
 -- the lull of the leaf at a place lasts on a partition
 abbrev pub LastsAt : Config → State → State → ℕ → LeafApps → Label → Type 0
-LastsAt c s new place d label = (least room : Resource) → IsLull c s label (get_or s.leaves place d).leaf least room → IsLull c new label (get_or new.leaves place d).leaf least room
+LastsAt c s new place d label = (lull : Lull) → MovesAt c s new place d label lull
 
--- so on all partitions, if on those that are not meant each lull lasts, and on the others those that are left
-pub lulls_moved : (c : Config) (s new : State) (on : Option Label) (old fewer : Lulls) → AreLulls c s old → AreFewer old.parts.items fewer.parts.items → length new.leaves ≡ length s.leaves
+-- what is known of the leaf at a place, on the partitions that are meant, is of a kind
+abbrev pub AreOfKind : (Label → Lull → Type 0) → Option Label → ℕ → List PartLulls → Type 0
+AreOfKind Kind on place parts = (at : ℕ) (d : PartLulls) → at < length parts → is_meant on (get_or parts at d).label ≡ true → IfSome (lull_at (get_or parts at d) place) (Kind (get_or parts at d).label)
+
+-- what is known of a partition stays right where the cluster changes, if what is left of it does
+part_moved : (c : Config) (s new : State) (old fewer : PartLulls) → ArePartLulls c s old → IsFewer old fewer → length new.leaves ≡ length s.leaves
+    → ((place : ℕ) (d : LeafApps) → place < length new.leaves → IfSome (lull_at fewer place) (MovesAt c s new place d fewer.label)) → ArePartLulls c new fewer
+part_moved c s new old fewer h less len each place d inside =
+    go (lull_at fewer place) (less.each place) (each place d inside)
+  where
+    leaf : Path
+    leaf = (get_or s.leaves place d).leaf
+
+    go : (o : Option Lull) → IfSome o (IsFrom (lull_at old place)) → IfSome o (MovesAt c s new place d fewer.label) → IfSome o (λ (lull : Lull). IsLull c new fewer.label (get_or new.leaves place d).leaf lull.least lull.room)
+    go None from moves = tt
+    go (Some lull) from moves =
+        moves (from_lull c s fewer.label leaf (lull_at old place) lull (subst (λ (label : Label). IfSome (lull_at old place) (λ (known : Lull). IsLull c s label leaf known.least known.room)) (sym less.label) (h place d (omega (arith, inside, len)))) from)
+
+-- so on all partitions, if on those that are not meant each lull lasts, and on the others those of the kind that are left
+pub lulls_moved : (c : Config) (s new : State) (on : Option Label) (Kind : Label → Lull → Type 0) (old fewer : Lulls) → AreLulls c s old → AreFewer old.parts.items fewer.parts.items → length new.leaves ≡ length s.leaves
     → ((place : ℕ) (d : LeafApps) (label : Label) → place < length new.leaves → is_meant on label ≡ false → LastsAt c s new place d label)
-    → ((place : ℕ) (d : LeafApps) → place < length new.leaves → IsGone on place fewer.parts.items ⊎ ((label : Label) → LastsAt c s new place d label))
+    → ((place : ℕ) (d : LeafApps) → place < length new.leaves → (AreOfKind Kind on place fewer.parts.items × ((label : Label) (lull : Lull) → is_meant on label ≡ true → Kind label lull → MovesAt c s new place d label lull)) ⊎ ((label : Label) → LastsAt c s new place d label))
     → AreLulls c new fewer
-lulls_moved c s new on old fewer h less len elsewhere each at d inside =
-    part_moved c s new (get_or old.parts.items at d) part (h at d (omega (arith, inside, less.len))) (less.each at d inside) len (λ place row below. go place row below (is_meant on part.label) refl (each place row below))
+lulls_moved c s new on Kind old fewer h less len elsewhere each at d inside =
+    part_moved c s new (get_or old.parts.items at d) part (h at d (omega (arith, inside, less.len))) (less.each at d inside) len (λ place row within. go place row within (is_meant on part.label) refl (each place row within))
   where
     part : PartLulls
     part = get_or fewer.parts.items at d
 
-    go : (place : ℕ) (row : LeafApps) → place < length new.leaves → (b : Bool) → is_meant on part.label ≡ b → IsGone on place fewer.parts.items ⊎ ((label : Label) → LastsAt c s new place row label)
-        → (lull_at part place ≡ None) ⊎ LastsAt c s new place row part.label
-    go place row below false e known = inr (elsewhere place row part.label below e)
-    go place row below true e (inl gone) = inl (gone at d inside e)
-    go place row below true e (inr lasts) = inr (lasts part.label)
+    all : (o : Option Lull) (P : Lull → Type 0) → ((lull : Lull) → P lull) → IfSome o P
+    all None P h = tt
+    all (Some lull) P h = h lull
+
+    go : (place : ℕ) (row : LeafApps) → place < length new.leaves → (b : Bool) → is_meant on part.label ≡ b
+        → (AreOfKind Kind on place fewer.parts.items × ((label : Label) (lull : Lull) → is_meant on label ≡ true → Kind label lull → MovesAt c s new place row label lull)) ⊎ ((label : Label) → LastsAt c s new place row label)
+        → IfSome (lull_at part place) (MovesAt c s new place row part.label)
+    go place row within false e known = all (lull_at part place) (MovesAt c s new place row part.label) (elsewhere place row part.label within e)
+    go place row within true e (inl kind) = weaker (Kind part.label) (MovesAt c s new place row part.label) (λ lull k. kind.1 part.label lull e k) (lull_at part place) (kind.0 at d inside e)
+    go place row within true e (inr lasts) = all (lull_at part place) (MovesAt c s new place row part.label) (lasts part.label)
 
 -- where nothing is known nothing is wrong
 pub none_known : (c : Config) (s : State) (lulls : Lulls) → ((place : ℕ) → IsGone None place lulls.parts.items) → AreLulls c s lulls

@@ -1,7 +1,7 @@
 -- What is known of leaves of which nothing could be placed.
-use Rattle.std.specs.Prelude.{ℕ, ◌≡◌, ◌<◌, ◌≤◌, Bool, true, false, List, [], length, slice_index_or, Option, None, Some, IfSome, if◌then◌else◌}
+use Rattle.std.specs.Prelude.{ℕ, ◌≡◌, ◌<◌, ◌≤◌, ◌⊎◌, Bool, true, false, List, [], length, slice_index_or, Option, None, Some, IfSome, if◌then◌else◌}
 use Rattle.std.specs.List.{AllByRecursion, list_any}
-use Rattle.ynl_resource.specs.Amounts.{fits_in}
+use Rattle.ynl_resource.specs.Amounts.{fits_in, nothing}
 use Rattle.ynl_resource.specs.Names.{same_label, same_path}
 use Rattle.ynl_resource.specs.declared.amounts.Resource.{Resource}
 use Rattle.ynl_resource.specs.declared.labels.Label.{Label}
@@ -44,10 +44,20 @@ AreLulls c s lulls = (at : ℕ) (d : PartLulls) → at < length lulls.parts.item
 abbrev pub IsPartAt : Lulls → Label → ℕ → Type 0
 IsPartAt lulls label at = (d : PartLulls) → at < length lulls.parts.items → (slice_index_or lulls.parts.items at d).label ≡ label
 
+-- a lull in whose room nothing fits: it says no more than for how much at least all is, which is not above one amount
+pub record IsFaint (below : Resource) (lull : Lull) : Type 0 where
+  pub least : fits_in lull.least below ≡ true
+  pub room : fits_in lull.least lull.room ≡ false
+
+-- what is known is what was, or such a lull that says less
+abbrev pub IsFrom : Option Lull → Lull → Type 0
+IsFrom None lull = ⊥
+IsFrom (Some known) lull = (known ≡ lull) ⊎ IsFaint known.least lull
+
 -- no more is known on a partition than was
 pub record IsFewer (old new : PartLulls) : Type 0 where
   pub label : new.label ≡ old.label
-  pub each : (place : ℕ) → IfSome (lull_at new place) (λ lull. lull_at old place ≡ Some lull)
+  pub each : (place : ℕ) → IfSome (lull_at new place) (IsFrom (lull_at old place))
 
 -- nor on any
 pub record AreFewer (old new : List PartLulls) : Type 0 where
@@ -69,15 +79,28 @@ is_meant (Some one) label = same_label label one
 abbrev pub IsGone : Option Label → ℕ → List PartLulls → Type 0
 IsGone on place parts = (at : ℕ) (d : PartLulls) → at < length parts → is_meant on (slice_index_or parts at d).label ≡ true → lull_at (slice_index_or parts at d) place ≡ None
 
--- nothing is known there of the leaves of a path
-abbrev pub IsForgotten : Option Label → Path → List LeafRow → Lulls → Type 0
-IsForgotten on leaf rows lulls = (place : ℕ) (d : LeafRow) → place < length rows → same_path (slice_index_or rows place d).path leaf ≡ true → IsGone on place lulls.parts.items
+-- what is known there is that all is for so much at least, which is not above that amount
+abbrev pub IsFaded : Option Label → Resource → ℕ → List PartLulls → Type 0
+IsFaded on below place parts = (at : ℕ) (d : PartLulls) → at < length parts → is_meant on (slice_index_or parts at d).label ≡ true → IfSome (lull_at (slice_index_or parts at d) place) (IsFaint below)
+
+-- no more is known there of the leaves of a path
+abbrev pub AreFaded : Option Label → Resource → Path → List LeafRow → Lulls → Type 0
+AreFaded on below leaf rows lulls = (place : ℕ) (d : LeafRow) → place < length rows → same_path (slice_index_or rows place d).path leaf ≡ true → IsFaded on below place lulls.parts.items
 
 -- the one partition on which a placement changes what may be placed of its leaf, if it is one: what is asked for changes its node's, and with a master that starts all that
 -- its application asks for may be placed
 abbrev pub changed_on : Label → What → Option Label
 changed_on label Master = None
 changed_on label (Ask asked priority) = Some label
+
+-- the greatest amount, above all sizes
+abbrev pub most : Resource
+most = record { memory = 18446744073709551615; vcores = 18446744073709551615 }
+
+-- where what is asked for is placed or ends nothing comes that could be placed; where a master is, its application's asks may, or its master may again, for however little
+abbrev pub left_by : What → Resource
+left_by Master = nothing
+left_by (Ask asked priority) = most
 
 -- none of some requests may be placed
 abbrev pub NonePass : Scene → List Item → Type 0

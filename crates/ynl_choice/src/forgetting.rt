@@ -1,58 +1,94 @@
-//! Leaves that change, of which nothing is known any more: on one partition, or on all, where none is told.
+//! Leaves that change, of which less is known then: on one partition, or on all, where none is told.
 
-ghost use Rattle.std.specs.Prelude.{◌≡◌, true, Some};
+ghost use Rattle.std.specs.Prelude.{◌≡◌, ◌==◌, true, false, None, Some};
+ghost use Rattle.ynl_resource.specs.Amounts.{fits_in};
 ghost use Rattle.ynl_resource.specs.Names.{same_path};
 ghost use Rattle.ynl_resource.specs.declared.paths.Path.{Path as Names};
 ghost use Rattle.ynl_model.specs.Applications.{leaf_of};
 ghost use Rattle.ynl_tables.specs.Numbers.{AreNumbered};
 ghost use Rattle.ynl_tables.specs.Seats.{AreFound};
 ghost use Rattle.ynl_tables.specs.Tables.{leaves_of};
-ghost use Rattle.ynl_choice.specs.Lulls.{AreFewer, IsForgotten, IsGone, changed_on};
+ghost use Rattle.ynl_choice.specs.Lulls.{AreFaded, AreFewer, IsFaded, changed_on, left_by, most};
 
-use crate::lulls::Lulls;
+use crate::blocks::MOST;
+use crate::lulls::{Lulls, NOTHING};
 use crate::requests::Request;
-use ynl_model::What;
-use ynl_resource::{Label, Name, Path};
+use ynl_model::{AskRow, What};
+use ynl_resource::{Label, Name, Path, Resource};
 use ynl_tables::{LeafRow, Tables, leaf_path_of};
 
-/// Nothing is known of the leaf at a place from now on, if it is that one.
-fn forget_if(lulls: &mut Lulls, row: &LeafRow, leaf: &Path, place: usize, on: &Option<Label>)
+/// Less is known of the leaf at a place from now on, if it is that one.
+fn fade_if(
+    lulls: &mut Lulls,
+    row: &LeafRow,
+    leaf: &Path,
+    place: usize,
+    on: &Option<Label>,
+    below: &Resource,
+)
     ensures fewer { AreFewer lulls.old.parts.items lulls.new.parts.items }
-    ensures gone { same_path row.now.path leaf.now ≡ true → IsGone on.now place lulls.new.parts.items }
+    ensures faded { same_path row.now.path leaf.now ≡ true → IsFaded on.now below.now place lulls.new.parts.items }
 {
     if row.path == *leaf {
-        lulls.forget(place, on);
+        lulls.fade(place, on, below);
     }
 }
 
-/// Nothing is known of a leaf from now on.
-pub fn forget_leaf(lulls: &mut Lulls, tables: &Tables, leaf: &Path, on: &Option<Label>)
+/// Of a leaf no more is known from now on than for how much at least all of its requests are, and that is not above an
+/// amount. Where that is nothing, nothing is.
+pub fn fade_leaf(
+    lulls: &mut Lulls,
+    tables: &Tables,
+    leaf: &Path,
+    on: &Option<Label>,
+    below: &Resource,
+)
     requires { AreNumbered tables.now.numbers (leaves_of tables.now.leaves.items) }
     ensures fewer { AreFewer lulls.old.parts.items lulls.new.parts.items }
-    ensures gone { IsForgotten on.now leaf.now tables.now.leaves.items lulls.new }
+    ensures faded { AreFaded on.now below.now leaf.now tables.now.leaves.items lulls.new }
 {
     let mut place = tables.numbers.first_with(leaf);
     while place < tables.leaves.len() {
-        forget_if(lulls, &tables.leaves[place], leaf, place, on);
+        fade_if(lulls, &tables.leaves[place], leaf, place, on, below);
         place = tables.numbers.next_with(place, leaf);
     }
 }
 
-/// Nothing is known from now on of the leaf to which a tenant's application was submitted.
-pub fn forget_leaf_of(
+/// Of the leaf of a new application no more is known from now on than for how much at least all of its requests are, and
+/// on its home that is not above its master.
+pub fn fade_leaf_at(
+    lulls: &mut Lulls,
+    tables: &Tables,
+    leaf: &Path,
+    home: &Label,
+    master: &Resource,
+)
+    requires { AreNumbered tables.now.numbers (leaves_of tables.now.leaves.items) }
+    ensures fewer { AreFewer lulls.old.parts.items lulls.new.parts.items }
+    ensures all { AreFaded None most leaf.now tables.now.leaves.items lulls.new }
+    ensures home { AreFaded (Some home.now) master.now leaf.now tables.now.leaves.items lulls.new }
+{
+    fade_leaf(lulls, tables, leaf, &None, &MOST);
+    let own = Some(*home);
+    fade_leaf(lulls, tables, leaf, &own, master);
+}
+
+/// So it is of the leaf to which a tenant's application was submitted.
+pub fn fade_leaf_of(
     lulls: &mut Lulls,
     tables: &Tables,
     tenant: &Name,
     app: &Name,
     on: &Option<Label>,
+    below: &Resource,
 )
     requires numbered { AreNumbered tables.now.numbers (leaves_of tables.now.leaves.items) }
     requires found { AreFound (leaves_of tables.now.leaves.items) }
     ensures fewer { AreFewer lulls.old.parts.items lulls.new.parts.items }
-    ensures gone { (leaf : Names) → leaf_of (leaves_of tables.now.leaves.items) tenant.now app.now ≡ Some leaf → IsForgotten on.now leaf tables.now.leaves.items lulls.new }
+    ensures faded { (leaf : Names) → leaf_of (leaves_of tables.now.leaves.items) tenant.now app.now ≡ Some leaf → AreFaded on.now below.now leaf tables.now.leaves.items lulls.new }
 {
     match leaf_path_of(&tables.numbers, &tables.leaves, tenant, app) {
-        Some(leaf) => forget_leaf(lulls, tables, leaf, on),
+        Some(leaf) => fade_leaf(lulls, tables, leaf, on, below),
         None => lulls.forget_all(),
     }
 }
@@ -68,12 +104,34 @@ fn changed_on(label: &Label, what: &What) -> Option<Label>
     }
 }
 
-/// Nothing is known from now on of the leaf of a request that is placed on a partition, where the placement changes it.
-pub fn forget_leaf_for(lulls: &mut Lulls, tables: &Tables, request: &Request, label: &Label)
+/// The amount that what comes where a request is placed, or its container ends, is not below: nothing comes of what is
+/// asked for; with a master its application's asks do, or its master again, for however little.
+pub fn left_by(what: &What) -> Resource
+    ensures { result ≡ left_by what.now }
+{
+    match what {
+        What::Master => NOTHING,
+        What::Ask(_, _) => MOST,
+    }
+}
+
+/// The amount that what comes with an ask is not below: nothing comes with one that takes back what was asked for.
+pub fn left_by_ask(ask: &AskRow) -> Resource
+    ensures { (ask.now.count == 0) ≡ false → fits_in result ask.now.size ≡ true }
+{
+    if ask.count == 0 {
+        MOST
+    } else {
+        ask.size.amount()
+    }
+}
+
+/// So it is of the leaf of a request that is placed on a partition, where the placement changes it.
+pub fn fade_leaf_for(lulls: &mut Lulls, tables: &Tables, request: &Request, label: &Label)
     requires { AreNumbered tables.now.numbers (leaves_of tables.now.leaves.items) }
     ensures fewer { AreFewer lulls.old.parts.items lulls.new.parts.items }
-    ensures gone { IsForgotten (changed_on label.now request.now.what) request.now.leaf tables.now.leaves.items lulls.new }
+    ensures faded { AreFaded (changed_on label.now request.now.what) (left_by request.now.what) request.now.leaf tables.now.leaves.items lulls.new }
 {
     let on = changed_on(label, &request.what);
-    forget_leaf(lulls, tables, &request.leaf, &on);
+    fade_leaf(lulls, tables, &request.leaf, &on, &left_by(&request.what));
 }

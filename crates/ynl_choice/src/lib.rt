@@ -2,9 +2,10 @@
 //! master share, and which of them is first in the order of service.
 #![tactic(auto)]
 
+pub use blocks::MOST;
 pub use checking::{Checked, check};
 pub use choosing::choose;
-pub use forgetting::{forget_leaf, forget_leaf_for, forget_leaf_of};
+pub use forgetting::{fade_leaf, fade_leaf_at, fade_leaf_for, fade_leaf_of, left_by, left_by_ask};
 pub use limits::{master_limit_of, user_limit_of};
 pub use lulls::{Lull, Lulls};
 pub use proposing::propose;

@@ -8,10 +8,10 @@ ghost use Rattle.ynl_model.specs.Cluster.{State};
 ghost use Rattle.ynl_model.specs.Queues.{Config};
 ghost use Rattle.ynl_laws.specs.Lulls.{IsLull};
 ghost use Rattle.ynl_choice.specs.Blocks.{is_still};
-ghost use Rattle.ynl_choice.specs.Lulls.{lull_at, AreFewer, AreLulls, IsFewer, IsGone, IsPartAt, IsStill, is_meant};
+ghost use Rattle.ynl_choice.specs.Lulls.{lull_at, AreFewer, AreLulls, IsFaded, IsFaint, IsFewer, IsGone, IsPartAt, IsStill, is_meant};
 ghost use Rattle.ynl_choice.specs.declared.blocks.PartLulls.{PartLulls as Part};
 
-use crate::blocks::{BLOCK, PartLulls, all_from, clear, none_of};
+use crate::blocks::{BLOCK, PartLulls, all_from, clear, less_of, none_of};
 use std::alloc::{AllocError, Global};
 use ynl_labels::Labels;
 use ynl_resource::{Label, Resource};
@@ -100,13 +100,38 @@ fn note_at(part: &mut PartLulls, place: usize, lull: &Lull)
     }
 }
 
-/// Nothing is known of the leaf at a place from now on.
-fn forget_at(part: &mut PartLulls, place: usize)
-    ensures fewer { IsFewer part.old part.new }
-    ensures gone { lull_at part.new place ≡ None }
+/// No amount at all.
+pub const NOTHING: Resource = Resource {
+    memory: 0,
+    vcores: 0,
+};
+
+/// What stays known where a leaf changes and what comes is not for less than an amount: for how much at least all is. Where
+/// that is nothing, nothing is.
+fn faint_of(lull: &Lull, below: &Resource) -> Option<Lull>
+    ensures was { IfSome result (IsFaint lull.now.least) }
+    ensures below { IfSome result (IsFaint below.now) }
 {
-    if place < part.leaves.len() {
-        set_at(part, place, None);
+    let least = less_of(&lull.least, below);
+    if least.fits_in(NOTHING) {
+        return None;
+    }
+    Some(Lull {
+        least,
+        room: NOTHING,
+    })
+}
+
+/// Of the leaf at a place no more stays known than that.
+fn fade_at(part: &mut PartLulls, place: usize, below: &Resource)
+    ensures fewer { IsFewer part.old part.new }
+    ensures faded { IfSome (lull_at part.new place) (IsFaint below.now) }
+{
+    if !part.is_known || place >= part.leaves.len() {
+        return;
+    }
+    if let Some(lull) = part.leaves[place] {
+        set_at(part, place, faint_of(&lull, below));
     }
 }
 
@@ -157,13 +182,13 @@ fn is_meant(on: &Option<Label>, label: &Label) -> bool
     }
 }
 
-/// Nothing is known of the leaf at a place from now on, if the partition is meant.
-fn forget_if(part: &mut PartLulls, place: usize, on: &Option<Label>)
+/// So it is of the leaf at a place, if the partition is meant.
+fn fade_if(part: &mut PartLulls, place: usize, on: &Option<Label>, below: &Resource)
     ensures fewer { IsFewer part.old part.new }
-    ensures gone { is_meant on.now part.new.label ≡ true → lull_at part.new place ≡ None }
+    ensures faded { is_meant on.now part.new.label ≡ true → IfSome (lull_at part.new place) (IsFaint below.now) }
 {
     if is_meant(on, &part.label) {
-        forget_at(part, place);
+        fade_at(part, place, below);
     }
 }
 
@@ -280,13 +305,14 @@ impl Lulls {
         }
     }
 
-    /// Nothing is known of the leaf at a place from now on, on one partition, or on all.
-    pub fn forget(&mut self, place: usize, on: &Option<Label>)
+    /// Of the leaf at a place, on one partition or on all, no more is known from now on than for how much at least all of its
+    /// requests are, and that is not above an amount. Where that is nothing, nothing is.
+    pub fn fade(&mut self, place: usize, on: &Option<Label>, below: &Resource)
         ensures fewer { AreFewer self.old.parts.items self.new.parts.items }
-        ensures gone { IsGone on.now place self.new.parts.items }
+        ensures faded { IsFaded on.now below.now place self.new.parts.items }
     {
         for i in 0..self.parts.len() {
-            forget_if(&mut self.parts[i], place, on);
+            fade_if(&mut self.parts[i], place, on, below);
         }
     }
 

@@ -24,7 +24,8 @@ use ynl_changes::{
     reserve_application, reserve_ask, reserve_containers, serve, submit,
 };
 use ynl_choice::{
-    Lulls, forget_leaf, forget_leaf_for, forget_leaf_of, master_limit_of, propose, user_limit_of,
+    Lulls, MOST, fade_leaf, fade_leaf_at, fade_leaf_for, fade_leaf_of, left_by, left_by_ask,
+    master_limit_of, propose, user_limit_of,
 };
 use ynl_model::{AskRow, Event, Items, Placed, Proposal, Reply};
 use ynl_queues::Config;
@@ -124,12 +125,13 @@ impl Core {
             Ok(container) => container,
             Err(refusal) => return Reply::Refused(refusal),
         };
-        forget_leaf_of(
+        fade_leaf_of(
             &mut self.lulls,
             &self.tables,
             &container.tenant,
             &container.app,
             &Some(container.id.label),
+            &left_by(&container.what),
         );
         end(&self.config, &mut self.tables, &container);
         wake(&mut self.tables);
@@ -155,7 +157,13 @@ impl Core {
             name,
             ask.count,
         )?;
-        forget_leaf(&mut self.lulls, &self.tables, &leaf, &Some(ask.label));
+        fade_leaf(
+            &mut self.lulls,
+            &self.tables,
+            &leaf,
+            &Some(ask.label),
+            &left_by_ask(ask),
+        );
         ask_for(
             &mut self.tables.leaves,
             &self.tables.numbers,
@@ -176,12 +184,13 @@ impl Core {
             Ok(container) => container,
             Err(refusal) => return Reply::Refused(refusal),
         };
-        forget_leaf_of(
+        fade_leaf_of(
             &mut self.lulls,
             &self.tables,
             &container.tenant,
             &container.app,
             &Some(container.id.label),
+            &left_by(&container.what),
         );
         end(&self.config, &mut self.tables, &container);
         wake(&mut self.tables);
@@ -206,7 +215,7 @@ impl Core {
             Ok(home) => home,
             Err(refusal) => return Ok(Reply::Refused(refusal)),
         };
-        let _sized = master.amount();
+        let sized = master.amount();
         reserve_application(&mut self.tables.leaves, &self.tables.numbers, queue)?;
         let new = Submission {
             leaf: *queue,
@@ -216,7 +225,7 @@ impl Core {
             master: *master,
         };
         let alloc = *self.tables.leaves.allocator();
-        forget_leaf(&mut self.lulls, &self.tables, queue, &None);
+        fade_leaf_at(&mut self.lulls, &self.tables, queue, &home, &sized);
         let seat = submit(&mut self.tables.leaves, &self.tables.numbers, &new, alloc);
         note_seat(&mut self.tables, queue, app, seat);
         wake(&mut self.tables);
@@ -268,7 +277,7 @@ impl Core {
         };
         let leaf = *live.leaf;
         let app = live.app.name;
-        forget_leaf(&mut self.lulls, &self.tables, &leaf, &None);
+        fade_leaf(&mut self.lulls, &self.tables, &leaf, &None, &MOST);
         finish_application(&self.config, &mut self.tables, &leaf, &app);
         wake(&mut self.tables);
         Reply::Done
@@ -372,7 +381,7 @@ impl Core {
         let _sized = proposal.size.amount();
         let node = checked.node;
         reserve_containers(&mut self.tables.partitions, &node.label, 1)?;
-        forget_leaf_for(&mut self.lulls, &self.tables, &checked.request, &node.label);
+        fade_leaf_for(&mut self.lulls, &self.tables, &checked.request, &node.label);
         let container = place(&self.config, &mut self.tables, &node, &checked.request);
         wake(&mut self.tables);
         Ok(Reply::Committed(container))

@@ -44,10 +44,10 @@ loop-i-preserved c =
       working = working_next config s new node c.in-Some.request c.loop-i.invariant.working c.loop-i.invariant.stands f moved;
       tabled = tabled_next config s new node c.in-Some.request c.loop-i.invariant.working c.loop-i.invariant.tabled f moved;
       kept = c.place-container.ensures.kept;
-      lulls = placed_lulls config c.loop-i.tables.numbers s new node c.in-Some.request c.loop-i.tables.leaves.items c.next_request.new.lulls c.forget_leaf_for.new.lulls c.loop-i.invariant.working c.loop-i.invariant.tabled
+      lulls = placed_lulls config c.loop-i.tables.numbers s new node c.in-Some.request c.loop-i.tables.leaves.items c.next_request.new.lulls c.fade_leaf_for.new.lulls c.loop-i.invariant.working c.loop-i.invariant.tabled
           (placeable_next config s node c.in-Some.request c.loop-i.invariant.working c.loop-i.invariant.tabled c.loop-i.invariant.stands f).there f moved c.loop-i.invariant.kept.amounts.numbered
-          (subst (λ (queues : List Path). AreNumbered queues new.leaves) c.place-container.ensures.numbers c.place-container.ensures.kept.amounts.numbered) c.next_request.ensures.lulls c.forget_leaf_for.ensures.fewer
-          c.forget_leaf_for.ensures.gone refl;
+          (subst (λ (queues : List Path). AreNumbered queues new.leaves) c.place-container.ensures.numbers c.place-container.ensures.kept.amounts.numbered) c.next_request.ensures.lulls c.fade_leaf_for.ensures.fewer
+          c.fade_leaf_for.ensures.faded refl;
       numbers = c.place-container.ensures.numbers ∙ c.loop-i.invariant.numbers;
       resting = c.place-container.ensures.resting ∙ c.loop-i.invariant.resting;
       stands = stands_next config s new node c.in-Some.request c.loop-i.invariant.stands moved;

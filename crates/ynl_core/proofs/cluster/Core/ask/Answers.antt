@@ -48,9 +48,9 @@ invariant_of-self-2 c =
           (kept_leaf numbers c.in-Ok.leaf c.args.name.now (set_ask c.args.ask.now) (λ app. refl) (λ app. refl) (leaves_of c.self.inside.tables.leaves.items) rows c.self.invariant.kept.amounts);
       marks = c.ask_for.ensures.marks s (c.reserve_ask.ensures.marks s c.self.invariant.kept.marks);
     } in
-    woken c.self.inside (record c.self.inside.tables { leaves = c.ask_for.new.rows }) c.wake.new.tables c.forget_leaf.new.lulls event c.self.invariant c.amount-sized.ensures.range (ap (λ (o : Outcome). o.state) (stepped c)) kept refl c.wake.ensures.before c.wake.ensures.resting
-    (lulls_asked config numbers s (record s { leaves = leaves_of c.ask_for.new.rows.items }) c.args.tenant.now c.args.name.now c.in-Ok.leaf c.args.ask.now c.reserve_ask.new.rows.items c.self.inside.lulls c.forget_leaf.new.lulls c.self.invariant.sound.working.kept c.self.invariant.sound.tabled c.in-Ok.ensures.leaf
-    (λ i. record s { leaves = leaves i }) (subst (AreNumbered numbers) (sym c.reserve_ask.ensures.meaning) c.self.invariant.kept.amounts.numbered) c.reserve_ask.ensures.meaning kept.amounts.numbered c.self.invariant.lulls c.forget_leaf.ensures.fewer c.forget_leaf.ensures.gone)
+    woken c.self.inside (record c.self.inside.tables { leaves = c.ask_for.new.rows }) c.wake.new.tables c.fade_leaf.new.lulls event c.self.invariant c.amount-sized.ensures.range (ap (λ (o : Outcome). o.state) (stepped c)) kept refl c.wake.ensures.before c.wake.ensures.resting
+    (lulls_asked config numbers s (record s { leaves = leaves_of c.ask_for.new.rows.items }) c.args.tenant.now c.args.name.now c.in-Ok.leaf c.args.ask.now c.left_by_ask.result c.reserve_ask.new.rows.items c.self.inside.lulls c.fade_leaf.new.lulls c.self.invariant.sound.working.kept c.self.invariant.sound.tabled c.left_by_ask.ensures c.in-Ok.ensures.leaf
+    (λ i. record s { leaves = leaves i }) (subst (AreNumbered numbers) (sym c.reserve_ask.ensures.meaning) c.self.invariant.kept.amounts.numbered) c.reserve_ask.ensures.meaning kept.amounts.numbered c.self.invariant.lulls c.fade_leaf.ensures.fewer c.fade_leaf.ensures.faded)
 
 pub returns-clause-ok : goal.returns-clause-ok
 returns-clause-ok c = answers_done c.self.inside c.args.self.now (Ask c.args.tenant.now c.args.name.now c.args.ask.now.label c.args.ask.now.priority c.args.ask.now.count c.args.ask.now.size) _ (state_of c.wake.new.tables) c.self.view_is (stepped c) c.wake.ensures.before.state
@@ -65,8 +65,8 @@ invariant_of-self c =
       marks = c.reserve_ask.ensures.marks (state_of tables) c.self.invariant.kept.marks;
     }) refl
 
-pub forget_leaf-requires : goal.forget_leaf-requires
-forget_leaf-requires c = subst (AreNumbered c.self.inside.tables.numbers) (sym c.reserve_ask.ensures.meaning) c.self.invariant.kept.amounts.numbered
+pub fade_leaf-requires : goal.fade_leaf-requires
+fade_leaf-requires c = subst (AreNumbered c.self.inside.tables.numbers) (sym c.reserve_ask.ensures.meaning) c.self.invariant.kept.amounts.numbered
 
 pub reserve_ask-requires : goal.reserve_ask-requires
 reserve_ask-requires c = c.self.invariant.kept.amounts.numbered

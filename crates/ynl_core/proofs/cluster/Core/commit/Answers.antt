@@ -16,16 +16,16 @@ pub refuse_commit-requires-clause-readable : goal.refuse_commit-requires-clause-
 refuse_commit-requires-clause-readable c = readable c.self.inside.config c.self.inside.tables c.self.invariant.sound.working c.self.invariant.sound.tabled c.self.invariant.kept
 
 -- what is known of leaves is right once the request is placed
-known : (c : goal.After-wake) → AreLulls c.self.inside.config (state_of c.place-container.new.tables) c.forget_leaf_for.new.lulls
+known : (c : goal.After-wake) → AreLulls c.self.inside.config (state_of c.place-container.new.tables) c.fade_leaf_for.new.lulls
 unfolding commit_reasons reasons
 known c =
-    lulls_committed c.self.inside.config c.self.inside.tables c.reserve_containers.new.rows.items (state_of c.place-container.new.tables) c.args.proposal.now c.in-Ok.checked.node c.in-Ok.checked.request c.self.inside.lulls c.forget_leaf_for.new.lulls c.reserve_containers.ensures.meaning c.self.invariant.sound.working
+    lulls_committed c.self.inside.config c.self.inside.tables c.reserve_containers.new.rows.items (state_of c.place-container.new.tables) c.args.proposal.now c.in-Ok.checked.node c.in-Ok.checked.request c.self.inside.lulls c.fade_leaf_for.new.lulls c.reserve_containers.ensures.meaning c.self.invariant.sound.working
     c.self.invariant.sound.tabled c.in-Ok.ensures.free c.in-Ok.ensures.node c.in-Ok.ensures.request c.place-container.ensures.state c.self.invariant.kept.amounts.numbered
-    (subst (λ (queues : List Path). AreNumbered queues (state_of c.place-container.new.tables).leaves) c.place-container.ensures.numbers c.place-container.ensures.kept.amounts.numbered) c.self.invariant.lulls c.forget_leaf_for.ensures.fewer c.forget_leaf_for.ensures.gone
+    (subst (λ (queues : List Path). AreNumbered queues (state_of c.place-container.new.tables).leaves) c.place-container.ensures.numbers c.place-container.ensures.kept.amounts.numbered) c.self.invariant.lulls c.fade_leaf_for.ensures.fewer c.fade_leaf_for.ensures.faded
 
 pub invariant_of-self-2 : goal.invariant_of-self-2
 unfolding step accepted
-invariant_of-self-2 c = woken c.self.inside c.place-container.new.tables c.wake.new.tables c.forget_leaf_for.new.lulls (Commit c.args.proposal.now) c.self.invariant c.amount-sized.ensures.range (search rules) c.place-container.ensures.kept c.place-container.ensures.numbers c.wake.ensures.before c.wake.ensures.resting (known c)
+invariant_of-self-2 c = woken c.self.inside c.place-container.new.tables c.wake.new.tables c.fade_leaf_for.new.lulls (Commit c.args.proposal.now) c.self.invariant c.amount-sized.ensures.range (search rules) c.place-container.ensures.kept c.place-container.ensures.numbers c.wake.ensures.before c.wake.ensures.resting (known c)
 
 -- where memory is refused all is as it was
 pub invariant_of-self : goal.invariant_of-self
@@ -43,5 +43,5 @@ place-container-requires-clause-placeable c =
     placeable_reserved c.self.inside.config c.self.inside.tables c.reserve_containers.new.rows.items c.args.proposal.now c.in-Ok.checked.node c.in-Ok.checked.request c.reserve_containers.ensures.meaning c.self.invariant.sound.working c.self.invariant.sound.tabled
     c.in-Ok.ensures.free c.in-Ok.ensures.node c.in-Ok.ensures.request
 
-pub forget_leaf_for-requires : goal.forget_leaf_for-requires
-forget_leaf_for-requires c = c.self.invariant.kept.amounts.numbered
+pub fade_leaf_for-requires : goal.fade_leaf_for-requires
+fade_leaf_for-requires c = c.self.invariant.kept.amounts.numbered

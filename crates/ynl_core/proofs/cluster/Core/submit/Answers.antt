@@ -1,4 +1,4 @@
-use Rattle.std.proofs.Common.{◌≡◌, false, List, Option, None, is_some, refl, sym, ap, subst, ◌∙◌}
+use Rattle.std.proofs.Common.{◌≡◌, false, List, Option, None, Some, is_some, refl, sym, ap, subst, ◌∙◌}
 use Rattle.ynl_resource.specs.Names.{tenant_of}
 use Rattle.ynl_resource.specs.Refusals.{first_that_holds}
 use Rattle.ynl_resource.specs.declared.amounts.Resource.{Resource}
@@ -20,6 +20,7 @@ use Rattle.ynl_laws.proofs.Totals.Marks.{mark-new}
 use Rattle.ynl_changes.proofs.Summing.{kept_submission}
 use Rattle.ynl_core.proofs.Stepping.{taken_in}
 use Rattle.ynl_tables.specs.Numbers.{AreNumbered}
+use Rattle.ynl_choice.specs.Lulls.{AreFaded, most}
 use Rattle.ynl_core.proofs.Lulled.{lulls_submitted}
 use Rattle.ynl_core.proofs.Changed.{answers_done, woken, unchanged}
 use Rattle.ynl_core.proofs.cluster.Core.submit.Goals as goal
@@ -57,10 +58,10 @@ invariant_of-self-2 c =
           (kept_submission numbers app s.leaves rows free c.self.invariant.sound.working.kept.uses c.self.invariant.kept.amounts);
       marks = c.submit-seat.ensures.marks s (mark-new s (new_app c.args.queue.now c.args.app.now c.args.user.now c.in-Ok.home c.args.master.now) c.self.invariant.sound.working.kept free) (c.reserve_application.ensures.marks s c.self.invariant.kept.marks);
     } in
-    woken c.self.inside (record c.self.inside.tables { leaves = c.submit-seat.new.rows }) c.wake.new.tables c.forget_leaf.new.lulls event c.self.invariant c.amount-sized.ensures.range (ap (λ (o : Outcome). o.state) (stepped c)) kept refl (subst (λ (t : Tables). IsAsBefore t c.wake.new.tables) c.note_seat.ensures c.wake.ensures.before) c.wake.ensures.resting
-    (lulls_submitted config numbers s (record s { leaves = leaves_of c.submit-seat.new.rows.items }) c.args.user.now c.args.label.now c.args.master.now app c.reserve_application.new.rows.items c.self.inside.lulls c.forget_leaf.new.lulls c.self.invariant.sound.working.kept c.self.invariant.sound.tabled c.self.invariant.numbered
-    (c.in-Ok.ensures.free c.args.user.now) free (λ i. record s { leaves = leaves i }) (subst (AreNumbered numbers) (sym c.reserve_application.ensures.meaning) c.self.invariant.kept.amounts.numbered) c.reserve_application.ensures.meaning kept.amounts.numbered c.self.invariant.lulls c.forget_leaf.ensures.fewer
-    c.forget_leaf.ensures.gone)
+    woken c.self.inside (record c.self.inside.tables { leaves = c.submit-seat.new.rows }) c.wake.new.tables c.fade_leaf_at.new.lulls event c.self.invariant c.amount-sized.ensures.range (ap (λ (o : Outcome). o.state) (stepped c)) kept refl (subst (λ (t : Tables). IsAsBefore t c.wake.new.tables) c.note_seat.ensures c.wake.ensures.before) c.wake.ensures.resting
+    (lulls_submitted config numbers s (record s { leaves = leaves_of c.submit-seat.new.rows.items }) c.args.user.now c.args.label.now c.args.master.now most app c.reserve_application.new.rows.items c.self.inside.lulls c.fade_leaf_at.new.lulls refl c.self.invariant.sound.working.kept c.self.invariant.sound.tabled c.self.invariant.numbered
+    (c.in-Ok.ensures.free c.args.user.now) free (λ i. record s { leaves = leaves i }) (subst (AreNumbered numbers) (sym c.reserve_application.ensures.meaning) c.self.invariant.kept.amounts.numbered) c.reserve_application.ensures.meaning kept.amounts.numbered c.self.invariant.lulls c.fade_leaf_at.ensures.fewer
+    c.fade_leaf_at.ensures.all (subst (λ (home : Label). AreFaded (Some home) c.args.master.now c.args.queue.now c.reserve_application.new.rows.items c.fade_leaf_at.new.lulls) c.in-Ok.ensures.home (subst (λ (size : Resource). AreFaded (Some c.in-Ok.home) size c.args.queue.now c.reserve_application.new.rows.items c.fade_leaf_at.new.lulls) c.amount-sized.ensures.value c.fade_leaf_at.ensures.home)))
 
 pub returns-clause-ok : goal.returns-clause-ok
 returns-clause-ok c = answers_done c.self.inside c.args.self.now (Submit c.args.queue.now c.args.app.now c.args.user.now c.args.label.now c.args.master.now) _ (state_of c.wake.new.tables) c.self.view_is (stepped c) (c.wake.ensures.before.state ∙ ap state_of c.note_seat.ensures)
@@ -75,8 +76,8 @@ invariant_of-self c =
       marks = c.reserve_application.ensures.marks (state_of tables) c.self.invariant.kept.marks;
     }) refl
 
-pub forget_leaf-requires : goal.forget_leaf-requires
-forget_leaf-requires c = subst (AreNumbered c.self.inside.tables.numbers) (sym c.reserve_application.ensures.meaning) c.self.invariant.kept.amounts.numbered
+pub fade_leaf_at-requires : goal.fade_leaf_at-requires
+fade_leaf_at-requires c = subst (AreNumbered c.self.inside.tables.numbers) (sym c.reserve_application.ensures.meaning) c.self.invariant.kept.amounts.numbered
 
 pub reserve_application-requires : goal.reserve_application-requires
 reserve_application-requires c = c.self.invariant.kept.amounts.numbered
