@@ -147,10 +147,11 @@ pub fn ask_for(
     ensures marks { KeepsMarks rows.old.items rows.new.items }
     ensures meaning { leaves_of rows.new.items ≡ in_leaf leaf.now (with_app name.now (set_ask ask.now)) (leaves_of rows.old.items) }
 {
-    let mut place = numbers.first_with(leaf);
+    let only = numbers.only_place(leaf);
+    let mut place = numbers.first_with(only, leaf);
     while place < rows.len() {
         ask_in(&mut rows[place], leaf, name, ask);
-        place = numbers.next_with(place, leaf);
+        place = numbers.next_with(place, only, leaf);
     }
 }
 
@@ -225,10 +226,11 @@ pub fn reserve_ask(
     ensures capacity { OnOk result (AllByRecursion (HasAskCapacityIn leaf.now name.now count) rows.new.items) }
     ensures sure { count ≡ 0 → IsOk result }
 {
-    let mut place = numbers.first_with(leaf);
+    let only = numbers.only_place(leaf);
+    let mut place = numbers.first_with(only, leaf);
     while place < rows.len() {
         reserve_in(&mut rows[place], leaf, name, count)?;
-        place = numbers.next_with(place, leaf);
+        place = numbers.next_with(place, only, leaf);
     }
     Ok(())
 }

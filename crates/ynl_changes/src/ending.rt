@@ -138,7 +138,7 @@ fn lower_users_if(
     if row_goes(going, row) {
         let container = container_of(label, row);
         let account = account_of(numbers, leaves, &container);
-        change_users(users, numbers, &account.owner, Change::Less, &container);
+        change_users(users, numbers, &account, Change::Less, &container);
     }
 }
 
@@ -242,7 +242,7 @@ pub fn drop_at(row: &mut PartitionRow, numbers: &QueueNumbers, leaves: &[LeafRow
     change_users(
         &mut row.users,
         numbers,
-        &account.owner,
+        &account,
         Change::Less,
         &container,
     );

@@ -463,10 +463,11 @@ fn finish_in(rows: &mut Vec<LeafRow>, numbers: &QueueNumbers, leaf: &Path, name:
     ensures marks { KeepsMarks rows.old.items rows.new.items }
     ensures meaning { leaves_of rows.new.items ≡ in_leaf leaf.now (finished name.now) (leaves_of rows.old.items) }
 {
-    let mut place = numbers.first_with(leaf);
+    let only = numbers.only_place(leaf);
+    let mut place = numbers.first_with(only, leaf);
     while place < rows.len() {
         finish_on(&mut rows[place], leaf, name);
-        place = numbers.next_with(place, leaf);
+        place = numbers.next_with(place, only, leaf);
     }
 }
 

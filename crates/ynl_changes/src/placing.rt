@@ -68,7 +68,7 @@ fn put(
         change_users(
             &mut row.users,
             numbers,
-            &account.owner,
+            &account,
             Change::More,
             container,
         );
@@ -268,10 +268,11 @@ fn take_ask(
     ensures marks { KeepsMarks rows.old.items rows.new.items }
     ensures meaning { leaves_of rows.new.items ≡ in_leaf leaf.now (with_app name.now (take_one label.now priority)) (leaves_of rows.old.items) }
 {
-    let mut place = numbers.first_with(leaf);
+    let only = numbers.only_place(leaf);
+    let mut place = numbers.first_with(only, leaf);
     while place < rows.len() {
         take_in(&mut rows[place], leaf, name, label, priority);
-        place = numbers.next_with(place, leaf);
+        place = numbers.next_with(place, only, leaf);
     }
 }
 

@@ -52,10 +52,11 @@ pub fn reserve_application(
     ensures marks { KeepsMarks rows.old.items rows.new.items }
     ensures capacity { OnOk result (AllByRecursion (HasAppCapacity leaf.now) rows.new.items) }
 {
-    let mut place = numbers.first_with(leaf);
+    let only = numbers.only_place(leaf);
+    let mut place = numbers.first_with(only, leaf);
     while place < rows.len() {
         reserve_application_on(&mut rows[place], leaf)?;
-        place = numbers.next_with(place, leaf);
+        place = numbers.next_with(place, only, leaf);
     }
     Ok(())
 }
@@ -112,11 +113,12 @@ pub fn submit(
     ensures meaning { leaves_of rows.new.items ≡ in_leaf new.now.leaf (submitted (application new.now)) (leaves_of rows.old.items) }
 {
     let mut seat = None;
-    let mut place = numbers.first_with(&new.leaf);
+    let only = numbers.only_place(&new.leaf);
+    let mut place = numbers.first_with(only, &new.leaf);
     while place < rows.len() {
         seat = seat_on(&rows[place], place, &new.leaf, seat);
         submit_on(&mut rows[place], new, alloc);
-        place = numbers.next_with(place, &new.leaf);
+        place = numbers.next_with(place, only, &new.leaf);
     }
     seat
 }

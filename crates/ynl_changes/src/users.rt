@@ -1,16 +1,17 @@
 //! What is kept of the use of users, with a container more or less.
 
-ghost use Rattle.std.specs.Prelude.{◌≡◌, ◌<◌, ◌∷◌, List, length, true, IfSome};
-ghost use Rattle.std.specs.List.{AllByRecursion, list_any};
-ghost use Rattle.ynl_resource.specs.Names.{root, same_path};
-ghost use Rattle.ynl_laws.specs.Ways.{AreApart, has_number};
+ghost use Rattle.std.specs.Prelude.{◌≡◌, ◌<◌, ◌∷◌, List, length, IfSome};
+ghost use Rattle.std.specs.List.{AllByRecursion};
+ghost use Rattle.ynl_resource.specs.Names.{root};
+ghost use Rattle.ynl_laws.specs.Ways.{AreApart, IsWay, has_number};
 ghost use Rattle.ynl_model.specs.Applications.{LeafApps};
+ghost use Rattle.ynl_tables.specs.Numbers.{is_above};
 ghost use Rattle.ynl_tables.specs.Uses.{IsOwner};
 ghost use Rattle.ynl_changes.specs.Users.{Changes, ChangesEach, ChangesAbove, ChangesUsers};
 
 use ynl_model::Placed;
 use ynl_resource::{Name, Size};
-use ynl_tables::{Owner, QueueNumbers, Sums};
+use ynl_tables::{Account, Owner, QueueNumbers, Sums};
 
 /// Whether there is a container more or less.
 #[derive(Clone, Copy)]
@@ -45,35 +46,35 @@ fn change_along(users: &mut Vec<Sums>, way: &[usize], kind: Change, user: &Name,
     }
 }
 
-/// What a user uses of each queue above a leaf has a container more or less.
+/// What a user uses of each queue above a leaf has a container more or less; the way to the leaf is given.
 fn change_above(
     users: &mut Vec<Sums>,
     numbers: &QueueNumbers,
+    way: &[usize],
     kind: Change,
     owner: &Owner<'_>,
     size: &Size,
 )
-    requires numbered { list_any (same_path owner.now.leaf.now) numbers.now ≡ true }
+    requires way { IsWay (root ∷ numbers.now) (is_above owner.now.leaf.now) way.now }
     requires len { length users.old.items ≡ length (root ∷ numbers.now) }
     ensures { ChangesAbove numbers.now kind owner.now.leaf.now owner.now.user.now size.now users.old.items users.new.items }
 {
-    let way = numbers.way_near(owner.place, owner.leaf);
     change_along(users, way, kind, owner.user, size);
 }
 
-/// What users use of queues has a container more or less; the owner is whose use it counts in.
+/// What users use of queues has a container more or less; the account is where it counts.
 pub fn change_users(
     users: &mut Vec<Sums>,
     numbers: &QueueNumbers,
-    owner: &Option<Owner<'_>>,
+    account: &Account<'_>,
     kind: Change,
     container: &Placed,
 )
-    requires numbered { IfSome owner.now (λ owner. list_any (same_path owner.leaf.now) numbers.now ≡ true) }
+    requires along { IfSome account.now.owner (λ owner. IsWay (root ∷ numbers.now) (is_above owner.leaf.now) account.now.way.now) }
     requires len { length users.old.items ≡ length (root ∷ numbers.now) }
-    ensures { (leaves : List LeafApps) → IsOwner leaves container.now owner.now → ChangesUsers kind numbers.now leaves container.now users.old.items users.new.items }
+    ensures { (leaves : List LeafApps) → IsOwner leaves container.now account.now.owner → ChangesUsers kind numbers.now leaves container.now users.old.items users.new.items }
 {
-    if let Some(owner) = owner {
-        change_above(users, numbers, kind, owner, &container.size);
+    if let Some(owner) = &account.owner {
+        change_above(users, numbers, account.way, kind, owner, &container.size);
     }
 }

@@ -15,21 +15,22 @@ use crate::lulls::{Lulls, NOTHING};
 use crate::requests::Request;
 use ynl_model::{AskRow, What};
 use ynl_resource::{Label, Name, Path, Resource};
-use ynl_tables::{LeafRow, Tables, leaf_path_of};
+use ynl_tables::{LeafRow, Tables, is_at, leaf_path_of};
 
-/// Less is known of the leaf at a place from now on, if it is that one.
+/// Less is known of the leaf at a place from now on, if it is that one, or is known to be.
 fn fade_if(
     lulls: &mut Lulls,
     row: &LeafRow,
     leaf: &Path,
     place: usize,
+    is_known: bool,
     on: &Option<Label>,
     below: &Resource,
 )
     ensures fewer { AreFewer lulls.old.parts.items lulls.new.parts.items }
     ensures faded { same_path row.now.path leaf.now ≡ true → IsFaded on.now below.now place lulls.new.parts.items }
 {
-    if row.path == *leaf {
+    if is_known || row.path == *leaf {
         lulls.fade(place, on, below);
     }
 }
@@ -47,10 +48,12 @@ pub fn fade_leaf(
     ensures fewer { AreFewer lulls.old.parts.items lulls.new.parts.items }
     ensures faded { AreFaded on.now below.now leaf.now tables.now.leaves.items lulls.new }
 {
-    let mut place = tables.numbers.first_with(leaf);
+    let only = tables.numbers.only_place(leaf);
+    let mut place = tables.numbers.first_with(only, leaf);
     while place < tables.leaves.len() {
-        fade_if(lulls, &tables.leaves[place], leaf, place, on, below);
-        place = tables.numbers.next_with(place, leaf);
+        let row = &tables.leaves[place];
+        fade_if(lulls, row, leaf, place, is_at(only, place), on, below);
+        place = tables.numbers.next_with(place, only, leaf);
     }
 }
 

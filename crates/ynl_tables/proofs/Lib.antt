@@ -20,3 +20,4 @@ pub mod Leaves
 pub mod Firsts
 pub mod Onward
 pub mod Only
+pub mod Owners

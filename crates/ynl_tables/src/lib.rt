@@ -16,7 +16,7 @@ pub use holders::{Holder, Listed};
 pub use known::{Known, Spot};
 pub use live::{Live, leaf_path_of, live_at};
 pub use named::{place_of, spot_of};
-pub use numbers::QueueNumbers;
+pub use numbers::{QueueNumbers, is_at};
 pub use polling::{own_containers, pending_on};
 pub use queue_use::{
     free, guests, masters_used, no_master_in, runs, used, user_used, users_on, uses_on,

@@ -1,6 +1,7 @@
 //! The numbers of queues, by which it is kept what they use.
 
-ghost use Rattle.std.specs.Prelude.{◌≡◌, ◌<◌, ◌+◌, ◌^◌, ◌++◌, ◌∷◌, [], true, length, map, slice_index_or, find, option_map, IfOk, IfSome, OnOk, if◌then◌else◌};
+ghost use Rattle.std.specs.Prelude.{◌≡◌, ◌<◌, ◌+◌, ◌^◌, ◌++◌, ◌∷◌, [], true, length, map, slice_index_or, find, option_map, IfOk, IfSome, OnOk, Some, if◌then◌else◌};
+ghost use Rattle.std.specs.Bool.{OnTrue};
 ghost use Rattle.std.specs.List.{AllByRecursion, list_any, position};
 ghost use Rattle.ynl_resource.specs.Names.{root, is_within, same_path, tenant_of};
 ghost use Rattle.ynl_laws.specs.Ways.{IsWay};
@@ -231,30 +232,42 @@ impl QueueNumbers {
         }
     }
 
-    /// A place before which no leaf has a path. Where it is not found by one look, the leaves of its tenant are gone
-    /// through.
-    pub fn first_with(&self, leaf: &Path) -> usize
+    /// A place before which no leaf has a path: the only place of it, where that is known. Else the leaves of its tenant
+    /// are gone through.
+    pub fn first_with(&self, only: Option<usize>, leaf: &Path) -> usize
+        requires { IfSome only (IsOnlyPlace (leaf_paths self.now) leaf.now) }
         ensures { IsPassing (leaf_paths self.now) leaf.now 0 result }
     {
-        match self.only_place(leaf) {
+        match only {
             Some(place) => place,
             None => self.first_beside(leaf),
         }
     }
 
-    /// A place after another, before which no leaf after the other has a path: past all, if the other has it and it is
-    /// known that no two have one.
-    pub fn next_with(&self, place: usize, leaf: &Path) -> usize
-        requires { place < length (leaf_paths self.now) }
+    /// A place after another, before which no leaf after the other has a path: past all, if the other is known to be the
+    /// only place of it.
+    pub fn next_with(&self, place: usize, only: Option<usize>, leaf: &Path) -> usize
+        requires place { place < length (leaf_paths self.now) }
+        requires only { IfSome only (IsOnlyPlace (leaf_paths self.now) leaf.now) }
         ensures after { place < result }
         ensures onward { IsPassing (leaf_paths self.now) leaf.now (place + 1) result }
     {
         let leaves = self.leaves.as_slice();
-        if self.are_apart && leaves[place] == *leaf {
+        if is_at(only, place) {
             leaves.len()
         } else {
             self.next_by(place, tenant_bytes(leaf))
         }
+    }
+}
+
+/// Whether a place is the one that is known.
+pub fn is_at(known: Option<usize>, place: usize) -> bool
+    ensures { OnTrue result (known ≡ Some place) }
+{
+    match known {
+        Some(at) => at == place,
+        None => false,
     }
 }
 

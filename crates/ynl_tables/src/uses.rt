@@ -7,7 +7,7 @@ ghost use Rattle.ynl_resource.specs.Names.{root, same_name, same_path};
 ghost use Rattle.ynl_resource.specs.declared.paths.Path.{Path as Names};
 ghost use Rattle.ynl_model.specs.Applications.{LeafApps, find_app, leaf_of, row_of};
 ghost use Rattle.ynl_model.specs.Cluster.{is_master, is_guest_on, is_below, sizes};
-ghost use Rattle.ynl_tables.specs.Numbers.{AreNumbered, is_above_app};
+ghost use Rattle.ynl_tables.specs.Numbers.{AreNumbered, is_above, is_above_app};
 ghost use Rattle.ynl_tables.specs.Living.{is_live_and, live_in};
 ghost use Rattle.ynl_tables.specs.Seats.{AreFound};
 ghost use Rattle.ynl_tables.specs.Tables.{app_of, leaf_of_row, leaves_of};
@@ -167,7 +167,7 @@ fn account_by<'a>(
     requires { AreNumbered numbers.now (leaves_of leaves.now) }
     ensures way { IsWay (root ∷ numbers.now) (is_above_app (leaves_of leaves.now) container.now.tenant container.now.app) result.way.now }
     ensures owner { IsOwner (leaves_of leaves.now) container.now result.owner }
-    ensures numbered { IfSome result.owner (λ owner. list_any (same_path owner.leaf.now) numbers.now ≡ true) }
+    ensures along { IfSome result.owner (λ owner. IsWay (root ∷ numbers.now) (is_above owner.leaf.now) result.way.now) }
 {
     match leaf_row_by(numbers, leaves, &container.tenant, &container.app) {
         Some(row) => Account {
@@ -191,7 +191,7 @@ pub fn account_of<'a>(
     requires found { AreFound (leaves_of leaves.now) }
     ensures way { IsWay (root ∷ numbers.now) (is_above_app (leaves_of leaves.now) container.now.tenant container.now.app) result.way.now }
     ensures owner { IsOwner (leaves_of leaves.now) container.now result.owner }
-    ensures numbered { IfSome result.owner (λ owner. list_any (same_path owner.leaf.now) numbers.now ≡ true) }
+    ensures along { IfSome result.owner (λ owner. IsWay (root ∷ numbers.now) (is_above owner.leaf.now) result.way.now) }
 {
     match live_hinted(numbers, leaves, &container.tenant, &container.app) {
         Some(live) => Account {

@@ -49,11 +49,11 @@ loop-place-preserved c =
     let leaf : Path = c.args.leaf.now in
     let place : ℕ = c.loop-place.place in
     let next : ℕ = c.next_with-place.result in
-    let row : LeafRow = c.index.result.now in
+    let row : LeafRow = c.index-row.result.now in
     let old = c.loop-place.lulls.parts.items in
     let new = c.fade_if.new.lulls.parts.items in
     let less : AreFewer old new = c.fade_if.ensures.fewer in
-    let here : (d : LeafRow) → place < length rows → row ≡ get_or rows place d = λ d inside. at_any rows place row d inside c.index.ensures in
+    let here : (d : LeafRow) → place < length rows → row ≡ get_or rows place d = λ d inside. at_any rows place row d inside c.index-row.ensures in
     record {
       fewer = are_fewer_then c.args.lulls.now.parts.items old new c.loop-place.invariant.fewer less;
       faded = all-faded c.args.on.now c.args.below.now rows leaf place next row old new less here c.loop-place.invariant.faded c.fade_if.ensures.faded
