@@ -11,3 +11,7 @@ pub mod Sent
 pub mod Whole
 pub mod Plain
 pub mod Treed
+pub mod Escapes
+pub mod Compacted
+pub mod Added
+pub mod Cuts

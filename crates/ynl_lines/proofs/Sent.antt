@@ -22,7 +22,7 @@ Row = Bor (List ℕ) × Field
 -- ---- fields
 
 -- what is left of a list is the next one, and those after it
-left : {A : Type 0} (xs : List A) (i : ℕ) (d : A) → i < length xs → drop i xs ≡ get_or xs i d ∷ drop (i + 1) xs
+pub left : {A : Type 0} (xs : List A) (i : ℕ) (d : A) → i < length xs → drop i xs ≡ get_or xs i d ∷ drop (i + 1) xs
 left xs i d h = rw add-one (drop-cons xs i d h)
 
 pub field_more : (fields : List Row) (i : ℕ) (d : Row) (old named mid : Log) → i < length fields

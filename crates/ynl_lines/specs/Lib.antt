@@ -3,4 +3,5 @@ pub mod Reading
 pub mod ReadingReplies
 pub mod Sending
 pub mod Trees
+pub mod Compact
 pub mod Writing

@@ -3,12 +3,17 @@
 //! Each is a JSON object. A text here is without the newline that ends its line.
 #![tactic(auto)]
 
+pub use adding::put_reply;
+pub use compact::heartbeat_of;
 pub use faults::{BadLine, InputFault, JournalFault, LineFault};
 pub use read::{EventReader, read_event};
 pub use read_lines::read_line;
 pub use write::{write_audit, write_event, write_fault, write_line, write_reply};
 
+mod adding;
 mod answers;
+mod compact;
+mod cutting;
 mod events;
 mod faults;
 mod fields;

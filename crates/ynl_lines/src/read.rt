@@ -7,14 +7,18 @@ ghost use Rattle.serde_json.specs.Errors.{IsMemory};
 ghost use Rattle.serde_json.specs.View.{view};
 ghost use Rattle.ynl_lines.specs.Trees.{data_at};
 ghost use Rattle.ynl_lines.specs.Reading.{reading, IsRanged};
+ghost use Rattle.ynl_lines.specs.Compact as told;
 ghost use Rattle.ynl_lines.specs.Reading as spec;
 ghost use Rattle.ynl_lines.specs.declared.faults.LineFault.TheVariants as fault;
 
+use crate::compact::{Members, members_in};
 use crate::faults::LineFault;
 use crate::fields::Fields;
-use crate::read_applications::{ask_at, finish_at, poll_at, release_at, submit_at};
-use crate::read_nodes::{exited_at, heartbeat_at, lost_at, register_at, relabel_at};
-use crate::read_proposals::{commit_at, propose_at};
+use crate::read_applications::{
+    ask_at, ask_of, finish_at, finish_of, poll_at, release_at, release_of, submit_at,
+};
+use crate::read_nodes::{exited_at, exited_of, heartbeat_at, lost_at, register_at, relabel_at};
+use crate::read_proposals::{commit_at, propose_at, propose_of};
 use crate::read_queues::{maximum_at, start_at, stop_at, usage_at};
 use crate::trees::{is_plain, tree_of};
 use json::Scratch;
@@ -143,6 +147,28 @@ fn read_by_value(alloc: Global, line: &[u8]) -> Result<Result<Event, LineFault>,
     }
 }
 
+/// The event of what a line is cut into.
+fn event_of(members: &Members<'_>) -> Result<Event, LineFault>
+    ensures event { result ≡ told.event_of members.now }
+    ensures ranged { IfOk result (λ event. IsRanged event) }
+{
+    match members {
+        Members::Ask {
+            app,
+            count,
+            label,
+            memory,
+            priority,
+            tenant,
+            vcores,
+        } => ask_of(app, *count, label, *memory, *priority, tenant, *vcores),
+        Members::Release { id, tenant } => release_of(id, tenant),
+        Members::Finish { app, tenant } => finish_of(app, tenant),
+        Members::Exited { id, node } => exited_of(id, node),
+        Members::Propose { node } => propose_of(node),
+    }
+}
+
 /// What is told of a line that is no JSON. It stands alone, since a function clears the room of each answer that it
 /// makes whenever it is called.
 fn no_json() -> Result<Result<Event, LineFault>, AllocError>
@@ -177,6 +203,9 @@ impl EventReader {
         ensures event { IfOk result (λ read. read ≡ spec.event_of_line line.now) }
         ensures ranged { IfOk result (λ read. IfOk read (λ event. IsRanged event)) }
     {
+        if let Some(members) = members_in(line) {
+            return Ok(event_of(&members));
+        }
         let Some(tree) = tree_of(alloc, &mut self.scratch, line)? else {
             return no_json();
         };

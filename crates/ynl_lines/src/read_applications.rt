@@ -3,6 +3,7 @@
 ghost use Rattle.std.specs.Prelude.{◌≡◌, option_map, IfOk, IsTrue};
 ghost use Rattle.ynl_lines.specs.Trees.{data_at};
 ghost use Rattle.ynl_lines.specs.Reading.{Gives, IsRanged};
+ghost use Rattle.ynl_lines.specs.Compact as told;
 ghost use Rattle.ynl_lines.specs.Reading as spec;
 
 use crate::faults::LineFault;
@@ -86,6 +87,22 @@ pub fn ask_at(event: &Fields<'_, '_>) -> Result<Event, LineFault>
     let priority = number_at(event, "priority")?;
     let tenant = text_at(event, "tenant")?;
     let vcores = number_at(event, "vcores")?;
+    ask_of(app, count, label, memory, priority, tenant, vcores)
+}
+
+/// An ask, from its members.
+pub fn ask_of(
+    app: &str,
+    count: u64,
+    label: &str,
+    memory: u64,
+    priority: u64,
+    tenant: &str,
+    vcores: u64,
+) -> Result<Event, LineFault>
+    ensures event { result ≡ told.ask_of app.now count label.now memory priority tenant.now vcores }
+    ensures ranged { IfOk result (λ event. IsRanged event) }
+{
     let app = name_at(app)?;
     let label = label_at(label)?;
     let tenant = name_at(tenant)?;
@@ -111,6 +128,14 @@ pub fn release_at(event: &Fields<'_, '_>) -> Result<Event, LineFault>
     keys_are(event, 3)?;
     let id = text_at(event, "id")?;
     let tenant = text_at(event, "tenant")?;
+    release_of(id, tenant)
+}
+
+/// A release, from its members.
+pub fn release_of(id: &str, tenant: &str) -> Result<Event, LineFault>
+    ensures event { result ≡ told.release_of id.now tenant.now }
+    ensures ranged { IfOk result (λ event. IsRanged event) }
+{
     let id = id_at(id)?;
     let tenant = name_at(tenant)?;
     Ok(Event::Release { tenant, id })
@@ -125,6 +150,14 @@ pub fn finish_at(event: &Fields<'_, '_>) -> Result<Event, LineFault>
     keys_are(event, 3)?;
     let app = text_at(event, "app")?;
     let tenant = text_at(event, "tenant")?;
+    finish_of(app, tenant)
+}
+
+/// The end of an application, from its members.
+pub fn finish_of(app: &str, tenant: &str) -> Result<Event, LineFault>
+    ensures event { result ≡ told.finish_of app.now tenant.now }
+    ensures ranged { IfOk result (λ event. IsRanged event) }
+{
     let app = name_at(app)?;
     let tenant = name_at(tenant)?;
     Ok(Event::Finish { tenant, app })

@@ -3,6 +3,7 @@
 ghost use Rattle.std.specs.Prelude.{◌≡◌, IfOk, IsTrue};
 ghost use Rattle.ynl_lines.specs.Trees.{data_at};
 ghost use Rattle.ynl_lines.specs.Reading.{IsRanged};
+ghost use Rattle.ynl_lines.specs.Compact as told;
 ghost use Rattle.ynl_lines.specs.Reading as spec;
 
 use crate::faults::LineFault;
@@ -81,6 +82,14 @@ pub fn exited_at(event: &Fields<'_, '_>) -> Result<Event, LineFault>
     keys_are(event, 3)?;
     let id = text_at(event, "id")?;
     let node = text_at(event, "node")?;
+    exited_of(id, node)
+}
+
+/// The exit of a container, from its members.
+pub fn exited_of(id: &str, node: &str) -> Result<Event, LineFault>
+    ensures event { result ≡ told.exited_of id.now node.now }
+    ensures ranged { IfOk result (λ event. IsRanged event) }
+{
     let id = id_at(id)?;
     let node = name_at(node)?;
     Ok(Event::Exited { node, id })

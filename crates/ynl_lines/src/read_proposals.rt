@@ -4,6 +4,7 @@ ghost use Rattle.std.specs.Prelude.{◌≡◌, option_map, IfOk, IsTrue};
 ghost use Rattle.ynl_lines.specs.Trees.{data_at};
 ghost use Rattle.ynl_resource.specs.Amounts.{IsSize};
 ghost use Rattle.ynl_lines.specs.Reading.{Gives, HasPriority, HasProposalNumbers, IsRanged};
+ghost use Rattle.ynl_lines.specs.Compact as told;
 ghost use Rattle.ynl_lines.specs.Reading as spec;
 
 use crate::faults::LineFault;
@@ -20,6 +21,15 @@ pub fn propose_at(event: &Fields<'_, '_>) -> Result<Event, LineFault>
     ensures ranged { IfOk result (λ event. IsRanged event) }
 {
     let node = node_at(event)?;
+    Ok(Event::Propose { node })
+}
+
+/// A propose, from its member.
+pub fn propose_of(node: &str) -> Result<Event, LineFault>
+    ensures event { result ≡ told.propose_of node.now }
+    ensures ranged { IfOk result (λ event. IsRanged event) }
+{
+    let node = name_at(node)?;
     Ok(Event::Propose { node })
 }
 

@@ -1,0 +1,64 @@
+-- What needs no escape in a text of JSON.
+use Rattle.std.proofs.Common.{◌≡◌, ◌≤◌, ℕ, List, [], ◌∷◌, ◌++◌, true, ◌^◌, ◌<◌, decimal, refl, ap₂, ◌∙◌, arith}
+use Rattle.std.specs.List.{list_all}
+use Rattle.std.proofs.lemmas.Bool.{and_parts}
+use Rattle.std.proofs.lemmas.Bool.Decides.{nat_tests}
+use Rattle.std.proofs.lemmas.Fmt.{digits_decimal}
+use Rattle.std.proofs.lemmas.Grind.{flat_map-append}
+use Rattle.std.proofs.lemmas.Str.Parse.{IsNumeralModel, numerals_by_value, tells_all_ascii_digits}
+use Rattle.std.specs.Char.{is_ascii_digit}
+use Rattle.std.specs.Str.{all_ascii_digits}
+use Rattle.std.specs.Str.Parse.{digits_value}
+use Rattle.json.specs.Print.{escape, escape_byte}
+use Rattle.json.proofs.Printed.Strings.{escape_byte_plain}
+use Rattle.ynl_resource.specs.NameText.{is_name, is_name_byte}
+use Rattle.ynl_lines.specs.Compact.{is_word_byte}
+
+not_quote : (x : ℕ) → is_name_byte x ≡ true → x ≡ 34 → ⊥
+not_quote x h e = grind (arith, nat_tests)
+
+not_backslash : (x : ℕ) → is_name_byte x ≡ true → x ≡ 92 → ⊥
+not_backslash x h e = grind (arith, nat_tests)
+
+not_control : (x : ℕ) → is_name_byte x ≡ true → 32 ≤ x
+not_control x h = grind (arith, nat_tests)
+
+pub escape_bytes : (xs : List ℕ) → list_all is_name_byte xs ≡ true → escape xs ≡ xs
+escape_bytes [] h = refl
+escape_bytes (x ∷ xs) h =
+    let here = (and_parts (is_name_byte x) _ h).0 in
+    ap₂ (λ a b. a ++ b) (escape_byte_plain x (not_quote x here) (not_backslash x here) (not_control x here)) (escape_bytes xs (and_parts (is_name_byte x) _ h).1)
+
+-- a name needs no escape
+pub escape_name : (xs : List ℕ) → is_name xs ≡ true → escape xs ≡ xs
+escape_name xs h = escape_bytes xs (and_parts _ (list_all is_name_byte xs) h).1
+
+-- ---- numbers
+
+digit_named : (x : ℕ) → is_ascii_digit x ≡ true → is_name_byte x ≡ true
+digit_named x h = grind (arith, nat_tests)
+
+digits_named : (xs : List ℕ) → all_ascii_digits xs ≡ true → list_all is_name_byte xs ≡ true
+digits_named [] h = refl
+digits_named (x ∷ xs) h = let parts = and_parts (is_ascii_digit x) _ h in rw (digit_named x parts.0) (digits_named xs parts.1)
+
+own : IsNumeralModel (λ ds. all_ascii_digits ds ≡ true) (digits_value 10)
+own = numerals_by_value _ tells_all_ascii_digits
+
+-- nor do digits
+pub escape_number : (n : ℕ) → n < 2 ^ 64 → escape (decimal n) ≡ decimal n
+escape_number n h = escape_bytes (decimal n) (digits_named (decimal n) (digits_decimal own n h))
+
+-- nor an id: a label, `#` and a number
+pub escape_id : (label digits : List ℕ) → escape label ≡ label → escape digits ≡ digits → escape (label ++ 35 ∷ digits) ≡ label ++ 35 ∷ digits
+unfolding escape_byte
+escape_id label digits l d = flat_map-append escape_byte label (35 ∷ digits) ∙ ap₂ (λ a b. a ++ 35 ∷ b) l d
+
+-- ---- names, paths and ids
+
+word_plain : (x : ℕ) → is_word_byte x ≡ true → escape_byte x ≡ x ∷ []
+word_plain x h = escape_byte_plain x (λ e. let bad : x ≡ 34 = e in grind (arith, nat_tests)) (λ e. let bad : x ≡ 92 = e in grind (arith, nat_tests)) (grind (arith, nat_tests))
+
+pub escape_words : (xs : List ℕ) → list_all is_word_byte xs ≡ true → escape xs ≡ xs
+escape_words [] h = refl
+escape_words (x ∷ xs) h = ap₂ (λ a b. a ++ b) (word_plain x (and_parts (is_word_byte x) _ h).0) (escape_words xs (and_parts (is_word_byte x) _ h).1)
