@@ -7,9 +7,10 @@ use Rattle.serde_json.specs.View.{items_of}
 use Rattle.serde_json.specs.Written.{compact_text, comma_if, items_text}
 use Rattle.ynl_resource.specs.declared.amounts.Resource.{Resource}
 use Rattle.ynl_model.specs.declared.containers.Placed.{Placed as Container}
+use Rattle.ynl_model.specs.declared.replies.Pending.{Pending}
 use Rattle.ynl_model.specs.declared.replies.Reply.{Reply}
 use Rattle.ynl_model.specs.declared.replies.Reply.TheVariants.{Done}
-use Rattle.ynl_lines.specs.Writing.{count, master_data, placed_data, placed_reply, reply_text}
+use Rattle.ynl_lines.specs.Writing.{count, master_data, placed_data, placed_reply, pending_data, committed_reply, held_data, reply_text}
 use Rattle.ynl_lines.proofs.Sent.{left, asked_of}
 
 -- ---- pieces
@@ -134,3 +135,34 @@ several_added list old a b new at_a at_b at_new =
 pub done_added : (r : Reply) (old new : List ℕ) → r ≡ Done → old ≡ [] → new ≡ old ++ codes "{\"reply\":\"done\"}" → new ≡ reply_text r
 unfolding escape_byte
 done_added r old new is empty more = more ∙ ap (λ t. t ++ codes "{\"reply\":\"done\"}") empty ∙ ap reply_text (sym is)
+
+pub committed_added : (p : Container) (old a b new : List ℕ) → a ≡ old ++ codes "{\"container\":" → b ≡ a ++ compact_text (placed_data p) → new ≡ b ++ codes ",\"reply\":\"committed\"}"
+    → new ≡ old ++ compact_text (committed_reply p)
+unfolding escape_byte
+committed_added p old a b new at_a at_b at_new =
+    both old a new (codes "{\"container\":") _ at_a (both a b new (compact_text (placed_data p)) (codes ",\"reply\":\"committed\"}") at_b at_new)
+
+-- what is still asked for
+module _ (size : Resource) (quantity number : ℕ) where
+  abbrev pub pending_of : Data
+  pending_of =
+      object (member (codes "count") (count quantity) (member (codes "memory") (count size.memory) (member (codes "priority") (count number)
+      (member (codes "vcores") (count size.vcores) no_members))))
+
+  pub pending_added : (old a b c d new : List ℕ) → a ≡ old ++ (codes "{\"count\":" ++ decimal quantity) → b ≡ a ++ (codes ",\"memory\":" ++ decimal size.memory)
+      → c ≡ b ++ (codes ",\"priority\":" ++ decimal number) → d ≡ c ++ (codes ",\"vcores\":" ++ decimal size.vcores) → new ≡ d ++ codes "}" → new ≡ old ++ compact_text pending_of
+  unfolding escape_byte
+  pending_added old a b c d new at_a at_b at_c at_d at_new =
+      join old a (codes "{\"count\":") (decimal quantity) _ new at_a (join a b (codes ",\"memory\":") (decimal size.memory) _ new at_b
+      (join b c (codes ",\"priority\":") (decimal number) _ new at_c (join c d (codes ",\"vcores\":") (decimal size.vcores) (codes "}") new at_d at_new)))
+
+  pub pending_told : (p : Pending) → size ≡ p.size → quantity ≡ p.count → number ≡ p.priority → pending_of ≡ pending_data p
+  pending_told p is_size is_quantity is_number = rw (is_size, is_quantity, is_number) refl
+
+pub held_added : (containers : List Container) (asks : List Pending) (old a b c d new : List ℕ) → a ≡ old ++ codes "{\"asks\":["
+    → b ≡ a ++ items_text false (items_of (map pending_data asks)) → c ≡ b ++ codes ",\"containers\":[" → d ≡ c ++ items_text false (items_of (map placed_data containers))
+    → new ≡ d ++ codes ",\"reply\":\"held\"}" → new ≡ old ++ compact_text (held_data containers asks)
+unfolding escape_byte
+held_added containers asks old a b c d new at_a at_b at_c at_d at_new =
+    both old a new (codes "{\"asks\":[") _ at_a (both a b new (items_text false (items_of (map pending_data asks))) _ at_b (both b c new (codes ",\"containers\":[") _ at_c
+    (both c d new (items_text false (items_of (map placed_data containers))) (codes ",\"reply\":\"held\"}") at_d at_new)))

@@ -12,7 +12,7 @@ ghost use Rattle.ynl_lines.specs.Writing as spec;
 use crate::write::write_reply;
 use itoa::Buffer;
 use std::alloc::{AllocError, Global};
-use ynl_model::{Placed, Reply, What};
+use ynl_model::{Pending, Placed, Reply, What};
 use ynl_resource::{Id, Label, Name};
 
 /// The bytes of a name.
@@ -144,6 +144,60 @@ fn add_several(text: &mut Vec<u8>, list: &[Placed]) -> Result<(), AllocError>
     add(text, b",\"reply\":\"placed\"}")
 }
 
+/// Adds what is still asked for.
+fn add_pending(text: &mut Vec<u8>, pending: &Pending) -> Result<(), AllocError>
+    ensures { OnOk result (text.new.items ≡ text.old.items ++ compact_text (spec.pending_data pending.now)) }
+{
+    let size = pending.size.amount();
+    add_number(text, b"{\"count\":", u64::from(pending.count))?;
+    add_number(text, b",\"memory\":", size.memory)?;
+    add_number(text, b",\"priority\":", u64::from(pending.priority))?;
+    add_number(text, b",\"vcores\":", size.vcores)?;
+    add(text, b"}")
+}
+
+/// Adds one more of what is still asked for, with a comma before it where it is not the first.
+fn add_ask(text: &mut Vec<u8>, later: bool, pending: &Pending) -> Result<(), AllocError>
+    ensures { OnOk result (text.new.items ≡ text.old.items ++ (comma_if later ++ compact_text (spec.pending_data pending.now))) }
+{
+    if later {
+        add(text, b",")?;
+    }
+    add_pending(text, pending)
+}
+
+/// Adds all that is still asked for, and the bracket that ends the list.
+fn add_asks(text: &mut Vec<u8>, list: &[Pending]) -> Result<(), AllocError>
+    ensures { OnOk result (text.new.items ≡ text.old.items ++ items_text false (items_of (map spec.pending_data list.now))) }
+{
+    let mut later = false;
+    for one in list {
+        add_ask(text, later, one)?;
+        later = true;
+    }
+    add(text, b"]")
+}
+
+/// Adds the reply to a poll.
+fn add_held(text: &mut Vec<u8>, containers: &[Placed], asks: &[Pending]) -> Result<(), AllocError>
+    ensures { OnOk result (text.new.items ≡ text.old.items ++ compact_text (spec.held_data containers.now asks.now)) }
+{
+    add(text, b"{\"asks\":[")?;
+    add_asks(text, asks)?;
+    add(text, b",\"containers\":[")?;
+    add_items(text, containers)?;
+    add(text, b",\"reply\":\"held\"}")
+}
+
+/// Adds the reply to a commit.
+fn add_committed(text: &mut Vec<u8>, placed: &Placed) -> Result<(), AllocError>
+    ensures { OnOk result (text.new.items ≡ text.old.items ++ compact_text (spec.committed_reply placed.now)) }
+{
+    add(text, b"{\"container\":")?;
+    add_placed(text, placed)?;
+    add(text, b",\"reply\":\"committed\"}")
+}
+
 /// Puts the text of a reply, without the newline of its line, in the place of what `text` holds, in memory that is kept
 /// from reply to reply. Where memory is refused `text` may hold anything.
 pub fn put_reply(alloc: Global, reply: &Reply, text: &mut Vec<u8>) -> Result<(), AllocError>
@@ -153,6 +207,10 @@ pub fn put_reply(alloc: Global, reply: &Reply, text: &mut Vec<u8>) -> Result<(),
     match reply {
         Reply::Done => add(text, b"{\"reply\":\"done\"}"),
         Reply::Placed(placed) => add_several(text, placed.as_slice()),
+        Reply::Committed(placed) => add_committed(text, placed),
+        Reply::Held { containers, asks } => {
+            add_held(text, containers.as_slice(), asks.as_slice())
+        }
         _ => {
             let other = write_reply(alloc, reply)?;
             add(text, &other)

@@ -1,0 +1,10 @@
+use Rattle.std.proofs.Common.{◌≡◌, ◌++◌, drop, map, false}
+use Rattle.serde_json.specs.View.{items_of}
+use Rattle.serde_json.specs.Written.{items_text}
+use Rattle.ynl_lines.specs.Writing.{pending_data}
+use Rattle.ynl_lines.proofs.adding.add_asks.Given as goal
+
+-- with the text of those that are left it is the text of all
+abbrev pub invariant-loop-one : goal.invariant-loop-one
+invariant-loop-one l =
+    l.text.items ++ items_text l.later (items_of (map pending_data (drop l.one-index l.list))) ≡ l.initial.text.items ++ items_text false (items_of (map pending_data l.list))
