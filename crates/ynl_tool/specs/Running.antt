@@ -1,7 +1,7 @@
 -- What a run does to its reader and its writer.
-use Rattle.std.specs.Prelude.{◌≡◌, ◌⊎◌, ℕ, List, [], ◌++◌, Option, Some, None, IfSome, Result, Ok, Err, IfOk, Vec}
-use Rattle.std.specs.Global.{Global}
+use Rattle.std.specs.Prelude.{◌≡◌, ◌⊎◌, ℕ, List, [], ◌∷◌, ◌++◌, Option, Some, None, IfSome, Result, Ok, Err, IfOk}
 use Rattle.std.specs.Io.KnownBytes.{Appends, Consumes}
+use Rattle.ynl_model.specs.declared.events.Event.{Event}
 use Rattle.ynl_model.specs.Queues.{Config}
 use Rattle.ynl_model.specs.Cluster.{State}
 use Rattle.ynl_model.specs.Events.{after}
@@ -30,11 +30,10 @@ LeavesFront old new text Unclosed = ⊥
 abbrev pub IsAnswered : Config → State → World → List ℕ → Type 0 → Type 0
 IsAnswered c s next line P = ((part line).fault ≡ None) × (next ≡ record { config = c; state = after c s (part line).events }) × P
 
--- What is to be written for a line is known, or its fault.
-abbrev pub Replies : {E : Type 0} → Config → State → World → List ℕ → Result (Result (Vec ℕ Global) LineFault) E → Type 0
-Replies c s next line (Ok (Ok text)) = IsAnswered c s next line (text.items ≡ replies_text c s (part line).events)
-Replies c s next line (Ok (Err f)) = (part line).fault ≡ Some f
-Replies c s next line (Err e) = Unit {0}
+-- An event was answered in the text that is held back, or there was no memory, and then that text is as it was.
+abbrev pub HoldsReply : {X E : Type 0} → List ℕ → List ℕ → Config → State → World → Event → Result X E → Type 0
+HoldsReply old new c s next event (Ok x) = (next ≡ record { config = c; state = after c s (event ∷ []) }) × (new ≡ old ++ replies_text c s (event ∷ []))
+HoldsReply old new c s next event (Err e) = new ≡ old
 
 -- A line was answered in the text that is held back, or has a fault, or there was no memory, and then that text is as it was.
 abbrev pub Holds : {E : Type 0} → List ℕ → List ℕ → Config → State → World → List ℕ → Result (Option LineFault) E → Type 0

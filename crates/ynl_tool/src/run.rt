@@ -1,13 +1,15 @@
 //! The run: events are read line by line, and the reply to each is written.
 
-ghost use Rattle.std.specs.Prelude.{◌≡◌, ◌≢◌, ◌+◌, ◌≤◌, [], IfOk, IfErr, OnOk, OnErr};
+ghost use Rattle.std.specs.Prelude.{◌≡◌, ◌≢◌, ◌+◌, ◌++◌, ◌≤◌, [], false, IfOk, IfErr, OnOk, OnErr};
 ghost use Rattle.std.specs.Io.KnownBytes.{Appends};
 ghost use Rattle.ynl_model.specs.Cluster.{opening};
 ghost use Rattle.ynl_tool.specs.declared.run.ToolFault.TheVariants.{Read};
-ghost use Rattle.ynl_tool.specs.Input.{between, limit};
+ghost use Rattle.ynl_lines.specs.Writing.{reply_text};
+ghost use Rattle.ynl_model.specs.declared.events.Event.TheVariants.{Heartbeat};
+ghost use Rattle.ynl_tool.specs.Input.{between, is_blank, limit};
 ghost use Rattle.ynl_tool.specs.Lines.{AppendsPart};
 ghost use Rattle.ynl_tool.specs.Run.{faulty, line_of};
-ghost use Rattle.ynl_tool.specs.Running.{Replies, Holds, GoesOn, Writes, Runs, RunsWhole};
+ghost use Rattle.ynl_tool.specs.Running.{HoldsReply, Holds, GoesOn, Writes, Runs, RunsWhole};
 
 use crate::lines_in::{Lines, Next, ReadFault, is_blank};
 use crate::lines_out::{WriteFault, write_text};
@@ -15,8 +17,10 @@ use std::alloc::{AllocError, Global};
 use std::io::{BufRead, Write};
 use thiserror::Error;
 use ynl_core::{Core, NoMemory};
-use ynl_lines::{EventReader, InputFault, LineFault, write_fault, write_reply};
+use ynl_lines::{EventReader, InputFault, LineFault, heartbeat_of, put_reply, write_fault};
+use ynl_model::{Event, Reply};
 use ynl_queues::Config;
+use ynl_resource::Name;
 
 /// Why a run ended before its input did.
 #[derive(Clone, Copy, Debug, PartialEq, Eq, Error)]
@@ -97,26 +101,57 @@ pub fn with_newline(mut text: Vec<u8>) -> Result<Vec<u8>, AllocError>
     Ok(text)
 }
 
-/// Takes what a line says into the cluster, and gives the text that is written for it, which is
-/// nothing for a blank line; or gives the line's fault. Nothing but memory can be wanting here.
-fn reply_to(
+/// Adds the line of a reply to what is held back. Its text is made in `text` first, so that nothing is added where
+/// there is no memory for it.
+fn hold(
+    alloc: Global,
+    reply: &Reply,
+    text: &mut Vec<u8>,
+    held: &mut Vec<u8>,
+) -> Result<(), AllocError>
+    ensures ok { OnOk result (held.new.items ≡ held.old.items ++ line_of (reply_text reply.now)) }
+    ensures err { OnErr result (held.new.items ≡ held.old.items) }
+{
+    put_reply(alloc, reply, text)?;
+    text.push(b'\n')?;
+    held.extend_from_slice(text)
+}
+
+/// Answers a heartbeat. It stands alone, since a function clears the room of each event that it holds, and most lines
+/// are heartbeats.
+fn answer_heartbeat(
+    alloc: Global,
+    core: &mut Core,
+    node: Name,
+    text: &mut Vec<u8>,
+    held: &mut Vec<u8>,
+) -> Result<(), NoMemory>
+    ensures { HoldsReply held.old.items held.new.items core.old.config core.old.state core.new (Heartbeat node) result }
+{
+    let reply = core.apply(Event::Heartbeat { node })?;
+    hold(alloc, &reply, text, held)?;
+    Ok(())
+}
+
+/// Answers a line that is not blank.
+fn answer_event(
     alloc: Global,
     events: &mut EventReader,
     core: &mut Core,
     line: &[u8],
-) -> Result<Result<Vec<u8>, LineFault>, NoMemory>
-    ensures { Replies core.old.config core.old.state core.new line.now result }
+    text: &mut Vec<u8>,
+    held: &mut Vec<u8>,
+) -> Result<Option<LineFault>, NoMemory>
+    requires { is_blank line.now ≡ false }
+    ensures { Holds held.old.items held.new.items core.old.config core.old.state core.new line.now result }
 {
-    if is_blank(line) {
-        return Ok(Ok(Vec::new(alloc)));
-    }
     let event = match events.read(alloc, line)? {
         Ok(event) => event,
-        Err(fault) => return Ok(Err(fault)),
+        Err(fault) => return Ok(Some(fault)),
     };
     let reply = core.apply(event)?;
-    let text = write_reply(alloc, &reply)?;
-    Ok(Ok(with_newline(text)?))
+    hold(alloc, &reply, text, held)?;
+    Ok(None)
 }
 
 /// How long the text may get that is held back, in bytes, before it is written ahead of the next line.
@@ -128,16 +163,20 @@ fn answer(
     events: &mut EventReader,
     core: &mut Core,
     line: &[u8],
+    text: &mut Vec<u8>,
     held: &mut Vec<u8>,
 ) -> Result<Option<LineFault>, NoMemory>
     ensures { Holds held.old.items held.new.items core.old.config core.old.state core.new line.now result }
 {
-    match reply_to(alloc, events, core, line)? {
-        Ok(text) => {
-            held.extend_from_slice(&text)?;
+    if is_blank(line) {
+        return Ok(None);
+    }
+    match heartbeat_of(line) {
+        Some(node) => {
+            answer_heartbeat(alloc, core, node, text, held)?;
             Ok(None)
         }
-        Err(fault) => Ok(Some(fault)),
+        None => answer_event(alloc, events, core, line, text, held),
     }
 }
 
@@ -181,6 +220,7 @@ fn answer_lines<R: BufRead, W: Write>(
 {
     let mut input = Lines::new(alloc);
     let mut events = EventReader::new(alloc);
+    let mut text = Vec::new(alloc);
     let mut held = Vec::new(alloc);
     'lines: loop {
         match go_on(&mut input, reader, &mut held, writer)? {
@@ -194,7 +234,7 @@ fn answer_lines<R: BufRead, W: Write>(
             }),
             Next::Line => {}
         }
-        match answer(alloc, &mut events, core, &input.line, &mut held) {
+        match answer(alloc, &mut events, core, &input.line, &mut text, &mut held) {
             Ok(None) => {}
             Ok(Some(fault)) => {
                 write_held(writer, &mut held)?;
