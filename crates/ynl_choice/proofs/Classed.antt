@@ -97,9 +97,9 @@ any-none f (x ∷ xs) none h = go (f x) refl h (any-none f xs none.1)
 pub placed-alike : (scene : Scene) (a b : Item) → a.leaf ≡ b.leaf → a.user ≡ b.user → is_master_what a.what ≡ is_master_what b.what → a.size ≡ b.size → passes scene a ≡ passes scene b
 placed-alike scene a b leaf user what size = go scene.as_guests
   where
-    go : (guests : Bool) → cond guests (has_room (state_in scene) scene.node a.size) (is_eligible scene.config.now (state_in scene) scene.node a) ≡ cond guests (has_room (state_in scene) scene.node b.size) (is_eligible scene.config.now (state_in scene) scene.node b)
-    go true = ap (has_room (state_in scene) scene.node) size
-    go false = are_classes_eligible scene.config.now (state_in scene) scene.node a b (λ i. record { leaf = leaf i; user = user i; is_master = what i; size = size i })
+    go : (guests : Bool) → cond guests (has_room (state_in scene) scene.node.now a.size) (is_eligible scene.config.now (state_in scene) scene.node.now a) ≡ cond guests (has_room (state_in scene) scene.node.now b.size) (is_eligible scene.config.now (state_in scene) scene.node.now b)
+    go true = ap (has_room (state_in scene) scene.node.now) size
+    go false = are_classes_eligible scene.config.now (state_in scene) scene.node.now a b (λ i. record { leaf = leaf i; user = user i; is_master = what i; size = size i })
 
 -- what an application waits for of a class, and whether it may be placed
 pub record IsToldBy (scene : Scene) (leaf : Path) (what : What) (waits : Class → Turn → App → Bool) (gather : List App → List Item) : Type 0 where

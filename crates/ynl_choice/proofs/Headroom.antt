@@ -30,32 +30,32 @@ allows-less headroom least size less may =
     and_from headroom.is_open (fits_in least headroom.room) parts.0 (fits-trans least size headroom.room less parts.1)
 
 -- a request that is eligible stays within the maxima
-eligible-within : (scene : Scene) (item : Item) → is_eligible scene.config.now (state_in scene) scene.node item ≡ true → within_maximum (state_in scene) scene.node.label item ≡ true
+eligible-within : (scene : Scene) (item : Item) → is_eligible scene.config.now (state_in scene) scene.node.now item ≡ true → within_maximum (state_in scene) scene.node.now.label item ≡ true
 unfolding is_eligible
 eligible-within scene item h =
-    let room = has_room (state_in scene) scene.node item.size in
-    let most = within_maximum (state_in scene) scene.node.label item in
-    let user = within_user_limit scene.config.now (state_in scene) scene.node.label item in
-    (and_parts room most (and_parts (room && most) user (and_parts (room && most && user) (within_master_share scene.config.now (state_in scene) scene.node.label item.leaf item.what item.size) h).0).0).1
+    let room = has_room (state_in scene) scene.node.now item.size in
+    let most = within_maximum (state_in scene) scene.node.now.label item in
+    let user = within_user_limit scene.config.now (state_in scene) scene.node.now.label item in
+    (and_parts room most (and_parts (room && most) user (and_parts (room && most && user) (within_master_share scene.config.now (state_in scene) scene.node.now.label item.leaf item.what item.size) h).0).0).1
 
 -- and so does one that may be placed, and is no guest
-within : (scene : Scene) (item : Item) → scene.as_guests ≡ false → passes scene item ≡ true → within_maximum (state_in scene) scene.node.label item ≡ true
-within scene item none may = eligible-within scene item (subst (λ b. cond b (has_room (state_in scene) scene.node item.size) (is_eligible scene.config.now (state_in scene) scene.node item) ≡ true) none may)
+within : (scene : Scene) (item : Item) → scene.as_guests ≡ false → passes scene item ≡ true → within_maximum (state_in scene) scene.node.now.label item ≡ true
+within scene item none may = eligible-within scene item (subst (λ b. cond b (has_room (state_in scene) scene.node.now item.size) (is_eligible scene.config.now (state_in scene) scene.node.now item) ≡ true) none may)
 
 -- so the headroom takes it
 taken : (scene : Scene) (item : Item) (limits : LeafUse) → IsScene scene → scene.as_guests ≡ false → IsLeafUse scene.config.now (state_in scene) scene.label item.leaf limits → passes scene item ≡ true → allows limits.headroom item.size ≡ true
 unfolding within_maximum
 taken scene item limits h none known may =
     known.headroom item.size
-    ∙ ap (λ (label : Label). within_maximum (state_in scene) label item) (h.label ∙ ap (λ (guests : Bool). label_for guests scene.node) none)
+    ∙ ap (λ (label : Label). within_maximum (state_in scene) label item) (h.label ∙ ap (λ (guests : Bool). label_for guests scene.node.now) none)
     ∙ within scene item none may
 
 -- where there is no room for the least of a part nothing of it may be placed
 pub none-unless-fits : (scene : Scene) (leaf : Path) (what : What) (part : Part) (waits : Class → Turn → Bool) → IsScene scene → IsPartOf scene waits part → (may : Bool) → may ≡ fits_in part.least scene.free → OnFalse may (IsFirstTurn (is_placeable scene leaf what) waits None)
 none-unless-fits scene leaf what part waits h of true e = tt
-none-unless-fits scene leaf what part waits h of false e = none-above scene leaf what part waits of (λ class turn there may. go class may (part.none_below class.user class.size turn there) (has_room (state_in scene) scene.node class.size) refl)
+none-unless-fits scene leaf what part waits h of false e = none-above scene leaf what part waits of (λ class turn there may. go class may (part.none_below class.user class.size turn there) (has_room (state_in scene) scene.node.now class.size) refl)
   where
-    go : (class : Class) → passes scene (item_for leaf what class) ≡ true → fits_in part.least class.size ≡ true → (b : Bool) → has_room (state_in scene) scene.node class.size ≡ b → ⊥
+    go : (class : Class) → passes scene (item_for leaf what class) ≡ true → fits_in part.least class.size ≡ true → (b : Bool) → has_room (state_in scene) scene.node.now class.size ≡ b → ⊥
     go class may below false k = true≢false (sym may ∙ no_room scene (item_for leaf what class) k)
     go class may below true k = true≢false (sym (fits-trans part.least class.size scene.free below (ap (fits_in class.size) h.free ∙ k)) ∙ sym e)
 

@@ -1,7 +1,6 @@
 -- Blocks of leaves, and what is known of all leaves of one.
 use Rattle.std.proofs.Common.{◌≡◌, ℕ, ◌+◌, ◌*◌, ◌/◌, ◌<◌, ◌≤◌, Bool, true, false, List, [], length, cond, get_or, Option, Some, None, refl, sym, ap, subst, ◌∙◌, arith, eqb}
 use Rattle.std.specs.Prelude.{IfSome}
-use Rattle.std.specs.Option.{option_map_or}
 use Rattle.std.proofs.Math.ListN.{set}
 use Rattle.std.proofs.Math.Nat.{div-lt_iff_lt-mul, le-div_iff_mul-le}
 use Rattle.std.proofs.lemmas.Bool.Decides.{nat_tests}
@@ -15,7 +14,7 @@ use Rattle.ynl_model.specs.Queues.{Config}
 use Rattle.ynl_laws.specs.Lulls.{IsLull}
 use Rattle.ynl_choice.specs.declared.lulls.Lull.{Lull}
 use Rattle.ynl_choice.specs.declared.blocks.PartLulls.{PartLulls}
-use Rattle.ynl_choice.specs.Blocks.{block_size, is_still, Implies, AreBlocks}
+use Rattle.ynl_choice.specs.Blocks.{block_size, is_still, is_told_still, Implies, AreBlocks}
 use Rattle.ynl_choice.specs.Lulls.{lull_at, AreLulls, IsPartAt, IsStill}
 use Rattle.ynl_choice.specs.declared.lulls.Lulls.{Lulls}
 use Rattle.ynl_choice.proofs.Known.{told_at}
@@ -92,17 +91,26 @@ told part k known = ap (λ b. get_or (cond b part.leaves.items []) k None) known
 
 -- the leaves of a block of which all is known
 pub block_still : (part : PartLulls) (place : ℕ) (all : Lull) (free : Resource) → part.is_known ≡ true → AreBlocks part.leaves.items part.blocks.items → get_or part.blocks.items (place / block_size) None ≡ Some all → is_still all free ≡ true
-    → (k : ℕ) → place ≤ k → k < place / block_size * block_size + block_size → k < length part.leaves.items → option_map_or (λ lull. is_still lull free) (lull_at part k) false ≡ true
+    → (k : ℕ) → place ≤ k → k < place / block_size * block_size + block_size → k < length part.leaves.items → is_told_still (lull_at part k) free ≡ true
 block_still part place all free known h here still k above below inside =
     let low : place / block_size * block_size ≤ k = (let own = in_block place in omega (arith, own.0, above)) in
     let under : Under all part.leaves.items k = subst (λ o. IfSome o (λ (lull : Lull). Under lull part.leaves.items k)) here (h (place / block_size) k low below inside) in
-    subst (λ o. option_map_or (λ lull. is_still lull free) o false ≡ true) (sym (told part k known)) (under free still)
+    subst (λ o. is_told_still o free ≡ true) (sym (told part k known)) (under free still)
+
+-- those of a block of which it is told
+pub block_told : (part : PartLulls) (place : ℕ) (free : Resource) → part.is_known ≡ true → AreBlocks part.leaves.items part.blocks.items → is_told_still (get_or part.blocks.items (place / block_size) None) free ≡ true
+    → (k : ℕ) → place ≤ k → k < place / block_size * block_size + block_size → k < length part.leaves.items → is_told_still (lull_at part k) free ≡ true
+block_told part place free known h said k above below inside = go (get_or part.blocks.items (place / block_size) None) refl said
+  where
+    go : (o : Option Lull) → get_or part.blocks.items (place / block_size) None ≡ o → is_told_still o free ≡ true → is_told_still (lull_at part k) free ≡ true
+    go None here said = absurd (true≢false (sym said))
+    go (Some all) here said = block_still part place all free known h here said k above below inside
 
 -- a leaf of which it is told has such a lull
 pub told_still : (c : Config) (s : State) (lulls : Lulls) (label : Label) (at k : ℕ) (d : LeafApps) (part : PartLulls) (free : Resource) → AreLulls c s lulls → IsPartAt lulls label at → at < length lulls.parts.items → k < length s.leaves
-    → part ≡ get_or lulls.parts.items at part → option_map_or (λ lull. is_still lull free) (lull_at part k) false ≡ true → IsStill c s label (get_or s.leaves k d).leaf free
+    → part ≡ get_or lulls.parts.items at part → is_told_still (lull_at part k) free ≡ true → IsStill c s label (get_or s.leaves k d).leaf free
 told_still c s lulls label at k d part free h own inside below read still = go (lull_at part k) (told_at c s lulls label at k d part (lull_at part k) h own inside below read refl) still
   where
-    go : (o : Option Lull) → IfSome o (λ lull. IsLull c s label (get_or s.leaves k d).leaf lull.least lull.room) → option_map_or (λ lull. is_still lull free) o false ≡ true → IsStill c s label (get_or s.leaves k d).leaf free
+    go : (o : Option Lull) → IfSome o (λ lull. IsLull c s label (get_or s.leaves k d).leaf lull.least lull.room) → is_told_still o free ≡ true → IsStill c s label (get_or s.leaves k d).leaf free
     go None is still = absurd (true≢false (sym still))
     go (Some lull) is still = record { lull = lull; is = is; still = still }

@@ -1,6 +1,8 @@
 -- Leaves that stand behind those below the queue that stands first.
-use Rattle.std.proofs.Common.{◌≡◌, ℕ, zero, suc, ◌+◌, ◌<◌, ◌≤◌, Bool, true, false, List, [], ◌∷◌, length, get_or, take, drop, map, fold, nat_lt, refl, sym, ap, subst, ◌∙◌, arith, add-one, take-take, length-take-le}
+use Rattle.std.proofs.Common.{◌≡◌, ℕ, zero, suc, ◌+◌, ◌<◌, ◌≤◌, Bool, true, false, List, [], ◌∷◌, length, get_or, take, drop, map, fold, nat_lt, Option, Some, None, refl, sym, ap, subst, ◌∙◌, arith, add-one, take-take, length-take-le}
+use Rattle.std.specs.Borrow.{Bor}
 use Rattle.std.specs.Cmp.{IsTotalOrder}
+use Rattle.std.specs.Prelude.{IfSome}
 use Rattle.std.specs.Cmp.Lexicographic.{slice_cmp, lists_total}
 use Rattle.std.specs.Ordering.{is_lt, ordering_then, ordering_reverse}
 use Rattle.std.specs.declared.cmp.Ordering.{Ordering}
@@ -27,7 +29,7 @@ use Rattle.ynl_choice.specs.declared.likely.Lead.{Lead}
 use Rattle.ynl_choice.specs.declared.likely.Mark.{Mark}
 use Rattle.ynl_choice.specs.declared.scenes.Scene.{Scene}
 use Rattle.ynl_choice.specs.Candidates.{stands_of}
-use Rattle.ynl_choice.specs.Choosing.{state_in, standings_to, guaranteed_after, IsScene}
+use Rattle.ynl_choice.specs.Choosing.{state_in, standings_to, guaranteed_after, AreStepsOf, IsScene}
 use Rattle.ynl_choice.specs.Likely.{path_at, comes_before, AreBehind, AreBelow, IsMark, IsLead}
 use Rattle.ynl_choice.specs.Lulls.{AreQuiet}
 use Rattle.ynl_choice.proofs.Before.{step-more, way-at}
@@ -58,7 +60,7 @@ row-path scene at place inside row read =
     path-read scene.tables.now.leaves.items (leaf_paths scene.tables.now.numbers) place row (paths_read scene.tables.now at.readable) inside ∙ ap (λ (row : LeafRow). row.path) (sym read)
 
 -- the steps to the queue that a leaf is are those to the leaf
-pub steps-to : (scene : Scene) → IsScene scene → (place at : ℕ) (steps : List ℕ) → at < length scene.tables.now.numbers → get_or scene.tables.now.numbers at root ≡ path_at scene place
+steps-to : (scene : Scene) → IsScene scene → (place at : ℕ) (steps : List ℕ) → at < length scene.tables.now.numbers → get_or scene.tables.now.numbers at root ≡ path_at scene place
     → ((d : QueueRow) → AreSteps scene.config.now.queues (get_or scene.config.now.queues at d).path steps) → AreSteps scene.config.now.queues (path_at scene place) steps
 steps-to scene is place at steps inside same found =
     let rows : List QueueRow = scene.config.now.queues in
@@ -66,6 +68,11 @@ steps-to scene is place at steps inside same found =
     let path : (get_or rows at no_row).path ≡ path_at scene place =
     sym (get_or-map (λ (row : QueueRow). row.path) rows at no_row root within) ∙ ap (λ (paths : List Path). get_or paths at root) (sym is.numbered) ∙ same in
     subst (λ (queue : Path). AreSteps rows queue steps) path (found no_row)
+
+pub steps-known : (scene : Scene) → IsScene scene → (place at : ℕ) (steps : Option (Bor (List ℕ))) → at < length scene.tables.now.numbers → get_or scene.tables.now.numbers at root ≡ path_at scene place
+    → IfSome steps (λ steps. (d : QueueRow) → AreSteps scene.config.now.queues (get_or scene.config.now.queues at d).path steps.now) → AreStepsOf scene (path_at scene place) steps
+steps-known scene is place at None inside same found = tt
+steps-known scene is place at (Some steps) inside same found = steps-to scene is place at steps.now inside same found
 
 -- what is guaranteed after so many queues hangs on these
 pub same-guaranteed : (scene : Scene) (p q : Path) (depth : ℕ) → take depth p ≡ take depth q → guaranteed_after scene p depth ≡ guaranteed_after scene q depth

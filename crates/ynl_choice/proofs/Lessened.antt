@@ -103,8 +103,8 @@ module _ (scene : Scene) (leaf : Path) (what : What) (user : Name) (less size : 
   abbrev greater : Item
   greater = item_of_size leaf what user size
 
-  room-less : has_room (state_in scene) scene.node size ≡ true → has_room (state_in scene) scene.node less ≡ true
-  room-less h = fits-trans less size (free (state_in scene) scene.node) at h
+  room-less : has_room (state_in scene) scene.node.now size ≡ true → has_room (state_in scene) scene.node.now less ≡ true
+  room-less h = fits-trans less size (free (state_in scene) scene.node.now) at h
 
   maximum-less : (l : LeafUse) → IsLeafUse scene.config.now (state_in scene) scene.label leaf l → within_maximum (state_in scene) scene.label greater ≡ true → within_maximum (state_in scene) scene.label lesser ≡ true
   unfolding within_maximum
@@ -143,9 +143,9 @@ module _ (scene : Scene) (leaf : Path) (what : What) (user : Name) (less size : 
 
   -- what may be placed may be placed where it is less
   pub passes-less : (tests : Option LeafUse) → IsScene scene → AreTests scene leaf tests → passes scene greater ≡ true → passes scene lesser ≡ true
-  passes-less tests is known h = go (has_room (state_in scene) scene.node size) refl
+  passes-less tests is known h = go (has_room (state_in scene) scene.node.now size) refl
     where
-      go : (b : Bool) → has_room (state_in scene) scene.node size ≡ b → passes scene lesser ≡ true
+      go : (b : Bool) → has_room (state_in scene) scene.node.now size ≡ b → passes scene lesser ≡ true
       go false e = absurd (true≢false (sym h ∙ no_room scene greater e))
       go true e =
           let parts = and_parts (fits_leaf scene greater) (fits_user scene greater) (sym (passes-by scene greater is.label e) ∙ h) in

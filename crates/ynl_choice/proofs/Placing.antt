@@ -1,5 +1,5 @@
 -- What queues are given and use, read by their places.
-use Rattle.std.proofs.Common.{◌≡◌, ℕ, zero, suc, ◌+◌, ◌<◌, List, [], ◌∷◌, length, get_or, map, take, fold, refl, sym, ap, subst, ◌∙◌, arith, add-one, Option}
+use Rattle.std.proofs.Common.{◌≡◌, ℕ, zero, suc, ◌+◌, ◌<◌, Bool, true, false, cond, List, [], ◌∷◌, length, get_or, map, find, take, fold, refl, sym, ap, subst, ◌∙◌, arith, add-one, Option, Some}
 use Rattle.std.specs.Option.{option_map_or}
 use Rattle.std.proofs.lemmas.List.{get_or-map, length-map, take-map}
 use Rattle.ynl_resource.specs.Amounts.{scale_floor}
@@ -26,6 +26,14 @@ use Rattle.ynl_choice.specs.Boards.{AreUsersOf, IsBoard}
 pub no_row : QueueRow
 no_row = record { path = []; stopped = Rattle.std.proofs.Common.false; capacity = 0; maximum = 0; access = queues.Inherited; leaf = record { default_label = Rattle.ynl_resource.specs.declared.labels.Label.TheVariants.Unlabelled; minimum_user_limit_percent = 0; user_limit_factor = 0; maximum_am_resource_percent = 0; maximum_applications = 0 }; capacities = [] }
 
+-- what passes first is what is found
+pub first_there : {X : Type 0} (p : X → Bool) (xs : List X) (i : ℕ) (d : X) → i < length xs → p (get_or xs i d) ≡ true → ((k : ℕ) → k < i → p (get_or xs k d) ≡ false) → find p xs ≡ Some (get_or xs i d)
+first_there p [] i d inside here before = absurd (omega arith)
+first_there p (x ∷ xs) zero d inside here before = λ k. cond (here k) (Some x) (find p xs)
+first_there p (x ∷ xs) (suc i) d inside here before =
+    (λ k. cond (before 0 (omega arith) k) (Some x) (find p xs))
+    ∙ first_there p xs i d (omega arith) here (λ k below. before (suc k) (omega (arith, below)))
+
 module _ (c : Config) (s : State) (label : Label) (board : Board) (h : IsBoard c s label board) (queue : Path) (place : ℕ) (at : IsPlaceOf c.queues queue place) where
   pub capacity_at : (d : ℕ) → get_or board.capacities.now place d ≡ capacity_on c queue label
   capacity_at d =
@@ -47,6 +55,10 @@ module _ (c : Config) (s : State) (label : Label) (board : Board) (h : IsBoard c
       let is : get_or (root ∷ queues) (place + 1) root ≡ queue =
       ap (λ (n : ℕ). get_or (root ∷ queues) n root) (add-one place) ∙ get_or-map (λ (row : QueueRow). row.path) c.queues place no_row root at.inside ∙ place_path c.queues queue place at no_row in
       subst (λ (q : Path). AreUsersOf s label q sums) is (h.users.each (place + 1) sums (omega (arith, h.users.len, inside)) read)
+
+-- root's use is the first
+pub use_first : (c : Config) (s : State) (label : Label) (board : Board) → IsBoard c s label board → (d : Use) → get_or board.uses.now 0 d ≡ use_of s label root
+use_first c s label board h d = ap (λ (xs : List Use). get_or xs 0 d) h.uses
 
 -- ---- on the way
 

@@ -87,7 +87,7 @@ quiet-held scene held items none keyed = record { is = sym (ap (fold (sooner (ke
 -- ---- what may be placed, by the limits of the leaf itself
 
 -- a request that has room and stays within the maxima passes where it keeps the limits of its user and of the masters
-own-limits : (scene : Scene) (item : Item) → IsScene scene → scene.as_guests ≡ false → has_room (state_in scene) scene.node item.size ≡ true
+own-limits : (scene : Scene) (item : Item) → IsScene scene → scene.as_guests ≡ false → has_room (state_in scene) scene.node.now item.size ≡ true
     → passes scene item ≡ ((within_maximum (state_in scene) scene.label item && within_master_share scene.config.now (state_in scene) scene.label item.leaf item.what item.size) && within_user_limit scene.config.now (state_in scene) scene.label item)
 own-limits scene item h own room =
     passes-by scene item h.label room
@@ -108,9 +108,9 @@ only-share false t u e h = absurd (true≢false (sym e))
 
 -- nothing of a leaf passes where all its requests are above what is free
 fails-above : (scene : Scene) → IsScene scene → (item : Item) (least : Resource) → fits_in least scene.free ≡ false → fits_in least item.size ≡ true → passes scene item ≡ false
-fails-above scene h item least above below = go (has_room (state_in scene) scene.node item.size) refl
+fails-above scene h item least above below = go (has_room (state_in scene) scene.node.now item.size) refl
   where
-    go : (b : Bool) → has_room (state_in scene) scene.node item.size ≡ b → passes scene item ≡ false
+    go : (b : Bool) → has_room (state_in scene) scene.node.now item.size ≡ b → passes scene item ≡ false
     go false e = no_room scene item e
     go true e = absurd (true≢false (sym (fits-trans least item.size scene.free below (ap (fits_in item.size) h.free ∙ e)) ∙ above))
 
@@ -122,7 +122,7 @@ module _ (scene : Scene) (h : IsScene scene) (own : scene.as_guests ≡ false) w
       → passes scene item ≡ false → fits_in item.size room ≡ true → keeps_own_limits scene.config.now (state_in scene) scene.label item ≡ false
   unfolding within_maximum
   over-own item limits room known opened free headroom fails fits =
-      let has : has_room (state_in scene) scene.node item.size ≡ true = ap (fits_in item.size) (sym h.free) ∙ fits-trans item.size room scene.free fits free in
+      let has : has_room (state_in scene) scene.node.now item.size ≡ true = ap (fits_in item.size) (sym h.free) ∙ fits-trans item.size room scene.free fits free in
       let taken : allows limits.headroom item.size ≡ true = and_from limits.headroom.is_open (fits_in item.size limits.headroom.room) opened (fits-trans item.size room limits.headroom.room fits headroom) in
       only-share (within_maximum (state_in scene) scene.label item) (within_master_share scene.config.now (state_in scene) scene.label item.leaf item.what item.size) (within_user_limit scene.config.now (state_in scene) scene.label item)
       (sym (known.headroom item.size) ∙ taken) (sym (own-limits scene item h own has) ∙ fails)
@@ -146,9 +146,9 @@ module _ (scene : Scene) (h : IsScene scene) (own : scene.as_guests ≡ false) w
 
   -- or where what is free is within the room in which none keeps its limits
   fails-within : (item : Item) (room : Resource) → fits_in scene.free room ≡ true → (fits_in item.size room ≡ true → keeps_own_limits scene.config.now (state_in scene) scene.label item ≡ false) → passes scene item ≡ false
-  fails-within item room within none = go (has_room (state_in scene) scene.node item.size) refl
+  fails-within item room within none = go (has_room (state_in scene) scene.node.now item.size) refl
     where
-      go : (b : Bool) → has_room (state_in scene) scene.node item.size ≡ b → passes scene item ≡ false
+      go : (b : Bool) → has_room (state_in scene) scene.node.now item.size ≡ b → passes scene item ≡ false
       go false e = no_room scene item e
       go true e =
           own-limits scene item h own e

@@ -43,7 +43,7 @@ turned x y h = ap is_gt (turn_order_total.antisymm y x) ∙ go (turn_order x y) 
 -- ---- one request
 
 -- what has room may be placed where the limits of the leaf and of its user allow it
-pub passes-by : (scene : Scene) (item : Item) → scene.label ≡ label_for scene.as_guests scene.node → has_room (state_in scene) scene.node item.size ≡ true → passes scene item ≡ (fits_leaf scene item && fits_user scene item)
+pub passes-by : (scene : Scene) (item : Item) → scene.label ≡ label_for scene.as_guests scene.node.now → has_room (state_in scene) scene.node.now item.size ≡ true → passes scene item ≡ (fits_leaf scene item && fits_user scene item)
 unfolding is_eligible
 passes-by scene item label room = go scene.as_guests label
   where
@@ -66,12 +66,12 @@ passes-by scene item label room = go scene.as_guests label
     turned true false false = refl
     turned false u t = refl
 
-    go : (guests : Bool) → scene.label ≡ label_for guests scene.node
-        → cond guests (has_room s scene.node item.size) (is_eligible c s scene.node item) ≡ ((guests || (within_maximum s scene.label item && within_master_share c s scene.label leaf what item.size)) && (guests || within_user_limit c s scene.label item))
+    go : (guests : Bool) → scene.label ≡ label_for guests scene.node.now
+        → cond guests (has_room s scene.node.now item.size) (is_eligible c s scene.node.now item) ≡ ((guests || (within_maximum s scene.label item && within_master_share c s scene.label leaf what item.size)) && (guests || within_user_limit c s scene.label item))
     go true e = room
     go false e =
-        ap (λ b. b && within_maximum s scene.node.label item && within_user_limit c s scene.node.label item && within_master_share c s scene.node.label leaf what item.size) room
-        ∙ turned (within_maximum s scene.node.label item) (within_user_limit c s scene.node.label item) (within_master_share c s scene.node.label leaf what item.size)
+        ap (λ b. b && within_maximum s scene.node.now.label item && within_user_limit c s scene.node.now.label item && within_master_share c s scene.node.now.label leaf what item.size) room
+        ∙ turned (within_maximum s scene.node.now.label item) (within_user_limit c s scene.node.now.label item) (within_master_share c s scene.node.now.label leaf what item.size)
         ∙ ap (λ p. (within_maximum s p item && within_master_share c s p leaf what item.size) && within_user_limit c s p item) (sym e)
 
 -- ---- what else waits

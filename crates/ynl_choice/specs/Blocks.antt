@@ -13,9 +13,13 @@ block_size = 16
 abbrev pub is_still : Lull → Resource → Bool
 is_still lull free = not (fits_in lull.least free) || fits_in free lull.room
 
+-- whether a lull is known that says so
+abbrev pub is_told_still : Option Lull → Resource → Bool
+is_told_still known free = option_map_or (λ lull. is_still lull free) known false
+
 -- wherever a lull says so, there is another that says so too
 abbrev pub Implies : Lull → Option Lull → Type 0
-Implies lull other = (free : Resource) → is_still lull free ≡ true → option_map_or (λ known. is_still known free) other false ≡ true
+Implies lull other = (free : Resource) → is_still lull free ≡ true → is_told_still other free ≡ true
 
 -- what is known of a block is known of each of its leaves
 abbrev pub AreBlocks : List (Option Lull) → List (Option Lull) → Type 0

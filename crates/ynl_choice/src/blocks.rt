@@ -3,7 +3,7 @@
 ghost use Rattle.std.proofs.Props.{props};
 ghost use Rattle.std.specs.Prelude.{◌≡◌, ℕ, ◌<◌, ◌≤◌, ◌+◌, true, None, Some, IfOk, IfSome, length, slice_index_or};
 ghost use Rattle.ynl_resource.specs.Amounts.{fits_in};
-ghost use Rattle.ynl_choice.specs.Blocks.{block_size, is_still, Implies, AreBlocks};
+ghost use Rattle.ynl_choice.specs.Blocks.{block_size, is_still, is_told_still, Implies, AreBlocks};
 
 use crate::lulls::Lull;
 use std::alloc::{AllocError, Global};
@@ -86,6 +86,32 @@ pub(crate) fn all_from(leaves: &[Option<Lull>], from: usize, free: &Resource) ->
         all = both(&all, &with_room(lull, free));
     }
     Some(all)
+}
+
+/// Whether a lull is known that says that nothing may be placed where so much is free.
+pub(crate) fn is_told_still(lull: &Option<Lull>, free: &Resource) -> bool
+    ensures { result ≡ is_told_still lull.now free.now }
+{
+    match lull {
+        Some(known) => known.holds_for(free),
+        None => false,
+    }
+}
+
+/// The first of the leaves from one place on and before another of which no such lull is known; or the other place.
+pub(crate) fn open_among(leaves: &[Option<Lull>], from: usize, end: usize, free: &Resource) -> usize
+    requires order { from ≤ end }
+    requires end { end ≤ length leaves.now }
+    ensures after { from ≤ result }
+    ensures inside { result ≤ end }
+    ensures still { (k : ℕ) → from ≤ k → k < result → is_told_still (slice_index_or leaves.now k None) free.now ≡ true }
+{
+    for place in from..end {
+        if !is_told_still(&leaves[place], free) {
+            return place;
+        }
+    }
+    end
 }
 
 /// So many of which nothing is known.

@@ -2,6 +2,7 @@
 
 ghost use Rattle.std.specs.Prelude.{◌≡◌, IfSome};
 ghost use Rattle.ynl_laws.specs.Uses.{use_of};
+ghost use Rattle.ynl_resource.specs.Names.{root};
 ghost use Rattle.ynl_queues.specs.Index.{IsPlaceOf};
 ghost use Rattle.ynl_tables.specs.Bounds.{IsBounded, IsTotal};
 ghost use Rattle.ynl_tables.specs.Kept.{IsKept};
@@ -12,7 +13,7 @@ ghost use Rattle.ynl_choice.specs.Boards.{AreUsersOf, IsBoard};
 use ynl_model::Use;
 use ynl_queues::Config;
 use ynl_resource::{Hundredths, Label, Name};
-use ynl_tables::{Sums, Tables, partition_place, users_on, uses_on};
+use ynl_tables::{Sums, Tables, partition_place};
 
 /// What the capacities of queues on a partition are, by their places in the configuration; what is kept of their
 /// use of it and of their users', of which root's is the first; and where the partition stands, DEFAULT first.
@@ -30,21 +31,26 @@ pub fn board_of<'a>(config: &'a Config, tables: &'a Tables, label: &Label) -> Op
     requires numbered { AreQueuesOf config.now tables.now.numbers }
     ensures { IfSome result (IsBoard config.now (state_of tables.now) label.now) }
 {
-    let Some(capacities) = config.capacities(label) else {
-        return None;
-    };
-    let Some(uses) = uses_on(tables, label) else {
-        return None;
-    };
-    let Some(users) = users_on(tables, label) else {
-        return None;
-    };
+    let capacities = config.capacities(label)?;
+    let rows = tables.partitions.as_slice();
+    let place = partition_place(rows, label)?;
+    let row = &rows[place];
     Some(Board {
         capacities,
-        uses,
-        users,
-        partition: partition_place(&tables.partitions, label).unwrap_or(0),
+        uses: &row.uses,
+        users: &row.users,
+        partition: place,
     })
+}
+
+/// What is kept of root's use.
+pub fn use_of_root(config: &Config, tables: &Tables, board: &Board<'_>, label: &Label) -> Use
+    requires bounded { IsBounded (state_of tables.now) }
+    requires board { IsBoard config.now (state_of tables.now) label.now board.now }
+    ensures value { result ≡ use_of (state_of tables.now) label.now root }
+    ensures small { IsTotal result.used }
+{
+    board.uses[0]
 }
 
 /// What is kept of the use of the queue at a place.

@@ -18,7 +18,7 @@ ghost use Rattle.ynl_choice.specs.Lulls.{AreLulls, IsPartAt, NonePass};
 ghost use Rattle.ynl_choice.specs.declared.standings.Candidate.{Candidate as Held};
 
 use crate::boards::board_of;
-use crate::going::{next_leaf, next_open};
+use crate::going::{next_leaf, next_open, steps_to};
 use crate::leaves::{add_asks, add_leaf};
 use crate::likely::{Guess, likely_leaf};
 use crate::lulls::Lulls;
@@ -53,7 +53,8 @@ fn add_at<'a>(
     ensures next { IsNext scene.now passed.new place result }
 {
     let rows = scene.tables.leaves.as_slice();
-    let lull = add_leaf(scene, &rows[place], passed, held);
+    let steps = steps_to(scene, place);
+    let lull = add_leaf(scene, &rows[place], steps, passed, held);
     lulls.note(at, place, &lull);
     next_leaf(scene, place, passed)
 }
@@ -132,6 +133,22 @@ fn hold_best_at<'a>(
 /// How many likely leaves are looked at before all leaves are gone through.
 const TRIES: usize = 8;
 
+/// Of how many leaves more blocks are made to say so: fewer are looked at one by one in fewer steps.
+const FEW: usize = 48;
+
+/// Where it is known of all leaves that nothing may be placed, blocks of them are made to say so for the next search, if
+/// there are many.
+fn settle_many(scene: &Scene<'_>, lulls: &mut Lulls, at: usize)
+    requires lulls { AreLulls scene.now.config.now (state_in scene.now) lulls.old }
+    requires at { IsPartAt lulls.old scene.now.label at }
+    ensures lulls { AreLulls scene.now.config.now (state_in scene.now) lulls.new }
+    ensures at { IsPartAt lulls.new scene.now.label at }
+{
+    if scene.tables.leaves.len() > FEW {
+        lulls.settle(at, &scene.free);
+    }
+}
+
 /// What came of the leaf that was looked at before all others: its place, if one was looked at, and whether what is held
 /// is known to be the first of all that is wanted.
 #[derive(Clone, Copy)]
@@ -159,7 +176,7 @@ fn hold_likely<'a>(
 {
     match likely_leaf(scene, lulls, at) {
         Guess::NoLeaf => {
-            lulls.settle(at, &scene.free);
+            settle_many(scene, lulls, at);
             Looked {
                 seen: None,
                 is_first: true,
@@ -234,6 +251,17 @@ fn add_all<'a>(
     }
 }
 
+/// Where what is known of the leaves on the partition stands.
+fn part_of(scene: &Scene<'_>, lulls: &Lulls) -> usize
+    ensures { IsPartAt lulls.now scene.now.label result }
+{
+    let near = match &scene.board {
+        Some(board) => board.partition,
+        None => 0,
+    };
+    lulls.part(near, &scene.label)
+}
+
 /// The first of what is wanted on the partition is held. Leaves in which it is likely to be are looked at before all
 /// others, and these not at all where nothing of them can be before what is held.
 fn hold_first_wanted<'a>(scene: &Scene<'a>, lulls: &mut Lulls, held: &mut Option<Candidate<'a>>)
@@ -244,7 +272,7 @@ fn hold_first_wanted<'a>(scene: &Scene<'a>, lulls: &mut Lulls, held: &mut Option
     ensures best { HoldsBest scene.now None (all_wanted scene.now scene.now.tables.now.leaves.items) held.new }
     ensures lulls { AreLulls scene.now.config.now (state_in scene.now) lulls.new }
 {
-    let at = lulls.part(&scene.label);
+    let at = part_of(scene, lulls);
     let looked = hold_any_likely(scene, lulls, at, held);
     if looked.is_first {
         return;
@@ -291,7 +319,8 @@ fn add_asks_at<'a>(
     if is_above(scene, lulls, at, place) {
         return place + 1;
     }
-    add_asks(scene, &mut None, row, passed, held);
+    let steps = steps_to(scene, place);
+    add_asks(scene, &mut None, row, steps, passed, held);
     next_leaf(scene, place, passed)
 }
 
@@ -309,68 +338,115 @@ fn add_all_asks<'a>(scene: &Scene<'a>, lulls: &Lulls, at: usize, held: &mut Opti
     }
 }
 
-/// The first of the eligible requests.
-fn first_eligible(
-    config: &Config,
-    tables: &Tables,
+/// The first of the eligible requests is held, if there is one.
+fn hold_first_eligible<'a>(
+    config: &'a Config,
+    tables: &'a Tables,
     lulls: &mut Lulls,
-    node: &Node,
+    node: &'a Node,
     free: &Resource,
-) -> Option<Request>
+    held: &mut Option<Candidate<'a>>,
+)
     requires readable { IsReadable tables.now }
     requires numbered { AreQueuesOf config.now tables.now.numbers }
     requires lulls { AreLulls config.now (state_of tables.now) lulls.old }
     requires free { free.now ≡ free_on (state_of tables.now) node.now }
-    ensures first { result ≡ first_of (key config.now (state_of tables.now) node.now.label) (eligible config.now (state_of tables.now) node.now) }
+    requires none { held.old ≡ None }
+    ensures first { item_of held.new ≡ first_of (key config.now (state_of tables.now) node.now.label) (eligible config.now (state_of tables.now) node.now) }
     ensures lulls { AreLulls config.now (state_of tables.now) lulls.new }
 {
-    let total = tables.nodes.total(&node.label);
     let scene = Scene {
         config,
         tables,
-        node: *node,
+        node,
         as_guests: false,
         label: node.label,
         free: *free,
-        total,
+        total: tables.nodes.total(&node.label),
         board: board_of(config, tables, &node.label),
     };
-    let mut held = None;
-    hold_first_wanted(&scene, lulls, &mut held);
-    request_in(&held)
+    hold_first_wanted(&scene, lulls, held);
 }
 
-/// The first of the asks for DEFAULT that have room, as guests.
-fn first_guest(
-    config: &Config,
-    tables: &Tables,
+/// The first of the asks for DEFAULT that have room, as guests, is held, if there is one.
+fn hold_first_guest<'a>(
+    config: &'a Config,
+    tables: &'a Tables,
     lulls: &Lulls,
-    node: &Node,
+    node: &'a Node,
     free: &Resource,
-) -> Option<Request>
+    held: &mut Option<Candidate<'a>>,
+)
     requires readable { IsReadable tables.now }
     requires numbered { AreQueuesOf config.now tables.now.numbers }
     requires lulls { AreLulls config.now (state_of tables.now) lulls.now }
     requires free { free.now ≡ free_on (state_of tables.now) node.now }
-    ensures { result ≡ first_of (key config.now (state_of tables.now) Unlabelled) (filter (λ item. has_room (state_of tables.now) node.now item.size) (asks_for (state_of tables.now) Unlabelled)) }
+    requires none { held.old ≡ None }
+    ensures { item_of held.new ≡ first_of (key config.now (state_of tables.now) Unlabelled) (filter (λ item. has_room (state_of tables.now) node.now item.size) (asks_for (state_of tables.now) Unlabelled)) }
 {
-    let total = tables.nodes.total(&Label::Unlabelled);
     let scene = Scene {
         config,
         tables,
-        node: *node,
+        node,
         as_guests: true,
         label: Label::Unlabelled,
         free: *free,
-        total,
+        total: tables.nodes.total(&Label::Unlabelled),
         board: board_of(config, tables, &Label::Unlabelled),
     };
-    let mut held = None;
-    let at = lulls.part(&scene.label);
-    add_all_asks(&scene, lulls, at, &mut held);
-    request_in(&held)
+    let at = part_of(&scene, lulls);
+    add_all_asks(&scene, lulls, at, held);
 }
 
+/// Whether any request is eligible on a node.
+pub fn some_eligible(config: &Config, tables: &Tables, node: &Node) -> bool
+    requires readable { IsReadable tables.now }
+    requires numbered { AreQueuesOf config.now tables.now.numbers }
+    ensures { result ≡ some_eligible config.now (state_of tables.now) node.now }
+{
+    let free = free(tables, node);
+    let mut lulls = Lulls::none(*tables.leaves.allocator());
+    let mut held = None;
+    hold_first_eligible(config, tables, &mut lulls, node, &free, &mut held);
+    held.is_some()
+}
+
+/// Whether a partition takes guests: it is not exclusive, and not DEFAULT.
+pub fn takes_guests(config: &Config, label: &Label) -> bool
+    ensures { result ≡ takes_guests config.now label.now }
+{
+    match label {
+        Label::Unlabelled => false,
+        Label::Named(_) => !config.labels().exclusive(label),
+    }
+}
+
+/// The first of the eligible requests is held, or else the first guest, if there is one.
+fn hold_choice<'a>(
+    config: &'a Config,
+    tables: &'a Tables,
+    lulls: &mut Lulls,
+    node: &'a Node,
+    held: &mut Option<Candidate<'a>>,
+)
+    requires readable { IsReadable tables.now }
+    requires numbered { AreQueuesOf config.now tables.now.numbers }
+    requires lulls { AreLulls config.now (state_of tables.now) lulls.old }
+    requires none { held.old ≡ None }
+    ensures choice { item_of held.new ≡ choice config.now (state_of tables.now) node.now }
+    ensures lulls { AreLulls config.now (state_of tables.now) lulls.new }
+{
+    let free = free(tables, node);
+    hold_first_eligible(config, tables, lulls, node, &free, held);
+    if held.is_some() {
+        return;
+    }
+    if takes_guests(config, &node.label) {
+        hold_first_guest(config, tables, lulls, node, &free, held);
+    }
+}
+
+/// The request that is held.
 fn request_in(held: &Option<Candidate<'_>>) -> Option<Request>
     ensures { result ≡ item_of held.now }
 {
@@ -385,27 +461,6 @@ fn request_in(held: &Option<Candidate<'_>>) -> Option<Request>
     }
 }
 
-/// Whether any request is eligible on a node.
-pub fn some_eligible(config: &Config, tables: &Tables, node: &Node) -> bool
-    requires readable { IsReadable tables.now }
-    requires numbered { AreQueuesOf config.now tables.now.numbers }
-    ensures { result ≡ some_eligible config.now (state_of tables.now) node.now }
-{
-    let free = free(tables, node);
-    let mut lulls = Lulls::none(*tables.leaves.allocator());
-    first_eligible(config, tables, &mut lulls, node, &free).is_some()
-}
-
-/// Whether a partition takes guests: it is not exclusive, and not DEFAULT.
-pub fn takes_guests(config: &Config, label: &Label) -> bool
-    ensures { result ≡ takes_guests config.now label.now }
-{
-    match label {
-        Label::Unlabelled => false,
-        Label::Named(_) => !config.labels().exclusive(label),
-    }
-}
-
 /// The request that is served next on a node: the first of the eligible ones, or else the first
 /// guest. It does not look at the clock. Leaves that are known to have nothing for the node are not looked at.
 pub fn choose(config: &Config, tables: &Tables, lulls: &mut Lulls, node: &Node) -> Option<Request>
@@ -415,15 +470,7 @@ pub fn choose(config: &Config, tables: &Tables, lulls: &mut Lulls, node: &Node) 
     ensures choice { result ≡ choice config.now (state_of tables.now) node.now }
     ensures lulls { AreLulls config.now (state_of tables.now) lulls.new }
 {
-    let free = free(tables, node);
-    match first_eligible(config, tables, lulls, node, &free) {
-        Some(request) => Some(request),
-        None => {
-            if takes_guests(config, &node.label) {
-                first_guest(config, tables, lulls, node, &free)
-            } else {
-                None
-            }
-        }
-    }
+    let mut held = None;
+    hold_choice(config, tables, lulls, node, &mut held);
+    request_in(&held)
 }

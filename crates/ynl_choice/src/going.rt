@@ -3,7 +3,7 @@
 ghost use Rattle.std.specs.Prelude.{◌≡◌, ◌<◌, ◌≤◌, false, true, length};
 ghost use Rattle.ynl_resource.specs.Names.{is_within};
 ghost use Rattle.ynl_tables.specs.Siblings.{leaf_paths, IsPast};
-ghost use Rattle.ynl_choice.specs.Choosing.{state_in, IsScene, IsNext};
+ghost use Rattle.ynl_choice.specs.Choosing.{state_in, AreStepsOf, IsScene, IsNext};
 ghost use Rattle.ynl_choice.specs.Likely.{path_at};
 ghost use Rattle.ynl_choice.specs.Lulls.{AreLulls, AreQuiet, IsPartAt};
 
@@ -27,6 +27,16 @@ pub fn next_leaf(scene: &Scene<'_>, place: usize, passed: &Option<&[Name]>) -> u
         return place + 1;
     }
     scene.tables.numbers.after_leaf(place, queue)
+}
+
+/// The places of the queues on the way to the leaf at a place. Nothing where the configuration has no index, or a queue on
+/// the way no row.
+pub fn steps_to<'a>(scene: &Scene<'a>, place: usize) -> Option<&'a [usize]>
+    requires scene { IsScene scene.now }
+    requires place { place < length scene.now.tables.now.leaves.items }
+    ensures { AreStepsOf scene.now (path_at scene.now place) result }
+{
+    scene.config.steps_at(scene.tables.numbers.queue_of(place))
 }
 
 /// A place past that of a leaf within a queue, and past those after it that are within the queue too, up to an end;
@@ -58,13 +68,5 @@ pub fn next_open(scene: &Scene<'_>, lulls: &Lulls, at: usize, from: usize, end: 
     requires end { end ≤ length scene.now.tables.now.leaves.items }
     ensures { AreQuiet scene.now from result end }
 {
-    let mut place = from;
-    while place < end {
-        let next = lulls.still_to(at, place, &scene.free);
-        if next == place {
-            return place;
-        }
-        place = next.min(end);
-    }
-    end
+    lulls.open_from(at, from, end, &scene.free)
 }

@@ -4,7 +4,7 @@ ghost use Rattle.std.specs.Prelude.{◌≡◌, [], ◌∷◌, ◌&&◌, IfSome, 
 ghost use Rattle.ynl_model.specs.Service.{Item, item_of as request_item, place_in_leaf};
 ghost use Rattle.ynl_tables.specs.Marked.{IsMarkedApp};
 ghost use Rattle.ynl_tables.specs.Tables.{app_of};
-ghost use Rattle.ynl_choice.specs.Choosing.{state_in, standings_to as standings_in, key_in, item_of, passes, overtakes, wants, IsScene, AreLimits, IsDesk, IsKeyed, HoldsBest, masters_of as masters_in, wanted_of, asks_in};
+ghost use Rattle.ynl_choice.specs.Choosing.{state_in, standings_to as standings_in, key_in, item_of, passes, overtakes, wants, IsScene, AreLimits, AreStepsOf, IsDesk, IsKeyed, HoldsBest, masters_of as masters_in, wanted_of, asks_in};
 ghost use Rattle.ynl_choice.specs.Candidates.{item_by, next_key, standings_of};
 ghost use Rattle.ynl_choice.specs.Waits.{asked_at};
 ghost use Rattle.ynl_choice.specs.declared.scenes.Scene.{Scene};
@@ -14,20 +14,21 @@ use crate::leaf_use::LeafUse;
 use crate::order::{Next, is_overtaken};
 use crate::ranking::{standings_by, standings_on};
 use crate::requests::{RequestParts, parts_of};
-use crate::scenes::{Desk, Scene, limits_at};
+use crate::scenes::{Desk, Scene, work_out};
 use crate::standings::{Candidate, Standings};
 use ynl_model::{AskRow, What};
 use ynl_resource::Size;
 use ynl_tables::{App, LeafRow, ask_of, is_same, runs};
 
-/// How the queues on the way to a leaf stand, found by their places where the configuration has an index.
-fn standings_to<'a>(scene: &Scene<'_>, row: &'a LeafRow) -> Standings<'a>
-    requires { IsScene scene.now }
+/// How the queues on the way to a leaf stand, found by their places where these are known.
+fn standings_to<'a>(scene: &Scene<'_>, row: &'a LeafRow, steps: Option<&[usize]>) -> Standings<'a>
+    requires scene { IsScene scene.now }
+    requires steps { AreStepsOf scene.now row.now.path steps }
     ensures { standings_of result ≡ standings_in scene.now row.now.path }
 {
     let names = row.path.names();
     if let Some(board) = &scene.board {
-        if let Some(steps) = scene.config.steps(row.near.place, names) {
+        if let Some(steps) = steps {
             return standings_by(scene, board, steps, names, &row.tenant);
         }
     }
@@ -43,13 +44,20 @@ fn standings_to<'a>(scene: &Scene<'_>, row: &'a LeafRow) -> Standings<'a>
 
 /// What is worked out of a leaf for its requests: how it stands, and its limits, if they were worked out; else the
 /// first request that is tested against them has them worked out.
-pub fn desk_of<'a>(scene: &Scene<'a>, row: &'a LeafRow, limits: &Option<LeafUse<'a>>) -> Desk<'a>
+pub fn desk_of<'a>(
+    scene: &Scene<'a>,
+    row: &'a LeafRow,
+    steps: Option<&'a [usize]>,
+    limits: &Option<LeafUse<'a>>,
+) -> Desk<'a>
     requires scene { IsScene scene.now }
+    requires steps { AreStepsOf scene.now row.now.path steps }
     requires limits { AreLimits scene.now row.now.path limits.now }
     ensures { IsDesk scene.now row.now.path result }
 {
     Desk {
-        standings: standings_to(scene, row),
+        standings: standings_to(scene, row, steps),
+        steps,
         limits: *limits,
     }
 }
@@ -88,11 +96,11 @@ fn may_be_placed<'a>(
     if !is_wanted(scene, row, app, request.what) {
         return false;
     }
-    if scene.as_guests {
-        return true;
+    work_out(scene, &mut desk.limits, request.leaf, &row.near, desk.steps);
+    match &desk.limits {
+        Some(limits) => is_eligible(scene.tables, scene.node, &scene.free, limits, request),
+        None => true,
     }
-    let limits = limits_at(scene, &mut desk.limits, request.leaf, &row.near);
-    is_eligible(scene.tables, &scene.node, &scene.free, &limits, request)
 }
 
 /// Whether a request that comes up is before the one that is held.

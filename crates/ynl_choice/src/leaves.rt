@@ -8,7 +8,7 @@ ghost use Rattle.ynl_resource.specs.Amounts.{fits_in};
 ghost use Rattle.ynl_model.specs.declared.proposals.What.TheVariants.{Master, Ask};
 ghost use Rattle.ynl_tables.specs.Marked.{AreMarkedIn};
 ghost use Rattle.ynl_tables.specs.Queued.{masters_waiting, asks_waiting};
-ghost use Rattle.ynl_choice.specs.Choosing.{state_in, standings_to, ArePlaced, IsScene, AreLimits, IsPassed, HoldsBest, masters_of as masters_in, asks_in, wanted_in};
+ghost use Rattle.ynl_choice.specs.Choosing.{state_in, standings_to, ArePlaced, IsScene, AreLimits, AreStepsOf, AreTests, IsPassed, HoldsBest, masters_of as masters_in, asks_in, wanted_in};
 ghost use Rattle.ynl_choice.specs.Candidates.{is_ahead};
 ghost use Rattle.ynl_choice.specs.Lulls.{AreOver, IsLeastOf, IsQuiet, NonePass};
 ghost use Rattle.ynl_choice.specs.Waits.{IsPartFor, IsPartOf};
@@ -24,7 +24,7 @@ use crate::leaf_use::LeafUse;
 use crate::lulls::Lull;
 use crate::own_limits::are_all_over;
 use crate::ranking::first_behind;
-use crate::scenes::{Scene, limits_at};
+use crate::scenes::{Scene, work_out};
 use crate::standings::Candidate;
 use crate::turns::{first_turn, may_be_taken, may_fit, part_for};
 use ynl_model::What;
@@ -70,13 +70,15 @@ fn is_below(passed: &Option<&[Name]>, row: &LeafRow) -> bool
 }
 
 /// The first queue on the way to a leaf that the request that is held is before, if one is known: it is before
-/// all that is wanted below that queue. Where the configuration has no index none is known.
+/// all that is wanted below that queue. Where the places of those queues are not known none is.
 fn queue_behind<'a>(
     scene: &Scene<'_>,
     row: &'a LeafRow,
+    steps: Option<&[usize]>,
     held: &Option<Candidate<'_>>,
 ) -> Option<&'a [Name]>
-    requires { IsScene scene.now }
+    requires scene { IsScene scene.now }
+    requires steps { AreStepsOf scene.now row.now.path steps }
     ensures passed { IsPassed scene.now held.now result }
     ensures behind { IfSome result (λ queue. is_ahead held.now (standings_to scene.now row.now.path) ≡ true) }
 {
@@ -87,7 +89,7 @@ fn queue_behind<'a>(
     let Some(board) = &scene.board else {
         return None;
     };
-    let Some(steps) = scene.config.steps(row.near.place, names) else {
+    let Some(steps) = steps else {
         return None;
     };
     first_behind(&best.standings, scene, board, steps, names)
@@ -98,21 +100,29 @@ fn queue_behind<'a>(
 fn is_passed<'a>(
     scene: &Scene<'_>,
     row: &'a LeafRow,
+    steps: Option<&[usize]>,
     passed: &mut Option<&'a [Name]>,
     held: &Option<Candidate<'_>>,
 ) -> bool
-    requires { IsScene scene.now }
+    requires scene { IsScene scene.now }
+    requires steps { AreStepsOf scene.now row.now.path steps }
     ensures ahead { OnTrue result (is_ahead held.now (standings_to scene.now row.now.path) ≡ true) }
     ensures passed { IsPassed scene.now held.now passed.new }
     ensures none { OnFalse result (passed.new ≡ None) }
 {
-    *passed = queue_behind(scene, row, held);
+    *passed = queue_behind(scene, row, steps, held);
     passed.is_some()
 }
 
 /// The masters wanted on the partition by the applications of a leaf, one after another.
-fn add_each_master<'a>(scene: &Scene<'a>, row: &'a LeafRow, held: &mut Option<Candidate<'a>>)
+fn add_each_master<'a>(
+    scene: &Scene<'a>,
+    row: &'a LeafRow,
+    steps: Option<&'a [usize]>,
+    held: &mut Option<Candidate<'a>>,
+)
     requires scene { IsScene scene.now }
+    requires steps { AreStepsOf scene.now row.now.path steps }
     requires placed { ArePlaced (state_in scene.now) row.now }
     requires marked { AreMarkedIn (state_in scene.now) row.now }
     ensures { HoldsBest scene.now held.old (masters_in scene.now row.now.path row.now.apps.items) held.new }
@@ -120,7 +130,7 @@ fn add_each_master<'a>(scene: &Scene<'a>, row: &'a LeafRow, held: &mut Option<Ca
     if row.apps.is_empty() {
         return;
     }
-    let mut desk = desk_of(scene, row, &None);
+    let mut desk = desk_of(scene, row, steps, &None);
     for i in 0..row.apps.len() {
         add_master(scene, &mut desk, row, &row.apps[i], i as u64, held);
     }
@@ -129,22 +139,24 @@ fn add_each_master<'a>(scene: &Scene<'a>, row: &'a LeafRow, held: &mut Option<Ca
 /// The first of the masters that wait in a leaf for the partition, by their classes, and what is known of them then.
 fn add_first_master<'a>(
     scene: &Scene<'a>,
-    limits: &mut Option<LeafUse<'a>>,
+    tests: &Option<LeafUse<'a>>,
     row: &'a LeafRow,
+    steps: Option<&'a [usize]>,
     part: &Part,
     held: &mut Option<Candidate<'a>>,
 ) -> Outlook
     requires scene { IsScene scene.now }
-    requires limits { AreLimits scene.now row.now.path limits.old }
+    requires tests { AreTests scene.now row.now.path tests.now }
+    requires limits { AreLimits scene.now row.now.path tests.now }
+    requires steps { AreStepsOf scene.now row.now.path steps }
     requires placed { ArePlaced (state_in scene.now) row.now }
     requires marked { AreMarkedIn (state_in scene.now) row.now }
     requires part { IsPartOf scene.now (masters_waiting row.now.apps.items) part.now }
     ensures best { HoldsBest scene.now held.old (masters_in scene.now row.now.path row.now.apps.items) held.new }
-    ensures limits { AreLimits scene.now row.now.path limits.new }
     ensures none { OnTrue result.is_none (NonePass scene.now (masters_in scene.now row.now.path row.now.apps.items)) }
     ensures over { result.is_over ≡ Some true → AreOver scene.now row.now.path Master (masters_waiting row.now.apps.items) }
 {
-    let search = first_turn(scene, limits, row, &What::Master, part);
+    let search = first_turn(scene, tests, row, &What::Master, part);
     let Some(turn) = search.first else {
         return Outlook {
             is_none: true,
@@ -152,7 +164,7 @@ fn add_first_master<'a>(
         };
     };
     if let Some(place) = place_of(row, turn.number) {
-        let mut desk = desk_of(scene, row, limits);
+        let mut desk = desk_of(scene, row, steps, tests);
         add_master(scene, &mut desk, row, &row.apps[place], place as u64, held);
     }
     UNKNOWN
@@ -166,10 +178,12 @@ fn add_masters<'a>(
     scene: &Scene<'a>,
     limits: &mut Option<LeafUse<'a>>,
     row: &'a LeafRow,
+    steps: Option<&'a [usize]>,
     passed: &mut Option<&'a [Name]>,
     held: &mut Option<Candidate<'a>>,
 ) -> Outlook
     requires scene { IsScene scene.now }
+    requires steps { AreStepsOf scene.now row.now.path steps }
     requires passed { IsPassed scene.now held.old passed.old }
     requires limits { AreLimits scene.now row.now.path limits.old }
     requires placed { ArePlaced (state_in scene.now) row.now }
@@ -185,7 +199,7 @@ fn add_masters<'a>(
     }
     let Some(waiting) = row.masters.rows() else {
         *passed = None;
-        add_each_master(scene, row, held);
+        add_each_master(scene, row, steps, held);
         return UNKNOWN;
     };
     let Some(part) = part_for(scene, waiting) else {
@@ -194,18 +208,25 @@ fn add_masters<'a>(
     if !may_fit(scene, part) {
         return BARRED;
     }
-    if is_passed(scene, row, passed, held) {
+    if is_passed(scene, row, steps, passed, held) {
         return UNKNOWN;
     }
+    work_out(scene, limits, &row.path, &row.near, steps);
     if !may_be_taken(scene, limits, row, part) {
         return BARRED;
     }
-    add_first_master(scene, limits, row, part, held)
+    add_first_master(scene, limits, row, steps, part, held)
 }
 
 /// What the running applications of a leaf ask for on the partition, one after another.
-fn add_each_ask<'a>(scene: &Scene<'a>, row: &'a LeafRow, held: &mut Option<Candidate<'a>>)
+fn add_each_ask<'a>(
+    scene: &Scene<'a>,
+    row: &'a LeafRow,
+    steps: Option<&'a [usize]>,
+    held: &mut Option<Candidate<'a>>,
+)
     requires scene { IsScene scene.now }
+    requires steps { AreStepsOf scene.now row.now.path steps }
     requires placed { ArePlaced (state_in scene.now) row.now }
     requires marked { AreMarkedIn (state_in scene.now) row.now }
     ensures { HoldsBest scene.now held.old (asks_in scene.now row.now.path row.now.apps.items) held.new }
@@ -213,7 +234,7 @@ fn add_each_ask<'a>(scene: &Scene<'a>, row: &'a LeafRow, held: &mut Option<Candi
     if row.apps.is_empty() {
         return;
     }
-    let mut desk = desk_of(scene, row, &None);
+    let mut desk = desk_of(scene, row, steps, &None);
     for i in 0..row.apps.len() {
         add_asks_of(scene, &mut desk, row, &row.apps[i], i as u64, held);
     }
@@ -222,23 +243,25 @@ fn add_each_ask<'a>(scene: &Scene<'a>, row: &'a LeafRow, held: &mut Option<Candi
 /// The first of what is asked for in a leaf on the partition, by classes, and what is known of it then.
 fn add_first_ask<'a>(
     scene: &Scene<'a>,
-    limits: &mut Option<LeafUse<'a>>,
+    tests: &Option<LeafUse<'a>>,
     row: &'a LeafRow,
+    steps: Option<&'a [usize]>,
     part: &Part,
     held: &mut Option<Candidate<'a>>,
 ) -> Outlook
     requires scene { IsScene scene.now }
-    requires limits { AreLimits scene.now row.now.path limits.old }
+    requires tests { AreTests scene.now row.now.path tests.now }
+    requires limits { AreLimits scene.now row.now.path tests.now }
+    requires steps { AreStepsOf scene.now row.now.path steps }
     requires placed { ArePlaced (state_in scene.now) row.now }
     requires marked { AreMarkedIn (state_in scene.now) row.now }
     requires part { IsPartOf scene.now (asks_waiting row.now.apps.items) part.now }
     ensures best { HoldsBest scene.now held.old (asks_in scene.now row.now.path row.now.apps.items) held.new }
-    ensures limits { AreLimits scene.now row.now.path limits.new }
     ensures none { OnTrue result.is_none (NonePass scene.now (asks_in scene.now row.now.path row.now.apps.items)) }
     ensures over { result.is_over ≡ Some true → AreOver scene.now row.now.path (Ask scene.now.label 0) (asks_waiting row.now.apps.items) }
 {
     let what = What::Ask(scene.label, 0);
-    let search = first_turn(scene, limits, row, &what, part);
+    let search = first_turn(scene, tests, row, &what, part);
     let Some(turn) = search.first else {
         return Outlook {
             is_none: true,
@@ -246,7 +269,7 @@ fn add_first_ask<'a>(
         };
     };
     if let Some(place) = place_of(row, turn.number) {
-        let mut desk = desk_of(scene, row, limits);
+        let mut desk = desk_of(scene, row, steps, tests);
         let app = &row.apps[place];
         add_ask_at(
             scene,
@@ -268,10 +291,12 @@ pub fn add_asks<'a>(
     scene: &Scene<'a>,
     limits: &mut Option<LeafUse<'a>>,
     row: &'a LeafRow,
+    steps: Option<&'a [usize]>,
     passed: &mut Option<&'a [Name]>,
     held: &mut Option<Candidate<'a>>,
 ) -> Outlook
     requires scene { IsScene scene.now }
+    requires steps { AreStepsOf scene.now row.now.path steps }
     requires passed { IsPassed scene.now held.old passed.old }
     requires limits { AreLimits scene.now row.now.path limits.old }
     requires placed { ArePlaced (state_in scene.now) row.now }
@@ -287,7 +312,7 @@ pub fn add_asks<'a>(
     }
     let Some(waiting) = row.asks.rows() else {
         *passed = None;
-        add_each_ask(scene, row, held);
+        add_each_ask(scene, row, steps, held);
         return UNKNOWN;
     };
     let Some(part) = part_for(scene, waiting) else {
@@ -296,13 +321,14 @@ pub fn add_asks<'a>(
     if !may_fit(scene, part) {
         return BARRED;
     }
-    if is_passed(scene, row, passed, held) {
+    if is_passed(scene, row, steps, passed, held) {
         return UNKNOWN;
     }
+    work_out(scene, limits, &row.path, &row.near, steps);
     if !may_be_taken(scene, limits, row, part) {
         return BARRED;
     }
-    add_first_ask(scene, limits, row, part, held)
+    add_first_ask(scene, limits, row, steps, part, held)
 }
 
 /// An amount that none of what waits for the partition is below.
@@ -337,10 +363,12 @@ fn lull_of<'a>(
     scene: &Scene<'a>,
     limits: &mut Option<LeafUse<'a>>,
     row: &LeafRow,
+    steps: Option<&[usize]>,
     masters: &Outlook,
     asks: &Outlook,
 ) -> Option<Lull>
     requires scene { IsScene scene.now }
+    requires steps { AreStepsOf scene.now row.now.path steps }
     requires own { scene.now.as_guests ≡ false }
     requires limits { AreLimits scene.now row.now.path limits.old }
     requires marked { AreMarkedIn (state_in scene.now) row.now }
@@ -358,8 +386,11 @@ fn lull_of<'a>(
             room: scene.free,
         });
     }
-    let limits = limits_at(scene, limits, &row.path, &row.near);
-    if are_all_over(scene, &limits, row, masters.is_over, asks.is_over) {
+    work_out(scene, limits, &row.path, &row.near, steps);
+    let Some(limits) = limits else {
+        return None;
+    };
+    if are_all_over(scene, limits, row, masters.is_over, asks.is_over) {
         return Some(Lull { least, room: MOST });
     }
     if !limits.headroom.is_open {
@@ -377,10 +408,12 @@ fn lull_of<'a>(
 pub fn add_leaf<'a>(
     scene: &Scene<'a>,
     row: &'a LeafRow,
+    steps: Option<&'a [usize]>,
     passed: &mut Option<&'a [Name]>,
     held: &mut Option<Candidate<'a>>,
 ) -> Option<Lull>
     requires scene { IsScene scene.now }
+    requires steps { AreStepsOf scene.now row.now.path steps }
     requires own { scene.now.as_guests ≡ false }
     requires passed { IsPassed scene.now held.old passed.old }
     requires placed { ArePlaced (state_in scene.now) row.now }
@@ -389,14 +422,14 @@ pub fn add_leaf<'a>(
     ensures passed { IsPassed scene.now held.new passed.new }
     ensures quiet { IfSome result (IsQuiet scene.now (wanted_in scene.now row.now)) }
 {
-    if is_passed(scene, row, passed, held) {
+    if is_passed(scene, row, steps, passed, held) {
         return None;
     }
     let mut limits = None;
-    let masters = add_masters(scene, &mut limits, row, passed, held);
-    let asks = add_asks(scene, &mut limits, row, passed, held);
+    let masters = add_masters(scene, &mut limits, row, steps, passed, held);
+    let asks = add_asks(scene, &mut limits, row, steps, passed, held);
     if masters.is_none && asks.is_none {
-        return lull_of(scene, &mut limits, row, &masters, &asks);
+        return lull_of(scene, &mut limits, row, steps, &masters, &asks);
     }
     None
 }

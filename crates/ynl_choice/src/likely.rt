@@ -12,7 +12,7 @@ ghost use Rattle.ynl_choice.specs.Lulls.{AreLulls, AreQuiet, IsPartAt};
 ghost use Rattle.ynl_choice.specs.declared.scenes.Scene.{Scene as Stage};
 
 use crate::boards::Board;
-use crate::going::{next_open, past_within};
+use crate::going::{next_open, past_within, steps_to};
 use crate::lulls::Lulls;
 use crate::order::standing_order;
 use crate::ranking::footing_of;
@@ -86,7 +86,7 @@ fn mark_of<'a>(
     if depth >= names.len() {
         return None;
     }
-    let steps = scene.config.steps_at(scene.tables.numbers.queue_of(place))?;
+    let steps = steps_to(scene, place)?;
     let footing = footing_of(scene, board, steps, names, depth, above);
     Some(Mark {
         standing: footing.standing,
@@ -120,7 +120,8 @@ fn lead_of<'a>(best: &Option<Lead<'a>>, mark: &Mark<'a>) -> Lead<'a>
 }
 
 /// Of the queues with so many above them on the way to the leaves of a range, the mark of that which stands first; of
-/// those below which it is known that nothing may be placed, none.
+/// those below which it is known that nothing may be placed, none. The first leaf was looked at before: of it that is not
+/// known.
 fn likeliest<'a>(
     scene: &Scene<'a>,
     board: &Board<'_>,
@@ -143,14 +144,12 @@ fn likeliest<'a>(
 {
     let mut best: Option<Lead<'a>> = None;
     let mut place = first;
-    while place < end {
-        let open = next_open(scene, lulls, at, place, end);
-        if open >= end {
-            return best;
-        }
-        let mark = mark_of(scene, board, depth, above, open, end)?;
+    let mut next = first;
+    while next < end {
+        let mark = mark_of(scene, board, depth, above, next, end)?;
         best = Some(lead_of(&best, &mark));
         place = mark.end;
+        next = next_open(scene, lulls, at, place, end);
     }
     best
 }

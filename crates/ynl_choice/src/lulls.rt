@@ -1,17 +1,18 @@
 //! What is known of leaves of which nothing could be placed, until they change: a heartbeat need not look at them again.
 
-ghost use Rattle.std.specs.Prelude.{◌≡◌, ℕ, ◌<◌, ◌≤◌, ◌+◌, ◌⊎◌, true, false, None, Some, IfOk, IfSome, length, slice_index_or, slice_set};
-ghost use Rattle.std.specs.Option.{option_map_or};
+ghost use Rattle.std.specs.Prelude.{◌≡◌, ℕ, ◌<◌, ◌≤◌, ◌+◌, ◌*◌, ◌/◌, ◌⊎◌, true, false, None, Some, IfOk, IfSome, length, slice_index_or, slice_set};
 ghost use Rattle.ynl_resource.specs.declared.labels.Label.{Label as Labelled};
 ghost use Rattle.ynl_model.specs.Applications.{LeafApps};
 ghost use Rattle.ynl_model.specs.Cluster.{State};
 ghost use Rattle.ynl_model.specs.Queues.{Config};
 ghost use Rattle.ynl_laws.specs.Lulls.{IsLull};
-ghost use Rattle.ynl_choice.specs.Blocks.{is_still};
+ghost use Rattle.ynl_choice.specs.Blocks.{block_size, is_still, is_told_still};
 ghost use Rattle.ynl_choice.specs.Lulls.{lull_at, AreFewer, AreLulls, IsFaded, IsFaint, IsFewer, IsGone, IsPartAt, IsStill, is_meant};
 ghost use Rattle.ynl_choice.specs.declared.blocks.PartLulls.{PartLulls as Part};
 
-use crate::blocks::{BLOCK, PartLulls, all_from, clear, less_of, none_of};
+use crate::blocks::{
+    BLOCK, PartLulls, all_from, clear, is_told_still, less_of, none_of, open_among,
+};
 use std::alloc::{AllocError, Global};
 use ynl_labels::Labels;
 use ynl_resource::{Label, Resource};
@@ -192,34 +193,46 @@ fn fade_if(part: &mut PartLulls, place: usize, on: &Option<Label>, below: &Resou
     }
 }
 
-/// The place up to which it is known of the leaves of a partition, from a place on, that nothing may be placed where
-/// so much is free: past its block, or past one leaf; or the place itself.
-fn still_to(part: &PartLulls, place: usize, free: &Resource) -> usize
-    ensures after { place ≤ result }
-    ensures still { (k : ℕ) → place ≤ k → k < result → option_map_or (λ lull. is_still lull free.now) (lull_at part.now k) false ≡ true }
+/// The first of the leaves of a block on a partition, from one place on and before another, of which it is not known that
+/// nothing may be placed where so much is free; or the other place. They are passed over by one look where a lull of all
+/// leaves of the block says so.
+fn open_in_block(part: &PartLulls, from: usize, end: usize, free: &Resource) -> usize
+    requires known { part.now.is_known ≡ true }
+    requires order { from ≤ end }
+    requires end { end ≤ length part.now.leaves.items }
+    requires block { end ≤ from / block_size * block_size + block_size }
+    ensures after { from ≤ result }
+    ensures inside { result ≤ end }
+    ensures still { (k : ℕ) → from ≤ k → k < result → is_told_still (lull_at part.now k) free.now ≡ true }
 {
-    let count = part.leaves.len();
-    if !part.is_known || place >= count {
-        return place;
+    let block = from / BLOCK;
+    if block < part.blocks.len() && is_told_still(&part.blocks[block], free) {
+        return end;
     }
-    let block = place / BLOCK;
-    if block < part.blocks.len() {
-        if let Some(all) = &part.blocks[block] {
-            if all.holds_for(free) {
-                return count.min((block * BLOCK).saturating_add(BLOCK));
-            }
+    open_among(&part.leaves, from, end, free)
+}
+
+/// The same on a partition, block by block.
+fn open_from(part: &PartLulls, from: usize, end: usize, free: &Resource) -> usize
+    requires { from ≤ end }
+    ensures after { from ≤ result }
+    ensures inside { result ≤ end }
+    ensures still { (k : ℕ) → from ≤ k → k < result → is_told_still (lull_at part.now k) free.now ≡ true }
+{
+    if !part.is_known {
+        return from;
+    }
+    let last = end.min(part.leaves.len());
+    let mut place = from;
+    while place < last {
+        let next = last.min(place + (BLOCK - place % BLOCK));
+        let open = open_in_block(part, place, next, free);
+        if open < next {
+            return open;
         }
+        place = next;
     }
-    match &part.leaves[place] {
-        Some(lull) => {
-            if lull.holds_for(free) {
-                place + 1
-            } else {
-                place
-            }
-        }
-        None => place,
-    }
+    place
 }
 
 impl Lulls {
@@ -244,10 +257,14 @@ impl Lulls {
         Ok(Lulls { parts })
     }
 
-    /// Where what is known on a partition stands; past the last where there is no such place.
-    pub fn part(&self, label: &Label) -> usize
+    /// Where what is known on a partition stands, which is looked for first where it is thought to; past the last where
+    /// there is no such place.
+    pub fn part(&self, near: usize, label: &Label) -> usize
         ensures { IsPartAt self.now label.now result }
     {
+        if near < self.parts.len() && self.parts[near].label == *label {
+            return near;
+        }
         for i in 0..self.parts.len() {
             if self.parts[i].label == *label {
                 return i;
@@ -256,16 +273,18 @@ impl Lulls {
         self.parts.len()
     }
 
-    /// The place up to which it is known of the leaves on a partition, which stands at `at`, from a place on, that
-    /// nothing may be placed where so much is free; the place itself where it is not known of the leaf there.
-    pub fn still_to(&self, at: usize, place: usize, free: &Resource) -> usize
-        ensures after { place ≤ result }
-        ensures still { (c : Config) (s : State) (label : Labelled) → AreLulls c s self.now → IsPartAt self.now label at → (k : ℕ) (d : LeafApps) → place ≤ k → k < result → k < length s.leaves → IsStill c s label (slice_index_or s.leaves k d).leaf free.now }
+    /// The next leaf on a partition, which stands at `at`, from one place on and before another, of which it is not known
+    /// that nothing may be placed where so much is free; or the other place.
+    pub fn open_from(&self, at: usize, from: usize, end: usize, free: &Resource) -> usize
+        requires { from ≤ end }
+        ensures after { from ≤ result }
+        ensures inside { result ≤ end }
+        ensures still { (c : Config) (s : State) (label : Labelled) → AreLulls c s self.now → IsPartAt self.now label at → (k : ℕ) (d : LeafApps) → from ≤ k → k < result → k < length s.leaves → IsStill c s label (slice_index_or s.leaves k d).leaf free.now }
     {
         if at < self.parts.len() {
-            still_to(&self.parts[at], place, free)
+            open_from(&self.parts[at], from, end, free)
         } else {
-            place
+            from
         }
     }
 

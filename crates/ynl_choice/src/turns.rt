@@ -13,7 +13,7 @@ ghost use Rattle.ynl_waiting.specs.Waiting.{has};
 ghost use Rattle.ynl_waiting.specs.declared.classes.Class.{Class};
 ghost use Rattle.ynl_waiting.specs.declared.classes.Turn.{Turn};
 ghost use Rattle.ynl_choice.specs.Candidates.{item_by};
-ghost use Rattle.ynl_choice.specs.Choosing.{state_in, passes, IsScene, AreLimits, AreTests};
+ghost use Rattle.ynl_choice.specs.Choosing.{state_in, passes, IsScene, AreTests};
 ghost use Rattle.ynl_choice.specs.LeafUses.{IsModest, IsUseOf};
 ghost use Rattle.ynl_choice.specs.Lulls.{AreOver};
 ghost use Rattle.ynl_choice.specs.Verdicts.{IsVerdict};
@@ -24,7 +24,7 @@ use crate::eligible::{allows, keeps_leaf_limits, keeps_user_limit};
 use crate::leaf_use::LeafUse;
 use crate::own_limits::keeps_own_limits;
 use crate::requests::RequestParts;
-use crate::scenes::{Scene, limits_at};
+use crate::scenes::Scene;
 use std::collections::BTreeSet;
 use ynl_model::What;
 use ynl_resource::{Name, Resource, Size};
@@ -49,45 +49,26 @@ pub fn may_fit(scene: &Scene<'_>, part: &Part) -> bool
 
 /// Whether the queues on the way to a leaf may take some of what waits there: whether they may take the least of it.
 /// Where they may not, nothing of it may be placed. Guests are placed whatever the queues use.
-pub fn may_be_taken<'a>(
-    scene: &Scene<'a>,
-    limits: &mut Option<LeafUse<'a>>,
+pub fn may_be_taken(
+    scene: &Scene<'_>,
+    tests: &Option<LeafUse<'_>>,
     row: &LeafRow,
     part: &Part,
 ) -> bool
     requires scene { IsScene scene.now }
-    requires limits { AreLimits scene.now row.now.path limits.old }
-    ensures none { (what : What) (waits : Class → Turn → Bool) → IsPartOf scene.now waits part.now → OnFalse result (IsFirstTurn (is_placeable scene.now row.now.path what) waits None) }
-    ensures limits { AreLimits scene.now row.now.path limits.new }
+    requires tests { AreTests scene.now row.now.path tests.now }
+    ensures { (what : What) (waits : Class → Turn → Bool) → IsPartOf scene.now waits part.now → OnFalse result (IsFirstTurn (is_placeable scene.now row.now.path what) waits None) }
 {
-    if scene.as_guests {
-        return true;
+    match tests {
+        Some(limits) => allows(&limits.headroom, &part.least.amount()),
+        None => true,
     }
-    let limits = limits_at(scene, limits, &row.path, &row.near);
-    allows(&limits.headroom, &part.least.amount())
-}
-
-/// The limits that the requests of a leaf are tested against, which guests have none of.
-fn tests_of<'a>(
-    scene: &Scene<'a>,
-    limits: &mut Option<LeafUse<'a>>,
-    row: &LeafRow,
-) -> Option<LeafUse<'a>>
-    requires scene { IsScene scene.now }
-    requires limits { AreLimits scene.now row.now.path limits.old }
-    ensures tests { AreTests scene.now row.now.path result }
-    ensures limits { AreLimits scene.now row.now.path limits.new }
-{
-    if scene.as_guests {
-        return None;
-    }
-    Some(limits_at(scene, limits, &row.path, &row.near))
 }
 
 /// Whether a request has room on the node.
 fn has_room(scene: &Scene<'_>, request: &RequestParts<'_>) -> bool
     requires { IsScene scene.now }
-    ensures { result ≡ has_room (state_in scene.now) scene.now.node request.now.size.now }
+    ensures { result ≡ has_room (state_in scene.now) scene.now.node.now request.now.size.now }
 {
     request.size.amount().fits_in(scene.free)
 }
@@ -322,26 +303,24 @@ fn is_over_with(tests: &Option<LeafUse<'_>>, is_over: bool) -> bool
 
 /// The first turn of what waits for the partition that may be placed, one user after another; and whether the least of
 /// no user keeps the limits of its own.
-pub fn first_turn<'a>(
-    scene: &Scene<'a>,
-    limits: &mut Option<LeafUse<'a>>,
+pub fn first_turn(
+    scene: &Scene<'_>,
+    tests: &Option<LeafUse<'_>>,
     row: &LeafRow,
     what: &What,
     part: &Part,
 ) -> Search
     requires scene { IsScene scene.now }
-    requires limits { AreLimits scene.now row.now.path limits.old }
+    requires tests { AreTests scene.now row.now.path tests.now }
     ensures first { (waits : Class → Turn → Bool) → IsPartOf scene.now waits part.now → IsFirstTurn (is_placeable scene.now row.now.path what.now) waits result.first }
     ensures over { (waits : Class → Turn → Bool) → IsPartOf scene.now waits part.now → OnTrue result.is_over (AreOver scene.now row.now.path what.now waits) }
-    ensures limits { AreLimits scene.now row.now.path limits.new }
 {
-    let tests = tests_of(scene, limits, row);
     let mut first = None;
     let mut is_over = true;
     for (user, group) in part.users.iter() {
         add_group(
             scene,
-            &tests,
+            tests,
             row,
             what,
             user,
@@ -352,6 +331,6 @@ pub fn first_turn<'a>(
     }
     Search {
         first,
-        is_over: is_over_with(&tests, is_over),
+        is_over: is_over_with(tests, is_over),
     }
 }

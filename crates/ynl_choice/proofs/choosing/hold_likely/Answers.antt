@@ -11,9 +11,6 @@ returns-in-NoLeaf-clause-looked c =
     subst (λ (held : Option Candidate). IsLooked c.args.scene.now (record { seen = None; is_first = true }) held) (sym c.requires.none)
     (record { seed = tt; seen = tt; first = none-wanted c.args.scene.now c.in-NoLeaf.ensures })
 
-pub returns-in-NoLeaf-clause-at : goal.returns-in-NoLeaf-clause-at
-returns-in-NoLeaf-clause-at c = c.settle.ensures.parts c.args.scene.now.label c.args.at c.requires.at
-
 pub returns-then-likely-clause-looked : goal.returns-then-likely-clause-looked
 returns-then-likely-clause-looked c =
     let scene = c.args.scene.now in

@@ -1,4 +1,4 @@
-use Rattle.std.proofs.Common.{ℕ, ◌∷◌, not, rules, ap, subst, ◌∙◌}
+use Rattle.std.proofs.Common.{ℕ, ◌∷◌, not, ap, subst, ◌∙◌}
 use Rattle.std.specs.Prelude.{nat_lt}
 use Rattle.std.specs.List.{list_all}
 use Rattle.ynl_resource.specs.Amounts.{scale_floor}
@@ -26,8 +26,8 @@ returns-clause-meaning c =
     let s = state_of c.args.tables.now in
     let label = c.args.label.now in
     let leaf = c.args.leaf.now in
-    let place : ℕ = c.in_ok-place.place in
-    let at : IsPlaceOf config.queues leaf place = search rules in
+    let place : ℕ = c.args.place in
+    let at : IsPlaceOf config.queues leaf place = c.requires.place in
     let row : QueueRow = c.row_at-row.result.now in
     let is = c.row_at-row.ensures row in
     let kept = c.use_at-kept.ensures.value ∙ ap (use_of s label) c.names.ensures.names in

@@ -60,14 +60,14 @@ returns-then-not-may_be_taken-clause-best c =
     let row = c.args.row.now in
     let waits = asks_waiting row.apps.items in
     quiet-held scene c.args.held.now (asks_in scene row.path row.apps.items)
-    (asks-none scene row c.requires.placed c.requires.marked (subst (λ b. OnFalse b (IsFirstTurn (is_placeable scene row.path (Asked scene.label 0)) waits None)) c.if-not-may_be_taken.true (c.may_be_taken.ensures.none (Asked scene.label 0) waits (c.in-Some-part_for.ensures waits (c.in-Some.ensures waits row.asks_wait)))))
+    (asks-none scene row c.requires.placed c.requires.marked (subst (λ b. OnFalse b (IsFirstTurn (is_placeable scene row.path (Asked scene.label 0)) waits None)) c.if-not-may_be_taken.true (c.may_be_taken.ensures (Asked scene.label 0) waits (c.in-Some-part_for.ensures waits (c.in-Some.ensures waits row.asks_wait)))))
 
 pub returns-then-not-may_be_taken-clause-none : goal.returns-then-not-may_be_taken-clause-none
 returns-then-not-may_be_taken-clause-none c =
     let scene = c.args.scene.now in
     let row = c.args.row.now in
     let waits = asks_waiting row.apps.items in
-    asks-none scene row c.requires.placed c.requires.marked (subst (λ b. OnFalse b (IsFirstTurn (is_placeable scene row.path (Asked scene.label 0)) waits None)) c.if-not-may_be_taken.true (c.may_be_taken.ensures.none (Asked scene.label 0) waits (c.in-Some-part_for.ensures waits (c.in-Some.ensures waits row.asks_wait))))
+    asks-none scene row c.requires.placed c.requires.marked (subst (λ b. OnFalse b (IsFirstTurn (is_placeable scene row.path (Asked scene.label 0)) waits None)) c.if-not-may_be_taken.true (c.may_be_taken.ensures (Asked scene.label 0) waits (c.in-Some-part_for.ensures waits (c.in-Some.ensures waits row.asks_wait))))
 
 pub add_first_ask-requires-clause-part : goal.add_first_ask-requires-clause-part
 add_first_ask-requires-clause-part c =

@@ -60,14 +60,14 @@ returns-then-not-may_be_taken-clause-best c =
     let row = c.args.row.now in
     let waits = masters_waiting row.apps.items in
     quiet-held scene c.args.held.now (masters_of scene row.path row.apps.items)
-    (masters-none scene row c.requires.placed c.requires.marked (subst (λ b. OnFalse b (IsFirstTurn (is_placeable scene row.path Master) waits None)) c.if-not-may_be_taken.true (c.may_be_taken.ensures.none Master waits (c.in-Some-part_for.ensures waits (c.in-Some.ensures waits row.masters_wait)))))
+    (masters-none scene row c.requires.placed c.requires.marked (subst (λ b. OnFalse b (IsFirstTurn (is_placeable scene row.path Master) waits None)) c.if-not-may_be_taken.true (c.may_be_taken.ensures Master waits (c.in-Some-part_for.ensures waits (c.in-Some.ensures waits row.masters_wait)))))
 
 pub returns-then-not-may_be_taken-clause-none : goal.returns-then-not-may_be_taken-clause-none
 returns-then-not-may_be_taken-clause-none c =
     let scene = c.args.scene.now in
     let row = c.args.row.now in
     let waits = masters_waiting row.apps.items in
-    masters-none scene row c.requires.placed c.requires.marked (subst (λ b. OnFalse b (IsFirstTurn (is_placeable scene row.path Master) waits None)) c.if-not-may_be_taken.true (c.may_be_taken.ensures.none Master waits (c.in-Some-part_for.ensures waits (c.in-Some.ensures waits row.masters_wait))))
+    masters-none scene row c.requires.placed c.requires.marked (subst (λ b. OnFalse b (IsFirstTurn (is_placeable scene row.path Master) waits None)) c.if-not-may_be_taken.true (c.may_be_taken.ensures Master waits (c.in-Some-part_for.ensures waits (c.in-Some.ensures waits row.masters_wait))))
 
 pub add_first_master-requires-clause-part : goal.add_first_master-requires-clause-part
 add_first_master-requires-clause-part c =

@@ -2,8 +2,9 @@ use Rattle.std.specs.Bool.{OnTrue}
 use Rattle.std.specs.List.{AllByRecursion}
 use Rattle.ynl_laws.specs.Lulls.{keeps_own_limits}
 use Rattle.ynl_laws.proofs.Lists.{Each-append, Each-weaker}
-use Rattle.std.proofs.Common.{◌≡◌, false, rules, subst}
-use Rattle.ynl_choice.specs.Choosing.{state_in, masters_of, asks_in, wanted_in}
+use Rattle.std.proofs.Common.{◌≡◌, false, Option, rules, subst}
+use Rattle.ynl_choice.specs.declared.leaf_use.LeafUse.{LeafUse}
+use Rattle.ynl_choice.specs.Choosing.{state_in, masters_of, asks_in, wanted_in, AreTests}
 use Rattle.ynl_choice.proofs.Classed.{masters-gathered, asks-gathered}
 use Rattle.ynl_choice.proofs.Quiet.{above-room, gathered-own, over-all}
 use Rattle.ynl_choice.proofs.leaves.lull_of.Goals as goal
@@ -26,10 +27,11 @@ returns c =
     let scene = c.args.scene.now in
     let row = c.args.row.now in
     let apps = row.apps.items in
-    let limits = c.limits_at-limits.result in
+    let limits = c.in-Some-limits.limits in
+    let known = subst (λ (tests : Option LeafUse). AreTests scene row.path tests) c.in-Some-limits.is c.work_out.ensures.tests in
     record {
       above = c.in-Some.ensures;
-      none = over-all scene c.requires.scene c.requires.own row.path limits c.less_of.result c.limits_at-limits.ensures.meaning c.if-not-limits.false c.less_of.ensures.first c.less_of.ensures.second (wanted_in scene row)
+      none = over-all scene c.requires.scene c.requires.own row.path limits c.less_of.result known.1 c.if-not-limits.false c.less_of.ensures.first c.less_of.ensures.second (wanted_in scene row)
           (Each-append (λ item. item.leaf ≡ row.path) (masters_of scene row.path apps) (asks_in scene row.path apps) (gathered-own row.path (masters_of scene row.path) (masters-gathered scene row.path) apps) (gathered-own row.path (asks_in scene row.path) (asks-gathered scene row.path) apps))
           c.requires.none;
     }

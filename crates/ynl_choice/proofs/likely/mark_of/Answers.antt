@@ -7,7 +7,7 @@ use Rattle.ynl_tables.specs.declared.rows.LeafRow.{LeafRow}
 use Rattle.ynl_choice.specs.Choosing.{state_in, guaranteed_after}
 use Rattle.ynl_choice.specs.Likely.{path_at}
 use Rattle.ynl_choice.proofs.Before.{taken-within}
-use Rattle.ynl_choice.proofs.Leading.{row-path, steps-to, taken-front}
+use Rattle.ynl_choice.proofs.Leading.{row-path, taken-front}
 use Rattle.ynl_choice.proofs.likely.mark_of.Goals as goal
 
 pub footing_of-footing-requires-clause-above : goal.footing_of-footing-requires-clause-above
@@ -28,7 +28,7 @@ footing_of-footing-requires-clause-steps c =
     let read : row ≡ get_or scene.tables.now.leaves.items place row = c.index-as_slice-place.is ∙ ap (λ (rows : List LeafRow). get_or rows place row) c.as_slice.ensures.value in
     let inside : place < length scene.tables.now.leaves.items = omega (arith, c.requires.place, c.requires.end) in
     let path : path_at scene place ≡ c.names-names.result.now = row-path scene c.requires.scene place inside row read ∙ sym c.names-names.ensures.names in
-    subst (λ (leaf : Path). AreSteps scene.config.now.queues leaf c.in_ok-steps.steps.now) path (steps-to scene c.requires.scene place c.queue_of.result c.in_ok-steps.steps.now c.queue_of.ensures.inside c.queue_of.ensures.leaf c.in_ok-steps.ensures)
+    subst (λ (leaf : Path). AreSteps scene.config.now.queues leaf c.in_ok-steps.steps.now) path c.in_ok-steps.ensures
 
 pub past_within-requires-clause-within : goal.past_within-requires-clause-within
 past_within-requires-clause-within c =

@@ -46,4 +46,4 @@ returns-clause-over c =
     let users : List (Name × Group) = c.args.part.now.users.items in
     let past : length users ≤ c.loop-user.user-index = search rules in
     let all = subst (λ (front : List (Name × Group)). OnTrue c.loop-user.is_over (AllByRecursion (IsOver scene leaf what) front)) (take_all c.loop-user.user-index users past) c.loop-user.invariant.1 in
-    λ waits of. subst (λ b. OnTrue b (AreOver scene leaf what waits)) (sym c.is_over_with.ensures) (part-over scene leaf what c.args.part.now c.tests_of-tests.result c.loop-user.is_over c.tests_of-tests.ensures.tests all waits of)
+    λ waits of. subst (λ b. OnTrue b (AreOver scene leaf what waits)) (sym c.is_over_with.ensures) (part-over scene leaf what c.args.part.now c.args.tests.now c.loop-user.is_over c.requires.tests all waits of)
