@@ -12,8 +12,8 @@ pub struct Hints<T> {
     slots: Vec<T>,
 }
 
-/// The slots for each thing.
-const SLOTS: usize = 2;
+/// The slots for each thing. With fewer, what was noted early loses its slot to what comes later too often.
+const SLOTS: usize = 4;
 
 /// How many slots there are at first. It is a power of two, and they are only ever doubled.
 const FIRST: usize = 64;
@@ -32,13 +32,14 @@ fn mixed(before: u64, name: &Name) -> u64 {
     mixed
 }
 
-/// A number in which every byte of some names counts.
+/// A number in which every byte of some names counts. A product's low bits tell nothing of the high ones, which are
+/// therefore added to them.
 fn mixed_of(names: &[&Name]) -> u64 {
     let mut all = START;
     for name in names {
         all = mixed(all, name);
     }
-    all
+    all ^ (all >> 32)
 }
 
 impl<T: Copy + Drop> Hints<T> {

@@ -58,7 +58,7 @@ fn names_of(leaf: &Path) -> Option<LeafNames<'_>> {
 }
 
 /// There are slots for hints as for so many times the leaves, so few share one. Hints are noted once, at the opening.
-const ROOM: usize = 4;
+const ROOM: usize = 2;
 
 /// Hints where leaves stand among all leaves.
 #[derive(Drop)]
