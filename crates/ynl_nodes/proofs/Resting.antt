@@ -14,7 +14,8 @@ use Rattle.ynl_model.specs.declared.nodes.Node.{Node}
 use Rattle.ynl_roster.specs.Roster.{without, with_at, IsOnly}
 use Rattle.ynl_nodes.specs.Members.{is_among}
 use Rattle.ynl_nodes.specs.Wakings.{CountsOn}
-use Rattle.ynl_nodes.specs.NodeFields.{is_marked, resting_of}
+use Rattle.ynl_nodes.specs.Marks.{is_marked}
+use Rattle.ynl_nodes.specs.NodeFields.{resting_of}
 use Rattle.ynl_roster.proofs.Rising.{each_append, each_filter}
 use Rattle.ynl_nodes.proofs.Indexed.{Owns, Absent, other_name}
 
@@ -276,10 +277,10 @@ rests_more wakings count n marks new name other entries is e own h =
     subst (λ w. (same_name other name || is_among (resting_of w marks entries) other) ≡ true) (sym is) (names_more (is_marked count marks) (is_marked count (with_at n count marks)) n name other entries (λ m. set_mark count n m marks) own set)
 
 -- the node under a number with the last mark rests
-pub marked_rests : (wakings : Option ℕ) (count n mark : ℕ) (marks : List (ℕ × ℕ)) (name : Name) (node : Node) (entries : List (ℕ × Node)) → wakings ≡ Some count → Some mark ≡ lookup (nat_eq n) marks → nat_eq mark count ≡ true
+pub marked_rests : (wakings : Option ℕ) (n : ℕ) (marks : List (ℕ × ℕ)) (name : Name) (node : Node) (entries : List (ℕ × Node)) → option_map_or (λ count. is_marked count marks n) wakings false ≡ true
     → node.name ≡ name → lookup (nat_eq n) entries ≡ Some node → is_among (resting_of wakings marks entries) name ≡ true
-marked_rests wakings count n mark marks name node entries is there on called found =
-    subst (λ w. is_among (resting_of w marks entries) name ≡ true) (sym is) (name_left (is_marked count marks) name n node entries called found (ap (λ o. option_map_or (λ m. nat_eq m count) o false) (sym there) ∙ on))
+marked_rests None n marks name node entries on called found = absurd (true≢false (sym on))
+marked_rests (Some count) n marks name node entries on called found = name_left (is_marked count marks) name n node entries called found on
 
 -- a node that comes under a new number does not rest, and those rest that did
 pub joined_rests : (wakings : Option ℕ) (n : ℕ) (node : Node) (marks more : List (ℕ × ℕ)) (entries new : List (ℕ × Node)) → Counted wakings → more ≡ marks ++ (n, 0) ∷ [] → IsOnly n 0 more → new ≡ entries ++ (n, node) ∷ []

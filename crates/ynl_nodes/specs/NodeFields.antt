@@ -10,6 +10,7 @@ use Rattle.ynl_resource.specs.declared.names.Name.{Name}
 use Rattle.ynl_model.specs.declared.nodes.Node.{Node}
 use Rattle.ynl_nodes.specs.declared.nodes.Nodes.TheInside.{Inside}
 use Rattle.ynl_nodes.specs.declared.sums.SumRow.{SumRow}
+use Rattle.ynl_nodes.specs.Marks.{is_marked}
 use Rattle.ynl_nodes.specs.Members.{Members}
 use Rattle.ynl_nodes.specs.Nodes.{AreIndexed}
 use Rattle.ynl_nodes.specs.Sums.{sum_at, sum_of}
@@ -17,10 +18,6 @@ use Rattle.ynl_nodes.specs.Sums.{sum_at, sum_of}
 -- the list of the nodes
 abbrev pub nodes_in : Inside → List Node
 nodes_in t = map (λ e. e.1) t.roster.entries
-
--- whether the mark under a number is the last count of wakings
-abbrev pub is_marked : ℕ → List (ℕ × ℕ) → ℕ → Bool
-is_marked wakings marks number = option_map_or (λ mark. nat_eq mark wakings) (lookup (nat_eq number) marks) false
 
 -- the names of those that have such a mark
 abbrev pub names_marked : ℕ → List (ℕ × ℕ) → List (ℕ × Node) → List Name

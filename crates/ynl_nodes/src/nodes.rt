@@ -1,14 +1,16 @@
 //! The nodes of a cluster.
 
 ghost use Rattle.std.specs.Prelude.{◌≡◌, ◌||◌, [], Some, None, true, false, OnOk, OnErr};
-ghost use Rattle.std.specs.Bool.{OnTrue};
+ghost use Rattle.std.specs.Option.{option_map_or};
 ghost use Rattle.ynl_resource.specs.Names.{same_name};
 ghost use Rattle.ynl_resource.specs.declared.names.Name.{Name};
 ghost use Rattle.ynl_model.specs.Nodes.{find_node, total, is_full, stamped, joined, left};
+ghost use Rattle.ynl_nodes.specs.Marks.{is_marked};
 ghost use Rattle.ynl_nodes.specs.Members.{is_among};
+ghost use Rattle.ynl_nodes.specs.Sights.{IsSightOf};
 ghost use Rattle.ynl_nodes.specs.Wakings.{CountsOn};
 
-use crate::spots::spot_of;
+use crate::spots::{spot_of, spot_under};
 use crate::sums::{SumRow, lower, open_row, raise, sum_at};
 use std::alloc::{AllocError, Global};
 use std::collections::BTreeMap;
@@ -56,6 +58,27 @@ fn count_on(wakings: Option<u64>) -> Option<u64>
     }
 }
 
+/// Whether the mark under a number is the last count of wakings; none is where they are counted no more.
+fn is_marked(wakings: Option<u64>, marks: &Roster<u64>, number: u64) -> bool
+    ensures { result ≡ option_map_or (λ count. is_marked count marks.now.entries number) wakings false }
+{
+    let Some(wakings) = wakings else {
+        return false;
+    };
+    match marks.get(number) {
+        Some(mark) => *mark == wakings,
+        None => false,
+    }
+}
+
+/// What is known of the node of a name: there is none, it rests, or it stands under a number and is not known to rest.
+#[derive(Clone, Copy)]
+pub enum Sight<'a> {
+    Nowhere,
+    Resting,
+    Awake { number: u64, node: &'a Node },
+}
+
 impl Nodes {
     /// No node.
     pub fn new(alloc: Global) -> Nodes
@@ -77,7 +100,7 @@ impl Nodes {
         ensures { result ≡ find_node self.now.list name.now }
     {
         match spot_of(&self.hints, &self.numbers, &self.roster, name) {
-            Some(spot) => Some(spot.node),
+            Some(spot) => Some(*spot.node),
             None => None,
         }
     }
@@ -108,43 +131,40 @@ impl Nodes {
             return;
         };
         if spot.node.label == *label {
-            self.roster.set(
-                spot.number,
-                Node {
-                    name: spot.node.name,
-                    label: spot.node.label,
-                    size: spot.node.size,
-                    stamp,
-                },
-            );
+            let number = spot.number;
+            let node = Node {
+                stamp,
+                ..*spot.node
+            };
+            self.roster.set(number, node);
         }
     }
 
-    /// Whether a node is known to rest.
-    pub fn rests(&self, name: &Name) -> bool
-        ensures { OnTrue result (is_among self.now.resting name.now ≡ true) }
+    /// What is known of the node of a name.
+    pub fn sight(&self, name: &Name) -> Sight<'_>
+        ensures { IsSightOf self.now name.now result }
     {
-        let Some(wakings) = self.wakings else {
-            return false;
-        };
         let Some(spot) = spot_of(&self.hints, &self.numbers, &self.roster, name) else {
-            return false;
+            return Sight::Nowhere;
         };
-        match self.marks.get(spot.number) {
-            Some(mark) => *mark == wakings,
-            None => false,
+        if is_marked(self.wakings, &self.marks, spot.number) {
+            return Sight::Resting;
+        }
+        Sight::Awake {
+            number: spot.number,
+            node: spot.node,
         }
     }
 
-    /// A node rests until all are woken; where it is not here, nothing changes.
-    pub fn rest(&mut self, name: &Name)
+    /// A node rests until all are woken, if it stands under this number; where it does not, nothing changes.
+    pub fn rest(&mut self, number: u64, name: &Name)
         ensures list { self.new.list ≡ self.old.list }
         ensures resting { (other : Name) → is_among self.new.resting other ≡ true → (same_name other name.now || is_among self.old.resting other) ≡ true }
     {
         let Some(wakings) = self.wakings else {
             return;
         };
-        if let Some(spot) = spot_of(&self.hints, &self.numbers, &self.roster, name) {
+        if let Some(spot) = spot_under(&self.roster, number, name) {
             self.marks.set(spot.number, wakings);
         }
     }
@@ -167,10 +187,12 @@ impl Nodes {
             return;
         };
         if spot.node.label == node.label {
+            let number = spot.number;
+            let amount = spot.node.size.amount();
             let _number = self.numbers.remove(&node.name);
-            let _node = self.roster.remove(spot.number);
-            let _mark = self.marks.remove(spot.number);
-            lower(&mut self.sums, &node.label, spot.node.size.amount());
+            let _node = self.roster.remove(number);
+            let _mark = self.marks.remove(number);
+            lower(&mut self.sums, &node.label, amount);
         }
     }
 
@@ -217,6 +239,7 @@ impl Nodes {
         let Some(spot) = spot_of(&self.hints, &self.numbers, &self.roster, &node.name) else {
             return Err(AllocError);
         };
+        let before = spot.number;
         let Some(number) = self.roster.top().checked_add(1) else {
             return Err(AllocError);
         };
@@ -226,8 +249,8 @@ impl Nodes {
         self.marks.reserve(1)?;
         match self.numbers.insert(node.name, number) {
             Ok(_) => {
-                let _node = self.roster.remove(spot.number);
-                let _mark = self.marks.remove(spot.number);
+                let _node = self.roster.remove(before);
+                let _mark = self.marks.remove(before);
                 self.roster.push_reserved(
                     number,
                     Node {

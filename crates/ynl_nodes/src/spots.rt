@@ -12,35 +12,43 @@ use ynl_roster::Roster;
 
 /// A node, and the number under which it stands.
 #[derive(Clone, Copy)]
-pub(crate) struct Spot {
+pub(crate) struct Spot<'a> {
     pub(crate) number: u64,
-    pub(crate) node: Node,
+    pub(crate) node: &'a Node,
 }
 
-/// The node of a name, with its number, if it stands where the hint says.
-fn spot_hinted(hints: &Hints<u64>, roster: &Roster<Node>, name: &Name) -> Option<Spot>
-    ensures { IfSome result (λ spot. IsLedTo roster.now name.now spot.number spot.node) }
+/// The node of a name, with its number, if it stands under this one.
+pub(crate) fn spot_under<'a>(roster: &'a Roster<Node>, number: u64, name: &Name) -> Option<Spot<'a>>
+    ensures { IfSome result (λ spot. IsLedTo roster.now name.now spot.number spot.node.now) }
 {
-    let Some(number) = hints.of(&[name]) else {
-        return None;
-    };
     let Some(node) = roster.get(number) else {
         return None;
     };
     if node.name == *name {
-        Some(Spot {
-            number,
-            node: *node,
-        })
+        Some(Spot { number, node })
     } else {
         None
     }
 }
 
+/// The node of a name, with its number, if it stands where the hint says.
+fn spot_hinted<'a>(hints: &Hints<u64>, roster: &'a Roster<Node>, name: &Name) -> Option<Spot<'a>>
+    ensures { IfSome result (λ spot. IsLedTo roster.now name.now spot.number spot.node.now) }
+{
+    match hints.of(&[name]) {
+        Some(number) => spot_under(roster, number, name),
+        None => None,
+    }
+}
+
 /// The node of a name, with its number, by the map of names.
-fn spot_named(numbers: &BTreeMap<Name, u64>, roster: &Roster<Node>, name: &Name) -> Option<Spot>
+fn spot_named<'a>(
+    numbers: &BTreeMap<Name, u64>,
+    roster: &'a Roster<Node>,
+    name: &Name,
+) -> Option<Spot<'a>>
     requires { AreIndexed numbers.now roster.now }
-    ensures found { IfSome result (λ spot. IsSpot numbers.now roster.now name.now spot.number spot.node) }
+    ensures found { IfSome result (λ spot. IsSpot numbers.now roster.now name.now spot.number spot.node.now) }
     ensures none { IfNone result (AllByRecursion (λ e. same_name e.1.name name.now ≡ false) roster.now.entries) }
 {
     let Some(number) = numbers.get(name) else {
@@ -49,21 +57,21 @@ fn spot_named(numbers: &BTreeMap<Name, u64>, roster: &Roster<Node>, name: &Name)
     match roster.get(*number) {
         Some(node) => Some(Spot {
             number: *number,
-            node: *node,
+            node,
         }),
         None => None,
     }
 }
 
 /// The node of a name, with its number. It is looked for first where the hint says.
-pub(crate) fn spot_of(
+pub(crate) fn spot_of<'a>(
     hints: &Hints<u64>,
     numbers: &BTreeMap<Name, u64>,
-    roster: &Roster<Node>,
+    roster: &'a Roster<Node>,
     name: &Name,
-) -> Option<Spot>
+) -> Option<Spot<'a>>
     requires { AreIndexed numbers.now roster.now }
-    ensures found { IfSome result (λ spot. IsSpot numbers.now roster.now name.now spot.number spot.node) }
+    ensures found { IfSome result (λ spot. IsSpot numbers.now roster.now name.now spot.number spot.node.now) }
     ensures none { IfNone result (AllByRecursion (λ e. same_name e.1.name name.now ≡ false) roster.now.entries) }
 {
     match spot_hinted(hints, roster, name) {

@@ -10,12 +10,12 @@ ghost use Rattle.ynl_tables.specs.Resting.{IsAsBefore};
 use crate::tables::Tables;
 use ynl_resource::Name;
 
-/// A node rests from now on, until all are woken.
-pub fn rest(tables: &mut Tables, name: &Name)
+/// A node rests from now on, until all are woken, if it stands under this number.
+pub fn rest(tables: &mut Tables, number: u64, name: &Name)
     ensures before { IsAsBefore tables.old tables.new }
     ensures resting { (other : Name) → is_among tables.new.nodes.resting other ≡ true → (same_name other name.now || is_among tables.old.nodes.resting other) ≡ true }
 {
-    tables.nodes.rest(name);
+    tables.nodes.rest(number, name);
 }
 
 /// No node rests any more, since the cluster has changed.

@@ -21,7 +21,7 @@ use Rattle.ynl_nodes.proofs.nodes.Nodes.rejoin.Goals as goal
 -- the node that is found by the name is the one that leaves its place
 found : (c : After-lower) → IsSpot c.self.inside.numbers c.self.inside.roster c.args.node.now.name c.in-Some.spot.number c.args.node.now
 found c =
-    spot_same c.self.inside.numbers c.self.inside.roster c.self.invariant.indexed c.args.self.now.list (ap (λ (m : Members). m.list) c.self.view_is) c.args.node.now.name c.in-Some.spot.number c.in-Some.spot.node c.in-Some.ensures.found c.args.node.now c.requires.here
+    spot_same c.self.inside.numbers c.self.inside.roster c.self.invariant.indexed c.args.self.now.list (ap (λ (m : Members). m.list) c.self.view_is) c.args.node.now.name c.in-Some.spot.number c.in-Some.spot.node.now c.in-Some.ensures.found c.args.node.now c.requires.here
 
 -- the others stay
 others : (c : After-lower) → c.remove-node.new.self.entries ≡ without (λ e. nat_eq c.in-Some.spot.number e.0) c.self.inside.roster.entries
