@@ -36,6 +36,13 @@ pub beat_zero : (c : Config) (node : Node) (times : ℕ) (s : State) → times �
 unfolding beat
 beat_zero c node times s e = ap (λ n. beat c node n s) e
 
+-- where the clock is not spent the choice is placed next, and where it is nothing is
+pub unspent_next : (c : Config) (s : State) (node : Node) → is_spent c.labels s node.label ≡ false → choice c s node ≡ next_item c s node
+unspent_next c s node e = ap (λ b. cond b None (choice c s node)) (sym e)
+
+pub spent_next : (c : Config) (s : State) (node : Node) → is_spent c.labels s node.label ≡ true → next_item c s node ≡ None
+spent_next c s node e = ap (λ b. cond b None (choice c s node)) e
+
 -- where nothing more is placed, what is so far is all
 pub state_done : (b : Beat) (s t : State) → b ≡ none_placed s → b.state ≡ t → s ≡ t
 state_done b s t e h = sym (ap (λ (b : Beat). b.state) e) ∙ h

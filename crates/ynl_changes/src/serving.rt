@@ -1,7 +1,8 @@
 //! Serving a node: the next request is placed there, again and again.
 
-ghost use Rattle.std.specs.Prelude.{◌≡◌, ◌≤◌, ◌+◌, ◌++◌, vec_len, vec_capacity};
+ghost use Rattle.std.specs.Prelude.{◌≡◌, ◌≤◌, ◌+◌, ◌++◌, false, vec_len, vec_capacity};
 ghost use Rattle.ynl_model.specs.Changes.{next_item, beat};
+ghost use Rattle.ynl_model.specs.Cluster.{is_spent};
 ghost use Rattle.ynl_laws.specs.Working.{IsWorking, Stands};
 ghost use Rattle.ynl_laws.specs.Tabled.{Tabled};
 ghost use Rattle.ynl_tables.specs.Kept.{IsKept};
@@ -15,23 +16,22 @@ use ynl_model::{Node, Placed};
 use ynl_queues::Config;
 use ynl_tables::{Tables, is_spent, push_copy};
 
-/// The request that is placed next on a node: none where the clock is spent.
+/// The request that is placed next on a node whose partition's clock is not spent.
 fn next_request(config: &Config, tables: &Tables, lulls: &mut Lulls, node: &Node) -> Option<Request>
     requires working { IsWorking config.now (state_of tables.now) }
     requires tabled { Tabled (state_of tables.now) }
     requires kept { IsKept tables.now }
     requires numbered { AreQueuesOf config.now tables.now.numbers }
     requires lulls { AreLulls config.now (state_of tables.now) lulls.old }
+    requires unspent { is_spent config.now.labels (state_of tables.now) node.now.label ≡ false }
     ensures item { result ≡ next_item config.now (state_of tables.now) node.now }
     ensures lulls { AreLulls config.now (state_of tables.now) lulls.new }
 {
-    if is_spent(config, tables, &node.label) {
-        return None;
-    }
     choose(config, tables, lulls, node)
 }
 
-/// Places the next request on a node, so many times at most, and notes the containers.
+/// Places the next request on a node whose partition's clock is not spent, so many times at most, and notes the
+/// containers. The clock is looked at after each that is placed, since nothing else moves it.
 pub fn serve(
     config: &Config,
     tables: &mut Tables,
@@ -46,6 +46,7 @@ pub fn serve(
     requires numbered { AreQueuesOf config.now tables.old.numbers }
     requires lulls { AreLulls config.now (state_of tables.old) lulls.old }
     requires stands { Stands (state_of tables.old) node.now }
+    requires unspent { is_spent config.now.labels (state_of tables.old) node.now.label ≡ false }
     requires capacity { HasCapacity node.now.label times tables.old.partitions.items }
     requires reply_capacity { vec_len placed.old + times ≤ vec_capacity placed.old }
     ensures state { state_of tables.new ≡ (beat config.now node.now times (state_of tables.old)).state }
@@ -56,11 +57,15 @@ pub fn serve(
     ensures lulls { AreLulls config.now (state_of tables.new) lulls.new }
 {
     for _i in 0..times {
-        let Some(request) = next_request(config, tables, lulls, node) else {
+        let next = next_request(config, tables, lulls, node);
+        let Some(request) = &next else {
             return;
         };
-        fade_leaf_for(lulls, tables, &request, &node.label);
-        let container = place(config, tables, node, &request);
+        fade_leaf_for(lulls, tables, request, &node.label);
+        let container = place(config, tables, node, request);
         push_copy(placed, &container);
+        if is_spent(config, tables, &node.label) {
+            return;
+        }
     }
 }

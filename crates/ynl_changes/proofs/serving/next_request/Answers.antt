@@ -1,5 +1,11 @@
+use Rattle.std.proofs.Common.{◌∙◌}
+use Rattle.ynl_tables.specs.Tables.{state_of}
+use Rattle.ynl_changes.proofs.Serves.{unspent_next}
 use Rattle.ynl_changes.proofs.Summing.{readable}
 use Rattle.ynl_changes.proofs.serving.next_request.Goals as goal
 
 pub choose-requires-clause-readable : goal.choose-requires-clause-readable
 choose-requires-clause-readable c = readable c.args.config.now c.args.tables.now c.requires.working c.requires.tabled c.requires.kept
+
+pub returns-clause-item : goal.returns-clause-item
+returns-clause-item c = c.choose.ensures.choice ∙ unspent_next c.args.config.now (state_of c.args.tables.now) c.args.node.now c.requires.unspent

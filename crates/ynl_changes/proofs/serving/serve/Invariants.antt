@@ -1,5 +1,6 @@
-use Rattle.std.proofs.Common.{◌≡◌, ◌+◌, ◌-◌, ◌≤◌, ◌++◌, vec_len, vec_capacity}
+use Rattle.std.proofs.Common.{◌≡◌, ◌+◌, ◌-◌, ◌≤◌, ◌++◌, false, vec_len, vec_capacity}
 use Rattle.ynl_model.specs.Changes.{beat}
+use Rattle.ynl_model.specs.Cluster.{is_spent}
 use Rattle.ynl_laws.specs.Working.{IsWorking, Stands}
 use Rattle.ynl_laws.specs.Tabled.{Tabled}
 use Rattle.ynl_tables.specs.Kept.{IsKept}
@@ -12,6 +13,7 @@ invariant-loop-i l = record {
   working : IsWorking l.config (state_of l.tables);
   tabled : Tabled (state_of l.tables);
   kept : IsKept l.tables;
+  unspent : is_spent l.config.labels (state_of l.tables) l.node.label ≡ false;
   lulls : AreLulls l.config (state_of l.tables) l.lulls;
   numbers : l.tables.numbers ≡ l.initial.tables.numbers;
   resting : l.tables.nodes.resting ≡ l.initial.tables.nodes.resting;
