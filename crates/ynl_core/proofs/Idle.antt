@@ -1,5 +1,5 @@
 -- Nodes that rest, and a heartbeat that places nothing.
-use Rattle.std.proofs.Common.{◌≡◌, ℕ, zero, suc, ◌<◌, Bool, true, false, ◌||◌, List, [], ◌∷◌, ◌++◌, length, Option, None, Some, refl, sym, ap, subst, ◌∙◌, arith}
+use Rattle.std.proofs.Common.{◌≡◌, ℕ, zero, suc, ◌<◌, Bool, true, false, cond, ◌||◌, List, [], ◌∷◌, ◌++◌, length, Option, None, Some, refl, sym, ap, subst, ◌∙◌, arith}
 use Rattle.ynl_resource.specs.declared.names.Name.{Name}
 use Rattle.ynl_resource.specs.Names.{same_name}
 use Rattle.ynl_nodes.specs.Members.{is_among}
@@ -8,11 +8,12 @@ use Rattle.ynl_model.specs.declared.containers.Placed.{Placed}
 use Rattle.ynl_model.specs.Queues.{Config}
 use Rattle.ynl_model.specs.declared.events.Event.TheVariants.{Heartbeat}
 use Rattle.ynl_model.specs.Nodes.{find_node}
-use Rattle.ynl_model.specs.Cluster.{State}
+use Rattle.ynl_model.specs.Cluster.{State, is_spent}
 use Rattle.ynl_model.specs.Service.{Item}
 use Rattle.ynl_model.specs.Changes.{Beat, beat, next_item, place, container_of}
 use Rattle.ynl_model.specs.Events.{served, step, reasons, accepted}
 use Rattle.ynl_resource.specs.Refusals.{first_that_holds}
+use Rattle.ynl_resource.specs.declared.refusals.Refusal.TheVariants.{ClockSpent}
 use Rattle.ynl_core.specs.Resting.{Rests, AreResting}
 use Rattle.ynl_core.proofs.Stepping.{taken_in}
 use Rattle.ynl_changes.proofs.Serves.{beat_next, beat_none}
@@ -60,6 +61,15 @@ unplaced_rests c s name node times free found inside e =
 unknown : (c : Config) (s : State) (name : Name) → find_node s.nodes name ≡ None → first_that_holds (reasons c s (Heartbeat name)) ≡ None → ⊥
 unfolding reasons
 unknown c s name lost free = let refused = rw lost at free in cc
+
+-- a node that is not refused is on a partition whose clock is not spent
+pub unspent : (c : Config) (s : State) (name : Name) (node : Node) → first_that_holds (reasons c s (Heartbeat name)) ≡ None → find_node s.nodes name ≡ Some node → is_spent c.labels s node.label ≡ false
+unfolding reasons
+unspent c s name node free found = go (is_spent c.labels s node.label) refl (rw found at free)
+  where
+    go : (b : Bool) → is_spent c.labels s node.label ≡ b → cond b (Some ClockSpent) None ≡ None → is_spent c.labels s node.label ≡ false
+    go true e refused = absurd (cc)
+    go false e refused = e
 
 -- the heartbeat of a node that rests
 found_step : (c : Config) (s : State) (name : Name) (node : Node) → first_that_holds (reasons c s (Heartbeat name)) ≡ None → find_node s.nodes name ≡ Some node → next_item c s node ≡ None

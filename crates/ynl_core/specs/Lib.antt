@@ -1,4 +1,5 @@
 pub mod Resting
+pub mod Ready
 pub mod CoreFields
 pub mod World
 pub mod Sure

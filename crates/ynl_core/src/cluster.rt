@@ -13,7 +13,7 @@ ghost use Rattle.ynl_core.specs.World.{opened, Answers};
 
 use crate::memory::NoMemory;
 use crate::refusals::{
-    refuse_ask, refuse_commit, refuse_exited, refuse_finish, refuse_heartbeat, refuse_lost,
+    Ready, refuse_ask, refuse_commit, refuse_exited, refuse_finish, refuse_heartbeat, refuse_lost,
     refuse_maximum, refuse_poll, refuse_propose, refuse_register, refuse_relabel, refuse_release,
     refuse_start, refuse_stop, refuse_submit, refuse_usage,
 };
@@ -240,13 +240,14 @@ impl Core {
         ensures sure { IsTrue (is_refused self.old (Heartbeat name.now)) → IsOk result }
     {
         let alloc = *self.tables.leaves.allocator();
-        if self.tables.nodes.rests(name) {
-            return Ok(Reply::Placed(Items::new(Vec::new(alloc))));
-        }
-        let node = match refuse_heartbeat(&self.config, &self.tables, name) {
-            Ok(node) => node,
+        let ready = match refuse_heartbeat(&self.config, &self.tables, name) {
+            Ok(ready) => ready,
             Err(refusal) => return Ok(Reply::Refused(refusal)),
         };
+        let Ready::Awake { number, node } = ready else {
+            return Ok(Reply::Placed(Items::new(Vec::new(alloc))));
+        };
+        let node = *node;
         let count = self.config.containers_per_heartbeat() as usize;
         let mut placed = Vec::with_capacity(alloc, count)?;
         reserve_containers(&mut self.tables.partitions, &node.label, count)?;
@@ -259,7 +260,7 @@ impl Core {
             &mut placed,
         );
         if placed.is_empty() && count > 0 {
-            rest(&mut self.tables, name);
+            rest(&mut self.tables, number, name);
         } else {
             wake(&mut self.tables);
         }

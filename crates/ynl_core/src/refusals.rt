@@ -4,7 +4,7 @@
 pub(crate) use applications::{refuse_ask, refuse_finish, refuse_poll, refuse_submit};
 pub(crate) use containers::{refuse_commit, refuse_exited, refuse_release};
 pub(crate) use nodes::{
-    refuse_heartbeat, refuse_lost, refuse_propose, refuse_register, refuse_relabel,
+    Ready, refuse_heartbeat, refuse_lost, refuse_propose, refuse_register, refuse_relabel,
 };
 pub(crate) use queues::{refuse_maximum, refuse_start, refuse_stop, refuse_usage};
 

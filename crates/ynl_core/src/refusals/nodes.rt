@@ -10,8 +10,10 @@ ghost use Rattle.ynl_model.specs.Check.{placing_reasons};
 ghost use Rattle.ynl_model.specs.Events.{reasons};
 ghost use Rattle.ynl_model.specs.declared.events.Event.TheVariants.{Register, Lost, Relabel, Heartbeat, Propose};
 ghost use Rattle.ynl_tables.specs.Tables.{state_of};
+ghost use Rattle.ynl_core.specs.Ready.{IsReady};
 
 use ynl_model::Node;
+use ynl_nodes::Sight;
 use ynl_queues::Config;
 use ynl_resource::{Label, Name, Refusal};
 use ynl_tables::{Tables, is_same, is_spent};
@@ -81,33 +83,42 @@ pub(crate) fn refuse_relabel(
     Ok(node)
 }
 
-/// The node on which something is to be placed, or the first reason for which nothing is.
-fn refuse_placing(config: &Config, tables: &Tables, name: &Name) -> Result<Node, Refusal>
-    ensures refused { IfErr result (λ refusal. first_that_holds (placing_reasons config.now (state_of tables.now) name.now) ≡ Some refusal) }
-    ensures free { IfOk result (λ _. first_that_holds (placing_reasons config.now (state_of tables.now) name.now) ≡ None) }
-    ensures node { IfOk result (λ node. node_of (state_of tables.now) name.now ≡ Some node) }
+/// The first reason for which nothing is to be placed on a node, if there is one; the node's name leads to it.
+fn refuse_placing_on(config: &Config, tables: &Tables, name: &Name, node: &Node) -> Option<Refusal>
+    requires { node_of (state_of tables.now) name.now ≡ Some node.now }
+    ensures { result ≡ first_that_holds (placing_reasons config.now (state_of tables.now) name.now) }
 {
-    let Some(node) = tables.nodes.find(name) else {
-        return Err(Refusal::NoSuchNode);
-    };
     if is_spent(config, tables, &node.label) {
-        return Err(Refusal::ClockSpent);
+        return Some(Refusal::ClockSpent);
     }
-    Ok(node)
+    None
+}
+
+/// A node whose heartbeat is not refused: it rests, or it is to get what can be placed on it.
+#[derive(Clone, Copy)]
+pub(crate) enum Ready<'a> {
+    Resting,
+    Awake { number: u64, node: &'a Node },
 }
 
 /// The node that is ready for more, or the first reason for which it gets nothing.
 #[tactic(auto, unfolding(ynl_model::specs::Events::reasons))]
-pub(crate) fn refuse_heartbeat(
+pub(crate) fn refuse_heartbeat<'a>(
     config: &Config,
-    tables: &Tables,
+    tables: &'a Tables,
     name: &Name,
-) -> Result<Node, Refusal>
+) -> Result<Ready<'a>, Refusal>
     ensures refused { IfErr result (λ refusal. first_that_holds (reasons config.now (state_of tables.now) (Heartbeat name.now)) ≡ Some refusal) }
-    ensures free { IfOk result (λ _. first_that_holds (reasons config.now (state_of tables.now) (Heartbeat name.now)) ≡ None) }
-    ensures node { IfOk result (λ node. node_of (state_of tables.now) name.now ≡ Some node) }
+    ensures ready { IfOk result (IsReady config.now (state_of tables.now) tables.now.nodes.resting name.now) }
 {
-    refuse_placing(config, tables, name)
+    match tables.nodes.sight(name) {
+        Sight::Nowhere => Err(Refusal::NoSuchNode),
+        Sight::Resting => Ok(Ready::Resting),
+        Sight::Awake { number, node } => match refuse_placing_on(config, tables, name, node) {
+            Some(refusal) => Err(refusal),
+            None => Ok(Ready::Awake { number, node }),
+        },
+    }
 }
 
 /// The node for which something is proposed, or the first reason for which nothing is.
@@ -117,5 +128,11 @@ pub(crate) fn refuse_propose(config: &Config, tables: &Tables, name: &Name) -> R
     ensures free { IfOk result (λ _. first_that_holds (reasons config.now (state_of tables.now) (Propose name.now)) ≡ None) }
     ensures node { IfOk result (λ node. node_of (state_of tables.now) name.now ≡ Some node) }
 {
-    refuse_placing(config, tables, name)
+    let Some(node) = tables.nodes.find(name) else {
+        return Err(Refusal::NoSuchNode);
+    };
+    match refuse_placing_on(config, tables, name, &node) {
+        Some(refusal) => Err(refusal),
+        None => Ok(node),
+    }
 }
