@@ -239,13 +239,7 @@ pub fn drop_at(row: &mut PartitionRow, numbers: &QueueNumbers, leaves: &[LeafRow
     let after = row.containers[place].after;
     let account = account_of(numbers, leaves, &container);
     lower(&mut row.uses, account.way, &container);
-    change_users(
-        &mut row.users,
-        numbers,
-        &account,
-        Change::Less,
-        &container,
-    );
+    change_users(&mut row.users, numbers, &account, Change::Less, &container);
     let last = if after == 0 { Some(before) } else { None };
     row.filled.lower(&container.node, &container.size, last);
     row.listed.remove(&container);

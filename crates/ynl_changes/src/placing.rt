@@ -65,13 +65,7 @@ fn put(
         row.clock = clock;
         let account = account_of(numbers, leaves, container);
         raise(&mut row.uses, account.way, container);
-        change_users(
-            &mut row.users,
-            numbers,
-            &account,
-            Change::More,
-            container,
-        );
+        change_users(&mut row.users, numbers, &account, Change::More, container);
         let before = row
             .filled
             .raise(&container.node, &container.size, container.id.clock);

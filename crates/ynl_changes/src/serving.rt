@@ -11,23 +11,29 @@ ghost use Rattle.ynl_tables.specs.Tables.{state_of, HasCapacity};
 ghost use Rattle.ynl_choice.specs.Lulls.{AreLulls};
 
 use crate::placing::place;
-use ynl_choice::{Lulls, Request, choose, fade_leaf_for};
+use ynl_choice::{Lulls, Request, choose_into, fade_leaf_for};
 use ynl_model::{Node, Placed};
 use ynl_queues::Config;
 use ynl_tables::{Tables, is_spent, push_copy};
 
-/// The request that is placed next on a node whose partition's clock is not spent.
-fn next_request(config: &Config, tables: &Tables, lulls: &mut Lulls, node: &Node) -> Option<Request>
+/// The request that is placed next on a node whose partition's clock is not spent is put into its place, if there is one.
+fn find_next(
+    config: &Config,
+    tables: &Tables,
+    lulls: &mut Lulls,
+    node: &Node,
+    next: &mut Option<Request>,
+)
     requires working { IsWorking config.now (state_of tables.now) }
     requires tabled { Tabled (state_of tables.now) }
     requires kept { IsKept tables.now }
     requires numbered { AreQueuesOf config.now tables.now.numbers }
     requires lulls { AreLulls config.now (state_of tables.now) lulls.old }
     requires unspent { is_spent config.now.labels (state_of tables.now) node.now.label ≡ false }
-    ensures item { result ≡ next_item config.now (state_of tables.now) node.now }
+    ensures item { next.new ≡ next_item config.now (state_of tables.now) node.now }
     ensures lulls { AreLulls config.now (state_of tables.now) lulls.new }
 {
-    choose(config, tables, lulls, node)
+    choose_into(config, tables, lulls, node, next);
 }
 
 /// Places the next request on a node whose partition's clock is not spent, so many times at most, and notes the
@@ -56,8 +62,9 @@ pub fn serve(
     ensures resting { tables.new.nodes.resting ≡ tables.old.nodes.resting }
     ensures lulls { AreLulls config.now (state_of tables.new) lulls.new }
 {
+    let mut next = None;
     for _i in 0..times {
-        let next = next_request(config, tables, lulls, node);
+        find_next(config, tables, lulls, node, &mut next);
         let Some(request) = &next else {
             return;
         };

@@ -11,7 +11,7 @@ ghost use Rattle.ynl_tables.specs.Bounds.{IsReadable};
 ghost use Rattle.ynl_tables.specs.Numbers.{AreQueuesOf};
 ghost use Rattle.ynl_tables.specs.Tables.{state_of};
 ghost use Rattle.ynl_tables.specs.declared.rows.LeafRow.{LeafRow};
-ghost use Rattle.ynl_choice.specs.Candidates.{standings_of};
+ghost use Rattle.ynl_choice.specs.Candidates.{request_of, standings_of};
 ghost use Rattle.ynl_choice.specs.Choosing.{item_of, state_in, standings_to, IsScene, IsNext, IsPassed, HoldsBest, IsLooked, IsSeed, IsSeen, all_asks, all_wanted, wanted_in};
 ghost use Rattle.ynl_choice.specs.Likely.{path_at};
 ghost use Rattle.ynl_choice.specs.Lulls.{AreLulls, IsPartAt, NonePass};
@@ -446,18 +446,42 @@ fn hold_choice<'a>(
     }
 }
 
-/// The request that is held.
-fn request_in(held: &Option<Candidate<'_>>) -> Option<Request>
-    ensures { result ≡ item_of held.now }
+/// The request that is held is put into its place. It is large, so it is made only where there is one.
+#[inline(never)]
+fn put_request(held: &Candidate<'_>, chosen: &mut Option<Request>)
+    ensures { chosen.new ≡ Some (request_of held.now) }
 {
-    match held {
-        Some(candidate) => Some(request_of(
-            candidate.row,
-            candidate.app,
-            &candidate.what,
-            &candidate.size,
-        )),
-        None => None,
+    *chosen = Some(request_of(held.row, held.app, &held.what, &held.size));
+}
+
+/// No request stands in its place from now on. Where none does nothing is written.
+fn clear(chosen: &mut Option<Request>)
+    ensures { chosen.new ≡ None }
+{
+    if chosen.is_some() {
+        *chosen = None;
+    }
+}
+
+/// The same as `choose`, put into a place that is kept for it: a request is large, and is not moved then.
+pub fn choose_into(
+    config: &Config,
+    tables: &Tables,
+    lulls: &mut Lulls,
+    node: &Node,
+    chosen: &mut Option<Request>,
+)
+    requires readable { IsReadable tables.now }
+    requires numbered { AreQueuesOf config.now tables.now.numbers }
+    requires lulls { AreLulls config.now (state_of tables.now) lulls.old }
+    ensures choice { chosen.new ≡ choice config.now (state_of tables.now) node.now }
+    ensures lulls { AreLulls config.now (state_of tables.now) lulls.new }
+{
+    let mut held = None;
+    hold_choice(config, tables, lulls, node, &mut held);
+    match &held {
+        Some(candidate) => put_request(candidate, chosen),
+        None => clear(chosen),
     }
 }
 
@@ -470,7 +494,7 @@ pub fn choose(config: &Config, tables: &Tables, lulls: &mut Lulls, node: &Node) 
     ensures choice { result ≡ choice config.now (state_of tables.now) node.now }
     ensures lulls { AreLulls config.now (state_of tables.now) lulls.new }
 {
-    let mut held = None;
-    hold_choice(config, tables, lulls, node, &mut held);
-    request_in(&held)
+    let mut chosen = None;
+    choose_into(config, tables, lulls, node, &mut chosen);
+    chosen
 }

@@ -4,7 +4,7 @@
 
 pub use blocks::MOST;
 pub use checking::{Checked, check};
-pub use choosing::choose;
+pub use choosing::{choose, choose_into};
 pub use forgetting::{fade_leaf, fade_leaf_at, fade_leaf_for, fade_leaf_of, left_by, left_by_ask};
 pub use limits::{master_limit_of, user_limit_of};
 pub use lulls::{Lull, Lulls};

@@ -232,9 +232,10 @@ impl Core {
         Ok(Reply::Done)
     }
 
+    /// The same as `apply` of a heartbeat, of which there are more than of all other events.
     #[tactic(auto, unfolding(ynl_model::specs::Events::step, ynl_model::specs::Events::accepted))]
     #[inline(never)]
-    fn heartbeat(&mut self, name: &Name) -> Result<Reply, NoMemory>
+    pub fn heartbeat(&mut self, name: &Name) -> Result<Reply, NoMemory>
         ensures ok { IfOk result (λ reply. Answers self.old (Heartbeat name.now) self.new reply) }
         ensures err { OnErr result (self.new ≡ self.old) }
         ensures sure { IsTrue (is_refused self.old (Heartbeat name.now)) → IsOk result }

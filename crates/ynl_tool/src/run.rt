@@ -18,7 +18,7 @@ use std::io::{BufRead, Write};
 use thiserror::Error;
 use ynl_core::{Core, NoMemory};
 use ynl_lines::{EventReader, InputFault, LineFault, heartbeat_of, put_reply, write_fault};
-use ynl_model::{Event, Reply};
+use ynl_model::Reply;
 use ynl_queues::Config;
 use ynl_resource::Name;
 
@@ -128,7 +128,7 @@ fn answer_heartbeat(
 ) -> Result<(), NoMemory>
     ensures { HoldsReply held.old.items held.new.items core.old.config core.old.state core.new (Heartbeat node) result }
 {
-    let reply = core.apply(Event::Heartbeat { node })?;
+    let reply = core.heartbeat(&node)?;
     hold(alloc, &reply, text, held)?;
     Ok(())
 }

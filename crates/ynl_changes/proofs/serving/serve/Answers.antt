@@ -17,12 +17,12 @@ use Rattle.ynl_changes.proofs.serving.serve.Goals as goal
 pub returns-in_default-clause-state : goal.returns-in_default-clause-state
 returns-in_default-clause-state c =
     let s = state_of c.loop-i.tables in
-    state_done _ s _ (beat_none c.args.config.now c.args.node.now (c.args.times - c.loop-i._i) s (sym c.next_request-next.ensures.item ∙ c.in_default.is)) c.loop-i.invariant.state
+    state_done _ s _ (beat_none c.args.config.now c.args.node.now (c.args.times - c.loop-i._i) s (sym c.find_next.ensures.item ∙ c.in_default.is)) c.loop-i.invariant.state
 
 pub returns-in_default-clause-placed : goal.returns-in_default-clause-placed
 returns-in_default-clause-placed c =
     let s = state_of c.loop-i.tables in
-    placed_done _ s c.loop-i.placed.items _ (beat_none c.args.config.now c.args.node.now (c.args.times - c.loop-i._i) s (sym c.next_request-next.ensures.item ∙ c.in_default.is)) c.loop-i.invariant.placed
+    placed_done _ s c.loop-i.placed.items _ (beat_none c.args.config.now c.args.node.now (c.args.times - c.loop-i._i) s (sym c.find_next.ensures.item ∙ c.in_default.is)) c.loop-i.invariant.placed
 
 pub place-container-requires-clause-capacity : goal.place-container-requires-clause-capacity
 place-container-requires-clause-capacity c =
@@ -31,7 +31,7 @@ place-container-requires-clause-capacity c =
 
 pub place-container-requires-clause-placeable : goal.place-container-requires-clause-placeable
 place-container-requires-clause-placeable c =
-    placeable_next c.args.config.now (state_of c.loop-i.tables) c.args.node.now c.in-Some.request c.loop-i.invariant.working c.loop-i.invariant.tabled c.loop-i.invariant.stands (sym c.next_request-next.ensures.item ∙ c.in-Some.is)
+    placeable_next c.args.config.now (state_of c.loop-i.tables) c.args.node.now c.in-Some.request c.loop-i.invariant.working c.loop-i.invariant.tabled c.loop-i.invariant.stands (sym c.find_next.ensures.item ∙ c.in-Some.is)
 
 -- a turn that places
 
@@ -46,7 +46,7 @@ one_less : (c : After-is_spent) → before_turn c ≡ suc (after_turn c)
 one_less c = omega arith
 
 is_next : (c : After-is_spent) → next_item c.args.config.now (state_of c.loop-i.tables) c.args.node.now ≡ Some c.in-Some.request
-is_next c = sym c.next_request-next.ensures.item ∙ c.in-Some.is
+is_next c = sym c.find_next.ensures.item ∙ c.in-Some.is
 
 lulls_after : (c : After-is_spent) → AreLulls c.args.config.now (state_of c.place-container.new.tables) c.fade_leaf_for.new.lulls
 lulls_after c =
@@ -55,9 +55,9 @@ lulls_after c =
     let request = c.in-Some.request in
     let s = state_of c.loop-i.tables in
     let new = state_of c.place-container.new.tables in
-    placed_lulls config c.loop-i.tables.numbers s new node request c.loop-i.tables.leaves.items c.next_request-next.new.lulls c.fade_leaf_for.new.lulls c.loop-i.invariant.working c.loop-i.invariant.tabled
+    placed_lulls config c.loop-i.tables.numbers s new node request c.loop-i.tables.leaves.items c.find_next.new.lulls c.fade_leaf_for.new.lulls c.loop-i.invariant.working c.loop-i.invariant.tabled
     (placeable_next config s node request c.loop-i.invariant.working c.loop-i.invariant.tabled c.loop-i.invariant.stands (is_next c)).there (is_next c) c.place-container.ensures.state c.loop-i.invariant.kept.amounts.numbered
-    (subst (λ (queues : List Path). AreNumbered queues new.leaves) c.place-container.ensures.numbers c.place-container.ensures.kept.amounts.numbered) c.next_request-next.ensures.lulls c.fade_leaf_for.ensures.fewer c.fade_leaf_for.ensures.faded refl
+    (subst (λ (queues : List Path). AreNumbered queues new.leaves) c.place-container.ensures.numbers c.place-container.ensures.kept.amounts.numbered) c.find_next.ensures.lulls c.fade_leaf_for.ensures.fewer c.fade_leaf_for.ensures.faded refl
 
 state_after : (c : After-is_spent) → (beat c.args.config.now c.args.node.now (after_turn c) (state_of c.place-container.new.tables)).state ≡ (beat c.args.config.now c.args.node.now c.args.times (state_of c.args.tables.now)).state
 state_after c = state_next c.args.config.now c.args.node.now (before_turn c) (after_turn c) (state_of c.loop-i.tables) (state_of c.place-container.new.tables) c.in-Some.request (one_less c) (is_next c) c.place-container.ensures.state _ c.loop-i.invariant.state
