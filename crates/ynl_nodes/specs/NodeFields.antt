@@ -1,7 +1,6 @@
 -- What nodes that are kept by number mean in the model.
-use Rattle.std.specs.Prelude.{◌≡◌, ℕ, ◌<◌, ◌≤◌, Bool, false, List, [], map, filter, Option, IfSome, nat_eq}
+use Rattle.std.specs.Prelude.{◌≡◌, ℕ, ◌<◌, ◌≤◌, List, [], map, filter, Option, IfSome}
 use Rattle.std.specs.List.{AllByRecursion}
-use Rattle.std.specs.Map.{lookup}
 use Rattle.std.specs.Option.{option_map_or}
 use Rattle.ynl_resource.specs.Amounts.{IsSize}
 use Rattle.ynl_resource.specs.Ranges.{most_nodes}

@@ -1,4 +1,4 @@
-use Rattle.std.proofs.Common.{◌≡◌, true, false, ◌<◌, [], None, Some, rules, refl, sym, ap, subst, ◌∙◌}
+use Rattle.std.proofs.Common.{◌≡◌, false, ◌<◌, [], None, Some, rules, refl, sym, ap, subst, ◌∙◌}
 use Rattle.ynl_model.specs.declared.events.Event.{Event}
 use Rattle.ynl_model.specs.declared.events.Event.TheVariants.{Heartbeat}
 use Rattle.ynl_model.specs.declared.replies.Reply.TheVariants.{Placed}
@@ -11,8 +11,7 @@ use Rattle.ynl_laws.proofs.Soundness.Steps.{stands-found}
 use Rattle.ynl_core.specs.CoreFields.{world_of, IsSound}
 use Rattle.ynl_tables.specs.Tables.{state_of, leaves_of, partitions_of}
 use Rattle.ynl_core.specs.World.{World, Answers}
-use Rattle.std.specs.Bool.{OnTrue}
-use Rattle.ynl_nodes.specs.Members.{is_among}
+use Rattle.ynl_core.specs.Ready.{IsReady}
 use Rattle.ynl_core.specs.Resting.{AreResting}
 use Rattle.ynl_core.proofs.Idle.{unspent, empty_items, rests_more, unplaced_more, unplaced_rests, unplaced_same, resting_step}
 use Rattle.ynl_choice.specs.Lulls.{AreLulls}
@@ -24,7 +23,7 @@ pub serve-requires-clause-kept : goal.serve-requires-clause-kept
 serve-requires-clause-kept c = reserved c.self.inside.tables c.reserve_containers.new.rows c.reserve_containers.ensures.meaning c.reserve_containers.ensures.summed c.self.invariant.kept
 
 pub serve-requires-clause-stands : goal.serve-requires-clause-stands
-serve-requires-clause-stands c = stands-found (state_of c.self.inside.tables) c.args.name.now c.in-Awake.node.now c.in-Awake.ensures.ready.1
+serve-requires-clause-stands c = stands-found (state_of c.self.inside.tables) c.args.name.now c.in-Awake.node.now (subst (IsReady c.self.inside.config (state_of c.self.inside.tables) c.self.inside.tables.nodes.resting c.args.name.now) c.in-Awake.is c.in-Ok.ensures.ready).1
 
 -- no container that was taken room for moves a clock
 pub serve-requires-clause-unspent : goal.serve-requires-clause-unspent
@@ -33,7 +32,7 @@ serve-requires-clause-unspent c =
     let config = c.self.inside.config in
     let label = c.in-Awake.node.now.label in
     subst (λ ps. is_spent config.labels (record (state_of tables) { partitions = ps }) label ≡ false) (sym c.reserve_containers.ensures.meaning)
-    (unspent config (state_of tables) c.args.name.now c.in-Awake.node.now c.in-Awake.ensures.ready.0 c.in-Awake.ensures.ready.1)
+    (unspent config (state_of tables) c.args.name.now c.in-Awake.node.now (subst (IsReady c.self.inside.config (state_of c.self.inside.tables) c.self.inside.tables.nodes.resting c.args.name.now) c.in-Awake.is c.in-Ok.ensures.ready).0 (subst (IsReady c.self.inside.config (state_of c.self.inside.tables) c.self.inside.tables.nodes.resting c.args.name.now) c.in-Awake.is c.in-Ok.ensures.ready).1)
 
 pub invariant_of-self-else-is_empty : goal.invariant_of-self-else-is_empty
 unfolding step accepted
@@ -47,11 +46,11 @@ invariant_of-self-then-count-gt0 c =
     let times = c.containers_per_heartbeat-count.result in
     let reserved : State = record { nodes = tables.nodes.list; partitions = partitions_of c.reserve_containers.new.rows.items; leaves = leaves_of tables.leaves.items; stops = tables.stops; maxima = tables.maxima } in
     let as_before : state_of tables ≡ reserved = λ i. record { nodes = tables.nodes.list; partitions = sym c.reserve_containers.ensures.meaning i; leaves = leaves_of tables.leaves.items; stops = tables.stops; maxima = tables.maxima } in
-    let found : find_node reserved.nodes c.args.name.now ≡ Some node = c.in-Awake.ensures.ready.1 in
+    let found : find_node reserved.nodes c.args.name.now ≡ Some node = (subst (IsReady c.self.inside.config (state_of c.self.inside.tables) c.self.inside.tables.nodes.resting c.args.name.now) c.in-Awake.is c.in-Ok.ensures.ready).1 in
     let nothing : c.serve.new.placed.items ≡ [] = empty_items c.serve.new.placed.items (search rules) in
     let unplaced : (beat config node times reserved).placed ≡ [] = unplaced_more (beat config node times reserved) c.in_ok-placed.placed.items c.serve.new.placed.items c.in_ok-placed.ensures.items c.serve.ensures.placed nothing in
     let inside : 0 < times = search rules in
-    let free = subst (λ s. first_that_holds (reasons config s (Heartbeat c.args.name.now)) ≡ None) as_before c.in-Awake.ensures.ready.0 in
+    let free = subst (λ s. first_that_holds (reasons config s (Heartbeat c.args.name.now)) ≡ None) as_before (subst (IsReady c.self.inside.config (state_of c.self.inside.tables) c.self.inside.tables.nodes.resting c.args.name.now) c.in-Awake.is c.in-Ok.ensures.ready).0 in
     let sound : IsSound config reserved c.self.inside.tables.nodes.resting = subst (λ s. IsSound config s c.self.inside.tables.nodes.resting) as_before c.self.invariant.sound in
     let same : state_of c.rest.new.tables ≡ reserved = c.rest.ensures.before.state ∙ c.serve.ensures.state ∙ unplaced_same config node times reserved inside unplaced in
     record {
@@ -70,7 +69,7 @@ pub returns-in_default-clause-ok : goal.returns-in_default-clause-ok
 returns-in_default-clause-ok c =
     let old = world_of c.self.inside in
     let event : Event = Heartbeat c.args.name.now in
-    let same = resting_step old.config old.state c.args.name.now (c.self.invariant.sound.resting c.args.name.now c.in_default.ensures.ready) in
+    let same = resting_step old.config old.state c.args.name.now (c.self.invariant.sound.resting c.args.name.now (subst (IsReady c.self.inside.config (state_of c.self.inside.tables) c.self.inside.tables.nodes.resting c.args.name.now) c.in_default.is c.in-Ok.ensures.ready)) in
     let P : World → Type 0 = λ w. Answers w event w (Placed c.new-in_default.result) in
     subst P c.self.view_is (record {
       told = ap Placed (c.new-in_default.ensures ∙ c.new.ensures.items) ∙ sym (ap (λ (o : Outcome). o.reply) same);
