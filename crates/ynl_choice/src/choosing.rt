@@ -28,7 +28,7 @@ use crate::standings::Candidate;
 use ynl_model::Node;
 use ynl_queues::Config;
 use ynl_resource::{Label, Name, Resource};
-use ynl_tables::{Tables, free};
+use ynl_tables::{Tables, free, is_at};
 
 /// What is wanted of the leaf at a place; if nothing of it may be placed, that is known then. The place of the leaf
 /// that is looked at next.
@@ -57,16 +57,6 @@ fn add_at<'a>(
     let lull = add_leaf(scene, &rows[place], steps, passed, held);
     lulls.note(at, place, &lull);
     next_leaf(scene, place, passed)
-}
-
-/// Whether a leaf is the one that was looked at before.
-fn is_seen(seen: Option<usize>, place: usize) -> bool
-    ensures { OnTrue result (seen ≡ Some place) }
-{
-    match seen {
-        Some(at) => at == place,
-        None => false,
-    }
 }
 
 /// What is wanted of the leaves from a place on, up to the one that is looked at next: past those of which it is known
@@ -101,7 +91,7 @@ fn add_next<'a>(
     if open >= count {
         return count;
     }
-    if is_seen(seen, open) {
+    if is_at(seen, open) {
         return next_leaf(scene, open, passed);
     }
     add_at(scene, lulls, at, open, passed, held)

@@ -14,14 +14,14 @@ returns-then-open-count-clause-best c = λ first h.
     let last : c.next_open-open.result ≡ c.len-count.result = grind (arith, nat_tests, past, c.next_open-open.ensures.inside) in
     wanted-quiet scene first c.args.held.now c.args.place c.len-count.result c.len-count.result (subst (λ n. AreQuiet scene c.args.place n c.len-count.result) last c.next_open-open.ensures) (omega (arith, scene.tables.now.leaves.ok.0)) h
 
-pub returns-then-is_seen-clause-best : goal.returns-then-is_seen-clause-best
-returns-then-is_seen-clause-best c = λ first h.
+pub returns-then-is_at-clause-best : goal.returns-then-is_at-clause-best
+returns-then-is_at-clause-best c = λ first h.
     let scene = c.args.scene.now in
     let held = c.args.held.now in
     let next = c.next_open-open.result in
     let inside : next < length scene.tables.now.leaves.items = omega (arith, c.if-open-count.false, scene.tables.now.leaves.ok.0) in
     let there = some_row scene.tables.now.leaves.items next inside in
-    let told : c.args.seen ≡ Some next = subst (λ b. OnTrue b (c.args.seen ≡ Some next)) c.if-is_seen.true c.is_seen.ensures in
+    let told : c.args.seen ≡ Some next = subst (λ b. OnTrue b (c.args.seen ≡ Some next)) c.if-is_at.true c.is_at.ensures in
     let seen : IsSeen scene (Some next) held = subst (λ seen. IsSeen scene seen held) told c.requires.seen in
     wanted-passed scene first held held c.args.passed.now there.0 next c.next_leaf.result there.1 c.next_leaf.ensures c.requires.passed
     (wanted-quiet scene first held c.args.place next c.len-count.result c.next_open-open.ensures (omega (arith, scene.tables.now.leaves.ok.0)) h) (seen-held scene (wanted_in scene there.0) held (seen there.0 there.1))
