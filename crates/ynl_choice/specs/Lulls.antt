@@ -1,5 +1,5 @@
 -- What is known of leaves of which nothing could be placed.
-use Rattle.std.specs.Prelude.{ℕ, ◌≡◌, ◌<◌, ◌≤◌, ◌⊎◌, Bool, true, false, List, [], length, slice_index_or, Option, None, Some, IfSome, if◌then◌else◌}
+use Rattle.std.specs.Prelude.{ℕ, ◌≡◌, ◌==◌, ◌<◌, ◌≤◌, ◌⊎◌, Bool, true, false, List, [], length, slice_index_or, Option, None, Some, IfSome, if◌then◌else◌}
 use Rattle.std.specs.List.{AllByRecursion, list_any}
 use Rattle.ynl_resource.specs.Amounts.{fits_in, nothing}
 use Rattle.ynl_resource.specs.Names.{same_label, same_path}
@@ -7,6 +7,7 @@ use Rattle.ynl_resource.specs.declared.amounts.Resource.{Resource}
 use Rattle.ynl_resource.specs.declared.labels.Label.{Label}
 use Rattle.ynl_resource.specs.declared.paths.Path.{Path}
 use Rattle.ynl_model.specs.Applications.{LeafApps}
+use Rattle.ynl_model.specs.declared.applications.AskRow.{AskRow}
 use Rattle.ynl_model.specs.Cluster.{State}
 use Rattle.ynl_model.specs.Queues.{Config}
 use Rattle.ynl_model.specs.Service.{Item}
@@ -101,6 +102,10 @@ most = record { memory = 18446744073709551615; vcores = 18446744073709551615 }
 abbrev pub left_by : What → Resource
 left_by Master = nothing
 left_by (Ask asked priority) = most
+
+-- where an ask is set what comes is of its size, and nothing comes where what was asked for is taken back
+abbrev pub left_by_ask : AskRow → Resource
+left_by_ask ask = if ask.count == 0 then most else ask.size
 
 -- none of some requests may be placed
 abbrev pub NonePass : Scene → List Item → Type 0

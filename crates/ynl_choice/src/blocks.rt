@@ -2,7 +2,7 @@
 
 ghost use Rattle.std.proofs.Props.{props};
 ghost use Rattle.std.specs.Prelude.{◌≡◌, ℕ, ◌<◌, ◌≤◌, ◌+◌, true, None, Some, IfOk, IfSome, length, slice_index_or};
-ghost use Rattle.ynl_resource.specs.Amounts.{fits_in};
+ghost use Rattle.ynl_resource.specs.Amounts.{fits_in, smaller_of};
 ghost use Rattle.ynl_choice.specs.Blocks.{block_size, is_still, is_told_still, Implies, AreBlocks};
 
 use crate::lulls::Lull;
@@ -31,6 +31,7 @@ pub const MOST: Resource = Resource {
 
 /// The less of two amounts, in memory and in virtual cores.
 pub fn less_of(a: &Resource, b: &Resource) -> Resource
+    ensures value { result ≡ smaller_of a.now b.now }
     ensures first { fits_in result a.now ≡ true }
     ensures second { fits_in result b.now ≡ true }
 {

@@ -1,14 +1,13 @@
 //! Leaves that change, of which less is known then: on one partition, or on all, where none is told.
 
-ghost use Rattle.std.specs.Prelude.{◌≡◌, ◌==◌, true, false, None, Some};
-ghost use Rattle.ynl_resource.specs.Amounts.{fits_in};
+ghost use Rattle.std.specs.Prelude.{◌≡◌, true, None, Some};
 ghost use Rattle.ynl_resource.specs.Names.{same_path};
 ghost use Rattle.ynl_resource.specs.declared.paths.Path.{Path as Names};
 ghost use Rattle.ynl_model.specs.Applications.{leaf_of};
 ghost use Rattle.ynl_tables.specs.Numbers.{AreNumbered};
 ghost use Rattle.ynl_tables.specs.Seats.{AreFound};
 ghost use Rattle.ynl_tables.specs.Tables.{leaves_of};
-ghost use Rattle.ynl_choice.specs.Lulls.{AreFaded, AreFewer, IsFaded, changed_on, left_by, most};
+ghost use Rattle.ynl_choice.specs.Lulls.{AreFaded, AreFewer, IsFaded, changed_on, left_by, left_by_ask, most};
 
 use crate::blocks::MOST;
 use crate::lulls::{Lulls, NOTHING};
@@ -120,7 +119,7 @@ pub fn left_by(what: &What) -> Resource
 
 /// The amount that what comes with an ask is not below: nothing comes with one that takes back what was asked for.
 pub fn left_by_ask(ask: &AskRow) -> Resource
-    ensures { (ask.now.count == 0) ≡ false → fits_in result ask.now.size ≡ true }
+    ensures { result ≡ left_by_ask ask.now }
 {
     if ask.count == 0 {
         MOST
