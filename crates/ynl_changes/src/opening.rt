@@ -1,8 +1,7 @@
 //! The tables of a cluster at first.
 
 ghost use Rattle.std.specs.Prelude.{◌≡◌, Bool, List, [], ◌∷◌, ◌++◌, map, IfOk, OnOk};
-ghost use Rattle.std.specs.List.{position};
-ghost use Rattle.ynl_resource.specs.Names.{root, same_path};
+ghost use Rattle.ynl_resource.specs.Names.{root};
 ghost use Rattle.ynl_resource.specs.declared.names.Name.{Name};
 ghost use Rattle.ynl_model.specs.Applications.{LeafApps, no_apps};
 ghost use Rattle.ynl_model.specs.Cluster.{opening, no_containers};
@@ -19,8 +18,8 @@ use ynl_controls::{Maxima, Stops};
 use ynl_labels::Labels;
 use ynl_model::Use;
 use ynl_nodes::Nodes;
-use ynl_queues::{Config, QueueRow};
-use ynl_resource::{Label, Path, Resource};
+use ynl_queues::Config;
+use ynl_resource::{Label, Resource};
 use ynl_tables::{
     Known, LeafPart, LeafRow, Listed, Near, PartitionRow, QueueNumbers, Sums, Tables, UserCounts,
 };
@@ -146,24 +145,18 @@ fn no_sharers(alloc: Global, labels: &Labels) -> Result<Vec<LeafPart>, AllocErro
     Ok(parts)
 }
 
-/// The place of a queue in the configuration.
-fn place_of(rows: &[QueueRow], queue: &Path) -> Option<usize>
-    ensures { result ≡ position (λ row. same_path row.path queue.now) rows.now }
-{
-    rows.iter().position(|row| row.path == *queue)
-}
-
 /// A row for each leaf, where nothing was submitted yet.
 fn leaves(alloc: Global, config: &Config) -> Result<Vec<LeafRow>, AllocError>
     ensures { IfOk result (λ rows. leaves_of rows.items ≡ no_apps config.now) }
 {
     let mut rows = Vec::new(alloc);
+    let mut place: usize = 0;
     for queue in config.queues() {
         if config.is_leaf(queue.path.names()) {
             rows.push(LeafRow {
                 path: queue.path,
                 near: Near {
-                    place: place_of(config.queues(), &queue.path).unwrap_or(0),
+                    place,
                     leaf: rows.len(),
                 },
                 tenant: queue.tenant(),
@@ -175,6 +168,7 @@ fn leaves(alloc: Global, config: &Config) -> Result<Vec<LeafRow>, AllocError>
                 parts: no_sharers(alloc, config.labels())?,
             })?;
         }
+        place = place.saturating_add(1);
     }
     Ok(rows)
 }

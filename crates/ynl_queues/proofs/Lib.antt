@@ -1,7 +1,9 @@
+pub mod Beneath
 pub mod Crowds
 pub mod Dots
 pub mod Faultless
 pub mod Gathered
+pub mod Mapped
 pub mod Paths
 pub mod PlaceMaps
 pub mod Places

@@ -69,6 +69,15 @@ impl Config {
     }
 }
 
+/// A configuration of these rows, to be looked at, with an index of its queues.
+#[tactic(auto, unfolding(crate::specs::Written::configured))]
+fn configured(alloc: Global, labels: &Labels, rows: Vec<QueueRow>) -> Result<Config, AllocError>
+    ensures { IfOk result (λ config. config ≡ configured labels.now rows.items) }
+{
+    let config = Config::new(labels.copy(alloc)?, QueueTree::new(rows), 1, smallest());
+    config.indexed(alloc)
+}
+
 /// The tree of these rows, or its first fault, where there are not too many.
 #[tactic(auto, unfolding(crate::specs::Written::configured))]
 fn accept(
@@ -80,7 +89,7 @@ fn accept(
     requires apart { is_crowded (configured labels.now rows.items) ≡ false }
     ensures { IfOk result (λ built. built ≡ unless_fault (first_that_holds (tree_faults (configured labels.now rows.items))) rows.items) }
 {
-    let config = Config::new(labels.copy(alloc)?, QueueTree::new(rows), 1, smallest());
+    let config = configured(alloc, labels, rows)?;
     match config.tree_fault(alloc)? {
         Some(fault) => Ok(Err(fault)),
         None => Ok(Ok(config.into_tree())),

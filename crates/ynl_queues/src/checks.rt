@@ -18,10 +18,18 @@ use ynl_labels::Labels;
 use ynl_model::LabelCapacity;
 use ynl_resource::{Label, Name, Path};
 
+/// Whether a row has a path, which is compared where it stands: a path is large.
+fn has_row(rows: &[QueueRow], path: &Path) -> bool
+    ensures { result ≡ list_any (λ row. same_path path.now row.path) rows.now }
+{
+    rows.iter().any(|row| *path == row.path)
+}
+
+#[tactic(auto, using(crate::proofs::Mapped::any_mapped))]
 fn has_path(rows: &[QueueRow], path: &Path) -> bool
     ensures { result ≡ list_any (same_path path.now) (map (λ row. row.path) rows.now) }
 {
-    rows.iter().map(|row| row.path).any(|other| *path == other)
+    has_row(rows, path)
 }
 
 fn has_root(rows: &[QueueRow]) -> bool

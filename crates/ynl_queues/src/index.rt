@@ -1,9 +1,9 @@
 //! An index of the queues, and how it is built.
 
-ghost use Rattle.std.specs.Prelude.{◌≡◌, [], ◌∷◌, ◌++◌, map, slice_index_or, IfOk, IfSome, OnOk, List, Some, None, if◌then◌else◌};
+ghost use Rattle.std.specs.Prelude.{◌≡◌, [], ◌∷◌, ◌++◌, ◌&&◌, not, map, slice_index_or, IfOk, IfSome, OnOk, List, Some, None, if◌then◌else◌};
 ghost use Rattle.std.specs.List.{All, position};
 ghost use Rattle.std.specs.Option.{option_or};
-ghost use Rattle.ynl_resource.specs.Names.{same_path};
+ghost use Rattle.ynl_resource.specs.Names.{same_path, is_within};
 ghost use Rattle.ynl_resource.specs.declared.labels.Label.{Label};
 ghost use Rattle.ynl_queues.specs.Grants.{capacity_at};
 ghost use Rattle.ynl_resource.specs.declared.paths.Path.{Path as Names};
@@ -152,11 +152,22 @@ fn steps_to(
     Ok(Some(steps))
 }
 
+/// Whether a queue is below another. Most are not, as the lengths of their paths tell.
+#[tactic(auto, using(crate::proofs::Beneath::longer, crate::proofs::Beneath::no_longer))]
+fn is_beneath(queue: &[Name], path: &[Name]) -> bool
+    ensures { result ≡ (is_within queue.now path.now && not (same_path queue.now path.now)) }
+{
+    if queue.len() >= path.len() {
+        return false;
+    }
+    is_within(queue, path)
+}
+
 /// Whether another queue is below a queue.
 pub(crate) fn has_below(rows: &[QueueRow], queue: &[Name]) -> bool
     ensures { result ≡ has_below rows.now queue.now }
 {
-    rows.iter().any(|row| is_within(queue, row.path.names()) && queue != row.path.names())
+    rows.iter().any(|row| is_beneath(queue, row.path.names()))
 }
 
 fn push_row(
