@@ -1,5 +1,5 @@
 -- What needs no escape in a text of JSON.
-use Rattle.std.proofs.Common.{◌≡◌, ◌≤◌, ℕ, List, [], ◌∷◌, ◌++◌, true, ◌^◌, ◌<◌, decimal, refl, ap₂, ◌∙◌, arith}
+use Rattle.std.proofs.Common.{◌≡◌, ◌≤◌, ℕ, List, [], ◌∷◌, ◌++◌, true, ◌^◌, ◌<◌, decimal, refl, ap, ap₂, ◌∙◌, arith}
 use Rattle.std.specs.List.{list_all}
 use Rattle.std.proofs.lemmas.Bool.{and_parts}
 use Rattle.std.proofs.lemmas.Bool.Decides.{nat_tests}
@@ -12,6 +12,9 @@ use Rattle.std.specs.Str.Parse.{digits_value}
 use Rattle.json.specs.Print.{escape, escape_byte}
 use Rattle.json.proofs.Printed.Strings.{escape_byte_plain}
 use Rattle.ynl_resource.specs.NameText.{is_name, is_name_byte}
+use Rattle.ynl_resource.specs.declared.refusals.Refusal.{Refusal}
+use Rattle.ynl_resource.specs.Refusals.{word}
+use Rattle.ynl_resource.specs.declared.refusals.Refusal.TheVariants.{NoSuchLabel}
 use Rattle.ynl_lines.specs.Compact.{is_word_byte}
 
 not_quote : (x : ℕ) → is_name_byte x ≡ true → x ≡ 34 → ⊥
@@ -49,10 +52,16 @@ own = numerals_by_value _ tells_all_ascii_digits
 pub escape_number : (n : ℕ) → n < 2 ^ 64 → escape (decimal n) ≡ decimal n
 escape_number n h = escape_bytes (decimal n) (digits_named (decimal n) (digits_decimal own n h))
 
--- nor an id: a label, `#` and a number
-pub escape_id : (label digits : List ℕ) → escape label ≡ label → escape digits ≡ digits → escape (label ++ 35 ∷ digits) ≡ label ++ 35 ∷ digits
+-- so an id escapes as its label does: `#` and digits follow it
+pub escape_id : (label digits : List ℕ) → escape digits ≡ digits → escape (label ++ 35 ∷ digits) ≡ escape label ++ 35 ∷ digits
 unfolding escape_byte
-escape_id label digits l d = flat_map-append escape_byte label (35 ∷ digits) ∙ ap₂ (λ a b. a ++ 35 ∷ b) l d
+escape_id label digits plain = flat_map-append escape_byte label (35 ∷ digits) ∙ ap (λ d. escape label ++ 35 ∷ d) plain
+
+-- nor does the word of a refusal
+pub escape_refusal : (r : Refusal) → escape (word r) ≡ word r
+unfolding escape_byte
+escape_refusal NoSuchLabel = refl
+escape_refusal _ = refl
 
 -- ---- names, paths and ids
 

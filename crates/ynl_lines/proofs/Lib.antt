@@ -7,7 +7,6 @@ pub mod Rows
 pub mod ProposalTrip
 pub mod Lists
 pub mod ReplyTrip
-pub mod Sent
 pub mod Whole
 pub mod Plain
 pub mod Treed

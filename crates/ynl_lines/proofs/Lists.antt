@@ -21,9 +21,9 @@ one_read : {A : Type 0} (done : List A) (x : A) (rest : Result (List A) LineFaul
 one_read done x (Ok xs) = ap Ok (sym (append_assoc done (x ∷ []) xs))
 one_read done x (Err e) = refl
 
--- the values that are left are the next one, and those after it
-next : (vs : List Value) (i : ℕ) (v : Value) → i < length vs → v ≡ get_or vs i v → drop i vs ≡ v ∷ drop (i + 1) vs
-next vs i v h e = rw add-one (drop-cons vs i v h ∙ ap (λ x. x ∷ drop (suc i) vs) (sym e))
+-- what is left of a list is the next one, and those after it
+pub next : {A : Type 0} (xs : List A) (i : ℕ) (x : A) → i < length xs → x ≡ get_or xs i x → drop i xs ≡ x ∷ drop (i + 1) xs
+next xs i x h e = rw add-one (drop-cons xs i x h ∙ ap (λ y. y ∷ drop (suc i) xs) (sym e))
 
 module _ {A : Type 0} (read : Data → Result A LineFault) (vs : List Value) (i : ℕ) (v : Value) (h : i < length vs) (e : v ≡ get_or vs i v) (done : List A) where
   pub step : (done' : List A) (x : A) → read (view v) ≡ Ok x → done' ≡ done ++ x ∷ []

@@ -1,7 +1,7 @@
 -- The members of an object, from a list of them.
 use Rattle.std.specs.Prelude.{ℕ, List, [], ◌∷◌}
 use Rattle.std.specs.Borrow.{Bor}
-use Rattle.serde_json.specs.Data.{Data, string, number, unsigned, Members, member, put}
+use Rattle.serde_json.specs.Data.{Data, string, number, unsigned, Members, put}
 use Rattle.ynl_lines.specs.declared.object.Field.{Field}
 use Rattle.ynl_lines.specs.declared.object.Field.TheVariants.{Text, Word, Number, Amount}
 use Rattle.ynl_lines.specs.Writing.{amount_data}
@@ -17,8 +17,3 @@ field_data (Amount a) = amount_data a
 abbrev pub members_after : List (Bor (List ℕ) × Field) → Members → Members
 members_after [] ms = ms
 members_after (m ∷ more) ms = members_after more (put m.0.now (field_data m.1) ms)
-
--- the members of a list, in its order, before those that follow
-abbrev pub fields_before : List (Bor (List ℕ) × Field) → Members → Members
-fields_before [] rest = rest
-fields_before (m ∷ more) rest = member m.0.now (field_data m.1) (fields_before more rest)

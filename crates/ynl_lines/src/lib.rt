@@ -3,15 +3,14 @@
 //! Each is a JSON object. A text here is without the newline that ends its line.
 #![tactic(auto)]
 
-pub use adding::put_reply;
 pub use compact::heartbeat_of;
 pub use faults::{BadLine, InputFault, JournalFault, LineFault};
 pub use read::{EventReader, read_event};
 pub use read_lines::read_line;
 pub use write::{write_audit, write_event, write_fault, write_line, write_reply};
+pub use write_replies::put_reply;
 
 mod adding;
-mod answers;
 mod compact;
 mod cutting;
 mod events;
@@ -30,6 +29,8 @@ mod read_proposals;
 mod read_queues;
 mod read_replies;
 mod replies;
-mod sending;
 mod trees;
 mod write;
+mod write_containers;
+mod write_proposals;
+mod write_replies;

@@ -5,7 +5,7 @@ ghost use Rattle.serde_json.specs.Data.{object as json_object, no_members};
 ghost use Rattle.serde_json.specs.View.{view};
 ghost use Rattle.ynl_model.specs.declared.proposals.What.TheVariants.{Master, Ask as Asked};
 ghost use Rattle.ynl_resource.specs.Ranges.{most_clock};
-ghost use Rattle.ynl_lines.specs.Fields.{members_after, fields_before};
+ghost use Rattle.ynl_lines.specs.Fields.{members_after};
 ghost use Rattle.ynl_lines.specs.Reading.{proposal_at, HasProposalNumbers};
 ghost use Rattle.ynl_resource.specs.Ranges.{most_priority};
 ghost use Rattle.ynl_lines.specs.Writing as spec;
@@ -18,9 +18,8 @@ use ynl_resource::Label;
 
 /// The members of a proposal of a master.
 #[tactic(auto, using(crate::proofs::ProposalTrip::reads_master))]
-pub fn master_fields(proposal: &Proposal) -> [(&'static str, Field<'_>); 7]
-    ensures any_order { json_object (members_after result no_members) ≡ spec.master_proposal proposal.now }
-    ensures in_order { json_object (fields_before result no_members) ≡ spec.master_proposal proposal.now }
+fn master_fields(proposal: &Proposal) -> [(&'static str, Field<'_>); 7]
+    ensures members { json_object (members_after result no_members) ≡ spec.master_proposal proposal.now }
     ensures reads { proposal.now.what ≡ Master → proposal.now.stamp ≤ most_clock → proposal_at (spec.master_proposal proposal.now) ≡ Ok proposal.now }
 {
     let size = proposal.size.amount();
@@ -37,13 +36,12 @@ pub fn master_fields(proposal: &Proposal) -> [(&'static str, Field<'_>); 7]
 
 /// The members of a proposal of a container that was asked for.
 #[tactic(auto, using(crate::proofs::ProposalTrip::reads_asked))]
-pub fn asked_fields<'a>(
+fn asked_fields<'a>(
     proposal: &'a Proposal,
     label: &'a Label,
     priority: u32,
 ) -> [(&'static str, Field<'a>); 9]
-    ensures any_order { json_object (members_after result no_members) ≡ spec.asked_proposal proposal.now label.now priority }
-    ensures in_order { json_object (fields_before result no_members) ≡ spec.asked_proposal proposal.now label.now priority }
+    ensures members { json_object (members_after result no_members) ≡ spec.asked_proposal proposal.now label.now priority }
     ensures reads { proposal.now.what ≡ Asked label.now priority → priority ≤ most_priority → proposal.now.stamp ≤ most_clock
         → proposal_at (spec.asked_proposal proposal.now label.now priority) ≡ Ok proposal.now }
 {

@@ -5,7 +5,7 @@ ghost use Rattle.serde_json.specs.Data.{object as json_object, no_members};
 ghost use Rattle.serde_json.specs.View.{view, members_view};
 ghost use Rattle.ynl_resource.specs.Texts.{read_id, id_text};
 ghost use Rattle.ynl_model.specs.declared.proposals.What.TheVariants.{Master, Ask as Asked};
-ghost use Rattle.ynl_lines.specs.Fields.{members_after, fields_before};
+ghost use Rattle.ynl_lines.specs.Fields.{members_after};
 ghost use Rattle.ynl_lines.specs.Reading.{HasClock};
 ghost use Rattle.ynl_lines.specs.ReadingReplies.{ReadsPlaced, ReadsPending, ReadsProposed, PartsRead};
 ghost use Rattle.ynl_lines.specs.Writing as spec;
@@ -18,9 +18,8 @@ use ynl_model::{Pending, Placed, Proposal, Reply, What};
 use ynl_resource::{Label, Refusal, Resource};
 
 /// The members of a container that is a master.
-pub fn master_fields<'a>(placed: &'a Placed, id: &'a str) -> [(&'static str, Field<'a>); 7]
-    ensures any_order { json_object (members_after result no_members) ≡ spec.master_data id.now placed.now }
-    ensures in_order { json_object (fields_before result no_members) ≡ spec.master_data id.now placed.now }
+fn master_fields<'a>(placed: &'a Placed, id: &'a str) -> [(&'static str, Field<'a>); 7]
+    ensures members { json_object (members_after result no_members) ≡ spec.master_data id.now placed.now }
     ensures reads { placed.now.what ≡ Master → id.now ≡ id_text placed.now.id → (HasClock placed.now.id → read_id id.now ≡ Ok placed.now.id)
         → ReadsPlaced placed.now }
 {
@@ -37,14 +36,13 @@ pub fn master_fields<'a>(placed: &'a Placed, id: &'a str) -> [(&'static str, Fie
 }
 
 /// The members of a container that was asked for.
-pub fn asked_fields<'a>(
+fn asked_fields<'a>(
     placed: &'a Placed,
     id: &'a str,
     label: &'a Label,
     priority: u32,
 ) -> [(&'static str, Field<'a>); 9]
-    ensures any_order { json_object (members_after result no_members) ≡ spec.asked_data id.now placed.now label.now priority }
-    ensures in_order { json_object (fields_before result no_members) ≡ spec.asked_data id.now placed.now label.now priority }
+    ensures members { json_object (members_after result no_members) ≡ spec.asked_data id.now placed.now label.now priority }
     ensures reads { placed.now.what ≡ Asked label.now priority → id.now ≡ id_text placed.now.id
         → (HasClock placed.now.id → read_id id.now ≡ Ok placed.now.id) → ReadsPlaced placed.now }
 {
@@ -88,9 +86,8 @@ fn placed_list(alloc: Global, placed: &[Placed]) -> Result<Vec<Value>, AllocErro
 }
 
 /// The members of what is still asked for.
-pub fn pending_fields(pending: &Pending) -> [(&'static str, Field<'static>); 4]
-    ensures any_order { json_object (members_after result no_members) ≡ spec.pending_data pending.now }
-    ensures in_order { json_object (fields_before result no_members) ≡ spec.pending_data pending.now }
+fn pending_fields(pending: &Pending) -> [(&'static str, Field<'static>); 4]
+    ensures members { json_object (members_after result no_members) ≡ spec.pending_data pending.now }
     ensures reads { ReadsPending pending.now }
 {
     let size = pending.size.amount();
@@ -128,9 +125,8 @@ fn word_value(alloc: Global, word: &'static str) -> Result<Value, AllocError>
 }
 
 /// The members of a refusal.
-pub fn refused_fields(refusal: Refusal) -> [(&'static str, Field<'static>); 2]
-    ensures any_order { json_object (members_after result no_members) ≡ spec.refused_data refusal }
-    ensures in_order { json_object (fields_before result no_members) ≡ spec.refused_data refusal }
+fn refused_fields(refusal: Refusal) -> [(&'static str, Field<'static>); 2]
+    ensures { json_object (members_after result no_members) ≡ spec.refused_data refusal }
 {
     [
         ("refused", Field::Word(refusal.word())),
@@ -166,15 +162,14 @@ fn held_value(alloc: Global, containers: &[Placed], asks: &[Pending]) -> Result<
 }
 
 /// The members of what a queue uses, is guaranteed and may use, and what its masters and its guests use.
-pub fn usage_fields(
+fn usage_fields(
     used: Resource,
     guaranteed: Resource,
     maximum: Resource,
     masters: Resource,
     guests: Resource,
 ) -> [(&'static str, Field<'static>); 6]
-    ensures any_order { json_object (members_after result no_members) ≡ spec.usage_data used guaranteed maximum masters guests }
-    ensures in_order { json_object (fields_before result no_members) ≡ spec.usage_data used guaranteed maximum masters guests }
+    ensures { json_object (members_after result no_members) ≡ spec.usage_data used guaranteed maximum masters guests }
 {
     [
         ("guaranteed", Field::Amount(guaranteed)),

@@ -8,11 +8,11 @@ ghost use Rattle.ynl_lines.specs.Reading.{reading, event_of_line, IsInRange};
 ghost use Rattle.ynl_lines.specs.ReadingReplies.{line_of_text, answered_entry, IsReplyInRange};
 ghost use Rattle.ynl_lines.specs.Writing as spec;
 
-use crate::answers::Answer;
 use crate::events::event_value;
 use crate::faults::InputFault;
 use crate::object::{Field, members, object, with};
 use crate::replies::reply_value;
+use crate::write_replies::put_reply;
 use serde_json::Value;
 use std::alloc::{AllocError, Global};
 use ynl_model::{Event, Reply};
@@ -43,10 +43,9 @@ pub fn write_event(alloc: Global, event: &Event) -> Result<Vec<u8>, AllocError>
 pub fn write_reply(alloc: Global, reply: &Reply) -> Result<Vec<u8>, AllocError>
     ensures text { IfOk result (λ text. text.items ≡ spec.reply_text reply.now) }
 {
-    match serde_json::to_vec(alloc, &Answer { alloc, reply }) {
-        Ok(text) => Ok(text),
-        Err(_) => Err(AllocError),
-    }
+    let mut text = Vec::new(alloc);
+    put_reply(alloc, reply, &mut text)?;
+    Ok(text)
 }
 
 fn fault_value(alloc: Global, fault: InputFault, line: u64) -> Result<Value, AllocError>

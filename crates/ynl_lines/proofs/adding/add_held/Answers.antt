@@ -1,9 +1,0 @@
-use Rattle.std.proofs.lemmas.Result.{on_ok_weaker}
-use Rattle.ynl_lines.proofs.Added.{held_added}
-use Rattle.ynl_lines.proofs.adding.add_held.Goals as goal
-
-pub returns : goal.returns
-returns c =
-    on_ok_weaker c.add-3.result
-    (λ e. held_added c.args.containers.now c.args.asks.now c.args.text.now.items _ _ _ _ _ c.in_ok-add.ensures c.in_ok-add_asks.ensures c.in_ok-add-2.ensures c.in_ok-add_items.ensures e)
-    c.add-3.ensures
