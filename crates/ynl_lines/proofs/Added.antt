@@ -1,5 +1,5 @@
 -- Texts that are added to a text, piece by piece: they are the texts of replies, and of what stands in them.
-use Rattle.std.proofs.Common.{◌≡◌, ◌<◌, ◌≤◌, ◌+◌, ℕ, Bool, true, false, Some, List, [], ◌∷◌, ◌++◌, map, drop, length, get_or, codes, decimal, sym, ap, ◌∙◌, append_assoc}
+use Rattle.std.proofs.Common.{◌≡◌, ◌<◌, ◌≤◌, ◌+◌, ℕ, Bool, true, false, Some, List, [], ◌∷◌, ◌++◌, map, drop, length, get_or, codes, decimal, sym, ap, ap₂, ◌∙◌, append_assoc}
 use Rattle.std.proofs.lemmas.List.{drop_all}
 use Rattle.json.specs.Print.{escape, escape_byte}
 use Rattle.serde_json.specs.Data.{Data, Items, object, string, member, no_members}
@@ -29,6 +29,13 @@ join old mid front piece rest new first more = both old mid new (front ++ piece)
 pub quote : (old mid front text rest new : List ℕ) → mid ≡ old ++ (front ++ escape text) → new ≡ mid ++ 34 ∷ rest → new ≡ old ++ (front ++ ((escape text ++ 34 ∷ []) ++ rest))
 quote old mid front text rest new first more =
     join old mid front (escape text) (34 ∷ rest) new first more ∙ ap (λ t. old ++ (front ++ t)) (sym (append_assoc (escape text) (34 ∷ []) rest))
+
+-- the same of a text that needs no escape, and of the digits of a number, where the whole text is at hand
+pub quoted : (front text rest told : List ℕ) → escape text ≡ text → rest ≡ told → front ++ (text ++ 34 ∷ rest) ≡ front ++ ((escape text ++ 34 ∷ []) ++ told)
+quoted front text rest told plain same = ap (λ t. front ++ t) (ap₂ (λ a b. a ++ 34 ∷ b) (sym plain) same ∙ sym (append_assoc (escape text) (34 ∷ []) told))
+
+pub counted : (front digits rest told : List ℕ) → rest ≡ told → front ++ (digits ++ rest) ≡ front ++ (digits ++ told)
+counted front digits rest told same = ap (λ t. front ++ (digits ++ t)) same
 
 -- ---- containers
 
