@@ -57,7 +57,7 @@ pub escape_id : (label digits : List ℕ) → escape digits ≡ digits → escap
 unfolding escape_byte
 escape_id label digits plain = flat_map-append escape_byte label (35 ∷ digits) ∙ ap (λ d. escape label ++ 35 ∷ d) plain
 
--- nor does the word of a refusal
+-- the word of a refusal needs no escape
 pub escape_refusal : (r : Refusal) → escape (word r) ≡ word r
 unfolding escape_byte
 escape_refusal NoSuchLabel = refl
