@@ -1,43 +1,18 @@
 //! Lines cut at their quotes. A line in the compact form is cut into the texts and the numbers of its members, by what
 //! stands between them in every such line.
 
-ghost use Rattle.std.specs.Prelude.{◌≡◌, ◌≤◌, ◌<◌, ◌++◌, ◌∷◌, length, slice_index, IfSome, Some, IsUtf8};
+ghost use Rattle.std.specs.Prelude.{◌≡◌, ◌≤◌, ◌<◌, ◌^◌, ◌++◌, ◌∷◌, true, length, take, slice_index, codes, decimal, IfSome, IsTrue, IsUtf8};
 ghost use Rattle.std.specs.List.{list_all};
-ghost use Rattle.json.specs.Print.{escape, IsNumber};
-ghost use Rattle.serde_json.specs.Data.{unsigned};
-ghost use Rattle.serde_json.specs.Read.{number_of};
+ghost use Rattle.std.specs.Char.{is_ascii_digit};
+ghost use Rattle.std.specs.Str.Parse.{digits_value};
+ghost use Rattle.json.specs.Print.{escape};
 ghost use Rattle.ynl_lines.specs.Compact.{is_word_byte};
 
-use crate::numbers::whole_of;
-use json::is_number;
+/// Where the first byte stands of the word of an event, behind `{"event":"` or `,"event":"`.
+pub const WORD: usize = 10;
 
-/// The byte that begins and ends a text.
-const QUOTE: u8 = 34;
-
-/// Where the first quote stands, or the length.
-fn quote_or_end(bytes: &[u8]) -> usize
-    ensures bound { result ≤ length bytes.now }
-    ensures at { result < length bytes.now → slice_index bytes.now result ≡ 34 }
-{
-    for (i, b) in bytes.iter().enumerate() {
-        if *b == QUOTE {
-            return i;
-        }
-    }
-    bytes.len()
-}
-
-/// Where the first byte stands that is no digit, or the length.
-fn digits_end(bytes: &[u8]) -> usize
-    ensures { result ≤ length bytes.now }
-{
-    for (i, b) in bytes.iter().enumerate() {
-        if !b.is_ascii_digit() {
-            return i;
-        }
-    }
-    bytes.len()
-}
+/// What ends a text.
+const QUOTE: &[u8] = b"\"";
 
 fn is_word_byte(byte: u8) -> bool
     ensures { result ≡ is_word_byte byte }
@@ -51,26 +26,17 @@ fn is_word_byte(byte: u8) -> bool
         || byte == b'#'
 }
 
-fn has_word_bytes(bytes: &[u8]) -> bool
-    ensures { result ≡ list_all is_word_byte bytes.now }
+/// Where the first byte stands that may be in no name, path or id, or the length.
+fn word_end(bytes: &[u8]) -> usize
+    ensures bound { result ≤ length bytes.now }
+    ensures words { list_all is_word_byte (take result bytes.now) ≡ true }
 {
-    bytes.iter().all(|b| is_word_byte(*b))
-}
-
-/// The text of bytes that may stand in a name, a path or an id.
-#[tactic(auto, using(crate::proofs::Escapes::escape_words))]
-fn word_of(bytes: &[u8]) -> Option<&str>
-    ensures same { IfSome result (λ s. s.now ≡ bytes.now) }
-    ensures plain { IfSome result (λ s. escape s.now ≡ s.now) }
-    ensures utf8 { IfSome result (λ s. IsUtf8 s.now) }
-{
-    if !has_word_bytes(bytes) {
-        return None;
+    for (i, b) in bytes.iter().enumerate() {
+        if !is_word_byte(*b) {
+            return i;
+        }
     }
-    match str::from_utf8(bytes) {
-        Ok(text) => Some(text),
-        Err(_) => None,
-    }
+    bytes.len()
 }
 
 /// What stands behind some bytes, if they are the front of a line.
@@ -81,43 +47,97 @@ fn behind<'a>(line: &'a [u8], front: &[u8]) -> Option<&'a [u8]>
 }
 
 /// The text behind `front`, up to a quote, and what stands behind that.
+#[tactic(auto, using(crate::proofs::Escapes::escape_words))]
 pub fn cut_text<'a>(line: &'a [u8], front: &[u8]) -> Option<(&'a str, &'a [u8])>
     ensures cut { IfSome result (λ p. line.now ≡ front.now ++ (p.0.now ++ 34 ∷ p.1.now)) }
     ensures plain { IfSome result (λ p. escape p.0.now ≡ p.0.now) }
     ensures utf8 { IfSome result (λ p. IsUtf8 p.0.now) }
 {
-    let Some(rest) = behind(line, front) else {
+    let Some(word) = behind(line, front) else {
         return None;
     };
-    let at = quote_or_end(rest);
-    if at == rest.len() {
+    let end = word_end(word);
+    let Some(rest) = behind(&word[end..], QUOTE) else {
         return None;
-    }
-    match word_of(&rest[..at]) {
-        Some(text) => Some((text, &rest[at + 1..])),
-        None => None,
+    };
+    match str::from_utf8(&word[..end]) {
+        Ok(text) => Some((text, rest)),
+        Err(_) => None,
     }
 }
 
-/// The digits behind `front`, the number that they are, and what stands behind them.
-pub fn cut_number<'a>(line: &'a [u8], front: &[u8]) -> Option<(&'a str, u64, &'a [u8])>
-    ensures cut { IfSome result (λ p. line.now ≡ front.now ++ (p.0.now ++ p.2.now)) }
-    ensures number { IfSome result (λ p. IsNumber p.0.now) }
-    ensures value { IfSome result (λ p. number_of p.0.now ≡ Some (unsigned p.1)) }
-    ensures utf8 { IfSome result (λ p. IsUtf8 p.0.now) }
+/// A number of 64 bits has room for one more digit where it is at most this.
+const MOST_TENTH: u64 = 1844674407370955160;
+
+/// The number that the digits in front of other bytes are, and how many these are, unless it has no room.
+fn digits_in(bytes: &[u8]) -> Option<(u64, usize)>
+    ensures bound { IfSome result (λ p. p.1 ≤ length bytes.now) }
+    ensures digits { IfSome result (λ p. list_all is_ascii_digit (take p.1 bytes.now) ≡ true) }
+    ensures value { IfSome result (λ p. p.0 ≡ digits_value 10 (take p.1 bytes.now)) }
+    ensures fits { IfSome result (λ p. p.0 < 2 ^ 64) }
 {
-    let Some(rest) = behind(line, front) else {
+    let mut number: u64 = 0;
+    for (i, b) in bytes.iter().enumerate() {
+        if !b.is_ascii_digit() {
+            return Some((number, i));
+        }
+        if number > MOST_TENTH {
+            return None;
+        }
+        number = number * 10 + u64::from(*b - b'0');
+    }
+    Some((number, bytes.len()))
+}
+
+/// Whether digits are those of a number as it is written: one at least, and no zero in front of others.
+fn are_written(digits: &[u8]) -> bool
+    ensures { IsTrue result → (0 < length digits.now) × (slice_index digits.now 0 ≡ 48 → length digits.now ≡ 1) }
+{
+    match digits {
+        [] => false,
+        [b'0', more @ ..] => more.is_empty(),
+        _ => true,
+    }
+}
+
+/// The number behind `front`, and what stands behind its digits, which have no zero in front.
+pub fn cut_number<'a>(line: &'a [u8], front: &[u8]) -> Option<(u64, &'a [u8])>
+    ensures cut { IfSome result (λ p. line.now ≡ front.now ++ (decimal p.0 ++ p.1.now)) }
+    ensures fits { IfSome result (λ p. p.0 < 2 ^ 64) }
+{
+    let Some(digits) = behind(line, front) else {
         return None;
     };
-    let at = digits_end(rest);
-    let Ok(text) = str::from_utf8(&rest[..at]) else {
+    let Some((number, count)) = digits_in(digits) else {
         return None;
     };
-    if !is_number(text) {
+    if !are_written(&digits[..count]) {
         return None;
     }
-    match whole_of(text) {
-        Some(number) => Some((text, number, &rest[at..])),
-        None => None,
+    Some((number, &digits[count..]))
+}
+
+/// Whether a line ends here.
+pub fn is_end(rest: &[u8]) -> bool
+    ensures { IsTrue result → rest.now ≡ codes "}" }
+{
+    matches!(rest, [b'}'])
+}
+
+/// The two texts of what has just these, by what stands before each of them.
+pub fn two_texts<'a>(line: &'a [u8], front: &[u8], middle: &[u8]) -> Option<(&'a str, &'a str)>
+    ensures cut { IfSome result (λ p. line.now ≡ front.now ++ (p.0.now ++ 34 ∷ (middle.now ++ (p.1.now ++ codes "\"}")))) }
+    ensures plain { IfSome result (λ p. (escape p.0.now ≡ p.0.now) × (escape p.1.now ≡ p.1.now)) }
+    ensures utf8 { IfSome result (λ p. IsUtf8 p.0.now × IsUtf8 p.1.now) }
+{
+    let Some((first, rest)) = cut_text(line, front) else {
+        return None;
+    };
+    let Some((second, rest)) = cut_text(rest, middle) else {
+        return None;
+    };
+    if !is_end(rest) {
+        return None;
     }
+    Some((first, second))
 }

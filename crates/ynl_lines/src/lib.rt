@@ -12,6 +12,7 @@ pub use write_replies::put_reply;
 
 mod adding;
 mod compact;
+mod compact_applications;
 mod cutting;
 mod events;
 mod faults;

@@ -15,11 +15,14 @@ use crate::compact::{Members, members_in};
 use crate::faults::LineFault;
 use crate::fields::Fields;
 use crate::read_applications::{
-    ask_at, ask_of, finish_at, finish_of, poll_at, release_at, release_of, submit_at,
+    ask_at, ask_of, finish_at, finish_of, poll_at, poll_of, release_at, release_of, submit_at,
+    submit_of,
 };
-use crate::read_nodes::{exited_at, exited_of, heartbeat_at, lost_at, register_at, relabel_at};
-use crate::read_proposals::{commit_at, propose_at, propose_of};
-use crate::read_queues::{maximum_at, start_at, stop_at, usage_at};
+use crate::read_nodes::{
+    exited_at, exited_of, heartbeat_at, lost_at, register_at, register_of, relabel_at,
+};
+use crate::read_proposals::{commit_at, commit_of, propose_at, propose_of};
+use crate::read_queues::{maximum_at, start_at, stop_at, usage_at, usage_of};
 use crate::trees::{is_plain, tree_of};
 use json::Scratch;
 use serde_json::{Error, Value};
@@ -162,10 +165,35 @@ fn event_of(members: &Members<'_>) -> Result<Event, LineFault>
             tenant,
             vcores,
         } => ask_of(app, *count, label, *memory, *priority, tenant, *vcores),
+        Members::Submit {
+            app,
+            label,
+            memory,
+            queue,
+            user,
+            vcores,
+        } => submit_of(app, *label, *memory, queue, user, *vcores),
         Members::Release { id, tenant } => release_of(id, tenant),
         Members::Finish { app, tenant } => finish_of(app, tenant),
+        Members::Poll { app, label, tenant } => poll_of(app, label, tenant),
         Members::Exited { id, node } => exited_of(id, node),
         Members::Propose { node } => propose_of(node),
+        Members::Commit {
+            app,
+            memory,
+            node,
+            stamp,
+            tenant,
+            vcores,
+            wanted,
+        } => commit_of(app, *memory, node, *stamp, tenant, *vcores, *wanted),
+        Members::Register {
+            label,
+            memory,
+            node,
+            vcores,
+        } => register_of(label, *memory, node, *vcores),
+        Members::Usage { label, queue } => usage_of(label, queue),
     }
 }
 

@@ -59,6 +59,21 @@ pub fn submit_at(event: &Fields<'_, '_>) -> Result<Event, LineFault>
     let queue = text_at(event, "queue")?;
     let user = text_at(event, "user")?;
     let vcores = number_at(event, "vcores")?;
+    submit_of(app, label, memory, queue, user, vcores)
+}
+
+/// A submit, from its members.
+pub fn submit_of(
+    app: &str,
+    label: Option<&str>,
+    memory: u64,
+    queue: &str,
+    user: &str,
+    vcores: u64,
+) -> Result<Event, LineFault>
+    ensures event { result ≡ told.submit_of app.now (option_map (λ s. s.now) label.entry) memory queue.now user.now vcores }
+    ensures ranged { IfOk result (λ event. IsRanged event) }
+{
     let app = name_at(app)?;
     let label = optional_label_at(label)?;
     let queue = path_at(queue)?;
@@ -173,6 +188,14 @@ pub fn poll_at(event: &Fields<'_, '_>) -> Result<Event, LineFault>
     let app = text_at(event, "app")?;
     let label = text_at(event, "label")?;
     let tenant = text_at(event, "tenant")?;
+    poll_of(app, label, tenant)
+}
+
+/// A poll, from its members.
+pub fn poll_of(app: &str, label: &str, tenant: &str) -> Result<Event, LineFault>
+    ensures event { result ≡ told.poll_of app.now label.now tenant.now }
+    ensures ranged { IfOk result (λ event. IsRanged event) }
+{
     let app = name_at(app)?;
     let label = label_at(label)?;
     let tenant = name_at(tenant)?;

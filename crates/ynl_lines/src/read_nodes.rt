@@ -23,6 +23,14 @@ pub fn register_at(event: &Fields<'_, '_>) -> Result<Event, LineFault>
     let memory = number_at(event, "memory")?;
     let node = text_at(event, "node")?;
     let vcores = number_at(event, "vcores")?;
+    register_of(label, memory, node, vcores)
+}
+
+/// The joining of a node, from its members.
+pub fn register_of(label: &str, memory: u64, node: &str, vcores: u64) -> Result<Event, LineFault>
+    ensures event { result ≡ told.register_of label.now memory node.now vcores }
+    ensures ranged { IfOk result (λ event. IsRanged event) }
+{
     let label = label_at(label)?;
     let node = name_at(node)?;
     let size = size_at(memory, vcores)?;

@@ -94,6 +94,22 @@ pub fn proposal_at(proposal: &Fields<'_, '_>) -> Result<Proposal, LineFault>
     let stamp = number_at(proposal, "stamp")?;
     let tenant = text_at(proposal, "tenant")?;
     let vcores = number_at(proposal, "vcores")?;
+    proposal_of(app, memory, node, stamp, tenant, vcores, wanted)
+}
+
+/// A proposal, from its members.
+fn proposal_of(
+    app: &str,
+    memory: u64,
+    node: &str,
+    stamp: u64,
+    tenant: &str,
+    vcores: u64,
+    wanted: Option<(&str, u64)>,
+) -> Result<Proposal, LineFault>
+    ensures proposal { result ≡ told.proposal_of app.now memory node.now stamp tenant.now vcores (option_map (λ wanted. (wanted.0.now, wanted.1)) wanted.entry) }
+    ensures ranged { IfOk result (λ proposal. IsSize proposal.size × HasProposalNumbers proposal) }
+{
     let app = name_at(app)?;
     let wanted = wanted_label_at(wanted)?;
     let node = name_at(node)?;
@@ -125,4 +141,21 @@ pub fn commit_at(event: &Fields<'_, '_>) -> Result<Event, LineFault>
         }
         None => Err(LineFault::Field),
     }
+}
+
+/// A commit, from the members of its proposal.
+pub fn commit_of(
+    app: &str,
+    memory: u64,
+    node: &str,
+    stamp: u64,
+    tenant: &str,
+    vcores: u64,
+    wanted: Option<(&str, u64)>,
+) -> Result<Event, LineFault>
+    ensures event { result ≡ told.commit_of app.now memory node.now stamp tenant.now vcores (option_map (λ wanted. (wanted.0.now, wanted.1)) wanted.entry) }
+    ensures ranged { IfOk result (λ event. IsRanged event) }
+{
+    let proposal = proposal_of(app, memory, node, stamp, tenant, vcores, wanted)?;
+    Ok(Event::Commit { proposal })
 }

@@ -3,6 +3,7 @@
 ghost use Rattle.std.specs.Prelude.{◌≡◌, IfOk, IsTrue};
 ghost use Rattle.ynl_lines.specs.Trees.{data_at};
 ghost use Rattle.ynl_lines.specs.Reading.{IsRanged};
+ghost use Rattle.ynl_lines.specs.Compact as told;
 ghost use Rattle.ynl_lines.specs.Reading as spec;
 
 use crate::faults::LineFault;
@@ -50,6 +51,14 @@ pub fn usage_at(event: &Fields<'_, '_>) -> Result<Event, LineFault>
     keys_are(event, 3)?;
     let label = text_at(event, "label")?;
     let queue = text_at(event, "queue")?;
+    usage_of(label, queue)
+}
+
+/// The question for the use, from its members.
+pub fn usage_of(label: &str, queue: &str) -> Result<Event, LineFault>
+    ensures event { result ≡ told.usage_of label.now queue.now }
+    ensures ranged { IfOk result (λ event. IsRanged event) }
+{
     let label = label_at(label)?;
     let queue = path_at(queue)?;
     Ok(Event::Usage { queue, label })

@@ -1,6 +1,6 @@
-use Rattle.ynl_lines.proofs.Cuts.{release_read}
+use Rattle.ynl_lines.proofs.Cuts.{two_cut, release_read}
 use Rattle.ynl_lines.proofs.compact.release_in.Goals as goal
 
 pub returns-in-Some : goal.returns-in-Some
 returns-in-Some c =
-    release_read c.args.line.now c.in-Some.id.now c.in-Some.tenant.now c.in-Some.ensures.cut c.in-Some.ensures.plain.0 c.in-Some.ensures.plain.1 c.in-Some.ensures.utf8.0 c.in-Some.ensures.utf8.1
+    release_read (two_cut c.in-Some.ensures.cut c.in-Some.ensures.plain c.in-Some.ensures.utf8)
