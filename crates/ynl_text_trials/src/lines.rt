@@ -46,12 +46,149 @@ fn read_and_written(alloc: Global, line: &str) -> Result<Vec<u8>, Fail> {
     }
 }
 
-// No view has a node that is relabelled, so no case shows the text that is written of one.
+/// The fault of a line.
+fn fault_in(alloc: Global, line: &str) -> Result<&'static str, Fail> {
+    match read_event(alloc, line.as_bytes()) {
+        Ok(Ok(_)) => Err(Fail::new("an event")),
+        Ok(Err(fault)) => Ok(fault.word()),
+        Err(e) => Err(e.into()),
+    }
+}
+
 #[test]
-fn a_relabelled_node_is_read_and_written(rt: HostRuntime) -> Result<(), Fail> {
-    let line = r#"{"event":"relabel","label":"gpu","node":"g1"}"#;
-    let text = read_and_written(rt.alloc(), line)?;
-    assert_eq!(rt; text.as_slice(), line.as_bytes());
+fn lines_in_the_compact_form_are_read_and_written(rt: HostRuntime) -> Result<(), Fail> {
+    for line in [
+        r#"{"app":"j1","count":1000000,"event":"ask","label":"","memory":1,"priority":4294967295,"tenant":"eng","vcores":65536}"#,
+        r#"{"app":"j1","event":"submit","memory":4294967295,"queue":"root.eng","user":"ann","vcores":1}"#,
+        r#"{"app":"j1","event":"submit","label":"","memory":1000,"queue":"root","user":"ann","vcores":1}"#,
+        r#"{"app":"j1","event":"submit","label":"gpu","memory":1000,"queue":"root.eng.a_b-c","user":"ann","vcores":10}"#,
+        r#"{"app":"j1","event":"finish","tenant":"eng"}"#,
+        r#"{"app":"j1","event":"poll","label":"gpu","tenant":"eng"}"#,
+        r#"{"event":"release","id":"gpu#2","tenant":"eng"}"#,
+        r#"{"event":"register","label":"gpu","memory":1000,"node":"g1","vcores":1}"#,
+        r#"{"event":"relabel","label":"gpu","node":"g1"}"#,
+        r##"{"event":"exited","id":"#18","node":"g1"}"##,
+        r#"{"event":"propose","node":"g1"}"#,
+        r#"{"event":"commit","proposal":{"app":"j1","memory":1000,"node":"g1","stamp":0,"tenant":"eng","vcores":1,"what":"master"}}"#,
+        r#"{"event":"commit","proposal":{"app":"j1","label":"gpu","memory":1000,"node":"g1","priority":0,"stamp":70,"tenant":"eng","vcores":1,"what":"ask"}}"#,
+        r#"{"event":"usage","label":"","queue":"root.eng"}"#,
+    ] {
+        let text = read_and_written(rt.alloc(), line)?;
+        assert_eq!(rt; text.as_slice(), line.as_bytes(), "{line}");
+    }
+    Ok(())
+}
+
+// With a space, in another order, with an escape, with a key twice of which the last value counts.
+#[test]
+fn lines_near_the_compact_form_are_read_as_well(rt: HostRuntime) -> Result<(), Fail> {
+    let submit =
+        r#"{"app":"j1","event":"submit","label":"gpu","memory":1000,"queue":"root.eng","user":"ann","vcores":1}"#;
+    for line in [
+        r#"{"app":"j1", "event":"submit","label":"gpu","memory":1000,"queue":"root.eng","user":"ann","vcores":1}"#,
+        r#"{"app":"j1","event":"submit","label":"gpu","memory":1000,"queue":"root.eng","user":"ann","vcores":1} "#,
+        r#"{"app":"j1","event":"submit","memory":1000,"label":"gpu","queue":"root.eng","user":"ann","vcores":1}"#,
+        r#"{"app":"j1","event":"submit","label":"gpu","memory":1000,"queue":"root.eng","vcores":1,"user":"ann"}"#,
+        r#"{"app":"\u006a1","event":"submit","label":"gpu","memory":1000,"queue":"root.eng","user":"ann","vcores":1}"#,
+        r#"{"app":"j1","event":"submit","labe\u006c":"gpu","memory":1000,"queue":"root.eng","user":"ann","vcores":1}"#,
+        r#"{"app":"j0","app":"j1","event":"submit","label":"gpu","memory":1000,"queue":"root.eng","user":"ann","vcores":1}"#,
+        r#"{"app":"j1","event":"submit","label":"gpu","memory":1000,"queue":"root.eng","user":"ann","vcores":2,"vcores":1}"#,
+    ] {
+        let text = read_and_written(rt.alloc(), line)?;
+        assert_eq!(rt; text.as_slice(), submit.as_bytes(), "{line}");
+    }
+    let commit =
+        r#"{"event":"commit","proposal":{"app":"j1","label":"","memory":1000,"node":"g1","priority":3,"stamp":7,"tenant":"eng","vcores":1,"what":"ask"}}"#;
+    for line in [
+        r#"{"event":"commit","proposal":{"app":"j1","label":"","memory":1000,"node":"g1","priority":3,"stamp":7,"tenant":"eng","vcores":1,"what":"ask"} }"#,
+        r#"{"proposal":{"app":"j1","label":"","memory":1000,"node":"g1","priority":3,"stamp":7,"tenant":"eng","vcores":1,"what":"ask"},"event":"commit"}"#,
+        r#"{"event":"commit","proposal":{"app":"j1","memory":1000,"node":"g1","stamp":7,"tenant":"eng","vcores":1,"what":"ask","label":"","priority":3}}"#,
+        r#"{"event":"commit","proposal":{"app":"j1","label":"","memory":1000,"node":"g1","priority":3,"stamp":7,"tenant":"eng","vcores":1,"what":"master","what":"ask"}}"#,
+    ] {
+        let text = read_and_written(rt.alloc(), line)?;
+        assert_eq!(rt; text.as_slice(), commit.as_bytes(), "{line}");
+    }
+    Ok(())
+}
+
+#[test]
+fn faults_of_lines_in_the_compact_form_and_near_it(rt: HostRuntime) -> Result<(), Fail> {
+    for (line, fault) in [
+        (
+            r#"{"app":"j1","event":"submit","memory":01000,"queue":"root.eng","user":"ann","vcores":1}"#,
+            "syntax",
+        ),
+        (
+            r#"{"app":"j1","event":"submit","memory":,"queue":"root.eng","user":"ann","vcores":1}"#,
+            "syntax",
+        ),
+        (
+            r#"{"app":"j1","event":"submit","memory":1000,"queue":"root.eng","user":"ann","vcores":1"#,
+            "syntax",
+        ),
+        (
+            r#"{"app":"j1","event":"submit","memory":1000,"queue":"root.eng","user":"ann","vcores":1}}"#,
+            "syntax",
+        ),
+        (
+            r#"{"app":"j1","event":"submit","memory":1000,"queue":"root.eng","tenant":"ann","vcores":1}"#,
+            "field",
+        ),
+        (
+            r#"{"app":"j1","event":"submit","memory":18446744073709551616,"queue":"root.eng","user":"ann","vcores":1}"#,
+            "field",
+        ),
+        (
+            r#"{"app":"j1","event":"submit","memory":18446744073709551615,"queue":"root.eng","user":"ann","vcores":1}"#,
+            "range",
+        ),
+        (
+            r#"{"app":"j1","event":"submit","memory":18446744073709551609,"queue":"root.eng","user":"ann","vcores":1}"#,
+            "range",
+        ),
+        (
+            r#"{"app":"j1","event":"submit","label":"a.b","memory":0,"queue":"root.eng","user":"ann","vcores":1}"#,
+            "name",
+        ),
+        (
+            r#"{"app":"j1","event":"submit","label":"gpu","memory":0,"queue":"root.eng","user":"ann","vcores":1}"#,
+            "range",
+        ),
+        (
+            r#"{"app":"j1","event":"poll","label":"a#b","tenant":"eng"}"#,
+            "name",
+        ),
+        (
+            r#"{"event":"register","label":"gpu","memory":1000,"node":"g1","vcores":65537}"#,
+            "range",
+        ),
+        (
+            r#"{"event":"usage","label":"gpu","queue":"eng#1"}"#,
+            "name",
+        ),
+        (
+            r#"{"event":"commit","proposal":{"app":"j1","memory":1000,"node":"g1","stamp":7,"tenant":"eng","vcores":1,"what":"ask"}}"#,
+            "field",
+        ),
+        (
+            r#"{"event":"commit","proposal":{"app":"j1","label":"","memory":1000,"node":"g1","priority":3,"stamp":7,"tenant":"eng","vcores":1,"what":"master"}}"#,
+            "field",
+        ),
+        (
+            r#"{"event":"commit","proposal":{"app":"j1","label":"","memory":1000,"node":"g1","priority":4294967296,"stamp":7,"tenant":"e.g","vcores":1,"what":"ask"}}"#,
+            "name",
+        ),
+        (
+            r#"{"event":"commit","proposal":{"app":"j1","label":"","memory":1000,"node":"g1","priority":4294967296,"stamp":7,"tenant":"eng","vcores":1,"what":"ask"}}"#,
+            "range",
+        ),
+        (
+            r#"{"event":"commits","proposal":{"app":"j1","memory":1000,"node":"g1","stamp":7,"tenant":"eng","vcores":1,"what":"master"}}"#,
+            "event",
+        ),
+    ] {
+        assert_eq!(rt; fault_in(rt.alloc(), line)?, fault, "{line}");
+    }
     Ok(())
 }
 
