@@ -5,6 +5,7 @@ ghost use Rattle.std.specs.IoError.{error_kind};
 ghost use Rattle.ynl_tool.specs.Input.{between, is_blank, limit, BreaksOff, Takes, TakesAtHand};
 ghost use Rattle.ynl_tool.specs.Lines.{read_fault, AddsShown, FailsAs, GivesPiece, GivesLine};
 
+use memchr::memchr;
 use std::alloc::{AllocError, Global};
 use std::io;
 use std::io::{BufRead, ErrorKind};
@@ -52,12 +53,10 @@ pub fn newline_or_end(bytes: &[u8]) -> usize
     ensures before { All (λ x. x ≢ 10) (take result bytes.now) }
     ensures at { result < length bytes.now → slice_index bytes.now result ≡ 10 }
 {
-    for (i, b) in bytes.iter().enumerate() {
-        if *b == NEWLINE {
-            return i;
-        }
+    match memchr(NEWLINE, bytes) {
+        Some(place) => place,
+        None => bytes.len(),
     }
-    bytes.len()
 }
 
 /// What is told of an error that was met in reading: out of memory is told from all others.
