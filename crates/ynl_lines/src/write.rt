@@ -44,7 +44,7 @@ pub fn write_reply(alloc: Global, reply: &Reply) -> Result<Vec<u8>, AllocError>
     ensures text { IfOk result (λ text. text.items ≡ spec.reply_text reply.now) }
 {
     let mut text = Vec::new(alloc);
-    put_reply(alloc, reply, &mut text)?;
+    put_reply(reply, &mut text)?;
     Ok(text)
 }
 

@@ -7,7 +7,7 @@ ghost use Rattle.ynl_lines.specs.Writing as spec;
 use crate::adding::{add, add_number, add_text};
 use crate::write_containers::{add_list, add_placed};
 use crate::write_proposals::add_proposal;
-use std::alloc::{AllocError, Global};
+use std::alloc::AllocError;
 use ynl_model::{Pending, Placed, Proposal, Reply};
 use ynl_resource::{Refusal, Resource};
 
@@ -122,7 +122,7 @@ fn add_reply(text: &mut Vec<u8>, reply: &Reply) -> Result<(), AllocError>
 
 /// Puts the text of a reply, without the newline of its line, in the place of what `text` holds, in memory that is kept
 /// from reply to reply. Where memory is refused `text` may hold anything.
-pub fn put_reply(_alloc: Global, reply: &Reply, text: &mut Vec<u8>) -> Result<(), AllocError>
+pub fn put_reply(reply: &Reply, text: &mut Vec<u8>) -> Result<(), AllocError>
     ensures { OnOk result (text.new.items ≡ spec.reply_text reply.now) }
 {
     text.clear();

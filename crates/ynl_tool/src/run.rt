@@ -103,16 +103,11 @@ pub fn with_newline(mut text: Vec<u8>) -> Result<Vec<u8>, AllocError>
 
 /// Adds the line of a reply to what is held back. Its text is made in `text` first, so that nothing is added where
 /// there is no memory for it.
-fn hold(
-    alloc: Global,
-    reply: &Reply,
-    text: &mut Vec<u8>,
-    held: &mut Vec<u8>,
-) -> Result<(), AllocError>
+fn hold(reply: &Reply, text: &mut Vec<u8>, held: &mut Vec<u8>) -> Result<(), AllocError>
     ensures ok { OnOk result (held.new.items ≡ held.old.items ++ line_of (reply_text reply.now)) }
     ensures err { OnErr result (held.new.items ≡ held.old.items) }
 {
-    put_reply(alloc, reply, text)?;
+    put_reply(reply, text)?;
     text.push(b'\n')?;
     held.extend_from_slice(text)
 }
@@ -120,7 +115,6 @@ fn hold(
 /// Answers a heartbeat. It stands alone, since a function clears the room of each event that it holds, and most lines
 /// are heartbeats.
 fn answer_heartbeat(
-    alloc: Global,
     core: &mut Core,
     node: Name,
     text: &mut Vec<u8>,
@@ -129,7 +123,7 @@ fn answer_heartbeat(
     ensures { HoldsReply held.old.items held.new.items core.old.config core.old.state core.new (Heartbeat node) result }
 {
     let reply = core.heartbeat(&node)?;
-    hold(alloc, &reply, text, held)?;
+    hold(&reply, text, held)?;
     Ok(())
 }
 
@@ -150,7 +144,7 @@ fn answer_event(
         Err(fault) => return Ok(Some(fault)),
     };
     let reply = core.apply(event)?;
-    hold(alloc, &reply, text, held)?;
+    hold(&reply, text, held)?;
     Ok(None)
 }
 
@@ -173,7 +167,7 @@ fn answer(
     }
     match heartbeat_of(line) {
         Some(node) => {
-            answer_heartbeat(alloc, core, node, text, held)?;
+            answer_heartbeat(core, node, text, held)?;
             Ok(None)
         }
         None => answer_event(alloc, events, core, line, text, held),
