@@ -162,10 +162,7 @@ fn faults_of_lines_in_the_compact_form_and_near_it(rt: HostRuntime) -> Result<()
             r#"{"event":"register","label":"gpu","memory":1000,"node":"g1","vcores":65537}"#,
             "range",
         ),
-        (
-            r#"{"event":"usage","label":"gpu","queue":"eng#1"}"#,
-            "name",
-        ),
+        (r#"{"event":"usage","label":"gpu","queue":"eng#1"}"#, "name"),
         (
             r#"{"event":"commit","proposal":{"app":"j1","memory":1000,"node":"g1","stamp":7,"tenant":"eng","vcores":1,"what":"ask"}}"#,
             "field",
