@@ -1,7 +1,7 @@
 //! Lines cut at their quotes. A line in the compact form is cut into the texts and the numbers of its members, by what
 //! stands between them in every such line.
 
-ghost use Rattle.std.specs.Prelude.{◌≡◌, ◌≤◌, ◌<◌, ◌^◌, ◌++◌, ◌∷◌, true, length, take, slice_index, codes, decimal, IfSome, IsTrue, IsUtf8};
+ghost use Rattle.std.specs.Prelude.{◌≡◌, ◌≢◌, ◌≤◌, ◌<◌, ◌↔◌, ◌^◌, ◌++◌, ◌∷◌, ℕ, List, true, false, length, take, slice_index, codes, decimal, IfSome, MatchOption, IsTrue, IsUtf8};
 ghost use Rattle.std.specs.List.{list_all};
 ghost use Rattle.std.specs.Char.{is_ascii_digit};
 ghost use Rattle.std.specs.Str.Parse.{digits_value};
@@ -30,6 +30,7 @@ fn is_word_byte(byte: u8) -> bool
 fn word_end(bytes: &[u8]) -> usize
     ensures bound { result ≤ length bytes.now }
     ensures words { list_all is_word_byte (take result bytes.now) ≡ true }
+    ensures at { result < length bytes.now → is_word_byte (slice_index bytes.now result) ≡ false }
 {
     for (i, b) in bytes.iter().enumerate() {
         if !is_word_byte(*b) {
@@ -41,7 +42,7 @@ fn word_end(bytes: &[u8]) -> usize
 
 /// What stands behind some bytes, if they are the front of a line.
 fn behind<'a>(line: &'a [u8], front: &[u8]) -> Option<&'a [u8]>
-    ensures { IfSome result (λ rest. line.now ≡ front.now ++ rest.now) }
+    ensures { MatchOption result ((rest : List ℕ) → line.now ≢ front.now ++ rest) (λ rest. line.now ≡ front.now ++ rest.now) }
 {
     line.strip_prefix(front)
 }
@@ -75,6 +76,7 @@ fn digits_in(bytes: &[u8]) -> Option<(u64, usize)>
     ensures digits { IfSome result (λ p. list_all is_ascii_digit (take p.1 bytes.now) ≡ true) }
     ensures value { IfSome result (λ p. p.0 ≡ digits_value 10 (take p.1 bytes.now)) }
     ensures fits { IfSome result (λ p. p.0 < 2 ^ 64) }
+    ensures at { IfSome result (λ p. p.1 < length bytes.now → is_ascii_digit (slice_index bytes.now p.1) ≡ false) }
 {
     let mut number: u64 = 0;
     for (i, b) in bytes.iter().enumerate() {
@@ -91,7 +93,7 @@ fn digits_in(bytes: &[u8]) -> Option<(u64, usize)>
 
 /// Whether digits are those of a number as it is written: one at least, and no zero in front of others.
 fn are_written(digits: &[u8]) -> bool
-    ensures { IsTrue result → (0 < length digits.now) × (slice_index digits.now 0 ≡ 48 → length digits.now ≡ 1) }
+    ensures { IsTrue result ↔ (0 < length digits.now) × (slice_index digits.now 0 ≡ 48 → length digits.now ≡ 1) }
 {
     match digits {
         [] => false,
@@ -119,7 +121,7 @@ pub fn cut_number<'a>(line: &'a [u8], front: &[u8]) -> Option<(u64, &'a [u8])>
 
 /// Whether a line ends here.
 pub fn is_end(rest: &[u8]) -> bool
-    ensures { IsTrue result → rest.now ≡ codes "}" }
+    ensures { IsTrue result ↔ rest.now ≡ codes "}" }
 {
     matches!(rest, [b'}'])
 }
