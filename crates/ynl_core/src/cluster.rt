@@ -9,7 +9,7 @@ ghost use Rattle.ynl_model.specs.Check.{proposed, commit_reasons};
 ghost use Rattle.ynl_model.specs.Cluster.{containers_on, node_of};
 ghost use Rattle.ynl_model.specs.Limits.{user_limit, master_limit};
 ghost use Rattle.ynl_core.specs.Sure.{is_refused, takes_no_memory};
-ghost use Rattle.ynl_core.specs.World.{opened, Answers};
+ghost use Rattle.ynl_core.specs.World.{opened, beaten, Answers};
 
 use crate::memory::NoMemory;
 use crate::refusals::{
@@ -232,25 +232,30 @@ impl Core {
         Ok(Reply::Done)
     }
 
-    /// The same as `apply` of a heartbeat, of which there are more than of all other events.
+    /// The same as `heartbeat`, in parts: why it is refused, or else what it placed, in the place of what the list
+    /// holds. A reply is large; the list is kept from heartbeat to heartbeat, and nothing large is moved.
     #[tactic(auto, unfolding(ynl_model::specs::Events::step, ynl_model::specs::Events::accepted))]
     #[inline(never)]
-    pub fn heartbeat(&mut self, name: &Name) -> Result<Reply, NoMemory>
-        ensures ok { IfOk result (λ reply. Answers self.old (Heartbeat name.now) self.new reply) }
+    pub fn beat(
+        &mut self,
+        name: &Name,
+        placed: &mut Vec<Placed>,
+    ) -> Result<Option<Refusal>, NoMemory>
+        ensures ok { IfOk result (λ refused. Answers self.old (Heartbeat name.now) self.new (beaten refused placed.new.items)) }
         ensures err { OnErr result (self.new ≡ self.old) }
         ensures sure { IsTrue (is_refused self.old (Heartbeat name.now)) → IsOk result }
     {
-        let alloc = *self.tables.leaves.allocator();
+        placed.clear();
         let ready = match refuse_heartbeat(&self.config, &self.tables, name) {
             Ok(ready) => ready,
-            Err(refusal) => return Ok(Reply::Refused(refusal)),
+            Err(refusal) => return Ok(Some(refusal)),
         };
         let Ready::Awake { number, node } = ready else {
-            return Ok(Reply::Placed(Items::new(Vec::new(alloc))));
+            return Ok(None);
         };
         let node = *node;
         let count = self.config.containers_per_heartbeat() as usize;
-        let mut placed = Vec::with_capacity(alloc, count)?;
+        placed.reserve(count)?;
         reserve_containers(&mut self.tables.partitions, &node.label, count)?;
         serve(
             &self.config,
@@ -258,14 +263,28 @@ impl Core {
             &mut self.lulls,
             &node,
             count,
-            &mut placed,
+            placed,
         );
         if placed.is_empty() && count > 0 {
             rest(&mut self.tables, number, name);
         } else {
             wake(&mut self.tables);
         }
-        Ok(Reply::Placed(Items::new(placed)))
+        Ok(None)
+    }
+
+    /// The same as `apply` of a heartbeat, of which there are more than of all other events.
+    #[inline(never)]
+    pub fn heartbeat(&mut self, name: &Name) -> Result<Reply, NoMemory>
+        ensures ok { IfOk result (λ reply. Answers self.old (Heartbeat name.now) self.new reply) }
+        ensures err { OnErr result (self.new ≡ self.old) }
+        ensures sure { IsTrue (is_refused self.old (Heartbeat name.now)) → IsOk result }
+    {
+        let mut placed = Vec::new(*self.tables.leaves.allocator());
+        match self.beat(name, &mut placed)? {
+            Some(refusal) => Ok(Reply::Refused(refusal)),
+            None => Ok(Reply::Placed(Items::new(placed))),
+        }
     }
 
     #[tactic(auto, unfolding(ynl_model::specs::Events::step, ynl_model::specs::Events::accepted))]

@@ -8,7 +8,7 @@ pub use faults::{BadLine, InputFault, JournalFault, LineFault};
 pub use read::{EventReader, read_event};
 pub use read_lines::read_line;
 pub use write::{write_audit, write_event, write_fault, write_line, write_reply};
-pub use write_replies::put_reply;
+pub use write_replies::{put_placed, put_reply};
 
 mod adding;
 mod compact;

@@ -2,6 +2,7 @@
 
 ghost use Rattle.std.specs.Prelude.{◌≡◌, ◌++◌, OnOk, Some};
 ghost use Rattle.serde_json.specs.Written.{compact_text};
+ghost use Rattle.ynl_model.specs.declared.replies.Reply.TheVariants as reply;
 ghost use Rattle.ynl_lines.specs.Writing as spec;
 
 use crate::adding::{add, add_number, add_text};
@@ -127,4 +128,12 @@ pub fn put_reply(reply: &Reply, text: &mut Vec<u8>) -> Result<(), AllocError>
 {
     text.clear();
     add_reply(text, reply)
+}
+
+/// The same for a heartbeat's reply, from the containers that it placed: for these no reply need be made.
+pub fn put_placed(placed: &[Placed], text: &mut Vec<u8>) -> Result<(), AllocError>
+    ensures { OnOk result (text.new.items ≡ spec.reply_text (reply.Placed placed.now)) }
+{
+    text.clear();
+    add_several(text, placed)
 }

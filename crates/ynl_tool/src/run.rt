@@ -4,6 +4,7 @@ ghost use Rattle.std.specs.Prelude.{◌≡◌, ◌≢◌, ◌+◌, ◌++◌, ◌
 ghost use Rattle.std.specs.Io.KnownBytes.{Appends};
 ghost use Rattle.ynl_model.specs.Cluster.{opening};
 ghost use Rattle.ynl_tool.specs.declared.run.ToolFault.TheVariants.{Read};
+ghost use Rattle.ynl_core.specs.World.{beaten};
 ghost use Rattle.ynl_lines.specs.Writing.{reply_text};
 ghost use Rattle.ynl_model.specs.declared.events.Event.TheVariants.{Heartbeat};
 ghost use Rattle.ynl_tool.specs.Input.{between, is_blank, limit};
@@ -17,10 +18,12 @@ use std::alloc::{AllocError, Global};
 use std::io::{BufRead, Write};
 use thiserror::Error;
 use ynl_core::{Core, NoMemory};
-use ynl_lines::{EventReader, InputFault, LineFault, heartbeat_of, put_reply, write_fault};
-use ynl_model::Reply;
+use ynl_lines::{
+    EventReader, InputFault, LineFault, heartbeat_of, put_placed, put_reply, write_fault,
+};
+use ynl_model::{Placed, Reply};
 use ynl_queues::Config;
-use ynl_resource::Name;
+use ynl_resource::{Name, Refusal};
 
 /// Why a run ended before its input did.
 #[derive(Clone, Copy, Debug, PartialEq, Eq, Error)]
@@ -101,6 +104,15 @@ pub fn with_newline(mut text: Vec<u8>) -> Result<Vec<u8>, AllocError>
     Ok(text)
 }
 
+/// Adds a text to what is held back, with the newline that ends its line.
+fn hold_text(text: &mut Vec<u8>, held: &mut Vec<u8>) -> Result<(), AllocError>
+    ensures ok { OnOk result (held.new.items ≡ held.old.items ++ line_of text.old.items) }
+    ensures err { OnErr result (held.new.items ≡ held.old.items) }
+{
+    text.push(b'\n')?;
+    held.extend_from_slice(text)
+}
+
 /// Adds the line of a reply to what is held back. Its text is made in `text` first, so that nothing is added where
 /// there is no memory for it.
 fn hold(reply: &Reply, text: &mut Vec<u8>, held: &mut Vec<u8>) -> Result<(), AllocError>
@@ -108,22 +120,41 @@ fn hold(reply: &Reply, text: &mut Vec<u8>, held: &mut Vec<u8>) -> Result<(), All
     ensures err { OnErr result (held.new.items ≡ held.old.items) }
 {
     put_reply(reply, text)?;
-    text.push(b'\n')?;
-    held.extend_from_slice(text)
+    hold_text(text, held)
+}
+
+/// The same for what a heartbeat came to: why it is refused, or else what it placed.
+fn hold_beat(
+    refused: Option<Refusal>,
+    placed: &[Placed],
+    text: &mut Vec<u8>,
+    held: &mut Vec<u8>,
+) -> Result<(), AllocError>
+    ensures ok { OnOk result (held.new.items ≡ held.old.items ++ line_of (reply_text (beaten refused placed.now))) }
+    ensures err { OnErr result (held.new.items ≡ held.old.items) }
+{
+    match refused {
+        Some(refusal) => hold(&Reply::Refused(refusal), text, held),
+        None => {
+            put_placed(placed, text)?;
+            hold_text(text, held)
+        }
+    }
 }
 
 /// Answers a heartbeat. It stands alone, since a function clears the room of each event that it holds, and most lines
-/// are heartbeats.
+/// are heartbeats; what is placed comes into a list that is kept.
 fn answer_heartbeat(
     core: &mut Core,
     node: Name,
+    placed: &mut Vec<Placed>,
     text: &mut Vec<u8>,
     held: &mut Vec<u8>,
 ) -> Result<(), NoMemory>
     ensures { HoldsReply held.old.items held.new.items core.old.config core.old.state core.new (Heartbeat node) result }
 {
-    let reply = core.heartbeat(&node)?;
-    hold(&reply, text, held)?;
+    let refused = core.beat(&node, placed)?;
+    hold_beat(refused, placed, text, held)?;
     Ok(())
 }
 
@@ -157,6 +188,7 @@ fn answer(
     events: &mut EventReader,
     core: &mut Core,
     line: &[u8],
+    placed: &mut Vec<Placed>,
     text: &mut Vec<u8>,
     held: &mut Vec<u8>,
 ) -> Result<Option<LineFault>, NoMemory>
@@ -167,7 +199,7 @@ fn answer(
     }
     match heartbeat_of(line) {
         Some(node) => {
-            answer_heartbeat(core, node, text, held)?;
+            answer_heartbeat(core, node, placed, text, held)?;
             Ok(None)
         }
         None => answer_event(alloc, events, core, line, text, held),
@@ -214,6 +246,7 @@ fn answer_lines<R: BufRead, W: Write>(
 {
     let mut input = Lines::new(alloc);
     let mut events = EventReader::new(alloc);
+    let mut placed = Vec::new(alloc);
     let mut text = Vec::new(alloc);
     let mut held = Vec::new(alloc);
     'lines: loop {
@@ -228,7 +261,15 @@ fn answer_lines<R: BufRead, W: Write>(
             }),
             Next::Line => {}
         }
-        match answer(alloc, &mut events, core, &input.line, &mut text, &mut held) {
+        match answer(
+            alloc,
+            &mut events,
+            core,
+            &input.line,
+            &mut placed,
+            &mut text,
+            &mut held,
+        ) {
             Ok(None) => {}
             Ok(Some(fault)) => {
                 write_held(writer, &mut held)?;

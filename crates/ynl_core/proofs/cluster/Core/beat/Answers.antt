@@ -17,7 +17,7 @@ use Rattle.ynl_core.proofs.Idle.{unspent, empty_items, rests_more, unplaced_more
 use Rattle.ynl_choice.specs.Lulls.{AreLulls}
 use Rattle.ynl_core.proofs.Reserved.{reserved}
 use Rattle.ynl_core.proofs.Changed.{woken, unchanged}
-use Rattle.ynl_core.proofs.cluster.Core.heartbeat.Goals as goal
+use Rattle.ynl_core.proofs.cluster.Core.beat.Goals as goal
 
 pub serve-requires-clause-kept : goal.serve-requires-clause-kept
 serve-requires-clause-kept c = reserved c.self.inside.tables c.reserve_containers.new.rows c.reserve_containers.ensures.meaning c.reserve_containers.ensures.summed c.self.invariant.kept
@@ -48,7 +48,7 @@ invariant_of-self-then-count-gt0 c =
     let as_before : state_of tables ≡ reserved = λ i. record { nodes = tables.nodes.list; partitions = sym c.reserve_containers.ensures.meaning i; leaves = leaves_of tables.leaves.items; stops = tables.stops; maxima = tables.maxima } in
     let found : find_node reserved.nodes c.args.name.now ≡ Some node = (subst (IsReady c.self.inside.config (state_of c.self.inside.tables) c.self.inside.tables.nodes.resting c.args.name.now) c.in-Awake.is c.in-Ok.ensures.ready).1 in
     let nothing : c.serve.new.placed.items ≡ [] = empty_items c.serve.new.placed.items (search rules) in
-    let unplaced : (beat config node times reserved).placed ≡ [] = unplaced_more (beat config node times reserved) c.in_ok-placed.placed.items c.serve.new.placed.items c.in_ok-placed.ensures.items c.serve.ensures.placed nothing in
+    let unplaced : (beat config node times reserved).placed ≡ [] = unplaced_more (beat config node times reserved) c.reserve.new.self.items c.serve.new.placed.items (c.reserve.ensures.items ∙ c.clear.ensures.items) c.serve.ensures.placed nothing in
     let inside : 0 < times = search rules in
     let free = subst (λ s. first_that_holds (reasons config s (Heartbeat c.args.name.now)) ≡ None) as_before (subst (IsReady c.self.inside.config (state_of c.self.inside.tables) c.self.inside.tables.nodes.resting c.args.name.now) c.in-Awake.is c.in-Ok.ensures.ready).0 in
     let sound : IsSound config reserved c.self.inside.tables.nodes.resting = subst (λ s. IsSound config s c.self.inside.tables.nodes.resting) as_before c.self.invariant.sound in
@@ -70,9 +70,9 @@ returns-in_default-clause-ok c =
     let old = world_of c.self.inside in
     let event : Event = Heartbeat c.args.name.now in
     let same = resting_step old.config old.state c.args.name.now (c.self.invariant.sound.resting c.args.name.now (subst (IsReady c.self.inside.config (state_of c.self.inside.tables) c.self.inside.tables.nodes.resting c.args.name.now) c.in_default.is c.in-Ok.ensures.ready)) in
-    let P : World → Type 0 = λ w. Answers w event w (Placed c.new-in_default.result) in
+    let P : World → Type 0 = λ w. Answers w event w (Placed c.clear.new.self.items) in
     subst P c.self.view_is (record {
-      told = ap Placed (c.new-in_default.ensures ∙ c.new.ensures.items) ∙ sym (ap (λ (o : Outcome). o.reply) same);
+      told = ap Placed c.clear.ensures.items ∙ sym (ap (λ (o : Outcome). o.reply) same);
       left = λ i. record { config = old.config; state = sym (ap (λ (o : Outcome). o.state) same) i };
     })
 
