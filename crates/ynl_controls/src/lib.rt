@@ -3,7 +3,9 @@
 #![tactic(auto)]
 
 pub use maxima::Maxima;
+pub use refusals::refuse_setting;
 pub use stops::Stops;
 
 mod maxima;
+mod refusals;
 mod stops;

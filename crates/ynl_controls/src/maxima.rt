@@ -3,14 +3,16 @@
 ghost use Rattle.std.specs.Prelude.{◌≡◌, ◌++◌, ◌∷◌, [], IfOk, IsTrue, find, map, option_map, if◌then◌else◌};
 ghost use Rattle.ynl_model.specs.Queues.{opening_maxima, is_maximum_of, set_maximum, maximum_on, maximum};
 ghost use Rattle.ynl_controls.specs.Opening.{opening_maximum};
+ghost use Rattle.ynl_controls.specs.Setting.{SetsMaximum};
 ghost use Rattle.ynl_model.specs.Nodes.{partition_labels};
 ghost use Rattle.ynl_resource.specs.Amounts.{fits_in, IsSmall};
 
+use crate::refusals::refuse_maximum;
 use std::alloc::{AllocError, Global};
 use std::marker::Model;
 use ynl_model::MaximumRow;
 use ynl_queues::{Config, nested_floor};
-use ynl_resource::{Hundredths, Label, Name, Path, Resource};
+use ynl_resource::{Hundredths, Label, Name, Path, Refusal, Resource};
 
 /// A maximum for each queue and each partition: the queues in the order of the configuration, and for each
 /// the partitions, of which it is kept how many there are. A contract sees the list of rows.
@@ -106,12 +108,22 @@ impl Maxima {
         })
     }
 
-    /// The queue's maximum on a partition is this share of its parent's; where there is no such queue
-    /// or partition nothing changes.
-    pub fn set(&mut self, queue: &[Name], label: &Label, share: Hundredths)
-        ensures { self.new ≡ set_maximum queue.now label.now share self.old }
+    /// The queue's maximum on a partition is this share of its parent's, or the event's first refusal is
+    /// answered and nothing changes.
+    pub fn set(
+        &mut self,
+        config: &Config,
+        queue: &Path,
+        label: &Label,
+        share: Hundredths,
+    ) -> Result<(), Refusal>
+        ensures { SetsMaximum config.now queue.now label.now share self.old self.new result }
     {
-        set(&mut self.rows, queue, label, share);
+        if let Some(refusal) = refuse_maximum(config, queue, label, share) {
+            return Err(refusal);
+        }
+        set(&mut self.rows, queue.names(), label, share);
+        Ok(())
     }
 
     fn row(&self, queue: &[Name], label: &Label) -> Option<&MaximumRow>

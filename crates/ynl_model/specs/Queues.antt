@@ -101,7 +101,7 @@ opening_maxima c = flat_map (λ row. map (λ label. record { queue = row.path; l
 abbrev pub is_maximum_of : Path → Label → MaximumRow → Bool
 is_maximum_of queue label row = same_path row.queue queue && same_label row.label label
 
--- a queue's present maximum on a partition; where maxima do not change it is the configured one
+-- a queue's present maximum on a partition: the configured one, until an event sets another
 unfoldable pub maximum_on : List MaximumRow → Path → Label → ℕ
 maximum_on maxima queue label = option_map_or (λ row. row.share) (find (is_maximum_of queue label) maxima) 0
 

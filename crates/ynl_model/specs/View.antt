@@ -84,7 +84,7 @@ seen_of t p c nodes (Ask tenant app label priority count size) = kept_if (same_n
 seen_of t p c nodes (Poll tenant app label) = kept_if (same_name tenant t && same_label label p) (Poll tenant app label)
 seen_of t p c nodes (Usage queue label) = kept_if (same_label label p && is_within (top_level t) queue) (Usage queue label)
 seen_of t p c nodes (Release tenant id) = kept_if (same_name tenant t && same_label id.label p) (Release tenant id)
--- only where maxima change
+-- and what sets a maximum there
 seen_of t p c nodes (Maximum queue label share) = kept_if (same_label label p && is_within (top_level t) queue) (Maximum queue label share)
 -- what happens on a node of the partition, whatever tenant a Commit names
 seen_of t p c nodes (Heartbeat node) = kept_if (is_in nodes node p) (Heartbeat node)
