@@ -14,8 +14,8 @@ ghost use Rattle.ynl_core.specs.World.{opened, beaten, Answers};
 use crate::memory::NoMemory;
 use crate::refusals::{
     Ready, refuse_ask, refuse_commit, refuse_exited, refuse_finish, refuse_heartbeat, refuse_lost,
-    refuse_poll, refuse_propose, refuse_register, refuse_relabel, refuse_release,
-    refuse_start, refuse_stop, refuse_submit, refuse_usage,
+    refuse_poll, refuse_propose, refuse_register, refuse_relabel, refuse_release, refuse_start,
+    refuse_stop, refuse_submit, refuse_usage,
 };
 use std::alloc::Global;
 use std::marker::Model;
@@ -337,10 +337,7 @@ impl Core {
     fn maximum(&mut self, queue: &Path, label: &Label, share: Hundredths) -> Reply
         ensures { Answers self.old (Maximum queue.now label.now share) self.new result }
     {
-        let set = self
-            .tables
-            .maxima
-            .set(&self.config, queue, label, share);
+        let set = self.tables.maxima.set(&self.config, queue, label, share);
         if let Err(refusal) = set {
             return Reply::Refused(refusal);
         }

@@ -38,6 +38,29 @@ fn tells_the_first_fault(rt: HostRuntime) -> Result<(), Fail> {
     Ok(())
 }
 
+/// So many labels of different names.
+fn numbered_rows(alloc: Global, count: u8) -> Result<Vec<LabelRow>, Fail> {
+    let mut rows = Vec::new(alloc);
+    for number in 0..count {
+        let text = format!(in alloc; "l{number}")?;
+        rows.push(LabelRow {
+            name: Name::parse(text.as_str())?,
+            exclusive: true,
+            limit: 1,
+        })?;
+    }
+    Ok(rows)
+}
+
+#[test]
+fn takes_64_labels_and_no_more(rt: HostRuntime) -> Result<(), Fail> {
+    for (count, fault) in [(64, None), (65, Some(LabelFault::TooManyLabels))] {
+        let built = Labels::build(numbered_rows(rt.alloc(), count)?, 1);
+        assert_eq!(rt; built.err(), fault, "{count}");
+    }
+    Ok(())
+}
+
 // Run with each allocation failing in turn: where memory is refused at the first try, which a line
 // tells, the second gives the labels.
 fn one_label(alloc: Global, name: Name) -> Result<Labels, AllocError> {

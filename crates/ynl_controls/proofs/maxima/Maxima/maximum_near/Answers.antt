@@ -1,4 +1,4 @@
-use Rattle.std.proofs.Common.{◌≡◌, ◌<◌, Some, get_or, List, rules, arith, sym, ap, ◌∙◌, length}
+use Rattle.std.proofs.Common.{◌≡◌, ◌<◌, get_or, List, rules, sym, ap, ◌∙◌, length}
 use Rattle.ynl_model.specs.Queues.{maximum_on}
 use Rattle.ynl_model.specs.declared.queues.MaximumRow.{MaximumRow}
 use Rattle.ynl_controls.proofs.Alike.{alike_near}
