@@ -1,6 +1,6 @@
 //! From lines to events.
 
-ghost use Rattle.std.specs.Prelude.{◌≡◌, option_map, IfOk, IfErr, IsErr, IsTrue, Ok, Err, Some, None};
+ghost use Rattle.std.specs.Prelude.{◌≡◌, option_map, IfOk, IfErr, IsErr, OnErr, IsTrue, IsUtf8, Ok, Err, Some, None};
 ghost use Rattle.std.specs.List.{find};
 ghost use Rattle.std.specs.Str.{bytes_eq};
 ghost use Rattle.serde_json.specs.Errors.{IsMemory};
@@ -68,11 +68,15 @@ fn found(read: Result<Value, Error>) -> Result<Option<Value>, AllocError>
     }
 }
 
-/// The value that the bytes are, if they are the text of one.
+/// The value that the bytes are, if they are the text of one. Only a text takes memory.
 pub fn parse(alloc: Global, bytes: &[u8]) -> Result<Option<Value>, AllocError>
-    ensures { IfOk result (λ found. option_map view found ≡ reading bytes.now) }
+    ensures value { IfOk result (λ found. option_map view found ≡ reading bytes.now) }
+    ensures text { OnErr result (IsUtf8 bytes.now) }
 {
-    found(Value::from_slice(alloc, bytes))
+    match str::from_utf8(bytes) {
+        Ok(text) => found(Value::from_str(alloc, text)),
+        Err(_) => Ok(None),
+    }
 }
 
 /// The word of each kind, those that come most often first.
@@ -142,6 +146,7 @@ pub fn event_at(event: &Fields<'_, '_>) -> Result<Event, LineFault>
 /// The event that a line is, by the value that serde_json reads of it.
 fn read_by_value(alloc: Global, line: &[u8]) -> Result<Result<Event, LineFault>, AllocError>
     ensures event { IfOk result (λ read. read ≡ spec.event_of_line line.now) }
+    ensures text { OnErr result (IsUtf8 line.now) }
     ensures ranged { IfOk result (λ read. IfOk read (λ event. IsRanged event)) }
 {
     match parse(alloc, line)? {
@@ -222,13 +227,14 @@ impl EventReader {
         }
     }
 
-    /// The event that a line is, or its first fault, as [`read_event`] tells it.
+    /// The event that a line is, or its first fault, as [`read_event`] tells it. Bytes that are no text take no memory.
     pub fn read(
         &mut self,
         alloc: Global,
         line: &[u8],
     ) -> Result<Result<Event, LineFault>, AllocError>
         ensures event { IfOk result (λ read. read ≡ spec.event_of_line line.now) }
+        ensures text { OnErr result (IsUtf8 line.now) }
         ensures ranged { IfOk result (λ read. IfOk read (λ event. IsRanged event)) }
     {
         if let Some(members) = members_in(line) {
@@ -265,6 +271,7 @@ impl EventReader {
 /// does not tell it.
 pub fn read_event(alloc: Global, line: &[u8]) -> Result<Result<Event, LineFault>, AllocError>
     ensures event { IfOk result (λ read. read ≡ spec.event_of_line line.now) }
+    ensures text { OnErr result (IsUtf8 line.now) }
     ensures ranged { IfOk result (λ read. IfOk read (λ event. IsRanged event)) }
 {
     let mut reader = EventReader::new(alloc);

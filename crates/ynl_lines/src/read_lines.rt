@@ -1,6 +1,6 @@
 //! From the lines of a journal to its entries.
 
-ghost use Rattle.std.specs.Prelude.{◌≡◌, IfOk};
+ghost use Rattle.std.specs.Prelude.{◌≡◌, IfOk, OnErr, IsOk, IsUtf8};
 ghost use Rattle.ynl_lines.specs.Trees.{data_at};
 ghost use Rattle.ynl_lines.specs.Reading.{IsRanged};
 ghost use Rattle.ynl_lines.specs.ReadingReplies as spec;
@@ -78,6 +78,7 @@ fn line_at(
 ) -> Result<Result<(u64, Entry), BadLine>, AllocError>
     ensures entry { IfOk result (λ read. read ≡ spec.or_bad (spec.line_at (data_at line.now.stands))) }
     ensures ranged { IfOk result (λ read. IfOk read (λ line. IsRanged line.1.event)) }
+    ensures event { OnErr result (IsOk (spec.placed_event_at (data_at line.now.stands))) }
 {
     let Ok((place, event)) = placed_event_at(line) else {
         return Ok(Err(BadLine));
@@ -92,10 +93,12 @@ fn line_at(
 ///
 /// The line is a JSON object with just `event`, an event as a script's line has it, `place`, a whole
 /// number below 2^64, and `reply`, the object that [`write_reply`](crate::write_reply) writes; where the
-/// event is `propose` the line may be without `reply`. Anything else is a bad line.
+/// event is `propose` the line may be without `reply`. Anything else is a bad line, and bytes that are no
+/// text are one that takes no memory.
 pub fn read_line(alloc: Global, line: &[u8]) -> Result<Result<(u64, Entry), BadLine>, AllocError>
     ensures entry { IfOk result (λ read. read ≡ spec.line_of_text line.now) }
     ensures ranged { IfOk result (λ read. IfOk read (λ line. IsRanged line.1.event)) }
+    ensures text { OnErr result (IsUtf8 line.now) }
 {
     match parse(alloc, line)? {
         Some(value) => line_at(alloc, &Fields::value(&value)),

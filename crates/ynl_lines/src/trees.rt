@@ -1,11 +1,15 @@
 //! Lines as trees over their own text. A line is mostly an object of texts and whole numbers, and is read as that
 //! with no memory for its keys and texts. Any other text is read by [serde_json].
 
-ghost use Rattle.std.specs.Prelude.{◌≡◌, true, is_some, IfOk, option_map};
+ghost use Rattle.std.specs.Prelude.{◌≡◌, ◌≢◌, ◌<◌, ◌⊎◌, length, true, is_some, IfOk, IfErr, IsErr, OnErr, IsTrue, IsUtf8, Ok, Some, None, option_map};
 ghost use Rattle.std.specs.Bool.{OnTrue};
 ghost use Rattle.std.specs.Option.{option_and_then};
 ghost use Rattle.std.specs.Str.{bytes_eq};
 ghost use Rattle.json.specs.Find.{get, get_member};
+ghost use Rattle.json.specs.Lex.{tokens};
+ghost use Rattle.json.specs.Reads.{opens};
+ghost use Rattle.json.specs.Scratch.{room};
+ghost use Rattle.json.specs.declared.error.Error.TheVariants.{OutOfMemory};
 ghost use Rattle.json.specs.Value.{value_view, members_view};
 ghost use Rattle.serde_json.specs.Read.{of_json};
 ghost use Rattle.ynl_lines.specs.Reading.{reading};
@@ -97,26 +101,40 @@ pub fn is_plain(value: &Value<'_>, depth: usize) -> bool
 /// How deep serde_json reads.
 const MAX_DEPTH: usize = 127;
 
-/// The value of some bytes as a tree, if they are the text of one.
+/// What reading a tree told: the tree, or that the text is that of none. It takes no memory, so want of
+/// memory is told only where reading met it.
+fn told<'a>(read: Result<Value<'a>, Error>) -> Result<Option<Value<'a>>, AllocError>
+    ensures tree { IfOk read.entry (λ tree. result ≡ Ok (Some tree)) }
+    ensures none { IfErr read.entry (λ e. e ≢ OutOfMemory → result ≡ Ok None) }
+    ensures memory { IfErr read.entry (λ e. e ≡ OutOfMemory → IsErr result) }
+{
+    match read {
+        Ok(tree) => Ok(Some(tree)),
+        Err(Error::OutOfMemory) => Err(AllocError),
+        Err(_) => Ok(None),
+    }
+}
+
+/// The value of some bytes as a tree, if they are the text of one. Only a text takes memory: to hold what it spells
+/// with escapes, and for what stands in an array or an object.
 pub fn tree_of<'a>(
     alloc: Global,
     scratch: &'a mut Scratch,
     bytes: &'a [u8],
 ) -> Result<Option<Value<'a>>, AllocError>
-    ensures { IfOk result (λ found. reading bytes.now ≡ option_and_then (λ tree. of_json (value_view tree)) found) }
+    ensures tree { IfOk result (λ found. reading bytes.now ≡ option_and_then (λ tree. of_json (value_view tree)) found) }
+    ensures text { OnErr result (IsUtf8 bytes.now) }
+    ensures memory { OnErr result (IsTrue (opens (tokens bytes.now)) ⊎ (room scratch.old < length bytes.now)) }
 {
     let Ok(text) = str::from_utf8(bytes) else {
         return Ok(None);
     };
     let mut reader = Reader::new(text, scratch)?;
-    match Value::read(alloc, &mut reader, MAX_DEPTH) {
-        Ok(tree) => {
-            if reader.next().is_some() {
-                return Ok(None);
-            }
-            Ok(Some(tree))
-        }
-        Err(Error::Invalid) => Ok(None),
-        Err(_) => Err(AllocError),
+    let Some(tree) = told(Value::read(alloc, &mut reader, MAX_DEPTH))? else {
+        return Ok(None);
+    };
+    if reader.next().is_some() {
+        return Ok(None);
     }
+    Ok(Some(tree))
 }

@@ -12,5 +12,5 @@ pub returns-then-is_plain-clause-event : goal.returns-then-is_plain-clause-event
 returns-then-is_plain-clause-event c =
     let plain : is_plain (value_view c.in-Some-2.tree) ≡ true = search rules in
     let is : reading c.args.line.now ≡ Some (data_of (value_view c.in-Some-2.tree)) =
-    c.in_ok-tree.ensures ∙ ap (option_and_then (λ tree. of_json (value_view tree))) c.in-Some-2.is ∙ read_plain (value_view c.in-Some-2.tree) plain in
+    c.in_ok-tree.ensures.tree ∙ ap (option_and_then (λ tree. of_json (value_view tree))) c.in-Some-2.is ∙ read_plain (value_view c.in-Some-2.tree) plain in
     c.event_at.ensures.event ∙ ap event_at c.tree.ensures ∙ ap (λ o. or_fault fault.Syntax o >>= event_at) (sym is)
