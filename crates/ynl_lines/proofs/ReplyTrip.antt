@@ -5,7 +5,7 @@ use Rattle.serde_json.specs.Data.{Data}
 use Rattle.serde_json.specs.View.{items_of}
 use Rattle.ynl_resource.specs.declared.amounts.Resource.{Resource}
 use Rattle.ynl_resource.specs.declared.labels.Label.{Label}
-use Rattle.ynl_resource.specs.Amounts.{IsSize}
+use Rattle.ynl_resource.specs.Amounts.{amount, IsSize, IsSmall}
 use Rattle.ynl_resource.specs.Texts.{read_name, read_label, read_id, label_text, id_text}
 use Rattle.ynl_resource.specs.Ranges.{most_count, most_priority}
 use Rattle.ynl_resource.proofs.RefusalTrip.{refusal_back}
@@ -18,8 +18,8 @@ use Rattle.ynl_model.specs.declared.replies.Reply.{Reply}
 use Rattle.ynl_model.specs.declared.replies.Reply.TheVariants.{Done, Refused, Placed, Proposed, Committed, Held, Usage}
 use Rattle.ynl_lines.specs.declared.faults.LineFault.TheVariants as fault
 use Rattle.ynl_lines.specs.Reading.{reading, or_name, or_fault, ◌>>=◌, text_at, number_at, keys_are, name_at, label_at, id_at, within, size_at, wanted_at, wanted_label_at, what_at, event_at, HasClock, HasPriority, HasAskNumbers}
-use Rattle.ynl_lines.specs.ReadingReplies.{name_under, id_under, value_under, list_under, list_of, size_in, amount_at, amount_under, what_in, placed_at, pending_at, each, alone, refused_at, placed_reply_at, proposed_at, committed_at, held_at, usage_reply_at, reply_kind_at, reply_at, answer_at, placed_event_at, line_at, HasPlacedNumbers, HasPendingNumbers, IsReplyInRange, ReadsPlaced, ReadsPending, PartsRead, answered_entry, or_bad, line_of_text}
-use Rattle.ynl_lines.specs.Writing.{placed_by, master_data, asked_data, placed_data, pending_data, reply_data, event_data, line_data}
+use Rattle.ynl_lines.specs.ReadingReplies.{name_under, id_under, value_under, list_under, list_of, size_in, most_amount, amount_at, amount_under, what_in, placed_at, pending_at, each, alone, refused_at, placed_reply_at, proposed_at, committed_at, held_at, usage_reply_at, reply_kind_at, reply_at, answer_at, placed_event_at, line_at, HasPlacedNumbers, HasPendingNumbers, IsReplyInRange, ReadsPlaced, ReadsPending, PartsRead, answered_entry, or_bad, line_of_text}
+use Rattle.ynl_lines.specs.Writing.{amount_data, placed_by, master_data, asked_data, placed_data, pending_data, reply_data, event_data, line_data}
 use Rattle.ynl_lines.proofs.Sizes.{size_back, within_back}
 
 -- ---- containers, and what is still asked for
@@ -89,8 +89,12 @@ each_pending_back (p ∷ ps) reads h =
 
 -- ---- replies
 
+amount_back : (a : Resource) → IsSmall a → amount_at (amount_data a) ≡ Ok a
+unfolding amount_at number_at keys_are
+amount_back a h = λ i. within_back most_amount a.memory h.0 i >>= λ memory. within_back most_amount a.vcores h.1 i >>= λ vcores. Ok (amount memory vcores)
+
 pub reads_reply : (r : Reply) → PartsRead r → IsReplyInRange r → reply_at (reply_data r) ≡ Ok r
-unfolding reply_at reply_kind_at text_at number_at keys_are value_under list_under list_of alone refused_at placed_reply_at proposed_at committed_at held_at usage_reply_at amount_under amount_at
+unfolding reply_at reply_kind_at text_at number_at keys_are value_under list_under list_of alone refused_at placed_reply_at proposed_at committed_at held_at usage_reply_at amount_under
 reads_reply Done reads h = refl
 reads_reply (Refused r) reads h = λ i. or_fault fault.Field (refusal_back r i) >>= λ r. Ok (Refused r)
 reads_reply (Placed ps) reads h = λ i. each_placed_back ps reads h i >>= λ ps. Ok (Placed ps)
@@ -99,7 +103,9 @@ reads_reply (Proposed (Some p)) reads h = λ i. reads h i >>= λ p. Ok (Proposed
 reads_reply (Committed p) reads h = λ i. reads h i >>= λ p. Ok (Committed p)
 reads_reply (Held containers asks) reads h =
     λ i. each_placed_back containers reads.0 h.0 i >>= λ containers. each_pending_back asks reads.1 h.1 i >>= λ asks. Ok (Held containers asks)
-reads_reply (Usage used guaranteed maximum masters guests) reads h = refl
+reads_reply (Usage used guaranteed maximum masters guests) reads h =
+    λ i. amount_back used h.0 i >>= λ used. amount_back guaranteed h.1 i >>= λ guaranteed. amount_back maximum h.2 i >>= λ maximum. amount_back masters h.3 i >>= λ masters.
+    amount_back guests h.4 i >>= λ guests. Ok (Usage used guaranteed maximum masters guests)
 
 -- ---- lines
 

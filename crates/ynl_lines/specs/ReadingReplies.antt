@@ -1,6 +1,6 @@
 -- The reply that an object is, and what a line of a journal says: an event, its place and its reply.
 -- Such a line is good or bad; which fault a definition here gives is not told.
-use Rattle.std.specs.Prelude.{◌≡◌, All, ℕ, List, [], ◌∷◌, Option, Some, None, option_and_then, Result, Ok, Err, codes, if◌then◌else◌}
+use Rattle.std.specs.Prelude.{◌≡◌, ◌^◌, All, ℕ, List, [], ◌∷◌, Option, Some, None, option_and_then, Result, Ok, Err, codes, if◌then◌else◌}
 use Rattle.std.specs.Str.{bytes_eq}
 use Rattle.serde_json.specs.Data.{Data, Items, no_items, item}
 use Rattle.serde_json.specs.Find.{get, as_array}
@@ -8,7 +8,7 @@ use Rattle.ynl_resource.specs.declared.amounts.Resource.{Resource}
 use Rattle.ynl_resource.specs.declared.names.Name.{Name}
 use Rattle.ynl_resource.specs.declared.ids.Id.{Id}
 use Rattle.ynl_resource.specs.Ranges.{most_count, most_priority}
-use Rattle.ynl_resource.specs.Amounts.{amount}
+use Rattle.ynl_resource.specs.Amounts.{amount, IsSmall}
 use Rattle.ynl_resource.specs.RefusalWords.{refusal_of}
 use Rattle.ynl_model.specs.declared.containers.Placed.{Placed as Container}
 use Rattle.ynl_model.specs.declared.proposals.What.{What}
@@ -48,13 +48,19 @@ size_in d = do
   vcores ← number_at (codes "vcores") d
   size_at memory vcores
 
--- an amount, whose numbers may be any
+-- the most MB, and the most virtual cores, of an amount: 562949953421312
+abbrev pub most_amount : ℕ
+most_amount = 2 ^ 49
+
+-- an amount, which may be none, and is at most so much in each part
 unfoldable pub amount_at : Data → Result Resource LineFault
 amount_at d = do
   keys ← keys_are 2 d
   memory ← number_at (codes "memory") d
   vcores ← number_at (codes "vcores") d
-  Ok (amount memory vcores)
+  memory' ← within most_amount memory
+  vcores' ← within most_amount vcores
+  Ok (amount memory' vcores')
 
 -- the amount that is under a key
 unfoldable pub amount_under : List ℕ → Data → Result Resource LineFault
@@ -253,12 +259,13 @@ abbrev pub HasProposedNumbers : Option Proposal → Type 0
 HasProposedNumbers None = Unit {0}
 HasProposedNumbers (Some p) = HasProposalNumbers p
 
--- the numbers of a reply are in range, but for those of sizes, which always are, and of amounts, which may be any
+-- the numbers of a reply are in range, but for those of sizes, which always are
 abbrev pub IsReplyInRange : Reply → Type 0
 IsReplyInRange (Placed ps) = All HasPlacedNumbers ps
 IsReplyInRange (Proposed o) = HasProposedNumbers o
 IsReplyInRange (Committed p) = HasPlacedNumbers p
 IsReplyInRange (Held containers asks) = All HasPlacedNumbers containers × All HasPendingNumbers asks
+IsReplyInRange (Usage used guaranteed maximum masters guests) = IsSmall used × IsSmall guaranteed × IsSmall maximum × IsSmall masters × IsSmall guests
 IsReplyInRange _ = Unit {0}
 
 -- the object of a container reads as it, if its numbers are in range

@@ -8,7 +8,7 @@ ghost use Rattle.ynl_lines.specs.ReadingReplies as spec;
 
 use crate::faults::LineFault;
 use crate::fields::Fields;
-use crate::keys::{keys_are, number_at, text_at};
+use crate::keys::{keys_are, number_at, text_at, within};
 use crate::read_containers::{each_pending, each_placed, placed_at};
 use crate::read_proposals::proposal_at;
 use serde_json::Value;
@@ -81,6 +81,9 @@ fn list_under<'v>(object: &Fields<'v, '_>, key: &str) -> Result<&'v Vec<Value>, 
     }
 }
 
+/// The most MB, and the most virtual cores, of an amount: 2^49, which no sum of a cluster's sizes passes.
+const MOST_AMOUNT: u64 = 562949953421312;
+
 /// An amount: MB of memory, and virtual cores.
 #[tactic(auto, unfolding(crate::specs::ReadingReplies::amount_at))]
 fn amount_at(object: &Fields<'_, '_>) -> Result<Resource, LineFault>
@@ -89,6 +92,8 @@ fn amount_at(object: &Fields<'_, '_>) -> Result<Resource, LineFault>
     keys_are(object, 2)?;
     let memory = number_at(object, "memory")?;
     let vcores = number_at(object, "vcores")?;
+    let memory = within(MOST_AMOUNT, memory)?;
+    let vcores = within(MOST_AMOUNT, vcores)?;
     Ok(Resource { memory, vcores })
 }
 

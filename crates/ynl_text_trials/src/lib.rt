@@ -1,5 +1,5 @@
 //! Tests of what no text shows of the lower crates: rosters, amounts and paths, labels, queues, what an operator sets,
-//! configurations, and lines, most of them with memory refused. The crates themselves have none, since a crate with tests is proved twice.
+//! configurations, and lines and their numbers, most of them with memory refused. The crates themselves have none, since a crate with tests is proved twice.
 #![tactic(auto)]
 
 #[cfg(test)]
@@ -12,6 +12,8 @@ mod labels;
 mod lines;
 #[cfg(test)]
 mod queues;
+#[cfg(test)]
+mod ranges;
 #[cfg(test)]
 mod rosters;
 #[cfg(test)]

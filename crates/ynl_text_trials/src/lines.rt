@@ -210,7 +210,7 @@ fn lines_of_a_journal_are_read_and_written(rt: HostRuntime) -> Result<(), Fail> 
         r#"{"event":{"event":"propose","node":"g1"},"place":3,"reply":{"proposal":{"app":"j1","memory":1000,"node":"g1","stamp":7,"tenant":"eng","vcores":1,"what":"master"},"reply":"proposal"}}"#,
         r#"{"event":{"event":"propose","node":"g1"},"place":4,"reply":{"reply":"nothing"}}"#,
         r#"{"event":{"app":"j1","event":"poll","label":"gpu","tenant":"eng"},"place":5,"reply":{"asks":[{"count":1000000,"memory":1000,"priority":0,"vcores":1}],"containers":[],"reply":"held"}}"#,
-        r#"{"event":{"event":"usage","label":"","queue":"root.eng"},"place":18446744073709551615,"reply":{"guaranteed":{"memory":0,"vcores":0},"guests":{"memory":0,"vcores":0},"masters":{"memory":1000,"vcores":1},"maximum":{"memory":18446744073709551615,"vcores":0},"reply":"usage","used":{"memory":1000,"vcores":1}}}"#,
+        r#"{"event":{"event":"usage","label":"","queue":"root.eng"},"place":18446744073709551615,"reply":{"guaranteed":{"memory":0,"vcores":0},"guests":{"memory":0,"vcores":0},"masters":{"memory":1000,"vcores":1},"maximum":{"memory":562949953421312,"vcores":0},"reply":"usage","used":{"memory":1000,"vcores":1}}}"#,
     ] {
         let text = entry_read_and_written(rt.alloc(), line)?;
         assert_eq!(rt; text.as_slice(), line.as_bytes(), "{line}");
