@@ -1,5 +1,5 @@
 -- The object of a reply reads as it.
-use Rattle.std.proofs.Common.{◌≡◌, ◌≤◌, ◌∙◌, ℕ, List, [], ◌∷◌, All, map, Some, None, Result, Ok, Err, IfOk, refl, ap, sym, subst}
+use Rattle.std.proofs.Common.{◌≡◌, ◌≤◌, ◌∙◌, ℕ, List, [], ◌∷◌, All, map, Option, option_map, Some, None, Result, Ok, Err, IfOk, IfSome, refl, ap, sym, subst}
 use Rattle.std.proofs.lemmas.List.Elements.{All-head, All-tail}
 use Rattle.serde_json.specs.Data.{Data}
 use Rattle.serde_json.specs.View.{items_of}
@@ -10,6 +10,8 @@ use Rattle.ynl_resource.specs.Texts.{read_name, read_label, read_id, label_text,
 use Rattle.ynl_resource.specs.Ranges.{most_count, most_priority}
 use Rattle.ynl_resource.proofs.RefusalTrip.{refusal_back}
 use Rattle.ynl_model.specs.declared.events.Event.{Event}
+use Rattle.ynl_model.specs.declared.events.Event.TheVariants.{Propose}
+use Rattle.ynl_model.specs.declared.entries.Entry.{Entry}
 use Rattle.ynl_model.specs.declared.proposals.What.{What}
 use Rattle.ynl_model.specs.declared.proposals.What.TheVariants.{Master, Ask as Asked}
 use Rattle.ynl_model.specs.declared.containers.Placed.{Placed as Container}
@@ -18,8 +20,8 @@ use Rattle.ynl_model.specs.declared.replies.Reply.{Reply}
 use Rattle.ynl_model.specs.declared.replies.Reply.TheVariants.{Done, Refused, Placed, Proposed, Committed, Held, Usage}
 use Rattle.ynl_lines.specs.declared.faults.LineFault.TheVariants as fault
 use Rattle.ynl_lines.specs.Reading.{reading, or_name, or_fault, ◌>>=◌, text_at, number_at, keys_are, name_at, label_at, id_at, within, size_at, wanted_at, wanted_label_at, what_at, event_at, HasClock, HasPriority, HasAskNumbers}
-use Rattle.ynl_lines.specs.ReadingReplies.{name_under, id_under, value_under, list_under, list_of, size_in, most_amount, amount_at, amount_under, what_in, placed_at, pending_at, each, alone, refused_at, placed_reply_at, proposed_at, committed_at, held_at, usage_reply_at, reply_kind_at, reply_at, answer_at, placed_event_at, line_at, HasPlacedNumbers, HasPendingNumbers, IsReplyInRange, ReadsPlaced, ReadsPending, PartsRead, answered_entry, or_bad, line_of_text}
-use Rattle.ynl_lines.specs.Writing.{amount_data, placed_by, master_data, asked_data, placed_data, pending_data, reply_data, event_data, line_data}
+use Rattle.ynl_lines.specs.ReadingReplies.{name_under, id_under, value_under, list_under, list_of, size_in, most_amount, amount_at, amount_under, what_in, placed_at, pending_at, each, alone, refused_at, placed_reply_at, proposed_at, committed_at, held_at, usage_reply_at, reply_kind_at, reply_at, unanswered, answer_at, placed_event_at, line_at, MayBeTold, HasPlacedNumbers, HasPendingNumbers, IsReplyInRange, ReadsPlaced, ReadsPending, PartsRead, or_bad, line_of_text}
+use Rattle.ynl_lines.specs.Writing.{amount_data, placed_by, master_data, asked_data, placed_data, pending_data, reply_data, propose_data, event_data, line_object, line_data}
 use Rattle.ynl_lines.proofs.Sizes.{size_back, within_back}
 
 -- ---- containers, and what is still asked for
@@ -109,18 +111,22 @@ reads_reply (Usage used guaranteed maximum masters guests) reads h =
 
 -- ---- lines
 
-pub reads_line : (place : ℕ) (e : Event) (r : Reply) → event_at (event_data e) ≡ Ok e → PartsRead r → IsReplyInRange r
-    → line_at (line_data place e r) ≡ Ok (answered_entry place e r)
+pub reads_line : (place : ℕ) (e : Event) (o : Option Reply) → MayBeTold e o → event_at (event_data e) ≡ Ok e → IfSome o PartsRead → IfSome o IsReplyInRange
+    → line_at (line_object place (event_data e) (option_map reply_data o)) ≡ Ok (place, record { event = e; reply = o })
 unfolding line_at placed_event_at answer_at text_at number_at keys_are value_under
-reads_line place e r h reads numbers =
+reads_line place e (Some r) may h reads numbers =
     λ i. ◌>>=◌ {A = Event} {B = ℕ × Event} (h i) (λ e. Ok (place, e)) >>= λ placed. (reads_reply r reads numbers i >>= λ r. Ok (Some r)) >>= λ reply.
     Ok (placed.0, record { event = placed.1; reply = reply })
+reads_line place (Propose node) None may h reads numbers =
+    λ i. ◌>>=◌ {A = Event} {B = ℕ × Event} (h i) (λ e. Ok (place, e)) >>= λ placed. unanswered placed.1 (line_object place (propose_data node) None) >>= λ reply.
+    Ok (placed.0, record { event = placed.1; reply = reply })
+reads_line place _ None may h reads numbers = absurd may
 
 -- bytes that read as the object of a line read as what the line says
-pub line_reads : (place : ℕ) (e : Event) (r : Reply) (d : Data) → d ≡ line_data place e r → event_at (event_data e) ≡ Ok e → PartsRead r → IsReplyInRange r
-    → (bytes : List ℕ) → reading bytes ≡ Some d → line_of_text bytes ≡ Ok (answered_entry place e r)
-line_reads place e r d is h reads numbers bytes found =
-    ap (λ o. or_bad (or_fault fault.Syntax o >>= line_at)) (found ∙ ap Some is) ∙ ap or_bad (reads_line place e r h reads numbers)
+pub line_reads : (place : ℕ) (e : Entry) (d : Data) → d ≡ line_data place e → MayBeTold e.event e.reply → event_at (event_data e.event) ≡ Ok e.event → IfSome e.reply PartsRead → IfSome e.reply IsReplyInRange
+    → (bytes : List ℕ) → reading bytes ≡ Some d → line_of_text bytes ≡ Ok (place, e)
+line_reads place e d is may h reads numbers bytes found =
+    ap (λ o. or_bad (or_fault fault.Syntax o >>= line_at)) (found ∙ ap Some is) ∙ ap or_bad (reads_line place e.event e.reply may h reads numbers)
 
 pub if_ok_so : {X Y : Type 0} (P Q : X → Type 0) (r : Result X Y) → ((x : X) → P x → Q x) → IfOk r P → IfOk r Q
 if_ok_so P Q (Ok x) so p = so x p

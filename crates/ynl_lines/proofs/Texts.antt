@@ -1,5 +1,5 @@
 -- Replies and events have no float and are flat.
-use Rattle.std.proofs.Common.{◌≡◌, ◌≤◌, ℕ, List, [], ◌∷◌, Option, Some, None, false, map, refl, arith}
+use Rattle.std.proofs.Common.{◌≡◌, ◌≤◌, ℕ, List, [], ◌∷◌, Option, Some, None, false, map, option_map, refl, arith}
 use Rattle.serde_json.specs.Data.{depth, items_depth}
 use Rattle.serde_json.specs.View.{items_of}
 use Rattle.serde_json.specs.Written.{has_float, items_have_float}
@@ -16,7 +16,7 @@ use Rattle.ynl_model.specs.declared.proposals.Proposal.{Proposal}
 use Rattle.ynl_model.specs.declared.replies.Pending.{Pending}
 use Rattle.ynl_model.specs.declared.replies.Reply.{Reply}
 use Rattle.ynl_model.specs.declared.replies.Reply.TheVariants.{Done, Refused, Placed, Proposed, Committed, Held, Usage}
-use Rattle.ynl_lines.specs.Writing.{placed_by, placed_data, proposal_by, pending_data, reply_data, submit_data, event_data, line_data}
+use Rattle.ynl_lines.specs.Writing.{placed_by, placed_data, proposal_by, pending_data, reply_data, submit_data, event_data, line_object}
 
 plain_by : (w : What) (p : Container) → has_float (placed_by w p) ≡ false
 plain_by Master p = refl
@@ -92,8 +92,10 @@ flat_event _ = omega arith
 
 -- ---- lines
 
-pub plain_line : (place : ℕ) (e : Event) (r : Reply) → has_float (line_data place e r) ≡ false
-plain_line place e r = simp (plain_event e, plain_reply r)
+pub plain_line : (place : ℕ) (e : Event) (o : Option Reply) → has_float (line_object place (event_data e) (option_map reply_data o)) ≡ false
+plain_line place e None = simp (plain_event e)
+plain_line place e (Some r) = simp (plain_event e, plain_reply r)
 
-pub flat_line : (place : ℕ) (e : Event) (r : Reply) → depth (line_data place e r) ≤ 127
-flat_line place e r = omega (arith, flat_event e, flat_reply r)
+pub flat_line : (place : ℕ) (e : Event) (o : Option Reply) → depth (line_object place (event_data e) (option_map reply_data o)) ≤ 127
+flat_line place e None = omega (arith, flat_event e)
+flat_line place e (Some r) = omega (arith, flat_event e, flat_reply r)

@@ -1,6 +1,6 @@
 -- The reply that an object is, and what a line of a journal says: an event, its place and its reply.
 -- Such a line is good or bad; which fault a definition here gives is not told.
-use Rattle.std.specs.Prelude.{◌≡◌, ◌^◌, All, ℕ, List, [], ◌∷◌, Option, Some, None, option_and_then, Result, Ok, Err, codes, if◌then◌else◌}
+use Rattle.std.specs.Prelude.{◌≡◌, ◌^◌, All, IfSome, ℕ, List, [], ◌∷◌, Option, Some, None, option_and_then, Result, Ok, Err, codes, if◌then◌else◌}
 use Rattle.std.specs.Str.{bytes_eq}
 use Rattle.serde_json.specs.Data.{Data, Items, no_items, item}
 use Rattle.serde_json.specs.Find.{get, as_array}
@@ -24,7 +24,7 @@ use Rattle.ynl_lines.specs.declared.faults.LineFault.TheVariants as fault
 use Rattle.ynl_lines.specs.declared.faults.BadLine.{BadLine}
 use Rattle.ynl_lines.specs.declared.read_replies.ReplyKind.{ReplyKind}
 use Rattle.ynl_lines.specs.declared.read_replies.ReplyKind.TheVariants as kind
-use Rattle.ynl_lines.specs.Reading.{reading, ◌>>=◌, or_fault, text_at, number_at, keys_are, name_at, id_at, size_at, within, wanted_at, wanted_label_at, what_at, proposal_at, event_at, HasClock, HasPriority, HasAskNumbers, HasProposalNumbers}
+use Rattle.ynl_lines.specs.Reading.{reading, ◌>>=◌, or_fault, text_at, number_at, keys_are, name_at, id_at, size_at, within, wanted_at, wanted_label_at, what_at, proposal_at, event_at, HasClock, HasPriority, HasAskNumbers, HasProposalNumbers, IsInRange}
 use Rattle.ynl_lines.specs.Writing.{placed_data, pending_data, proposal_data}
 
 -- ---- what stands in several objects
@@ -289,6 +289,12 @@ PartsRead (Committed p) = ReadsPlaced p
 PartsRead (Held containers asks) = All ReadsPlaced containers × All ReadsPending asks
 PartsRead _ = Unit {0}
 
--- the place of an event, the event, and the reply to it
-abbrev pub answered_entry : ℕ → Event → Reply → ℕ × Entry
-answered_entry place event reply = (place, record { event = event; reply = Some reply })
+-- the numbers of an entry are in range
+abbrev pub IsEntryInRange : Entry → Type 0
+IsEntryInRange e = IsInRange e.event × IfSome e.reply IsReplyInRange
+
+-- a line may tell of an event and this reply: of a propose alone it may tell without one
+abbrev pub MayBeTold : Event → Option Reply → Type 0
+MayBeTold event (Some reply) = Unit {0}
+MayBeTold (Propose node) None = Unit {0}
+MayBeTold event None = ⊥

@@ -1,5 +1,5 @@
 -- The texts of replies, faults, audits and events: JSON objects in the compact form, the keys in byte order.
-use Rattle.std.specs.Prelude.{ℕ, map, List, Option, Some, None, codes}
+use Rattle.std.specs.Prelude.{ℕ, map, List, Option, Some, None, option_map, codes}
 use Rattle.serde_json.specs.Data.{Data, Members, object, array, string, number, unsigned, member, no_members, put}
 use Rattle.serde_json.specs.View.{items_of}
 use Rattle.serde_json.specs.Written.{compact_text}
@@ -20,6 +20,7 @@ use Rattle.ynl_model.specs.declared.events.Event.TheVariants as event
 use Rattle.ynl_model.specs.declared.replies.Pending.{Pending}
 use Rattle.ynl_model.specs.declared.replies.Reply.{Reply}
 use Rattle.ynl_model.specs.declared.replies.Reply.TheVariants.{Done, Refused, Placed, Proposed, Committed, Held, Usage}
+use Rattle.ynl_model.specs.declared.entries.Entry.{Entry}
 use Rattle.ynl_lines.specs.declared.faults.LineFault.{LineFault}
 use Rattle.ynl_lines.specs.declared.faults.LineFault.TheVariants as fault
 use Rattle.ynl_lines.specs.declared.faults.JournalFault.{JournalFault}
@@ -307,14 +308,15 @@ audit_text entries = compact_text (audit_data entries)
 
 -- ---- lines
 
--- an event, its place in a list and the reply to it, where event and reply are values by now
-abbrev pub line_object : ℕ → Data → Data → Data
-line_object place event reply = object (member (codes "event") event (member (codes "place") (count place) (member (codes "reply") reply no_members)))
+-- an event, its place in a list and the reply to it, if there is one, where event and reply are values by now
+abbrev pub line_object : ℕ → Data → Option Data → Data
+line_object place event None = object (member (codes "event") event (member (codes "place") (count place) no_members))
+line_object place event (Some reply) = object (member (codes "event") event (member (codes "place") (count place) (member (codes "reply") reply no_members)))
 
--- an event, its place in a list and the reply to it
-abbrev pub line_data : ℕ → Event → Reply → Data
-line_data place e r = line_object place (event_data e) (reply_data r)
+-- an entry, and its place in a list
+abbrev pub line_data : ℕ → Entry → Data
+line_data place e = line_object place (event_data e.event) (option_map reply_data e.reply)
 
 -- its text, without the newline of its line
-abbrev pub line_text : ℕ → Event → Reply → List ℕ
-line_text place e r = compact_text (line_data place e r)
+abbrev pub line_text : ℕ → Entry → List ℕ
+line_text place e = compact_text (line_data place e)

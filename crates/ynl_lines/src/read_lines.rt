@@ -1,8 +1,9 @@
 //! From the lines of a journal to its entries.
 
-ghost use Rattle.std.specs.Prelude.{◌≡◌, IfOk, OnErr, IsOk, IsUtf8};
+ghost use Rattle.std.specs.Prelude.{◌≡◌, IfOk, OnErr, IsOk, IsSome, IsUtf8};
 ghost use Rattle.ynl_lines.specs.Trees.{data_at};
 ghost use Rattle.ynl_lines.specs.Reading.{IsRanged};
+ghost use Rattle.ynl_lines.specs.ReadingReplies.{MayBeTold};
 ghost use Rattle.ynl_lines.specs.ReadingReplies as spec;
 
 use crate::faults::{BadLine, LineFault};
@@ -27,7 +28,8 @@ fn placed_event_at(line: &Fields<'_, '_>) -> Result<(u64, Event), LineFault>
 
 /// The reply of a line that has none: that of a propose alone may have none.
 fn unanswered(line: &Fields<'_, '_>, event: &Event) -> Result<Option<Reply>, LineFault>
-    ensures { result ≡ spec.unanswered event.now (data_at line.now.stands) }
+    ensures reply { result ≡ spec.unanswered event.now (data_at line.now.stands) }
+    ensures told { IfOk result (λ reply. MayBeTold event.now reply) }
 {
     match event {
         Event::Propose { .. } => {
@@ -44,7 +46,8 @@ fn answered(
     line: &Fields<'_, '_>,
     reply: &Fields<'_, '_>,
 ) -> Result<Result<Option<Reply>, LineFault>, AllocError>
-    ensures { IfOk result (λ read. read ≡ spec.answered (data_at reply.now.stands) (data_at line.now.stands)) }
+    ensures reply { IfOk result (λ read. read ≡ spec.answered (data_at reply.now.stands) (data_at line.now.stands)) }
+    ensures some { IfOk result (λ read. IfOk read (λ reply. IsSome reply)) }
 {
     if let Err(fault) = keys_are(line, 3) {
         return Ok(Err(fault));
@@ -62,7 +65,8 @@ fn answer_at(
     line: &Fields<'_, '_>,
     event: &Event,
 ) -> Result<Result<Option<Reply>, LineFault>, AllocError>
-    ensures { IfOk result (λ read. read ≡ spec.answer_at event.now (data_at line.now.stands)) }
+    ensures reply { IfOk result (λ read. read ≡ spec.answer_at event.now (data_at line.now.stands)) }
+    ensures told { IfOk result (λ read. IfOk read (λ reply. MayBeTold event.now reply)) }
 {
     match line.get("reply") {
         Some(value) => answered(alloc, line, &value),
@@ -78,6 +82,7 @@ fn line_at(
 ) -> Result<Result<(u64, Entry), BadLine>, AllocError>
     ensures entry { IfOk result (λ read. read ≡ spec.or_bad (spec.line_at (data_at line.now.stands))) }
     ensures ranged { IfOk result (λ read. IfOk read (λ line. IsRanged line.1.event)) }
+    ensures told { IfOk result (λ read. IfOk read (λ line. MayBeTold line.1.event line.1.reply)) }
     ensures event { OnErr result (IsOk (spec.placed_event_at (data_at line.now.stands))) }
 {
     let Ok((place, event)) = placed_event_at(line) else {
@@ -98,6 +103,7 @@ fn line_at(
 pub fn read_line(alloc: Global, line: &[u8]) -> Result<Result<(u64, Entry), BadLine>, AllocError>
     ensures entry { IfOk result (λ read. read ≡ spec.line_of_text line.now) }
     ensures ranged { IfOk result (λ read. IfOk read (λ line. IsRanged line.1.event)) }
+    ensures told { IfOk result (λ read. IfOk read (λ line. MayBeTold line.1.event line.1.reply)) }
     ensures text { OnErr result (IsUtf8 line.now) }
 {
     match parse(alloc, line)? {

@@ -1,11 +1,11 @@
 //! From replies, faults and events to texts.
 
-ghost use Rattle.std.specs.Prelude.{◌≡◌, ◌≤◌, IfOk, IsTrue, false, Some};
+ghost use Rattle.std.specs.Prelude.{◌≡◌, ◌≤◌, IfOk, IfSome, IsTrue, false, Some, option_map};
 ghost use Rattle.serde_json.specs.Data.{depth};
 ghost use Rattle.serde_json.specs.View.{view};
 ghost use Rattle.serde_json.specs.Written.{has_float, compact_text};
 ghost use Rattle.ynl_lines.specs.Reading.{reading, event_of_line, IsInRange};
-ghost use Rattle.ynl_lines.specs.ReadingReplies.{line_of_text, answered_entry, IsReplyInRange};
+ghost use Rattle.ynl_lines.specs.ReadingReplies.{line_of_text, IsEntryInRange, MayBeTold, PartsRead};
 ghost use Rattle.ynl_lines.specs.Writing as spec;
 
 use crate::events::event_value;
@@ -15,7 +15,7 @@ use crate::replies::reply_value;
 use crate::write_replies::put_reply;
 use serde_json::Value;
 use std::alloc::{AllocError, Global};
-use ynl_model::{Event, Reply};
+use ynl_model::{Entry, Event, Reply};
 
 /// A value's text, which reads as the value.
 #[tactic(auto, using(crate::proofs::Readings::reading_text))]
@@ -90,30 +90,43 @@ pub fn write_audit(alloc: Global, entries: u64) -> Result<Vec<u8>, AllocError>
     text_of(alloc, &value)
 }
 
-/// The object of an event, its place and its reply, by the objects of the two.
-fn line_value(alloc: Global, place: u64, event: Value, reply: Value) -> Result<Value, AllocError>
-    ensures { IfOk result (λ v. view v ≡ spec.line_object place (view event) (view reply)) }
+/// The object of a reply, if there is one.
+fn answer_value(alloc: Global, reply: &Option<Reply>) -> Result<Option<Value>, AllocError>
+    ensures value { IfOk result (λ v. option_map view v ≡ option_map spec.reply_data reply.now) }
+    ensures parts { IfOk result (λ _. IfSome reply.now PartsRead) }
+{
+    match reply {
+        Some(reply) => Ok(Some(reply_value(alloc, reply)?)),
+        None => Ok(None),
+    }
+}
+
+/// The object of an event, its place and its reply, if it has one, by the objects of the two.
+fn line_value(
+    alloc: Global,
+    place: u64,
+    event: Value,
+    reply: Option<Value>,
+) -> Result<Value, AllocError>
+    ensures { IfOk result (λ v. view v ≡ spec.line_object place (view event) (option_map view reply)) }
 {
     let map = members(alloc, &[("place", Field::Number(place))])?;
     let map = with(alloc, map, "event", event)?;
-    let map = with(alloc, map, "reply", reply)?;
-    Ok(Value::Object(map))
+    match reply {
+        Some(reply) => Ok(Value::Object(with(alloc, map, "reply", reply)?)),
+        None => Ok(Value::Object(map)),
+    }
 }
 
-/// The text of an event, its place in a list, counted from 0, and the reply to it, without the newline
-/// of its line; where the numbers that event and reply name are in range, it reads as these.
-pub fn write_line(
-    alloc: Global,
-    place: u64,
-    event: &Event,
-    reply: &Reply,
-) -> Result<Vec<u8>, AllocError>
-    ensures text { IfOk result (λ text. text.items ≡ spec.line_text place event.now reply.now) }
-    ensures reads { IsInRange event.now → IsReplyInRange reply.now
-        → IfOk result (λ text. line_of_text text.items ≡ Ok (answered_entry place event.now reply.now)) }
+/// The text of an entry and its place in a list, counted from 0, without the newline of its line; where
+/// the numbers that it names are in range, it reads as these. A propose alone may be without its reply.
+pub fn write_line(alloc: Global, place: u64, entry: &Entry) -> Result<Vec<u8>, AllocError>
+    requires { MayBeTold entry.now.event entry.now.reply }
+    ensures text { IfOk result (λ text. text.items ≡ spec.line_text place entry.now) }
+    ensures reads { IsEntryInRange entry.now → IfOk result (λ text. line_of_text text.items ≡ Ok (place, entry.now)) }
 {
-    let event = event_value(alloc, event)?;
-    let reply = reply_value(alloc, reply)?;
+    let event = event_value(alloc, &entry.event)?;
+    let reply = answer_value(alloc, &entry.reply)?;
     let value = line_value(alloc, place, event, reply)?;
     text_of(alloc, &value)
 }

@@ -5,7 +5,6 @@
 //! Its words are four numbers: of the workers, the nodes, the rounds, and the caller's steps.
 #![tactic(auto)]
 
-use anyhow::Context;
 use crew::Crew;
 use std::alloc::Global;
 use std::io::{BufWriter, Write};
@@ -52,8 +51,10 @@ fn load_of(rt: &HostRuntime) -> anyhow::Result<Load> {
 fn write_journal<W: Write + Drop>(alloc: Global, to: W, entries: &[Entry]) -> anyhow::Result<()> {
     let mut writer = BufWriter::new(alloc, to)?;
     for (place, entry) in entries.iter().enumerate() {
-        let reply = entry.reply.as_ref().context("an entry has no reply")?;
-        let line = write_line(alloc, place as u64, &entry.event, reply)?;
+        if entry.reply.is_none() {
+            return Err(anyhow::anyhow!("an entry has no reply"));
+        }
+        let line = write_line(alloc, place as u64, entry)?;
         writer.write_all(line.as_slice())?;
         writer.write_all(b"\n")?;
     }

@@ -3,7 +3,7 @@
 use std::alloc::Global;
 use std::test::Fail;
 use ynl_lines::{read_event, read_line, write_event, write_line, write_reply};
-use ynl_model::{Entry, Placed, Reply, What};
+use ynl_model::{Placed, Reply, What};
 use ynl_resource::{Id, Label, Name, Size};
 
 fn master() -> Result<Placed, Fail> {
@@ -189,13 +189,10 @@ fn faults_of_lines_in_the_compact_form_and_near_it(rt: HostRuntime) -> Result<()
     Ok(())
 }
 
-/// The text of the entry that a line of a journal is, where it has a reply.
+/// The text of the entry that a line of a journal is.
 fn entry_read_and_written(alloc: Global, line: &str) -> Result<Vec<u8>, Fail> {
     match read_line(alloc, line.as_bytes()) {
-        Ok(Ok((place, Entry { event, reply }))) => match reply {
-            Some(reply) => Ok(write_line(alloc, place, &event, &reply)?),
-            None => Ok(write_event(alloc, &event)?),
-        },
+        Ok(Ok((place, entry))) => Ok(write_line(alloc, place, &entry)?),
         Ok(Err(_)) => Err(Fail::new("a bad line")),
         Err(e) => Err(e.into()),
     }
@@ -209,16 +206,13 @@ fn lines_of_a_journal_are_read_and_written(rt: HostRuntime) -> Result<(), Fail> 
         r#"{"event":{"event":"heartbeat","node":"g1"},"place":2,"reply":{"placed":[{"app":"j1","id":"gpu#2","memory":1000,"node":"g1","tenant":"eng","vcores":1,"what":"master"},{"app":"j1","id":"gpu#3","label":"","memory":1000,"node":"g1","priority":4294967295,"tenant":"eng","vcores":1,"what":"ask"}],"reply":"placed"}}"#,
         r#"{"event":{"event":"propose","node":"g1"},"place":3,"reply":{"proposal":{"app":"j1","memory":1000,"node":"g1","stamp":7,"tenant":"eng","vcores":1,"what":"master"},"reply":"proposal"}}"#,
         r#"{"event":{"event":"propose","node":"g1"},"place":4,"reply":{"reply":"nothing"}}"#,
+        r#"{"event":{"event":"propose","node":"g1"},"place":6}"#,
         r#"{"event":{"app":"j1","event":"poll","label":"gpu","tenant":"eng"},"place":5,"reply":{"asks":[{"count":1000000,"memory":1000,"priority":0,"vcores":1}],"containers":[],"reply":"held"}}"#,
         r#"{"event":{"event":"usage","label":"","queue":"root.eng"},"place":18446744073709551615,"reply":{"guaranteed":{"memory":0,"vcores":0},"guests":{"memory":0,"vcores":0},"masters":{"memory":1000,"vcores":1},"maximum":{"memory":562949953421312,"vcores":0},"reply":"usage","used":{"memory":1000,"vcores":1}}}"#,
     ] {
         let text = entry_read_and_written(rt.alloc(), line)?;
         assert_eq!(rt; text.as_slice(), line.as_bytes(), "{line}");
     }
-    let event = r#"{"event":"propose","node":"g1"}"#;
-    let line = r#"{"place":6,"event":{"node":"g1","event":"propose"}}"#;
-    let text = entry_read_and_written(rt.alloc(), line)?;
-    assert_eq!(rt; text.as_slice(), event.as_bytes());
     for line in [
         r#"{"event":{"event":"lost","node":"g1"},"place":1}"#,
         r#"{"event":{"event":"propose","node":"g1"},"place":1,"reply":null}"#,

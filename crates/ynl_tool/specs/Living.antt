@@ -27,7 +27,7 @@ rounds_of rounds s = option_map_or (λ fault. 0) s.fault rounds
 
 -- the line of an entry, with its place; nothing for one without a reply, of which a history has none
 abbrev pub journal_line : ℕ → Entry → List ℕ
-journal_line place entry = option_map_or (λ reply. line_of (line_text place entry.event reply)) entry.reply []
+journal_line place entry = option_map_or (λ reply. line_of (line_text place entry)) entry.reply []
 
 -- the lines of entries, of which the first has this place
 abbrev pub journal_lines : ℕ → List Entry → List (List ℕ)

@@ -12,6 +12,7 @@ use Rattle.ynl_model.specs.Events.{step, replies, replies_to}
 use Rattle.ynl_model.specs.View.{Viewed, view, view_from, seen_of, track_step, events_of, places_of, restrict}
 use Rattle.ynl_model.specs.Promises.{HasSameReplies}
 use Rattle.ynl_core.specs.World.{World, opened, stepped}
+use Rattle.ynl_journal.specs.Journal.{entry}
 use Rattle.ynl_lines.specs.declared.faults.InputFault.TheVariants.{Script as InScript}
 use Rattle.ynl_lines.specs.Writing.{line_text}
 use Rattle.ynl_tool.specs.declared.run.ToolFault.{ToolFault}
@@ -31,7 +32,7 @@ abbrev pub entry_lines : List ℕ → List Event → List Reply → List (List �
 entry_lines places [] replies = []
 entry_lines [] (e ∷ events) replies = []
 entry_lines (n ∷ places) (e ∷ events) [] = []
-entry_lines (n ∷ places) (e ∷ events) (r ∷ replies) = line_of (line_text n e r) ∷ entry_lines places events replies
+entry_lines (n ∷ places) (e ∷ events) (r ∷ replies) = line_of (line_text n (entry e (Some r))) ∷ entry_lines places events replies
 
 -- the lines of what is seen, with the replies of a cluster of this configuration
 abbrev pub seen_lines : Config → List Viewed → List (List ℕ)
@@ -78,7 +79,7 @@ LeavesLine old new line Unclosed = ⊥
 
 -- the line of an event
 abbrev pub entry_line : World → ℕ → Event → List ℕ
-entry_line core place e = line_of (line_text place e (step core.config core.state e).reply)
+entry_line core place e = line_of (line_text place (entry e (Some (step core.config core.state e).reply)))
 
 -- an event was answered, and its line was written, or a part of it where a write failed; or memory was refused, and nothing was written
 abbrev pub TellsEvent : {A : Type 0} → Option (List ℕ) → Option (List ℕ) → World → World → ℕ → Event → Result A ToolFault → Type 0

@@ -63,8 +63,8 @@ fn rounds_of(script: &Script, rounds: u64) -> u64
 fn entry_line(alloc: Global, place: u64, entry: &Entry) -> Result<Vec<u8>, AllocError>
     ensures { IfOk result (λ line. line.items ≡ journal_line place entry.now) }
 {
-    match &entry.reply {
-        Some(reply) => with_newline(write_line(alloc, place, &entry.event, reply)?),
+    match entry.reply {
+        Some(_) => with_newline(write_line(alloc, place, entry)?),
         // No history has such an entry.
         None => Ok(Vec::new(alloc)),
     }

@@ -17,7 +17,7 @@ use std::alloc::Global;
 use std::io::{BufRead, Write};
 use ynl_core::{Core, NoMemory};
 use ynl_lines::{EventReader, InputFault, write_line};
-use ynl_model::Event;
+use ynl_model::{Entry, Event};
 use ynl_queues::Config;
 use ynl_resource::{Label, Name};
 use ynl_view::{Track, restrict, see};
@@ -53,7 +53,11 @@ fn answer_event(
     ensures { IfOk result (λ line. (core.new ≡ stepped core.old event.now) × (line.items ≡ entry_line core.old place event.now)) }
 {
     let reply = core.apply(*event)?;
-    let text = write_line(alloc, place, event, &reply)?;
+    let entry = Entry {
+        event: *event,
+        reply: Some(reply),
+    };
+    let text = write_line(alloc, place, &entry)?;
     Ok(with_newline(text)?)
 }
 
