@@ -2,7 +2,7 @@
 
 ghost use Rattle.std.specs.Prelude.{◌≡◌, ◌↔◌, [], IsTrue, OnOk, IfErr};
 ghost use Rattle.ynl_journal.specs.Journal.{Agrees, FitsReply, replayed};
-ghost use Rattle.ynl_journal.specs.Audits.{IsFault};
+ghost use Rattle.ynl_journal.specs.Audits.{GivesUp, IsFault};
 ghost use Rattle.ynl_journal.specs.Same.{fits_reply};
 
 use crate::comparing::is_same_reply;
@@ -39,6 +39,7 @@ fn audit_on(core: &mut Core, entries: &[Entry]) -> Result<(), AuditFault>
     requires { core.old ≡ replayed core.old.config [] }
     ensures ok { OnOk result (Agrees core.old.config entries.now) }
     ensures err { IfErr result (IsFault core.old.config entries.now) }
+    ensures memory { IfErr result (GivesUp core.old.config entries.now core.new) }
 {
     for (i, entry) in entries.iter().enumerate() {
         let Ok(reply) = core.apply(entry.event) else {
