@@ -1,9 +1,9 @@
 //! The audit of a journal: whether each line is its next entry, and each reply that is there the cluster's.
 
-ghost use Rattle.std.specs.Prelude.{◌≡◌, ◌≢◌, ◌+◌, ◌<◌, ◌≤◌, [], IfOk, IfErr, OnErr};
+ghost use Rattle.std.specs.Prelude.{◌≡◌, ◌≢◌, ◌+◌, ◌<◌, ◌≤◌, [], IfOk, IfErr, OnErr, IsUtf8};
 ghost use Rattle.ynl_tool.specs.declared.run.ToolFault.TheVariants.{Read};
 ghost use Rattle.ynl_tool.specs.Input.{between, limit};
-ghost use Rattle.ynl_tool.specs.Audit.{answer_of, entry_said};
+ghost use Rattle.ynl_tool.specs.Audit.{answer_of, entry_said, if_read};
 ghost use Rattle.ynl_tool.specs.Auditing.{AuditsJournal, AuditsLine, AuditsWhole, Finds, IsAuditOf, TakesEntry};
 ghost use Rattle.ynl_tool.specs.Running.{Writes};
 
@@ -14,32 +14,42 @@ use std::alloc::{AllocError, Global};
 use std::io::{BufRead, Write};
 use ynl_core::{Core, NoMemory};
 use ynl_journal::fits;
-use ynl_lines::{InputFault, JournalFault, read_line, write_audit};
+use ynl_lines::{BadLine, InputFault, JournalFault, read_line, write_audit};
 use ynl_model::Entry;
 use ynl_queues::Config;
 
+/// What a line that was read says after so many entries: its entry, if its place is the next, or else that
+/// it is bad. It takes no memory, so no bad line is told as want of memory here.
+fn next_entry(
+    entries: u64,
+    read: Result<(u64, Entry), BadLine>,
+) -> Result<Option<Entry>, JournalFault>
+    ensures { result ≡ if_read entries read }
+{
+    let Ok((place, entry)) = read else {
+        return Err(JournalFault::Line);
+    };
+    if place == entries {
+        Ok(Some(entry))
+    } else {
+        Err(JournalFault::Line)
+    }
+}
+
 /// What a line says after so many entries: the next entry, or nothing where it is blank; or the line's
-/// fault.
+/// fault. Bytes that are no text take no memory.
 fn entry_said(
     alloc: Global,
     entries: u64,
     line: &[u8],
 ) -> Result<Result<Option<Entry>, JournalFault>, AllocError>
-    ensures { IfOk result (λ said. said ≡ entry_said entries line.now) }
+    ensures said { IfOk result (λ said. said ≡ entry_said entries line.now) }
+    ensures text { OnErr result (IsUtf8 line.now) }
 {
     if is_blank(line) {
         return Ok(Ok(None));
     }
-    match read_line(alloc, line)? {
-        Ok((place, entry)) => {
-            if place == entries {
-                Ok(Ok(Some(entry)))
-            } else {
-                Ok(Err(JournalFault::Line))
-            }
-        }
-        Err(_) => Ok(Err(JournalFault::Line)),
-    }
+    Ok(next_entry(entries, read_line(alloc, line)?))
 }
 
 /// An audit that has come to the end of some entries: the cluster that they lead to, and how many they
@@ -74,10 +84,12 @@ impl Audit {
         Ok(true)
     }
 
-    /// Takes the entry of a line, or gives the line's fault.
+    /// Takes the entry of a line, or gives the line's fault. Where memory was refused the audit is as before, so
+    /// that is never told of an entry which the cluster took.
     fn take_line(&mut self, alloc: Global, line: &[u8]) -> Result<Option<JournalFault>, NoMemory>
         requires { self.old.entries < limit }
         ensures passes { AuditsLine self.old self.new line.now result }
+        ensures err { OnErr result (self.new ≡ self.old) }
         ensures few { self.new.entries ≤ self.old.entries + 1 }
     {
         match entry_said(alloc, self.entries, line)? {
