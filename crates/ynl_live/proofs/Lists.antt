@@ -1,8 +1,10 @@
 -- The lists of receipts of all seats.
-use Rattle.std.proofs.Common.{◌≡◌, ℕ, ◌+◌, ◌<◌, sym, ap, ◌∙◌, arith, List, [], ◌∷◌, ◌++◌, Bool, length, take, get_or, subst, append-nil, All}
-use Rattle.std.specs.Prelude.{map, Vec, sum}
+use Rattle.std.proofs.Common.{◌≡◌, ℕ, ◌+◌, ◌<◌, sym, ap, ◌∙◌, arith, List, [], ◌∷◌, ◌++◌, Bool, length, take, get_or, subst, append-nil, All, Some, Result, Ok, Err}
+use Rattle.std.specs.Prelude.{map, Vec, sum, IfErr}
+use Rattle.std.specs.Result.{IsErrAnd}
 use Rattle.std.specs.declared.alloc.Global.{Global}
 use Rattle.std.proofs.lemmas.List.{take_more, get_or-map, length-map}
+use Rattle.std.proofs.lemmas.Option.{slice_get-get_or}
 use Rattle.std.proofs.lemmas.Grind.{same_number_lists}
 use Rattle.std.proofs.lemmas.List.Sums.{sum-map}
 use Rattle.std.proofs.lemmas.List.Concat.{flat_map-append, length-flat_map}
@@ -12,6 +14,7 @@ use Rattle.ynl_live.specs.declared.receipts.Receipt.{Receipt}
 use Rattle.ynl_live.specs.Seats.{Standing}
 use Rattle.ynl_live.specs.Receipts.{all_receipts, EachOnce, ListFits, calls_on, IsOneForEach}
 use Rattle.ynl_live.specs.Marks.{IsMarked}
+use Rattle.ynl_live.specs.Misfits.{IsFirstMisfit, IsMisfit}
 use Rattle.ynl_live.proofs.Marks.{EachOnce-from_marks}
 
 -- the receipts of one list more
@@ -62,3 +65,20 @@ pub EachOnce-at_close : (marks : List Bool) (seats : List Standing) (lists : Lis
 EachOnce-at_close marks seats lists n marked fit calls len =
     let E : ℕ → Type 0 = λ k. EachOnce k (all_receipts lists) in
     subst E len (EachOnce-from_marks marks (all_receipts lists) marked (length-all_receipts seats lists fit ∙ calls ∙ sym len))
+
+-- the first misfit of a list is the first of all, where the lists before it fit
+pub IsMisfit-in_list : (entries : List Entry) (met : List Bool) (lists : List (Vec Receipt Global)) (i : ℕ) (v : Vec Receipt Global) (items : List Receipt) (place : ℕ) → i < length lists → v ≡ get_or lists i v → items ≡ v.items → All (λ w. ListFits entries w.items) (take i lists) → IsMarked met (all_receipts (take i lists)) → ((seen : List Receipt) → IsMarked met seen → IsFirstMisfit entries seen items place) → IsMisfit entries lists place
+IsMisfit-in_list entries met lists i v items place inside at is fit marked misfit =
+    let F : List Receipt → Type 0 = λ xs. IsFirstMisfit entries (all_receipts (take i lists)) xs place in
+    record {
+      before = i;
+      list = v;
+      at = slice_get-get_or lists i v inside ∙ ap (λ (x : Vec Receipt Global). Some x) (sym at);
+      fit = fit;
+      first = subst F is (misfit (all_receipts (take i lists)) marked);
+    }
+
+-- what is told of an error holds of the result
+pub IfErr-told : {T E : Type 0} (r : Result T E) (P : E → Type 0) (e : E) → P e → IsErrAnd r (λ x. x ≡ e) → IfErr r P
+IfErr-told (Ok x) P e p told = tt
+IfErr-told (Err x) P e p told = subst P (sym told) p

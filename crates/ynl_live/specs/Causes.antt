@@ -1,23 +1,34 @@
 -- Why a journal is not closed.
-use Rattle.std.specs.Prelude.{◌≡◌, ℕ, List, Vec}
+use Rattle.std.specs.Prelude.{◌≡◌, ℕ, List, length, Vec}
 use Rattle.std.specs.declared.alloc.Global.{Global}
+use Rattle.ynl_model.specs.declared.events.Event.{Event}
+use Rattle.ynl_model.specs.declared.entries.Entry.{Entry}
+use Rattle.ynl_model.specs.Queues.{Config}
+use Rattle.ynl_model.specs.Events.{IsHistory}
+use Rattle.ynl_journal.specs.Journal.{events_in}
 use Rattle.ynl_live.specs.declared.closing.Cause.{Cause}
 use Rattle.ynl_live.specs.declared.closing.Cause.TheVariants.{SeatsMissing, ReceiptsMissing, Mismatch, NoMemory}
 use Rattle.ynl_live.specs.declared.receipts.Receipt.{Receipt}
-use Rattle.ynl_live.specs.Seats.{Standing}
+use Rattle.ynl_live.specs.Misfits.{IsMisfit}
 use Rattle.ynl_live.specs.Receipts.{IsOneForEach, calls_on}
+use Rattle.ynl_live.specs.Seats.{Standing}
 
--- Seats are missing only where their calls are not as many as the journal's entries, and receipts only where they are, but there is not
--- one list for each seat, as long as the seat's calls.
-abbrev pub IsCause : ℕ → List Standing → List (Vec Receipt Global) → Cause → Type 0
-IsCause entered seats lists SeatsMissing = calls_on seats ≡ entered → ⊥
-IsCause entered seats lists ReceiptsMissing = (calls_on seats ≡ entered) × (IsOneForEach seats lists → ⊥)
-IsCause entered seats lists (Mismatch place) = Unit {0}
-IsCause entered seats lists NoMemory = Unit {0}
+-- the first receipt that does not fit the history of these events has this place
+pub record IsMisfitOf (c : Config) (events : List Event) (lists : List (Vec Receipt Global)) (place : ℕ) : Type 0 where
+  pub entries : List Entry
+  pub history : IsHistory c entries
+  pub same : events_in entries ≡ events
+  pub misfit : IsMisfit entries lists place
 
--- the same, where the journal's length is not known
-abbrev pub IsCauseFor : List Standing → List (Vec Receipt Global) → Cause → Type 0
-IsCauseFor seats lists SeatsMissing = Unit {0}
-IsCauseFor seats lists ReceiptsMissing = IsOneForEach seats lists → ⊥
-IsCauseFor seats lists (Mismatch place) = Unit {0}
-IsCauseFor seats lists NoMemory = Unit {0}
+-- Seats are missing only where their calls are not as many as the events of the journal; receipts only where they are, but there is not one
+-- list for each seat, as long as the seat's calls; and a receipt does not fit only where there is, and it is the first. Of want of memory
+-- nothing is said.
+abbrev pub IsCause : Config → List Event → List Standing → List (Vec Receipt Global) → Cause → Type 0
+IsCause c events seats lists SeatsMissing = calls_on seats ≡ length events → ⊥
+IsCause c events seats lists ReceiptsMissing = (calls_on seats ≡ length events) × (IsOneForEach seats lists → ⊥)
+IsCause c events seats lists (Mismatch place) = (calls_on seats ≡ length events) × IsOneForEach seats lists × IsMisfitOf c events lists place
+IsCause c events seats lists NoMemory = Unit {0}
+
+-- the same, where the journal is not known: it has some events
+abbrev pub IsCauseFor : Config → List Standing → List (Vec Receipt Global) → Cause → Type 0
+IsCauseFor c seats lists cause = (events : List Event) × IsCause c events seats lists cause

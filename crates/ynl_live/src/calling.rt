@@ -17,11 +17,10 @@ use ynl_journal::Book;
 use ynl_model::Event;
 use ynl_queues::Config;
 
-/// Why a call was not answered. The seat and the journal are then as before.
+/// Why a call was not answered. The seat is then as before, and so is the journal.
 #[derive(Clone, Copy, Debug, PartialEq, Eq, Error)]
 pub enum CallFault {
-    /// The journal has this many entries, fewer than the seat stands behind: the seat is of another
-    /// `Live`.
+    /// The journal has this many entries, fewer than the seat's front: the seat is of another `Live`.
     #[error("a seat of another scheduler: the journal has only {0} entries")]
     Behind(u64),
     /// Memory was refused.
@@ -79,8 +78,10 @@ impl Live {
         (config, book.into_inner())
     }
 
-    /// Waits for its turn, has the event entered, and gives the receipt. `Behind` comes of a seat of
-    /// another `Live` alone.
+    /// Waits for its turn, has the event entered, and gives the receipt. It is one call of `enter` while it
+    /// has the lock: what is entered, and with which reply, is in the contract of that. `Behind` tells that
+    /// the journal has fewer entries than the seat's front, which no seat of this `Live` has; that no clause
+    /// says, since none can name the book.
     pub fn call<R: Wait>(&self, rt: &R, seat: &mut Seat, event: Event) -> Result<Receipt, CallFault>
         ensures event { IfOk result (λ receipt. receipt.event ≡ event) }
         ensures later { IfOk result (λ receipt. seat.old.front ≤ receipt.place) }

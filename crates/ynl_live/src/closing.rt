@@ -15,7 +15,7 @@ use crate::seats::Seat;
 use std::alloc::Global;
 use thiserror::Error;
 use ynl_core::NoMemory;
-use ynl_journal::replay_history;
+use ynl_journal::{Book, replay_history};
 use ynl_model::Entry;
 use ynl_queues::Config;
 
@@ -55,7 +55,10 @@ pub struct Unclosed {
 
 /// Ends a live scheduler, and answers its journal: all its seats are handed in, and for each seat, in
 /// the order of the seats, the list of all receipts of its calls. The events are replayed by a cluster of
-/// the same configuration, whose replies are the journal's. At a cause the journal is as before.
+/// the same configuration, whose replies are the journal's. At a cause the journal comes back as it was.
+///
+/// It is one call of `close_book` on the book that is taken out of its lock, and put back at a cause: the
+/// contract of that ties the entries and the cause to the book, which no clause of this one can name.
 pub fn close(
     alloc: Global,
     live: Live,
@@ -71,12 +74,12 @@ pub fn close(
     ensures once { IfOk result (λ closed. EachOnce (length closed.entries.items) (all_receipts lists.now)) }
     ensures live { IfErr result (λ unclosed. unclosed.live ≡ live) }
     ensures seats { IfErr result (λ unclosed. unclosed.seats ≡ seats) }
-    ensures cause { IfErr result (λ unclosed. IsCauseFor seats.items lists.now unclosed.cause) }
+    ensures cause { IfErr result (λ unclosed. IsCauseFor live seats.items lists.now unclosed.cause) }
 {
     let (config, book) = live.into_parts();
-    match closed_entries(alloc, &config, book.entries(), seats.as_slice(), lists) {
+    match close_book(alloc, &config, book, seats.as_slice(), lists) {
         Ok(entries) => Ok(Closed { config, entries }),
-        Err(cause) => Err(Unclosed {
+        Err((cause, book)) => Err(Unclosed {
             cause,
             live: Live::of(config, book),
             seats,
@@ -84,37 +87,38 @@ pub fn close(
     }
 }
 
-/// The closed history of a journal's events, where the receipts of all seats fit it.
-fn closed_entries(
+/// The closed history of a book's events, where the receipts of all seats fit it; else the book as it is.
+fn close_book(
     alloc: Global,
     config: &Config,
-    journal: &[Entry],
+    book: Book,
     seats: &[Seat],
     lists: &[Vec<Receipt>],
-) -> Result<Vec<Entry>, Cause>
-    ensures events { IfOk result (λ entries. events_in entries.items ≡ events_in journal.now) }
+) -> Result<Vec<Entry>, (Cause, Book)>
+    ensures events { IfOk result (λ entries. events_in entries.items ≡ events_in book.entries) }
     ensures history { IfOk result (λ entries. IsHistory config.now entries.items) }
     ensures calls { IfOk result (λ entries. length entries.items ≡ calls_on seats.now) }
     ensures lists { OnOk result (IsOneForEach seats.now lists.now) }
     ensures receipts { IfOk result (λ entries. All (λ list. ListFits entries.items list.items) lists.now) }
     ensures once { IfOk result (λ entries. EachOnce (length entries.items) (all_receipts lists.now)) }
-    ensures cause { IfErr result (IsCause (length journal.now) seats.now lists.now) }
+    ensures book { IfErr result (λ back. back.1 ≡ book) }
+    ensures cause { IfErr result (λ back. IsCause config.now (events_in book.entries) seats.now lists.now back.0) }
 {
-    if !are_calls(seats, journal.len() as u64) {
-        return Err(Cause::SeatsMissing);
+    if !are_calls(seats, book.entries().len() as u64) {
+        return Err((Cause::SeatsMissing, book));
     }
     if !is_one_for_each(seats, lists) {
-        return Err(Cause::ReceiptsMissing);
+        return Err((Cause::ReceiptsMissing, book));
     }
-    let Ok(entries) = replayed(alloc, config, journal) else {
-        return Err(Cause::NoMemory);
+    let Ok(entries) = replayed(alloc, config, book.entries()) else {
+        return Err((Cause::NoMemory, book));
     };
     let Ok(mut marks) = unmarked(alloc, entries.len()) else {
-        return Err(Cause::NoMemory);
+        return Err((Cause::NoMemory, book));
     };
     match mark_lists(entries.as_slice(), marks.as_mut_slice(), lists) {
         Ok(()) => Ok(entries),
-        Err(place) => Err(Cause::Mismatch(place)),
+        Err(place) => Err((Cause::Mismatch(place), book)),
     }
 }
 

@@ -5,9 +5,9 @@
 //! event's place in the journal and the reply. What a call did to the book under the lock is no part of
 //! its contract, since no clause can name a value that others share. What can be said is said at the end:
 //! `close` answers a journal only where each entry has the cluster's reply, and each place stands in
-//! exactly one receipt, with the event and the reply that the receipt has. A call that would answer
-//! without entering, that would lose an entry, or that would invent a reply leaves a journal that cannot
-//! be closed.
+//! exactly one receipt, with the event and the reply that the receipt has. So a call that answers without
+//! entering, or that loses an entry, and a reply that is made up each leave a journal that is not closed
+//! with these receipts.
 #![tactic(auto)]
 
 pub use calling::{CallFault, Live};

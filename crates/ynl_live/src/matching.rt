@@ -1,10 +1,11 @@
 //! Receipts held against a journal, place by place.
 
-ghost use Rattle.std.specs.Prelude.{◌≡◌, ◌+◌, ◌≤◌, ◌<◌, ◌↔◌, [], ◌++◌, List, All, length, IsTrue, OnOk, true, false, slice_set, slice_index_or};
+ghost use Rattle.std.specs.Prelude.{◌≡◌, ◌+◌, ◌↔◌, [], ◌++◌, List, All, length, IsTrue, OnOk, IfErr, true, slice_set};
 ghost use Rattle.std.specs.Bool.{OnTrue};
 ghost use Rattle.ynl_live.specs.declared.receipts.Receipt.{Receipt};
-ghost use Rattle.ynl_live.specs.Receipts.{all_receipts, IsAt, ListFits, calls_on, IsOneForEach};
-ghost use Rattle.ynl_live.specs.Marks.{IsMarked};
+ghost use Rattle.ynl_live.specs.Receipts.{all_receipts, ListFits, calls_on, IsOneForEach};
+ghost use Rattle.ynl_live.specs.Marks.{IsMarked, CanMark};
+ghost use Rattle.ynl_live.specs.Misfits.{IsFirstMisfit, IsMisfit};
 
 use crate::comparing::tells_of;
 use crate::receipts::Receipt;
@@ -15,9 +16,7 @@ use ynl_model::Entry;
 /// that the receipt tells of.
 fn mark(entries: &[Entry], marks: &mut [bool], receipt: &Receipt, front: u64) -> bool
     requires { length marks.old ≡ length entries.now }
-    ensures place { OnTrue result ((front ≤ receipt.now.place) × (receipt.now.place < length entries.now)) }
-    ensures fits { OnTrue result (IsAt entries.now receipt.now) }
-    ensures first { OnTrue result (slice_index_or marks.old receipt.now.place false ≡ false) }
+    ensures fits { IsTrue result ↔ CanMark entries.now marks.old front receipt.now }
     ensures marked { OnTrue result (marks.new ≡ slice_set marks.old receipt.now.place true) }
 {
     if receipt.place < front || receipt.place >= entries.len() as u64 {
@@ -31,11 +30,12 @@ fn mark(entries: &[Entry], marks: &mut [bool], receipt: &Receipt, front: u64) ->
     true
 }
 
-/// Marks the places of one seat's receipts, or answers the first place that does not fit.
+/// Marks the places of one seat's receipts, or answers the place of the first that does not fit.
 fn mark_list(entries: &[Entry], marks: &mut [bool], list: &[Receipt]) -> Result<(), u64>
     requires { length marks.old ≡ length entries.now }
     ensures fits { OnOk result (ListFits entries.now list.now) }
     ensures marks { OnOk result ((seen : List Receipt) → IsMarked marks.old seen → IsMarked marks.new (seen ++ list.now)) }
+    ensures misfit { IfErr result (λ place. (seen : List Receipt) → IsMarked marks.old seen → IsFirstMisfit entries.now seen list.now place) }
 {
     let mut front = 0;
     for receipt in list {
@@ -47,7 +47,7 @@ fn mark_list(entries: &[Entry], marks: &mut [bool], list: &[Receipt]) -> Result<
     Ok(())
 }
 
-/// Marks the places of all lists, or answers the first place that does not fit.
+/// Marks the places of all lists, or answers the place of the first receipt that does not fit.
 pub(crate) fn mark_lists(
     entries: &[Entry],
     marks: &mut [bool],
@@ -57,6 +57,7 @@ pub(crate) fn mark_lists(
     requires none { IsMarked marks.old [] }
     ensures fit { OnOk result (All (λ list. ListFits entries.now list.items) lists.now) }
     ensures marks { OnOk result (IsMarked marks.new (all_receipts lists.now)) }
+    ensures misfit { IfErr result (IsMisfit entries.now lists.now) }
 {
     for list in lists {
         mark_list(entries, marks, list.as_slice())?;
