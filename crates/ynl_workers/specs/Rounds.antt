@@ -1,19 +1,19 @@
 -- What the workers of a round did.
-use Rattle.std.specs.Prelude.{◌≡◌, ℕ, ◌+◌, ◌≤◌, List, [], length, Some, slice_get, Vec, vec_capacity}
+use Rattle.std.specs.Prelude.{◌≡◌, ℕ, ◌≤◌, List, [], Some, slice_get, Vec, vec_capacity}
 use Rattle.std.specs.declared.alloc.Global.{Global}
 use Rattle.ynl_resource.specs.declared.names.Name.{Name}
 use Rattle.ynl_live.specs.Seats.{Standing}
 use Rattle.ynl_workers.specs.declared.working.WorkerEnd.{WorkerEnd}
-use Rattle.ynl_workers.specs.Works.{IsWork}
+use Rattle.ynl_workers.specs.Works.{IsWork, AreCallsOn}
 
 -- a worker that has not begun, with memory for so many receipts
 pub record IsReady (most : ℕ) (worker : WorkerEnd) : Type 0 where
   pub empty : worker.receipts.items ≡ []
   pub reserved : most ≤ vec_capacity worker.receipts
 
--- what a worker did that was given this seat and these nodes; each of its receipts is of a call on its seat
+-- what a worker did that was given this seat and these nodes; its receipts are those of the calls on its seat
 pub record IsWorkOf (free : Type 0) (seat : Standing) (nodes : List Name) (worker : WorkerEnd) : Type 0 where
-  pub calls : worker.seat.calls ≡ seat.calls + length worker.receipts.items
+  pub calls : AreCallsOn seat worker.seat worker.receipts.items
   pub work : IsWork free nodes worker.receipts.items worker.end
 
 -- what each worker did, on its seat and over its nodes

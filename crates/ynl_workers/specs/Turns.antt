@@ -1,5 +1,5 @@
 -- What a worker's receipts say of its turns.
-use Rattle.std.specs.Prelude.{◌≡◌, ℕ, ◌≤◌, List, [], ◌∷◌, ◌++◌, length, take, slice_get, Option, None, Some, MatchOption, ◌⊎◌}
+use Rattle.std.specs.Prelude.{◌≡◌, ℕ, ◌<◌, List, [], ◌∷◌, ◌++◌, length, take, slice_get, Option, None, Some, MatchOption, ◌⊎◌}
 use Rattle.ynl_resource.specs.declared.names.Name.{Name}
 use Rattle.ynl_model.specs.declared.events.Event.TheVariants.{Propose, Commit}
 use Rattle.ynl_model.specs.declared.proposals.Proposal.{Proposal}
@@ -40,6 +40,6 @@ pub record IsHalted (nodes : List Name) (receipts : List Receipt) : Type 0 where
   pub asked : IsAsked node (Some found) last
   pub all : receipts ≡ done ++ last ∷ []
 
--- the turns on all nodes, cut at some call: those on the first nodes, or these and a propose that was answered a proposal
+-- the turns on all nodes, cut at some call: those on the first nodes but not on all, or these and a propose that was answered a proposal
 abbrev pub IsCut : List Name → List Receipt → Type 0
-IsCut nodes receipts = ((turns : ℕ) × (turns ≤ length nodes) × IsWhole (take turns nodes) receipts) ⊎ IsHalted nodes receipts
+IsCut nodes receipts = ((turns : ℕ) × (turns < length nodes) × IsWhole (take turns nodes) receipts) ⊎ IsHalted nodes receipts

@@ -3,7 +3,7 @@
 ghost use Rattle.std.specs.Prelude.{◌≡◌, ℕ, ◌+◌, ◌*◌, ◌≤◌, ◌<◌, [], ◌∷◌, ◌++◌, length, vec_len, vec_capacity, IfOk, OnOk, OnErr, ◌⊎◌};
 ghost use Rattle.ynl_live.specs.declared.receipts.Receipt.{Receipt};
 ghost use Rattle.ynl_workers.specs.Turns.{IsAsked, proposal_in};
-ghost use Rattle.ynl_workers.specs.Works.{IsWork, Adds};
+ghost use Rattle.ynl_workers.specs.Works.{AreCallsOn, IsWork, Adds, end_of};
 
 use crate::gates::{Gate, Go};
 use std::sync::Wait;
@@ -40,8 +40,9 @@ struct Turn {
     node: Name,
 }
 
+/// A want of memory is told as such, and a seat that is told to be of another `Live` as that.
 fn end_of(fault: CallFault) -> End
-    ensures { (result ≡ End.NoMemory) ⊎ ((entered : ℕ) × (result ≡ End.Behind entered)) }
+    ensures { result ≡ end_of fault }
 {
     match fault {
         CallFault::NoMemory => End::NoMemory,
@@ -70,7 +71,7 @@ pub(crate) fn work<R: Wait, G: Gate>(
 ) -> End
     requires empty { receipts.old.items ≡ [] }
     requires reserved { 2 * length nodes.now ≤ vec_capacity receipts.old }
-    ensures calls { seat.new.calls ≡ seat.old.calls + length receipts.new.items }
+    ensures calls { AreCallsOn seat.old seat.new receipts.new.items }
     ensures work { IsWork (G.is_free gate.now) nodes.now receipts.new.items result }
 {
     for (number, node) in nodes.iter().enumerate() {
@@ -98,7 +99,7 @@ fn take_turn<R: Wait, G: Gate>(
 ) -> End
     requires { vec_len receipts.old + 2 ≤ vec_capacity receipts.old }
     ensures capacity { vec_capacity receipts.new ≡ vec_capacity receipts.old }
-    ensures adds { Adds (G.is_free gate.now) turn.node receipts.old.items receipts.new.items seat.old.calls seat.new.calls result }
+    ensures adds { Adds (G.is_free gate.now) turn.node receipts.old.items receipts.new.items seat.old seat.new result }
 {
     let proposal = match ask(rt, live, turn.node, seat, receipts) {
         Ok(Some(proposal)) => proposal,
@@ -127,8 +128,7 @@ fn ask<R: Wait>(
 ) -> Result<Option<Proposal>, CallFault>
     requires { vec_len receipts.old < vec_capacity receipts.old }
     ensures capacity { vec_capacity receipts.new ≡ vec_capacity receipts.old }
-    ensures calls { OnOk result (seat.new.calls ≡ seat.old.calls + 1) }
-    ensures receipt { IfOk result (λ found. (asked : Receipt) × (receipts.new.items ≡ receipts.old.items ++ asked ∷ []) × IsAsked node found asked) }
+    ensures receipt { IfOk result (λ found. (asked : Receipt) × (receipts.new.items ≡ receipts.old.items ++ asked ∷ []) × IsAsked node found asked × AreCallsOn seat.old seat.new (asked ∷ [])) }
     ensures err { OnErr result ((seat.new ≡ seat.old) × (receipts.new ≡ receipts.old)) }
 {
     let receipt = live.call(rt, seat, Event::Propose { node })?;
@@ -147,8 +147,7 @@ fn commit<R: Wait>(
 ) -> Result<(), CallFault>
     requires { vec_len receipts.old < vec_capacity receipts.old }
     ensures capacity { vec_capacity receipts.new ≡ vec_capacity receipts.old }
-    ensures calls { OnOk result (seat.new.calls ≡ seat.old.calls + 1) }
-    ensures receipt { OnOk result ((done : Receipt) × (receipts.new.items ≡ receipts.old.items ++ done ∷ []) × (done.event ≡ Event.Commit proposal)) }
+    ensures receipt { OnOk result ((done : Receipt) × (receipts.new.items ≡ receipts.old.items ++ done ∷ []) × (done.event ≡ Event.Commit proposal) × AreCallsOn seat.old seat.new (done ∷ [])) }
     ensures err { OnErr result ((seat.new ≡ seat.old) × (receipts.new ≡ receipts.old)) }
 {
     let receipt = live.call(rt, seat, Event::Commit { proposal })?;
