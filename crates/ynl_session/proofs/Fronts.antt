@@ -71,3 +71,10 @@ events_called n [] [] calls = refl
 events_called n [] (r ∷ rs) calls = absurd (cc)
 events_called n (event ∷ events) [] calls = absurd calls
 events_called n (event ∷ events) (r ∷ rs) calls = λ i. calls.0 i ∷ events_called (n + 1) events rs calls.2 i
+
+-- there is one call for each event
+pub length_called : (n : ℕ) (events : List Event) (rs : List Receipt) → AreCalls n events rs → length rs ≡ length events
+length_called n [] [] calls = refl
+length_called n [] (r ∷ rs) calls = absurd (cc)
+length_called n (event ∷ events) [] calls = absurd calls
+length_called n (event ∷ events) (r ∷ rs) calls = let h = length_called (n + 1) events rs calls.2 in omega (arith, h)

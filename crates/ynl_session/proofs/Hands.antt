@@ -1,16 +1,15 @@
 -- What the closed journal of a session shows.
 use Rattle.std.proofs.Common.{◌≡◌, ℕ, ◌+◌, ◌*◌, refl, sym, ap, ◌∙◌, arith, List, [], ◌∷◌, ◌++◌, cond, Bool, true, false, length, drop, subst, Vec, All}
-use Rattle.std.specs.Prelude.{map, sum_by, IsTrue}
+use Rattle.std.specs.Prelude.{map, sum_by, count_by, IsTrue}
 use Rattle.std.specs.declared.alloc.Global.{Global}
-use Rattle.std.specs.List.Sorted.{IsPermutation}
 use Rattle.std.proofs.lemmas.List.{map-append}
 use Rattle.std.proofs.lemmas.List.Sums.{sum_by-cons, sum_by-append}
-use Rattle.std.proofs.lemmas.List.Sorted.{sum_by-IsPermutation}
 use Rattle.std.proofs.lemmas.List.Elements.{All-head, All-tail, All-nil, All-cons, All-append}
 use Rattle.ynl_resource.specs.declared.names.Name.{Name}
 use Rattle.ynl_resource.specs.Names.{same_name}
 use Rattle.ynl_model.specs.declared.events.Event.{Event}
 use Rattle.ynl_model.specs.declared.entries.Entry.{Entry}
+use Rattle.ynl_model.specs.declared.proposals.Proposal.{Proposal}
 use Rattle.ynl_model.specs.Queues.{Config}
 use Rattle.ynl_model.specs.Events.{IsHistory}
 use Rattle.ynl_model.specs.View.{track, is_there}
@@ -22,10 +21,10 @@ use Rattle.ynl_live.specs.Alone.{ShowTenantsAlone}
 use Rattle.ynl_live.proofs.Sums.{count_alike}
 use Rattle.ynl_laws.proofs.Soundness.Once.{is_tracked_once}
 use Rattle.ynl_session.specs.Dealt.{times_in, AreDealt}
-use Rattle.ynl_session.specs.Handed.{is_workers, asks, AddsRounds}
+use Rattle.ynl_session.specs.Handed.{is_workers, asks, commits, answers, AddsRounds}
 use Rattle.ynl_session.specs.Scripted.{AreCalls}
 use Rattle.ynl_session.specs.Sessions.{nodes_after, IsSession}
-use Rattle.ynl_session.proofs.Fronts.{front, events_called}
+use Rattle.ynl_session.proofs.Fronts.{front, events_called, length_called}
 
 -- ---- sums
 
@@ -99,17 +98,21 @@ module _ (entries : List Entry) (events : List Event) (first : Vec Receipt Globa
       ap events_in split ∙ map-append (λ (e : Entry). e.event) (map entry_of first.items) rest
       ∙ ap (λ es. es ++ events_in rest) (events_called 0 events first.items calls)
 
-pub session : (free : Type 0) (c : Config) (events : List Event) (rounds : ℕ) (entries : List Entry) (nodes : List Name) (dealt : List (Vec Name Global)) (first : Vec Receipt Global) (lists : List (Vec Receipt Global))
-    → AreCalls 0 events first.items → AddsRounds free dealt rounds (first ∷ []) lists → AreDealt nodes dealt → IsPermutation (nodes_after c events) nodes
+pub session : (free : Type 0) (c : Config) (events : List Event) (rounds : ℕ) (entries : List Entry) (dealt : List (Vec Name Global)) (first : Vec Receipt Global) (lists : List (Vec Receipt Global))
+    → AreCalls 0 events first.items → AddsRounds free dealt rounds (first ∷ []) lists → AreDealt (nodes_after c events) dealt
     → IsHistory c entries → ShowTenantsAlone c entries → All (λ list. ListFits entries list.items) lists → EachOnce (length entries) (all_receipts lists)
     → IsSession free c events rounds entries
-session free c events rounds entries nodes dealt first lists calls adds are_dealt sorted history alone fits once =
+session free c events rounds entries dealt first lists calls adds are_dealt history alone fits once =
     let F : List (Vec Receipt Global) → Type 0 = λ ls. All (λ list. ListFits entries list.items) ls in
     let O : List (Vec Receipt Global) → Type 0 = λ ls. EachOnce (length entries) (all_receipts ls) in
     let fit : F (first ∷ adds.more) = subst F adds.all fits in
     let each : O (first ∷ adds.more) = subst O adds.all once in
     let alike = rests_alike entries events first adds.more calls fit each in
     let after : List Entry = drop (length first.items) entries in
+    let commits_are : (q : Proposal) → count_by (commits q) (events_in after) ≡ count_by (λ receipt. commits q receipt.event) (all_receipts adds.more) =
+    λ q. sum_by_mapped (λ e. cond (commits q e) 1 0) (λ (e : Entry). e.event) after ∙ alike (λ e. cond (commits q e.event) 1 0) in
+    let answers_are : (q : Proposal) → count_by (answers q) (drop (length events) entries) ≡ count_by (λ receipt. answers q (entry_of receipt)) (all_receipts adds.more) =
+    λ q. ap (λ n. count_by (answers q) (drop n entries)) (sym (length_called 0 events first.items calls)) ∙ alike (λ e. cond (answers q e) 1 0) in
     record {
       history = history;
       further = events_in after;
@@ -122,6 +125,8 @@ session free c events rounds entries nodes dealt first lists calls adds are_deal
           ap events_in (empty_from_none after count);
       asked = λ is node.
           sum_by_mapped (λ e. cond (asks node e) 1 0) (λ (e : Entry). e.event) after ∙ alike (λ e. cond (asks node e.event) 1 0) ∙ adds.asked is node
-          ∙ ap (λ n. rounds * n) (are_dealt node ∙ sum_by-IsPermutation (λ (other : Name). cond (same_name other node) 1 0) (nodes_after c events) nodes sorted) ∙ rounds_over c events rounds node;
+          ∙ ap (λ n. rounds * n) (are_dealt node) ∙ rounds_over c events rounds node;
+      answered = λ q. let d = commits_are q in let e = answers_are q in let h = adds.answered q in omega (arith, d, e, h);
+      committed = λ is q. commits_are q ∙ adds.committed is q ∙ sym (answers_are q);
       alone = alone;
     }

@@ -1,11 +1,17 @@
 -- Workers that are taken in one after another.
-use Rattle.std.proofs.Common.{◌≡◌, sym, ap, ◌∙◌, List, [], ◌∷◌, ◌++◌, subst, Vec, All, append_assoc, append-nil}
+use Rattle.std.proofs.Common.{◌≡◌, ℕ, refl, Ok, Err, ◌⊎◌, inl, inr, arith, length, length-append, sym, ap, ◌∙◌, List, [], ◌∷◌, ◌++◌, subst, Vec, All, append_assoc, append-nil}
 use Rattle.std.specs.Prelude.{map}
 use Rattle.std.specs.declared.alloc.Global.{Global}
+use Rattle.std.proofs.Math.Seq.{get_or-append_seam}
 use Rattle.std.proofs.lemmas.List.{map-append}
 use Rattle.std.proofs.lemmas.List.Elements.{All-nil, All-push}
 use Rattle.ynl_live.specs.declared.receipts.Receipt.{Receipt}
 use Rattle.ynl_workers.specs.declared.working.WorkerEnd.{WorkerEnd}
+use Rattle.ynl_workers.specs.declared.working.End.{End}
+use Rattle.ynl_workers.specs.declared.working.End.TheVariants.{Whole, Halted, NoMemory, Behind}
+use Rattle.ynl_session.specs.declared.sessions.SessionFault.TheVariants.{Unclosed}
+use Rattle.ynl_session.specs.Faults.{ended}
+use Rattle.ynl_session.specs.Handed.{OneWasBehind}
 use Rattle.ynl_session.proofs.Rounds.{HasEnded}
 
 abbrev lists_of : List WorkerEnd → List (Vec Receipt Global)
@@ -33,3 +39,21 @@ pub TakenSoFar-all : (old now : List (Vec Receipt Global)) (all left : List Work
 TakenSoFar-all old now all left none so =
     let same : so.done ≡ all = sym (append-nil so.done) ∙ ap (λ ws. so.done ++ ws) (sym none) ∙ so.all_are in
     (subst (All HasEnded) same so.ended, so.lists ∙ ap (λ ws. old ++ lists_of ws) same)
+
+-- a worker that has ended went over its nodes or was halted
+pub HasEnded-from_ended : (end : End) (u : Unit {0}) → Ok u ≡ ended end → (end ≡ Whole) ⊎ (end ≡ Halted)
+HasEnded-from_ended Whole u is = inl refl
+HasEnded-from_ended Halted u is = inr refl
+HasEnded-from_ended NoMemory u is = absurd (cc)
+HasEnded-from_ended (Behind n) u is = absurd (cc)
+
+-- the worker that is taken in next was told that its seat is of another scheduler
+pub OneWasBehind-here : (done rest all : List WorkerEnd) (w : WorkerEnd) → done ++ w ∷ rest ≡ all → Err Unclosed ≡ ended w.end → OneWasBehind all
+OneWasBehind-here done rest all w are is =
+    subst OneWasBehind are (length done, w, omega (arith, length-append done (w ∷ rest)), get_or-append_seam done w rest w, behind w.end is)
+  where
+    behind : (end : End) → Err Unclosed ≡ ended end → (n : ℕ) × (end ≡ Behind n)
+    behind Whole is = absurd (cc)
+    behind Halted is = absurd (cc)
+    behind NoMemory is = absurd (cc)
+    behind (Behind n) is = (n, refl)

@@ -1,6 +1,9 @@
 -- Nodes that are dealt out.
-use Rattle.std.specs.Prelude.{◌≡◌, ℕ, List, count_by, Vec}
+use Rattle.std.specs.Prelude.{◌≡◌, ℕ, ◌+◌, ◌%◌, ◌<◌, ◌==◌, if◌then◌else◌, List, [], ◌∷◌, length, count_by, slice_index_or, Vec}
 use Rattle.std.specs.List.{flat_map}
+use Rattle.std.specs.List.Sorted.{IsPermutation, IsSorted}
+use Rattle.std.specs.Ordering.{nat_cmp}
+use Rattle.std.specs.Cmp.Lexicographic.{slice_cmp}
 use Rattle.std.specs.declared.alloc.Global.{Global}
 use Rattle.ynl_resource.specs.declared.names.Name.{Name}
 use Rattle.ynl_resource.specs.Names.{same_name}
@@ -16,3 +19,23 @@ all_dealt lists = flat_map (λ list. list.items) lists
 -- each node stands in the lists as often as in these
 abbrev pub AreDealt : List Name → List (Vec Name Global) → Type 0
 AreDealt nodes lists = (node : Name) → times_in node (all_dealt lists) ≡ times_in node nodes
+
+-- the nodes whose numbers, counted from n, leave k where they are divided by the count
+abbrev pub every : ℕ → ℕ → ℕ → List Name → List Name
+every count k n [] = []
+every count k n (node ∷ nodes) = if n % count == k then node ∷ every count k (n + 1) nodes else every count k (n + 1) nodes
+
+-- the nodes stand in the lists in turn: the first in the first list, and so on, and after the last list in the first again
+abbrev pub AreInTurn : List Name → List (Vec Name Global) → Type 0
+AreInTurn nodes lists = (k : ℕ) (list : Vec Name Global) → k < length lists → (slice_index_or lists k list).items ≡ every (length lists) k 0 nodes
+
+-- names in byte order
+abbrev pub AreInOrder : List Name → Type 0
+AreInOrder names = IsSorted (slice_cmp nat_cmp) names
+
+-- these names, put in byte order, stand in the lists in turn
+pub record AreDealtInOrder (names : List Name) (lists : List (Vec Name Global)) : Type 0 where
+  pub nodes : List Name
+  pub all : IsPermutation names nodes
+  pub order : AreInOrder nodes
+  pub turns : AreInTurn nodes lists

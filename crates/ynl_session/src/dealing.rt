@@ -1,7 +1,7 @@
 //! Nodes that are dealt out to workers.
 
 ghost use Rattle.std.specs.Prelude.{◌≡◌, ◌<◌, [], IfOk, vec_len};
-ghost use Rattle.ynl_session.specs.Dealt.{AreDealt};
+ghost use Rattle.ynl_session.specs.Dealt.{AreDealt, AreInTurn};
 
 use std::alloc::{AllocError, Global};
 use ynl_resource::Name;
@@ -10,6 +10,7 @@ use ynl_resource::Name;
 fn empty_lists(alloc: Global, count: usize) -> Result<Vec<Vec<Name>>, AllocError>
     ensures count { IfOk result (λ lists. vec_len lists ≡ count) }
     ensures dealt { IfOk result (λ lists. AreDealt [] lists.items) }
+    ensures turns { IfOk result (λ lists. AreInTurn [] lists.items) }
 {
     let mut lists = Vec::with_capacity(alloc, count)?;
     for _ in 0..count {
@@ -27,6 +28,7 @@ pub(crate) fn deal(
     requires { 0 < count }
     ensures count { IfOk result (λ lists. vec_len lists ≡ count) }
     ensures dealt { IfOk result (λ lists. AreDealt nodes.now lists.items) }
+    ensures turns { IfOk result (λ lists. AreInTurn nodes.now lists.items) }
 {
     let mut lists = empty_lists(alloc, count)?;
     for (i, node) in nodes.iter().enumerate() {

@@ -1,8 +1,9 @@
 //! Seats and receipts that are handed in at the end.
 
-ghost use Rattle.std.specs.Prelude.{◌≡◌, ◌⊎◌, [], ◌∷◌, ◌++◌, map, All, OnOk, IfOk, vec_len};
+ghost use Rattle.std.specs.Prelude.{◌≡◌, ◌⊎◌, [], ◌∷◌, ◌++◌, map, All, OnOk, IfOk, IfErr, vec_len};
 ghost use Rattle.ynl_workers.specs.declared.working.End.TheVariants.{Whole, Halted};
-ghost use Rattle.ynl_session.specs.Handed.{AddsRounds};
+ghost use Rattle.ynl_session.specs.Faults.{ended};
+ghost use Rattle.ynl_session.specs.Handed.{AddsRounds, OneWasBehind};
 
 use crate::sessions::SessionFault;
 use std::alloc::{AllocError, Global};
@@ -32,7 +33,7 @@ fn split_seats(alloc: Global, seat: &Seat, count: usize) -> Result<Vec<Seat>, Al
 
 /// Whether a worker went over its nodes or was halted, or else why a session is not closed.
 fn has_ended(end: End) -> Result<(), SessionFault>
-    ensures { OnOk result ((end ≡ Whole) ⊎ (end ≡ Halted)) }
+    ensures { result ≡ ended end }
 {
     match end {
         End::Whole | End::Halted => Ok(()),
@@ -70,6 +71,7 @@ impl Handed {
     fn take(&mut self, ends: Vec<WorkerEnd>) -> Result<(), SessionFault>
         ensures ended { OnOk result (All (λ worker. (worker.end ≡ Whole) ⊎ (worker.end ≡ Halted)) ends.items) }
         ensures lists { OnOk result (self.new.lists.items ≡ self.old.lists.items ++ map (λ worker. worker.receipts) ends.items) }
+        ensures unclosed { IfErr result (λ fault. fault ≡ SessionFault.Unclosed → OneWasBehind ends.items) }
     {
         for end in ends {
             has_ended(end.end)?;
@@ -91,10 +93,8 @@ impl Handed {
         ensures { OnOk result (AddsRounds (G.is_free gate.now) dealt.now 1 self.old.lists.items self.new.lists.items) }
     {
         let seats = split_seats(alloc, seat, dealt.len())?;
-        match run_round(rt, alloc, live, seats, dealt, gate) {
-            Ok(ends) => self.take(ends),
-            Err(_) => Err(SessionFault::NoMemory),
-        }
+        let ends = run_round(rt, alloc, live, seats, dealt, gate)?;
+        self.take(ends)
     }
 
     /// Runs so many rounds, one after another.

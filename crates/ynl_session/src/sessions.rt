@@ -1,7 +1,8 @@
 //! Sessions.
 
-ghost use Rattle.std.specs.Prelude.{◌≡◌, ◌<◌, IfOk};
+ghost use Rattle.std.specs.Prelude.{◌≡◌, ◌<◌, IfOk, vec_len};
 ghost use Rattle.std.specs.List.Sorted.{IsPermutation};
+ghost use Rattle.ynl_session.specs.Dealt.{AreDealt, AreDealtInOrder, AreInOrder};
 ghost use Rattle.ynl_session.specs.Faults.{fault_of_cause};
 ghost use Rattle.ynl_session.specs.Sessions.{nodes_after, IsSession};
 
@@ -18,7 +19,7 @@ use ynl_model::{Entry, Event};
 use ynl_queues::Config;
 use ynl_resource::Name;
 use ynl_view::tracked_nodes;
-use ynl_workers::Gate;
+use ynl_workers::{Gate, Unrun};
 
 /// Why a session has no closed journal.
 #[derive(Clone, Copy, Debug, PartialEq, Eq, Error)]
@@ -26,7 +27,7 @@ pub enum SessionFault {
     /// Memory was refused.
     #[error("out of memory")]
     NoMemory,
-    /// The receipts do not fit the journal.
+    /// The journal could not be closed, or was not run to its end, and no memory was refused.
     #[error("not closed")]
     Unclosed,
 }
@@ -49,6 +50,17 @@ impl From<NoMemory> for SessionFault {
     ghost from_gives = { λ _ fault. fault ≡ NoMemory };
 
     fn from(_error: NoMemory) -> SessionFault {
+        SessionFault::NoMemory
+    }
+}
+
+impl From<Unrun> for SessionFault {
+    ghost use Rattle.std.specs.Prelude.{◌≡◌};
+    ghost use Rattle.ynl_session.specs.declared.sessions.SessionFault.TheVariants.{NoMemory};
+
+    ghost from_gives = { λ _ fault. fault ≡ NoMemory };
+
+    fn from(_error: Unrun) -> SessionFault {
         SessionFault::NoMemory
     }
 }
@@ -83,18 +95,36 @@ fn nodes_in_order(
     config: &Config,
     events: &[Event],
 ) -> Result<Vec<Name>, SessionFault>
-    ensures { IfOk result (λ nodes. IsPermutation (nodes_after config.now events.now) nodes.items) }
+    ensures all { IfOk result (λ nodes. IsPermutation (nodes_after config.now events.now) nodes.items) }
+    ensures order { IfOk result (λ nodes. AreInOrder nodes.items) }
 {
     let mut nodes = tracked_nodes(alloc, config, events)?;
     nodes.sort()?;
     Ok(nodes)
 }
 
+/// The nodes that the events leave, by name in byte order, dealt out to so many workers in turn.
+fn dealt_nodes(
+    alloc: Global,
+    config: &Config,
+    events: &[Event],
+    workers: usize,
+) -> Result<Vec<Vec<Name>>, SessionFault>
+    requires { 0 < workers }
+    ensures count { IfOk result (λ lists. vec_len lists ≡ workers) }
+    ensures dealt { IfOk result (λ lists. AreDealt (nodes_after config.now events.now) lists.items) }
+    ensures turns { IfOk result (λ lists. AreDealtInOrder (nodes_after config.now events.now) lists.items) }
+{
+    let nodes = nodes_in_order(alloc, config, events)?;
+    Ok(deal(alloc, &nodes, workers)?)
+}
+
 /// Calls the events on a new cluster, runs so many rounds of workers over the nodes that these leave, and
 /// closes the journal. In each round the nodes, by name in byte order, are dealt out to the workers in turn.
 ///
-/// `Unclosed` comes only where the receipts do not fit the journal, or where an event got another place
-/// than its number.
+/// `Unclosed` comes where the journal is not closed for another cause than want of memory, where an event of
+/// the script got another place than its number, or where a call was told that its seat is of another
+/// scheduler.
 pub fn run_session<T: Threads + Wait + Sync, G: Gate + Sync>(
     rt: &T,
     alloc: Global,
@@ -107,8 +137,7 @@ pub fn run_session<T: Threads + Wait + Sync, G: Gate + Sync>(
     requires { 0 < workers }
     ensures { IfOk result (λ entries. IsSession (G.is_free gate.now) config events.now rounds entries.items) }
 {
-    let nodes = nodes_in_order(alloc, &config, events)?;
-    let dealt = deal(alloc, &nodes, workers)?;
+    let dealt = dealt_nodes(alloc, &config, events, workers)?;
     let (live, mut seat) = Live::open(alloc, config)?;
     let receipts = call_events(rt, alloc, &live, &mut seat, events)?;
     let apart = seat.split();
