@@ -11,7 +11,8 @@ pub record IsReady (most : ℕ) (worker : WorkerEnd) : Type 0 where
   pub empty : worker.receipts.items ≡ []
   pub reserved : most ≤ vec_capacity worker.receipts
 
--- what a worker did that was given this seat and these nodes; its receipts are those of the calls on its seat
+-- what a worker tells that was given this seat and these nodes: its receipts are as many as the calls on its seat, their places
+-- rise, from where the seat stood to where it stands then, and they are those of its turns
 pub record IsWorkOf (free : Type 0) (seat : Standing) (nodes : List Name) (worker : WorkerEnd) : Type 0 where
   pub calls : AreCallsOn seat worker.seat worker.receipts.items
   pub work : IsWork free nodes worker.receipts.items worker.end

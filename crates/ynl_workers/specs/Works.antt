@@ -24,8 +24,8 @@ abbrev pub end_of : CallFault → End
 end_of Call.NoMemory = NoMemory
 end_of (Call.Behind entered) = Behind entered
 
--- The receipts of the calls on a seat that stood here before them, and there after them: as many as the calls, at places that rise, from the
--- first front on and below the last.
+-- Receipts of calls on a seat that stood here before them, and there after them: they are as many as the calls, and their places rise, from
+-- the first front on and below the last.
 pub record AreCallsOn (before after : Standing) (receipts : List Receipt) : Type 0 where
   pub calls : after.calls ≡ before.calls + length receipts
   pub front : before.front ≤ after.front
