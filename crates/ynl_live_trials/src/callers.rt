@@ -1,6 +1,6 @@
 //! Callers in four threads, and for what causes their journal is not closed.
 
-use crate::events::{called, closed_len, opened, poll, register, register_node, submit};
+use crate::events::{called, closed_len, opened, poll, register, submit};
 use std::alloc::Global;
 use std::process::Abort;
 use std::sync::Wait;
@@ -8,7 +8,7 @@ use std::test::Fail;
 use std::thread;
 use std::thread::Threads;
 use ynl_live::{CallFault, Cause, Live, Receipt, Seat, Unclosed, close};
-use ynl_model::Reply;
+use ynl_model::{Event, Reply};
 use ynl_resource::Refusal;
 
 /// A seat in a thread of its own, and the receipts of its calls.
@@ -149,22 +149,6 @@ fn closes_with_all_seats_and_receipts(rt: HostRuntime) -> Result<(), Fail> {
     Ok(())
 }
 
-/// Two seats in turn, each with two receipts: the first seat's places are 0 and 2.
-fn two_in_turn<R: Wait>(rt: &R, alloc: Global) -> Result<Called, Fail> {
-    let (live, mut one) = opened(alloc)?;
-    let mut two = one.split();
-    let (mut ones, mut twos) = (Vec::new(alloc), Vec::new(alloc));
-    for (mine, theirs) in [("g1", "g2"), ("g3", "g4")] {
-        let event = register_node(mine).ok_or("no event")?;
-        called(rt, &live, &mut one, &mut ones, event).ok_or("not called")?;
-        let event = register_node(theirs).ok_or("no event")?;
-        called(rt, &live, &mut two, &mut twos, event).ok_or("not called")?;
-    }
-    let seats = vec![in alloc; one, two]?;
-    let lists = vec![in alloc; ones, twos]?;
-    Ok(Called { live, seats, lists })
-}
-
 /// For what cause the journal was not closed, and all that was handed in.
 fn refused(alloc: Global, called: Called) -> Result<(Cause, Called), Fail> {
     let Called { live, seats, lists } = called;
@@ -173,57 +157,73 @@ fn refused(alloc: Global, called: Called) -> Result<(Cause, Called), Fail> {
     Ok((cause, Called { live, seats, lists }))
 }
 
-fn is_closed_with_four(alloc: Global, called: Called) -> bool {
-    let Called { live, seats, lists } = called;
-    closed_len(alloc, live, seats, lists.as_slice()) == Some(4)
+/// Has the first receipt of a list tell this place and event, and answers what it told.
+fn retell(called: &mut Called, list: usize, place: u64, event: &Event) -> Option<(u64, Event)> {
+    let receipt = called.lists.get_mut(list)?.get_mut(0)?;
+    let before = (receipt.place, receipt.event);
+    receipt.place = place;
+    receipt.event = *event;
+    Some(before)
 }
 
-/// Has the first receipt of the second list tell that this node was registered at this place.
-fn retell(called: &mut Called, place: u64, node: &str) -> Option<()> {
-    let event = register_node(node)?;
-    let receipt = called.lists.get_mut(1)?.get_mut(0)?;
-    receipt.place = place;
-    receipt.event = event;
+/// Exchanges the first two receipts of the third list.
+fn exchange(called: &mut Called) -> Option<()> {
+    let list = called.lists.get_mut(2)?;
+    if list.len() < 2 {
+        return None;
+    }
+    list.swap(0, 1);
     Some(())
 }
 
-#[test]
-fn closes_where_receipts_are_in_order(rt: HostRuntime) -> Result<(), Fail> {
-    let alloc = rt.alloc();
-    let mut called = two_in_turn(&rt, alloc)?;
-    called.lists.get_mut(0).ok_or("no list")?.reverse();
+/// For what cause the journal is not closed where the first receipt of a list tells this. Then it tells
+/// again what it told.
+fn cause_where(
+    alloc: Global,
+    mut called: Called,
+    list: usize,
+    place: u64,
+    event: &Event,
+) -> Result<(Cause, Called), Fail> {
+    let (first, was) = retell(&mut called, list, place, event).ok_or("no receipt")?;
     let (cause, mut called) = refused(alloc, called)?;
-    assert_eq!(rt; cause, Cause::Mismatch(0));
-    called.lists.get_mut(0).ok_or("no list")?.reverse();
-    assert!(rt; is_closed_with_four(alloc, called));
+    retell(&mut called, list, first, &was).ok_or("no receipt")?;
+    Ok((cause, called))
+}
+
+/// The first receipt of the third list, exchanged with the next one, told on the fourth seat too, and told
+/// of a place that the journal has not.
+#[test]
+fn closes_where_each_receipt_is_in_its_place(rt: HostRuntime) -> Result<(), Fail> {
+    let alloc = rt.alloc();
+    let mut called = four_callers(&rt, alloc)?;
+    exchange(&mut called).ok_or("no receipts")?;
+    let (cause, mut called) = refused(alloc, called)?;
+    exchange(&mut called).ok_or("no receipts")?;
+    let other = register().ok_or("no event")?;
+    let (place, event) = retell(&mut called, 2, 400, &other).ok_or("no receipt")?;
+    retell(&mut called, 2, place, &event).ok_or("no receipt")?;
+    assert_eq!(rt; cause, Cause::Mismatch(place));
+    let (cause, called) = cause_where(alloc, called, 3, place, &event)?;
+    assert_eq!(rt; cause, Cause::Mismatch(place));
+    let (cause, called) = cause_where(alloc, called, 2, 400, &event)?;
+    assert_eq!(rt; cause, Cause::Mismatch(400));
+    let Called { live, seats, lists } = called;
+    assert_eq!(rt; closed_len(alloc, live, seats, lists.as_slice()), Some(400));
     Ok(())
 }
 
 #[test]
 fn closes_where_no_receipt_is_missing(rt: HostRuntime) -> Result<(), Fail> {
     let alloc = rt.alloc();
-    let mut called = two_in_turn(&rt, alloc)?;
+    let mut called = four_callers(&rt, alloc)?;
     let last = called.lists.get_mut(0).ok_or("no list")?.pop();
     let (cause, mut called) = refused(alloc, called)?;
     assert_eq!(rt; cause, Cause::ReceiptsMissing);
     let list = called.lists.get_mut(0).ok_or("no list")?;
     list.push(last.ok_or("no receipt")?)?;
-    assert!(rt; is_closed_with_four(alloc, called));
-    Ok(())
-}
-
-#[test]
-fn closes_where_each_place_is_told_once(rt: HostRuntime) -> Result<(), Fail> {
-    let alloc = rt.alloc();
-    let mut called = two_in_turn(&rt, alloc)?;
-    retell(&mut called, 0, "g1").ok_or("no receipt")?;
-    let (cause, mut called) = refused(alloc, called)?;
-    assert_eq!(rt; cause, Cause::Mismatch(0));
-    retell(&mut called, 400, "g2").ok_or("no receipt")?;
-    let (cause, mut called) = refused(alloc, called)?;
-    assert_eq!(rt; cause, Cause::Mismatch(400));
-    retell(&mut called, 1, "g2").ok_or("no receipt")?;
-    assert!(rt; is_closed_with_four(alloc, called));
+    let Called { live, seats, lists } = called;
+    assert_eq!(rt; closed_len(alloc, live, seats, lists.as_slice()), Some(400));
     Ok(())
 }
 

@@ -2,7 +2,7 @@
 
 ghost use Rattle.std.specs.Prelude.{◌≡◌, length, vec_len};
 
-use crate::events::{closed_len, opened, poll};
+use crate::events::{closed_len, opened, poll, worked};
 use crate::sessions;
 use crate::workers::{Started, gathered, open, play_script, script, turns};
 use std::alloc::Global;
@@ -10,7 +10,6 @@ use std::process::Abort;
 use std::sync::Wait;
 use std::test::Fail;
 use std::thread::Threads;
-use ynl_config::built_in;
 use ynl_live::{CallFault, Cause, Live, Receipt, Seat, Unclosed, close};
 use ynl_model::{Event, Reply};
 use ynl_resource::Name;
@@ -20,7 +19,7 @@ use ynl_workers::{End, Unrun, WorkerEnd, run_round};
 // Run with each allocation failing in turn: where memory is refused at the first try, which a line
 // tells, the second goes on.
 fn opened_again<R: Print>(rt: &R, alloc: Global) -> Result<(Live, Seat), Fail> {
-    let config = built_in(alloc)?;
+    let config = worked(alloc).ok_or("no configuration")?;
     match Live::open(alloc, config) {
         Ok(opened) => Ok(opened),
         Err(_) => {
@@ -184,9 +183,8 @@ fn session<R: Threads + Wait + Sync>(rt: &R, alloc: Global) -> Result<usize, Ses
     let Some(events) = sessions::script() else {
         return Ok(0);
     };
-    let config = match built_in(alloc) {
-        Ok(config) => config,
-        Err(_) => return Err(SessionFault::NoMemory),
+    let Some(config) = worked(alloc) else {
+        return Err(SessionFault::NoMemory);
     };
     let entries = run_session(rt, alloc, config, &events, 1, 2, &open())?;
     Ok(entries.len())

@@ -2,13 +2,12 @@
 
 ghost use Rattle.std.specs.Prelude.{◌<◌};
 
-use crate::events::{ask, register_node, submit};
+use crate::events::{ask, register_node, submit, worked};
 use crate::workers::{HaltsAt, open};
 use std::alloc::Global;
 use std::sync::Wait;
 use std::test::Fail;
 use std::thread::Threads;
-use ynl_config::built_in;
 use ynl_journal::audit;
 use ynl_model::{Entry, Event};
 use ynl_resource::Name;
@@ -36,7 +35,7 @@ fn played<R: Threads + Wait + Sync, G: Gate + Sync>(
     requires { 0 < workers }
 {
     let events = script().ok_or("no script")?;
-    let config = built_in(alloc)?;
+    let config = worked(alloc).ok_or("no configuration")?;
     Ok(run_session(rt, alloc, config, &events, workers, rounds, gate)?)
 }
 
@@ -81,7 +80,8 @@ fn each_node_is_asked_about_once_a_round(rt: HostRuntime) -> Result<(), Fail> {
     // The master and one container of the ask at least find their node.
     assert!(rt; commits(&entries) >= 2);
     assert_eq!(rt; others(&entries), 8);
-    assert_eq!(rt; audit(alloc, built_in(alloc)?, &entries), Ok(()));
+    let config = worked(alloc).ok_or("no configuration")?;
+    assert_eq!(rt; audit(alloc, config, &entries), Ok(()));
     Ok(())
 }
 
@@ -97,16 +97,19 @@ fn session_without_rounds_is_its_script(rt: HostRuntime) -> Result<(), Fail> {
 /// Each round begins anew with the first node, where the worker is halted.
 #[test]
 fn session_that_is_halted_commits_nothing(rt: HostRuntime) -> Result<(), Fail> {
-    let entries = played(&rt, rt.alloc(), 1, 2, &HaltsAt(0))?;
+    let entries = played(&rt, rt.alloc(), 1, 2, &HaltsAt::turn(0))?;
     assert_eq!(rt; commits(&entries), 0);
     assert_eq!(rt; times_asked(&entries, "g1")?, 2);
     assert_eq!(rt; entries.len(), 6);
     Ok(())
 }
 
+/// The first two workers have a turn each, of which the gate was asked and told.
 #[test]
 fn workers_may_be_more_than_nodes(rt: HostRuntime) -> Result<(), Fail> {
-    let entries = played(&rt, rt.alloc(), 5, 1, &open())?;
+    let gate = open();
+    let entries = played(&rt, rt.alloc(), 5, 1, &gate)?;
+    assert_eq!(rt; gate.noted(), (101, 101));
     assert_eq!(rt; times_asked(&entries, "g1")?, 1);
     assert_eq!(rt; times_asked(&entries, "g2")?, 1);
     assert_eq!(rt; others(&entries), 6);

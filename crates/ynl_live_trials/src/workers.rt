@@ -12,7 +12,7 @@ use std::thread::Threads;
 use std::time::Duration;
 use ynl_live::{Live, Receipt, Seat};
 use ynl_model::{Event, Reply};
-use ynl_resource::{Name, Refusal};
+use ynl_resource::{Id, Name, Refusal};
 use ynl_workers::{End, Gate, Go, WorkerEnd, run_round};
 
 /// Worker 1 waits before its commit until worker 0 is before its own, and worker 0 waits there until
@@ -76,24 +76,61 @@ impl<R: Clock> Gate for Overlap<'_, R> {
     }
 }
 
-/// Halts each worker at this turn.
+/// Halts each worker at this turn, and notes the turns for which it was asked and told: one digit of a
+/// number each.
 #[derive(Drop)]
-pub(crate) struct HaltsAt(pub(crate) u64);
+pub(crate) struct HaltsAt {
+    turn: u64,
+    asked: AtomicU64,
+    told: AtomicU64,
+}
+
+impl HaltsAt {
+    pub(crate) fn turn(turn: u64) -> HaltsAt {
+        HaltsAt {
+            turn,
+            asked: AtomicU64::new(0),
+            told: AtomicU64::new(0),
+        }
+    }
+
+    /// What it was asked, and what it was told.
+    pub(crate) fn noted(&self) -> (u64, u64) {
+        let asked = self.asked.load(Ordering::SeqCst);
+        (asked, self.told.load(Ordering::SeqCst))
+    }
+}
+
+/// The digit of a turn: from the right those of worker 0's first and second, and of worker 1's.
+fn digit_of(worker: u64, turn: u64) -> u64 {
+    match (worker, turn) {
+        (0, 0) => 1,
+        (0, 1) => 10,
+        (1, 0) => 100,
+        (1, 1) => 1000,
+        _ => 10_000,
+    }
+}
 
 impl Gate for HaltsAt {
     ghost is_free = { λ _. ⊥ };
 
-    fn before_commit(&self, _worker: u64, turn: u64) -> Go {
-        if turn == self.0 { Go::Halt } else { Go::On }
+    fn before_commit(&self, worker: u64, turn: u64) -> Go {
+        self.asked
+            .fetch_add(digit_of(worker, turn), Ordering::SeqCst);
+        if turn == self.turn { Go::Halt } else { Go::On }
     }
 
-    fn after_commit(&self, _worker: u64, _turn: u64) {}
+    fn after_commit(&self, worker: u64, turn: u64) {
+        self.told
+            .fetch_add(digit_of(worker, turn), Ordering::SeqCst);
+    }
 }
 
 /// Lets each worker go on. It is a gate of the same type, since what is generic is proved for each that it is
 /// called with.
 pub(crate) fn open() -> HaltsAt {
-    HaltsAt(u64::MAX)
+    HaltsAt::turn(u64::MAX)
 }
 
 /// A node, and an application with its master, that asks for two containers; with its seat and receipts.
@@ -145,8 +182,11 @@ fn is_stale(worker: &WorkerEnd) -> bool {
     matches!(last_reply(worker), Some(Reply::Refused(Refusal::Stale)))
 }
 
-fn is_committed(worker: &WorkerEnd) -> bool {
-    matches!(last_reply(worker), Some(Reply::Committed(_)))
+fn is_committed_as(worker: &WorkerEnd, id: Id) -> bool {
+    match last_reply(worker) {
+        Some(Reply::Committed(container)) => container.id == id,
+        _ => false,
+    }
 }
 
 /// The seats and the lists of all callers, the script's first.
@@ -182,8 +222,12 @@ fn two_that_overlap<R: Threads + Wait + Abort + Clock + Sync>(
         .ok()
         .ok_or("not run")?;
     assert_eq!(rt; gate.late.load(Ordering::SeqCst), 0);
+    let id = Id::parse("gpu#3")?;
     assert!(rt; ends.first().is_some_and(is_stale));
-    assert!(rt; ends.last().is_some_and(is_committed));
+    assert!(rt;
+        ends.last()
+            .is_some_and(|worker| is_committed_as(worker, id))
+    );
     let (seats, lists) = gathered(alloc, seat, receipts, ends)?;
     let len = closed_len(alloc, live, seats, lists.as_slice());
     assert_eq!(rt; len, Some(8));
@@ -213,7 +257,7 @@ fn halted_at<R: Threads + Wait + Sync>(
     let Started { live, seat, .. } = play_script(rt, alloc)?;
     let seats = vec![in alloc; seat.split()]?;
     let lists = [turns(alloc, 3)?];
-    let ends = run_round(rt, alloc, &live, seats, &lists, &HaltsAt(turn))
+    let ends = run_round(rt, alloc, &live, seats, &lists, &HaltsAt::turn(turn))
         .ok()
         .ok_or("not run")?;
     told(alloc, ends.as_slice())
@@ -242,7 +286,7 @@ fn a_halted_workers_journal_is_closed(rt: HostRuntime) -> Result<(), Fail> {
     } = play_script(&rt, alloc)?;
     let seats = vec![in alloc; seat.split()]?;
     let lists = [turns(alloc, 2)?];
-    let ends = run_round(&rt, alloc, &live, seats, &lists, &HaltsAt(0))
+    let ends = run_round(&rt, alloc, &live, seats, &lists, &HaltsAt::turn(0))
         .ok()
         .ok_or("not run")?;
     let (seats, lists) = gathered(alloc, seat, receipts, ends)?;
@@ -257,7 +301,7 @@ fn workers_without_nodes_are_whole(rt: HostRuntime) -> Result<(), Fail> {
     let (live, seat) = opened(alloc)?;
     let seats = vec![in alloc; seat.split(), seat.split(), seat.split()]?;
     let lists = [turns(alloc, 0)?, turns(alloc, 0)?, turns(alloc, 0)?];
-    let ends = run_round(&rt, alloc, &live, seats, &lists, &HaltsAt(0))
+    let ends = run_round(&rt, alloc, &live, seats, &lists, &HaltsAt::turn(0))
         .ok()
         .ok_or("not run")?;
     let told = told(alloc, ends.as_slice())?;
