@@ -1,6 +1,6 @@
 //! Where the nodes are, told from node events alone.
 
-ghost use Rattle.std.specs.Prelude.{◌≡◌, [], length, filter, map, OnOk, IfOk};
+ghost use Rattle.std.specs.Prelude.{◌≡◌, ◌≤◌, [], length, filter, map, OnOk, OnErr, IfOk, vec_len, vec_capacity};
 ghost use Rattle.std.specs.Option.{option_map_or};
 ghost use Rattle.ynl_resource.specs.Names.{same_label};
 ghost use Rattle.ynl_model.specs.View.{tracked, is_in, has_place, registers, relabels, dropped, joined, track_step};
@@ -25,6 +25,15 @@ impl Model for Track {
     ghost Value = { List Tracked };
 
     ghost view = { λ t. t.nodes.items };
+}
+
+/// Drops a node from the nodes, and keeps their room.
+fn drop_node(nodes: &mut Vec<Tracked>, node: &Tracked)
+    ensures nodes { nodes.new.items ≡ dropped nodes.old.items node.now }
+    ensures len { vec_len nodes.new ≤ vec_len nodes.old }
+    ensures capacity { vec_capacity nodes.new ≡ vec_capacity nodes.old }
+{
+    nodes.retain(|other| !(other.name == node.name && other.label == node.label));
 }
 
 impl Track {
@@ -96,14 +105,24 @@ impl Track {
             && self.has_place(label)
     }
 
-    fn drop_node(&mut self, node: &Tracked)
-        ensures { self.new ≡ dropped self.old node.now }
+    /// Drops the node, and joins one of its size. The room is reserved before the node is dropped.
+    fn rejoin(&mut self, node: &Tracked, name: &Name, label: &Label) -> Result<(), AllocError>
+        ensures ok { OnOk result (self.new ≡ joined (dropped self.old node.now) name.now label.now node.now.size) }
+        ensures err { OnErr result (self.new ≡ self.old) }
     {
-        self.nodes.retain(|other| !(other.name == node.name && other.label == node.label));
+        self.nodes.reserve(1)?;
+        drop_node(&mut self.nodes, node);
+        self.nodes.push_reserved(Tracked {
+            name: *name,
+            label: *label,
+            size: node.size,
+        });
+        Ok(())
     }
 
     fn join(&mut self, name: &Name, label: &Label, size: &Size) -> Result<(), AllocError>
-        ensures { OnOk result (self.new ≡ joined self.old name.now label.now size.now) }
+        ensures ok { OnOk result (self.new ≡ joined self.old name.now label.now size.now) }
+        ensures err { OnErr result (self.new ≡ self.old) }
     {
         self.nodes.push(Tracked {
             name: *name,
@@ -121,7 +140,8 @@ impl Track {
         label: &Label,
         size: &Size,
     ) -> Result<(), AllocError>
-        ensures { OnOk result (self.new ≡ track_step config.now self.old (Register name.now label.now size.now)) }
+        ensures ok { OnOk result (self.new ≡ track_step config.now self.old (Register name.now label.now size.now)) }
+        ensures err { OnErr result (self.new ≡ self.old) }
     {
         if self.registers(config, name, label) {
             self.join(name, label, size)?;
@@ -133,28 +153,30 @@ impl Track {
         ensures { self.new ≡ option_map_or (dropped self.old) (tracked self.old name.now) self.old }
     {
         if let Some(node) = self.node(name) {
-            self.drop_node(&node);
+            drop_node(&mut self.nodes, &node);
         }
     }
 
     #[tactic(auto, unfolding(ynl_model::specs::View::track_step))]
     fn relabel(&mut self, config: &Config, name: &Name, label: &Label) -> Result<(), AllocError>
-        ensures { OnOk result (self.new ≡ track_step config.now self.old (Relabel name.now label.now)) }
+        ensures ok { OnOk result (self.new ≡ track_step config.now self.old (Relabel name.now label.now)) }
+        ensures err { OnErr result (self.new ≡ self.old) }
     {
         if !self.relabels(config, name, label) {
             return Ok(());
         }
         if let Some(node) = self.node(name) {
-            self.drop_node(&node);
-            self.join(name, label, &node.size)?;
+            self.rejoin(&node, name, label)?;
         }
         Ok(())
     }
 
-    /// The track after one more event: only an accepted Register, Lost or Relabel moves it.
+    /// The track after one more event: only an accepted Register, Lost or Relabel moves it. Where memory is
+    /// refused it is as before.
     #[tactic(auto, unfolding(ynl_model::specs::View::track_step))]
     pub(crate) fn step(&mut self, config: &Config, event: &Event) -> Result<(), AllocError>
-        ensures { OnOk result (self.new ≡ track_step config.now self.old event.now) }
+        ensures ok { OnOk result (self.new ≡ track_step config.now self.old event.now) }
+        ensures err { OnErr result (self.new ≡ self.old) }
     {
         match event {
             Event::Register { node, label, size } => self.register(config, node, label, size),

@@ -1,6 +1,6 @@
 //! The view of a list of events, and of one event after another.
 
-ghost use Rattle.std.specs.Prelude.{◌≡◌, ◌<◌, length, IfOk, OnOk, All};
+ghost use Rattle.std.specs.Prelude.{◌≡◌, ◌<◌, length, IfOk, OnOk, OnErr, All};
 ghost use Rattle.ynl_model.specs.View.{view, events_of, places_of, seen_of, track_step};
 
 use crate::sights::seen_of;
@@ -13,7 +13,7 @@ use ynl_queues::Config;
 use ynl_resource::{Label, Name};
 
 /// What the tenant's partition sees of one more event, by the track before it. The track is then the
-/// one after it.
+/// one after it, or as before where memory is refused.
 pub fn see(
     config: &Config,
     tenant: &Name,
@@ -23,6 +23,7 @@ pub fn see(
 ) -> Result<Option<Event>, NoMemory>
     ensures seen { IfOk result (λ seen. seen ≡ seen_of tenant.now label.now config.now track.old event.now) }
     ensures track { OnOk result (track.new ≡ track_step config.now track.old event.now) }
+    ensures err { OnErr result (track.new ≡ track.old) }
 {
     let seen = seen_of(tenant, label, config, track, event);
     track.step(config, event)?;
