@@ -4,13 +4,14 @@
 
 use std::alloc::AllocError;
 use std::fs::File;
-use std::io::BufReader;
+use std::io::{BufReader, StdinLock};
 use std::process::ExitCode;
 use std::sync::Wait;
 use std::thread::Threads;
 use std::{env, io};
 use ynl_tool::{
-    BUILT_IN, Job, ToolFault, WordsFault, execute, fault_of, parse_words, read_text, tell,
+    BUILT_IN, Kind, SequentialKind, ToolFault, WordsFault, execute, execute_sequential, fault_of,
+    parse_words, read_text, tell,
 };
 
 fn main(rt: HostRuntime) -> ExitCode {
@@ -27,7 +28,10 @@ fn main(rt: HostRuntime) -> ExitCode {
         return out_of_memory(&rt);
     };
     match parse_words(rt.alloc(), words.as_slice()) {
-        Ok(job) => work(&rt, &rt, &job),
+        Ok(job) => match job.kind {
+            Kind::Sequential(kind) => work(&rt, kind, job.config),
+            Kind::Live(..) => work_live(&rt, &rt, job.kind, job.config),
+        },
         Err(WordsFault::Words(error)) => {
             let _told = eprint!(rt; "{error}");
             ExitCode::from(2)
@@ -55,24 +59,62 @@ fn read_configuration(
     }
 }
 
-/// Does the job. Below `main` the runtime has threads only as a handle of its own, so it comes twice.
-fn work<T: Threads + Wait + Sync>(rt: &HostRuntime, threads: &T, job: &Job<'_>) -> ExitCode {
-    let mut errors = rt.stderr();
+/// What a job reads.
+#[derive(Drop)]
+struct Inputs {
+    /// The text of the configuration.
+    text: Vec<u8>,
+    /// Standard input.
+    reader: BufReader<StdinLock<'static>>,
+}
+
+fn open_inputs(rt: &HostRuntime, config: Option<&str>) -> Result<Inputs, ToolFault> {
     let mut text = Vec::new(rt.alloc());
-    if let Err(fault) = read_configuration(rt, job.config, &mut text) {
-        return ExitCode::from(tell(&mut errors, fault));
+    read_configuration(rt, config, &mut text)?;
+    match BufReader::with_capacity(rt.alloc(), 65536, rt.reader()) {
+        Ok(reader) => Ok(Inputs { text, reader }),
+        Err(error) => Err(fault_of(&error)),
     }
-    let Ok(mut reader) = BufReader::with_capacity(rt.alloc(), 65536, rt.reader()) else {
-        return out_of_memory(rt);
+}
+
+/// Does a job that needs one thread. Without a bound `Wait` it is proved to return.
+fn work(rt: &HostRuntime, kind: SequentialKind, config: Option<&str>) -> ExitCode {
+    let mut errors = rt.stderr();
+    let mut inputs = match open_inputs(rt, config) {
+        Ok(inputs) => inputs,
+        Err(fault) => return ExitCode::from(tell(&mut errors, fault)),
     };
-    let mut writer = io::writer(rt);
+    let status = execute_sequential(
+        rt.alloc(),
+        kind,
+        &inputs.text,
+        &mut inputs.reader,
+        &mut io::writer(rt),
+        &mut errors,
+    );
+    ExitCode::from(status)
+}
+
+/// Does a job of threads. Below `main` the runtime has threads only as a handle of its own, so it comes
+/// twice.
+fn work_live<T: Threads + Wait + Sync>(
+    rt: &HostRuntime,
+    threads: &T,
+    kind: Kind,
+    config: Option<&str>,
+) -> ExitCode {
+    let mut errors = rt.stderr();
+    let mut inputs = match open_inputs(rt, config) {
+        Ok(inputs) => inputs,
+        Err(fault) => return ExitCode::from(tell(&mut errors, fault)),
+    };
     let status = execute(
         threads,
         rt.alloc(),
-        job.kind,
-        &text,
-        &mut reader,
-        &mut writer,
+        kind,
+        &inputs.text,
+        &mut inputs.reader,
+        &mut io::writer(rt),
         &mut errors,
     );
     ExitCode::from(status)

@@ -23,7 +23,8 @@ use Rattle.clap.proofs.OnLiterals.{clap_on_literals}
 use Rattle.clap.proofs.WalkLemmas.{first_value-rows}
 use Rattle.ynl_resource.specs.declared.names.Name.{Name}
 use Rattle.ynl_resource.specs.declared.labels.Label.{Label}
-use Rattle.ynl_tool.specs.declared.words.Kind.TheVariants.{Run, Audit}
+use Rattle.ynl_tool.specs.declared.words.Kind.TheVariants.{Sequential}
+use Rattle.ynl_tool.specs.declared.words.SequentialKind.TheVariants.{Run, Audit}
 use Rattle.ynl_tool.specs.declared.words.WordsFault.{WordsFault}
 use Rattle.ynl_tool.specs.declared.words.WordsFault.TheVariants.{Words, NoMemory}
 use Rattle.ynl_tool.specs.Words.{command, name_in, label_in, tenant_by, workers_in, rounds_in, live_by, live_met, is_number, number_of, kind_met, kind_of}
@@ -69,7 +70,7 @@ label_read found p e = e ∙ ap (option_and_then label_in) (first_value-rows fou
 
 tenant_met : (name : Text) (rows : List Row) → bytes_eq name (codes "tenant") ≡ true
     → kind_met (name, rows) ≡ tenant_by (option_and_then name_in (first_of (codes "tenant") rows)) (option_and_then label_in (first_of (codes "label") rows))
-tenant_met name rows e = ap (λ b. cond b (tenant_by (option_and_then name_in (first_of (codes "tenant") rows)) (option_and_then label_in (first_of (codes "label") rows))) (cond (bytes_eq name (codes "audit")) (Some Audit) (cond (bytes_eq name (codes "live")) (live_met rows) (Some Run)))) e
+tenant_met name rows e = ap (λ b. cond b (tenant_by (option_and_then name_in (first_of (codes "tenant") rows)) (option_and_then label_in (first_of (codes "label") rows))) (cond (bytes_eq name (codes "audit")) (Some (Sequential Audit)) (cond (bytes_eq name (codes "live")) (live_met rows) (Some (Sequential Run))))) e
 
 pub kind_named : (name : Text) (found : Found) (t : Option Name) (p : Option Label) → bytes_eq name (codes "tenant") ≡ true → t ≡ option_and_then name_in (first_value found (codes "tenant"))
     → p ≡ option_and_then label_in (first_value found (codes "label")) → tenant_by t p ≡ kind_met (name, rows_of found)
@@ -115,7 +116,7 @@ number_told ds (Err e) h = refused (is_number ds) refl
     refused false test = refl
 
 -- `run` alone asks for a run
-pub asks_run : (words : List Text) → drop 1 words ≡ codes "run" ∷ [] → kind_of words ≡ Some Run
+pub asks_run : (words : List Text) → drop 1 words ≡ codes "run" ∷ [] → kind_of words ≡ Some (Sequential Run)
 unfolding clap_on_literals
 asks_run words same =
     ap (λ rest. option_and_then kind_met (entered (built command) (stop_after (built command).top.rules (names_of (built command)) rest))) same

@@ -1,5 +1,5 @@
 -- How a job ends.
-use Rattle.std.specs.Prelude.{⊤, ◌≡◌, ℕ, Bool, true, false, List, [], ◌++◌, Option, Result, Ok, Err, codes}
+use Rattle.std.specs.Prelude.{⊤, ◌≡◌, ◌⊎◌, ℕ, Bool, true, false, List, [], ◌++◌, Option, Result, Ok, Err, codes}
 use Rattle.std.specs.Option.{option_map_or}
 use Rattle.std.specs.Io.KnownBytes.{Consumes, Appends}
 use Rattle.ynl_resource.specs.declared.names.Name.{Name}
@@ -23,7 +23,9 @@ use Rattle.ynl_tool.specs.Living.{Lives}
 use Rattle.ynl_tool.specs.declared.jobs.JobRefusal.{JobRefusal}
 use Rattle.ynl_tool.specs.declared.jobs.JobRefusal.TheVariants.{Config, NotSole}
 use Rattle.ynl_tool.specs.declared.words.Kind.{Kind}
-use Rattle.ynl_tool.specs.declared.words.Kind.TheVariants.{Run, Tenant, Audit, Live}
+use Rattle.ynl_tool.specs.declared.words.Kind.TheVariants.{Sequential, Live}
+use Rattle.ynl_tool.specs.declared.words.SequentialKind.{SequentialKind}
+use Rattle.ynl_tool.specs.declared.words.SequentialKind.TheVariants.{Run, Tenant, Audit}
 
 -- how many bytes of a configuration are read at most: one more than it may have
 abbrev pub most_read : ℕ
@@ -102,12 +104,21 @@ LivesJob reader writer c rounds (Ok (Ok summary)) = Lives ⊤ reader writer c ro
 LivesJob reader writer c rounds (Ok (Err refusal)) = ⊥
 LivesJob reader writer c rounds (Err e) = Lives ⊤ reader writer c rounds (Err e)
 
--- the job of a kind, with a cluster of this configuration, where that may be known to be accepted
+-- a job that needs one thread, with a cluster of this configuration, where that may be known to be accepted
+abbrev pub DoesSequentialJob : Stream → Stream → Bool → SequentialKind → Configured → Ending → Type 0
+DoesSequentialJob reader writer accepted Run c ended = RunsJob reader writer c ended
+DoesSequentialJob reader writer accepted (Tenant t p) c ended = TellsJob reader writer accepted c t p (is_sole c t p) ended
+DoesSequentialJob reader writer accepted Audit c ended = AuditsJob reader writer c ended
+
+-- the same of any kind
 abbrev pub DoesJob : Stream → Stream → Bool → Kind → Configured → Ending → Type 0
-DoesJob reader writer accepted Run c ended = RunsJob reader writer c ended
-DoesJob reader writer accepted (Tenant t p) c ended = TellsJob reader writer accepted c t p (is_sole c t p) ended
-DoesJob reader writer accepted Audit c ended = AuditsJob reader writer c ended
+DoesJob reader writer accepted (Sequential kind) c ended = DoesSequentialJob reader writer accepted kind c ended
 DoesJob reader writer accepted (Live workers rounds) c ended = LivesJob reader writer c rounds ended
+
+-- how a job ends that has no configuration: with the fault of its text, or for want of memory
+abbrev pub EndsWithout : Result Configured ConfigFault → Ending → Type 0
+EndsWithout (Ok c) ended = ended ≡ Err NoMemory
+EndsWithout (Err fault) ended = (ended ≡ Ok (Err (Config fault))) ⊎ (ended ≡ Err NoMemory)
 
 -- the job with this configuration, which is accepted; or its fault, where there is none
 abbrev pub DoesWith : Stream → Stream → Kind → Result Configured ConfigFault → Ending → Type 0

@@ -10,7 +10,8 @@ use Rattle.ynl_resource.specs.declared.names.Name.{Name}
 use Rattle.ynl_resource.specs.declared.labels.Label.{Label}
 use Rattle.ynl_resource.specs.Texts.{read_name, read_label}
 use Rattle.ynl_tool.specs.declared.words.Kind.{Kind}
-use Rattle.ynl_tool.specs.declared.words.Kind.TheVariants.{Run, Tenant, Audit, Live}
+use Rattle.ynl_tool.specs.declared.words.Kind.TheVariants.{Sequential, Live}
+use Rattle.ynl_tool.specs.declared.words.SequentialKind.TheVariants.{Run, Tenant, Audit}
 
 -- the option `--config FILE`
 abbrev pub config_rule : Rule
@@ -78,7 +79,7 @@ label_in text = result_ok (read_label text)
 
 -- a tenant and a label, where both are there
 abbrev pub tenant_by : Option Name → Option Label → Option Kind
-tenant_by (Some t) (Some p) = Some (Tenant t p)
+tenant_by (Some t) (Some p) = Some (Sequential (Tenant t p))
 tenant_by (Some t) None = None
 tenant_by None p = None
 
@@ -125,9 +126,9 @@ abbrev pub kind_met : Text × List Row → Option Kind
 kind_met met =
     if bytes_eq met.0 (codes "tenant")
     then tenant_by (option_and_then name_in (first_of (codes "tenant") met.1)) (option_and_then label_in (first_of (codes "label") met.1))
-    else if bytes_eq met.0 (codes "audit") then Some Audit
+    else if bytes_eq met.0 (codes "audit") then Some (Sequential Audit)
     else if bytes_eq met.0 (codes "live") then live_met met.1
-    else Some Run
+    else Some (Sequential Run)
 
 -- what the words ask for
 abbrev pub kind_of : List Text → Option Kind

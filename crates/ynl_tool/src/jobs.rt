@@ -1,31 +1,36 @@
 //! Doing a job.
 
-ghost use Rattle.std.specs.Prelude.{◌≡◌};
+ghost use Rattle.std.specs.Prelude.{◌≡◌, Ok, IfOk, IfErr, true};
+ghost use Rattle.ynl_config.specs.Meaning.{config_of};
 ghost use Rattle.ynl_model.specs.Accepted.{is_accepted};
 ghost use Rattle.ynl_tool.specs.Input.{between};
 ghost use Rattle.ynl_tool.specs.Lines.{AppendsFront};
-ghost use Rattle.ynl_tool.specs.Jobs.{error_line, config_line, refusal_line, status_of, DoesJob, DoesText, Executes};
+ghost use Rattle.ynl_tool.specs.Jobs.{error_line, config_line, refusal_line, status_by, status_of, DoesSequentialJob, DoesText, EndsWithout, Executes, Tells};
 
 use crate::audit::audit_lines;
 use crate::lines_out::{write_text, write_three};
 use crate::live::{FreeGate, live_lines};
+use crate::live_words::Workers;
 use crate::run::{Summary, ToolFault, run_lines};
 use crate::tenant::tenant_lines;
-use crate::words::Kind;
+use crate::words::{Kind, SequentialKind};
 use std::alloc::Global;
 use std::io::{BufRead, Write};
 use std::sync::Wait;
 use std::thread::Threads;
+use thiserror::Error;
 use ynl_config::{ConfigFault, read_config};
 use ynl_queues::Config;
 use ynl_view::sole;
 
 /// Why a job is not begun: nothing is read or written then.
-#[derive(Clone, Copy, Debug, PartialEq, Eq)]
+#[derive(Clone, Copy, Debug, PartialEq, Eq, Error)]
 pub enum JobRefusal {
     /// The text is no configuration.
+    #[error("no configuration: {0}")]
     Config(ConfigFault),
     /// The tenant is not alone on an exclusive partition of that label.
+    #[error("the tenant is not alone on the partition")]
     NotSole,
 }
 
@@ -67,23 +72,25 @@ fn tell_refusal<E: Write>(errors: &mut E, refusal: JobRefusal)
     }
 }
 
+/// How a job ends.
+type Ending = Result<Result<Summary, JobRefusal>, ToolFault>;
+
 /// Does the job with a cluster of this configuration.
-fn do_job<T: Threads + Wait + Sync, R: BufRead, W: Write>(
-    rt: &T,
+fn do_job<R: BufRead, W: Write>(
     alloc: Global,
-    kind: Kind,
+    kind: SequentialKind,
     config: Config,
     reader: &mut R,
     writer: &mut W,
-) -> Result<Result<Summary, JobRefusal>, ToolFault>
-    ensures { DoesJob (between (R.remaining reader.old) (R.remaining reader.new)) (between (W.contents writer.old) (W.contents writer.new)) (is_accepted config) kind config result }
+) -> Ending
+    ensures { DoesSequentialJob (between (R.remaining reader.old) (R.remaining reader.new)) (between (W.contents writer.old) (W.contents writer.new)) (is_accepted config) kind config result }
 {
     match kind {
-        Kind::Run => match run_lines(alloc, config, reader, writer) {
+        SequentialKind::Run => match run_lines(alloc, config, reader, writer) {
             Ok(summary) => Ok(Ok(summary)),
             Err(fault) => Err(fault),
         },
-        Kind::Tenant(tenant, label) => {
+        SequentialKind::Tenant(tenant, label) => {
             if !sole(&config, &tenant, &label) {
                 return Ok(Err(JobRefusal::NotSole));
             }
@@ -92,42 +99,100 @@ fn do_job<T: Threads + Wait + Sync, R: BufRead, W: Write>(
                 Err(fault) => Err(fault),
             }
         }
-        Kind::Audit => match audit_lines(alloc, config, reader, writer) {
+        SequentialKind::Audit => match audit_lines(alloc, config, reader, writer) {
             Ok(summary) => Ok(Ok(summary)),
             Err(fault) => Err(fault),
         },
-        Kind::Live(workers, rounds) => {
-            let count = workers.number();
-            match live_lines(rt, alloc, config, count, rounds, &FreeGate, reader, writer) {
-                Ok(summary) => Ok(Ok(summary)),
-                Err(fault) => Err(fault),
-            }
-        }
+    }
+}
+
+/// The configuration that a text means; or how a job ends that has none, since it is not begun then.
+fn read_job_config(alloc: Global, text: &[u8]) -> Result<Config, Ending>
+    ensures config { IfOk result (λ config. config_of text.now ≡ Ok config) }
+    ensures accepted { IfOk result (λ config. is_accepted config ≡ true) }
+    ensures none { IfErr result (λ ended. EndsWithout (config_of text.now) ended) }
+{
+    match read_config(alloc, text) {
+        Ok(Ok(config)) => Ok(config),
+        Ok(Err(fault)) => Err(Ok(Err(JobRefusal::Config(fault)))),
+        Err(_) => Err(Err(ToolFault::NoMemory)),
     }
 }
 
 /// Does the job with the configuration that a text means. Where it means none nothing is done.
-fn do_text<T: Threads + Wait + Sync, R: BufRead, W: Write>(
-    rt: &T,
+fn do_text<R: BufRead, W: Write>(
     alloc: Global,
-    kind: Kind,
+    kind: SequentialKind,
     text: &[u8],
     reader: &mut R,
     writer: &mut W,
-) -> Result<Result<Summary, JobRefusal>, ToolFault>
-    ensures { DoesText (between (R.remaining reader.old) (R.remaining reader.new)) (between (W.contents writer.old) (W.contents writer.new)) kind text.now result }
+) -> Ending
+    ensures { DoesText (between (R.remaining reader.old) (R.remaining reader.new)) (between (W.contents writer.old) (W.contents writer.new)) (Kind.Sequential kind) text.now result }
 {
-    match read_config(alloc, text) {
-        Ok(Ok(config)) => do_job(rt, alloc, kind, config, reader, writer),
-        Ok(Err(fault)) => Ok(Err(JobRefusal::Config(fault))),
-        Err(_) => Err(ToolFault::NoMemory),
+    match read_job_config(alloc, text) {
+        Ok(config) => do_job(alloc, kind, config, reader, writer),
+        Err(ended) => ended,
     }
 }
 
-/// Does the job with the configuration that the text means, and gives the exit status: 0, or 1 if
-/// the text means none or the tenant is not alone on the partition, as a line on `errors` tells, or if
-/// a line of the input had a fault; or 3 after a fault of reading, writing or memory or where the journal of
-/// a live scheduler is not closed, which a line on `errors` tells.
+/// The same of a live scheduler with so many workers and rounds.
+fn do_live_text<T: Threads + Wait + Sync, R: BufRead, W: Write>(
+    rt: &T,
+    alloc: Global,
+    workers: Workers,
+    rounds: u64,
+    text: &[u8],
+    reader: &mut R,
+    writer: &mut W,
+) -> Ending
+    ensures { DoesText (between (R.remaining reader.old) (R.remaining reader.new)) (between (W.contents writer.old) (W.contents writer.new)) (Kind.Live workers rounds) text.now result }
+{
+    let config = match read_job_config(alloc, text) {
+        Ok(config) => config,
+        Err(ended) => return ended,
+    };
+    let count = workers.number();
+    match live_lines(rt, alloc, config, count, rounds, &FreeGate, reader, writer) {
+        Ok(summary) => Ok(Ok(summary)),
+        Err(fault) => Err(fault),
+    }
+}
+
+/// Tells on `errors` what kept a job from its end, if anything did, and gives the exit status.
+fn tell_ending<E: Write>(errors: &mut E, ended: Ending) -> u8
+    ensures told { Tells (E.contents errors.old) (E.contents errors.new) ended }
+    ensures status { result ≡ status_by ended }
+{
+    match ended {
+        Ok(Ok(summary)) => status_of(summary),
+        Ok(Err(refusal)) => {
+            tell_refusal(errors, refusal);
+            1
+        }
+        Err(fault) => tell(errors, fault),
+    }
+}
+
+/// Does the job, which needs one thread, with the configuration that the text means, and gives the exit
+/// status: 0, or 1 if the text means none or the tenant is not alone on the partition, as a line on
+/// `errors` tells, or if a line of the input had a fault; or 3 after a fault of reading, writing or
+/// memory, which a line on `errors` tells. Each call returns, since it waits for no thread.
+pub fn execute_sequential<R: BufRead, W: Write, E: Write>(
+    alloc: Global,
+    kind: SequentialKind,
+    text: &[u8],
+    reader: &mut R,
+    writer: &mut W,
+    errors: &mut E,
+) -> u8
+    ensures { Executes (between (R.remaining reader.old) (R.remaining reader.new)) (between (W.contents writer.old) (W.contents writer.new)) (between (E.contents errors.old) (E.contents errors.new)) (Kind.Sequential kind) text.now result }
+{
+    let ended = do_text(alloc, kind, text, reader, writer);
+    tell_ending(errors, ended)
+}
+
+/// The same of a job of any kind. It may wait where the job is a live scheduler; its status is 3 also
+/// where the journal of that is not closed.
 pub fn execute<T: Threads + Wait + Sync, R: BufRead, W: Write, E: Write>(
     rt: &T,
     alloc: Global,
@@ -139,13 +204,12 @@ pub fn execute<T: Threads + Wait + Sync, R: BufRead, W: Write, E: Write>(
 ) -> u8
     ensures { Executes (between (R.remaining reader.old) (R.remaining reader.new)) (between (W.contents writer.old) (W.contents writer.new)) (between (E.contents errors.old) (E.contents errors.new)) kind text.now result }
 {
-    match do_text(rt, alloc, kind, text, reader, writer) {
-        Ok(Ok(summary)) => status_of(summary),
-        Ok(Err(refusal)) => {
-            tell_refusal(errors, refusal);
-            1
+    match kind {
+        Kind::Sequential(kind) => execute_sequential(alloc, kind, text, reader, writer, errors),
+        Kind::Live(workers, rounds) => {
+            let ended = do_live_text(rt, alloc, workers, rounds, text, reader, writer);
+            tell_ending(errors, ended)
         }
-        Err(fault) => tell(errors, fault),
     }
 }
 

@@ -4,13 +4,13 @@
 
 pub use audit::audit_lines;
 pub use config_text::{fault_of, read_text};
-pub use jobs::{execute, tell};
+pub use jobs::{execute, execute_sequential, tell};
 pub use live::live_lines;
 pub use live_words::Workers;
 pub use run::{Summary, ToolFault, run_lines};
 pub use script_in::{Script, read_script};
 pub use tenant::tenant_lines;
-pub use words::{Job, Kind, WordsFault, parse_words};
+pub use words::{Job, Kind, SequentialKind, WordsFault, parse_words};
 pub use ynl_config::BUILT_IN;
 
 mod audit;

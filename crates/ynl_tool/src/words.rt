@@ -17,19 +17,27 @@ ghost use Rattle.ynl_tool.specs.declared.words.WordsFault.TheVariants.{Words, Ba
 
 use crate::live_words::{Workers, live_command, live_kind};
 use clap::error::ErrorKind;
-use clap::{Arg, ArgMatches, Command, Error};
+use clap::{Arg, ArgMatches, Command};
 use std::alloc::{AllocError, Global};
+use thiserror::Error;
 use ynl_resource::{Label, Name};
 
-/// What the program is asked to do.
+/// What the program is asked to do on one thread: such a job waits for nothing but its input.
 #[derive(Clone, Copy, PartialEq, Eq)]
-pub enum Kind {
+pub enum SequentialKind {
     /// To answer the events of an input.
     Run,
     /// To tell a tenant what the partition of a label sees of an input.
     Tenant(Name, Label),
     /// To audit the journal that an input is.
     Audit,
+}
+
+/// What the program is asked to do.
+#[derive(Clone, Copy, PartialEq, Eq)]
+pub enum Kind {
+    /// A job that needs one thread.
+    Sequential(SequentialKind),
     /// To run so many workers over the nodes that an input leaves, for so many rounds.
     Live(Workers, u64),
 }
@@ -43,13 +51,16 @@ pub struct Job<'a> {
 }
 
 /// Why the words give no job.
-#[derive(Debug, Drop)]
+#[derive(Debug, Drop, Error)]
 pub enum WordsFault {
     /// They are wrong, or ask for help. The error's text is what the user is to read.
-    Words(Error),
+    #[error(transparent)]
+    Words(clap::Error),
     /// The tenant is no name, or the label is none.
+    #[error("the tenant is no name, or the label is none")]
     BadName,
     /// Memory was refused.
+    #[error("out of memory")]
     NoMemory,
 }
 
@@ -64,7 +75,7 @@ impl From<AllocError> for WordsFault {
     }
 }
 
-impl From<Error> for WordsFault {
+impl From<clap::Error> for WordsFault {
     ghost use Rattle.std.specs.Prelude.{◌≡◌, ◌≢◌, ◌⊎◌};
     ghost use Rattle.clap.specs.Values.{kind_of};
     ghost use Rattle.clap.specs.declared.error.kind.ErrorKind.TheVariants.{OutOfMemory};
@@ -72,7 +83,7 @@ impl From<Error> for WordsFault {
 
     ghost from_gives = { λ error e. ((kind_of error ≡ OutOfMemory) × (e ≡ NoMemory)) ⊎ ((kind_of error ≢ OutOfMemory) × (e ≡ Words error)) };
 
-    fn from(error: Error) -> WordsFault {
+    fn from(error: clap::Error) -> WordsFault {
         if error.kind() == ErrorKind::OutOfMemory {
             return WordsFault::NoMemory;
         }
@@ -349,15 +360,15 @@ fn kind_of(subcommand: &str, options: &ArgMatches<'_>) -> Option<Kind>
     if subcommand == "tenant" {
         let tenant = name_in(options.get_str("tenant"))?;
         let label = label_in(options.get_str("label"))?;
-        return Some(Kind::Tenant(tenant, label));
+        return Some(Kind::Sequential(SequentialKind::Tenant(tenant, label)));
     }
     if subcommand == "audit" {
-        return Some(Kind::Audit);
+        return Some(Kind::Sequential(SequentialKind::Audit));
     }
     if subcommand == "live" {
         return live_kind(options);
     }
-    Some(Kind::Run)
+    Some(Kind::Sequential(SequentialKind::Run))
 }
 
 /// The job that the words ask for, with the file that `--config` names. The first word is the program's

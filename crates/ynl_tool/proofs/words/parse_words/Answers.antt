@@ -8,7 +8,8 @@ use Rattle.clap.specs.declared.error.Error.{Error}
 use Rattle.clap.specs.Takes.{takes}
 use Rattle.clap.specs.Words.{found_of, is_simple, rows_of, subcommand_of}
 use Rattle.clap.proofs.WalkLemmas.{first_value-rows}
-use Rattle.ynl_tool.specs.declared.words.Kind.TheVariants.{Run}
+use Rattle.ynl_tool.specs.declared.words.Kind.TheVariants.{Sequential}
+use Rattle.ynl_tool.specs.declared.words.SequentialKind.TheVariants.{Run}
 use Rattle.ynl_tool.specs.Words.{command, kind_met, file_met}
 use Rattle.ynl_tool.proofs.Commands.{taken, command_simple, command_free, wants_memory, told_by_kind, asks_run, met_is}
 use Rattle.ynl_tool.proofs.words.parse_words.Goals as goal
@@ -51,7 +52,7 @@ returns-in_default-clause-run c = λ same.
     let met = (c.in_ok-matches.ensures.matches (ap is_simple c.in_ok-command.ensures.app ∙ command_simple)).1 ∙ ap (λ a. subcommand_of a words) c.in_ok-command.ensures.app in
     let is = met_is _ c.in-Some.name.now (rows_of (found_of c.in-Some.options.now)) c.in-Some.ensures.name c.in-Some.ensures.rows in
     let none : c.kind_of.result ≡ None = search rules in
-    let asked : None ≡ Some Run = sym none ∙ c.kind_of.ensures ∙ ap (option_and_then kind_met) (sym is ∙ met) ∙ asks_run words same in
+    let asked : None ≡ Some (Sequential Run) = sym none ∙ c.kind_of.ensures ∙ ap (option_and_then kind_met) (sym is ∙ met) ∙ asks_run words same in
     absurd (cc)
 
 pub returns-clause-file : goal.returns-clause-file
