@@ -2,7 +2,7 @@
 
 use std::alloc::Global;
 use std::io;
-use std::io::{BufReader, Read, Write};
+use std::io::{BufRead, BufReader, Read, Write};
 use std::process::Abort;
 use std::sync::Wait;
 use std::test::Fail;
@@ -181,6 +181,60 @@ fn answers_before_a_read_fault_at_any_byte(rt: HostRuntime) -> Result<(), Fail> 
         let ended = run_lines(alloc, built_in(alloc)?, &mut reader, &mut writer);
         assert!(rt; ended == Err(ToolFault::Read), "{end}");
         assert!(rt; are_replies_to(front, &replies, &writer.taken), "{end}");
+    }
+    Ok(())
+}
+
+/// Shows all of its bytes, but fails at one look, the first that is not counted. At the next look it shows them
+/// again.
+#[derive(Drop)]
+struct FailsOnce<'a> {
+    left: &'a [u8],
+    looks: u64,
+}
+
+impl Read for FailsOnce<'_> {
+    fn read(&mut self, buf: &mut [u8]) -> io::Result<usize> {
+        let n = self.left.len().min(buf.len());
+        let (front, rest) = self.left.split_at(n);
+        buf[..n].copy_from_slice(front);
+        self.left = rest;
+        Ok(n)
+    }
+}
+
+impl BufRead for FailsOnce<'_> {
+    fn fill_buf(&mut self) -> io::Result<&[u8]> {
+        let fails = self.looks == 0;
+        self.looks = self.looks.wrapping_sub(1);
+        if fails {
+            return Err(io::Error::from(io::ErrorKind::Other));
+        }
+        Ok(self.left)
+    }
+
+    fn consume(&mut self, amount: usize) {
+        let n = amount.min(self.left.len());
+        self.left = &self.left[n..];
+    }
+}
+
+// Each look takes a line, the last one the end. That an error ends the run no contract says, since none names
+// what a reader fails with: also an error that is met while replies are held back.
+#[test]
+fn ends_where_a_reader_fails_once(rt: HostRuntime) -> Result<(), Fail> {
+    let alloc = rt.alloc();
+    let replies = all_replies(alloc)?;
+    for looks in 0..=lines(ALL_KINDS) {
+        let mut reader = FailsOnce {
+            left: ALL_KINDS,
+            looks: looks as u64,
+        };
+        let mut writer = Sink::new(Vec::new(alloc));
+        let ended = run_lines(alloc, built_in(alloc)?, &mut reader, &mut writer);
+        assert!(rt; ended == Err(ToolFault::Read), "{looks}");
+        assert!(rt; replies.starts_with(&writer.taken), "{looks}");
+        assert!(rt; lines(&writer.taken) == looks, "{looks}");
     }
     Ok(())
 }

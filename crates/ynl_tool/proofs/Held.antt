@@ -1,5 +1,5 @@
 -- The run of an input, a line after another, while text of it is held back.
-use Rattle.std.proofs.Common.{◌≡◌, inl, inr, ℕ, List, [], ◌++◌, Bool, true, false, Option, None, Ok, Err, subst, refl, sym, ap, ◌∙◌, append_assoc, append-nil}
+use Rattle.std.proofs.Common.{◌≡◌, inl, inr, ℕ, List, [], ◌++◌, Bool, true, false, Option, None, Err, subst, refl, sym, ap, ◌∙◌, append_assoc, append-nil}
 use Rattle.std.specs.Io.KnownBytes.{Appends, Consumes}
 use Rattle.std.proofs.KnownBytes.{Appends-nil, Appends-trans}
 use Rattle.ynl_model.specs.declared.events.Event.{Event}
@@ -8,20 +8,16 @@ use Rattle.ynl_model.specs.Cluster.{State}
 use Rattle.ynl_model.specs.Events.{after}
 use Rattle.ynl_core.specs.World.{World}
 use Rattle.ynl_tool.specs.declared.lines_in.Lines.{Lines}
-use Rattle.ynl_tool.specs.declared.lines_in.Next.{Next}
-use Rattle.ynl_tool.specs.declared.lines_in.Next.TheVariants as next
-use Rattle.ynl_tool.specs.declared.lines_in.ReadFault.{ReadFault}
-use Rattle.ynl_tool.specs.declared.lines_in.ReadFault.TheVariants as reading
 use Rattle.ynl_tool.specs.declared.run.ToolFault.{ToolFault}
 use Rattle.ynl_tool.specs.declared.run.ToolFault.TheVariants.{Read, Write, NoMemory, Unclosed}
-use Rattle.ynl_tool.specs.Input.{Stream, between, limit, MetEnd, ReadsLines, IsComplete, lines_left, TakesLine, BreaksOff, Takes, KeepsPlace}
-use Rattle.ynl_tool.specs.Lines.{tool_fault, AppendsFront, AppendsPart}
+use Rattle.ynl_tool.specs.Input.{Stream, between, limit, MetEnd, ReadsLines, IsComplete, lines_left, TakesLine}
+use Rattle.ynl_tool.specs.Lines.{AppendsFront, AppendsPart}
 use Rattle.ynl_tool.specs.Readings.{reading_of}
 use Rattle.ynl_tool.specs.Script.{part, script_way}
 use Rattle.ynl_tool.specs.Run.{replies_text, answers_to, run_of}
-use Rattle.ynl_tool.specs.Running.{IsAnswered, Released, HoldsOn, GoesOn, Stops}
+use Rattle.ynl_tool.specs.Running.{IsAnswered, HoldsOn, GoesOn, Stops}
 use Rattle.ynl_tool.proofs.Fronts.{part_after, part_of_more}
-use Rattle.ynl_tool.proofs.Inputs.{of_input, line_met_end, line_complete, takes_after, breaks_after}
+use Rattle.ynl_tool.proofs.Inputs.{of_input, line_met_end, line_complete}
 use Rattle.ynl_tool.proofs.Readings.{ReadSoFar, at_first, reads_on, reads_rest, none_reads, none_complete, still_met_end, line_reads, took}
 use Rattle.ynl_tool.proofs.Scripts.{adds_events, script, as_after}
 use Rattle.ynl_tool.proofs.Runs.{RunSoFar, reading_stops, text_of_more, after_more, answers_after}
@@ -56,7 +52,7 @@ module _ (a b d w v u : Option (List ℕ)) (c : Config) (s : State) (l l' : Line
   }
 
   -- it is as it was, or it is written
-  pub holds_on : (kept : List ℕ) → HoldsOn (between v u) held kept → HeldSoFar (between a b) (between w u) c s l core kept
+  pub holds_on : (kept : List ℕ) → HoldsOn (between v u) l held kept → HeldSoFar (between a b) (between w u) c s l core kept
   holds_on kept (inl h) = record {
     events = so.events;
     read = so.read;
@@ -135,18 +131,3 @@ module _ (a b d w v u : Option (List ℕ)) (c : Config) (s : State) (l l' : Line
               ∙ sym (text_of_more c s es fs);
           now = done.1 ∙ ap (λ k. record { config = c; state = k }) (sym (after_more c s es fs));
         }
-
--- ---- one step on
-
--- a look took nothing, and the text that was held back was written
-module _ (a b d v u : Option (List ℕ)) (l k l' : Lines) (held kept : List ℕ) (place : KeepsPlace (between a b) l k) where
-  -- then a read
-  pub then_next : (next : Next) → Takes (between b d) k l' next → Released (between v u) held kept → GoesOn (between a d) (between v u) l l' held kept (Ok next)
-  then_next next.Line t wrote = (takes_after a b d l k l' place next.Line t, inr wrote)
-  then_next next.TooLong t wrote = (takes_after a b d l k l' place next.TooLong t, wrote)
-  then_next next.End t wrote = (takes_after a b d l k l' place next.End t, wrote)
-
-  -- then a read failed
-  pub then_broken : (fault : ReadFault) → BreaksOff (between b d) k → Appends v u held → GoesOn (between a d) (between v u) l l' held kept (Err (tool_fault fault))
-  then_broken reading.Read t wrote = (breaks_after a b d l k l' place t, wrote)
-  then_broken reading.NoMemory t wrote = (breaks_after a b d l k l' place t, wrote)

@@ -3,13 +3,11 @@ use Rattle.std.proofs.Common.{◌≡◌, ◌≢◌, ◌⊎◌, inl, inr, ℕ, su
 use Rattle.std.proofs.lemmas.List.{take_at}
 use Rattle.std.proofs.lemmas.List.Elements.{All-nil, All-head, All-tail, All-take}
 use Rattle.std.specs.Io.KnownBytes.{Consumes, IsAtEnd}
-use Rattle.std.proofs.KnownBytes.{Consumes-nil, Consumes-trans}
+use Rattle.std.proofs.KnownBytes.{Consumes-trans}
 use Rattle.ynl_tool.specs.declared.lines_in.LineEnd.TheVariants as end
 use Rattle.ynl_tool.specs.declared.lines_in.Lines.{Lines}
-use Rattle.ynl_tool.specs.declared.lines_in.Next.{Next}
-use Rattle.ynl_tool.specs.declared.lines_in.Next.TheVariants as next
 use Rattle.ynl_tool.specs.Lines.{IsPlain, GivesLine}
-use Rattle.ynl_tool.specs.Input.{Line, whole, too_long, onto, lines_within, limit, Stream, between, MetEnd, EndsLine, IsOneLine, ReadsLines, lines_left, MayFollow, TakesLine, TakesTooLong, TakesNone, BreaksOff, Takes, KeepsPlace, EndsBy}
+use Rattle.ynl_tool.specs.Input.{Line, whole, too_long, onto, lines_within, limit, Stream, between, MetEnd, EndsLine, IsOneLine, ReadsLines, lines_left, MayFollow, TakesLine, TakesTooLong, TakesNone, EndsBy}
 
 -- ---- the lines of bytes
 
@@ -313,64 +311,3 @@ module _ (a b d : Option (List ℕ)) (l l' : Lines) (done : List Line) (far : So
       by : (closed : Bool) → l.at_end ≡ closed → MetEnd (between a d)
       by true closed = still_at_end a b d (far.bytes ++ far.last) far.read (far.ended closed) t.read
       by false ongoing = end_of_all a b d far.bytes (read_whole ongoing) (t.ended ongoing)
-
--- ---- after a look that took nothing
-
-module _ (a b d : Option (List ℕ)) (l k l' : Lines) (kept : KeepsPlace (between a b) l k) where
-  same_left : (bytes : List ℕ) → lines_left l bytes ≡ lines_left k bytes
-  same_left bytes = ap (λ e. cond e [] (lines_within bytes l.budget)) (sym kept.at_end) ∙ ap (λ n. cond k.at_end [] (lines_within bytes n)) (sym kept.budget)
-
-  same_end : (bytes : List ℕ) → EndsBy (between b d) bytes l' → EndsBy (between a d) bytes l'
-  same_end bytes (inl h) = inl h
-  same_end bytes (inr h) = inr (end_of_all a b d [] kept.read h.0, h.1)
-
-  line_after : TakesLine (between b d) k l' → TakesLine (between a d) l l'
-  line_after t = record {
-    bytes = t.bytes;
-    ongoing = sym kept.at_end ∙ t.ongoing;
-    one_line = t.one_line;
-    read = Consumes-trans a b d [] t.bytes kept.read t.read;
-    some = t.some;
-    plain = t.plain;
-    used = t.used ∙ kept.budget;
-    count = t.count ∙ ap (λ n. n + 1) kept.count;
-    ended = same_end t.bytes t.ended;
-    first = λ rest may. same_left (t.bytes ++ rest) ∙ t.first rest may;
-  }
-
-  long_after : TakesTooLong (between b d) k l' → TakesTooLong (between a d) l l'
-  long_after t = record {
-    bytes = t.bytes;
-    ongoing = sym kept.at_end ∙ t.ongoing;
-    one_line = t.one_line;
-    read = Consumes-trans a b d [] t.bytes kept.read t.read;
-    full = t.full ∙ ap (λ n. n + 1) kept.budget;
-    count = t.count ∙ ap (λ n. n + 1) kept.count;
-    first = λ rest. same_left (t.bytes ++ rest) ∙ t.first rest;
-  }
-
-  none_after : TakesNone (between b d) k l' → TakesNone (between a d) l l'
-  none_after t = record {
-    read = Consumes-trans a b d [] [] kept.read t.read;
-    count = t.count ∙ kept.count;
-    ended = λ ongoing. end_of_all a b d [] kept.read (t.ended (kept.at_end ∙ ongoing));
-  }
-
-  -- what came next is what comes next
-  pub takes_after : (next : Next) → Takes (between b d) k l' next → Takes (between a d) l l' next
-  takes_after next.Line t = line_after t
-  takes_after next.TooLong t = long_after t
-  takes_after next.End t = none_after t
-
-  pub breaks_after : BreaksOff (between b d) k → BreaksOff (between a d) l
-  breaks_after t = record {
-    bytes = t.bytes;
-    ongoing = sym kept.at_end ∙ t.ongoing;
-    plain = t.plain;
-    read = Consumes-trans a b d [] t.bytes kept.read t.read;
-    fits = let fits = t.fits in let same = kept.budget in omega (arith, fits, same);
-  }
-
--- where no look was taken
-abbrev pub in_place : (a : Option (List ℕ)) (l : Lines) → KeepsPlace (between a a) l l
-in_place a l = record { read = Consumes-nil a; count = refl; budget = refl; at_end = refl }

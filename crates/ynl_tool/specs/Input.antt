@@ -133,14 +133,20 @@ Takes reader old new next.Line = TakesLine reader old new
 Takes reader old new next.TooLong = TakesTooLong reader old new
 Takes reader old new next.End = TakesNone reader old new
 
--- Nothing was read, and the same lines are left.
+-- Nothing was read, since no whole line is shown, and the same lines are left.
 pub record KeepsPlace (reader : Stream) (old new : Lines) : Type 0 where
   pub read : Consumes reader.before reader.after []
   pub count : new.count ≡ old.count
   pub budget : new.budget ≡ old.budget
   pub at_end : new.at_end ≡ old.at_end
+  pub shown : old.at_end ≡ false → new.shows_more ≡ false
 
--- a line was taken, or nothing was
+-- a line was taken of what was shown, or nothing was
 abbrev pub TakesAtHand : Stream → Lines → Lines → Bool → Type 0
-TakesAtHand reader old new true = TakesLine reader old new
+TakesAtHand reader old new true = (old.shows_more ≡ true) × TakesLine reader old new
 TakesAtHand reader old new false = KeepsPlace reader old new
+
+-- An error was met before anything was read.
+pub record FailsAtOnce (reader : Stream) (old : Lines) : Type 0 where
+  pub ongoing : old.at_end ≡ false
+  pub read : Consumes reader.before reader.after []

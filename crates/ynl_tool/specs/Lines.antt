@@ -1,5 +1,5 @@
 -- What reading a line and writing a text do to the bytes of a reader and a writer.
-use Rattle.std.specs.Prelude.{◌≡◌, ◌≢◌, ℕ, ◌<◌, ◌≤◌, List, [], ◌∷◌, ◌++◌, length, take, All, Option, Some, None, OnSome, Result, Ok, Err}
+use Rattle.std.specs.Prelude.{◌≡◌, ◌≢◌, ℕ, ◌<◌, ◌≤◌, List, [], ◌∷◌, ◌++◌, length, take, All, Bool, true, Option, Some, None, OnSome, Result, Ok, Err}
 use Rattle.std.specs.Io.KnownBytes.{Consumes, IsAtEnd, Appends}
 use Rattle.ynl_tool.specs.declared.lines_in.LineEnd.{LineEnd}
 use Rattle.ynl_tool.specs.declared.lines_in.LineEnd.TheVariants.{Newline, Input, Budget}
@@ -48,6 +48,10 @@ pub record AddsShown (shown before after : List ℕ) (budget : ℕ) (r : Result 
 -- an error of this kind is told, and the line is as it was
 abbrev pub FailsAs : ErrorKind → List ℕ → List ℕ → Result Taken ReadFault → Type 0
 FailsAs kind before after r = (r ≡ Err (read_fault kind)) × (after ≡ before)
+
+-- more is noted only where the newline was taken, and bytes were shown behind it
+abbrev pub ShowsBeyond : List ℕ → Taken → Bool → Type 0
+ShowsBeyond shown taken more = more ≡ true → (taken.end ≡ Some Newline) × (taken.count < length shown)
 
 -- The reader gave these bytes of the line, which has n bytes now, and what ended the line.
 abbrev pub Ends : Option (List ℕ) → Option (List ℕ) → List ℕ → ℕ → ℕ → Option LineEnd → Type 0

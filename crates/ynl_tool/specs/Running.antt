@@ -1,5 +1,5 @@
 -- What a run does to its reader and its writer.
-use Rattle.std.specs.Prelude.{◌≡◌, ◌⊎◌, ℕ, List, [], ◌∷◌, ◌++◌, Option, Some, None, IfSome, Result, Ok, Err, IfOk}
+use Rattle.std.specs.Prelude.{◌≡◌, ◌⊎◌, ℕ, ◌<◌, List, [], ◌∷◌, ◌++◌, length, Option, Some, None, IfSome, Result, Ok, Err, IfOk, true}
 use Rattle.std.specs.Io.KnownBytes.{Appends, Consumes}
 use Rattle.ynl_model.specs.declared.events.Event.{Event}
 use Rattle.ynl_model.specs.Queues.{Config}
@@ -13,7 +13,7 @@ use Rattle.ynl_tool.specs.declared.run.Summary.{Summary}
 use Rattle.ynl_tool.specs.declared.lines_in.Lines.{Lines}
 use Rattle.ynl_tool.specs.declared.lines_in.Next.{Next}
 use Rattle.ynl_tool.specs.declared.lines_in.Next.TheVariants as next
-use Rattle.ynl_tool.specs.Input.{Stream, TakesLine, TakesTooLong, TakesNone, BreaksOff}
+use Rattle.ynl_tool.specs.Input.{Stream, Takes, TakesLine, BreaksOff}
 use Rattle.ynl_tool.specs.Lines.{AppendsFront, AppendsPart}
 use Rattle.ynl_tool.specs.Readings.{ReadsTo, ReadsSome}
 use Rattle.ynl_tool.specs.Script.{Script, part, script_way}
@@ -45,19 +45,28 @@ Holds old new c s next line (Err e) = new ≡ old
 abbrev pub Released : Stream → List ℕ → List ℕ → Type 0
 Released writer old new = Appends writer.before writer.after old × (new ≡ [])
 
--- the text that is held back is as it was, and nothing was written; or it was written
-abbrev pub HoldsOn : Stream → List ℕ → List ℕ → Type 0
-HoldsOn writer old new = ((writer.after ≡ writer.before) × (new ≡ old)) ⊎ Released writer old new
+-- how long the text may get that is held back, in bytes, before it is written ahead of the next line
+abbrev pub held_limit : ℕ
+held_limit = 65536
 
--- A line was taken; or none is left, and all text is written. A write fails before anything is read, and a read once all text is written.
+-- the text that is held back is as it was, since the reader showed more than the line before, and nothing was written; or it was written
+abbrev pub HoldsOn : Stream → Lines → List ℕ → List ℕ → Type 0
+HoldsOn writer lines old new = ((writer.after ≡ writer.before) × (new ≡ old) × (length old < held_limit) × (lines.shows_more ≡ true)) ⊎ Released writer old new
+
+-- The text was written, and then a line was read, or none is left. A write fails before anything is read, and a read once all text is written.
+abbrev pub ReadsOn : Stream → Stream → Lines → Lines → List ℕ → List ℕ → Result Next ToolFault → Type 0
+ReadsOn reader writer old new held kept (Ok next) = Takes reader old new next × Released writer held kept
+ReadsOn reader writer old new held kept (Err Write) = Consumes reader.before reader.after [] × AppendsPart writer.before writer.after held
+ReadsOn reader writer old new held kept (Err Read) = BreaksOff reader old × Appends writer.before writer.after held
+ReadsOn reader writer old new held kept (Err NoMemory) = BreaksOff reader old × Appends writer.before writer.after held
+ReadsOn reader writer old new held kept (Err Unclosed) = ⊥
+
+-- a line was taken while text is held back; or the text was written, and then the input read on
 abbrev pub GoesOn : Stream → Stream → Lines → Lines → List ℕ → List ℕ → Result Next ToolFault → Type 0
-GoesOn reader writer old new held kept (Ok next.Line) = TakesLine reader old new × HoldsOn writer held kept
-GoesOn reader writer old new held kept (Ok next.TooLong) = TakesTooLong reader old new × Released writer held kept
-GoesOn reader writer old new held kept (Ok next.End) = TakesNone reader old new × Released writer held kept
-GoesOn reader writer old new held kept (Err Write) = Consumes reader.before reader.after [] × AppendsPart writer.before writer.after held
-GoesOn reader writer old new held kept (Err Read) = BreaksOff reader old × Appends writer.before writer.after held
-GoesOn reader writer old new held kept (Err NoMemory) = BreaksOff reader old × Appends writer.before writer.after held
-GoesOn reader writer old new held kept (Err Unclosed) = ⊥
+GoesOn reader writer old new held kept (Ok next.Line) = TakesLine reader old new × HoldsOn writer old held kept
+GoesOn reader writer old new held kept (Ok next.TooLong) = ReadsOn reader writer old new held kept (Ok next.TooLong)
+GoesOn reader writer old new held kept (Ok next.End) = ReadsOn reader writer old new held kept (Ok next.End)
+GoesOn reader writer old new held kept (Err e) = ReadsOn reader writer old new held kept (Err e)
 
 -- what ends a job was written
 abbrev pub Writes : Option (List ℕ) → Option (List ℕ) → Outcome → Result Summary ToolFault → Type 0
@@ -88,8 +97,9 @@ pub record RunsTo (reader writer : Stream) (c : Config) (s : State) (summary : S
   pub ran : IsRunOf writer c s summary (read.lines.bytes ++ read.lines.last)
   pub input : IfSome reader.before (IsRunOf writer c s summary)
 
--- Whole lines without a fault were read, and then one line at most. The run wrote the text of the lines before that one, and of
--- that one a front if a write failed, and else nothing: a front of the text of the whole input.
+-- Whole lines without a fault were read, and then one line at most. After a read fault, or where memory was refused, the run wrote the
+-- text of the lines before that one; after a write fault a front of the text of all that was read, which may end before that line. Both
+-- are a front of the text of the whole input.
 pub record Stops (reader writer : Stream) (c : Config) (s : State) (e : ToolFault) : Type 0 where
   pub read : ReadsSome script_way reader e
   pub written : LeavesMore writer (run_of c s read.lines.bytes).text (run_of c s (read.lines.bytes ++ read.lines.last)).text e

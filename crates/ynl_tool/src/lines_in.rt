@@ -1,14 +1,15 @@
 //! The lines of an input, read one after another up to a limit of bytes.
 
-ghost use Rattle.std.specs.Prelude.{◌≡◌, ◌≢◌, ◌+◌, ◌<◌, ◌≤◌, All, IfOk, IfErr, false, length, take, vec_len, slice_index};
+ghost use Rattle.std.specs.Prelude.{◌≡◌, ◌≢◌, ◌+◌, ◌<◌, ◌≤◌, All, IfOk, IfErr, OnErr, false, length, take, vec_len, slice_index};
 ghost use Rattle.std.specs.IoError.{error_kind};
-ghost use Rattle.ynl_tool.specs.Input.{between, is_blank, limit, BreaksOff, Takes, TakesAtHand};
-ghost use Rattle.ynl_tool.specs.Lines.{read_fault, AddsShown, FailsAs, GivesPiece, GivesLine};
+ghost use Rattle.ynl_tool.specs.Input.{between, is_blank, limit, BreaksOff, FailsAtOnce, Takes, TakesAtHand};
+ghost use Rattle.ynl_tool.specs.Lines.{read_fault, AddsShown, FailsAs, ShowsBeyond, GivesPiece, GivesLine};
 
 use memchr::memchr;
 use std::alloc::{AllocError, Global};
 use std::io;
 use std::io::{BufRead, ErrorKind};
+use thiserror::Error;
 
 /// The byte that ends a line.
 const NEWLINE: u8 = 10;
@@ -28,11 +29,13 @@ pub enum LineEnd {
 }
 
 /// Why a line could not be read.
-#[derive(Clone, Copy, Debug, PartialEq, Eq)]
+#[derive(Clone, Copy, Debug, PartialEq, Eq, Error)]
 pub enum ReadFault {
     /// The reader failed.
+    #[error("read fault")]
     Read,
     /// There was no memory for the line.
+    #[error("out of memory")]
     NoMemory,
 }
 
@@ -88,11 +91,14 @@ fn add_shown(
     requires { vec_len line.old ≤ budget }
     ensures shown { IfOk shown.entry (λ bytes. AddsShown bytes.now line.old.items line.new.items budget result) }
     ensures failed { IfErr shown.entry (λ error. FailsAs (error_kind error) line.old.items line.new.items result) }
+    ensures beyond { IfOk shown.entry (λ bytes. IfOk result (λ taken. ShowsBeyond bytes.now taken more.new)) }
+    ensures unseen { OnErr shown.entry (more.new ≡ more.old) }
 {
     let shown = match shown {
         Ok(shown) => shown,
         Err(error) => return Err(read_fault(&error)),
     };
+    *more = false;
     if shown.is_empty() {
         let end = Some(LineEnd::Input);
         return Ok(Taken { count: 0, end });
@@ -180,7 +186,7 @@ pub struct Lines {
     /// Whether the end was met. A reader is not asked again then, since a terminal would wait.
     at_end: bool,
     /// Whether the reader showed more beyond the line that was read last, so that a look at it needs no
-    /// waiting. A hint: no contract rests on it.
+    /// waiting.
     shows_more: bool,
 }
 
@@ -253,31 +259,30 @@ impl Lines {
     }
 
     /// Takes the next line if the reader shows the whole of it, with its newline, without reading more of
-    /// its input. Else nothing is taken: also where the reader fails or there is no memory for the line,
-    /// which `next` tells.
-    pub fn take_at_hand<R: BufRead>(&mut self, reader: &mut R) -> bool
+    /// its input. Else nothing is taken. A reader that showed no more before is not asked.
+    pub fn take_at_hand<R: BufRead>(&mut self, reader: &mut R) -> Result<bool, ReadFault>
         requires { self.old.count + self.old.budget ≤ limit }
-        ensures { TakesAtHand (between (R.remaining reader.old) (R.remaining reader.new)) self.old self.new result }
+        ensures taken { IfOk result (λ taken. TakesAtHand (between (R.remaining reader.old) (R.remaining reader.new)) self.old self.new taken) }
+        ensures broken { IfErr result (λ _. FailsAtOnce (between (R.remaining reader.old) (R.remaining reader.new)) self.old) }
+        ensures unasked { self.old.shows_more ≡ false → reader.new ≡ reader.old }
     {
         if self.at_end || !self.shows_more {
-            return false;
+            return Ok(false);
         }
         self.line.clear();
         let shown = reader.fill_buf();
-        let Ok(taken) = add_shown(shown, &mut self.line, self.budget, &mut self.shows_more) else {
-            return false;
-        };
+        let taken = add_shown(shown, &mut self.line, self.budget, &mut self.shows_more)?;
         let Some(end) = taken.end else {
-            return false;
+            return Ok(false);
         };
         match end {
             LineEnd::Newline => {
                 reader.consume(taken.count);
                 let bytes = self.length() + 1;
                 self.count_line(bytes);
-                true
+                Ok(true)
             }
-            _ => false,
+            _ => Ok(false),
         }
     }
 }

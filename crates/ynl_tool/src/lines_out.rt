@@ -5,9 +5,11 @@ ghost use Rattle.std.specs.Io.KnownBytes.{Appends};
 ghost use Rattle.ynl_tool.specs.Lines.{AppendsPart};
 
 use std::io::Write;
+use thiserror::Error;
 
 /// A write failed, or took no byte.
-#[derive(Clone, Copy, Debug, PartialEq, Eq)]
+#[derive(Clone, Copy, Debug, PartialEq, Eq, Error)]
+#[error("write fault")]
 pub struct WriteFault;
 
 /// Writes the text by single writes. What a fault leaves written is a front of the text, and not all

@@ -10,7 +10,7 @@ ghost use Rattle.ynl_model.specs.declared.events.Event.TheVariants.{Heartbeat};
 ghost use Rattle.ynl_tool.specs.Input.{between, is_blank, limit};
 ghost use Rattle.ynl_tool.specs.Lines.{AppendsPart};
 ghost use Rattle.ynl_tool.specs.Run.{faulty, line_of};
-ghost use Rattle.ynl_tool.specs.Running.{HoldsReply, Holds, GoesOn, Writes, Runs, RunsWhole};
+ghost use Rattle.ynl_tool.specs.Running.{HoldsReply, Holds, GoesOn, ReadsOn, Writes, Runs, RunsWhole};
 
 use crate::lines_in::{Lines, Next, ReadFault, is_blank};
 use crate::lines_out::{WriteFault, write_text};
@@ -217,8 +217,23 @@ fn write_held<W: Write>(writer: &mut W, held: &mut Vec<u8>) -> Result<(), WriteF
     Ok(())
 }
 
+/// Writes the text that is held back, and then reads the next line.
+fn read_on<R: BufRead, W: Write>(
+    input: &mut Lines,
+    reader: &mut R,
+    held: &mut Vec<u8>,
+    writer: &mut W,
+) -> Result<Next, ToolFault>
+    requires { input.old.count + input.old.budget ≤ limit }
+    ensures { ReadsOn (between (R.remaining reader.old) (R.remaining reader.new)) (between (W.contents writer.old) (W.contents writer.new)) input.old input.new held.old.items held.new.items result }
+{
+    write_held(writer, held)?;
+    Ok(input.next(reader)?)
+}
+
 /// Reads the next line. Before more of the input is read the text that is held back is written, so that
-/// nobody waits for a reply while the reader waits for input.
+/// nobody waits for a reply while the reader waits for input. It is also written before a fault of the
+/// reader is told.
 fn go_on<R: BufRead, W: Write>(
     input: &mut Lines,
     reader: &mut R,
@@ -228,11 +243,17 @@ fn go_on<R: BufRead, W: Write>(
     requires { input.old.count + input.old.budget ≤ limit }
     ensures { GoesOn (between (R.remaining reader.old) (R.remaining reader.new)) (between (W.contents writer.old) (W.contents writer.new)) input.old input.new held.old.items held.new.items result }
 {
-    if held.len() < HELD && input.take_at_hand(reader) {
-        return Ok(Next::Line);
+    if held.len() >= HELD {
+        return read_on(input, reader, held, writer);
     }
-    write_held(writer, held)?;
-    Ok(input.next(reader)?)
+    match input.take_at_hand(reader) {
+        Ok(true) => Ok(Next::Line),
+        Ok(false) => read_on(input, reader, held, writer),
+        Err(fault) => {
+            write_text(writer, held)?;
+            Err(ToolFault::from(fault))
+        }
+    }
 }
 
 /// Answers the lines of the reader, to its end or to the first line with a fault.
@@ -307,8 +328,8 @@ pub fn report<W: Write>(
 /// written before more of its input is read. An input of more than 67,108,864 bytes has a fault in the
 /// line where it gets too long.
 ///
-/// At an error what is written is the text of the lines before: and if the writer failed, perhaps
-/// a front of the text of one line more.
+/// After a read fault, or where memory is refused, what is written is the text of the lines before. After
+/// a write fault it is a front of the text of all lines that were read, which may end before the last.
 pub fn run_lines<R: BufRead, W: Write>(
     alloc: Global,
     config: Config,
