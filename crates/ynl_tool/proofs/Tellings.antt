@@ -30,7 +30,7 @@ use Rattle.ynl_tool.specs.Run.{line_of, faulty, fault_lines_of, fault_lines}
 use Rattle.ynl_tool.specs.Running.{Writes}
 use Rattle.ynl_tool.specs.Readings.{ReadsTo}
 use Rattle.ynl_tool.specs.Script.{Script, script_way, script_of}
-use Rattle.ynl_tool.specs.Telling.{entry_line, lines_from, seen_lines_from, sight_lines, stepped_by, view_lines, tenant_lines, AppendsLines, IsOpened, LeavesLine, LeavesLines, MovesOn, SaysLines, TellsSight, IsToldOf, TellsAll, TellsWhole, TellsTenant}
+use Rattle.ynl_tool.specs.Telling.{lines_from, seen_lines_from, sight_lines, stepped_by, view_lines, tenant_lines, AppendsLines, IsOpened, LeavesLine, LeavesLines, MovesOn, SaysLines, TellsSight, IsToldOf, TellsAll, TellsWhole, TellsTenant}
 use Rattle.ynl_tool.proofs.Fronts.{part_of_more, part_after}
 use Rattle.ynl_tool.proofs.Keepings.{NextKept, next_kept, after_line, none_kept}
 use Rattle.ynl_tool.proofs.Runs.{of_some}
@@ -208,13 +208,13 @@ module _ (reader : Stream) (w0 w1 : Option (List ℕ)) (c : Config) (t : Name) (
       written = written;
       lines = lines;
       fault = fault;
-      same = λ is. (is_isolated c s.made t p (known is) sole).replies;
+      same = λ is. is_isolated c s.made t p (known is) sole;
       input = of_some reader.before (λ input. s ≡ script_of input) (IsToldOf (between w0 w1) accepted c t p summary)
           (λ input is. record {
             written = subst (λ (k : Script). Appends w0 w1 (concat (tenant_lines c t p k))) is written;
             lines = lines ∙ ap (λ (k : Script). k.lines) is;
             fault = fault ∙ ap (λ (k : Script). option_map InScript k.fault) is;
-            same = λ is. (is_isolated c (script_of input).made t p (known is) sole).replies;
+            same = λ is. is_isolated c (script_of input).made t p (known is) sole;
           })
           read.input;
     }

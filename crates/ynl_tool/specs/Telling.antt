@@ -10,7 +10,7 @@ use Rattle.ynl_model.specs.declared.nodes.Tracked.{Tracked}
 use Rattle.ynl_model.specs.Queues.{Config}
 use Rattle.ynl_model.specs.Events.{step, replies, replies_to}
 use Rattle.ynl_model.specs.View.{Viewed, view, view_from, seen_of, track_step, events_of, places_of, restrict}
-use Rattle.ynl_model.specs.Promises.{HasSameReplies}
+use Rattle.ynl_model.specs.Promises.{Headline}
 use Rattle.ynl_core.specs.World.{World, opened, stepped}
 use Rattle.ynl_journal.specs.Journal.{entry}
 use Rattle.ynl_lines.specs.declared.faults.InputFault.TheVariants.{Script as InScript}
@@ -123,9 +123,10 @@ TellsSight old new c t p before after place e (Err f) = LeavesLines old new (sig
 
 -- ---- the whole
 
--- Where a configuration is known to be accepted, the replies that a tenant is told are those of the whole cluster.
+-- Where a configuration is known to be accepted, the tenant has the headline's promise: the replies that it is told are those of the whole
+-- cluster, the partition looks the same there after each event, and no allocation takes a queue above its maximum on it.
 abbrev pub AreThose : Bool → Config → List Event → Name → Label → Type 0
-AreThose accepted c events t p = IsTrue accepted → HasSameReplies c events t p
+AreThose accepted c events t p = IsTrue accepted → Headline c events t p
 
 -- the tenant was told of the script that this input is, and of nothing else
 pub record IsToldOf (writer : Stream) (accepted : Bool) (c : Config) (t : Name) (p : Label) (summary : Summary) (input : List ℕ) : Type 0 where

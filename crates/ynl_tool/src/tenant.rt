@@ -168,7 +168,8 @@ fn tell_view<W: Write>(
 /// Reads the script, and only then writes what the tenant's partition sees of its events: each in a
 /// line with its place in the script and the reply of a cluster that holds the tenant alone. A line
 /// with a fault ends the script, and is reported in the last line written. Of the script its text is
-/// kept, and read a second time for what is told.
+/// kept, and read a second time for what is told. Under an accepted configuration the contract gives the
+/// whole promise of isolation for these events.
 ///
 /// After a read fault nothing is written; where memory was refused, whole lines from the front; after
 /// a write fault a front of the text.
