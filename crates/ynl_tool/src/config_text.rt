@@ -1,9 +1,10 @@
 //! The text of a configuration.
 
-ghost use Rattle.std.specs.Prelude.{◌≡◌, ◌++◌, IfSome, OnOk, take};
+ghost use Rattle.std.specs.Prelude.{◌≡◌, ◌≢◌, ◌++◌, IfSome, IfErr, OnOk, take};
 ghost use Rattle.std.specs.IoError.{error_kind};
 ghost use Rattle.ynl_tool.specs.Jobs.{most_read};
 ghost use Rattle.ynl_tool.specs.Lines.{read_fault, tool_fault};
+ghost use Rattle.ynl_tool.specs.declared.run.ToolFault.TheVariants.{Write, Unclosed};
 
 use crate::lines_in::read_fault;
 use crate::run::ToolFault;
@@ -24,7 +25,8 @@ pub fn fault_of(error: &io::Error) -> ToolFault
 /// Reads the text of a configuration. Of a file that is too long for one no more is read than shows
 /// that.
 pub fn read_text<F: Read>(file: &mut F, text: &mut Vec<u8>) -> Result<(), ToolFault>
-    ensures { OnOk result (IfSome (F.remaining file.old) (λ bytes. text.new.items ≡ text.old.items ++ take most_read bytes)) }
+    ensures text { OnOk result (IfSome (F.remaining file.old) (λ bytes. text.new.items ≡ text.old.items ++ take most_read bytes)) }
+    ensures fault { IfErr result (λ e. (e ≢ Write) × (e ≢ Unclosed)) }
 {
     let mut front = file.take(MOST_READ);
     match front.read_to_end(text) {
