@@ -1,5 +1,6 @@
 //! A script with every kind of event, answered at the second try; and what a cluster is asked beside events.
 
+use std::alloc::Global;
 use std::ops::Range;
 use std::test::Fail;
 use ynl_core::{Core, NoMemory};
@@ -244,5 +245,43 @@ fn tells_limits_and_checks_proposals(rt: HostRuntime) -> Result<(), Fail> {
     assert!(rt; ready && has_limits(&core)?);
     let stale = gets_stale(&mut core)?;
     assert!(rt; stale);
+    Ok(())
+}
+
+/// Leaves in hundredths of a percent. The first sets the share of masters, the others have a tenth.
+const HUNDREDTHS: &str = "version = 2
+[[queue]]
+path = \"root.a\"
+capacity = 3333
+maximum-am-resource-percent = 1250
+[[queue]]
+path = \"root.b\"
+capacity = 3333
+[[queue]]
+path = \"root.c\"
+capacity = 3334
+";
+
+/// A cluster of that configuration with a node of 10,000 MB and 10 vcores on DEFAULT.
+fn in_hundredths(alloc: Global) -> Result<Core, Fail> {
+    let Ok(config) = ynl_config::read_config(alloc, HUNDREDTHS.as_bytes())? else {
+        return Err(Fail::new("no configuration"));
+    };
+    let mut core = Core::open(alloc, config)?;
+    let _joined = core.apply(Event::Register {
+        node: Name::parse("d1")?,
+        label: Label::Unlabelled,
+        size: size(10000, 10)?,
+    })?;
+    Ok(core)
+}
+
+#[test]
+fn limits_masters_by_hundredths(rt: HostRuntime) -> Result<(), Fail> {
+    let core = in_hundredths(rt.alloc())?;
+    for (leaf, memory, vcores) in [("root.a", 1250, 1), ("root.b", 1000, 1), ("root.c", 1000, 1)] {
+        let limit = core.master_limit(&Path::parse(leaf)?, &Label::Unlabelled);
+        assert!(rt; limit.memory == memory && limit.vcores == vcores, "{leaf}");
+    }
     Ok(())
 }
