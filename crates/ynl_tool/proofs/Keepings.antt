@@ -1,10 +1,9 @@
 -- The text of a script, a line after another.
-use Rattle.std.proofs.Common.{◌≡◌, ◌≢◌, ℕ, zero, suc, ◌+◌, ◌-◌, ◌<◌, ◌≤◌, List, [], ◌∷◌, ◌++◌, length, take, drop, get_or, All, Bool, true, false, cond, Some, None, Ok, Err, refl, sym, ap, subst, ◌∙◌, arith, append-nil, append_assoc, length-append, length-drop}
+use Rattle.std.proofs.Common.{◌≡◌, ◌≢◌, ℕ, zero, suc, ◌+◌, ◌-◌, ◌<◌, ◌≤◌, List, [], ◌∷◌, ◌++◌, length, take, drop, get_or, All, false, cond, None, Ok, refl, sym, ap, subst, ◌∙◌, arith, append_assoc, length-append, length-drop}
 use Rattle.std.proofs.lemmas.List.Elements.{All-head, All-tail}
 use Rattle.std.proofs.lemmas.List.{drop-drop, take_all, take_at}
 use Rattle.std.proofs.Math.Seq.{drop-append-add}
 use Rattle.ynl_model.specs.declared.events.Event.{Event}
-use Rattle.ynl_lines.specs.declared.faults.LineFault.{LineFault}
 use Rattle.ynl_lines.specs.Reading.{event_of_line}
 use Rattle.ynl_tool.specs.declared.lines_in.Lines.{Lines}
 use Rattle.ynl_tool.specs.Lines.{IsPlain}

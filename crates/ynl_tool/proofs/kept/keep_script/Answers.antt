@@ -1,4 +1,4 @@
-use Rattle.std.proofs.Common.{Some, Ok, [], refl, ap, sym, subst, ◌∙◌}
+use Rattle.std.proofs.Common.{Ok, [], ap, sym, subst, ◌∙◌}
 use Rattle.std.proofs.lemmas.Result.{err_from_is_err_and}
 use Rattle.ynl_tool.specs.Input.{between, Takes}
 use Rattle.ynl_tool.specs.Keeping.{Keeps, KeepsLine, KeepsScript}
