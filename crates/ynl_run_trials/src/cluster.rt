@@ -279,7 +279,11 @@ fn in_hundredths(alloc: Global) -> Result<Core, Fail> {
 #[test]
 fn limits_masters_by_hundredths(rt: HostRuntime) -> Result<(), Fail> {
     let core = in_hundredths(rt.alloc())?;
-    for (leaf, memory, vcores) in [("root.a", 1250, 1), ("root.b", 1000, 1), ("root.c", 1000, 1)] {
+    for (leaf, memory, vcores) in [
+        ("root.a", 1250, 1),
+        ("root.b", 1000, 1),
+        ("root.c", 1000, 1),
+    ] {
         let limit = core.master_limit(&Path::parse(leaf)?, &Label::Unlabelled);
         assert!(rt; limit.memory == memory && limit.vcores == vcores, "{leaf}");
     }
