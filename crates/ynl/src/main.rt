@@ -10,8 +10,8 @@ use std::sync::Wait;
 use std::thread::Threads;
 use std::{env, io};
 use ynl_tool::{
-    BUILT_IN, Kind, SequentialKind, ToolFault, WordsFault, execute, execute_sequential, fault_of,
-    parse_words, read_text, tell,
+    BUILT_IN, Job, Kind, SequentialKind, ToolFault, WordsFault, execute, execute_sequential,
+    fault_of, parse_words, read_text, tell,
 };
 
 fn main(rt: HostRuntime) -> ExitCode {
@@ -28,9 +28,9 @@ fn main(rt: HostRuntime) -> ExitCode {
         return out_of_memory(&rt);
     };
     match parse_words(rt.alloc(), words.as_slice()) {
-        Ok(job) => match job.kind {
-            Kind::Sequential(kind) => work(&rt, kind, job.config),
-            Kind::Live(..) => work_live(&rt, &rt, job.kind, job.config),
+        Ok(Job { kind, config }) => match kind {
+            Kind::Sequential(sequential) => work(&rt, sequential, config),
+            Kind::Live(..) => work_live(&rt, &rt, kind, config),
         },
         Err(WordsFault::Words(error)) => {
             let _told = eprint!(rt; "{error}");
