@@ -5,6 +5,7 @@ use std::io;
 use std::io::{BufRead, BufReader, Read, Write};
 use std::process::Abort;
 use std::sync::Wait;
+use std::sync::atomic::{AtomicU64, Ordering};
 use std::test::Fail;
 use std::thread::Threads;
 use ynl_config::built_in;
@@ -381,8 +382,19 @@ fn audits_at_the_second_try(rt: HostRuntime) -> Result<(), Fail> {
     Ok(())
 }
 
-/// Lets each worker go on.
-struct Free;
+/// Lets each worker go on, and notes whether the second one committed.
+#[derive(Drop)]
+struct Free {
+    second: AtomicU64,
+}
+
+impl Free {
+    fn new() -> Free {
+        Free {
+            second: AtomicU64::new(0),
+        }
+    }
+}
 
 impl Gate for Free {
     ghost use Rattle.std.specs.Prelude.{⊤};
@@ -393,7 +405,11 @@ impl Gate for Free {
         Go::On
     }
 
-    fn after_commit(&self, _worker: u64, _turn: u64) {}
+    fn after_commit(&self, worker: u64, _turn: u64) {
+        if worker == 1 {
+            self.second.store(1, Ordering::SeqCst);
+        }
+    }
 }
 
 /// Has one worker go over the nodes of a script, once.
@@ -404,7 +420,8 @@ fn live_once<T: Threads + Wait + Sync>(
     writer: &mut Sink,
 ) -> Result<Result<Summary, ToolFault>, Fail> {
     let config = built_in(alloc)?;
-    Ok(live_lines(rt, alloc, config, 1, 1, &Free, reader, writer))
+    let gate = Free::new();
+    Ok(live_lines(rt, alloc, config, 1, 1, &gate, reader, writer))
 }
 
 const LIVED: &[u8] =
@@ -451,5 +468,23 @@ fn lives_at_the_second_try(rt: HostRuntime) -> Result<(), Fail> {
         assert!(rt; ended.is_ok());
     }
     assert!(rt; writer.taken.as_slice() == LIVED);
+    Ok(())
+}
+
+/// Two nodes, and a master for each of them.
+const TWO_NODES: &[u8] =
+    b"{\"event\":\"register\",\"label\":\"gpu\",\"memory\":10000,\"node\":\"g1\",\"vcores\":10}\n{\"event\":\"register\",\"label\":\"gpu\",\"memory\":10000,\"node\":\"g2\",\"vcores\":10}\n{\"app\":\"j1\",\"event\":\"submit\",\"label\":\"gpu\",\"memory\":1000,\"queue\":\"root.eng\",\"user\":\"ann\",\"vcores\":1}\n{\"app\":\"j2\",\"event\":\"submit\",\"label\":\"gpu\",\"memory\":1000,\"queue\":\"root.eng\",\"user\":\"ann\",\"vcores\":1}\n";
+
+// Whichever worker comes first, each is answered a master, so that the second commits too.
+#[test]
+fn lives_with_as_many_workers_as_asked(rt: HostRuntime) -> Result<(), Fail> {
+    let alloc = rt.alloc();
+    let mut reader = whole(alloc, TWO_NODES)?;
+    let mut writer = Sink::new(Vec::new(alloc));
+    let gate = Free::new();
+    let config = built_in(alloc)?;
+    let ended = live_lines(&rt, alloc, config, 2, 1, &gate, &mut reader, &mut writer);
+    assert!(rt; ended.is_ok());
+    assert_eq!(rt; gate.second.load(Ordering::SeqCst), 1);
     Ok(())
 }
