@@ -1,32 +1,13 @@
 -- Sessions that are told.
-use Rattle.std.proofs.Common.{◌≡◌, ◌≢◌, ℕ, suc, ◌+◌, ◌<◌, List, [], ◌∷◌, ◌++◌, length, drop, take, get_or, Option, Some, Result, Ok, Err, refl, sym, ap, subst, ◌∙◌, arith, append-nil, append_assoc, length-append, inl, inr}
-use Rattle.std.specs.Prelude.{IfOk, IfErr, option_map}
+use Rattle.std.proofs.Common.{◌≡◌, ℕ, suc, ◌+◌, ◌<◌, List, [], ◌∷◌, ◌++◌, length, drop, get_or, Option, refl, sym, ap, subst, ◌∙◌, arith, append_assoc}
 use Rattle.std.specs.List.{concat}
 use Rattle.std.specs.Io.KnownBytes.{Appends}
-use Rattle.std.proofs.KnownBytes.{Appends-nil, Appends-trans}
-use Rattle.std.proofs.lemmas.List.Folds.{concat-append}
-use Rattle.std.proofs.Math.Seq.{drop-cons, take-append-add}
+use Rattle.std.proofs.KnownBytes.{Appends-nil}
+use Rattle.std.proofs.Math.Seq.{drop-cons}
 use Rattle.ynl_model.specs.declared.entries.Entry.{Entry}
-use Rattle.ynl_model.specs.Queues.{Config}
-use Rattle.ynl_lines.specs.declared.faults.LineFault.{LineFault}
-use Rattle.ynl_lines.specs.declared.faults.InputFault.TheVariants.{Script as InScript}
-use Rattle.ynl_lines.specs.Writing.{fault_text}
-use Rattle.ynl_session.specs.Sessions.{IsSession}
-use Rattle.ynl_session.specs.declared.sessions.SessionFault.{SessionFault}
-use Rattle.ynl_session.specs.declared.sessions.SessionFault.TheVariants as session
 use Rattle.ynl_tool.specs.declared.run.ToolFault.{ToolFault}
-use Rattle.ynl_tool.specs.declared.run.ToolFault.TheVariants.{Read, Write, NoMemory, Unclosed}
-use Rattle.ynl_tool.specs.declared.run.Summary.{Summary}
-use Rattle.ynl_tool.specs.Lines.{AppendsPart}
-use Rattle.ynl_tool.specs.Input.{Stream, between}
-use Rattle.ynl_tool.specs.Run.{line_of, faulty, fault_lines_of, fault_lines}
-use Rattle.ynl_tool.specs.Running.{Writes}
-use Rattle.ynl_tool.specs.Readings.{ReadsTo}
-use Rattle.ynl_tool.specs.Script.{Script, script_way, script_of}
-use Rattle.ynl_tool.specs.Telling.{AppendsLines, LeavesLine, LeavesLines, SaysLines}
-use Rattle.ynl_tool.specs.Living.{rounds_of, journal_line, journal_lines, session_lines, session_fault, SumsUp, IsLived, LivesWhole, Lives}
-use Rattle.ynl_tool.proofs.Fronts.{part_after}
-use Rattle.ynl_tool.proofs.Runs.{of_some}
+use Rattle.ynl_tool.specs.Telling.{LeavesLine, LeavesLines}
+use Rattle.ynl_tool.specs.Living.{journal_line, journal_lines}
 use Rattle.ynl_tool.proofs.Tellings.{leaves_after, one_more}
 
 -- ---- entries, one after another

@@ -1,6 +1,6 @@
-use Rattle.std.proofs.Common.{◌≢◌, Ok, Err, refl, ap, sym, subst, ◌∙◌}
+use Rattle.std.proofs.Common.{Ok, Err, refl, ap, sym, subst, ◌∙◌}
 use Rattle.std.proofs.lemmas.Result.{err_from_is_err_and}
-use Rattle.ynl_tool.specs.declared.run.ToolFault.TheVariants.{Write, NoMemory}
+use Rattle.ynl_tool.specs.declared.run.ToolFault.TheVariants.{NoMemory}
 use Rattle.ynl_tool.specs.Input.{between, Takes}
 use Rattle.ynl_tool.specs.Audit.{audit_way}
 use Rattle.ynl_tool.specs.Auditing.{Passes, Finds}
