@@ -203,7 +203,7 @@ class Job:
         self.name, self.queue, self.start, self.user = name, queue, start, row.name("job.user", "default")
         self.tenant, self.label = queue.split(".")[1], row.value.get("job.label.expression")
         self.size = row.number(["am.memory-mb", "am.memory"], 1024, 1), row.number(["am.vcores"], 1, 1)
-        self.stages, self.state = stages_of(row), "not submitted"
+        self.stages, self.state, self.end = stages_of(row), "not submitted", "done"
         self.home, self.master, self.left = None, None, 0
 
 
