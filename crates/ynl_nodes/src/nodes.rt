@@ -1,6 +1,6 @@
 //! The nodes of a cluster.
 
-ghost use Rattle.std.specs.Prelude.{◌≡◌, ◌||◌, [], Some, None, true, false, OnOk, OnErr};
+ghost use Rattle.std.specs.Prelude.{◌≡◌, ◌||◌, [], Some, None, true, false, IfOk, OnOk, OnErr};
 ghost use Rattle.std.specs.Option.{option_map_or};
 ghost use Rattle.ynl_resource.specs.Names.{same_name};
 ghost use Rattle.ynl_resource.specs.declared.names.Name.{Name};
@@ -93,6 +93,13 @@ impl Nodes {
             marks: Roster::new(alloc),
             wakings: Some(AWAKE + 1),
         }
+    }
+
+    /// The nodes, in the order of joining.
+    pub fn all(&self, alloc: Global) -> Result<Vec<Node>, AllocError>
+        ensures { IfOk result (λ nodes. nodes.items ≡ self.now.list) }
+    {
+        self.roster.copies(alloc)
     }
 
     /// The node of a name.

@@ -1,6 +1,6 @@
 //! Things under numbers that rise.
 
-ghost use Rattle.std.specs.Prelude.{◌≡◌, ◌≤◌, ◌<◌, ◌+◌, ◌++◌, ◌∷◌, [], ℕ, length, slice_set, vec_len, vec_capacity, None, Some, is_some, nat_eq, slice_index_or, option_map, if◌then◌else◌, OnOk, OnErr, IfSome, IfNone};
+ghost use Rattle.std.specs.Prelude.{◌≡◌, ◌≤◌, ◌<◌, ◌+◌, ◌++◌, ◌∷◌, [], ℕ, length, map, slice_set, vec_len, vec_capacity, None, Some, is_some, nat_eq, slice_index_or, option_map, if◌then◌else◌, IfOk, OnOk, OnErr, IfSome, IfNone};
 ghost use Rattle.std.specs.List.{AllByRecursion};
 ghost use Rattle.std.specs.Map.{lookup, remove_entry};
 ghost use Rattle.ynl_roster.specs.declared.roster.Slot.{Slot};
@@ -146,6 +146,36 @@ impl<T: Drop> Roster<T> {
             self.holes = 0;
         }
     }
+}
+
+impl<T: Copy> Roster<T> {
+    /// The things, in the order of their numbers.
+    pub fn copies(&self, alloc: Global) -> Result<Vec<T>, AllocError>
+        ensures { IfOk result (λ items. items.items ≡ map (λ e. e.1) self.now.entries) }
+    {
+        copies_of(alloc, &self.slots)
+    }
+}
+
+/// What a slot holds comes last, if it holds a thing.
+fn copy_item<T: Copy>(slot: &Slot<T>, items: &mut Vec<T>) -> Result<(), AllocError>
+    ensures { OnOk result (items.new.items ≡ items.old.items ++ map (λ e. e.1) (held (slot.now ∷ []))) }
+{
+    if let Some(item) = slot.item {
+        items.push(item)?;
+    }
+    Ok(())
+}
+
+/// What the slots hold, in their order.
+fn copies_of<T: Copy>(alloc: Global, slots: &[Slot<T>]) -> Result<Vec<T>, AllocError>
+    ensures { IfOk result (λ items. items.items ≡ map (λ e. e.1) (held slots.now)) }
+{
+    let mut items = Vec::new(alloc);
+    for slot in slots {
+        copy_item(slot, &mut items)?;
+    }
+    Ok(items)
 }
 
 /// Another thing comes in the place of the one under a number.

@@ -1,39 +1,52 @@
 //! Where the nodes are, told from node events alone.
 
-ghost use Rattle.std.specs.Prelude.{◌≡◌, ◌≤◌, [], length, filter, map, OnOk, OnErr, IfOk, vec_len, vec_capacity};
+ghost use Rattle.std.specs.Prelude.{◌≡◌, [], map, None, Some, true, false, OnOk, OnErr, IfOk};
 ghost use Rattle.std.specs.Option.{option_map_or};
-ghost use Rattle.ynl_resource.specs.Names.{same_label};
+ghost use Rattle.ynl_model.specs.Promises.{without_stamp};
 ghost use Rattle.ynl_model.specs.View.{tracked, is_in, has_place, registers, relabels, dropped, joined, track_step};
 ghost use Rattle.ynl_model.specs.declared.events.Event.TheVariants.{Register, Relabel};
 
 use std::alloc::{AllocError, Global};
 use std::marker::Model;
-use ynl_model::{Event, Tracked};
+use ynl_model::{Event, Node, Tracked};
+use ynl_nodes::Nodes;
 use ynl_queues::Config;
-use ynl_resource::{Label, MOST_NODES, Name, Size};
+use ynl_resource::{Label, Name, Size};
 
-/// The nodes, in the order of joining, as node events alone tell them. A contract sees their list.
+/// The nodes, in the order of joining, as node events alone tell them. They are found by name and counted by
+/// label, and none has a stamp. A contract sees their list.
 #[derive(Drop)]
 pub struct Track {
-    nodes: Vec<Tracked>,
+    nodes: Nodes,
 }
 
 impl Model for Track {
-    ghost use Rattle.std.specs.Prelude.{List};
+    ghost use Rattle.std.specs.Prelude.{List, map};
+    ghost use Rattle.ynl_model.specs.Promises.{without_stamp};
     ghost use Rattle.ynl_model.specs.declared.nodes.Tracked.{Tracked};
 
     ghost Value = { List Tracked };
 
-    ghost view = { λ t. t.nodes.items };
+    ghost view = { λ t. map without_stamp t.nodes.list };
 }
 
-/// Drops a node from the nodes, and keeps their room.
-fn drop_node(nodes: &mut Vec<Tracked>, node: &Tracked)
-    ensures nodes { nodes.new.items ≡ dropped nodes.old.items node.now }
-    ensures len { vec_len nodes.new ≤ vec_len nodes.old }
-    ensures capacity { vec_capacity nodes.new ≡ vec_capacity nodes.old }
+/// The stamp of each node here, which no contract sees.
+const NO_STAMP: u64 = 0;
+
+fn without_stamp(node: &Node) -> Tracked
+    ensures { result ≡ without_stamp node.now }
 {
-    nodes.retain(|other| !(other.name == node.name && other.label == node.label));
+    Tracked {
+        name: node.name,
+        label: node.label,
+        size: node.size,
+    }
+}
+
+fn names_of(alloc: Global, nodes: &[Node]) -> Result<Vec<Name>, AllocError>
+    ensures { IfOk result (λ names. names.items ≡ map (λ node. node.name) nodes.now) }
+{
+    nodes.iter().map(|node| node.name).collect(alloc)
 }
 
 impl Track {
@@ -42,7 +55,7 @@ impl Track {
         ensures { result ≡ [] }
     {
         Track {
-            nodes: Vec::new(alloc),
+            nodes: Nodes::new(alloc),
         }
     }
 
@@ -50,7 +63,10 @@ impl Track {
     pub(crate) fn node(&self, name: &Name) -> Option<Tracked>
         ensures { result ≡ tracked self.now name.now }
     {
-        self.nodes.iter().copied().find(|node| node.name == *name)
+        match self.nodes.find(name) {
+            Some(node) => Some(without_stamp(&node)),
+            None => None,
+        }
     }
 
     /// Whether the node is in the partition.
@@ -67,23 +83,14 @@ impl Track {
     pub(crate) fn names(&self, alloc: Global) -> Result<Vec<Name>, AllocError>
         ensures { IfOk result (λ names. names.items ≡ map (λ node. node.name) self.now) }
     {
-        self.nodes.iter().map(|node| node.name).collect(alloc)
-    }
-
-    fn count_on(&self, label: &Label) -> usize
-        ensures { result ≡ length (filter (λ node. same_label node.label label.now) self.now) }
-    {
-        self.nodes
-            .iter()
-            .filter(|node| node.label == *label)
-            .count()
+        let nodes = self.nodes.all(alloc)?;
+        names_of(alloc, &nodes)
     }
 
     fn has_place(&self, label: &Label) -> bool
         ensures { result ≡ has_place self.now label.now }
     {
-        let is_full = self.count_on(label) >= MOST_NODES;
-        !is_full
+        !self.nodes.is_full(label)
     }
 
     /// Whether the node may register: the label is configured, the name is new, and the partition has
@@ -105,31 +112,31 @@ impl Track {
             && self.has_place(label)
     }
 
-    /// Drops the node, and joins one of its size. The room is reserved before the node is dropped.
-    fn rejoin(&mut self, node: &Tracked, name: &Name, label: &Label) -> Result<(), AllocError>
-        ensures ok { OnOk result (self.new ≡ joined (dropped self.old node.now) name.now label.now node.now.size) }
-        ensures err { OnErr result (self.new ≡ self.old) }
-    {
-        self.nodes.reserve(1)?;
-        drop_node(&mut self.nodes, node);
-        self.nodes.push_reserved(Tracked {
-            name: *name,
-            label: *label,
-            size: node.size,
-        });
-        Ok(())
-    }
-
+    /// A node comes last. Where memory is refused, the track is as before.
     fn join(&mut self, name: &Name, label: &Label, size: &Size) -> Result<(), AllocError>
+        requires new { tracked self.old name.now ≡ None }
+        requires room { has_place self.old label.now ≡ true }
         ensures ok { OnOk result (self.new ≡ joined self.old name.now label.now size.now) }
         ensures err { OnErr result (self.new ≡ self.old) }
     {
-        self.nodes.push(Tracked {
+        self.nodes.join(Node {
             name: *name,
             label: *label,
             size: *size,
-        })?;
-        Ok(())
+            stamp: NO_STAMP,
+        })
+    }
+
+    /// A node that is here goes to another partition, and comes last. Where memory is refused, the track is as before.
+    fn rejoin(&mut self, name: &Name, label: &Label) -> Result<(), AllocError>
+        requires { has_place self.old label.now ≡ true }
+        ensures ok { OnOk result (self.new ≡ option_map_or (λ node. joined (dropped self.old node) name.now label.now node.size) (tracked self.old name.now) self.old) }
+        ensures err { OnErr result (self.new ≡ self.old) }
+    {
+        match self.nodes.find(name) {
+            Some(node) => self.nodes.rejoin(&node, label, NO_STAMP),
+            None => Ok(()),
+        }
     }
 
     #[tactic(auto, unfolding(ynl_model::specs::View::track_step))]
@@ -152,8 +159,8 @@ impl Track {
     fn lose(&mut self, name: &Name)
         ensures { self.new ≡ option_map_or (dropped self.old) (tracked self.old name.now) self.old }
     {
-        if let Some(node) = self.node(name) {
-            drop_node(&mut self.nodes, &node);
+        if let Some(node) = self.nodes.find(name) {
+            self.nodes.leave(&node);
         }
     }
 
@@ -162,11 +169,8 @@ impl Track {
         ensures ok { OnOk result (self.new ≡ track_step config.now self.old (Relabel name.now label.now)) }
         ensures err { OnErr result (self.new ≡ self.old) }
     {
-        if !self.relabels(config, name, label) {
-            return Ok(());
-        }
-        if let Some(node) = self.node(name) {
-            self.rejoin(&node, name, label)?;
+        if self.relabels(config, name, label) {
+            self.rejoin(name, label)?;
         }
         Ok(())
     }
