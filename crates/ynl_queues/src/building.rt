@@ -78,6 +78,24 @@ fn configured(alloc: Global, labels: &Labels, rows: Vec<QueueRow>) -> Result<Con
     config.indexed(alloc)
 }
 
+/// A configuration of these queues as they are written, whatever faults their tree has, to be looked at; nothing
+/// where a text is no path of a queue below root.
+pub fn as_written(
+    alloc: Global,
+    labels: &Labels,
+    rows: Vec<WrittenQueue>,
+) -> Result<Option<Config>, AllocError>
+    ensures { IfOk result (λ read. MatchOption read (list_all (λ row. is_below_root (read_path row.path)) rows.items ≡ false) (λ config. (list_all (λ row. is_below_root (read_path row.path)) rows.items ≡ true) × (config ≡ configured labels.now (map row_of rows.items)))) }
+{
+    match read_rows(alloc, rows)? {
+        Some(rows) => {
+            let config = configured(alloc, labels, rows)?;
+            Ok(Some(config))
+        }
+        None => Ok(None),
+    }
+}
+
 /// The tree of these rows, or its first fault, where there are not too many.
 #[tactic(auto, unfolding(crate::specs::Written::configured))]
 fn accept(

@@ -3,9 +3,11 @@
 #![tactic(auto)]
 
 pub use amounts::{nested_floor, share_of};
+pub use building::as_written;
 pub use children::Children;
 pub use config::Config;
 pub use rows::{Access, QueueRow};
+pub use texts::{above, count_together, is_too_deep};
 pub use tree::QueueTree;
 pub use ways::{is_within, parent_of, step_at};
 pub use written::WrittenQueue;

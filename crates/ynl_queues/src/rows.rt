@@ -24,7 +24,7 @@ pub enum Access {
 
 impl Access {
     /// The labels that are listed.
-    pub(crate) fn listed(&self) -> &[Name]
+    pub fn listed(&self) -> &[Name]
         ensures { result.now ≡ listed (access_of self.now) }
     {
         match self {

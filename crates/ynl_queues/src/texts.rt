@@ -16,7 +16,7 @@ fn dots(text: &[u8]) -> usize
 }
 
 /// Whether the text has more than eight parts between its dots.
-fn is_too_deep(text: &[u8]) -> bool
+pub fn is_too_deep(text: &[u8]) -> bool
     ensures { result ≡ is_too_deep text.now }
 {
     dots(text) >= MOST_NAMES
@@ -30,7 +30,7 @@ pub(crate) fn any_too_deep(rows: &[WrittenQueue]) -> bool
 }
 
 /// What stands before the last dot.
-fn above(text: &[u8]) -> &[u8]
+pub fn above(text: &[u8]) -> &[u8]
     ensures { result.now ≡ above text.now }
 {
     let mut end = 0;
@@ -49,7 +49,8 @@ fn stand_together(row: &WrittenQueue, other: &WrittenQueue) -> bool
     above(row.path.as_bytes()) == above(other.path.as_bytes())
 }
 
-fn count_together(rows: &[WrittenQueue], row: &WrittenQueue) -> usize
+/// How many rows have a row's text but for its last part.
+pub fn count_together(rows: &[WrittenQueue], row: &WrittenQueue) -> usize
     ensures { result ≡ length (filter (λ other. stand_together row.now.path other.path) rows.now) }
 {
     rows.iter()
