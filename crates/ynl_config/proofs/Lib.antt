@@ -1,6 +1,8 @@
 pub mod Found
 pub mod Joined
 pub mod Known
+pub mod PlaceViews
+pub mod Placed
 pub mod Ranges
 pub mod Spaces
 pub mod Told

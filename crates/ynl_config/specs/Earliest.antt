@@ -1,5 +1,5 @@
 -- The faults of a configuration: their words, and which of several is told.
-use Rattle.std.specs.Prelude.{ℕ, List, [], ◌∷◌, ◌++◌, codes, nat_le, fold, Result, Ok, Err, if◌then◌else◌, Vec}
+use Rattle.std.specs.Prelude.{ℕ, List, [], ◌∷◌, ◌++◌, codes, Bool, ◌&&◌, nat_le, fold, Result, Ok, Err, if◌then◌else◌, Vec}
 use Rattle.std.specs.declared.alloc.Global.{Global}
 pub use Rattle.ynl_config.specs.declared.faults.ConfigFault.{ConfigFault}
 use Rattle.ynl_config.specs.declared.faults.ConfigFault.TheVariants.{Size, Syntax, UnknownKey, MissingKey, WrongKind, Version, Range, BadLabel, TooManyLabels, DuplicateLabel, TooDeep, TooMany, BadPath, DuplicateQueue, NoParent, NoSuchLabel, NotSubset, MaximumBelowCapacity, SumNot100}
@@ -47,6 +47,14 @@ rank NoSuchLabel = 15
 rank NotSubset = 16
 rank MaximumBelowCapacity = 17
 rank SumNot100 = 18
+
+-- whether single tables and values of a text have the fault
+abbrev pub is_of_tables : ConfigFault → Bool
+is_of_tables fault = nat_le 2 (rank fault) && nat_le (rank fault) 7
+
+-- whether several rows have it together
+abbrev pub is_of_rows : ConfigFault → Bool
+is_of_rows fault = nat_le 8 (rank fault)
 
 -- the one of two that is told: that of the lower rank
 abbrev pub earlier : ConfigFault → ConfigFault → ConfigFault

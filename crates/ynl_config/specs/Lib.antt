@@ -3,6 +3,9 @@ pub mod Anywhere
 pub mod Earliest
 pub mod Known
 pub mod Meaning
+pub mod Misplaced
+pub mod Places
 pub mod Readings
+pub mod RowPlaces
 pub mod Seen
 pub mod Tables

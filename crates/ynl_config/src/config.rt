@@ -16,7 +16,7 @@ use ynl_labels::Labels;
 use ynl_queues::{Config, QueueTree};
 
 /// A text has at most so many bytes.
-const MOST_BYTES: usize = 1_048_576;
+pub(crate) const MOST_BYTES: usize = 1_048_576;
 
 /// What reading TOML told: the table, or that the bytes are the text of none. It takes no memory, so
 /// want of memory is told only where reading met it.
@@ -37,7 +37,7 @@ fn found(read: Result<Table, Error>) -> Result<Option<Table>, AllocError>
 }
 
 /// The table that the bytes are, if they are the text of one.
-fn parse(alloc: Global, bytes: &[u8]) -> Result<Option<Table>, AllocError>
+pub(crate) fn parse(alloc: Global, bytes: &[u8]) -> Result<Option<Table>, AllocError>
     ensures { IfOk result (λ found. option_map table_view found ≡ spec.reading bytes.now) }
 {
     found(toml::table_from_slice(alloc, bytes))
@@ -45,7 +45,10 @@ fn parse(alloc: Global, bytes: &[u8]) -> Result<Option<Table>, AllocError>
 
 /// The configuration of what is written.
 #[tactic(auto, unfolding(crate::specs::Meaning::built))]
-fn build(alloc: Global, written: Written) -> Result<Result<Config, ConfigFault>, AllocError>
+pub(crate) fn build(
+    alloc: Global,
+    written: Written,
+) -> Result<Result<Config, ConfigFault>, AllocError>
     ensures { IfOk result (λ config. config ≡ spec.built written) }
 {
     let numbers = written.numbers;

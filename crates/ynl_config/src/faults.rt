@@ -1,7 +1,8 @@
 //! Why a text is no configuration.
 
 ghost use Rattle.std.specs.Prelude.{◌≡◌};
-ghost use Rattle.ynl_config.specs.Earliest.{fault_word, rank, earlier};
+ghost use Rattle.ynl_config.specs.Anywhere.{same_fault};
+ghost use Rattle.ynl_config.specs.Earliest.{fault_word, rank, earlier, is_of_tables, is_of_rows};
 
 use thiserror::Error;
 use ynl_model::{LabelFault, TreeFault};
@@ -122,6 +123,27 @@ impl ConfigFault {
             ConfigFault::MaximumBelowCapacity => 17,
             ConfigFault::SumNot100 => 18,
         }
+    }
+
+    /// Whether it is the other.
+    pub(crate) fn is(self, other: ConfigFault) -> bool
+        ensures { result ≡ same_fault self other }
+    {
+        self.rank() == other.rank()
+    }
+
+    /// Whether single tables and values of a text have it.
+    pub(crate) fn is_of_tables(self) -> bool
+        ensures { result ≡ is_of_tables self }
+    {
+        2 <= self.rank() && self.rank() <= 7
+    }
+
+    /// Whether several rows have it together.
+    pub(crate) fn is_of_rows(self) -> bool
+        ensures { result ≡ is_of_rows self }
+    {
+        8 <= self.rank()
     }
 
     /// The one of two that is told.

@@ -75,7 +75,7 @@ fn is_share_key(key: &str) -> bool
 }
 
 #[tactic(auto, unfolding(crate::specs::Known::is_known))]
-fn is_known(kind: TableKind, key: &str) -> bool
+pub(crate) fn is_known(kind: TableKind, key: &str) -> bool
     ensures { result ≡ spec.is_known kind key.now }
 {
     match kind {

@@ -37,7 +37,7 @@ fn before_spaces(text: &str) -> &str
     rest
 }
 
-fn trimmed(text: &str) -> &str
+pub(crate) fn trimmed(text: &str) -> &str
     ensures { result.now ≡ trimmed text.now }
 {
     before_spaces(after_spaces(text))

@@ -27,7 +27,7 @@ struct Bounds {
     maximum: Hundredths,
 }
 
-fn tenth() -> Hundredths
+pub(crate) fn tenth() -> Hundredths
     ensures { result ≡ 1000 }
 {
     match Hundredths::new(1000) {
@@ -137,7 +137,10 @@ fn leaf_in(table: &Table, version: Version) -> Result<LeafSettings, ConfigFault>
 }
 
 #[tactic(auto, unfolding(crate::specs::Tables::access_at))]
-fn access_at(alloc: Global, table: &Table) -> Result<Result<Access, ConfigFault>, AllocError>
+pub(crate) fn access_at(
+    alloc: Global,
+    table: &Table,
+) -> Result<Result<Access, ConfigFault>, AllocError>
     ensures { IfOk result (λ read. access_in read ≡ spec.access_at (table_view table.now)) }
 {
     match find(table, "accessible-node-labels") {

@@ -61,7 +61,7 @@ fn numbers_in(table: &Table) -> Result<Numbers, ConfigFault>
 }
 
 /// The version; where it has a fault, any will do.
-fn any_version(version: Result<Version, ConfigFault>) -> Version
+pub(crate) fn any_version(version: Result<Version, ConfigFault>) -> Version
     ensures { result ≡ spec.any_version version }
 {
     match version {
