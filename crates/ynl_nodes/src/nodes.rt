@@ -7,7 +7,7 @@ ghost use Rattle.ynl_resource.specs.declared.names.Name.{Name};
 ghost use Rattle.ynl_model.specs.Nodes.{find_node, total, is_full, stamped, joined, left};
 ghost use Rattle.ynl_nodes.specs.Marks.{is_marked};
 ghost use Rattle.ynl_nodes.specs.Members.{is_among};
-ghost use Rattle.ynl_nodes.specs.Sights.{IsSightOf};
+ghost use Rattle.ynl_nodes.specs.Presences.{IsPresenceOf};
 ghost use Rattle.ynl_nodes.specs.Wakings.{CountsOn};
 
 use crate::spots::{spot_of, spot_under};
@@ -73,8 +73,8 @@ fn is_marked(wakings: Option<u64>, marks: &Roster<u64>, number: u64) -> bool
 
 /// What is known of the node of a name: there is none, it rests, or it stands under a number and is not known to rest.
 #[derive(Clone, Copy)]
-pub enum Sight<'a> {
-    Nowhere,
+pub enum Presence<'a> {
+    Absent,
     Resting,
     Awake { number: u64, node: &'a Node },
 }
@@ -148,16 +148,16 @@ impl Nodes {
     }
 
     /// What is known of the node of a name.
-    pub fn sight(&self, name: &Name) -> Sight<'_>
-        ensures { IsSightOf self.now name.now result }
+    pub fn presence(&self, name: &Name) -> Presence<'_>
+        ensures { IsPresenceOf self.now name.now result }
     {
         let Some(spot) = spot_of(&self.hints, &self.numbers, &self.roster, name) else {
-            return Sight::Nowhere;
+            return Presence::Absent;
         };
         if is_marked(self.wakings, &self.marks, spot.number) {
-            return Sight::Resting;
+            return Presence::Resting;
         }
-        Sight::Awake {
+        Presence::Awake {
             number: spot.number,
             node: spot.node,
         }

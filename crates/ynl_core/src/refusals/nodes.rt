@@ -13,7 +13,7 @@ ghost use Rattle.ynl_tables.specs.Tables.{state_of};
 ghost use Rattle.ynl_core.specs.Ready.{IsReady};
 
 use ynl_model::Node;
-use ynl_nodes::Sight;
+use ynl_nodes::Presence;
 use ynl_queues::Config;
 use ynl_resource::{Label, Name, Refusal};
 use ynl_tables::{Tables, is_same, is_spent};
@@ -111,10 +111,10 @@ pub(crate) fn refuse_heartbeat<'a>(
     ensures refused { IfErr result (λ refusal. first_that_holds (reasons config.now (state_of tables.now) (Heartbeat name.now)) ≡ Some refusal) }
     ensures ready { IfOk result (IsReady config.now (state_of tables.now) tables.now.nodes.resting name.now) }
 {
-    match tables.nodes.sight(name) {
-        Sight::Nowhere => Err(Refusal::NoSuchNode),
-        Sight::Resting => Ok(Ready::Resting),
-        Sight::Awake { number, node } => match refuse_placing_on(config, tables, name, node) {
+    match tables.nodes.presence(name) {
+        Presence::Absent => Err(Refusal::NoSuchNode),
+        Presence::Resting => Ok(Ready::Resting),
+        Presence::Awake { number, node } => match refuse_placing_on(config, tables, name, node) {
             Some(refusal) => Err(refusal),
             None => Ok(Ready::Awake { number, node }),
         },

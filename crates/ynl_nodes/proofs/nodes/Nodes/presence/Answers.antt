@@ -2,7 +2,7 @@ use Rattle.std.proofs.Common.{◌≡◌, true, sym, ap, subst, ◌∙◌}
 use Rattle.ynl_nodes.specs.Members.{Members, is_among}
 use Rattle.ynl_nodes.proofs.Resting.{marked_rests}
 use Rattle.ynl_nodes.proofs.Whole.{called, spot_found, none_found}
-use Rattle.ynl_nodes.proofs.nodes.Nodes.sight.Goals as goal
+use Rattle.ynl_nodes.proofs.nodes.Nodes.presence.Goals as goal
 
 pub returns-in_default : goal.returns-in_default
 returns-in_default c = sym (none_found c.self.inside.numbers c.self.inside.roster c.self.invariant.indexed c.args.self.now.list (ap (λ (m : Members). m.list) c.self.view_is) c.args.name.now c.in_default.ensures.none)
