@@ -17,12 +17,12 @@ mod Before
 mod Passed
 mod Headroom
 mod Lessened
-mod Wanted
+pub mod Wanted
 mod Over
 pub mod Known
 mod InBlocks
 pub mod Quiet
 mod Seeded
 mod Seen
-mod Leading
+pub mod Leading
 mod Alone

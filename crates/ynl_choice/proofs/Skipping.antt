@@ -33,7 +33,7 @@ use Rattle.ynl_choice.proofs.Quiet.{quiet-held}
 pub wanted-more : (scene : Scene) (rows : List LeafRow) (row : LeafRow) → all_wanted scene (rows ++ row ∷ []) ≡ all_wanted scene rows ++ wanted_in scene row
 wanted-more scene rows row = flat_map-append (wanted_in scene) rows (row ∷ []) ∙ ap (λ items. all_wanted scene rows ++ items) (append-nil (wanted_in scene row))
 
-asks-more : (scene : Scene) (rows : List LeafRow) (row : LeafRow) → all_asks scene (rows ++ row ∷ []) ≡ all_asks scene rows ++ asks_in scene row.path row.apps.items
+pub asks-more : (scene : Scene) (rows : List LeafRow) (row : LeafRow) → all_asks scene (rows ++ row ∷ []) ≡ all_asks scene rows ++ asks_in scene row.path row.apps.items
 asks-more scene rows row =
     let asks : Application → List Item = asks_of scene.label in
     let running : Application → Bool = runs (state_in scene) in

@@ -99,3 +99,14 @@ module _ (scene : Scene) (leaf : Path) (P : Item → Type 0) where
           Each-append P (asks_of scene.label (app_of leaf app)) (asks_in scene leaf apps)
           (among app.asks.items (λ class turn label there. below class turn label (first (ask_waits class turn app) (asks_waiting apps class turn) (and_from (not (app.master_clock == 0)) (list_any (is_ask_at app class turn) app.asks.items) (sym (busy scene leaf app marked.0) ∙ e) there)))) rest
       go false e rest = rest
+
+-- where nothing waits for the partition, nothing is wanted there
+nothing-in : {X : Type 0} (xs : List X) → AllByRecursion (λ (x : X). ⊥) xs → xs ≡ []
+nothing-in [] h = refl
+nothing-in (x ∷ xs) h = absurd h.0
+
+pub no-masters : (scene : Scene) (leaf : Path) (apps : List App) → AllByRecursion (IsMarkedApp (state_in scene) leaf) apps → ((class : Class) (turn : Turn) → same_label class.label scene.label ≡ true → masters_waiting apps class turn ≡ false) → masters_of scene leaf apps ≡ []
+no-masters scene leaf apps marked none = nothing-in (masters_of scene leaf apps) (masters-hold scene leaf (λ item. ⊥) apps marked (λ class turn label there name. absurd (true≢false (sym there ∙ none class turn label))))
+
+pub no-asks : (scene : Scene) (leaf : Path) (apps : List App) → AllByRecursion (IsMarkedApp (state_in scene) leaf) apps → ((class : Class) (turn : Turn) → same_label class.label scene.label ≡ true → asks_waiting apps class turn ≡ false) → asks_in scene leaf apps ≡ []
+no-asks scene leaf apps marked none = nothing-in (asks_in scene leaf apps) (asks-hold scene leaf (λ item. ⊥) apps marked (λ class turn label there name. absurd (true≢false (sym there ∙ none class turn label))))

@@ -1,7 +1,7 @@
 //! The first request of a leaf. Where what waits there is kept, it is found by partition, user, size and turn,
 //! and else the applications are gone through.
 
-ghost use Rattle.std.specs.Prelude.{◌≡◌, Bool, true, false, Option, None, Some, IfSome};
+ghost use Rattle.std.specs.Prelude.{◌≡◌, [], Bool, true, false, Option, None, Some, IfSome};
 ghost use Rattle.std.specs.Bool.{OnTrue, OnFalse};
 ghost use Rattle.std.specs.List.{AllByRecursion};
 ghost use Rattle.ynl_resource.specs.Amounts.{fits_in};
@@ -329,6 +329,34 @@ pub fn add_asks<'a>(
         return BARRED;
     }
     add_first_ask(scene, limits, row, steps, part, held)
+}
+
+/// Whether it is known that no master of a leaf waits for the partition.
+pub fn has_no_masters(scene: &Scene<'_>, row: &LeafRow) -> bool
+    requires { AreMarkedIn (state_in scene.now) row.now }
+    ensures { OnTrue result (masters_in scene.now row.now.path row.now.apps.items ≡ []) }
+{
+    let Some(waiting) = row.masters.rows() else {
+        return false;
+    };
+    match part_for(scene, waiting) {
+        Some(_) => false,
+        None => true,
+    }
+}
+
+/// Whether it is known that no running application of a leaf asks for anything on the partition.
+pub fn has_no_asks(scene: &Scene<'_>, row: &LeafRow) -> bool
+    requires { AreMarkedIn (state_in scene.now) row.now }
+    ensures { OnTrue result (asks_in scene.now row.now.path row.now.apps.items ≡ []) }
+{
+    let Some(waiting) = row.asks.rows() else {
+        return false;
+    };
+    match part_for(scene, waiting) {
+        Some(_) => false,
+        None => true,
+    }
 }
 
 /// An amount that none of what waits for the partition is below.

@@ -60,7 +60,7 @@ fn standings_order(a: &[Standing<'_>], b: &[Standing<'_>]) -> Ordering
 }
 
 /// Within an application the master is first, and then the lower priority number.
-fn rank_order(a: &What, b: &What) -> Ordering
+pub fn rank_order(a: &What, b: &What) -> Ordering
     ensures { result ≡ rank_order a.now b.now }
 {
     match (a, b) {

@@ -21,7 +21,8 @@ use ynl_queues::{Config, share_of, step_at};
 use ynl_resource::{Label, Name, Resource};
 use ynl_tables::{Tables, used};
 
-fn last_of(queue: &[Name]) -> &Name
+/// The name of a queue below root.
+pub fn last_of(queue: &[Name]) -> &Name
     requires { 0 < length queue.now }
     ensures { result.now ≡ last_name queue.now }
 {
