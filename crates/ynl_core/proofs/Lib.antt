@@ -5,3 +5,4 @@ pub mod RunMore
 pub mod Alone
 pub mod Reserved
 pub mod Lulled
+pub mod Sighting

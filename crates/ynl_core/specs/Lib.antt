@@ -5,3 +5,4 @@ pub mod World
 pub mod Sure
 pub mod Runs
 pub mod Isolated
+pub mod Sightings

@@ -9,6 +9,7 @@ ghost use Rattle.ynl_model.specs.Check.{proposed, commit_reasons};
 ghost use Rattle.ynl_model.specs.Cluster.{containers_on, node_of};
 ghost use Rattle.ynl_model.specs.Limits.{user_limit, master_limit};
 ghost use Rattle.ynl_core.specs.Sure.{is_refused, takes_no_memory};
+ghost use Rattle.ynl_core.specs.Sightings.{IsSighting, reply_by};
 ghost use Rattle.ynl_core.specs.World.{opened, beaten, Answers};
 
 use crate::memory::NoMemory;
@@ -17,6 +18,7 @@ use crate::refusals::{
     refuse_poll, refuse_propose, refuse_register, refuse_relabel, refuse_release, refuse_start,
     refuse_stop, refuse_submit, refuse_usage,
 };
+use crate::sightings::Sighted;
 use std::alloc::Global;
 use std::marker::Model;
 use ynl_changes::{
@@ -30,6 +32,7 @@ use ynl_choice::{
 use ynl_model::{AskRow, Event, Items, Placed, Proposal, Reply};
 use ynl_queues::Config;
 use ynl_resource::{Hundredths, Id, Label, Name, Path, Refusal, Resource, Size};
+use ynl_sights::Sight;
 use ynl_tables::{
     Tables, containers_at, list_live, note_seat, own_containers, pending_on, rest, usage_of, wake,
 };
@@ -499,6 +502,22 @@ impl Core {
     {
         let rows = containers_at(&self.tables.partitions, label);
         Ok(list_live(alloc, label, rows)?)
+    }
+
+    /// A copy of what a choice on the node reads, or the first reason for which nothing may be placed there. The choice from the
+    /// copy is the reply to a propose on the node now. Nothing changes; `Err` only if memory is refused.
+    #[tactic(auto, unfolding(ynl_model::specs::Events::reasons))]
+    #[inline(never)]
+    pub fn sight(&self, node: &Name) -> Result<Sighted, NoMemory>
+        ensures sighting { IfOk result (IsSighting self.now node.now) }
+        ensures told { IfOk result (λ sighted. Answers self.now (Propose node.now) self.now (reply_by sighted)) }
+    {
+        let node = match refuse_propose(&self.config, &self.tables, node) {
+            Ok(node) => node,
+            Err(refusal) => return Ok(Sighted::Refused(refusal)),
+        };
+        let alloc = *self.tables.leaves.allocator();
+        Ok(Sighted::Seen(Sight::copy(alloc, &self.config, &self.tables, &node)?))
     }
 
     /// What would be placed on the node next, with its stamp; nothing where there is no such node. It

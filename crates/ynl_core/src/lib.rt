@@ -5,9 +5,11 @@ pub use cluster::Core;
 pub use memory::NoMemory;
 pub use running::run;
 pub use runs::{Answer, Run};
+pub use sightings::Sighted;
 
 mod cluster;
 mod memory;
 mod refusals;
 mod running;
 mod runs;
+mod sightings;

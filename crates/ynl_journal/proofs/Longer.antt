@@ -10,6 +10,9 @@ use Rattle.ynl_model.specs.Queues.{Config}
 use Rattle.ynl_model.specs.Cluster.{State, opening}
 use Rattle.ynl_model.specs.Events.{IsHistory, step, after, replies, replies_to, state_after}
 use Rattle.ynl_core.specs.World.{World, Answers}
+use Rattle.ynl_core.specs.Sightings.{reply_by, reply_before}
+use Rattle.ynl_core.specs.declared.sightings.Sighted.{Sighted}
+use Rattle.ynl_core.specs.declared.sightings.Sighted.TheVariants.{Refused, Seen}
 use Rattle.ynl_core.proofs.RunMore.{replies_push, state_push}
 use Rattle.ynl_journal.specs.Journal.{entry, events_in, replayed, FitsReply, Agrees, FirstDiffers}
 
@@ -137,3 +140,16 @@ history_more c es done longer i e old new r inside at is same closed step_is mor
       ap events_in more ∙ events_push done n ∙ ap push same ∙ sym (ap events_in (take_one_more es i e inside at) ∙ events_push (take i es) e),
       history_push c done longer e.event r more (known_reply c done old new e.event r is step_is) closed,
     )
+
+-- an entry more, whatever is written down of its reply, if it fits
+pub grown_fitting : (old new : World) (es longer : List Entry) (event : Event) (o : Option Reply) (r : Reply) → old ≡ replayed old.config es → Agrees old.config es → Answers old event new r → FitsReply (entry event o) r → longer ≡ es ++ entry event o ∷ [] → Agrees new.config longer
+grown_fitting old new es longer event o r is agrees step_is fits more =
+    let Q : List Entry → Type 0 = λ xs. Agrees old.config xs in
+    let C : Config → Type 0 = λ c. Agrees c longer in
+    let F : Reply → Type 0 = λ x. FitsReply (entry event o) x in
+    subst C (sym (ap (λ (w : World). w.config) step_is.left)) (subst Q (sym more) (agrees_push old.config es (entry event o) agrees (subst F (known_reply old.config es old new event r is step_is) fits)))
+
+-- what is written down before the choice is made fits the reply
+pub before_fits : (event : Event) (sighted : Sighted) → FitsReply (entry event (reply_before sighted)) (reply_by sighted)
+before_fits event (Refused refusal) = refl
+before_fits event (Seen seen) = tt

@@ -6,3 +6,4 @@ pub mod Faults
 pub mod Causes
 pub mod Alone
 pub mod Counts
+pub mod Sightings

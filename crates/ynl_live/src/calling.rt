@@ -1,8 +1,11 @@
 //! Calls: a book behind one lock.
 
-ghost use Rattle.std.specs.Prelude.{◌≡◌, ◌≤◌, [], ◌∷◌, ◌++◌, length, IfOk, IfErr, OnErr, Some};
+ghost use Rattle.std.specs.Prelude.{◌≡◌, ◌≤◌, ◌<◌, ◌+◌, ◌^◌, [], ◌∷◌, ◌++◌, length, IfOk, IfErr, OnErr, Some};
 ghost use Rattle.ynl_model.specs.Events.{state_after, step};
-ghost use Rattle.ynl_journal.specs.Journal.{Journal, entry, events_in};
+ghost use Rattle.ynl_model.specs.declared.events.Event.TheVariants.{Propose};
+ghost use Rattle.ynl_core.specs.Sightings.{IsSighting, reply_by, reply_before};
+ghost use Rattle.ynl_journal.specs.Journal.{Journal, entry, events_in, replayed};
+ghost use Rattle.ynl_live.specs.Sightings.{IsOfNode};
 ghost use Rattle.ynl_live.specs.Seats.{passed};
 ghost use Rattle.ynl_live.specs.Faults.{IsFaultAt, IsFaultBehind};
 
@@ -12,10 +15,11 @@ use std::alloc::Global;
 use std::marker::Model;
 use std::sync::{Mutex, Wait};
 use thiserror::Error;
-use ynl_core::NoMemory;
+use ynl_core::{NoMemory, Sighted};
 use ynl_journal::Book;
 use ynl_model::Event;
 use ynl_queues::Config;
+use ynl_resource::Name;
 
 /// Why a call was not answered. The seat is then as before, and so is the journal.
 #[derive(Clone, Copy, Debug, PartialEq, Eq, Error)]
@@ -91,6 +95,38 @@ impl Live {
     {
         enter(&mut self.book.lock(rt), seat, &event)
     }
+
+    /// Waits for its turn, has a propose on the node entered, and gives its place and a copy of what the choice there reads, or
+    /// the reason for which it is refused. The caller works out the reply without the lock, by `ynl_sights::plan`, and makes the
+    /// receipt. It is one call of `see` while it has the lock; `Behind` as in `call`.
+    pub fn sight<R: Wait>(
+        &self,
+        rt: &R,
+        seat: &mut Seat,
+        node: &Name,
+    ) -> Result<(u64, Sighted), CallFault>
+        ensures node { IfOk result (λ seen. IsOfNode node.now seen.1) }
+        ensures later { IfOk result (λ seen. seat.old.front ≤ seen.0) }
+        ensures seat { IfOk result (λ seen. seat.new ≡ passed seat.old seen.0) }
+        ensures fault { IfErr result (IsFaultAt seat.old.front) }
+        ensures err { OnErr result (seat.new ≡ seat.old) }
+    {
+        see(&mut self.book.lock(rt), seat, node)
+    }
+}
+
+/// The place of the next entry. A seat whose front is past it is of another `Live`.
+fn next_place(book: &Book, seat: &Seat) -> Result<u64, CallFault>
+    ensures place { IfOk result (λ place. place ≡ length book.now.entries) }
+    ensures later { IfOk result (λ place. seat.now.front ≤ place) }
+    ensures counted { IfOk result (λ place. place + 1 < 2 ^ 64) }
+    ensures fault { IfErr result (IsFaultBehind (length book.now.entries) seat.now.front) }
+{
+    let entered = book.entries().len() as u64;
+    if entered < seat.front() {
+        return Err(CallFault::Behind(entered));
+    }
+    Ok(entered)
 }
 
 /// What a call does while it has the lock.
@@ -104,11 +140,8 @@ fn enter(book: &mut Book, seat: &mut Seat, event: &Event) -> Result<Receipt, Cal
     ensures fault { IfErr result (IsFaultBehind (length book.old.entries) seat.old.front) }
     ensures err { OnErr result ((seat.new ≡ seat.old) × (book.new ≡ book.old)) }
 {
-    let entered = book.entries().len() as u64;
-    if entered < seat.front() {
-        return Err(CallFault::Behind(entered));
-    }
-    let Ok((place, reply)) = book.enter(*event) else {
+    let place = next_place(book, seat)?;
+    let Ok((_, reply)) = book.enter(*event) else {
         return Err(CallFault::NoMemory);
     };
     seat.pass(place);
@@ -117,4 +150,24 @@ fn enter(book: &mut Book, seat: &mut Seat, event: &Event) -> Result<Receipt, Cal
         event: *event,
         reply,
     })
+}
+
+/// What a sight does while it has the lock.
+fn see(book: &mut Book, seat: &mut Seat, node: &Name) -> Result<(u64, Sighted), CallFault>
+    ensures place { IfOk result (λ seen. seen.0 ≡ length book.old.entries) }
+    ensures node { IfOk result (λ seen. IsOfNode node.now seen.1) }
+    ensures sighting { IfOk result (λ seen. IsSighting (replayed book.old.config book.old.entries) node.now seen.1) }
+    ensures reply { IfOk result (λ seen. reply_by seen.1 ≡ (step book.old.config (state_after book.old.config (events_in book.old.entries)) (Propose node.now)).reply) }
+    ensures entry { IfOk result (λ seen. book.new ≡ record book.old { entries = book.old.entries ++ entry (Propose node.now) (reply_before seen.1) ∷ [] }) }
+    ensures later { IfOk result (λ seen. seat.old.front ≤ seen.0) }
+    ensures seat { IfOk result (λ seen. seat.new ≡ passed seat.old seen.0) }
+    ensures fault { IfErr result (IsFaultBehind (length book.old.entries) seat.old.front) }
+    ensures err { OnErr result ((seat.new ≡ seat.old) × (book.new ≡ book.old)) }
+{
+    let place = next_place(book, seat)?;
+    let Ok((_, sighted)) = book.enter_propose(node) else {
+        return Err(CallFault::NoMemory);
+    };
+    seat.pass(place);
+    Ok((place, sighted))
 }

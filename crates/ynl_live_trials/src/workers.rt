@@ -13,12 +13,13 @@ use std::time::Duration;
 use ynl_live::{Live, Receipt, Seat};
 use ynl_model::{Event, Reply};
 use ynl_resource::{Id, Name, Refusal};
-use ynl_workers::{End, Gate, Go, WorkerEnd, run_round};
+use ynl_workers::{End, Gate, Go, Sight, WorkerEnd, run_round};
 
-/// Worker 1 waits before its commit until worker 0 is before its own, and worker 0 waits there until
-/// worker 1's commit is answered. Each wait ends after ten seconds, and is then told to be late.
+/// Worker 1 waits before its commit until worker 0 is before its plan, or before its own commit, and worker 0
+/// waits there until worker 1's commit is answered. Each wait ends after ten seconds, and is then told to be late.
 struct Overlap<'a, R> {
     rt: &'a R,
+    in_plan: bool,
     met: AtomicU64,
     committed: AtomicU64,
     late: AtomicU64,
@@ -28,6 +29,7 @@ impl<R> Drop for Overlap<'_, R> {
     fn drop(self) {
         let Overlap {
             rt: _,
+            in_plan: _,
             met: _,
             committed: _,
             late: _,
@@ -36,9 +38,10 @@ impl<R> Drop for Overlap<'_, R> {
 }
 
 impl<'a, R: Clock> Overlap<'a, R> {
-    fn new(rt: &'a R) -> Overlap<'a, R> {
+    fn new(rt: &'a R, in_plan: bool) -> Overlap<'a, R> {
         Overlap {
             rt,
+            in_plan,
             met: AtomicU64::new(0),
             committed: AtomicU64::new(0),
             late: AtomicU64::new(0),
@@ -54,17 +57,27 @@ impl<'a, R: Clock> Overlap<'a, R> {
         }
         self.late.store(1, Ordering::SeqCst);
     }
+
+    fn overlap(&self) {
+        self.met.store(1, Ordering::SeqCst);
+        self.wait_for(&self.committed);
+    }
 }
 
 impl<R: Clock> Gate for Overlap<'_, R> {
     ghost is_free = { λ _. Unit {0} };
 
+    fn before_plan(&self, worker: u64, _turn: u64, _sight: &Sight) {
+        if self.in_plan && worker == 0 {
+            self.overlap();
+        }
+    }
+
     fn before_commit(&self, worker: u64, _turn: u64) -> Go {
         if worker == 1 {
             self.wait_for(&self.met);
-        } else {
-            self.met.store(1, Ordering::SeqCst);
-            self.wait_for(&self.committed);
+        } else if !self.in_plan {
+            self.overlap();
         }
         Go::On
     }
@@ -114,6 +127,8 @@ fn digit_of(worker: u64, turn: u64) -> u64 {
 
 impl Gate for HaltsAt {
     ghost is_free = { λ _. ⊥ };
+
+    fn before_plan(&self, _worker: u64, _turn: u64, _sight: &Sight) {}
 
     fn before_commit(&self, worker: u64, turn: u64) -> Go {
         self.asked
@@ -209,6 +224,7 @@ pub(crate) fn gathered(
 fn two_that_overlap<R: Threads + Wait + Abort + Clock + Sync>(
     rt: &R,
     alloc: Global,
+    in_plan: bool,
 ) -> Result<(), Fail> {
     let Started {
         live,
@@ -217,7 +233,7 @@ fn two_that_overlap<R: Threads + Wait + Abort + Clock + Sync>(
     } = play_script(rt, alloc)?;
     let seats = vec![in alloc; seat.split(), seat.split()]?;
     let lists = [turns(alloc, 1)?, turns(alloc, 1)?];
-    let gate = Overlap::new(rt);
+    let gate = Overlap::new(rt, in_plan);
     let ends = run_round(rt, alloc, &live, seats, &lists, &gate)
         .ok()
         .ok_or("not run")?;
@@ -236,7 +252,14 @@ fn two_that_overlap<R: Threads + Wait + Abort + Clock + Sync>(
 
 #[test]
 fn workers_overlap_before_the_commit(rt: HostRuntime) -> Result<(), Fail> {
-    two_that_overlap(&rt, rt.alloc())
+    two_that_overlap(&rt, rt.alloc(), false)
+}
+
+/// While worker 0 is about to plan, with its copy of what the choice reads, worker 1 plans and commits: worker 0 has no lock,
+/// or worker 1's commit would be late.
+#[test]
+fn workers_overlap_before_the_plan(rt: HostRuntime) -> Result<(), Fail> {
+    two_that_overlap(&rt, rt.alloc(), true)
 }
 
 /// How each worker ended, and how many receipts it has.

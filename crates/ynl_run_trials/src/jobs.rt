@@ -12,7 +12,7 @@ use ynl_config::built_in;
 use ynl_resource::{Label, Name};
 use ynl_tool::{Summary, ToolFault, audit_lines, live_lines, run_lines, tenant_lines};
 use ynl_view::sole;
-use ynl_workers::{Gate, Go};
+use ynl_workers::{Gate, Go, Sight};
 
 const REGISTER: &[u8] =
     b"{\"event\":\"register\",\"label\":\"gpu\",\"memory\":10000,\"node\":\"g1\",\"vcores\":10}\n{\"event\":\"";
@@ -400,6 +400,8 @@ impl Gate for Free {
     ghost use Rattle.std.specs.Prelude.{⊤};
 
     ghost is_free = { λ _. ⊤ };
+
+    fn before_plan(&self, _worker: u64, _turn: u64, _sight: &Sight) {}
 
     fn before_commit(&self, _worker: u64, _turn: u64) -> Go {
         Go::On

@@ -4,7 +4,7 @@ use std::alloc::Global;
 use std::rt::Clock;
 use std::sync::atomic::{AtomicU64, Ordering};
 use std::time::{Duration, Instant};
-use ynl_workers::{Gate, Go};
+use ynl_workers::{Gate, Go, Sight};
 
 /// The whole microseconds of a time, or the most that a number has.
 pub(crate) fn micros(time: Duration) -> u64 {
@@ -72,6 +72,8 @@ impl<'a, R: Clock> Watch<'a, R> {
 
 impl<R: Clock> Gate for Watch<'_, R> {
     ghost is_free = { λ _. Unit {0} };
+
+    fn before_plan(&self, _worker: u64, _turn: u64, _sight: &Sight) {}
 
     fn before_commit(&self, worker: u64, _turn: u64) -> Go {
         if let Some(times) = self.times.get(worker as usize) {

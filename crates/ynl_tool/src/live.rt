@@ -18,7 +18,7 @@ use ynl_lines::{InputFault, write_line};
 use ynl_model::Entry;
 use ynl_queues::Config;
 use ynl_session::{SessionFault, run_session};
-use ynl_workers::{Gate, Go};
+use ynl_workers::{Gate, Go, Sight};
 
 /// Lets each worker go on.
 pub(crate) struct FreeGate;
@@ -27,6 +27,8 @@ impl Gate for FreeGate {
     ghost use Rattle.std.specs.Prelude.{⊤};
 
     ghost is_free = { λ _. ⊤ };
+
+    fn before_plan(&self, _worker: u64, _turn: u64, _sight: &Sight) {}
 
     fn before_commit(&self, _worker: u64, _turn: u64) -> Go {
         Go::On

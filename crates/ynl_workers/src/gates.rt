@@ -2,6 +2,8 @@
 
 ghost use Rattle.std.specs.Prelude.{◌≡◌};
 
+use ynl_sights::Sight;
+
 /// Whether a worker goes on.
 #[derive(Clone, Copy, Debug, PartialEq, Eq)]
 pub enum Go {
@@ -16,6 +18,9 @@ pub enum Go {
 pub trait Gate {
     /// A free gate lets each worker go on.
     ghost is_free: { Self → Type 0 };
+
+    /// A worker has a copy of what the choice on its node reads, and is about to make the choice from it.
+    fn before_plan(&self, worker: u64, turn: u64, sight: &Sight);
 
     /// A worker was answered a proposal, and has not committed it yet.
     fn before_commit(&self, worker: u64, turn: u64) -> Go

@@ -1,15 +1,18 @@
 //! One worker: its turns, one on each node.
 
 ghost use Rattle.std.specs.Prelude.{◌≡◌, ℕ, ◌+◌, ◌*◌, ◌≤◌, ◌<◌, [], ◌∷◌, ◌++◌, length, vec_len, vec_capacity, IfOk, OnOk, OnErr, ◌⊎◌};
+ghost use Rattle.ynl_core.specs.Sightings.{reply_by};
 ghost use Rattle.ynl_live.specs.declared.receipts.Receipt.{Receipt};
 ghost use Rattle.ynl_workers.specs.Turns.{IsAsked, proposal_in};
 ghost use Rattle.ynl_workers.specs.Works.{AreCallsOn, IsWork, Adds, end_of};
 
 use crate::gates::{Gate, Go};
 use std::sync::Wait;
+use ynl_core::Sighted;
 use ynl_live::{CallFault, Live, Receipt, Seat};
 use ynl_model::{Event, Proposal, Reply};
 use ynl_resource::Name;
+use ynl_sights::plan;
 
 /// How a worker came to its end.
 #[derive(Clone, Copy, Debug, PartialEq, Eq)]
@@ -88,7 +91,7 @@ pub(crate) fn work<R: Wait, G: Gate>(
     End::Whole
 }
 
-/// Asks what would be placed on the node, and commits what is answered, where the gate lets it.
+/// Asks what would be placed on the node, and commits the proposal if there is one and the gate lets it.
 fn take_turn<R: Wait, G: Gate>(
     rt: &R,
     live: &Live,
@@ -101,7 +104,7 @@ fn take_turn<R: Wait, G: Gate>(
     ensures capacity { vec_capacity receipts.new ≡ vec_capacity receipts.old }
     ensures adds { Adds (G.is_free gate.now) turn.node receipts.old.items receipts.new.items seat.old seat.new result }
 {
-    let proposal = match ask(rt, live, turn.node, seat, receipts) {
+    let proposal = match ask(rt, live, gate, &turn, seat, receipts) {
         Ok(Some(proposal)) => proposal,
         Ok(None) => return End::Whole,
         Err(fault) => return end_of(fault),
@@ -118,22 +121,44 @@ fn take_turn<R: Wait, G: Gate>(
     }
 }
 
-/// Asks what would be placed on the node, and keeps the receipt.
-fn ask<R: Wait>(
+/// The reply to a propose, worked out from what was seen. It has no `Live`: others go on while the gate and the plan take their
+/// time.
+fn answer<G: Gate>(gate: &G, turn: &Turn, sighted: &Sighted) -> Reply
+    ensures { result ≡ reply_by sighted.now }
+{
+    match sighted {
+        Sighted::Refused(refusal) => Reply::Refused(*refusal),
+        Sighted::Seen(sight) => {
+            gate.before_plan(turn.worker, turn.number, sight);
+            Reply::Proposed(plan(sight))
+        }
+    }
+}
+
+/// Asks what would be placed on the node, and keeps the receipt. The cluster is seen under the lock, and the choice is made
+/// without it.
+fn ask<R: Wait, G: Gate>(
     rt: &R,
     live: &Live,
-    node: Name,
+    gate: &G,
+    turn: &Turn,
     seat: &mut Seat,
     receipts: &mut Vec<Receipt>,
 ) -> Result<Option<Proposal>, CallFault>
     requires { vec_len receipts.old < vec_capacity receipts.old }
     ensures capacity { vec_capacity receipts.new ≡ vec_capacity receipts.old }
-    ensures receipt { IfOk result (λ found. (asked : Receipt) × (receipts.new.items ≡ receipts.old.items ++ asked ∷ []) × IsAsked node found asked × AreCallsOn seat.old seat.new (asked ∷ [])) }
+    ensures receipt { IfOk result (λ found. (asked : Receipt) × (receipts.new.items ≡ receipts.old.items ++ asked ∷ []) × IsAsked turn.now.node found asked × AreCallsOn seat.old seat.new (asked ∷ [])) }
     ensures err { OnErr result ((seat.new ≡ seat.old) × (receipts.new ≡ receipts.old)) }
 {
-    let receipt = live.call(rt, seat, Event::Propose { node })?;
-    let found = proposal_of(&receipt.reply);
-    receipts.push_reserved(receipt);
+    let node = turn.node;
+    let (place, sighted) = live.sight(rt, seat, &node)?;
+    let reply = answer(gate, turn, &sighted);
+    let found = proposal_of(&reply);
+    receipts.push_reserved(Receipt {
+        place,
+        event: Event::Propose { node },
+        reply,
+    });
     Ok(found)
 }
 

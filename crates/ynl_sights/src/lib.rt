@@ -1,0 +1,14 @@
+//! Sights: owned copies of what a choice on a node reads, and the choice made from one.
+#![tactic(auto)]
+
+pub use planning::plan;
+pub use sights::Sight;
+
+mod copying;
+mod gathering;
+pub mod laws;
+mod planning;
+mod rows;
+mod sights;
+mod sources;
+mod ways;

@@ -1,0 +1,102 @@
+//! The rows of a sight: leaves of which something is wanted on a partition, the queues on the way to each, and its requests.
+
+ghost use Rattle.std.specs.Prelude.{◌≡◌, ◌≤◌, map};
+ghost use Rattle.ynl_resource.specs.Names.{tenant_of};
+ghost use Rattle.ynl_resource.specs.Ranges.{whole};
+ghost use Rattle.ynl_tables.specs.Bounds.{IsTotal};
+
+use ynl_resource::{Name, Resource, Size};
+
+/// What a queue uses of the partition, and the most that it may use.
+#[derive(Clone, Copy)]
+pub(crate) struct Margin {
+    pub used: Resource,
+    pub maximum: Resource,
+    ghost small: { IsTotal used },
+}
+
+/// A queue on the way to a leaf. What it is guaranteed is counted by memory.
+#[derive(Clone, Copy)]
+pub(crate) struct QueueSight {
+    pub margin: Margin,
+    pub guaranteed: u64,
+    pub name: Name,
+}
+
+/// The queues on the way to a leaf, from the top-level queue down to the leaf.
+#[derive(Drop)]
+pub(crate) struct Way {
+    pub queues: Vec<QueueSight>,
+    pub tenant: Name,
+    ghost of_tenant: { tenant ≡ tenant_of (map (λ queue. queue.name) queues.items) },
+}
+
+/// What the requests of a leaf are tested against, besides the margins on its way: root's margin, and what the limits of its
+/// users and masters are made of.
+#[derive(Clone, Copy)]
+pub(crate) struct Limits {
+    pub root: Margin,
+    pub used: Resource,
+    pub guaranteed: Resource,
+    pub users: u64,
+    pub minimum_user_limit_percent: u64,
+    pub user_cap: Resource,
+    pub masters: Resource,
+    pub master_limit: Resource,
+    pub no_master: bool,
+    ghost small: { (IsTotal used) × (IsTotal guaranteed) × (IsTotal masters) },
+    ghost some_users: { 1 ≤ users },
+    ghost percent: { minimum_user_limit_percent ≤ whole },
+}
+
+/// A request of an application, with the application's place in the leaf. The priority is an ask's; of a master it says
+/// nothing.
+#[derive(Clone, Copy)]
+pub(crate) struct Wanted {
+    pub place: u64,
+    pub size: Size,
+    pub priority: u32,
+    pub app: Name,
+    pub user: Name,
+}
+
+/// A request, with what its user uses of the leaf.
+#[derive(Clone, Copy)]
+pub(crate) struct Offered {
+    pub user_used: Resource,
+    pub wanted: Wanted,
+    ghost small: { IsTotal user_used },
+}
+
+/// A leaf with what is wanted of it on the node's partition.
+pub(crate) struct LeafSight {
+    pub way: Way,
+    pub limits: Limits,
+    pub masters: Vec<Offered>,
+    pub asks: Vec<Offered>,
+}
+
+// By hand, as that of `Sight`.
+impl Drop for LeafSight {
+    fn drop(self) {
+        let LeafSight {
+            way: _,
+            limits: _,
+            masters: _,
+            asks: _,
+        } = self;
+    }
+}
+
+/// A leaf with what is asked for there on DEFAULT. Guests are tested for room alone.
+pub(crate) struct GuestSight {
+    pub way: Way,
+    pub asks: Vec<Wanted>,
+}
+
+// By hand, as that of `Sight`.
+impl Drop for GuestSight {
+    fn drop(self) {
+        let GuestSight { way: _, asks: _ } = self;
+    }
+}
