@@ -7,6 +7,8 @@ mod callers;
 #[cfg(test)]
 mod events;
 #[cfg(test)]
+mod plans;
+#[cfg(test)]
 mod refusals;
 #[cfg(test)]
 mod sessions;

@@ -2,10 +2,10 @@
 
 use std::test::Fail;
 use ynl_config::built_in;
-use ynl_core::{Core, NoMemory};
+use ynl_core::{Core, NoMemory, Sighted};
 use ynl_journal::{AuditFault, Book, Entry, audit, replay};
 use ynl_model::{Event, Reply};
-use ynl_resource::{Label, Name, Size};
+use ynl_resource::{Label, Name, Refusal, Size};
 
 /// A node joins, and joins again, which is refused; then it is ready for more.
 fn event(number: u64) -> Result<Event, Fail> {
@@ -69,6 +69,40 @@ fn is_told(rt: &HostRuntime, entries: &[Entry]) -> Result<bool, Fail> {
     let whole = audited(rt, entries)? == Ok(());
     let other = audited(rt, later)? == Err(AuditFault::Differs(1));
     Ok(whole && other && !places(rt, entries)?)
+}
+
+/// Enters a propose; where memory is refused, which a line tells, no entry is added, and the second try enters it.
+fn seen(rt: &HostRuntime, book: &mut Book) -> Result<(u64, Sighted), Fail> {
+    let node = Name::parse("g1")?;
+    let count = book.entries().len();
+    match book.enter_propose(&node) {
+        Ok(told) => Ok(told),
+        Err(NoMemory) => {
+            println!(rt; "refused")?;
+            if book.entries().len() > count {
+                return Err(Fail::new("an entry was added"));
+            }
+            Ok(book.enter_propose(&node)?)
+        }
+    }
+}
+
+/// A propose on a node that is not there is entered with its refusal, and one on a node that is without a reply.
+#[test]
+fn enters_a_propose_at_the_second_try(rt: HostRuntime) -> Result<(), Fail> {
+    let mut book = Book::open(rt.alloc(), built_in(rt.alloc())?)?;
+    let first = seen(&rt, &mut book)?;
+    assert!(rt; first.0 == 0 && matches!(&first.1, Sighted::Refused(Refusal::NoSuchNode)));
+    let _joined = entered(&rt, &mut book, 0)?;
+    let second = seen(&rt, &mut book)?;
+    assert!(rt; second.0 == 2 && matches!(&second.1, Sighted::Seen(_)));
+    let has_reply = |place: usize| match book.entries().get(place) {
+        Some(entry) => entry.reply.is_some(),
+        None => false,
+    };
+    assert!(rt; has_reply(0) && has_reply(1) && !has_reply(2));
+    assert_eq!(rt; audited(&rt, book.entries())?, Ok(()));
+    Ok(())
 }
 
 #[test]

@@ -9,4 +9,6 @@ mod jobs;
 #[cfg(test)]
 mod journals;
 #[cfg(test)]
+mod sights;
+#[cfg(test)]
 mod views;
