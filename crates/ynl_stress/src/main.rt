@@ -2,7 +2,8 @@
 //! finishes, and loses nodes. The closed journal is written to standard output, and the figures to
 //! standard error.
 //!
-//! Its words are four numbers: of the workers, the nodes, the rounds, and the caller's steps.
+//! Its words are five numbers: of the workers, the nodes, the rounds, the caller's steps, and the applications that wait for
+//! good.
 #![tactic(auto)]
 
 use crew::Crew;
@@ -30,6 +31,7 @@ struct Load {
     nodes: u64,
     rounds: u64,
     steps: u64,
+    waiting: u64,
 }
 
 fn load_of(rt: &HostRuntime) -> anyhow::Result<Load> {
@@ -38,13 +40,16 @@ fn load_of(rt: &HostRuntime) -> anyhow::Result<Load> {
         numbers.push(word.parse::<u64>()?)?;
     }
     match numbers.as_slice() {
-        [workers, nodes, rounds, steps] => Ok(Load {
+        [workers, nodes, rounds, steps, waiting] => Ok(Load {
             workers: *workers,
             nodes: *nodes,
             rounds: *rounds,
             steps: *steps,
+            waiting: *waiting,
         }),
-        _ => Err(anyhow::anyhow!("four numbers are wanted: workers, nodes, rounds, steps")),
+        _ => Err(anyhow::anyhow!(
+            "five numbers are wanted: workers, nodes, rounds, steps, waiting"
+        )),
     }
 }
 
@@ -105,10 +110,13 @@ fn main(rt: HostRuntime) -> anyhow::Result<()> {
     let mut crew = Crew::new(alloc, seat.split(), load.workers, load.nodes)?;
     let mut writer = Writer::new(alloc, seat);
     writer.register_nodes(&rt, &live, load.nodes)?;
+    writer.submit_waiting(&rt, &live, load.waiting)?;
     let took = put_to_work(&rt, &live, load, &mut crew, &mut writer)?;
     let (commit, call) = (crew.longest, writer.longest);
     let entries = closed(alloc, live, crew, writer)?;
-    let calls = (entries.len() as u64).saturating_sub(load.nodes);
+    let calls = (entries.len() as u64)
+        .saturating_sub(load.nodes)
+        .saturating_sub(load.waiting);
     eprintln!(&rt;
         "{calls} calls in {took} ms; longest commit of a worker {commit} us, longest call beside them {call} us"
     )?;

@@ -72,10 +72,14 @@ impl Writer {
         Ok(())
     }
 
-    fn submit<R: Wait + Clock>(&mut self, rt: &R, live: &Live, number: u64) -> anyhow::Result<()> {
-        let app = self.named('a', number)?;
+    fn submit<R: Wait + Clock>(
+        &mut self,
+        rt: &R,
+        live: &Live,
+        app: Name,
+        master: Size,
+    ) -> anyhow::Result<()> {
         let label = Label::parse("gpu")?;
-        let size = Size::new(1000, 1).context("a size")?;
         let (queue, user) = (Path::parse("root.eng")?, Name::parse("ann")?);
         self.call(
             rt,
@@ -85,10 +89,33 @@ impl Writer {
                 app,
                 user,
                 label: Some(label),
-                master: size,
+                master,
             },
-        )?;
-        let tenant = Name::parse("eng")?;
+        )
+    }
+
+    /// Submits as many applications, w0, w1 and so on, whose masters are larger than any node and so wait for good.
+    pub(crate) fn submit_waiting<R: Wait + Clock>(
+        &mut self,
+        rt: &R,
+        live: &Live,
+        count: u64,
+    ) -> anyhow::Result<()> {
+        let master = Size::new(20000, 1).context("a size")?;
+        for number in 0..count {
+            let app = self.named('w', number)?;
+            self.submit(rt, live, app, master)?;
+        }
+        self.longest = 0;
+        Ok(())
+    }
+
+    /// Submits an application that asks for four containers.
+    fn start<R: Wait + Clock>(&mut self, rt: &R, live: &Live, number: u64) -> anyhow::Result<()> {
+        let app = self.named('a', number)?;
+        let size = Size::new(1000, 1).context("a size")?;
+        self.submit(rt, live, app, size)?;
+        let (tenant, label) = (Name::parse("eng")?, Label::parse("gpu")?);
         self.call(
             rt,
             live,
@@ -124,7 +151,7 @@ impl Writer {
         nodes: u64,
     ) -> anyhow::Result<()> {
         for step in 0..steps {
-            self.submit(rt, live, step)?;
+            self.start(rt, live, step)?;
             if step >= LIVE {
                 self.finish(rt, live, step - LIVE)?;
             }
