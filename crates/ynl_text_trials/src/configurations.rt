@@ -1,7 +1,7 @@
-//! Configurations that are read or checked at the second try. What texts mean, and their faults, are cases.
+//! A configuration that is read at the second try. What texts mean, and their faults, are cases.
 
 use std::test::Fail;
-use ynl_config::{ConfigFault, Misplaced, check_config, read_config};
+use ynl_config::read_config;
 use ynl_queues::Config;
 
 /// Two labels, and a queue that has all of DEFAULT.
@@ -27,29 +27,5 @@ fn reads_at_the_second_try(rt: HostRuntime) -> Result<(), Fail> {
     assert_eq!(rt; config.queues().len(), 1);
     assert_eq!(rt; config.containers_per_heartbeat(), 1);
     assert_eq!(rt; config.maximum_allocation().amount().vcores, 65536);
-    Ok(())
-}
-
-/// The same, but that its queue may use less than it is guaranteed.
-const LOW: &str =
-    "version = 1\n[[queue]]\npath = \"root.a\"\ncapacity = 100\nmaximum-capacity = 30\n";
-
-fn misplaced(rt: &HostRuntime, text: &str) -> Result<Option<Misplaced>, Fail> {
-    match check_config(rt.alloc(), text.as_bytes()) {
-        Ok(read) => Ok(read.err()),
-        Err(_) => {
-            println!(rt; "refused")?;
-            Ok(check_config(rt.alloc(), text.as_bytes())?.err())
-        }
-    }
-}
-
-#[test]
-fn checks_at_the_second_try(rt: HostRuntime) -> Result<(), Fail> {
-    let misplaced = misplaced(&rt, LOW)?.ok_or("no fault")?;
-    assert!(rt; misplaced.fault == ConfigFault::MaximumBelowCapacity);
-    assert_eq!(rt; misplaced.place.row, Some(1));
-    assert_eq!(rt; misplaced.place.capacity, Some(10000));
-    assert_eq!(rt; misplaced.place.maximum, Some(3000));
     Ok(())
 }
