@@ -5,8 +5,8 @@ use std::process::Abort;
 use std::test::Fail;
 use ynl_core::{Core, NoMemory, Sighted};
 use ynl_lines::read_event;
-use ynl_model::{Event, Proposal, Reply};
-use ynl_resource::{Name, Refusal};
+use ynl_model::{Event, Proposal, Reply, What};
+use ynl_resource::{Label, Name, Refusal, Size};
 use ynl_sights::plan;
 
 /// Two labels, of which ssd may take guests, and leaves two and one below root.
@@ -76,9 +76,6 @@ const ASKED: [&str; 4] = [
     r#"{"app":"j1","count":2,"event":"ask","label":"gpu","memory":2000,"priority":1,"tenant":"eng","vcores":2}"#,
 ];
 
-const COMMIT: &str =
-    r#"{"event":"commit","proposal":{"app":"j1","label":"gpu","memory":2000,"node":"g1","priority":1,"stamp":2,"tenant":"eng","vcores":2,"what":"ask"}}"#;
-
 /// An application on DEFAULT whose asks are guests of s1.
 const GUESTS: [&str; 6] = [
     r#"{"event":"register","label":"","memory":10000,"node":"d1","vcores":10}"#,
@@ -89,9 +86,6 @@ const GUESTS: [&str; 6] = [
     r#"{"app":"x1","count":2,"event":"ask","label":"","memory":2000,"priority":1,"tenant":"eng","vcores":2}"#,
 ];
 
-const GUEST: &str =
-    r#"{"event":"commit","proposal":{"app":"x1","label":"","memory":2000,"node":"s1","priority":1,"stamp":1,"tenant":"eng","vcores":2,"what":"ask"}}"#;
-
 fn event_of(alloc: Global, line: &str) -> Result<Event, Fail> {
     match read_event(alloc, line.as_bytes()) {
         Ok(Ok(event)) => Ok(event),
@@ -100,12 +94,16 @@ fn event_of(alloc: Global, line: &str) -> Result<Event, Fail> {
     }
 }
 
-/// The proposal that a line commits.
-fn proposal_in(alloc: Global, line: &str) -> Result<Proposal, Fail> {
-    match event_of(alloc, line)? {
-        Event::Commit { proposal } => Ok(proposal),
-        _ => Err(Fail::new("no commit")),
-    }
+/// The proposal of a container that an application of eng asks for.
+fn asked(node: &str, stamp: u64, app: &str, label: Label) -> Result<Proposal, Fail> {
+    Ok(Proposal {
+        node: Name::parse(node)?,
+        stamp,
+        tenant: Name::parse("eng")?,
+        app: Name::parse(app)?,
+        what: What::Ask(label, 1),
+        size: Size::new(2000, 2).ok_or("no size")?,
+    })
 }
 
 fn opened(alloc: Global, config: &str) -> Result<Core, Fail> {
@@ -151,8 +149,9 @@ fn a_copy_is_planned_from_at_the_second_try(rt: HostRuntime) -> Result<(), Fail>
     let alloc = rt.alloc();
     let mut core = given(alloc, SHARED, &ASKED)?;
     let sighted = seen(&rt, &core, "g1")?;
-    let _placed = core.apply(event_of(alloc, ASKED[2])?)?;
-    let proposal = proposal_in(alloc, COMMIT)?;
+    let node = Name::parse("g1")?;
+    let _placed = core.apply(Event::Heartbeat { node })?;
+    let proposal = asked("g1", 2, "j1", Label::parse("gpu")?)?;
     assert!(rt; planned(&sighted) == Some(proposal));
     let reply = core.apply(Event::Commit { proposal })?;
     assert!(rt; matches!(&reply, Reply::Refused(Refusal::Stale)));
@@ -164,7 +163,8 @@ fn a_guest_is_planned_at_the_second_try(rt: HostRuntime) -> Result<(), Fail> {
     let alloc = rt.alloc();
     let core = given(alloc, SHARED, &GUESTS)?;
     let sighted = seen(&rt, &core, "s1")?;
-    assert!(rt; planned(&sighted) == Some(proposal_in(alloc, GUEST)?));
+    let proposal = asked("s1", 1, "x1", Label::Unlabelled)?;
+    assert!(rt; planned(&sighted) == Some(proposal));
     Ok(())
 }
 
