@@ -1,6 +1,8 @@
 -- Texts that are added to a text, piece by piece: they are the texts of replies, and of what stands in them.
-use Rattle.std.proofs.Common.{◌≡◌, ◌<◌, ◌≤◌, ◌+◌, ℕ, Bool, true, false, Some, List, [], ◌∷◌, ◌++◌, map, drop, length, get_or, codes, decimal, sym, ap, ap₂, ◌∙◌, append_assoc}
+use Rattle.std.proofs.Common.{◌≡◌, ◌<◌, ◌≤◌, ◌+◌, ℕ, Bool, true, false, Option, Some, None, option_map, Result, Ok, Err, OnOk, refl, List, [], ◌∷◌, ◌++◌, map, drop, length, get_or, codes, decimal, sym, ap, ap₂, ◌∙◌, append_assoc}
 use Rattle.std.proofs.lemmas.List.{drop_all}
+use Rattle.std.specs.List.{join_with_byte}
+use Rattle.std.proofs.lemmas.Grind.{flat_map-append}
 use Rattle.json.specs.Print.{escape, escape_byte}
 use Rattle.serde_json.specs.Data.{Data, Items, object, string, member, no_members}
 use Rattle.serde_json.specs.View.{items_of}
@@ -8,14 +10,27 @@ use Rattle.serde_json.specs.Written.{compact_text, comma_if, items_text}
 use Rattle.ynl_resource.specs.declared.amounts.Resource.{Resource}
 use Rattle.ynl_resource.specs.declared.refusals.Refusal.{Refusal}
 use Rattle.ynl_resource.specs.Refusals.{word}
+use Rattle.ynl_resource.proofs.PathTexts.{join_push}
 use Rattle.ynl_model.specs.declared.containers.Placed.{Placed as Container}
 use Rattle.ynl_model.specs.declared.proposals.Proposal.{Proposal}
 use Rattle.ynl_model.specs.declared.replies.Pending.{Pending}
-use Rattle.ynl_lines.specs.Writing.{count, amount_data, placed_data, placed_reply, pending_data, proposal_data, refused_data, proposed_data, committed_reply, held_data, usage_data}
-use Rattle.ynl_lines.proofs.Escapes.{escape_refusal}
+use Rattle.ynl_model.specs.declared.replies.Reply.{Reply}
+use Rattle.ynl_model.specs.declared.entries.Entry.{Entry}
+use Rattle.ynl_lines.specs.declared.faults.InputFault.{InputFault}
+use Rattle.ynl_lines.specs.Writing.{count, amount_data, placed_data, placed_reply, pending_data, proposal_data, refused_data, proposed_data, committed_reply, held_data, usage_data, reply_data, input_fault_word, fault_text, audit_text, event_data, event_text, line_object, line_end, line_text}
+use Rattle.ynl_lines.proofs.Escapes.{escape_refusal, escape_fault}
 use Rattle.ynl_lines.proofs.Lists.{next}
 
+-- what follows from two facts of a success
+pub on_both : {T E P Q R : Type 0} (r : Result T E) → (P → Q → R) → OnOk r P → OnOk r Q → OnOk r R
+on_both (Ok x) f p q = f p q
+on_both (Err e) f p q = tt
+
 -- ---- pieces
+
+-- a piece that is added to nothing is all
+pub from_nothing : (old new more : List ℕ) → old ≡ [] → new ≡ old ++ more → new ≡ more
+from_nothing old new more none is = is ∙ ap (λ t. t ++ more) none
 
 -- two pieces are one
 pub both : (old mid new a b : List ℕ) → mid ≡ old ++ a → new ≡ mid ++ b → new ≡ old ++ (a ++ b)
@@ -36,6 +51,15 @@ quoted front text rest told plain same = ap (λ t. front ++ t) (ap₂ (λ a b. a
 
 pub counted : (front digits rest told : List ℕ) → rest ≡ told → front ++ (digits ++ rest) ≡ front ++ (digits ++ told)
 counted front digits rest told same = ap (λ t. front ++ (digits ++ t)) same
+
+-- one name more of a path
+pub path_added : (front : List ℕ) (names more : List (List ℕ)) (name old text new : List ℕ) → more ≡ names ++ name ∷ [] → text ≡ old ++ (front ++ escape (join_with_byte 46 (codes "root" ∷ names)))
+    → new ≡ text ++ (codes "." ++ escape name) → new ≡ old ++ (front ++ escape (join_with_byte 46 (codes "root" ∷ more)))
+unfolding escape_byte
+path_added front names more name old text new is so next =
+    let before = join_with_byte 46 (codes "root" ∷ names) in
+    join old text front (escape before) (codes "." ++ escape name) new so next
+    ∙ ap (λ t. old ++ (front ++ t)) (sym (flat_map-append escape_byte before (46 ∷ name)) ∙ ap escape (sym (ap (λ ns. join_with_byte 46 (codes "root" ∷ ns)) is ∙ join_push 46 (codes "root") names name)))
 
 -- ---- containers
 
@@ -212,3 +236,26 @@ usage_added used guaranteed maximum masters guests old a b c d e new at_a at_b a
     (join b c (codes ",\"masters\":") (compact_text (amount_data masters)) _ new at_c
     (join c d (codes ",\"maximum\":") (compact_text (amount_data maximum)) _ new at_d
     (join d e (codes ",\"reply\":\"usage\",\"used\":") (compact_text (amount_data used)) (codes "}") new at_e at_new))))
+
+-- ---- faults, audits and lines
+
+pub fault_added : (f : InputFault) (line : ℕ) (w a b new : List ℕ) → w ≡ input_fault_word f → a ≡ [] ++ (codes "{\"fault\":\"" ++ w) → b ≡ a ++ (codes "\",\"line\":" ++ decimal line) → new ≡ b ++ codes "}"
+    → new ≡ fault_text f line
+unfolding escape_byte
+fault_added f line w a b new is at_a at_b at_new =
+    quote [] a (codes "{\"fault\":\"") (input_fault_word f) _ new (at_a ∙ ap (λ w. codes "{\"fault\":\"" ++ w) (is ∙ sym (escape_fault f)))
+    (join a b (codes "\",\"line\":") (decimal line) (codes "}") new at_b at_new)
+
+pub audit_added : (entries : ℕ) (a new : List ℕ) → a ≡ [] ++ (codes "{\"audit\":\"ok\",\"entries\":" ++ decimal entries) → new ≡ a ++ codes "}" → new ≡ audit_text entries
+unfolding escape_byte
+audit_added entries a new at_a at_new = join [] a (codes "{\"audit\":\"ok\",\"entries\":") (decimal entries) (codes "}") new at_a at_new
+
+pub line_added : (place : ℕ) (e : Entry) (a b c new : List ℕ) → a ≡ [] ++ codes "{\"event\":" → b ≡ a ++ event_text e.event → c ≡ b ++ (codes ",\"place\":" ++ decimal place) → new ≡ c ++ line_end e.reply
+    → new ≡ line_text place e
+unfolding escape_byte
+line_added place e a b c new at_a at_b at_c at_new =
+    both [] a new (codes "{\"event\":") _ at_a (both a b new (event_text e.event) _ at_b (join b c (codes ",\"place\":") (decimal place) (line_end e.reply) new at_c at_new)) ∙ whole e.reply
+  where
+    whole : (o : Option Reply) → codes "{\"event\":" ++ (event_text e.event ++ (codes ",\"place\":" ++ (decimal place ++ line_end o))) ≡ compact_text (line_object place (event_data e.event) (option_map reply_data o))
+    whole None = refl
+    whole (Some reply) = refl

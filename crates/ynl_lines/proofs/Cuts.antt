@@ -71,7 +71,7 @@ digits_ascii : (xs : List ℕ) → all_ascii_digits xs ≡ true → are_ascii xs
 digits_ascii [] h = refl
 digits_ascii (x ∷ xs) h = let parts = and_parts (is_ascii_digit x) _ h in rw (digit_ascii x parts.0) (digits_ascii xs parts.1)
 
-utf8_decimal : (n : ℕ) → n < 2 ^ 64 → IsUtf8 (decimal n)
+pub utf8_decimal : (n : ℕ) → n < 2 ^ 64 → IsUtf8 (decimal n)
 utf8_decimal n fits = IsUtf8-are_ascii (decimal n) (digits_ascii (decimal n) (digits_decimal own n fits))
 
 -- what is the same as a line is the same text

@@ -4,7 +4,6 @@ pub mod Sizes
 pub mod Texts
 pub mod Ids
 pub mod Rows
-pub mod ProposalTrip
 pub mod Lists
 pub mod ReplyTrip
 pub mod Whole
@@ -14,3 +13,5 @@ pub mod Escapes
 pub mod Compacted
 pub mod Added
 pub mod Cuts
+pub mod Printed
+pub mod Clean

@@ -1,6 +1,7 @@
 -- A list is read one value after another.
-use Rattle.std.proofs.Common.{◌≡◌, ◌∙◌, ◌+◌, ◌<◌, ℕ, List, [], ◌∷◌, ◌++◌, All, length, take, drop, get_or, suc, Result, Ok, Err, refl, ap, sym, subst, append_assoc, drop-cons, add-one}
+use Rattle.std.proofs.Common.{◌≡◌, ◌∙◌, ◌+◌, ◌<◌, ◌≤◌, ℕ, List, [], ◌∷◌, ◌++◌, All, length, take, drop, get_or, suc, Result, Ok, Err, refl, ap, sym, subst, append_assoc, drop-cons, add-one}
 use Rattle.std.proofs.Math.Seq.{take-suc}
+use Rattle.std.proofs.lemmas.List.{take_all}
 use Rattle.std.proofs.lemmas.List.Elements.{All-nil, All-cons, All-append}
 use Rattle.serde_json.specs.Data.{Data}
 use Rattle.serde_json.specs.View.{view, items_view}
@@ -38,3 +39,7 @@ pub all_more : {X : Type 0} (P : X → Type 0) (xs : List X) (i : ℕ) (x : X) �
 all_more P xs i x h e below here =
     let taken : take (i + 1) xs ≡ take i xs ++ x ∷ [] = rw add-one (take-suc xs i x h ∙ ap (λ y. take i xs ++ y ∷ []) (sym e)) in
     subst (All P) (sym taken) (All-append P (take i xs) (x ∷ []) below (All-cons P x [] here (All-nil P)))
+
+-- what holds of those before the end holds of all
+pub all_of : {X : Type 0} (P : X → Type 0) (xs : List X) (i : ℕ) → length xs ≤ i → All P (take i xs) → All P xs
+all_of P xs i h below = subst (All P) (take_all i xs h) below

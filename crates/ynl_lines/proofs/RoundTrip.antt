@@ -1,114 +1,114 @@
--- The text of an event reads as it.
-use Rattle.std.proofs.Common.{◌≡◌, ◌≤◌, ℕ, List, Some, None, Result, Ok, Err, IfOk}
+-- The object of an event reads as it.
+use Rattle.std.proofs.lemmas.Bool.{false≢true}
+use Rattle.std.proofs.Common.{◌≡◌, ◌≤◌, ◌∙◌, ℕ, List, [], ◌∷◌, length, ne_eqb, false, cond, arith, Option, Some, None, Result, Ok, Err, refl, ap}
+use Rattle.std.specs.Prelude.{◌==◌}
 use Rattle.ynl_resource.specs.declared.amounts.Resource.{Resource}
 use Rattle.ynl_resource.specs.declared.names.Name.{Name}
 use Rattle.ynl_resource.specs.declared.labels.Label.{Label}
+use Rattle.ynl_resource.specs.declared.labels.Label.TheVariants.{Unlabelled, Named}
 use Rattle.ynl_resource.specs.declared.paths.Path.{Path}
 use Rattle.ynl_resource.specs.declared.ids.Id.{Id}
-use Rattle.ynl_resource.specs.Amounts.{IsSize}
-use Rattle.ynl_resource.specs.Ranges.{whole, most_count, most_priority}
-use Rattle.ynl_resource.specs.Texts.{read_name, read_label, read_path, read_id, label_text, path_text, id_text}
+use Rattle.ynl_resource.specs.Ranges.{whole, most_clock, most_count, most_priority}
+use Rattle.ynl_resource.specs.Texts.{bad_name, named, read_name, read_label, read_path, read_id, label_text, path_text, id_text}
+use Rattle.ynl_resource.proofs.IdTexts.{reads_id}
+use Rattle.ynl_resource.proofs.PathTexts.{reads_path}
+use Rattle.ynl_model.specs.declared.events.Event.{Event}
 use Rattle.ynl_model.specs.declared.events.Event.TheVariants.{Register, Lost, Relabel, Heartbeat, Exited, Submit, Ask, Release, Finish, Stop, Start, Poll, Usage, Propose, Commit, Maximum}
+use Rattle.ynl_model.specs.declared.proposals.What.{What}
+use Rattle.ynl_model.specs.declared.proposals.What.TheVariants.{Master, Ask as Asked}
 use Rattle.ynl_model.specs.declared.proposals.Proposal.{Proposal}
-use Rattle.ynl_lines.specs.Reading.{or_name, ◌>>=◌, text_at, number_at, keys_are, name_at, label_at, path_at, id_at, node_at, queue_at, register_at, lost_at, relabel_at, heartbeat_at, exited_at, label_text_at, optional_label_at, submit_at, HasAskNumbers, ask_at, release_at, finish_at, stop_at, start_at, poll_at, usage_at, propose_at, proposal_at, commit_at, maximum_at, event_at}
-use Rattle.ynl_lines.specs.Writing.{register_data, lost_data, relabel_data, heartbeat_data, exited_data, submit_data, ask_data, release_data, finish_data, stop_data, start_data, poll_data, usage_event_data, propose_data, proposal_data, commit_data, maximum_data}
+use Rattle.ynl_lines.specs.declared.faults.LineFault.{LineFault}
+use Rattle.ynl_lines.specs.Reading.{or_name, ◌>>=◌, text_at, number_at, keys_are, name_at, label_at, path_at, id_at, node_at, queue_at, within, size_at, register_at, lost_at, relabel_at, heartbeat_at, exited_at, label_text_at, optional_label_at, submit_at, ask_at, release_at, finish_at, stop_at, start_at, poll_at, usage_at, propose_at, wanted_at, wanted_label_at, what_at, proposal_at, commit_at, maximum_at, event_at, HasClock, HasPriority, HasProposalNumbers, IsInRange}
+use Rattle.ynl_lines.specs.Sound.{IsName, IsLabel, IsPath, IsWanted, HasProposalParts, IsProposal, IsEvent}
+use Rattle.ynl_lines.specs.Writing.{proposal_by, proposal_data, submit_data, event_data}
 use Rattle.ynl_lines.proofs.Sizes.{size_back, within_back}
 
-pub if_ok : {X Y P : Type 0} (r : Result X Y) → P → IfOk r (λ _. P)
-if_ok (Ok x) p = p
-if_ok (Err e) p = tt
+-- ---- names, labels, paths and ids
 
-pub reads_lost : (node : Name) → read_name node ≡ Ok node → event_at (lost_data node) ≡ Ok (Lost node)
-unfolding event_at text_at keys_are node_at lost_at name_at
-reads_lost node n = λ i. or_name (n i) >>= λ node. Ok (Lost node)
+pub name_back : (name : Name) → IsName name → read_name name ≡ Ok name
+unfolding read_name
+name_back name h = ap (λ b. cond b (Ok name) (Err bad_name)) h
 
-pub reads_heartbeat : (node : Name) → read_name node ≡ Ok node → event_at (heartbeat_data node) ≡ Ok (Heartbeat node)
-unfolding event_at text_at keys_are node_at heartbeat_at name_at
-reads_heartbeat node n = λ i. or_name (n i) >>= λ node. Ok (Heartbeat node)
+-- a name is not empty
+some_name : (name : List ℕ) → IsName name → (length name == 0) ≡ false
+some_name [] h = absurd (false≢true h)
+some_name (x ∷ xs) h = ne_eqb (length (x ∷ xs)) 0 (λ e. omega (arith, e))
 
-pub reads_propose : (node : Name) → read_name node ≡ Ok node → event_at (propose_data node) ≡ Ok (Propose node)
-unfolding event_at text_at keys_are node_at propose_at name_at
-reads_propose node n = λ i. or_name (n i) >>= λ node. Ok (Propose node)
+pub label_back : (l : Label) → IsLabel l → read_label (label_text l) ≡ Ok l
+unfolding read_label
+label_back Unlabelled h = refl
+label_back (Named name) h = ap (λ b. cond b (Ok Unlabelled) (named (read_name name))) (some_name name h) ∙ ap named (name_back name h)
 
-pub reads_relabel : (node : Name) (label : Label) (text : List ℕ) → text ≡ label_text label
-    → read_name node ≡ Ok node → read_label text ≡ Ok label
-    → event_at (relabel_data node label) ≡ Ok (Relabel node label)
-unfolding event_at text_at keys_are relabel_at name_at label_at
-reads_relabel node label text t n l = λ i. or_name ((rw t at l) i) >>= λ label. or_name (n i) >>= λ node. Ok (Relabel node label)
+pub id_back : (id : Id) → IsLabel id.label → HasClock id → read_id (id_text id) ≡ Ok id
+id_back id h clock = reads_id id (label_text id.label) clock.0 clock.1 refl (label_back id.label h)
 
-pub reads_exited : (node : Name) (id : Id) (text : List ℕ) → text ≡ id_text id
-    → read_name node ≡ Ok node → read_id text ≡ Ok id
-    → event_at (exited_data node id) ≡ Ok (Exited node id)
-unfolding event_at text_at keys_are exited_at name_at id_at
-reads_exited node id text t n d = λ i. or_name ((rw t at d) i) >>= λ id. or_name (n i) >>= λ node. Ok (Exited node id)
+path_back : (path : Path) → IsPath path → read_path (path_text path) ≡ Ok path
+unfolding path_text
+path_back path h = reads_path path h.0 h.1
 
-pub reads_ask : (tenant app : Name) (label : Label) (priority count : ℕ) (size : Resource) (text : List ℕ) → text ≡ label_text label
-    → read_name tenant ≡ Ok tenant → read_name app ≡ Ok app → read_label text ≡ Ok label → HasAskNumbers priority count → IsSize size
-    → event_at (ask_data tenant app label priority count size) ≡ Ok (Ask tenant app label priority count size)
-unfolding event_at text_at number_at keys_are ask_at name_at label_at
-reads_ask tenant app label priority count size text t n a l h s =
-    λ i. or_name (a i) >>= λ app. or_name ((rw t at l) i) >>= λ label. or_name (n i) >>= λ tenant. within_back most_count count h.1 i >>= λ count.
-    within_back most_priority priority h.0 i >>= λ priority. size_back size s i >>= λ size. Ok (Ask tenant app label priority count size)
+-- ---- proposals
 
-pub reads_release : (tenant : Name) (id : Id) (text : List ℕ) → text ≡ id_text id
-    → read_name tenant ≡ Ok tenant → read_id text ≡ Ok id
-    → event_at (release_data tenant id) ≡ Ok (Release tenant id)
-unfolding event_at text_at keys_are release_at name_at id_at
-reads_release tenant id text t n d = λ i. or_name ((rw t at d) i) >>= λ id. or_name (n i) >>= λ tenant. Ok (Release tenant id)
+-- a proposal for something else, of another stamp and size
+abbrev changed : Proposal → What → ℕ → Resource → Proposal
+changed p what stamp size = record { node = p.node; stamp = stamp; tenant = p.tenant; app = p.app; what = what; size = size }
 
-pub reads_finish : (tenant app : Name) → read_name tenant ≡ Ok tenant → read_name app ≡ Ok app → event_at (finish_data tenant app) ≡ Ok (Finish tenant app)
-unfolding event_at text_at keys_are finish_at name_at
-reads_finish tenant app t a = λ i. or_name (a i) >>= λ app. or_name (t i) >>= λ tenant. Ok (Finish tenant app)
+-- a proposal of an ask whose numbers are still to be looked at
+abbrev by_numbers : Proposal → Label → ℕ → Result Proposal LineFault
+by_numbers p label priority =
+    (within most_priority priority >>= λ priority. Ok (Asked label priority)) >>= λ what. within most_clock p.stamp >>= λ stamp.
+    size_at p.size.memory p.size.vcores >>= λ size. Ok (changed p what stamp size)
 
-pub reads_poll : (tenant app : Name) (label : Label) (text : List ℕ) → text ≡ label_text label
-    → read_name tenant ≡ Ok tenant → read_name app ≡ Ok app → read_label text ≡ Ok label
-    → event_at (poll_data tenant app label) ≡ Ok (Poll tenant app label)
-unfolding event_at text_at keys_are poll_at name_at label_at
-reads_poll tenant app label text t n a l =
-    λ i. or_name (a i) >>= λ app. or_name ((rw t at l) i) >>= λ label. or_name (n i) >>= λ tenant. Ok (Poll tenant app label)
+proposal_back_by : (w : What) (p : Proposal) → HasProposalParts p → IsWanted w → HasPriority w → p.stamp ≤ most_clock → proposal_at (proposal_by w p) ≡ Ok (changed p w p.stamp p.size)
+unfolding proposal_at text_at number_at keys_are wanted_at wanted_label_at what_at name_at label_at
+proposal_back_by Master p h l small stamped =
+    λ i. or_name (name_back p.app h.2 i) >>= λ app. or_name (name_back p.node h.0 i) >>= λ node. or_name (name_back p.tenant h.1 i) >>= λ tenant.
+    within_back most_clock p.stamp stamped i >>= λ stamp. size_back p.size h.3 i >>= λ size.
+    Ok (record { node = node; stamp = stamp; tenant = tenant; app = app; what = Master; size = size })
+proposal_back_by (Asked label priority) p h l small stamped =
+    let named : proposal_at (proposal_by (Asked label priority) p) ≡ by_numbers p label priority =
+    λ i. or_name (name_back p.app h.2 i) >>= λ app. (or_name (label_back label l i) >>= λ label. Ok (Some (label, priority))) >>= λ wanted. or_name (name_back p.node h.0 i) >>= λ node.
+    or_name (name_back p.tenant h.1 i) >>= λ tenant. what_at wanted >>= λ what. within most_clock p.stamp >>= λ stamp. size_at p.size.memory p.size.vcores >>= λ size.
+    Ok (record { node = node; stamp = stamp; tenant = tenant; app = app; what = what; size = size }) in
+    let numbered : by_numbers p label priority ≡ Ok (changed p (Asked label priority) p.stamp p.size) =
+    λ i. (within_back most_priority priority small i >>= λ priority. Ok (Asked label priority)) >>= λ what. within_back most_clock p.stamp stamped i >>= λ stamp.
+    size_back p.size h.3 i >>= λ size. Ok (changed p what stamp size) in
+    named ∙ numbered
 
-module _ (queue : Path) (path : List ℕ) (p : path ≡ path_text queue) (q : read_path path ≡ Ok queue) where
-  pub reads_stop : event_at (stop_data queue) ≡ Ok (Stop queue)
-  unfolding event_at text_at keys_are queue_at stop_at path_at
-  reads_stop = λ i. or_name ((rw p at q) i) >>= λ queue. Ok (Stop queue)
+pub proposal_back : (p : Proposal) → IsProposal p → HasProposalNumbers p → proposal_at (proposal_data p) ≡ Ok p
+proposal_back p h n = proposal_back_by p.what p h.0 h.1 n.0 n.1
 
-  pub reads_start : event_at (start_data queue) ≡ Ok (Start queue)
-  unfolding event_at text_at keys_are queue_at start_at path_at
-  reads_start = λ i. or_name ((rw p at q) i) >>= λ queue. Ok (Start queue)
+-- ---- events
 
-  pub reads_usage : (label : Label) (text : List ℕ) → text ≡ label_text label → read_label text ≡ Ok label
-      → event_at (usage_event_data queue label) ≡ Ok (Usage queue label)
-  unfolding event_at text_at keys_are usage_at label_at path_at
-  reads_usage label text t l = λ i. or_name ((rw t at l) i) >>= λ label. or_name ((rw p at q) i) >>= λ queue. Ok (Usage queue label)
+submit_back : (queue : Path) (app user : Name) (label : Option Label) (master : Resource) → IsEvent (Submit queue app user label master)
+    → event_at (submit_data queue app user label master) ≡ Ok (Submit queue app user label master)
+unfolding event_at text_at number_at keys_are submit_at label_text_at optional_label_at name_at path_at label_at
+submit_back queue app user None master h =
+    λ i. or_name (name_back app h.1 i) >>= λ app. or_name (path_back queue h.0 i) >>= λ queue. or_name (name_back user h.2 i) >>= λ user.
+    size_back master h.4 i >>= λ master. Ok (Submit queue app user None master)
+submit_back queue app user (Some label) master h =
+    λ i. or_name (name_back app h.1 i) >>= λ app. (or_name (label_back label h.3 i) >>= λ l. Ok (Some l)) >>= λ label. or_name (path_back queue h.0 i) >>= λ queue.
+    or_name (name_back user h.2 i) >>= λ user. size_back master h.4 i >>= λ master. Ok (Submit queue app user label master)
 
-  pub reads_maximum : (label : Label) (text : List ℕ) (maximum : ℕ) → text ≡ label_text label → read_label text ≡ Ok label → maximum ≤ whole
-      → event_at (maximum_data queue label maximum) ≡ Ok (Maximum queue label maximum)
-  unfolding event_at text_at number_at keys_are maximum_at label_at path_at
-  reads_maximum label text maximum t l m =
-      λ i. or_name ((rw t at l) i) >>= λ label. or_name ((rw p at q) i) >>= λ queue. within_back whole maximum m i >>= λ maximum. Ok (Maximum queue label maximum)
-
-pub reads_commit : (p : Proposal) → proposal_at (proposal_data p) ≡ Ok p → event_at (commit_data p) ≡ Ok (Commit p)
-unfolding event_at text_at keys_are commit_at
-reads_commit p h = λ i. h i >>= λ p. Ok (Commit p)
-
-pub reads_register : (node : Name) (label : Label) (size : Resource) (text : List ℕ) → text ≡ label_text label
-    → read_name node ≡ Ok node → read_label text ≡ Ok label → IsSize size
-    → event_at (register_data node label size) ≡ Ok (Register node label size)
-unfolding event_at text_at number_at keys_are register_at name_at label_at
-reads_register node label size text t n l s =
-    λ i. or_name ((rw t at l) i) >>= λ label. or_name (n i) >>= λ node. size_back size s i >>= λ size. Ok (Register node label size)
-
-module _ (queue : Path) (app user : Name) (master : Resource) (path : List ℕ) (p : path ≡ path_text queue)
-    (a : read_name app ≡ Ok app) (u : read_name user ≡ Ok user) (q : read_path path ≡ Ok queue) (s : IsSize master) where
-  pub reads_submit : event_at (submit_data queue app user None master) ≡ Ok (Submit queue app user None master)
-  unfolding event_at text_at number_at keys_are submit_at label_text_at optional_label_at name_at path_at
-  reads_submit =
-      λ i. or_name (a i) >>= λ app. or_name ((rw p at q) i) >>= λ queue. or_name (u i) >>= λ user.
-      size_back master s i >>= λ master. Ok (Submit queue app user None master)
-
-  pub reads_labelled : (label : Label) (text : List ℕ) → text ≡ label_text label → read_label text ≡ Ok label
-      → event_at (submit_data queue app user (Some label) master) ≡ Ok (Submit queue app user (Some label) master)
-  unfolding event_at text_at number_at keys_are submit_at label_text_at optional_label_at name_at path_at label_at
-  reads_labelled label text t l =
-      λ i. or_name (a i) >>= λ app. (or_name ((rw t at l) i) >>= λ l. Ok (Some l)) >>= λ label. or_name ((rw p at q) i) >>= λ queue.
-      or_name (u i) >>= λ user. size_back master s i >>= λ master. Ok (Submit queue app user label master)
+pub event_back : (e : Event) → IsEvent e → IsInRange e → event_at (event_data e) ≡ Ok e
+unfolding event_at text_at number_at keys_are node_at queue_at register_at lost_at relabel_at heartbeat_at exited_at ask_at release_at finish_at stop_at start_at poll_at usage_at propose_at commit_at maximum_at name_at label_at path_at id_at
+event_back (Register node label size) h n =
+    λ i. or_name (label_back label h.1 i) >>= λ label. or_name (name_back node h.0 i) >>= λ node. size_back size h.2 i >>= λ size. Ok (Register node label size)
+event_back (Lost node) h n = λ i. or_name (name_back node h i) >>= λ node. Ok (Lost node)
+event_back (Relabel node label) h n = λ i. or_name (label_back label h.1 i) >>= λ label. or_name (name_back node h.0 i) >>= λ node. Ok (Relabel node label)
+event_back (Heartbeat node) h n = λ i. or_name (name_back node h i) >>= λ node. Ok (Heartbeat node)
+event_back (Exited node id) h n = λ i. or_name (id_back id h.1 n i) >>= λ id. or_name (name_back node h.0 i) >>= λ node. Ok (Exited node id)
+event_back (Submit queue app user label master) h n = submit_back queue app user label master h
+event_back (Ask tenant app label priority count size) h n =
+    λ i. or_name (name_back app h.1 i) >>= λ app. or_name (label_back label h.2 i) >>= λ label. or_name (name_back tenant h.0 i) >>= λ tenant. within_back most_count count n.1 i >>= λ count.
+    within_back most_priority priority n.0 i >>= λ priority. size_back size h.3 i >>= λ size. Ok (Ask tenant app label priority count size)
+event_back (Release tenant id) h n = λ i. or_name (id_back id h.1 n i) >>= λ id. or_name (name_back tenant h.0 i) >>= λ tenant. Ok (Release tenant id)
+event_back (Finish tenant app) h n = λ i. or_name (name_back app h.1 i) >>= λ app. or_name (name_back tenant h.0 i) >>= λ tenant. Ok (Finish tenant app)
+event_back (Stop queue) h n = λ i. or_name (path_back queue h i) >>= λ queue. Ok (Stop queue)
+event_back (Start queue) h n = λ i. or_name (path_back queue h i) >>= λ queue. Ok (Start queue)
+event_back (Poll tenant app label) h n =
+    λ i. or_name (name_back app h.1 i) >>= λ app. or_name (label_back label h.2 i) >>= λ label. or_name (name_back tenant h.0 i) >>= λ tenant. Ok (Poll tenant app label)
+event_back (Usage queue label) h n = λ i. or_name (label_back label h.1 i) >>= λ label. or_name (path_back queue h.0 i) >>= λ queue. Ok (Usage queue label)
+event_back (Propose node) h n = λ i. or_name (name_back node h i) >>= λ node. Ok (Propose node)
+event_back (Commit proposal) h n = λ i. proposal_back proposal h n i >>= λ proposal. Ok (Commit proposal)
+event_back (Maximum queue label maximum) h n =
+    λ i. or_name (label_back label h.1 i) >>= λ label. or_name (path_back queue h.0 i) >>= λ queue. within_back whole maximum h.2 i >>= λ maximum. Ok (Maximum queue label maximum)

@@ -1,8 +1,7 @@
--- Replies and events have no float and are flat.
-use Rattle.std.proofs.Common.{◌≡◌, ◌≤◌, ℕ, List, [], ◌∷◌, Option, Some, None, false, map, option_map, refl, arith}
+-- Replies, events and lines are flat.
+use Rattle.std.proofs.Common.{◌≤◌, ℕ, List, [], ◌∷◌, Option, Some, None, map, option_map, arith}
 use Rattle.serde_json.specs.Data.{depth, items_depth}
 use Rattle.serde_json.specs.View.{items_of}
-use Rattle.serde_json.specs.Written.{has_float, items_have_float}
 use Rattle.ynl_resource.specs.declared.amounts.Resource.{Resource}
 use Rattle.ynl_resource.specs.declared.names.Name.{Name}
 use Rattle.ynl_resource.specs.declared.labels.Label.{Label}
@@ -17,32 +16,6 @@ use Rattle.ynl_model.specs.declared.replies.Pending.{Pending}
 use Rattle.ynl_model.specs.declared.replies.Reply.{Reply}
 use Rattle.ynl_model.specs.declared.replies.Reply.TheVariants.{Done, Refused, Placed, Proposed, Committed, Held, Usage}
 use Rattle.ynl_lines.specs.Writing.{placed_by, placed_data, proposal_by, pending_data, reply_data, submit_data, event_data, line_object}
-
-plain_by : (w : What) (p : Container) → has_float (placed_by w p) ≡ false
-plain_by Master p = refl
-plain_by (Asked label priority) p = refl
-
-plain_placed : (ps : List Container) → items_have_float (items_of (map placed_data ps)) ≡ false
-plain_placed [] = refl
-plain_placed (p ∷ ps) = simp (plain_by p.what p, plain_placed ps)
-
-plain_proposal : (w : What) (p : Proposal) → has_float (proposal_by w p) ≡ false
-plain_proposal Master p = refl
-plain_proposal (Asked label priority) p = refl
-
-plain_pending : (ps : List Pending) → items_have_float (items_of (map pending_data ps)) ≡ false
-plain_pending [] = refl
-plain_pending (p ∷ ps) = plain_pending ps
-
-pub plain_reply : (r : Reply) → has_float (reply_data r) ≡ false
-plain_reply Done = refl
-plain_reply (Refused r) = refl
-plain_reply (Placed ps) = simp (plain_placed ps)
-plain_reply (Proposed None) = refl
-plain_reply (Proposed (Some p)) = simp (plain_proposal p.what p)
-plain_reply (Committed p) = simp (plain_by p.what p)
-plain_reply (Held containers asks) = simp (plain_pending asks, plain_placed containers)
-plain_reply (Usage used guaranteed maximum masters guests) = refl
 
 flat_by : (w : What) (p : Container) → depth (placed_by w p) ≤ 1
 flat_by Master p = omega arith
@@ -72,15 +45,6 @@ flat_reply (Usage used guaranteed maximum masters guests) = omega arith
 
 -- ---- events
 
-plain_submit : (queue : Path) (app user : Name) (label : Option Label) (master : Resource) → has_float (submit_data queue app user label master) ≡ false
-plain_submit queue app user None master = refl
-plain_submit queue app user (Some label) master = refl
-
-pub plain_event : (e : Event) → has_float (event_data e) ≡ false
-plain_event (Submit queue app user label master) = plain_submit queue app user label master
-plain_event (Commit proposal) = simp (plain_proposal proposal.what proposal)
-plain_event _ = refl
-
 flat_submit : (queue : Path) (app user : Name) (label : Option Label) (master : Resource) → depth (submit_data queue app user label master) ≤ 3
 flat_submit queue app user None master = omega arith
 flat_submit queue app user (Some label) master = omega arith
@@ -91,10 +55,6 @@ flat_event (Commit proposal) = omega (arith, flat_proposal proposal.what proposa
 flat_event _ = omega arith
 
 -- ---- lines
-
-pub plain_line : (place : ℕ) (e : Event) (o : Option Reply) → has_float (line_object place (event_data e) (option_map reply_data o)) ≡ false
-plain_line place e None = simp (plain_event e)
-plain_line place e (Some r) = simp (plain_event e, plain_reply r)
 
 pub flat_line : (place : ℕ) (e : Event) (o : Option Reply) → depth (line_object place (event_data e) (option_map reply_data o)) ≤ 127
 flat_line place e None = omega (arith, flat_event e)

@@ -1,6 +1,6 @@
 -- The reply that an object is, and what a line of a journal says: an event, its place and its reply.
 -- Such a line is good or bad; which fault a definition here gives is not told.
-use Rattle.std.specs.Prelude.{◌≡◌, ◌^◌, All, IfSome, ℕ, List, [], ◌∷◌, Option, Some, None, option_and_then, Result, Ok, Err, codes, if◌then◌else◌}
+use Rattle.std.specs.Prelude.{◌^◌, All, IfSome, ℕ, List, [], ◌∷◌, Option, Some, None, option_and_then, Result, Ok, Err, codes, if◌then◌else◌}
 use Rattle.std.specs.Str.{bytes_eq}
 use Rattle.serde_json.specs.Data.{Data, Items, no_items, item}
 use Rattle.serde_json.specs.Find.{get, as_array}
@@ -24,8 +24,7 @@ use Rattle.ynl_lines.specs.declared.faults.LineFault.TheVariants as fault
 use Rattle.ynl_lines.specs.declared.faults.BadLine.{BadLine}
 use Rattle.ynl_lines.specs.declared.read_replies.ReplyKind.{ReplyKind}
 use Rattle.ynl_lines.specs.declared.read_replies.ReplyKind.TheVariants as kind
-use Rattle.ynl_lines.specs.Reading.{reading, ◌>>=◌, or_fault, text_at, number_at, keys_are, name_at, id_at, size_at, within, wanted_at, wanted_label_at, what_at, proposal_at, event_at, HasClock, HasPriority, HasAskNumbers, HasProposalNumbers, IsInRange}
-use Rattle.ynl_lines.specs.Writing.{placed_data, pending_data, proposal_data}
+use Rattle.ynl_lines.specs.Reading.{reading, ◌>>=◌, or_fault, text_at, number_at, keys_are, name_at, id_at, size_at, within, wanted_at, wanted_label_at, what_at, proposal_at, event_at, HasClock, HasPriority, HasAskNumbers, HasProposalNumbers, IsInRange, IsRanged}
 
 -- ---- what stands in several objects
 
@@ -268,27 +267,6 @@ IsReplyInRange (Held containers asks) = All HasPlacedNumbers containers × All H
 IsReplyInRange (Usage used guaranteed maximum masters guests) = IsSmall used × IsSmall guaranteed × IsSmall maximum × IsSmall masters × IsSmall guests
 IsReplyInRange _ = Unit {0}
 
--- the object of a container reads as it, if its numbers are in range
-abbrev pub ReadsPlaced : Container → Type 0
-ReadsPlaced p = HasPlacedNumbers p → placed_at (placed_data p) ≡ Ok p
-
--- the object of what is still asked for reads as it, if its numbers are in range
-abbrev pub ReadsPending : Pending → Type 0
-ReadsPending p = HasPendingNumbers p → pending_at (pending_data p) ≡ Ok p
-
--- the object of a proposal, if there is one, reads as it, if its numbers are in range
-abbrev pub ReadsProposed : Option Proposal → Type 0
-ReadsProposed None = Unit {0}
-ReadsProposed (Some p) = HasProposalNumbers p → proposal_at (proposal_data p) ≡ Ok p
-
--- the objects in that of a reply read as what they are written for, each if its numbers are in range
-abbrev pub PartsRead : Reply → Type 0
-PartsRead (Placed ps) = All ReadsPlaced ps
-PartsRead (Proposed o) = ReadsProposed o
-PartsRead (Committed p) = ReadsPlaced p
-PartsRead (Held containers asks) = All ReadsPlaced containers × All ReadsPending asks
-PartsRead _ = Unit {0}
-
 -- the numbers of an entry are in range
 abbrev pub IsEntryInRange : Entry → Type 0
 IsEntryInRange e = IsInRange e.event × IfSome e.reply IsReplyInRange
@@ -298,3 +276,7 @@ abbrev pub MayBeTold : Event → Option Reply → Type 0
 MayBeTold event (Some reply) = Unit {0}
 MayBeTold (Propose node) None = Unit {0}
 MayBeTold event None = ⊥
+
+-- an entry that may be told, with numbers in range
+abbrev pub IsRead : Entry → Type 0
+IsRead e = IsRanged e.event × IsEntryInRange e × MayBeTold e.event e.reply

@@ -1,5 +1,5 @@
 -- The texts of replies, faults, audits and events: JSON objects in the compact form, the keys in byte order.
-use Rattle.std.specs.Prelude.{ℕ, map, List, Option, Some, None, option_map, codes}
+use Rattle.std.specs.Prelude.{ℕ, map, List, ◌++◌, Option, Some, None, option_map, codes}
 use Rattle.serde_json.specs.Data.{Data, Members, object, array, string, number, unsigned, member, no_members, put}
 use Rattle.serde_json.specs.View.{items_of}
 use Rattle.serde_json.specs.Written.{compact_text}
@@ -320,3 +320,8 @@ line_data place e = line_object place (event_data e.event) (option_map reply_dat
 -- its text, without the newline of its line
 abbrev pub line_text : ℕ → Entry → List ℕ
 line_text place e = compact_text (line_data place e)
+
+-- what ends it behind its place: the reply, if there is one, and a brace
+abbrev pub line_end : Option Reply → List ℕ
+line_end None = codes "}"
+line_end (Some reply) = codes ",\"reply\":" ++ (reply_text reply ++ codes "}")

@@ -11,7 +11,7 @@ ghost use Rattle.ynl_lines.specs.Compact as told;
 ghost use Rattle.ynl_lines.specs.Reading as spec;
 ghost use Rattle.ynl_lines.specs.declared.faults.LineFault.TheVariants as fault;
 
-use crate::compact::{Members, members_in};
+use crate::compact::{Members, heartbeat_of, members_in};
 use crate::faults::LineFault;
 use crate::fields::Fields;
 use crate::read_applications::{
@@ -237,6 +237,9 @@ impl EventReader {
         ensures text { OnErr result (IsUtf8 line.now) }
         ensures ranged { IfOk result (λ read. IfOk read (λ event. IsRanged event)) }
     {
+        if let Some(node) = heartbeat_of(line) {
+            return Ok(Ok(Event::Heartbeat { node }));
+        }
         if let Some(members) = members_in(line) {
             return Ok(event_of(&members));
         }

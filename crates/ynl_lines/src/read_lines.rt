@@ -1,16 +1,19 @@
 //! From the lines of a journal to its entries.
 
-ghost use Rattle.std.specs.Prelude.{◌≡◌, IfOk, OnErr, IsOk, IsSome, IsUtf8};
+ghost use Rattle.std.specs.Prelude.{◌≡◌, IfOk, IfSome, OnErr, IsOk, IsSome, IsUtf8};
 ghost use Rattle.ynl_lines.specs.Trees.{data_at};
 ghost use Rattle.ynl_lines.specs.Reading.{IsRanged};
-ghost use Rattle.ynl_lines.specs.ReadingReplies.{MayBeTold};
+ghost use Rattle.ynl_lines.specs.ReadingReplies.{MayBeTold, IsRead};
 ghost use Rattle.ynl_lines.specs.ReadingReplies as spec;
 
+use crate::compact_replies::cut_reply;
+use crate::cursor::Cursor;
 use crate::faults::{BadLine, LineFault};
 use crate::fields::Fields;
 use crate::keys::{keys_are, number_at};
-use crate::read::{event_at, parse};
+use crate::read::{EventReader, event_at, parse};
 use crate::read_replies::{reply_at, value_under};
+use crate::write::put_line;
 use std::alloc::{AllocError, Global};
 use ynl_model::{Entry, Event, Reply};
 
@@ -91,6 +94,94 @@ fn line_at(
     match answer_at(alloc, line, &event)? {
         Ok(reply) => Ok(Ok((place, Entry { event, reply }))),
         Err(_) => Ok(Err(BadLine)),
+    }
+}
+
+/// What a line in the compact form is taken to say: its place and its entry.
+fn entry_in(
+    alloc: Global,
+    events: &mut EventReader,
+    line: &[u8],
+) -> Result<Option<(u64, Entry)>, AllocError>
+    ensures { IfOk result (λ found. IfSome found (λ line. IsRead line.1)) }
+{
+    let mut rest = Cursor::new(line);
+    if !rest.skips(b"{\"event\":") {
+        return Ok(None);
+    }
+    let Some(object) = rest.object() else {
+        return Ok(None);
+    };
+    let Ok(event) = events.read(alloc, object)? else {
+        return Ok(None);
+    };
+    let Some(place) = rest.number(b",\"place\":") else {
+        return Ok(None);
+    };
+    if !rest.skips(b",\"reply\":") {
+        return Ok(without_reply(place, event));
+    }
+    match cut_reply(alloc, &mut rest)? {
+        Some(reply) => Ok(Some((
+            place,
+            Entry {
+                event,
+                reply: Some(reply),
+            },
+        ))),
+        None => Ok(None),
+    }
+}
+
+/// A line that has no reply: that of a propose alone may have none.
+fn without_reply(place: u64, event: Event) -> Option<(u64, Entry)>
+    requires { IsRanged event }
+    ensures { IfSome result (λ line. IsRead line.1) }
+{
+    match event {
+        Event::Propose { .. } => Some((place, Entry { event, reply: None })),
+        _ => None,
+    }
+}
+
+/// Reads the lines of a journal one after another, with memory that is kept from line to line.
+#[derive(Drop)]
+pub struct LineReader {
+    events: EventReader,
+    text: Vec<u8>,
+}
+
+impl LineReader {
+    /// One that keeps no memory yet.
+    pub fn new(alloc: Global) -> LineReader {
+        LineReader {
+            events: EventReader::new(alloc),
+            text: Vec::new(alloc),
+        }
+    }
+
+    /// The place of a line and its entry, as [`read_line`] tells them. A line that is just the text that is written for
+    /// what it is taken to say says that; any other is read as JSON.
+    pub fn read(
+        &mut self,
+        alloc: Global,
+        line: &[u8],
+    ) -> Result<Result<(u64, Entry), BadLine>, AllocError>
+        ensures entry { IfOk result (λ read. read ≡ spec.line_of_text line.now) }
+        ensures ranged { IfOk result (λ read. IfOk read (λ line. IsRanged line.1.event)) }
+        ensures told { IfOk result (λ read. IfOk read (λ line. MayBeTold line.1.event line.1.reply)) }
+        ensures text { OnErr result (IsUtf8 line.now) }
+    {
+        let Ok(_) = str::from_utf8(line) else {
+            return read_line(alloc, line);
+        };
+        if let Some((place, entry)) = entry_in(alloc, &mut self.events, line)? {
+            put_line(place, &entry, &mut self.text)?;
+            if self.text.as_slice() == line {
+                return Ok(Ok((place, entry)));
+            }
+        }
+        read_line(alloc, line)
     }
 }
 

@@ -82,7 +82,7 @@ fn list_under<'v>(object: &Fields<'v, '_>, key: &str) -> Result<&'v Vec<Value>, 
 }
 
 /// The most MB, and the most virtual cores, of an amount: 2^49, which no sum of a cluster's sizes passes.
-const MOST_AMOUNT: u64 = 562949953421312;
+pub const MOST_AMOUNT: u64 = 562949953421312;
 
 /// An amount: MB of memory, and virtual cores.
 #[tactic(auto, unfolding(crate::specs::ReadingReplies::amount_at))]

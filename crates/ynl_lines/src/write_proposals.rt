@@ -2,6 +2,7 @@
 
 ghost use Rattle.std.specs.Prelude.{◌≡◌, ◌++◌, OnOk};
 ghost use Rattle.serde_json.specs.Written.{compact_text};
+ghost use Rattle.ynl_lines.specs.Sound.{IsLabel, IsProposal, HasProposalParts as HasParts};
 ghost use Rattle.ynl_lines.specs.Writing as spec;
 
 use crate::adding::{add, add_label, add_name, add_number};
@@ -16,7 +17,8 @@ fn add_asked(
     label: &Label,
     priority: u32,
 ) -> Result<(), AllocError>
-    ensures { OnOk result (text.new.items ≡ text.old.items ++ compact_text (spec.asked_proposal proposal.now label.now priority)) }
+    ensures added { OnOk result (text.new.items ≡ text.old.items ++ compact_text (spec.asked_proposal proposal.now label.now priority)) }
+    ensures sound { OnOk result (HasParts proposal.now × IsLabel label.now) }
 {
     let size = proposal.size.amount();
     add_name(text, b"{\"app\":\"", &proposal.app)?;
@@ -32,7 +34,8 @@ fn add_asked(
 
 /// Adds a proposal of a master.
 fn add_master(text: &mut Vec<u8>, proposal: &Proposal) -> Result<(), AllocError>
-    ensures { OnOk result (text.new.items ≡ text.old.items ++ compact_text (spec.master_proposal proposal.now)) }
+    ensures added { OnOk result (text.new.items ≡ text.old.items ++ compact_text (spec.master_proposal proposal.now)) }
+    ensures sound { OnOk result (HasParts proposal.now) }
 {
     let size = proposal.size.amount();
     add_name(text, b"{\"app\":\"", &proposal.app)?;
@@ -46,7 +49,8 @@ fn add_master(text: &mut Vec<u8>, proposal: &Proposal) -> Result<(), AllocError>
 
 /// Adds a proposal.
 pub fn add_proposal(text: &mut Vec<u8>, proposal: &Proposal) -> Result<(), AllocError>
-    ensures { OnOk result (text.new.items ≡ text.old.items ++ compact_text (spec.proposal_data proposal.now)) }
+    ensures added { OnOk result (text.new.items ≡ text.old.items ++ compact_text (spec.proposal_data proposal.now)) }
+    ensures sound { OnOk result (IsProposal proposal.now) }
 {
     match &proposal.what {
         What::Master => add_master(text, proposal),

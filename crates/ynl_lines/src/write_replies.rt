@@ -1,8 +1,9 @@
 //! The texts of replies, added piece by piece: no value of the whole is made.
 
-ghost use Rattle.std.specs.Prelude.{◌≡◌, ◌++◌, OnOk, Some};
+ghost use Rattle.std.specs.Prelude.{◌≡◌, ◌++◌, All, IfSome, OnOk, Some};
 ghost use Rattle.serde_json.specs.Written.{compact_text};
 ghost use Rattle.ynl_model.specs.declared.replies.Reply.TheVariants as reply;
+ghost use Rattle.ynl_lines.specs.Sound.{IsContainer, IsPending, IsProposal, IsReply};
 ghost use Rattle.ynl_lines.specs.Writing as spec;
 
 use crate::adding::{add, add_number, add_text};
@@ -22,7 +23,8 @@ fn add_refused(text: &mut Vec<u8>, refusal: Refusal) -> Result<(), AllocError>
 
 /// Adds the reply to a heartbeat.
 fn add_several(text: &mut Vec<u8>, list: &[Placed]) -> Result<(), AllocError>
-    ensures { OnOk result (text.new.items ≡ text.old.items ++ compact_text (spec.placed_reply list.now)) }
+    ensures added { OnOk result (text.new.items ≡ text.old.items ++ compact_text (spec.placed_reply list.now)) }
+    ensures sound { OnOk result (All IsContainer list.now) }
 {
     add(text, b"{\"placed\":[")?;
     add_list(text, list)?;
@@ -31,7 +33,8 @@ fn add_several(text: &mut Vec<u8>, list: &[Placed]) -> Result<(), AllocError>
 
 /// Adds the reply to a propose that found what to place.
 fn add_found(text: &mut Vec<u8>, proposal: &Proposal) -> Result<(), AllocError>
-    ensures { OnOk result (text.new.items ≡ text.old.items ++ compact_text (spec.proposed_data (Some proposal.now))) }
+    ensures added { OnOk result (text.new.items ≡ text.old.items ++ compact_text (spec.proposed_data (Some proposal.now))) }
+    ensures sound { OnOk result (IsProposal proposal.now) }
 {
     add(text, b"{\"proposal\":")?;
     add_proposal(text, proposal)?;
@@ -41,7 +44,8 @@ fn add_found(text: &mut Vec<u8>, proposal: &Proposal) -> Result<(), AllocError>
 /// Adds the reply to a propose.
 #[tactic(auto, unfolding(json::specs::Print::escape_byte))]
 fn add_proposed(text: &mut Vec<u8>, proposed: &Option<Proposal>) -> Result<(), AllocError>
-    ensures { OnOk result (text.new.items ≡ text.old.items ++ compact_text (spec.proposed_data proposed.now)) }
+    ensures added { OnOk result (text.new.items ≡ text.old.items ++ compact_text (spec.proposed_data proposed.now)) }
+    ensures sound { OnOk result (IfSome proposed.now IsProposal) }
 {
     match proposed {
         None => add(text, b"{\"reply\":\"nothing\"}"),
@@ -51,7 +55,8 @@ fn add_proposed(text: &mut Vec<u8>, proposed: &Option<Proposal>) -> Result<(), A
 
 /// Adds the reply to a commit.
 fn add_committed(text: &mut Vec<u8>, placed: &Placed) -> Result<(), AllocError>
-    ensures { OnOk result (text.new.items ≡ text.old.items ++ compact_text (spec.committed_reply placed.now)) }
+    ensures added { OnOk result (text.new.items ≡ text.old.items ++ compact_text (spec.committed_reply placed.now)) }
+    ensures sound { OnOk result (IsContainer placed.now) }
 {
     add(text, b"{\"container\":")?;
     add_placed(text, placed)?;
@@ -60,7 +65,8 @@ fn add_committed(text: &mut Vec<u8>, placed: &Placed) -> Result<(), AllocError>
 
 /// Adds the reply to a poll.
 fn add_held(text: &mut Vec<u8>, containers: &[Placed], asks: &[Pending]) -> Result<(), AllocError>
-    ensures { OnOk result (text.new.items ≡ text.old.items ++ compact_text (spec.held_data containers.now asks.now)) }
+    ensures added { OnOk result (text.new.items ≡ text.old.items ++ compact_text (spec.held_data containers.now asks.now)) }
+    ensures sound { OnOk result (All IsContainer containers.now × All IsPending asks.now) }
 {
     add(text, b"{\"asks\":[")?;
     add_list(text, asks)?;
@@ -99,8 +105,9 @@ fn add_usage(
 }
 
 /// Adds the text of a reply.
-fn add_reply(text: &mut Vec<u8>, reply: &Reply) -> Result<(), AllocError>
-    ensures { OnOk result (text.new.items ≡ text.old.items ++ spec.reply_text reply.now) }
+pub fn add_reply(text: &mut Vec<u8>, reply: &Reply) -> Result<(), AllocError>
+    ensures added { OnOk result (text.new.items ≡ text.old.items ++ spec.reply_text reply.now) }
+    ensures sound { OnOk result (IsReply reply.now) }
 {
     match reply {
         Reply::Done => add(text, b"{\"reply\":\"done\"}"),

@@ -2,7 +2,7 @@
 
 use std::alloc::Global;
 use std::test::Fail;
-use ynl_lines::{read_event, read_line, write_event, write_line, write_reply};
+use ynl_lines::{LineReader, read_event, write_event, write_line, write_reply};
 use ynl_model::{Placed, Reply, What};
 use ynl_resource::{Id, Label, Name, Size};
 
@@ -190,8 +190,12 @@ fn faults_of_lines_in_the_compact_form_and_near_it(rt: HostRuntime) -> Result<()
 }
 
 /// The text of the entry that a line of a journal is.
-fn entry_read_and_written(alloc: Global, line: &str) -> Result<Vec<u8>, Fail> {
-    match read_line(alloc, line.as_bytes()) {
+fn entry_read_and_written(
+    alloc: Global,
+    lines: &mut LineReader,
+    line: &str,
+) -> Result<Vec<u8>, Fail> {
+    match lines.read(alloc, line.as_bytes()) {
         Ok(Ok((place, entry))) => Ok(write_line(alloc, place, &entry)?),
         Ok(Err(_)) => Err(Fail::new("a bad line")),
         Err(e) => Err(e.into()),
@@ -200,6 +204,7 @@ fn entry_read_and_written(alloc: Global, line: &str) -> Result<Vec<u8>, Fail> {
 
 #[test]
 fn lines_of_a_journal_are_read_and_written(rt: HostRuntime) -> Result<(), Fail> {
+    let mut lines = LineReader::new(rt.alloc());
     for line in [
         r#"{"event":{"event":"stop","queue":"root"},"place":0,"reply":{"reply":"done"}}"#,
         r#"{"event":{"event":"lost","node":"g1"},"place":1,"reply":{"refused":"NoSuchNode","reply":"refused"}}"#,
@@ -210,8 +215,17 @@ fn lines_of_a_journal_are_read_and_written(rt: HostRuntime) -> Result<(), Fail> 
         r#"{"event":{"app":"j1","event":"poll","label":"gpu","tenant":"eng"},"place":5,"reply":{"asks":[{"count":1000000,"memory":1000,"priority":0,"vcores":1}],"containers":[],"reply":"held"}}"#,
         r#"{"event":{"event":"usage","label":"","queue":"root.eng"},"place":18446744073709551615,"reply":{"guaranteed":{"memory":0,"vcores":0},"guests":{"memory":0,"vcores":0},"masters":{"memory":1000,"vcores":1},"maximum":{"memory":562949953421312,"vcores":0},"reply":"usage","used":{"memory":1000,"vcores":1}}}"#,
     ] {
-        let text = entry_read_and_written(rt.alloc(), line)?;
+        let text = entry_read_and_written(rt.alloc(), &mut lines, line)?;
         assert_eq!(rt; text.as_slice(), line.as_bytes(), "{line}");
+    }
+    // Another order, and a key twice, of which the last counts.
+    let lost = r#"{"event":{"event":"lost","node":"g1"},"place":1,"reply":{"reply":"done"}}"#;
+    for line in [
+        r#"{"place":1, "event":{"node":"g1","event":"lost"}, "reply":{"reply":"done"}}"#,
+        r#"{"event":{"event":"lost","node":"g2"},"place":1,"reply":{"reply":"done"},"event":{"event":"lost","node":"g1"}}"#,
+    ] {
+        let text = entry_read_and_written(rt.alloc(), &mut lines, line)?;
+        assert_eq!(rt; text.as_slice(), lost.as_bytes(), "{line}");
     }
     for line in [
         r#"{"event":{"event":"lost","node":"g1"},"place":1}"#,
@@ -220,7 +234,7 @@ fn lines_of_a_journal_are_read_and_written(rt: HostRuntime) -> Result<(), Fail> 
         r#"{"event":{"event":"lost","node":"g1"},"place":1,"reply":{"reply":"done"},"tenant":"eng"}"#,
         r#"{"event":{"event":"lost","node":"g1"},"place":1,"reply":{"refused":"Nosuchnode","reply":"refused"}}"#,
     ] {
-        let read = read_line(rt.alloc(), line.as_bytes())?;
+        let read = lines.read(rt.alloc(), line.as_bytes())?;
         assert!(rt; read.is_err(), "{line}");
     }
     Ok(())
@@ -230,11 +244,12 @@ fn lines_of_a_journal_are_read_and_written(rt: HostRuntime) -> Result<(), Fail> 
 fn is_read_at_the_second_try(rt: HostRuntime) -> Result<(), Fail> {
     let line =
         r#"{"event":{"event":"commit","proposal":{"app":"j1","memory":1000,"node":"g1","stamp":7,"tenant":"eng","vcores":1,"what":"master"}},"place":8,"reply":{"container":{"app":"j1","id":"gpu#2","memory":1000,"node":"g1","tenant":"eng","vcores":1,"what":"master"},"reply":"committed"}}"#;
-    let read = match read_line(rt.alloc(), line.as_bytes()) {
+    let mut lines = LineReader::new(rt.alloc());
+    let read = match lines.read(rt.alloc(), line.as_bytes()) {
         Ok(read) => read,
         Err(_) => {
             println!(rt; "refused")?;
-            read_line(rt.alloc(), line.as_bytes())?
+            lines.read(rt.alloc(), line.as_bytes())?
         }
     };
     let Ok((place, _)) = read else {

@@ -2,7 +2,7 @@
 
 use std::alloc::{AllocError, Global};
 use std::test::Fail;
-use ynl_lines::{read_event, read_line};
+use ynl_lines::{LineReader, read_event};
 
 /// The word for a line that is read.
 const READ: &str = "read";
@@ -155,11 +155,12 @@ fn numbers_of_events_have_their_ranges(rt: HostRuntime) -> Result<(), Fail> {
 
 #[test]
 fn numbers_of_journals_have_their_ranges(rt: HostRuntime) -> Result<(), Fail> {
+    let mut lines = LineReader::new(rt.alloc());
     for line in ENTRIES {
         for (at, byte) in line.as_bytes().iter().enumerate() {
             for (number, word) in numbers_of(*byte) {
                 let text = filled(rt.alloc(), line, at, number)?;
-                let read = read_line(rt.alloc(), &text)?;
+                let read = lines.read(rt.alloc(), &text)?;
                 assert_eq!(rt; read.is_ok(), *word == READ, "{line} {at} {number}");
             }
         }

@@ -5,10 +5,10 @@ use Rattle.ynl_lines.proofs.Added.{join}
 use Rattle.ynl_lines.proofs.Escapes.{escape_id}
 use Rattle.ynl_lines.proofs.adding.add_id.Goals as goal
 
-pub returns : goal.returns
-returns c =
+pub returns-clause-added : goal.returns-clause-added
+returns-clause-added c =
     let id = c.args.id.now in
     on_ok_weaker c.add_number.result
-    (λ e. join c.args.text.now.items _ c.args.front.now _ _ _ c.in_ok-add_label.ensures e
+    (λ e. join c.args.text.now.items _ c.args.front.now _ _ _ c.in_ok-add_label.ensures.added e
     ∙ ap (λ t. c.args.text.now.items ++ (c.args.front.now ++ t)) (sym (escape_id (label_text id.label) (decimal id.clock) c.add_number.ensures.plain)))
     c.add_number.ensures.added

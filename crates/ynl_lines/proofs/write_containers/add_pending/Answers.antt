@@ -4,8 +4,8 @@ use Rattle.serde_json.specs.Written.{compact_text}
 use Rattle.ynl_lines.proofs.Added.{pending_of, pending_added}
 use Rattle.ynl_lines.proofs.write_containers.add_pending.Goals as goal
 
-pub returns : goal.returns
-returns c =
+pub returns-clause-added : goal.returns-clause-added
+returns-clause-added c =
     let p = c.args.pending.now in
     let old = c.args.text.now.items in
     on_ok_weaker c.add.result

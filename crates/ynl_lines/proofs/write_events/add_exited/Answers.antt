@@ -1,0 +1,14 @@
+use Rattle.std.proofs.Common.{codes}
+use Rattle.std.proofs.lemmas.Result.{on_ok_weaker}
+use Rattle.json.specs.Print.{escape_byte}
+use Rattle.ynl_resource.specs.Texts.{id_text}
+use Rattle.ynl_lines.proofs.Added.{quote}
+use Rattle.ynl_lines.proofs.write_events.add_exited.Goals as goal
+
+pub returns-clause-added : goal.returns-clause-added
+unfolding escape_byte
+returns-clause-added c =
+    on_ok_weaker c.add.result
+    (λ e. quote c.args.text.now.items c.add_id.new.text.items (codes "{\"event\":\"exited\",\"id\":\"") (id_text c.args.id.now) _ _ c.in_ok-add_id.ensures.added
+    (quote c.add_id.new.text.items c.add_name.new.text.items (codes "\",\"node\":\"") c.args.node.now _ _ c.in_ok-add_name.ensures.added e))
+    c.add.ensures

@@ -1,0 +1,13 @@
+use Rattle.std.proofs.Common.{codes}
+use Rattle.std.proofs.lemmas.Result.{on_ok_weaker}
+use Rattle.json.specs.Print.{escape_byte}
+use Rattle.ynl_lines.proofs.Added.{quote}
+use Rattle.ynl_lines.proofs.write_events.add_finish.Goals as goal
+
+pub returns-clause-added : goal.returns-clause-added
+unfolding escape_byte
+returns-clause-added c =
+    on_ok_weaker c.add.result
+    (λ e. quote c.args.text.now.items c.add_name.new.text.items (codes "{\"app\":\"") c.args.app.now _ _ c.in_ok-add_name.ensures.added
+    (quote c.add_name.new.text.items c.add_name-2.new.text.items (codes "\",\"event\":\"finish\",\"tenant\":\"") c.args.tenant.now _ _ c.in_ok-add_name-2.ensures.added e))
+    c.add.ensures

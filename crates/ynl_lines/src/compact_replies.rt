@@ -1,0 +1,280 @@
+//! Replies in the compact form. What is read here is a guess: who asks compares the line with the text that is written
+//! for it. So contracts say that its numbers are in range, and no more.
+
+ghost use Rattle.std.specs.Prelude.{All, IfOk, IfSome};
+ghost use Rattle.ynl_resource.specs.Amounts.{IsSmall};
+ghost use Rattle.ynl_lines.specs.Reading.{HasPriority, HasProposalNumbers};
+ghost use Rattle.ynl_lines.specs.ReadingReplies.{HasPendingNumbers, HasPlacedNumbers, IsReplyInRange};
+
+use crate::cursor::Cursor;
+use crate::keys::within;
+use crate::read_replies::MOST_AMOUNT;
+use std::alloc::{AllocError, Global};
+use ynl_model::{Items, Pending, Placed, Proposal, Reply, What};
+use ynl_resource::{Label, MOST_CLOCK, MOST_COUNT, Refusal, Resource, Size};
+
+/// The label of what was asked for; nothing of a master.
+fn wanted_label(line: &mut Cursor<'_>) -> Option<Option<Label>> {
+    let mut ahead = *line;
+    if !ahead.skips(b",\"label\":") {
+        return Some(None);
+    }
+    Some(Some(line.label(b",\"label\":\"")?))
+}
+
+/// What is wanted, from its label and its priority.
+fn wanted(line: &mut Cursor<'_>, label: Option<Label>) -> Option<What>
+    ensures { IfSome result (λ what. HasPriority what) }
+{
+    match label {
+        None => Some(What::Master),
+        Some(label) => {
+            let priority = line.small(b",\"priority\":", u32::MAX)?;
+            Some(What::Ask(label, priority))
+        }
+    }
+}
+
+/// Cuts the word for what is wanted, which ends an object.
+fn ends_as(line: &mut Cursor<'_>, what: &What) -> bool {
+    match what {
+        What::Master => line.skips(b",\"what\":\"master\"}"),
+        What::Ask(_, _) => line.skips(b",\"what\":\"ask\"}"),
+    }
+}
+
+/// What stands in the lists of replies.
+pub trait Cut: Sized {
+    /// Its numbers are in range.
+    ghost is_ranged: { Self → Type 0 };
+
+    /// Cuts one.
+    fn cut(line: &mut Cursor<'_>) -> Option<Self>
+        ensures { IfSome result is_ranged };
+}
+
+impl Cut for Placed {
+    ghost is_ranged = { HasPlacedNumbers };
+
+    fn cut(line: &mut Cursor<'_>) -> Option<Placed> {
+        let app = line.name(b"{\"app\":\"")?;
+        let id = line.id(b",\"id\":\"")?;
+        let label = wanted_label(line)?;
+        let memory = line.number(b",\"memory\":")?;
+        let node = line.name(b",\"node\":\"")?;
+        let what = wanted(line, label)?;
+        let tenant = line.name(b",\"tenant\":\"")?;
+        let vcores = line.number(b",\"vcores\":")?;
+        let size = Size::new(memory, vcores)?;
+        if !ends_as(line, &what) {
+            return None;
+        }
+        Some(Placed {
+            id,
+            node,
+            tenant,
+            app,
+            what,
+            size,
+        })
+    }
+}
+
+impl Cut for Pending {
+    ghost is_ranged = { HasPendingNumbers };
+
+    fn cut(line: &mut Cursor<'_>) -> Option<Pending> {
+        let count = line.small(b"{\"count\":", MOST_COUNT)?;
+        let memory = line.number(b",\"memory\":")?;
+        let priority = line.small(b",\"priority\":", u32::MAX)?;
+        let vcores = line.number(b",\"vcores\":")?;
+        let size = Size::new(memory, vcores)?;
+        if !line.skips(b"}") {
+            return None;
+        }
+        Some(Pending {
+            priority,
+            count,
+            size,
+        })
+    }
+}
+
+/// Cuts a list behind its bracket, up to the one that closes it.
+fn cut_list<T: Cut + Drop>(
+    alloc: Global,
+    line: &mut Cursor<'_>,
+) -> Result<Option<Items<T>>, AllocError>
+    ensures { IfOk result (λ list. IfSome list (All T.is_ranged)) }
+{
+    let mut list = Vec::new(alloc);
+    if line.skips(b"]") {
+        return Ok(Some(Items::new(list)));
+    }
+    for _ in 0..usize::MAX {
+        let Some(one) = T::cut(line) else {
+            return Ok(None);
+        };
+        list.push(one)?;
+        if line.skips(b"]") {
+            return Ok(Some(Items::new(list)));
+        }
+        if !line.skips(b",") {
+            return Ok(None);
+        }
+    }
+    Ok(None)
+}
+
+fn cut_proposal(line: &mut Cursor<'_>) -> Option<Proposal>
+    ensures { IfSome result (λ proposal. HasProposalNumbers proposal) }
+{
+    let app = line.name(b"{\"app\":\"")?;
+    let label = wanted_label(line)?;
+    let memory = line.number(b",\"memory\":")?;
+    let node = line.name(b",\"node\":\"")?;
+    let what = wanted(line, label)?;
+    let number = line.number(b",\"stamp\":")?;
+    let stamp = within(MOST_CLOCK, number).ok()?;
+    let tenant = line.name(b",\"tenant\":\"")?;
+    let vcores = line.number(b",\"vcores\":")?;
+    let size = Size::new(memory, vcores)?;
+    if !ends_as(line, &what) {
+        return None;
+    }
+    Some(Proposal {
+        node,
+        stamp,
+        tenant,
+        app,
+        what,
+        size,
+    })
+}
+
+fn cut_amount(line: &mut Cursor<'_>, front: &[u8]) -> Option<Resource>
+    ensures { IfSome result (λ amount. IsSmall amount) }
+{
+    if !line.skips(front) {
+        return None;
+    }
+    let number = line.number(b"{\"memory\":")?;
+    let memory = within(MOST_AMOUNT, number).ok()?;
+    let number = line.number(b",\"vcores\":")?;
+    let vcores = within(MOST_AMOUNT, number).ok()?;
+    if !line.skips(b"}") {
+        return None;
+    }
+    Some(Resource { memory, vcores })
+}
+
+fn cut_usage(line: &mut Cursor<'_>) -> Option<Reply>
+    ensures { IfSome result (λ reply. IsReplyInRange reply) }
+{
+    let guaranteed = cut_amount(line, b"{\"guaranteed\":")?;
+    let guests = cut_amount(line, b",\"guests\":")?;
+    let masters = cut_amount(line, b",\"masters\":")?;
+    let maximum = cut_amount(line, b",\"maximum\":")?;
+    let used = cut_amount(line, b",\"reply\":\"usage\",\"used\":")?;
+    Some(Reply::Usage {
+        used,
+        guaranteed,
+        maximum,
+        masters,
+        guests,
+    })
+}
+
+fn cut_refused(line: &mut Cursor<'_>) -> Option<Reply>
+    ensures { IfSome result (λ reply. IsReplyInRange reply) }
+{
+    let word = line.text(b"{\"refused\":\"")?;
+    let refusal = Refusal::from_word(word)?;
+    if !line.skips(b",\"reply\":\"refused\"") {
+        return None;
+    }
+    Some(Reply::Refused(refusal))
+}
+
+fn cut_found(line: &mut Cursor<'_>) -> Option<Reply>
+    ensures { IfSome result (λ reply. IsReplyInRange reply) }
+{
+    let proposal = cut_proposal(line)?;
+    if !line.skips(b",\"reply\":\"proposal\"") {
+        return None;
+    }
+    Some(Reply::Proposed(Some(proposal)))
+}
+
+fn cut_committed(line: &mut Cursor<'_>) -> Option<Reply>
+    ensures { IfSome result (λ reply. IsReplyInRange reply) }
+{
+    let container = Placed::cut(line)?;
+    if !line.skips(b",\"reply\":\"committed\"") {
+        return None;
+    }
+    Some(Reply::Committed(container))
+}
+
+fn cut_several(alloc: Global, line: &mut Cursor<'_>) -> Result<Option<Reply>, AllocError>
+    ensures { IfOk result (λ found. IfSome found (λ reply. IsReplyInRange reply)) }
+{
+    let Some(list) = cut_list(alloc, line)? else {
+        return Ok(None);
+    };
+    if !line.skips(b",\"reply\":\"placed\"") {
+        return Ok(None);
+    }
+    Ok(Some(Reply::Placed(list)))
+}
+
+fn cut_held(alloc: Global, line: &mut Cursor<'_>) -> Result<Option<Reply>, AllocError>
+    ensures { IfOk result (λ found. IfSome found (λ reply. IsReplyInRange reply)) }
+{
+    let Some(asks) = cut_list(alloc, line)? else {
+        return Ok(None);
+    };
+    if !line.skips(b",\"containers\":[") {
+        return Ok(None);
+    }
+    let Some(containers) = cut_list(alloc, line)? else {
+        return Ok(None);
+    };
+    if !line.skips(b",\"reply\":\"held\"") {
+        return Ok(None);
+    }
+    Ok(Some(Reply::Held { containers, asks }))
+}
+
+/// The reply at the front of a line, but for the brace that ends it.
+pub fn cut_reply(alloc: Global, line: &mut Cursor<'_>) -> Result<Option<Reply>, AllocError>
+    ensures { IfOk result (λ found. IfSome found (λ reply. IsReplyInRange reply)) }
+{
+    if line.skips(b"{\"reply\":\"done\"") {
+        Ok(Some(Reply::Done))
+    } else if line.skips(b"{\"placed\":[") {
+        cut_several(alloc, line)
+    } else if line.skips(b"{\"reply\":\"nothing\"") {
+        Ok(Some(Reply::Proposed(None)))
+    } else if line.skips(b"{\"container\":") {
+        Ok(cut_committed(line))
+    } else if line.skips(b"{\"proposal\":") {
+        Ok(cut_found(line))
+    } else if line.skips(b"{\"asks\":[") {
+        cut_held(alloc, line)
+    } else {
+        Ok(cut_rare(line))
+    }
+}
+
+/// The same of a refusal or of what a queue uses.
+fn cut_rare(line: &mut Cursor<'_>) -> Option<Reply>
+    ensures { IfSome result (λ reply. IsReplyInRange reply) }
+{
+    let mut ahead = *line;
+    if ahead.skips(b"{\"refused\":") {
+        cut_refused(line)
+    } else {
+        cut_usage(line)
+    }
+}

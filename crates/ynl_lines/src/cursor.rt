@@ -1,0 +1,85 @@
+//! A place in a line in the compact form, from which one piece after another is cut.
+
+ghost use Rattle.std.specs.Prelude.{◌≤◌, IfSome};
+ghost use Rattle.ynl_lines.specs.Reading.{HasClock};
+
+use crate::cutting::{cut_number, cut_text};
+use crate::keys::{id_at, within_small};
+use ynl_resource::{Id, Label, Name};
+
+/// What is left of a line. Each call cuts a piece from its front, with what stands before it in every such line; where it
+/// gives nothing, the line is in another form.
+#[derive(Clone, Copy)]
+pub struct Cursor<'a> {
+    rest: &'a [u8],
+}
+
+impl<'a> Cursor<'a> {
+    /// The front of a line.
+    pub fn new(line: &'a [u8]) -> Cursor<'a> {
+        Cursor { rest: line }
+    }
+
+    /// Whether the line goes on with these bytes, which are cut then.
+    pub fn skips(&mut self, front: &[u8]) -> bool {
+        match self.rest.strip_prefix(front) {
+            Some(rest) => {
+                self.rest = rest;
+                true
+            }
+            None => false,
+        }
+    }
+
+    /// The object in front, of texts and numbers, or of one object of these behind its other members.
+    pub fn object(&mut self) -> Option<&'a [u8]> {
+        let end = self.rest.iter().position(|b| *b == b'}')?;
+        let count = match self.rest.get(end + 1) {
+            Some(b'}') => end + 2,
+            _ => end + 1,
+        };
+        let (object, rest) = self.rest.split_at(count);
+        self.rest = rest;
+        Some(object)
+    }
+
+    pub fn text(&mut self, front: &[u8]) -> Option<&'a str> {
+        let (text, rest) = cut_text(self.rest, front)?;
+        self.rest = rest;
+        Some(text)
+    }
+
+    pub fn number(&mut self, front: &[u8]) -> Option<u64> {
+        let (number, rest) = cut_number(self.rest, front)?;
+        self.rest = rest;
+        Some(number)
+    }
+
+    /// A number of 32 bits that is at most so large.
+    pub fn small(&mut self, front: &[u8], most: u32) -> Option<u32>
+        ensures { IfSome result (λ n. n ≤ most) }
+    {
+        let number = self.number(front)?;
+        within_small(most, number).ok()
+    }
+
+    pub fn name(&mut self, front: &[u8]) -> Option<Name> {
+        let text = self.text(front)?;
+        Name::parse(text).ok()
+    }
+
+    pub fn label(&mut self, front: &[u8]) -> Option<Label> {
+        let text = self.text(front)?;
+        Label::parse(text).ok()
+    }
+
+    pub fn id(&mut self, front: &[u8]) -> Option<Id>
+        ensures { IfSome result (λ id. HasClock id) }
+    {
+        let text = self.text(front)?;
+        match id_at(text) {
+            Ok(id) => Some(id),
+            Err(_) => None,
+        }
+    }
+}
