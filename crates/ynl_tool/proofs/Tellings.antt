@@ -23,14 +23,14 @@ use Rattle.ynl_lines.specs.Reading.{event_of_line}
 use Rattle.ynl_lines.specs.Writing.{fault_text}
 use Rattle.ynl_tool.specs.declared.run.Summary.{Summary}
 use Rattle.ynl_tool.specs.declared.tenant.Stand.{Stand}
-use Rattle.ynl_tool.specs.Lines.{IsPlain, AppendsPart}
+use Rattle.ynl_tool.specs.Lines.{IsPlain, AppendsPart, HoldsBack}
 use Rattle.ynl_tool.specs.Input.{Stream, between}
 use Rattle.ynl_tool.specs.Keeping.{Keeps}
 use Rattle.ynl_tool.specs.Run.{line_of, faulty, fault_lines_of, fault_lines}
 use Rattle.ynl_tool.specs.Running.{Writes}
 use Rattle.ynl_tool.specs.Readings.{ReadsTo}
 use Rattle.ynl_tool.specs.Script.{Script, script_way, script_of}
-use Rattle.ynl_tool.specs.Telling.{lines_from, seen_lines_from, sight_lines, stepped_by, view_lines, tenant_lines, AppendsLines, IsOpened, LeavesLine, LeavesLines, MovesOn, SaysLines, TellsSight, IsToldOf, TellsAll, TellsWhole, TellsTenant}
+use Rattle.ynl_tool.specs.Telling.{lines_from, seen_lines_from, sight_lines, stepped_by, view_lines, tenant_lines, AppendsLines, IsOpened, HoldsSight, LeavesLines, MovesOn, SaysLines, IsToldOf, TellsAll, TellsWhole, TellsTenant}
 use Rattle.ynl_tool.proofs.Fronts.{part_of_more, part_after}
 use Rattle.ynl_tool.proofs.Keepings.{NextKept, next_kept, after_line, none_kept}
 use Rattle.ynl_tool.proofs.Runs.{of_some}
@@ -63,16 +63,12 @@ leaves_more a b xs ys Unclosed h = h
 leaves_more a b xs ys NoMemory h = lines_of_more a b xs ys h
 leaves_more a b xs ys Write h = subst (AppendsPart a b) (sym (concat-append xs ys)) (part_of_more a b (concat xs) (concat ys) h)
 
--- lines, and then what a fault left of the next
-pub leaves_after : (a b c : Option (List ℕ)) (done : List (List ℕ)) (line : List ℕ) (rest : List (List ℕ)) (e : ToolFault) → Appends a b (concat done) → LeavesLine b c line e → LeavesLines a c (done ++ line ∷ rest) e
-leaves_after a b c done line rest Read before h = h
-leaves_after a b c done line rest Unclosed before h = h
-leaves_after a b c done line rest NoMemory before h = all_of_more a c done (line ∷ rest) (subst (Appends a c) (append-nil (concat done)) (Appends-trans a b c (concat done) [] before h))
-leaves_after a b c done line rest Write before h =
-    subst (AppendsPart a c) (sym (concat-append done (line ∷ rest))) (part_after a b c (concat done) (line ++ concat rest) before (part_of_more b c line (concat rest) h))
+-- lines, and then a front of the next
+failed_after : (a b c : Option (List ℕ)) (done : List (List ℕ)) (line : List ℕ) → Appends a b (concat done) → AppendsPart b c line → LeavesLines a c (done ++ line ∷ []) Write
+failed_after a b c done line before h = subst (AppendsPart a c) (sym (concat-append done (line ∷ []))) (part_after a b c (concat done) (line ++ []) before (part_of_more b c line [] h))
 
 -- lines, and one more
-pub one_more : (a b c : Option (List ℕ)) (done : List (List ℕ)) (line : List ℕ) → Appends a b (concat done) → Appends b c line → Appends a c (concat (done ++ line ∷ []))
+one_more : (a b c : Option (List ℕ)) (done : List (List ℕ)) (line : List ℕ) → Appends a b (concat done) → Appends b c line → Appends a c (concat (done ++ line ∷ []))
 one_more a b c done line before h =
     subst (Appends a c) (sym (concat-append done (line ∷ []) ∙ ap (λ l. concat done ++ l) (append-nil line))) (Appends-trans a b c (concat done) line before h)
 
@@ -92,6 +88,39 @@ says_after a b c xs ys (Err Unclosed) before h = h
 says_after a b c xs ys (Err NoMemory) before h = some_after a b c xs ys before h
 says_after a b c xs ys (Err Write) before h = subst (AppendsPart a c) (sym (concat-append xs ys)) (part_after a b c (concat xs) (concat ys) before h)
 
+-- ---- lines that are held back
+
+-- more lines are held back
+pub held_more : (a b : Option (List ℕ)) (lines more : List (List ℕ)) (held kept : List ℕ) → HoldsBack a b held (concat lines) → kept ≡ held ++ concat more → HoldsBack a b kept (concat (lines ++ more))
+held_more a b lines more held kept so is = record {
+  sent = so.sent;
+  written = so.written;
+  all = ap (λ k. so.sent ++ k) is ∙ sym (append_assoc so.sent held (concat more)) ∙ ap (λ k. k ++ concat more) so.all ∙ sym (concat-append lines more);
+}
+
+module _ (a b c : Option (List ℕ)) (lines : List (List ℕ)) (held : List ℕ) (so : HoldsBack a b held (concat lines)) where
+  -- some of what is held back is written
+  pub held_on : (kept : List ℕ) → HoldsBack b c kept held → HoldsBack a c kept (concat lines)
+  held_on kept h = record {
+    sent = so.sent ++ h.sent;
+    written = Appends-trans a b c so.sent h.sent so.written h.written;
+    all = append_assoc so.sent h.sent kept ∙ ap (λ k. so.sent ++ k) h.all ∙ so.all;
+  }
+
+  -- all of it is
+  pub held_written : Appends b c held → Appends a c (concat lines)
+  held_written wrote = subst (Appends a c) so.all (Appends-trans a b c so.sent held so.written wrote)
+
+  -- there was no memory for what follows, and all of it is written
+  pub held_refused : (rest : List (List ℕ)) → Appends b c held → LeavesLines a c (lines ++ rest) NoMemory
+  held_refused rest wrote = all_of_more a c lines rest (held_written wrote)
+
+  -- a write failed in it
+  pub held_failed : (rest : List (List ℕ)) → AppendsPart b c held → LeavesLines a c (lines ++ rest) Write
+  held_failed rest part =
+      subst (AppendsPart a c) (sym (concat-append lines rest))
+      (part_of_more a c (concat lines) (concat rest) (subst (AppendsPart a c) so.all (part_after a b c so.sent held so.written part)))
+
 -- ---- events, one after another
 
 module _ (core : World) (place : ℕ) where
@@ -100,18 +129,18 @@ module _ (core : World) (place : ℕ) where
   found_first None rest = refl
   found_first (Some e) rest = refl
 
--- The lines of the events so far were written, and the text of the others is left.
-pub record ToldSoFar (old new : Option (List ℕ)) (c : Config) (t : Name) (p : Label) (first now : Stand) (events : List Event) (place : ℕ) (text : List ℕ) : Type 0 where
+-- The lines of the events so far were written, up to what is held back of them, and the text of the others is left.
+pub record ToldSoFar (old new : Option (List ℕ)) (held : List ℕ) (c : Config) (t : Name) (p : Label) (first now : Stand) (events : List Event) (place : ℕ) (text : List ℕ) : Type 0 where
   pub left : List Event
   pub kept : Keeps text left
   pub done : List (List ℕ)
   pub goes_on : lines_from c t p first.core 0 first.track events ≡ done ++ lines_from c t p now.core place now.track left
-  pub written : Appends old new (concat done)
+  pub holds : HoldsBack old new held (concat done)
 
-pub none_told : (a : Option (List ℕ)) (c : Config) (t : Name) (p : Label) (stand : Stand) (events : List Event) (text : List ℕ) → Keeps text events → ToldSoFar a a c t p stand stand events 0 text
-none_told a c t p stand events text kept = record { left = events; kept = kept; done = []; goes_on = refl; written = Appends-nil a }
+pub none_told : (a : Option (List ℕ)) (held : List ℕ) (c : Config) (t : Name) (p : Label) (stand : Stand) (events : List Event) (text : List ℕ) → held ≡ [] → Keeps text events → ToldSoFar a a held c t p stand stand events 0 text
+none_told a held c t p stand events text none kept = record { left = events; kept = kept; done = []; goes_on = refl; holds = record { sent = []; written = Appends-nil a; all = none } }
 
-module _ (a b d : Option (List ℕ)) (c : Config) (t : Name) (p : Label) (first now after : Stand) (events : List Event) (place : ℕ) (text : List ℕ) (so : ToldSoFar a b c t p first now events place text) where
+module _ (a b : Option (List ℕ)) (held : List ℕ) (c : Config) (t : Name) (p : Label) (first now : Stand) (events : List Event) (place : ℕ) (text : List ℕ) (so : ToldSoFar a b held c t p first now events place text) where
   module _ (next : NextKept text so.left) where
     abbrev found : Option Event
     found = seen_of t p c now.track next.event
@@ -126,8 +155,8 @@ module _ (a b d : Option (List ℕ)) (c : Config) (t : Name) (p : Label) (first 
         ∙ ap (λ es. so.done ++ lines_from c t p now.core place now.track es) next.is
         ∙ ap (λ ls. so.done ++ ls) (found_first now.core place found rest)
 
-    pub told_more : MovesOn c t p now after next.event → Appends b d (concat (sight_lines now.core place found)) → ToldSoFar a d c t p first after events (place + 1) next.rest
-    told_more moved told = record {
+    told_more : (after : Stand) (kept : List ℕ) → MovesOn c t p now after next.event → kept ≡ held ++ concat (sight_lines now.core place found) → ToldSoFar a b kept c t p first after events (place + 1) next.rest
+    told_more after kept moved told = record {
       left = next.events;
       kept = next.kept;
       done = so.done ++ sight_lines now.core place found;
@@ -136,41 +165,54 @@ module _ (a b d : Option (List ℕ)) (c : Config) (t : Name) (p : Label) (first 
           ∙ sym (append_assoc so.done (sight_lines now.core place found) (seen_lines_from (stepped_by now.core found) rest))
           ∙ ap (λ core. (so.done ++ sight_lines now.core place found) ++ seen_lines_from core rest) (sym moved.core)
           ∙ ap (λ track. (so.done ++ sight_lines now.core place found) ++ lines_from c t p after.core (place + 1) track next.events) (sym moved.track);
-      written = says_after {A = Unit {0}} a b d so.done (sight_lines now.core place found) (Ok tt) so.written told;
+      holds = held_more a b so.done (sight_lines now.core place found) held kept so.holds told;
     }
 
-    pub told_failed : (f : ToolFault) → LeavesLines b d (sight_lines now.core place found) f → LeavesLines a d (lines_from c t p first.core 0 first.track events) f
-    told_failed f left =
-        subst (λ ls. LeavesLines a d ls f) (sym then_next)
-        (says_after {A = Unit {0}} a b d so.done (sight_lines now.core place found ++ seen_lines_from (stepped_by now.core found) rest) (Err f) so.written (leaves_more b d (sight_lines now.core place found) (seen_lines_from (stepped_by now.core found) rest) f left))
+  -- what is held back is as it was
+  pub told_same : (kept : List ℕ) → kept ≡ held → ToldSoFar a b kept c t p first now events place text
+  told_same kept is = subst (λ k. ToldSoFar a b k c t p first now events place text) (sym is) so
+
+  module _ (d : Option (List ℕ)) where
+    -- some of it is written
+    pub told_on : (kept : List ℕ) → HoldsBack b d kept held → ToldSoFar a d kept c t p first now events place text
+    told_on kept h = record { left = so.left; kept = so.kept; done = so.done; goes_on = so.goes_on; holds = held_on a b d so.done held so.holds kept h }
+
+    -- there was no memory for the next line
+    pub told_refused : Appends b d held → LeavesLines a d (lines_from c t p first.core 0 first.track events) NoMemory
+    told_refused wrote = subst (λ ls. LeavesLines a d ls NoMemory) (sym so.goes_on) (held_refused a b d so.done held so.holds (lines_from c t p now.core place now.track so.left) wrote)
+
+    -- a write failed
+    pub told_failed : AppendsPart b d held → LeavesLines a d (lines_from c t p first.core 0 first.track events) Write
+    told_failed part = subst (λ ls. LeavesLines a d ls Write) (sym so.goes_on) (held_failed a b d so.done held so.holds (lines_from c t p now.core place now.track so.left) part)
+
+    -- no event is left
+    pub told_all : length text ≡ 0 → Appends b d held → Appends a d (concat (lines_from c t p first.core 0 first.track events))
+    told_all none wrote =
+        subst (λ ls. Appends a d (concat ls)) (sym (so.goes_on ∙ ap (λ es. so.done ++ lines_from c t p now.core place now.track es) (none_kept text so.left none so.kept) ∙ append-nil so.done))
+        (held_written a b d so.done held so.holds wrote)
 
 -- A line that was read again: what stands at a place of the text that is kept.
-module _ {A : Type 0} (a b d : Option (List ℕ)) (c : Config) (t : Name) (p : Label) (first now after : Stand) (events : List Event) (place : ℕ) (text line : List ℕ) (at : ℕ) (r : Result A ToolFault)
-    (so : ToldSoFar a b c t p first now events place (drop at text)) (more : at < length text)
+module _ {A E : Type 0} (a b : Option (List ℕ)) (held kept : List ℕ) (c : Config) (t : Name) (p : Label) (first now after : Stand) (events : List Event) (place : ℕ) (text line : List ℕ) (at : ℕ) (r : Result A E)
+    (so : ToldSoFar a b held c t p first now events place (drop at text)) (more : at < length text)
     (first_line : (line' rest : List ℕ) → IsPlain line' → drop at text ≡ line' ++ 10 ∷ rest → line ≡ line')
-    (tells : (e : Event) → event_of_line line ≡ Ok e → TellsSight b d c t p now after place e r) where
+    (tells : (e : Event) → event_of_line line ≡ Ok e → HoldsSight held kept c t p now after place e r) where
   next : NextKept (drop at text) so.left
   next = next_kept (drop at text) so.left (let n = length-drop at text in omega (arith, n, more)) so.kept
 
   is_line : line ≡ next.begins.line
   is_line = first_line next.begins.line next.rest next.begins.plain next.begins.is
 
-  tells_next : TellsSight b d c t p now after place next.event r
+  tells_next : HoldsSight held kept c t p now after place next.event r
   tells_next = tells next.event (ap event_of_line is_line ∙ next.begins.said)
 
-  pub line_told : (x : A) → r ≡ Ok x → ToldSoFar a d c t p first after events (place + 1) (drop (at + (length line + 1)) text)
+  pub line_told : (x : A) → r ≡ Ok x → ToldSoFar a b kept c t p first after events (place + 1) (drop (at + (length line + 1)) text)
   line_told x is =
-      let h = subst (TellsSight b d c t p now after place next.event) is tells_next in
-      subst (ToldSoFar a d c t p first after events (place + 1)) (sym (ap (λ l. drop (at + (length l + 1)) text) is_line ∙ after_line text at next.event next.rest next.begins))
-      (told_more a b d c t p first now after events place (drop at text) so next h.0 h.1)
+      let h = subst (HoldsSight held kept c t p now after place next.event) is tells_next in
+      subst (ToldSoFar a b kept c t p first after events (place + 1)) (sym (ap (λ l. drop (at + (length l + 1)) text) is_line ∙ after_line text at next.event next.rest next.begins))
+      (told_more a b held c t p first now events place (drop at text) so next after kept h.0 h.1)
 
-  pub line_failed : (f : ToolFault) → r ≡ Err f → LeavesLines a d (lines_from c t p first.core 0 first.track events) f
-  line_failed f is = told_failed a b d c t p first now after events place (drop at text) so next f (subst (TellsSight b d c t p now after place next.event) is tells_next)
-
--- no event is left
-pub told_all : (a b : Option (List ℕ)) (c : Config) (t : Name) (p : Label) (first now : Stand) (events : List Event) (place : ℕ) (text : List ℕ) → ToldSoFar a b c t p first now events place text → length text ≡ 0 → Appends a b (concat (lines_from c t p first.core 0 first.track events))
-told_all a b c t p first now events place text so none =
-    subst (λ ls. Appends a b (concat ls)) (sym (so.goes_on ∙ ap (λ es. so.done ++ lines_from c t p now.core place now.track es) (none_kept text so.left none so.kept) ∙ append-nil so.done)) so.written
+  pub line_refused : (f : E) → r ≡ Err f → ToldSoFar a b kept c t p first now events place (drop at text)
+  line_refused f is = told_same a b held c t p first now events place (drop at text) so kept (subst (HoldsSight held kept c t p now after place next.event) is tells_next)
 
 -- the lines from the beginning are those of the view
 pub told_of_view : {A : Type 0} (a b : Option (List ℕ)) (c : Config) (t : Name) (p : Label) (stand : Stand) (events : List Event) (r : Result A ToolFault) → IsOpened c t stand
@@ -234,9 +276,10 @@ module _ (reader : Stream) (w0 w1 : Option (List ℕ)) (c : Config) (t : Name) (
     ends_broken wm f (Err Read) some h w other = absurd (other refl)
     ends_broken wm f (Err Unclosed) some h w other = absurd w
     ends_broken wm f (Err NoMemory) some h w other =
-        fails NoMemory (subst (λ ls. LeavesLines w0 w1 ls NoMemory) (sym (ap (λ f. seen ++ fault_lines_of s.lines f) some)) (leaves_after w0 wm w1 seen (line_of (fault_text (InScript f) s.lines)) [] NoMemory h w))
+        fails NoMemory
+        (all_of_more w0 w1 seen (fault_lines s) (subst (Appends w0 w1) (append-nil (concat seen)) (Appends-trans w0 wm w1 (concat seen) [] h w)))
     ends_broken wm f (Err Write) some h w other =
-        fails Write (subst (λ ls. LeavesLines w0 w1 ls Write) (sym (ap (λ f. seen ++ fault_lines_of s.lines f) some)) (leaves_after w0 wm w1 seen (line_of (fault_text (InScript f) s.lines)) [] Write h w))
+        fails Write (subst (λ ls. LeavesLines w0 w1 ls Write) (sym (ap (λ f. seen ++ fault_lines_of s.lines f) some)) (failed_after w0 wm w1 seen (line_of (fault_text (InScript f) s.lines)) h w))
 
 -- what the tenant is told of the whole input
 pub tells_whole : (reader writer : Stream) (accepted : Bool) (c : Config) (t : Name) (p : Label) (r : Result Summary ToolFault) → TellsTenant reader writer accepted c t p r → TellsWhole reader writer accepted c t p r

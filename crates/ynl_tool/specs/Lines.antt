@@ -94,3 +94,9 @@ pub record AppendsFront (old new : Option (List ℕ)) (text : List ℕ) : Type 0
 pub record AppendsPart (old new : Option (List ℕ)) (text : List ℕ) : Type 0 where
   pub front : AppendsFront old new text
   pub missing : front.count < length text
+
+-- a text was written up to what is held back of it
+pub record HoldsBack (old new : Option (List ℕ)) (held text : List ℕ) : Type 0 where
+  pub sent : List ℕ
+  pub written : Appends old new sent
+  pub all : sent ++ held ≡ text

@@ -1,5 +1,5 @@
 -- What is told of a live scheduler: the closed journal of its session, and the fault of the script.
-use Rattle.std.specs.Prelude.{◌≡◌, ◌⊎◌, ℕ, ◌+◌, List, [], ◌∷◌, ◌++◌, Option, option_map, IfSome, Result, Ok, Err, IfOk}
+use Rattle.std.specs.Prelude.{◌≡◌, ◌⊎◌, ℕ, ◌+◌, List, [], ◌∷◌, ◌++◌, option_map, IfSome, Result, Ok, Err, IfOk}
 use Rattle.std.specs.Option.{option_map_or}
 use Rattle.std.specs.List.{concat}
 use Rattle.std.specs.Io.KnownBytes.{Appends}
@@ -17,7 +17,7 @@ use Rattle.ynl_tool.specs.Input.{Stream}
 use Rattle.ynl_tool.specs.Run.{line_of, fault_lines}
 use Rattle.ynl_tool.specs.Readings.{ReadsTo}
 use Rattle.ynl_tool.specs.Script.{Script, script_way, script_of}
-use Rattle.ynl_tool.specs.Telling.{LeavesLine, LeavesLines, TellsNothing}
+use Rattle.ynl_tool.specs.Telling.{LeavesLines, TellsNothing}
 
 -- ---- what is written
 
@@ -39,11 +39,6 @@ abbrev pub session_lines : List Entry → Script → List (List ℕ)
 session_lines entries s = journal_lines 0 entries ++ fault_lines s
 
 -- ---- writing it
-
--- a line was written, or a fault left a front of it
-abbrev pub SaysLine : {A : Type 0} → Option (List ℕ) → Option (List ℕ) → List ℕ → Result A ToolFault → Type 0
-SaysLine old new line (Ok x) = Appends old new line
-SaysLine old new line (Err e) = LeavesLine old new line e
 
 -- why a session has no closed journal, as a fault of a job
 abbrev pub session_fault : SessionFault → ToolFault

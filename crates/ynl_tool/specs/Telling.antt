@@ -70,24 +70,14 @@ LeavesLines old new lines NoMemory = AppendsLines old new lines
 LeavesLines old new lines Read = ⊥
 LeavesLines old new lines Unclosed = ⊥
 
--- a fault left a front of a line: nothing where memory was refused
-abbrev pub LeavesLine : Option (List ℕ) → Option (List ℕ) → List ℕ → ToolFault → Type 0
-LeavesLine old new line Write = AppendsPart old new line
-LeavesLine old new line NoMemory = Appends old new []
-LeavesLine old new line Read = ⊥
-LeavesLine old new line Unclosed = ⊥
-
 -- the line of an event
 abbrev pub entry_line : World → ℕ → Event → List ℕ
 entry_line core place e = line_of (line_text place (entry e (Some (step core.config core.state e).reply)))
 
--- an event was answered, and its line was written, or a part of it where a write failed; or memory was refused, and nothing was written
-abbrev pub TellsEvent : {A : Type 0} → Option (List ℕ) → Option (List ℕ) → World → World → ℕ → Event → Result A ToolFault → Type 0
-TellsEvent old new core next place e (Ok x) = (next ≡ stepped core e) × Appends old new (entry_line core place e)
-TellsEvent old new core next place e (Err Write) = (next ≡ stepped core e) × AppendsPart old new (entry_line core place e)
-TellsEvent old new core next place e (Err NoMemory) = Appends old new []
-TellsEvent old new core next place e (Err Read) = ⊥
-TellsEvent old new core next place e (Err Unclosed) = ⊥
+-- an event was answered in the text that is held back; or memory was refused, and then that text is as it was
+abbrev pub HoldsEvent : {A E : Type 0} → List ℕ → List ℕ → World → World → ℕ → Event → Result A E → Type 0
+HoldsEvent old new core next place e (Ok x) = (next ≡ stepped core e) × (new ≡ old ++ entry_line core place e)
+HoldsEvent old new core next place e (Err f) = new ≡ old
 
 -- the lines were written, or a fault left a front of them
 abbrev pub SaysLines : {A : Type 0} → Option (List ℕ) → Option (List ℕ) → List (List ℕ) → Result A ToolFault → Type 0
@@ -116,10 +106,10 @@ pub record MovesOn (c : Config) (t : Name) (p : Label) (old new : Stand) (e : Ev
   pub track : new.track ≡ track_step c old.track e
   pub core : new.core ≡ stepped_by old.core (seen_of t p c old.track e)
 
--- what is seen of an event was told, and the telling stands after it; or a fault left a front of its line
-abbrev pub TellsSight : {A : Type 0} → Option (List ℕ) → Option (List ℕ) → Config → Name → Label → Stand → Stand → ℕ → Event → Result A ToolFault → Type 0
-TellsSight old new c t p before after place e (Ok x) = MovesOn c t p before after e × Appends old new (concat (sight_lines before.core place (seen_of t p c before.track e)))
-TellsSight old new c t p before after place e (Err f) = LeavesLines old new (sight_lines before.core place (seen_of t p c before.track e)) f
+-- what is seen of an event was told in the text that is held back, and the telling stands after it; or memory was refused
+abbrev pub HoldsSight : {A E : Type 0} → List ℕ → List ℕ → Config → Name → Label → Stand → Stand → ℕ → Event → Result A E → Type 0
+HoldsSight old new c t p before after place e (Ok x) = MovesOn c t p before after e × (new ≡ old ++ concat (sight_lines before.core place (seen_of t p c before.track e)))
+HoldsSight old new c t p before after place e (Err f) = new ≡ old
 
 -- ---- the whole
 

@@ -14,7 +14,7 @@ use std::alloc::{AllocError, Global};
 use std::io::{BufRead, Write};
 use ynl_core::{Core, NoMemory};
 use ynl_journal::fits;
-use ynl_lines::{BadLine, InputFault, JournalFault, read_line, write_audit};
+use ynl_lines::{BadLine, InputFault, JournalFault, LineReader, write_audit};
 use ynl_model::Entry;
 use ynl_queues::Config;
 
@@ -40,6 +40,7 @@ fn next_entry(
 /// fault. Bytes that are no text take no memory.
 fn entry_said(
     alloc: Global,
+    lines: &mut LineReader,
     entries: u64,
     line: &[u8],
 ) -> Result<Result<Option<Entry>, JournalFault>, AllocError>
@@ -49,7 +50,7 @@ fn entry_said(
     if is_blank(line) {
         return Ok(Ok(None));
     }
-    Ok(next_entry(entries, read_line(alloc, line)?))
+    Ok(next_entry(entries, lines.read(alloc, line)?))
 }
 
 /// An audit that has come to the end of some entries: the cluster that they lead to, and how many they
@@ -86,13 +87,18 @@ impl Audit {
 
     /// Takes the entry of a line, or gives the line's fault. Where memory was refused the audit is as before, so
     /// that is never told of an entry which the cluster took.
-    fn take_line(&mut self, alloc: Global, line: &[u8]) -> Result<Option<JournalFault>, NoMemory>
+    fn take_line(
+        &mut self,
+        alloc: Global,
+        lines: &mut LineReader,
+        line: &[u8],
+    ) -> Result<Option<JournalFault>, NoMemory>
         requires { self.old.entries < limit }
         ensures passes { AuditsLine self.old self.new line.now result }
         ensures err { OnErr result (self.new ≡ self.old) }
         ensures few { self.new.entries ≤ self.old.entries + 1 }
     {
-        match entry_said(alloc, self.entries, line)? {
+        match entry_said(alloc, lines, self.entries, line)? {
             Ok(Some(entry)) => {
                 if self.take(&entry)? {
                     Ok(None)
@@ -125,6 +131,7 @@ fn audit_entries<R: BufRead>(
 {
     let mut audit = Audit::open(alloc, config)?;
     let mut input = Lines::new(alloc);
+    let mut lines = LineReader::new(alloc);
     'lines: loop {
         match input.next(reader)? {
             Next::TooLong => {
@@ -143,7 +150,7 @@ fn audit_entries<R: BufRead>(
             }
             Next::Line => {}
         }
-        if let Some(fault) = audit.take_line(alloc, &input.line)? {
+        if let Some(fault) = audit.take_line(alloc, &mut lines, &input.line)? {
             return Ok(Found {
                 entries: audit.entries,
                 lines: input.count,

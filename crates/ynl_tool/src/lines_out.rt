@@ -1,9 +1,11 @@
-//! Text, written by single writes.
+//! Text, written by single writes, and lines that are held back until there is much to write.
 
-ghost use Rattle.std.specs.Prelude.{OnOk, OnErr, ◌++◌};
+ghost use Rattle.std.specs.Prelude.{◌≡◌, [], OnOk, OnErr, ◌++◌};
 ghost use Rattle.std.specs.Io.KnownBytes.{Appends};
-ghost use Rattle.ynl_tool.specs.Lines.{AppendsPart};
+ghost use Rattle.ynl_tool.specs.Lines.{AppendsPart, HoldsBack};
+ghost use Rattle.ynl_tool.specs.Run.{line_of};
 
+use std::alloc::AllocError;
 use std::io::Write;
 use thiserror::Error;
 
@@ -41,4 +43,38 @@ pub fn write_three<W: Write>(
     write_text(writer, first)?;
     write_text(writer, second)?;
     write_text(writer, third)
+}
+
+/// How long the text may get that is held back, in bytes, before it is written.
+pub const HELD: usize = 65536;
+
+/// Adds a text to what is held back, with the newline that ends its line.
+pub fn hold_text(text: &mut Vec<u8>, held: &mut Vec<u8>) -> Result<(), AllocError>
+    ensures ok { OnOk result (held.new.items ≡ held.old.items ++ line_of text.old.items) }
+    ensures err { OnErr result (held.new.items ≡ held.old.items) }
+{
+    text.push(b'\n')?;
+    held.extend_from_slice(text)
+}
+
+/// Writes the text that is held back, and holds none then.
+pub fn write_held<W: Write>(writer: &mut W, held: &mut Vec<u8>) -> Result<(), WriteFault>
+    ensures ok { OnOk result (Appends (W.contents writer.old) (W.contents writer.new) held.old.items) }
+    ensures none { OnOk result (held.new.items ≡ []) }
+    ensures err { OnErr result (AppendsPart (W.contents writer.old) (W.contents writer.new) held.old.items) }
+{
+    write_text(writer, held)?;
+    held.clear();
+    Ok(())
+}
+
+/// Writes the text that is held back where it has come to [`HELD`] bytes.
+pub fn write_on<W: Write>(writer: &mut W, held: &mut Vec<u8>) -> Result<(), WriteFault>
+    ensures ok { OnOk result (HoldsBack (W.contents writer.old) (W.contents writer.new) held.new.items held.old.items) }
+    ensures err { OnErr result (AppendsPart (W.contents writer.old) (W.contents writer.new) held.old.items) }
+{
+    if held.len() < HELD {
+        return Ok(());
+    }
+    write_held(writer, held)
 }

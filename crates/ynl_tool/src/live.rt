@@ -1,20 +1,20 @@
 //! Telling the closed journal of a live scheduler that is given a script.
 
-ghost use Rattle.std.specs.Prelude.{◌≡◌, ◌<◌, IfOk};
+ghost use Rattle.std.specs.Prelude.{◌≡◌, ◌<◌, ◌++◌, IfOk, OnOk, OnErr};
 ghost use Rattle.ynl_tool.specs.Input.{between};
-ghost use Rattle.ynl_tool.specs.Living.{rounds_of, journal_line, journal_lines, session_lines, session_fault, Lives, LivesWhole, SaysLine, SumsUp};
+ghost use Rattle.ynl_tool.specs.Living.{rounds_of, journal_line, journal_lines, session_lines, session_fault, Lives, LivesWhole, SumsUp};
 ghost use Rattle.ynl_tool.specs.Run.{fault_lines};
 ghost use Rattle.ynl_tool.specs.Script.{script_read};
 ghost use Rattle.ynl_tool.specs.Telling.{SaysLines};
 
-use crate::lines_out::write_text;
-use crate::run::{Summary, ToolFault, report, with_newline};
+use crate::lines_out::{hold_text, write_held, write_on};
+use crate::run::{Summary, ToolFault, report};
 use crate::script_in::{Script, read_script};
 use std::alloc::{AllocError, Global};
 use std::io::{BufRead, Write};
 use std::sync::Wait;
 use std::thread::Threads;
-use ynl_lines::{InputFault, write_line};
+use ynl_lines::{InputFault, put_line};
 use ynl_model::Entry;
 use ynl_queues::Config;
 use ynl_session::{SessionFault, run_session};
@@ -61,38 +61,42 @@ fn rounds_of(script: &Script, rounds: u64) -> u64
     }
 }
 
-/// The line of an entry.
-fn entry_line(alloc: Global, place: u64, entry: &Entry) -> Result<Vec<u8>, AllocError>
-    ensures { IfOk result (λ line. line.items ≡ journal_line place entry.now) }
-{
-    match entry.reply {
-        Some(_) => with_newline(write_line(alloc, place, entry)?),
-        // No history has such an entry.
-        None => Ok(Vec::new(alloc)),
-    }
-}
-
-/// Writes the line of an entry.
-fn tell_entry<W: Write>(
-    alloc: Global,
+/// Adds the line of an entry to what is held back.
+fn hold_entry(
     place: u64,
     entry: &Entry,
-    writer: &mut W,
-) -> Result<(), ToolFault>
-    ensures { SaysLine (W.contents writer.old) (W.contents writer.new) (journal_line place entry.now) result }
+    text: &mut Vec<u8>,
+    held: &mut Vec<u8>,
+) -> Result<(), AllocError>
+    ensures ok { OnOk result (held.new.items ≡ held.old.items ++ journal_line place entry.now) }
+    ensures err { OnErr result (held.new.items ≡ held.old.items) }
 {
-    let line = entry_line(alloc, place, entry)?;
-    write_text(writer, &line)?;
-    Ok(())
+    match entry.reply {
+        Some(_) => {
+            put_line(place, entry, text)?;
+            hold_text(text, held)
+        }
+        // No history has such an entry.
+        None => Ok(()),
+    }
 }
 
 /// Writes the lines of the entries.
 fn tell_entries<W: Write>(alloc: Global, entries: &[Entry], writer: &mut W) -> Result<(), ToolFault>
     ensures { SaysLines (W.contents writer.old) (W.contents writer.new) (journal_lines 0 entries.now) result }
 {
+    let mut text = Vec::new(alloc);
+    let mut held = Vec::new(alloc);
     for (i, entry) in entries.iter().enumerate() {
-        tell_entry(alloc, i as u64, entry, writer)?;
+        match hold_entry(i as u64, entry, &mut text, &mut held) {
+            Ok(()) => write_on(writer, &mut held)?,
+            Err(AllocError) => {
+                write_held(writer, &mut held)?;
+                return Err(ToolFault::NoMemory);
+            }
+        }
     }
+    write_held(writer, &mut held)?;
     Ok(())
 }
 

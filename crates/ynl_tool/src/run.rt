@@ -1,19 +1,17 @@
 //! The run: events are read line by line, and the reply to each is written.
 
-ghost use Rattle.std.specs.Prelude.{◌≡◌, ◌≢◌, ◌+◌, ◌++◌, ◌≤◌, [], false, IfOk, IfErr, OnOk, OnErr};
-ghost use Rattle.std.specs.Io.KnownBytes.{Appends};
+ghost use Rattle.std.specs.Prelude.{◌≡◌, ◌≢◌, ◌+◌, ◌++◌, ◌≤◌, false, IfOk, IfErr, OnOk, OnErr};
 ghost use Rattle.ynl_model.specs.Cluster.{opening};
 ghost use Rattle.ynl_tool.specs.declared.run.ToolFault.TheVariants.{Read};
 ghost use Rattle.ynl_core.specs.World.{beaten};
 ghost use Rattle.ynl_lines.specs.Writing.{reply_text};
 ghost use Rattle.ynl_model.specs.declared.events.Event.TheVariants.{Heartbeat};
 ghost use Rattle.ynl_tool.specs.Input.{between, is_blank, limit};
-ghost use Rattle.ynl_tool.specs.Lines.{AppendsPart};
 ghost use Rattle.ynl_tool.specs.Run.{faulty, line_of};
 ghost use Rattle.ynl_tool.specs.Running.{HoldsReply, Holds, GoesOn, ReadsOn, Writes, Runs, RunsWhole};
 
 use crate::lines_in::{Lines, Next, ReadFault, is_blank};
-use crate::lines_out::{WriteFault, write_text};
+use crate::lines_out::{HELD, WriteFault, hold_text, write_held, write_text};
 use std::alloc::{AllocError, Global};
 use std::io::{BufRead, Write};
 use thiserror::Error;
@@ -104,15 +102,6 @@ pub fn with_newline(mut text: Vec<u8>) -> Result<Vec<u8>, AllocError>
     Ok(text)
 }
 
-/// Adds a text to what is held back, with the newline that ends its line.
-fn hold_text(text: &mut Vec<u8>, held: &mut Vec<u8>) -> Result<(), AllocError>
-    ensures ok { OnOk result (held.new.items ≡ held.old.items ++ line_of text.old.items) }
-    ensures err { OnErr result (held.new.items ≡ held.old.items) }
-{
-    text.push(b'\n')?;
-    held.extend_from_slice(text)
-}
-
 /// Adds the line of a reply to what is held back. Its text is made in `text` first, so that nothing is added where
 /// there is no memory for it.
 fn hold(reply: &Reply, text: &mut Vec<u8>, held: &mut Vec<u8>) -> Result<(), AllocError>
@@ -179,9 +168,6 @@ fn answer_event(
     Ok(None)
 }
 
-/// How long the text may get that is held back, in bytes, before it is written ahead of the next line.
-const HELD: usize = 65536;
-
 /// Answers one line, with the text added to what is held back, or gives its fault.
 fn answer(
     alloc: Global,
@@ -204,17 +190,6 @@ fn answer(
         }
         None => answer_event(alloc, events, core, line, text, held),
     }
-}
-
-/// Writes the text that is held back, and holds none then.
-fn write_held<W: Write>(writer: &mut W, held: &mut Vec<u8>) -> Result<(), WriteFault>
-    ensures ok { OnOk result (Appends (W.contents writer.old) (W.contents writer.new) held.old.items) }
-    ensures none { OnOk result (held.new.items ≡ []) }
-    ensures err { OnErr result (AppendsPart (W.contents writer.old) (W.contents writer.new) held.old.items) }
-{
-    write_text(writer, held)?;
-    held.clear();
-    Ok(())
 }
 
 /// Writes the text that is held back, and then reads the next line.

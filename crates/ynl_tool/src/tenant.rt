@@ -1,22 +1,21 @@
 //! Telling a tenant what its partition sees of a script.
 
 ghost use Rattle.std.specs.Prelude.{◌≡◌, List, Ok, IfOk, IsTrue};
-ghost use Rattle.ynl_core.specs.World.{stepped};
 ghost use Rattle.ynl_lines.specs.Reading.{event_of_line};
 ghost use Rattle.ynl_model.specs.declared.events.Event.{Event};
 ghost use Rattle.ynl_model.specs.Accepted.{is_accepted};
 ghost use Rattle.ynl_model.specs.View.{is_sole};
 ghost use Rattle.ynl_tool.specs.Input.{between};
 ghost use Rattle.ynl_tool.specs.Keeping.{Keeps};
-ghost use Rattle.ynl_tool.specs.Telling.{entry_line, lines_from, view_lines, IsOpened, SaysLines, TellsEvent, TellsSight, TellsTenant, TellsWhole};
+ghost use Rattle.ynl_tool.specs.Telling.{lines_from, view_lines, HoldsEvent, HoldsSight, IsOpened, SaysLines, TellsTenant, TellsWhole};
 
 use crate::kept::{first_line, keep_script};
-use crate::lines_out::write_text;
-use crate::run::{Summary, ToolFault, report, with_newline};
+use crate::lines_out::{hold_text, write_held, write_on};
+use crate::run::{Summary, ToolFault, report};
 use std::alloc::Global;
 use std::io::{BufRead, Write};
 use ynl_core::{Core, NoMemory};
-use ynl_lines::{EventReader, InputFault, write_line};
+use ynl_lines::{EventReader, InputFault, put_line};
 use ynl_model::{Entry, Event};
 use ynl_queues::Config;
 use ynl_resource::{Label, Name};
@@ -43,60 +42,48 @@ impl Stand {
     }
 }
 
-/// Answers an event, and gives its line. Nothing but memory can be wanting here.
-fn answer_event(
-    alloc: Global,
+/// Adds the line of an event to what is held back: its place, and the reply of the tenant's cluster to it.
+fn hold_event(
     core: &mut Core,
     place: u64,
     event: &Event,
-) -> Result<Vec<u8>, NoMemory>
-    ensures { IfOk result (λ line. (core.new ≡ stepped core.old event.now) × (line.items ≡ entry_line core.old place event.now)) }
+    text: &mut Vec<u8>,
+    held: &mut Vec<u8>,
+) -> Result<(), NoMemory>
+    ensures { HoldsEvent held.old.items held.new.items core.old core.new place event.now result }
 {
     let reply = core.apply(*event)?;
     let entry = Entry {
         event: *event,
         reply: Some(reply),
     };
-    let text = write_line(alloc, place, &entry)?;
-    Ok(with_newline(text)?)
-}
-
-/// Answers an event, and writes its line.
-fn tell_event<W: Write>(
-    alloc: Global,
-    core: &mut Core,
-    place: u64,
-    event: &Event,
-    writer: &mut W,
-) -> Result<(), ToolFault>
-    ensures { TellsEvent (W.contents writer.old) (W.contents writer.new) core.old core.new place event.now result }
-{
-    let line = answer_event(alloc, core, place, event)?;
-    write_text(writer, &line)?;
+    put_line(place, &entry, text)?;
+    hold_text(text, held)?;
     Ok(())
 }
 
 /// Tells of the next event, if the partition sees it.
-fn tell_sight<W: Write>(
-    alloc: Global,
+fn hold_sight(
     config: &Config,
     tenant: &Name,
     label: &Label,
     stand: &mut Stand,
     place: u64,
     event: &Event,
-    writer: &mut W,
-) -> Result<(), ToolFault>
-    ensures { TellsSight (W.contents writer.old) (W.contents writer.new) config.now tenant.now label.now stand.old stand.new place event.now result }
+    text: &mut Vec<u8>,
+    held: &mut Vec<u8>,
+) -> Result<(), NoMemory>
+    ensures { HoldsSight held.old.items held.new.items config.now tenant.now label.now stand.old stand.new place event.now result }
 {
-    match see(config, tenant, label, &mut stand.track, event)? {
-        Some(seen) => tell_event(alloc, &mut stand.core, place, &seen, writer),
-        None => Ok(()),
+    match see(config, tenant, label, &mut stand.track, event) {
+        Ok(Some(seen)) => hold_event(&mut stand.core, place, &seen, text, held),
+        Ok(None) => Ok(()),
+        Err(NoMemory) => Err(NoMemory),
     }
 }
 
 /// Reads the next line again, and tells of its event.
-fn tell_line<W: Write>(
+fn hold_line(
     alloc: Global,
     events: &mut EventReader,
     config: &Config,
@@ -105,14 +92,16 @@ fn tell_line<W: Write>(
     stand: &mut Stand,
     place: u64,
     line: &[u8],
-    writer: &mut W,
-) -> Result<(), ToolFault>
-    ensures { (event : Event) → event_of_line line.now ≡ Ok event → TellsSight (W.contents writer.old) (W.contents writer.new) config.now tenant.now label.now stand.old stand.new place event result }
+    text: &mut Vec<u8>,
+    held: &mut Vec<u8>,
+) -> Result<(), NoMemory>
+    ensures { (event : Event) → event_of_line line.now ≡ Ok event → HoldsSight held.old.items held.new.items config.now tenant.now label.now stand.old stand.new place event result }
 {
-    match events.read(alloc, line)? {
-        Ok(event) => tell_sight(alloc, config, tenant, label, stand, place, &event, writer),
+    match events.read(alloc, line) {
+        Ok(Ok(event)) => hold_sight(config, tenant, label, stand, place, &event, text, held),
         // No line that is kept has a fault.
-        Err(_) => Ok(()),
+        Ok(Err(_)) => Ok(()),
+        Err(_) => Err(NoMemory),
     }
 }
 
@@ -129,11 +118,13 @@ fn tell_lines<W: Write>(
     ensures { (events : List Event) → Keeps text.now events → SaysLines (W.contents writer.old) (W.contents writer.new) (lines_from config.now tenant.now label.now stand.old.core 0 stand.old.track events) result }
 {
     let mut events = EventReader::new(alloc);
+    let mut told = Vec::new(alloc);
+    let mut held = Vec::new(alloc);
     let mut at = 0;
     let mut place = 0u64;
     while at < text.len() {
         let line = first_line(&text[at..]);
-        tell_line(
+        match hold_line(
             alloc,
             &mut events,
             config,
@@ -142,11 +133,19 @@ fn tell_lines<W: Write>(
             stand,
             place,
             line,
-            writer,
-        )?;
+            &mut told,
+            &mut held,
+        ) {
+            Ok(()) => write_on(writer, &mut held)?,
+            Err(NoMemory) => {
+                write_held(writer, &mut held)?;
+                return Err(ToolFault::NoMemory);
+            }
+        }
         at += line.len() + 1;
         place += 1;
     }
+    write_held(writer, &mut held)?;
     Ok(())
 }
 

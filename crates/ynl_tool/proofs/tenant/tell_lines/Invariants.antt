@@ -4,11 +4,11 @@ use Rattle.ynl_tool.specs.Keeping.{Keeps}
 use Rattle.ynl_tool.proofs.Tellings.{ToldSoFar}
 use Rattle.ynl_tool.proofs.tenant.tell_lines.Given as goal
 
--- the lines of the events so far are written, and the text of the others is left
+-- the lines of the events so far are written, up to what is held back, and the text of the others is left
 abbrev pub invariant-loop-at : goal.invariant-loop-at
 invariant-loop-at g l = record {
   place : l.place ≤ l.at;
-  told : (events : List Event) → Keeps l.text events → ToldSoFar (g.W.Write.contents l.initial.writer) (g.W.Write.contents l.writer) l.config l.tenant l.label l.initial.stand l.stand events l.place (drop l.at l.text);
+  told : (events : List Event) → Keeps l.text events → ToldSoFar (g.W.Write.contents l.initial.writer) (g.W.Write.contents l.writer) l.held.items l.config l.tenant l.label l.initial.stand l.stand events l.place (drop l.at l.text);
 }
 
 abbrev pub decreases-loop-at : goal.decreases-loop-at
