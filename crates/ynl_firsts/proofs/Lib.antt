@@ -1,0 +1,3 @@
+pub mod Aligned
+pub mod Ordered
+pub mod Searched

@@ -1,0 +1,104 @@
+//! Values in places, and the first place from some place on whose value passes a test.
+
+ghost use Rattle.std.specs.Prelude.{◌≡◌, ◌≤◌, ◌<◌, ◌*◌, [], length, replicate, slice_set, slice_index_or, All, IfSome, IfNone, OnOk, OnErr};
+ghost use Rattle.ynl_firsts.specs.Firsts.{IsFilledUp, IsFirst, NonePasses};
+
+use crate::least::{Least, Test};
+use crate::tree;
+use std::alloc::{AllocError, Global};
+use std::marker::Model;
+
+/// Values in places 0, 1, .. A contract sees the list of the values. A place that was not set has the
+/// value `none`.
+///
+/// They are the leaves of a binary tree. Each node has a value at or below those of its children, so a
+/// search passes over all leaves under a node that fails the test.
+#[derive(Drop)]
+pub struct Firsts<T: Least> {
+    tree: Vec<T>,
+}
+
+impl<T: Least> Model for Firsts<T> {
+    ghost use Rattle.std.specs.Prelude.{List};
+    ghost use Rattle.ynl_firsts.specs.Tree.{values_of, IsTree};
+
+    ghost Value = { List T };
+
+    ghost view = { λ a. values_of a.tree.items };
+
+    ghost invariant = { λ a. IsTree T.below a.tree.items };
+}
+
+impl<T: Least> Firsts<T> {
+    /// No places yet.
+    pub fn new(alloc: Global) -> Firsts<T>
+        ensures { result ≡ [] }
+    {
+        Firsts {
+            tree: Vec::new(alloc),
+        }
+    }
+
+    /// How many places there are.
+    pub fn room(&self) -> usize
+        ensures { result ≡ length self.now }
+    {
+        self.tree.len() / 2
+    }
+
+    /// A value at or below those in all places; `none` if there are no places.
+    pub fn root(&self) -> T
+        ensures below { All (T.below result) self.now }
+        ensures none { length self.now ≡ 0 → result ≡ T.none }
+    {
+        tree::root(self.tree.as_slice())
+    }
+
+    /// The value in a place; `none` beyond the last place.
+    pub fn get(&self, place: usize) -> T
+        ensures { result ≡ slice_index_or self.now place T.none }
+    {
+        tree::value_at(self.tree.as_slice(), place)
+    }
+
+    /// Makes places until there are at least `count`, with `none` in the new ones. No other call takes
+    /// memory. Where places are made, there are then a power of two of them. The error comes if memory
+    /// is refused, and if `count` is 2^61 or more.
+    pub fn reserve(&mut self, count: usize) -> Result<(), AllocError>
+        ensures values { IsFilledUp T.none self.old self.new }
+        ensures enough { OnOk result (count ≤ length self.new) }
+        ensures same { count ≤ length self.old → self.new ≡ self.old }
+        ensures most { length self.old < count → length self.new ≤ 2 * count }
+        ensures err { OnErr result (self.new ≡ self.old) }
+    {
+        if count > self.room() {
+            let alloc = *self.tree.allocator();
+            self.tree = tree::grow(alloc, tree::values(self.tree.as_slice()), count)?;
+        }
+        Ok(())
+    }
+
+    /// Puts a value in a place. It takes no memory, and at most as many steps as the tree is high.
+    pub fn set(&mut self, place: usize, value: T)
+        requires { place < length self.old }
+        ensures { self.new ≡ slice_set self.old place value }
+    {
+        tree::put(self.tree.as_mut_slice(), place, value);
+    }
+
+    /// Puts `none` in all places.
+    pub fn clear(&mut self)
+        ensures { self.new ≡ replicate (length self.old) T.none }
+    {
+        tree::clear(self.tree.as_mut_slice());
+    }
+
+    /// The first place, not before `from`, whose value passes the test. It tests a few times as many
+    /// nodes as the tree is high, where a node fails if all values under it do.
+    pub fn next<P: Test<T>>(&self, from: usize, test: &P) -> Option<usize>
+        ensures none { IfNone result (NonePasses (P.passes test.now) self.now from) }
+        ensures first { IfSome result (IsFirst (P.passes test.now) self.now from) }
+    {
+        tree::search(self.tree.as_slice(), from, test)
+    }
+}

@@ -1,0 +1,9 @@
+//! Values in places, and the first place from some place on whose value passes a test.
+#![tactic(auto)]
+
+pub use firsts::Firsts;
+pub use least::{Least, Test};
+
+mod firsts;
+mod least;
+mod tree;
