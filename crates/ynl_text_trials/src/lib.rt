@@ -1,4 +1,4 @@
-//! Tests of what no text shows of the lower crates: rosters, firsts, amounts and paths, labels, queues, what an operator sets,
+//! Tests of what no text shows of the lower crates: rosters, slots, firsts, amounts and paths, labels, queues, what an operator sets,
 //! configurations, and lines and their numbers, most of them with memory refused. The crates themselves have none, since a crate with tests is proved twice.
 #![tactic(auto)]
 
@@ -18,5 +18,7 @@ mod queues;
 mod ranges;
 #[cfg(test)]
 mod rosters;
+#[cfg(test)]
+mod slots;
 #[cfg(test)]
 mod words;

@@ -1,0 +1,4 @@
+pub mod Slots
+pub mod Kept
+pub mod Lends
+pub mod Chain
