@@ -1,4 +1,4 @@
-//! Tests of what no text shows of the lower crates: rosters, slots, firsts, amounts and paths, labels, queues, what an operator sets,
+//! Tests of what no text shows of the lower crates: rosters, slots, firsts, lanes, limits, amounts and paths, labels, queues, what an operator sets,
 //! configurations, and lines and their numbers, most of them with memory refused. The crates themselves have none, since a crate with tests is proved twice.
 #![tactic(auto)]
 
@@ -10,6 +10,10 @@ mod controls;
 mod firsts;
 #[cfg(test)]
 mod labels;
+#[cfg(test)]
+mod lanes;
+#[cfg(test)]
+mod limits;
 #[cfg(test)]
 mod lines;
 #[cfg(test)]
