@@ -10,8 +10,8 @@ use std::sync::Wait;
 use std::thread::Threads;
 use std::{env, io};
 use ynl_tool::{
-    BUILT_IN, Job, Kind, SequentialKind, ToolFault, WordsFault, execute, execute_sequential,
-    fault_of, parse_words, read_text, tell,
+    BUILT_IN, Form, Job, Kind, SequentialKind, ToolFault, WordsFault, Workers, execute_check,
+    execute_live, execute_sequential, fault_of, parse_words, read_text, tell,
 };
 
 fn main(rt: HostRuntime) -> ExitCode {
@@ -30,7 +30,8 @@ fn main(rt: HostRuntime) -> ExitCode {
     match parse_words(rt.alloc(), words.as_slice()) {
         Ok(Job { kind, config }) => match kind {
             Kind::Sequential(sequential) => work(&rt, sequential, config),
-            Kind::Live(..) => work_live(&rt, &rt, kind, config),
+            Kind::Check(form) => check(&rt, form, config),
+            Kind::Live(workers, rounds) => work_live(&rt, &rt, workers, rounds, config),
         },
         Err(WordsFault::Words(error)) => {
             let _told = eprint!(rt; "{error}");
@@ -95,12 +96,24 @@ fn work(rt: &HostRuntime, kind: SequentialKind, config: Option<&str>) -> ExitCod
     ExitCode::from(status)
 }
 
+/// Tells what the configuration says.
+fn check(rt: &HostRuntime, form: Form, config: Option<&str>) -> ExitCode {
+    let mut errors = rt.stderr();
+    let mut text = Vec::new(rt.alloc());
+    if let Err(fault) = read_configuration(rt, config, &mut text) {
+        return ExitCode::from(tell(&mut errors, fault));
+    }
+    let status = execute_check(rt.alloc(), form, &text, &mut io::writer(rt), &mut errors);
+    ExitCode::from(status)
+}
+
 /// Does a job of threads. Below `main` the runtime has threads only as a handle of its own, so it comes
 /// twice.
 fn work_live<T: Threads + Wait + Sync>(
     rt: &HostRuntime,
     threads: &T,
-    kind: Kind,
+    workers: Workers,
+    rounds: u64,
     config: Option<&str>,
 ) -> ExitCode {
     let mut errors = rt.stderr();
@@ -108,10 +121,11 @@ fn work_live<T: Threads + Wait + Sync>(
         Ok(inputs) => inputs,
         Err(fault) => return ExitCode::from(tell(&mut errors, fault)),
     };
-    let status = execute(
+    let status = execute_live(
         threads,
         rt.alloc(),
-        kind,
+        workers,
+        rounds,
         &inputs.text,
         &mut inputs.reader,
         &mut io::writer(rt),

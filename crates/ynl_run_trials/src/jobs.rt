@@ -61,8 +61,8 @@ fn cut(alloc: Global, most: usize, text: &[u8]) -> io::Result<Reader<'_>> {
 /// Takes so many bytes at a time, and so many in all; then it fails, or takes none. It counts the calls that
 /// take some.
 #[derive(Drop)]
-struct Sink {
-    taken: Vec<u8>,
+pub(crate) struct Sink {
+    pub(crate) taken: Vec<u8>,
     most: usize,
     room: usize,
     fails: bool,
@@ -71,12 +71,12 @@ struct Sink {
 
 impl Sink {
     /// One that takes all that it is given.
-    fn new(taken: Vec<u8>) -> Sink {
+    pub(crate) fn new(taken: Vec<u8>) -> Sink {
         Sink::narrow(taken, usize::MAX, false)
     }
 
     /// One that has room for so many bytes.
-    fn narrow(taken: Vec<u8>, room: usize, fails: bool) -> Sink {
+    pub(crate) fn narrow(taken: Vec<u8>, room: usize, fails: bool) -> Sink {
         Sink {
             taken,
             most: usize::MAX,

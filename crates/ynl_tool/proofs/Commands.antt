@@ -4,6 +4,7 @@ use Rattle.std.specs.Prelude.{Box}
 use Rattle.std.specs.Box.{box_value}
 use Rattle.std.specs.Str.{bytes_eq, all_ascii_digits}
 use Rattle.std.specs.Str.Parse.{digits_value, IsNumeral}
+use Rattle.std.specs.Option.{option_map_or}
 use Rattle.std.specs.Result.{OkIff, result_ok}
 use Rattle.std.proofs.lemmas.Bool.Decides.{nat_tests}
 use Rattle.std.proofs.lemmas.Str.Parse.{IsNumeralModel, numerals_by_value, tells_all_ascii_digits}
@@ -23,11 +24,12 @@ use Rattle.clap.proofs.OnLiterals.{clap_on_literals}
 use Rattle.clap.proofs.WalkLemmas.{first_value-rows}
 use Rattle.ynl_resource.specs.declared.names.Name.{Name}
 use Rattle.ynl_resource.specs.declared.labels.Label.{Label}
-use Rattle.ynl_tool.specs.declared.words.Kind.TheVariants.{Sequential}
+use Rattle.ynl_check.specs.declared.checking.Form.TheVariants.{Lines}
+use Rattle.ynl_tool.specs.declared.words.Kind.TheVariants.{Sequential, Check}
 use Rattle.ynl_tool.specs.declared.words.SequentialKind.TheVariants.{Run, Audit}
 use Rattle.ynl_tool.specs.declared.words.WordsFault.{WordsFault}
 use Rattle.ynl_tool.specs.declared.words.WordsFault.TheVariants.{Words, NoMemory}
-use Rattle.ynl_tool.specs.Words.{command, name_in, label_in, tenant_by, workers_in, rounds_in, live_by, live_met, is_number, number_of, kind_met, kind_of}
+use Rattle.ynl_tool.specs.Words.{command, name_in, label_in, tenant_by, workers_in, rounds_in, live_by, live_met, form_in, check_met, is_number, number_of, kind_met, kind_of}
 
 pub taken : (words : List Text) → drop 1 words ≡ codes "run" ∷ [] → takes command words ≡ true
 unfolding clap_on_literals
@@ -70,7 +72,7 @@ label_read found p e = e ∙ ap (option_and_then label_in) (first_value-rows fou
 
 tenant_met : (name : Text) (rows : List Row) → bytes_eq name (codes "tenant") ≡ true
     → kind_met (name, rows) ≡ tenant_by (option_and_then name_in (first_of (codes "tenant") rows)) (option_and_then label_in (first_of (codes "label") rows))
-tenant_met name rows e = ap (λ b. cond b (tenant_by (option_and_then name_in (first_of (codes "tenant") rows)) (option_and_then label_in (first_of (codes "label") rows))) (cond (bytes_eq name (codes "audit")) (Some (Sequential Audit)) (cond (bytes_eq name (codes "live")) (live_met rows) (Some (Sequential Run))))) e
+tenant_met name rows e = ap (λ b. cond b (tenant_by (option_and_then name_in (first_of (codes "tenant") rows)) (option_and_then label_in (first_of (codes "label") rows))) (cond (bytes_eq name (codes "audit")) (Some (Sequential Audit)) (cond (bytes_eq name (codes "live")) (live_met rows) (cond (bytes_eq name (codes "check")) (Some (check_met rows)) (Some (Sequential Run)))))) e
 
 pub kind_named : (name : Text) (found : Found) (t : Option Name) (p : Option Label) → bytes_eq name (codes "tenant") ≡ true → t ≡ option_and_then name_in (first_value found (codes "tenant"))
     → p ≡ option_and_then label_in (first_value found (codes "label")) → tenant_by t p ≡ kind_met (name, rows_of found)
@@ -92,6 +94,10 @@ live_read found w r worked rounded =
 -- without workers it asks for nothing, whatever the rounds
 pub live_unread : (found : Found) → None ≡ option_and_then workers_in (first_value found (codes "workers")) → None ≡ live_met (rows_of found)
 live_unread found worked = live_read found None (option_and_then rounds_in (first_value found (codes "rounds"))) worked refl
+
+-- what `check` asks for, by what its flag gives
+pub check_read : (found : Found) → Check (option_map_or form_in (first_value found (codes "plain")) Lines) ≡ check_met (rows_of found)
+check_read found = ap (λ text. Check (option_map_or form_in text Lines)) (first_value-rows found (codes "plain"))
 
 -- ---- numbers
 

@@ -8,10 +8,9 @@ use Rattle.ynl_model.specs.Cluster.{opening}
 use Rattle.ynl_model.specs.View.{is_sole}
 use Rattle.ynl_config.specs.declared.faults.ConfigFault.{ConfigFault}
 use Rattle.ynl_tool.specs.declared.run.ToolFault.TheVariants.{NoMemory}
-use Rattle.ynl_tool.specs.declared.words.Kind.{Kind}
-use Rattle.ynl_tool.specs.declared.words.Kind.TheVariants.{Sequential, Live}
+use Rattle.ynl_tool.specs.declared.words.SequentialKind.{SequentialKind}
 use Rattle.ynl_tool.specs.declared.words.SequentialKind.TheVariants.{Run, Tenant, Audit}
-use Rattle.ynl_tool.specs.Jobs.{Ending, IsIdle, DoesJob, DoesWith, EndsWithout, TellsJob}
+use Rattle.ynl_tool.specs.Jobs.{Doing, Ending, IsIdle, DoesSequentialJob, DoesWith, EndsWithout, LivesJob, TellsJob}
 use Rattle.ynl_tool.specs.Input.{between}
 use Rattle.ynl_tool.proofs.Runs.{stops_at_once}
 use Rattle.ynl_tool.specs.Audit.{audit_way}
@@ -26,18 +25,33 @@ module _ (old wold : Option (List ℕ)) where
   idle_by c t p true = inl (record { read = nothing_read script_way old NoMemory; unwritten = Appends-nil wold })
   idle_by c t p false = (refl, idle)
 
-  idle_job : (kind : Kind) (c : Config) → DoesJob (between old old) (between wold wold) true kind c (Err NoMemory)
-  idle_job (Sequential Run) c = stops_at_once old wold c (opening c)
-  idle_job (Sequential (Tenant t p)) c = idle_by c t p (is_sole c t p)
-  idle_job (Sequential Audit) c = inl (record { read = nothing_read (audit_way c) old NoMemory; unwritten = Appends-nil wold })
-  idle_job (Live workers rounds) c = inl (record { read = nothing_read script_way old NoMemory; unwritten = Appends-nil wold })
+  -- nothing was read or written for want of memory
+  IdlesAt : Doing → Type 0
+  IdlesAt job = (c : Config) → job (between old old) (between wold wold) c (Err NoMemory)
 
-  idle_with : (kind : Kind) (read : Result Config ConfigFault) → DoesWith (between old old) (between wold wold) kind read (Err NoMemory)
-  idle_with kind (Ok c) = idle_job kind c
-  idle_with kind (Err fault) = (refl, idle)
+  -- a job that does nothing where memory is refused, without a configuration
+  without : (job : Doing) → IdlesAt job → (read : Result Config ConfigFault) (ended : Ending) → EndsWithout read ended → DoesWith (between old old) (between wold wold) job read ended
+  unfolding IdlesAt
+  without job idles (Ok c) ended is = subst (DoesWith (between old old) (between wold wold) job (Ok c)) (sym is) (idles c)
+  without job idles (Err fault) ended (inl is) = subst (DoesWith (between old old) (between wold wold) job (Err fault)) (sym is) (refl, idle)
+  without job idles (Err fault) ended (inr is) = subst (DoesWith (between old old) (between wold wold) job (Err fault)) (sym is) (refl, idle)
 
-  -- a job without a configuration
-  pub idle_without : (kind : Kind) (read : Result Config ConfigFault) (ended : Ending) → EndsWithout read ended → DoesWith (between old old) (between wold wold) kind read ended
-  idle_without kind (Ok c) ended is = subst (DoesWith (between old old) (between wold wold) kind (Ok c)) (sym is) (idle_with kind (Ok c))
-  idle_without kind (Err fault) ended (inl is) = subst (DoesWith (between old old) (between wold wold) kind (Err fault)) (sym is) (refl, idle)
-  idle_without kind (Err fault) ended (inr is) = subst (DoesWith (between old old) (between wold wold) kind (Err fault)) (sym is) (idle_with kind (Err fault))
+  idle_job : (kind : SequentialKind) → IdlesAt (DoesSequentialJob true kind)
+  unfolding IdlesAt
+  idle_job Run = λ c. stops_at_once old wold c (opening c)
+  idle_job (Tenant t p) = λ c. idle_by c t p (is_sole c t p)
+  idle_job Audit = λ c. inl (record { read = nothing_read (audit_way c) old NoMemory; unwritten = Appends-nil wold })
+
+  idle_live : (rounds : ℕ) → IdlesAt (LivesJob rounds)
+  unfolding IdlesAt
+  idle_live rounds = λ c. inl (record { read = nothing_read script_way old NoMemory; unwritten = Appends-nil wold })
+
+  -- a job that needs one thread, without a configuration
+  pub idle_without : (kind : SequentialKind) (read : Result Config ConfigFault) (ended : Ending) → EndsWithout read ended
+      → DoesWith (between old old) (between wold wold) (DoesSequentialJob true kind) read ended
+  idle_without kind = without (DoesSequentialJob true kind) (idle_job kind)
+
+  -- the same of a live scheduler
+  pub idle_live_without : (rounds : ℕ) (read : Result Config ConfigFault) (ended : Ending) → EndsWithout read ended
+      → DoesWith (between old old) (between wold wold) (LivesJob rounds) read ended
+  idle_live_without rounds = without (LivesJob rounds) (idle_live rounds)

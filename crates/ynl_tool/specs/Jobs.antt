@@ -22,8 +22,6 @@ use Rattle.ynl_tool.specs.Telling.{TellsTenant}
 use Rattle.ynl_tool.specs.Living.{Lives}
 use Rattle.ynl_tool.specs.declared.jobs.JobRefusal.{JobRefusal}
 use Rattle.ynl_tool.specs.declared.jobs.JobRefusal.TheVariants.{Config, NotSole}
-use Rattle.ynl_tool.specs.declared.words.Kind.{Kind}
-use Rattle.ynl_tool.specs.declared.words.Kind.TheVariants.{Sequential, Live}
 use Rattle.ynl_tool.specs.declared.words.SequentialKind.{SequentialKind}
 use Rattle.ynl_tool.specs.declared.words.SequentialKind.TheVariants.{Run, Tenant, Audit}
 
@@ -99,21 +97,20 @@ TellsJob reader writer accepted c t p true (Err e) = TellsTenant reader writer a
 TellsJob reader writer accepted c t p false ended = NotBegun reader writer NotSole ended
 
 -- a session of so many rounds is told, in which no worker is halted
-abbrev pub LivesJob : Stream → Stream → Configured → ℕ → Ending → Type 0
-LivesJob reader writer c rounds (Ok (Ok summary)) = Lives ⊤ reader writer c rounds (Ok summary)
-LivesJob reader writer c rounds (Ok (Err refusal)) = ⊥
-LivesJob reader writer c rounds (Err e) = Lives ⊤ reader writer c rounds (Err e)
+abbrev pub LivesJob : ℕ → Stream → Stream → Configured → Ending → Type 0
+LivesJob rounds reader writer c (Ok (Ok summary)) = Lives ⊤ reader writer c rounds (Ok summary)
+LivesJob rounds reader writer c (Ok (Err refusal)) = ⊥
+LivesJob rounds reader writer c (Err e) = Lives ⊤ reader writer c rounds (Err e)
 
 -- a job that needs one thread, with a cluster of this configuration, where that may be known to be accepted
-abbrev pub DoesSequentialJob : Stream → Stream → Bool → SequentialKind → Configured → Ending → Type 0
-DoesSequentialJob reader writer accepted Run c ended = RunsJob reader writer c ended
-DoesSequentialJob reader writer accepted (Tenant t p) c ended = TellsJob reader writer accepted c t p (is_sole c t p) ended
-DoesSequentialJob reader writer accepted Audit c ended = AuditsJob reader writer c ended
+abbrev pub DoesSequentialJob : Bool → SequentialKind → Stream → Stream → Configured → Ending → Type 0
+DoesSequentialJob accepted Run reader writer c ended = RunsJob reader writer c ended
+DoesSequentialJob accepted (Tenant t p) reader writer c ended = TellsJob reader writer accepted c t p (is_sole c t p) ended
+DoesSequentialJob accepted Audit reader writer c ended = AuditsJob reader writer c ended
 
--- the same of any kind
-abbrev pub DoesJob : Stream → Stream → Bool → Kind → Configured → Ending → Type 0
-DoesJob reader writer accepted (Sequential kind) c ended = DoesSequentialJob reader writer accepted kind c ended
-DoesJob reader writer accepted (Live workers rounds) c ended = LivesJob reader writer c rounds ended
+-- what a job does to its reader and its writer with a cluster of a configuration, and how it ends
+abbrev pub Doing : Type 1
+Doing = Stream → Stream → Configured → Ending → Type 0
 
 -- how a job ends that has no configuration: with the fault of its text, or for want of memory
 abbrev pub EndsWithout : Result Configured ConfigFault → Ending → Type 0
@@ -121,17 +118,17 @@ EndsWithout (Ok c) ended = ended ≡ Err NoMemory
 EndsWithout (Err fault) ended = (ended ≡ Ok (Err (Config fault))) ⊎ (ended ≡ Err NoMemory)
 
 -- the job with this configuration, which is accepted; or its fault, where there is none
-abbrev pub DoesWith : Stream → Stream → Kind → Result Configured ConfigFault → Ending → Type 0
-DoesWith reader writer kind (Ok c) ended = DoesJob reader writer true kind c ended
-DoesWith reader writer kind (Err fault) ended = NotBegun reader writer (Config fault) ended
+abbrev pub DoesWith : Stream → Stream → Doing → Result Configured ConfigFault → Ending → Type 0
+DoesWith reader writer job (Ok c) ended = job reader writer c ended
+DoesWith reader writer job (Err fault) ended = NotBegun reader writer (Config fault) ended
 
 -- the job with the configuration that a text means
-abbrev pub DoesText : Stream → Stream → Kind → List ℕ → Ending → Type 0
-DoesText reader writer kind text ended = DoesWith reader writer kind (config_of text) ended
+abbrev pub DoesText : Stream → Stream → Doing → List ℕ → Ending → Type 0
+DoesText reader writer job text ended = DoesWith reader writer job (config_of text) ended
 
 -- the job was done, and the exit status and the error stream tell how it ended
-pub record Executes (reader writer errors : Stream) (kind : Kind) (text : List ℕ) (status : ℕ) : Type 0 where
+pub record Executes (reader writer errors : Stream) (job : Doing) (text : List ℕ) (status : ℕ) : Type 0 where
   pub ended : Ending
-  pub does : DoesText reader writer kind text ended
+  pub does : DoesText reader writer job text ended
   pub told : Tells errors.before errors.after ended
   pub tells : status ≡ status_by ended

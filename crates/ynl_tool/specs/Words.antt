@@ -1,16 +1,20 @@
 -- The command line.
 use Rattle.std.specs.Prelude.{◌≡◌, ℕ, Bool, true, ◌&&◌, List, [], ◌∷◌, length, nat_lt, nat_le, Option, Some, None, option_and_then, codes, if◌then◌else◌}
+use Rattle.std.specs.Option.{option_map_or}
 use Rattle.std.specs.Result.{result_ok}
 use Rattle.std.specs.Str.{bytes_eq, all_ascii_digits}
 use Rattle.std.specs.Str.Parse.{digits_value, without_leading_plus}
 use Rattle.clap.specs.Walk.{Rule, Row, Text, first_of}
 use Rattle.clap.specs.Simple.{App, new_app, new_rule, on_top, subcommand_of, with_rule, with_subcommand}
+use Rattle.clap.specs.declared.builder.action.ArgAction.TheVariants.{SetTrue}
 use Rattle.clap.specs.declared.builder.value_parser.ValueParser.TheVariants.{Unsigned}
 use Rattle.ynl_resource.specs.declared.names.Name.{Name}
 use Rattle.ynl_resource.specs.declared.labels.Label.{Label}
 use Rattle.ynl_resource.specs.Texts.{read_name, read_label}
 use Rattle.ynl_tool.specs.declared.words.Kind.{Kind}
-use Rattle.ynl_tool.specs.declared.words.Kind.TheVariants.{Sequential, Live}
+use Rattle.ynl_check.specs.declared.checking.Form.{Form}
+use Rattle.ynl_check.specs.declared.checking.Form.TheVariants.{Lines, Plain}
+use Rattle.ynl_tool.specs.declared.words.Kind.TheVariants.{Sequential, Check, Live}
 use Rattle.ynl_tool.specs.declared.words.SequentialKind.TheVariants.{Run, Tenant, Audit}
 
 -- the option `--config FILE`
@@ -33,6 +37,10 @@ workers_rule = record (new_rule (codes "workers")) { long = Some (codes "workers
 abbrev pub rounds_rule : Rule
 rounds_rule = record (new_rule (codes "rounds")) { long = Some (codes "rounds"); value_names = 1; parser = Some (Unsigned 0 1000); defaults = codes "1" ∷ [] }
 
+-- the flag `--plain`
+abbrev pub plain_rule : Rule
+plain_rule = record (new_rule (codes "plain")) { long = Some (codes "plain"); action = Some SetTrue }
+
 -- the subcommand `run`
 abbrev pub run_command : App
 run_command = with_rule (new_app (codes "run")) config_rule
@@ -45,6 +53,10 @@ tenant_command = with_rule (with_rule (with_rule (new_app (codes "tenant")) tena
 abbrev pub audit_command : App
 audit_command = with_rule (new_app (codes "audit")) config_rule
 
+-- the subcommand `check`
+abbrev pub check_command : App
+check_command = with_rule (with_rule (new_app (codes "check")) plain_rule) config_rule
+
 -- the subcommand `live`
 abbrev pub live_command : App
 live_command = with_rule (with_rule (with_rule (new_app (codes "live")) workers_rule) rounds_rule) config_rule
@@ -53,13 +65,17 @@ live_command = with_rule (with_rule (with_rule (new_app (codes "live")) workers_
 abbrev pub bare_command : App
 bare_command = on_top (λ s. record s { subcommand_required = true }) (new_app (codes "ynl"))
 
--- the command `ynl` without `live`
+-- the command `ynl` without `check` and `live`
 abbrev pub command_of_journals : App
 command_of_journals = with_subcommand (with_subcommand (with_subcommand bare_command run_command.top) tenant_command.top) audit_command.top
 
+-- the same with `check`
+abbrev pub command_of_checks : App
+command_of_checks = with_subcommand command_of_journals check_command.top
+
 -- the command `ynl`
 abbrev pub command : App
-command = with_subcommand command_of_journals live_command.top
+command = with_subcommand command_of_checks live_command.top
 
 -- the file that the options of a subcommand name for the configuration, where they name one
 abbrev pub file_met : Text × List Row → Option Text
@@ -121,6 +137,14 @@ live_by None rounds = None
 abbrev pub live_met : List Row → Option Kind
 live_met rows = live_by (option_and_then workers_in (first_of (codes "workers") rows)) (option_and_then rounds_in (first_of (codes "rounds") rows))
 
+-- the form that `--plain` asks for, or its absence
+abbrev pub form_in : Text → Form
+form_in text = if bytes_eq text (codes "true") then Plain else Lines
+
+-- what `check` asks for with its options
+abbrev pub check_met : List Row → Kind
+check_met rows = Check (option_map_or form_in (first_of (codes "plain") rows) Lines)
+
 -- what a subcommand asks for with its options
 abbrev pub kind_met : Text × List Row → Option Kind
 kind_met met =
@@ -128,6 +152,7 @@ kind_met met =
     then tenant_by (option_and_then name_in (first_of (codes "tenant") met.1)) (option_and_then label_in (first_of (codes "label") met.1))
     else if bytes_eq met.0 (codes "audit") then Some (Sequential Audit)
     else if bytes_eq met.0 (codes "live") then live_met met.1
+    else if bytes_eq met.0 (codes "check") then Some (check_met met.1)
     else Some (Sequential Run)
 
 -- what the words ask for

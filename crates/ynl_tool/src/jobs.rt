@@ -5,20 +5,23 @@ ghost use Rattle.ynl_config.specs.Meaning.{config_of};
 ghost use Rattle.ynl_model.specs.Accepted.{is_accepted};
 ghost use Rattle.ynl_tool.specs.Input.{between};
 ghost use Rattle.ynl_tool.specs.Lines.{AppendsFront};
-ghost use Rattle.ynl_tool.specs.Jobs.{error_line, config_line, refusal_line, status_by, status_of, DoesSequentialJob, DoesText, EndsWithout, Executes, Tells};
+ghost use Rattle.ynl_tool.specs.Jobs.{error_line, config_line, refusal_line, status_by, status_of, DoesSequentialJob, DoesText, EndsWithout, Executes, LivesJob, Tells};
+ghost use Rattle.ynl_tool.specs.Checking.{verdict_status, ExecutesCheck};
 
 use crate::audit::audit_lines;
+use crate::checking::check_text;
 use crate::lines_out::{write_text, write_three};
 use crate::live::{FreeGate, live_lines};
 use crate::live_words::Workers;
 use crate::run::{Summary, ToolFault, run_lines};
 use crate::tenant::tenant_lines;
-use crate::words::{Kind, SequentialKind};
+use crate::words::SequentialKind;
 use std::alloc::Global;
 use std::io::{BufRead, Write};
 use std::sync::Wait;
 use std::thread::Threads;
 use thiserror::Error;
+use ynl_check::{Form, Verdict};
 use ynl_config::{ConfigFault, read_config};
 use ynl_queues::Config;
 use ynl_view::sole;
@@ -83,7 +86,7 @@ fn do_job<R: BufRead, W: Write>(
     reader: &mut R,
     writer: &mut W,
 ) -> Ending
-    ensures { DoesSequentialJob (between (R.remaining reader.old) (R.remaining reader.new)) (between (W.contents writer.old) (W.contents writer.new)) (is_accepted config) kind config result }
+    ensures { DoesSequentialJob (is_accepted config) kind (between (R.remaining reader.old) (R.remaining reader.new)) (between (W.contents writer.old) (W.contents writer.new)) config result }
 {
     match kind {
         SequentialKind::Run => match run_lines(alloc, config, reader, writer) {
@@ -127,7 +130,7 @@ fn do_text<R: BufRead, W: Write>(
     reader: &mut R,
     writer: &mut W,
 ) -> Ending
-    ensures { DoesText (between (R.remaining reader.old) (R.remaining reader.new)) (between (W.contents writer.old) (W.contents writer.new)) (Kind.Sequential kind) text.now result }
+    ensures { DoesText (between (R.remaining reader.old) (R.remaining reader.new)) (between (W.contents writer.old) (W.contents writer.new)) (DoesSequentialJob true kind) text.now result }
 {
     match read_job_config(alloc, text) {
         Ok(config) => do_job(alloc, kind, config, reader, writer),
@@ -145,7 +148,7 @@ fn do_live_text<T: Threads + Wait + Sync, R: BufRead, W: Write>(
     reader: &mut R,
     writer: &mut W,
 ) -> Ending
-    ensures { DoesText (between (R.remaining reader.old) (R.remaining reader.new)) (between (W.contents writer.old) (W.contents writer.new)) (Kind.Live workers rounds) text.now result }
+    ensures { DoesText (between (R.remaining reader.old) (R.remaining reader.new)) (between (W.contents writer.old) (W.contents writer.new)) (LivesJob rounds) text.now result }
 {
     let config = match read_job_config(alloc, text) {
         Ok(config) => config,
@@ -185,31 +188,54 @@ pub fn execute_sequential<R: BufRead, W: Write, E: Write>(
     writer: &mut W,
     errors: &mut E,
 ) -> u8
-    ensures { Executes (between (R.remaining reader.old) (R.remaining reader.new)) (between (W.contents writer.old) (W.contents writer.new)) (between (E.contents errors.old) (E.contents errors.new)) (Kind.Sequential kind) text.now result }
+    ensures { Executes (between (R.remaining reader.old) (R.remaining reader.new)) (between (W.contents writer.old) (W.contents writer.new)) (between (E.contents errors.old) (E.contents errors.new)) (DoesSequentialJob true kind) text.now result }
 {
     let ended = do_text(alloc, kind, text, reader, writer);
     tell_ending(errors, ended)
 }
 
-/// The same of a job of any kind. It may wait where the job is a live scheduler; its status is 3 also
-/// where the journal of that is not closed.
-pub fn execute<T: Threads + Wait + Sync, R: BufRead, W: Write, E: Write>(
+/// The same of a live scheduler with so many workers, which go over the nodes for so many rounds. It may wait. Its
+/// status is 3 also where its journal is not closed.
+pub fn execute_live<T: Threads + Wait + Sync, R: BufRead, W: Write, E: Write>(
     rt: &T,
     alloc: Global,
-    kind: Kind,
+    workers: Workers,
+    rounds: u64,
     text: &[u8],
     reader: &mut R,
     writer: &mut W,
     errors: &mut E,
 ) -> u8
-    ensures { Executes (between (R.remaining reader.old) (R.remaining reader.new)) (between (W.contents writer.old) (W.contents writer.new)) (between (E.contents errors.old) (E.contents errors.new)) kind text.now result }
+    ensures { Executes (between (R.remaining reader.old) (R.remaining reader.new)) (between (W.contents writer.old) (W.contents writer.new)) (between (E.contents errors.old) (E.contents errors.new)) (LivesJob rounds) text.now result }
 {
-    match kind {
-        Kind::Sequential(kind) => execute_sequential(alloc, kind, text, reader, writer, errors),
-        Kind::Live(workers, rounds) => {
-            let ended = do_live_text(rt, alloc, workers, rounds, text, reader, writer);
-            tell_ending(errors, ended)
-        }
+    let ended = do_live_text(rt, alloc, workers, rounds, text, reader, writer);
+    tell_ending(errors, ended)
+}
+
+/// Tells what the text says as a configuration, and gives the exit status: 0 for one that is accepted, 1 for a text
+/// that has a fault, both without a line on `errors`; or 3 after a fault of writing or memory, which a line there
+/// tells. Nothing is read.
+pub fn execute_check<W: Write, E: Write>(
+    alloc: Global,
+    form: Form,
+    text: &[u8],
+    writer: &mut W,
+    errors: &mut E,
+) -> u8
+    ensures { ExecutesCheck (between (W.contents writer.old) (W.contents writer.new)) (between (E.contents errors.old) (E.contents errors.new)) form text.now result }
+{
+    match check_text(alloc, form, text, writer) {
+        Ok(verdict) => verdict_status(verdict),
+        Err(fault) => tell(errors, fault),
+    }
+}
+
+fn verdict_status(verdict: Verdict) -> u8
+    ensures { result ≡ verdict_status verdict }
+{
+    match verdict {
+        Verdict::Accepted => 0,
+        Verdict::Faulty => 1,
     }
 }
 

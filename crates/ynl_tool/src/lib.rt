@@ -3,18 +3,22 @@
 #![tactic(auto)]
 
 pub use audit::audit_lines;
+pub use checking::check_text;
 pub use config_text::{fault_of, read_text};
-pub use jobs::{execute, execute_sequential, tell};
+pub use jobs::{execute_check, execute_live, execute_sequential, tell};
 pub use live::live_lines;
 pub use live_words::Workers;
 pub use run::{Summary, ToolFault, run_lines};
 pub use script_in::{Script, read_script};
 pub use tenant::tenant_lines;
 pub use words::{Job, Kind, SequentialKind, WordsFault, parse_words};
+pub use ynl_check::{Form, Verdict};
 pub use ynl_config::BUILT_IN;
 
 mod audit;
 pub mod audit_laws;
+mod check_words;
+mod checking;
 mod config_text;
 mod jobs;
 mod kept;

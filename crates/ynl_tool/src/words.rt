@@ -15,11 +15,13 @@ ghost use Rattle.clap.specs.declared.builder.command.Command.TheViews.{out-Comma
 ghost use Rattle.ynl_tool.specs.Words as spec;
 ghost use Rattle.ynl_tool.specs.declared.words.WordsFault.TheVariants.{Words, BadName, NoMemory};
 
+use crate::check_words::{check_command, check_kind};
 use crate::live_words::{Workers, live_command, live_kind};
 use clap::error::ErrorKind;
 use clap::{Arg, ArgMatches, Command};
 use std::alloc::{AllocError, Global};
 use thiserror::Error;
+use ynl_check::Form;
 use ynl_resource::{Label, Name};
 
 /// What the program is asked to do on one thread: such a job waits for nothing but its input.
@@ -38,6 +40,8 @@ pub enum SequentialKind {
 pub enum Kind {
     /// A job that needs one thread.
     Sequential(SequentialKind),
+    /// To tell what the configuration says.
+    Check(Form),
     /// To run so many workers over the nodes that an input leaves, for so many rounds.
     Live(Workers, u64),
 }
@@ -97,7 +101,8 @@ const AFTER: &str = "\
 Exit status:
   0  the input was read to its end
   1  a line of the input is bad, or the input is too long: the last line of the output tells; or the
-     configuration has a fault, or a tenant is not alone on its partition: standard error tells
+     configuration has a fault, or a tenant is not alone on its partition: standard error tells, and of
+     check the output
   2  the words of the command line are wrong, or ask for help
   3  reading, writing or memory failed, or a live scheduler's journal was not closed, as a line on
      standard error tells
@@ -106,10 +111,11 @@ Examples:
   ynl run < events > replies
   ynl tenant --tenant eng --label gpu < events
   ynl audit < journal
+  ynl check --config cluster.toml
   ynl live --workers 4 < events > journal";
 
 const CONFIG_HELP: &str =
-    "The configuration, a TOML text; without it there is one queue, root.eng, and one label, gpu";
+    "The configuration, a TOML text, of which ynl check tells what it says or where its fault is; without it there is one queue, root.eng, and one label, gpu";
 
 const RUN_ABOUT: &str = "Answers the events of standard input, one reply for each";
 
@@ -326,13 +332,22 @@ fn command_of_journals<'a>(alloc: Global) -> Result<Command<'a>, AllocError>
     command_of_events(alloc)?.subcommand(audit)
 }
 
+/// The same with `check`.
+fn command_of_checks<'a>(alloc: Global) -> Result<Command<'a>, AllocError>
+    ensures app { IfOk result (λ c. app_of c ≡ spec.command_of_checks) }
+    ensures local { IfOk result (λ c. (fields_of c).has_globals ≡ false) }
+{
+    let check = check_command(alloc)?;
+    command_of_journals(alloc)?.subcommand(check)
+}
+
 /// The command `ynl`.
 fn command<'a>(alloc: Global) -> Result<Command<'a>, AllocError>
     ensures app { IfOk result (λ c. app_of c ≡ spec.command) }
     ensures local { IfOk result (λ c. (fields_of c).has_globals ≡ false) }
 {
     let live = live_command(alloc)?;
-    command_of_journals(alloc)?.subcommand(live)
+    command_of_checks(alloc)?.subcommand(live)
 }
 
 fn name_in(text: Option<&str>) -> Option<Name>
@@ -367,6 +382,9 @@ fn kind_of(subcommand: &str, options: &ArgMatches<'_>) -> Option<Kind>
     }
     if subcommand == "live" {
         return live_kind(options);
+    }
+    if subcommand == "check" {
+        return Some(check_kind(options));
     }
     Some(Kind::Sequential(SequentialKind::Run))
 }
