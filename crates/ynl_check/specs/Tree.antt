@@ -18,6 +18,7 @@ use Rattle.ynl_model.specs.Queues.{Config, QueueRow, is_leaf, may_use, capacity_
 use Rattle.ynl_check.specs.Objects.{count, only, object_line}
 use Rattle.ynl_check.specs.Pieces.{filled, millionths}
 use Rattle.ynl_check.specs.declared.shares.Numbers.{Numbers}
+use Rattle.ynl_check.specs.declared.shares.Portion.{Portion}
 use Rattle.ynl_check.specs.declared.style.Style.{Style}
 use Rattle.ynl_check.specs.declared.style.Style.TheVariants.{Objects, Columns}
 use Rattle.ynl_check.specs.declared.style.Widths.{Widths}
@@ -35,6 +36,10 @@ share c queue label = (guaranteed c queue label millions).memory
 -- the most that the queue may use of it
 abbrev pub most : Config → Path → Label → ℕ
 most c queue label = (nested_floor (λ step. configured_maximum c step label) queue millions).memory
+
+-- what the queue has of it, with the partition's label
+abbrev pub portion : Config → Path → Label → Portion
+portion c queue label = record { label = label; share = share c queue label; most = most c queue label }
 
 -- a queue takes applications unless it or one above it is configured as stopped
 abbrev pub state_word : Config → Path → List ℕ
@@ -69,10 +74,6 @@ numbers_line n path state leaf default label = object_line (
     ∷ (codes "state", Some (string state))
     ∷ (codes "users", only leaf (Some (count n.users))) ∷ [])
 
--- the line of a queue and a partition; the path, the state and whether it is a leaf are those of the queue
-abbrev pub share_line : Config → QueueRow → List ℕ → List ℕ → Bool → Label → List ℕ
-share_line c row path state leaf label = numbers_line (numbers c row label) path state leaf (label_text row.leaf.default_label) (label_text label)
-
 -- how deep a queue stands below the first level, where its name is to be drawn; it is drawn on its first line alone
 abbrev pub depth_on : QueueRow → Label → ℕ
 depth_on row Unlabelled = 2 * (length row.path - 1)
@@ -93,21 +94,21 @@ partition_name Unlabelled = codes "DEFAULT"
 partition_name (Named label) = label
 
 -- the same in columns, with percentages of the whole
-unfoldable pub column_line : Widths → Config → QueueRow → List ℕ → Label → List ℕ
-column_line widths c row state label = concat (
+unfoldable pub column_line : Widths → Numbers → QueueRow → List ℕ → Label → List ℕ
+column_line widths n row state label = concat (
     replicate (depth_on row label) 32 ∷ filled (widths.queue - depth_on row label) (name_on row label)
     ∷ codes "  " ∷ filled widths.label (partition_name label)
-    ∷ codes "  " ∷ millionths (share c row.path label) ∷ codes "  " ∷ millionths (most c row.path label)
+    ∷ codes "  " ∷ millionths n.share ∷ codes "  " ∷ millionths n.most
     ∷ codes "  " ∷ state ∷ codes "\n" ∷ [])
 
--- the line in either style
-abbrev pub line_in : Style → Config → QueueRow → List ℕ → List ℕ → Bool → Label → List ℕ
-line_in Objects c row path state leaf label = share_line c row path state leaf label
-line_in (Columns widths) c row path state leaf label = column_line widths c row state label
+-- the line in either style; the path, the state and whether it is a leaf are those of the queue
+abbrev pub line_in : Style → Numbers → QueueRow → List ℕ → List ℕ → Bool → Label → List ℕ
+line_in Objects n row path state leaf label = numbers_line n path state leaf (label_text row.leaf.default_label) (label_text label)
+line_in (Columns widths) n row path state leaf label = column_line widths n row state label
 
 -- the line, if the queue may use the partition
 abbrev pub line_if_usable : Style → Config → QueueRow → List ℕ → List ℕ → Bool → Label → List ℕ
-line_if_usable style c row path state leaf label = if may_use c row.path label then line_in style c row path state leaf label else []
+line_if_usable style c row path state leaf label = if may_use c row.path label then line_in style (numbers c row label) row path state leaf label else []
 
 -- the lines of a queue: DEFAULT first, then the labels as configured
 abbrev pub queue_lines : Style → Config → QueueRow → List ℕ

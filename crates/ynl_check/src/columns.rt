@@ -4,7 +4,7 @@ ghost use Rattle.std.specs.Prelude.{◌≡◌, ◌++◌, ◌≤◌, IfOk};
 ghost use Rattle.ynl_check.specs.Tree as spec;
 
 use crate::pieces::{Piece, put_pieces};
-use crate::shares::{Queue, most, share};
+use crate::shares::{Numbers, Queue};
 use crate::style::Widths;
 use std::alloc::AllocError;
 use ynl_labels::Labels;
@@ -66,19 +66,18 @@ pub(crate) fn put_heads(text: Vec<u8>, widths: Widths) -> Result<Vec<u8>, AllocE
     )
 }
 
-/// The text with the line of a queue and a partition more.
+/// The text with the line of a queue that has these numbers on a partition more.
 #[tactic(auto, unfolding(crate::specs::Tree::column_line))]
 pub(crate) fn put_column<'a>(
     text: Vec<u8>,
     widths: Widths,
-    config: &'a Config,
     queue: &'a Queue<'a>,
+    numbers: Numbers,
     label: &'a Label,
 ) -> Result<Vec<u8>, AllocError>
-    ensures { IfOk result (λ longer. longer.items ≡ text.items ++ spec.column_line widths config.now queue.now.row.now queue.now.state.now label.now) }
+    ensures { IfOk result (λ longer. longer.items ≡ text.items ++ spec.column_line widths numbers queue.now.row.now queue.now.state.now label.now) }
 {
     let row = queue.row;
-    let names = row.path.names();
     let depth = depth_on(row, label);
     put_pieces(
         text,
@@ -88,9 +87,9 @@ pub(crate) fn put_column<'a>(
             Piece::Word("  "),
             Piece::Filled(widths.label, partition_name(label)),
             Piece::Word("  "),
-            Piece::Millionths(share(config, names, label)),
+            Piece::Millionths(numbers.share),
             Piece::Word("  "),
-            Piece::Millionths(most(config, names, label)),
+            Piece::Millionths(numbers.most),
             Piece::Word("  "),
             Piece::Word(queue.state),
             Piece::Word("\n"),

@@ -1,15 +1,17 @@
 //! What a queue is given of a partition, as a JSON object.
 
-ghost use Rattle.std.specs.Prelude.{◌≡◌, ◌++◌, ◌&&◌, IfOk};
+ghost use Rattle.std.specs.Prelude.{◌≡◌, ◌≤◌, ◌*◌, ◌/◌, ◌++◌, ◌&&◌, true, map, IfOk};
 ghost use Rattle.std.specs.List.{list_any};
 ghost use Rattle.ynl_resource.specs.Names.{is_within};
-ghost use Rattle.ynl_model.specs.Queues.{accepts, opening_stops};
+ghost use Rattle.ynl_resource.specs.Ranges.{whole};
+ghost use Rattle.ynl_model.specs.Accepted.{parent_of};
+ghost use Rattle.ynl_model.specs.Queues.{accepts, capacity_on, configured_maximum, may_use, opening_stops};
 ghost use Rattle.ynl_check.specs.Tree as spec;
 
 use crate::objects::{number, number_if, put_object, text, text_if};
-use std::alloc::AllocError;
+use std::alloc::{AllocError, Global};
 use ynl_queues::{Config, QueueRow, is_within, nested_floor};
-use ynl_resource::{Label, Name, Resource};
+use ynl_resource::{Hundredths, Label, Name, Resource, WHOLE};
 
 /// A partition of 1,000,000 MB, so that what a queue has of it is told in millionths.
 const MILLIONS: Resource = Resource {
@@ -18,15 +20,17 @@ const MILLIONS: Resource = Resource {
 };
 
 /// What a queue is guaranteed of [`MILLIONS`].
-pub(crate) fn share(config: &Config, queue: &[Name], label: &Label) -> u64
-    ensures { result ≡ spec.share config.now queue.now label.now }
+fn share(config: &Config, queue: &[Name], label: &Label) -> u64
+    ensures value { result ≡ spec.share config.now queue.now label.now }
+    ensures within { result ≤ 1000000 }
 {
     config.guaranteed(queue, label, &MILLIONS).memory
 }
 
 /// The most that a queue may use of it.
-pub(crate) fn most(config: &Config, queue: &[Name], label: &Label) -> u64
-    ensures { result ≡ spec.most config.now queue.now label.now }
+fn most(config: &Config, queue: &[Name], label: &Label) -> u64
+    ensures value { result ≡ spec.most config.now queue.now label.now }
+    ensures within { result ≤ 1000000 }
 {
     nested_floor(
         |step| config.configured_maximum(step, label),
@@ -34,6 +38,40 @@ pub(crate) fn most(config: &Config, queue: &[Name], label: &Label) -> u64
         &MILLIONS,
     )
     .memory
+}
+
+/// What a queue has of [`MILLIONS`] on a partition.
+#[derive(Clone, Copy)]
+pub struct Portion {
+    pub label: Label,
+    pub share: u32,
+    pub most: u32,
+}
+
+/// What a queue has on a partition.
+fn portion_of(config: &Config, queue: &[Name], label: &Label) -> Portion
+    ensures { result ≡ spec.portion config.now queue.now label.now }
+{
+    Portion {
+        label: *label,
+        share: share(config, queue, label) as u32,
+        most: most(config, queue, label) as u32,
+    }
+}
+
+/// What a queue has on these partitions.
+pub(crate) fn portions(
+    alloc: Global,
+    config: &Config,
+    queue: &[Name],
+    labels: &[Label],
+) -> Result<Vec<Portion>, AllocError>
+    ensures { IfOk result (λ portions. portions.items ≡ map (spec.portion config.now queue.now) labels.now) }
+{
+    labels
+        .iter()
+        .map(|label| portion_of(config, queue, label))
+        .collect(alloc)
 }
 
 /// Whether the queue or one above it is configured as stopped.
@@ -77,16 +115,53 @@ pub struct Numbers {
     pub users: u64,
 }
 
+/// The capacity of a queue on a partition that it may use.
+#[tactic(auto, unfolding(ynl_model::specs::Queues::capacity_on))]
+fn usable_capacity(config: &Config, queue: &[Name], label: &Label) -> Hundredths
+    requires { may_use config.now queue.now label.now ≡ true }
+    ensures { result ≡ capacity_on config.now queue.now label.now }
+{
+    match config.row(queue) {
+        Some(row) => row.capacity_on(label),
+        None => Hundredths::NOTHING,
+    }
+}
+
+/// Its configured maximum there.
+#[tactic(auto, unfolding(ynl_model::specs::Queues::configured_maximum))]
+fn usable_maximum(config: &Config, queue: &[Name], label: &Label) -> Hundredths
+    requires { may_use config.now queue.now label.now ≡ true }
+    ensures { result ≡ configured_maximum config.now queue.now label.now }
+{
+    match config.row(queue) {
+        Some(row) => row.maximum_on(label),
+        None => Hundredths::NOTHING,
+    }
+}
+
+/// A part of an amount, rounded down.
+fn part_of(amount: u32, part: u64) -> u64
+    requires { part ≤ whole }
+    ensures { result ≡ amount * part / whole }
+{
+    u64::from(amount) * part / WHOLE
+}
+
+/// The numbers of a queue on a partition that it may use, by what its parent has there.
 #[tactic(auto, unfolding(crate::specs::Tree::numbers))]
-fn numbers_of(config: &Config, row: &QueueRow, label: &Label) -> Numbers
-    ensures { result ≡ spec.numbers config.now row.now label.now }
+pub(crate) fn numbers_of(config: &Config, row: &QueueRow, above: &Portion) -> Numbers
+    requires usable { may_use config.now row.now.path above.now.label ≡ true }
+    requires above { above.now ≡ spec.portion config.now (parent_of row.now.path) above.now.label }
+    ensures { result ≡ spec.numbers config.now row.now above.now.label }
 {
     let queue = row.path.names();
+    let capacity = usable_capacity(config, queue, &above.label).number();
+    let maximum = usable_maximum(config, queue, &above.label).number();
     Numbers {
-        capacity: config.capacity_on(queue, label).number(),
-        maximum: config.configured_maximum(queue, label).number(),
-        share: share(config, queue, label),
-        most: most(config, queue, label),
+        capacity,
+        maximum,
+        share: part_of(above.share, capacity),
+        most: part_of(above.most, maximum),
         applications: u64::from(row.leaf.maximum_applications),
         factor: u64::from(row.leaf.user_limit_factor),
         masters: row.leaf.maximum_am_resource_percent.number(),
@@ -105,7 +180,7 @@ pub(crate) struct Queue<'a> {
 
 /// The text with the line of a queue that has these numbers more.
 #[tactic(auto, unfolding(crate::specs::Tree::numbers_line))]
-fn put_numbers<'a>(
+pub(crate) fn put_numbers<'a>(
     line: Vec<u8>,
     queue: &'a Queue<'a>,
     numbers: Numbers,
@@ -132,19 +207,4 @@ fn put_numbers<'a>(
             ("users", number_if(leaf, numbers.users)),
         ],
     )
-}
-
-/// The text with the line of a queue and a partition more.
-pub(crate) fn put_share<'a>(
-    line: Vec<u8>,
-    config: &'a Config,
-    queue: &'a Queue<'a>,
-    label: &'a Label,
-) -> Result<Vec<u8>, AllocError>
-    ensures { IfOk result (λ longer. longer.items ≡ line.items ++ spec.share_line config.now queue.now.row.now queue.now.path.now queue.now.state.now queue.now.is_leaf label.now) }
-{
-    let row = queue.row;
-    let numbers = numbers_of(config, row, label);
-    let default = row.leaf.default_label;
-    put_numbers(line, queue, numbers, default.as_str(), label.as_str())
 }

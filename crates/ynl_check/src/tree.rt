@@ -1,7 +1,8 @@
 //! What is said of an accepted configuration: the tree of its queues, with what each is given.
 
 ghost use Rattle.std.specs.Prelude.{◌≡◌, ◌++◌, List, map, IfOk};
-ghost use Rattle.std.specs.List.{flat_map};
+ghost use Rattle.std.specs.List.{All, flat_map};
+ghost use Rattle.ynl_model.specs.Accepted.{parent_of};
 ghost use Rattle.ynl_model.specs.Nodes.{partition_labels};
 ghost use Rattle.ynl_model.specs.Queues.{QueueRow as Row};
 ghost use Rattle.ynl_check.specs.Tree as spec;
@@ -9,59 +10,71 @@ ghost use Rattle.ynl_check.specs.Tree as spec;
 use crate::columns::{put_column, put_heads};
 use crate::objects::{number, put_object, text};
 use crate::pieces::{Piece, put_pieces};
-use crate::shares::{Queue, put_share, state_word};
+use crate::shares::{Portion, Queue, numbers_of, portions, put_numbers, state_word};
 use crate::style::Style;
 use std::alloc::{AllocError, Global};
-use ynl_queues::{Config, QueueRow};
-use ynl_resource::Label;
+use ynl_queues::{Config, QueueRow, parent_of};
+use ynl_resource::{Label, Name};
 
-/// The text with the line of a queue and a partition more, if the queue may use it.
+/// The text with the line of a queue and a partition more, if the queue may use it, by what its parent has there.
 fn put_share_if_usable<'a>(
     text: Vec<u8>,
     style: Style,
     config: &'a Config,
     queue: &'a Queue<'a>,
-    label: &'a Label,
+    above: &'a Portion,
 ) -> Result<Vec<u8>, AllocError>
-    ensures { IfOk result (λ longer. longer.items ≡ text.items ++ spec.line_if_usable style config.now queue.now.row.now queue.now.path.now queue.now.state.now queue.now.is_leaf label.now) }
+    requires { above.now ≡ spec.portion config.now (parent_of queue.now.row.now.path) above.now.label }
+    ensures { IfOk result (λ longer. longer.items ≡ text.items ++ spec.line_if_usable style config.now queue.now.row.now queue.now.path.now queue.now.state.now queue.now.is_leaf above.now.label) }
 {
     let row = queue.row;
+    let default = row.leaf.default_label;
+    let label = &above.label;
     if !config.may_use(row.path.names(), label) {
         return Ok(text);
     }
+    let numbers = numbers_of(config, row, above);
     match style {
-        Style::Objects => put_share(text, config, queue, label),
-        Style::Columns(widths) => put_column(text, widths, config, queue, label),
+        Style::Objects => put_numbers(text, queue, numbers, default.as_str(), label.as_str()),
+        Style::Columns(widths) => put_column(text, widths, queue, numbers, label),
     }
 }
 
-/// The text with the lines of a queue on these partitions more.
+/// The text with the lines of a queue more, by what its parent has on each partition.
 fn put_shares<'a>(
     text: Vec<u8>,
     style: Style,
     config: &'a Config,
     queue: &'a Queue<'a>,
-    labels: &'a [Label],
+    portions: &'a [Portion],
 ) -> Result<Vec<u8>, AllocError>
-    ensures { IfOk result (λ longer. longer.items ≡ text.items ++ flat_map (spec.line_if_usable style config.now queue.now.row.now queue.now.path.now queue.now.state.now queue.now.is_leaf) labels.now) }
+    requires { All (λ above. above ≡ spec.portion config.now (parent_of queue.now.row.now.path) above.label) portions.now }
+    ensures { IfOk result (λ longer. longer.items ≡ text.items ++ flat_map (λ above. spec.line_if_usable style config.now queue.now.row.now queue.now.path.now queue.now.state.now queue.now.is_leaf above.label) portions.now) }
 {
     let mut longer = text;
-    for label in labels {
-        longer = put_share_if_usable(longer, style, config, queue, label)?;
+    for above in portions {
+        longer = put_share_if_usable(longer, style, config, queue, above)?;
     }
     Ok(longer)
 }
 
-/// The text with the lines of a queue more, given the labels of all partitions.
+/// What a queue has on all partitions.
+#[derive(Drop)]
+struct Above<'a> {
+    queue: &'a [Name],
+    portions: Vec<Portion>,
+}
+
+/// The text with the lines of a queue more, by what its parent has.
 fn put_queue(
     alloc: Global,
     text: Vec<u8>,
     style: Style,
     config: &Config,
     row: &QueueRow,
-    labels: &[Label],
+    portions: &[Portion],
 ) -> Result<Vec<u8>, AllocError>
-    requires { labels.now ≡ partition_labels config.now.labels }
+    requires { portions.now ≡ map (spec.portion config.now (parent_of row.now.path)) (partition_labels config.now.labels) }
     ensures { IfOk result (λ longer. longer.items ≡ text.items ++ spec.queue_lines style config.now row.now) }
 {
     let names = row.path.names();
@@ -72,7 +85,28 @@ fn put_queue(
         state: state_word(config, names),
         is_leaf: config.is_leaf(names),
     };
-    put_shares(text, style, config, &queue, labels)
+    put_shares(text, style, config, &queue, portions)
+}
+
+/// What the parent has on all partitions: as it is kept, if that is the parent's.
+fn above_of<'a>(
+    alloc: Global,
+    config: &Config,
+    labels: &[Label],
+    kept: Above<'a>,
+    parent: &'a [Name],
+) -> Result<Above<'a>, AllocError>
+    requires { kept.portions.items ≡ map (spec.portion config.now kept.queue.now) labels.now }
+    ensures queue { IfOk result (λ above. above.queue.now ≡ parent.now) }
+    ensures portions { IfOk result (λ above. above.portions.items ≡ map (spec.portion config.now parent.now) labels.now) }
+{
+    if kept.queue == parent {
+        return Ok(kept);
+    }
+    Ok(Above {
+        queue: parent,
+        portions: portions(alloc, config, parent, labels)?,
+    })
 }
 
 /// The labels of all partitions: DEFAULT first, then as configured.
@@ -103,20 +137,26 @@ fn walk<'a>(alloc: Global, config: &'a Config) -> Result<Vec<&'a QueueRow>, Allo
     Ok(rows)
 }
 
-/// The text with the lines of all these queues more.
-fn put_queues(
+/// The text with the lines of all these queues more. What a parent has is kept for the queues just below it, which mostly
+/// come one after another.
+fn put_queues<'a>(
     alloc: Global,
     text: Vec<u8>,
     style: Style,
-    config: &Config,
-    rows: &[&QueueRow],
+    config: &'a Config,
+    rows: &'a [&'a QueueRow],
 ) -> Result<Vec<u8>, AllocError>
     ensures { IfOk result (λ longer. longer.items ≡ text.items ++ flat_map (spec.queue_lines style config.now) (map (λ row. row.now) rows.now)) }
 {
     let labels = labels_of(alloc, config)?;
+    let mut above = Above {
+        queue: &[],
+        portions: portions(alloc, config, &[], &labels)?,
+    };
     let mut longer = text;
     for row in rows {
-        longer = put_queue(alloc, longer, style, config, row, &labels)?;
+        above = above_of(alloc, config, &labels, above, parent_of(row.path.names()))?;
+        longer = put_queue(alloc, longer, style, config, row, &above.portions)?;
     }
     Ok(longer)
 }
