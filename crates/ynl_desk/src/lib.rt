@@ -1,0 +1,12 @@
+//! A cluster for callers who hold neither events nor replies: it takes a line at a time, and the text of what the last
+//! call came to is copied out by a call of its own. So an event is not lost where its text finds no room.
+#![tactic(auto)]
+
+pub use desk::Desk;
+pub use faults::DeskFault;
+
+mod copying;
+mod desk;
+mod faults;
+mod outcome;
+mod taking;
