@@ -11,6 +11,8 @@ mod firsts;
 #[cfg(test)]
 mod labels;
 #[cfg(test)]
+mod lane;
+#[cfg(test)]
 mod lanes;
 #[cfg(test)]
 mod limits;

@@ -1,0 +1,17 @@
+pub mod Changing
+pub mod Counting
+pub mod Found
+pub mod Fronts
+pub mod Keeping
+pub mod Lists
+pub mod Moving
+pub mod Naming
+pub mod Opening
+pub mod Packing
+pub mod Pulling
+pub mod Pushing
+pub mod Searching
+pub mod Showing
+pub mod Standing
+pub mod Stood
+pub mod Views

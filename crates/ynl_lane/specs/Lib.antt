@@ -1,0 +1,13 @@
+pub mod Changes
+pub mod Fields
+pub mod Found
+pub mod Kinds
+pub mod Levels
+pub mod Lines
+pub mod Moves
+pub mod Rooms
+pub mod Rows
+pub mod Search
+pub mod Seats
+pub mod Stands
+pub mod Waiting

@@ -1,0 +1,211 @@
+//! Lanes, as the scheduler uses them.
+
+ghost use Rattle.std.specs.Prelude.{◌≡◌, ◌↔◌, ◌<◌, [], ℕ, length, map, List, Option, Some, None, IsSome, IsTrue, OnOk, OnErr, IfSome, IfNone, nat_eq, option_map};
+ghost use Rattle.std.specs.Map.{lookup};
+ghost use Rattle.ynl_lanes.specs.Lows.{IsBelow};
+ghost use Rattle.ynl_model.specs.Limits.{distinct};
+ghost use Rattle.ynl_slots.specs.Slots.{without};
+ghost use Rattle.ynl_lane.specs.Kinds.{of_kind};
+ghost use Rattle.ynl_lane.specs.Rows.{IsUse};
+ghost use Rattle.ynl_lane.specs.Waiting.{IsWaiting};
+ghost use Rattle.ynl_lane.specs.Seats.{Seat, IsSeat, Adds, with_waits, with_used, given, first_given, seats_up_to};
+
+use crate::kinds::{Both, Kind};
+use crate::line::Line;
+use crate::request::Request;
+use crate::rows::Rows;
+use crate::users::{close, make_room_for};
+use std::alloc::{AllocError, Global};
+use std::collections::BTreeMap;
+use std::marker::Model;
+use ynl_lanes::{Low, WithinLimit};
+use ynl_resource::{Name, Resource};
+use ynl_slots::Slots;
+
+/// The applications of a leaf that may use a partition.
+#[derive(Drop)]
+pub struct Lane {
+    rows: Rows,
+    numbers: BTreeMap<Name, u32>,
+    /// The user for whose next seat there is room.
+    ready: Option<u32>,
+}
+
+impl Model for Lane {
+    ghost use Rattle.ynl_lane.specs.Seats.{Seats};
+
+    ghost Value = { Seats };
+
+    ghost use Rattle.ynl_lane.specs.Fields.{seats_of, IsLane};
+
+    ghost view = { seats_of };
+
+    ghost invariant = { IsLane };
+}
+
+impl Lane {
+    /// No seats. It takes no memory.
+    pub fn new(alloc: Global) -> Lane
+        ensures seats { result.seats ≡ [] }
+        ensures ready { result.ready ≡ None }
+    {
+        Lane {
+            rows: Rows {
+                seats: Slots::new(alloc),
+                users: Slots::new(alloc),
+                line: Line::new(alloc),
+                stands: Vec::new(alloc),
+            },
+            numbers: BTreeMap::new(alloc),
+            ready: None,
+        }
+    }
+
+    /// Whether a seat has this ticket.
+    pub fn is_seat(&self, ticket: u32) -> bool
+        ensures { IsTrue result ↔ IsSeat ticket self.now.seats }
+    {
+        self.rows.seats.get(ticket).is_some()
+    }
+
+    /// How many users have a seat.
+    pub fn users(&self) -> usize
+        ensures { result ≡ length (distinct (map (λ e. e.1.user) self.now.seats)) }
+    {
+        let count = self.rows.users.len();
+        match self.ready {
+            Some(user) => {
+                if self.rows.users[user].live == 0 {
+                    count - 1
+                } else {
+                    count
+                }
+            }
+            None => count,
+        }
+    }
+
+    /// What the user of a seat uses.
+    pub fn used(&self, ticket: u32) -> Resource
+        requires { IsSeat ticket self.now.seats }
+        ensures { option_map (λ seat. seat.used) (lookup (nat_eq ticket) self.now.seats) ≡ Some result }
+    {
+        let user = self.rows.seats[ticket].user;
+        self.rows.users[user].used
+    }
+
+    /// At or below the least of a kind that waits at each seat.
+    pub fn least(&self, kind: Kind) -> Low
+        ensures { (ticket : ℕ) (seat : Seat) → lookup (nat_eq ticket) self.now.seats ≡ Some seat → IsWaiting (of_kind kind seat.waits) → IsBelow result (of_kind kind seat.waits) }
+    {
+        self.rows.line.root(kind).low
+    }
+
+    /// The room for a user's next seat is given up.
+    fn give_up_room(&mut self)
+        ensures seats { self.new.seats ≡ self.old.seats }
+        ensures ready { self.new.ready ≡ None }
+    {
+        let Some(user) = self.ready else {
+            return;
+        };
+        self.ready = None;
+        if self.rows.users[user].live == 0 {
+            close(&mut self.rows, &mut self.numbers, user);
+        }
+    }
+
+    /// Takes all memory that the next seat of a user needs.
+    pub fn reserve_for(&mut self, user: &Name) -> Result<(), AllocError>
+        ensures seats { self.new.seats ≡ self.old.seats }
+        ensures ok { OnOk result (self.new.ready ≡ Some user.now) }
+        ensures err { OnErr result (self.new.ready ≡ None) }
+    {
+        self.give_up_room();
+        match make_room_for(&mut self.rows, &mut self.numbers, user) {
+            Ok(number) => {
+                self.ready = Some(number);
+                Ok(())
+            }
+            Err(error) => Err(error),
+        }
+    }
+
+    /// One more seat, for the user for whom there is room. Nothing waits there yet.
+    pub fn add(&mut self, app: u32) -> u32
+        requires { IsSome self.old.ready }
+        ensures seats { IfSome self.old.ready (λ user. Adds app result user self.old.seats self.new.seats) }
+        ensures ready { self.new.ready ≡ None }
+    {
+        let Some(user) = self.ready else {
+            unreachable!();
+        };
+        self.ready = None;
+        self.rows.push(user, app)
+    }
+
+    /// What waits at a seat.
+    pub fn enter(&mut self, ticket: u32, waits: &Both<Low>)
+        requires { IsSeat ticket self.old.seats }
+        ensures seats { self.new.seats ≡ with_waits ticket waits.now self.old.seats }
+        ensures ready { self.new.ready ≡ None }
+    {
+        self.give_up_room();
+        self.rows.enter(ticket, waits);
+    }
+
+    /// What the user of a seat uses from now on.
+    pub fn set_used(&mut self, ticket: u32, used: Resource)
+        requires seat { IsSeat ticket self.old.seats }
+        requires used { IsUse used }
+        ensures seats { IfSome (lookup (nat_eq ticket) self.old.seats) (λ seat. self.new.seats ≡ with_used seat.user used self.old.seats) }
+        ensures ready { self.new.ready ≡ None }
+    {
+        self.give_up_room();
+        let user = self.rows.seats[ticket].user;
+        self.rows.use_other(user, used);
+    }
+
+    /// The seat goes.
+    pub fn remove(&mut self, ticket: u32)
+        requires { IsSeat ticket self.old.seats }
+        ensures seats { self.new.seats ≡ without ticket self.old.seats }
+        ensures ready { self.new.ready ≡ None }
+    {
+        self.give_up_room();
+        let nothing = Both {
+            master: Low::NONE,
+            ask: Low::NONE,
+        };
+        self.rows.enter(ticket, &nothing);
+        let user = self.rows.pull(ticket);
+        if self.rows.users[user].live == 0 {
+            close(&mut self.rows, &mut self.numbers, user);
+        }
+    }
+
+    /// The first seat whose application is given something.
+    pub fn first<F: Copy, R: Request<F>>(
+        &self,
+        kind: Kind,
+        room: Resource,
+        most: Resource,
+        request: &R,
+        before: Option<u32>,
+    ) -> Option<(u32, F)>
+        requires { IfSome before (λ ticket. IsSeat ticket self.now.seats) }
+        ensures { result ≡ first_given (given kind room most (R.gives request.now)) (seats_up_to before self.now.seats) }
+    {
+        let end = match before {
+            Some(ticket) => self.rows.seats[ticket].slot as usize,
+            None => self.rows.line.tickets.len(),
+        };
+        match self
+            .rows
+            .first(kind, &WithinLimit { room, most }, request, end)
+        {
+            Some(found) => Some((found.ticket, found.given)),
+            None => None,
+        }
+    }
+}
