@@ -1,0 +1,2 @@
+pub mod Scenes
+pub mod Turns

@@ -1,0 +1,4 @@
+pub mod Filled
+pub mod Lines
+pub mod Children
+pub mod Ways

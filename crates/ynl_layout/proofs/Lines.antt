@@ -1,0 +1,183 @@
+-- Lines, from the steps to a queue, and what they tell of the tree.
+use Rattle.std.proofs.Common.{◌≡◌, ◌≢◌, ℕ, zero, suc, false, ◌+◌, ◌<◌, ◌≤◌, List, [], ◌∷◌, ◌++◌, length, map, take, get_or, Some, refl, sym, ap, subst, ◌∙◌, arith}
+use Rattle.std.specs.Prelude.{Vec}
+use Rattle.std.specs.declared.alloc.Global.{Global}
+use Rattle.std.specs.List.{position}
+use Rattle.ynl_resource.specs.Names.{root, same_path}
+use Rattle.ynl_resource.specs.declared.paths.Path.{Path}
+use Rattle.ynl_resource.specs.declared.labels.Label.TheVariants.{Unlabelled}
+use Rattle.ynl_model.specs.Queues.{QueueRow, Config, Inherited}
+use Rattle.ynl_model.specs.Service.{last_name}
+use Rattle.ynl_laws.specs.Decided.{below}
+use Rattle.ynl_queues.specs.Index.{IsPlaceOf, AreSteps}
+use Rattle.ynl_queues.proofs.Places.{place_path}
+use Rattle.ynl_layout.specs.Paths.{AreLines, HasNumber, HasParent, IsLine, path_at, paths_of}
+use Rattle.ynl_layout.specs.Building.{EndsAt, IsOwnLine}
+use Rattle.ynl_layout.proofs.Filled.{Hold}
+
+-- ---- paths
+
+-- a path below root is its parent's and its last name
+pub parted : (n : ℕ) (path : Path) → length path ≡ n + 1 → path ≡ below (take n path) (last_name path)
+parted n [] e = absurd (omega (arith, e))
+parted zero (name ∷ []) e = refl
+parted zero (name ∷ next ∷ path) e = absurd (omega (arith, e))
+parted (suc n) (name ∷ []) e = absurd (omega (arith, e))
+parted (suc n) (name ∷ next ∷ path) e = ap (λ rest. name ∷ rest) (parted n (next ∷ path) (omega (arith, e)))
+
+pub take-front : (path : Path) (rest : Path) → take (length path) (path ++ rest) ≡ path
+take-front [] rest = refl
+take-front (name ∷ path) rest = ap (λ front. name ∷ front) (take-front path rest)
+
+pub take-whole : (path : Path) → take (length path) path ≡ path
+take-whole [] = refl
+take-whole (name ∷ path) = ap (λ front. name ∷ front) (take-whole path)
+
+-- the path under a number below root is that of the row
+pub row-path : (rows : List QueueRow) (place : ℕ) (d : QueueRow) → place < length rows → get_or (map (λ (row : QueueRow). row.path) rows) place root ≡ (get_or rows place d).path
+row-path [] place d inside = absurd (omega (arith, inside))
+row-path (row ∷ rows) zero d inside = refl
+row-path (row ∷ rows) (suc place) d inside = row-path rows place d (omega (arith, inside))
+
+pub count-paths : (rows : List QueueRow) → length (map (λ (row : QueueRow). row.path) rows) ≡ length rows
+count-paths [] = refl
+count-paths (row ∷ rows) = ap suc (count-paths rows)
+
+pub take-all : (xs : List ℕ) (n : ℕ) → length xs ≤ n → take n xs ≡ xs
+take-all [] zero h = refl
+take-all [] (suc n) h = refl
+take-all (x ∷ xs) zero h = absurd (omega (arith, h))
+take-all (x ∷ xs) (suc n) h = ap (λ rest. x ∷ rest) (take-all xs n (omega (arith, h)))
+
+-- ---- lines
+
+pub root-line : (paths : List Path) → IsLine paths 0 (0 ∷ [])
+root-line paths = record {
+  len = refl;
+  there = λ i d inside. subst (λ k. HasNumber paths (get_or (0 ∷ []) k d)) (zero-is i inside) (omega arith);
+  path = λ i d inside. subst (λ k. path_at paths (get_or (0 ∷ []) k d) ≡ take k root) (zero-is i inside) refl;
+}
+  where
+    zero-is : (i : ℕ) → i < 1 → 0 ≡ i
+    zero-is i inside = omega (arith, inside)
+
+shifted : (steps : List ℕ) (k d e : ℕ) → k < length steps → get_or (map (λ n. n + 1) steps) k d ≡ suc (get_or steps k e)
+shifted [] k d e inside = absurd (omega (arith, inside))
+shifted (n ∷ steps) zero d e inside = omega arith
+shifted (n ∷ steps) (suc k) d e inside = shifted steps k d e (omega (arith, inside))
+
+count-shifted : (steps : List ℕ) → length (map (λ n. n + 1) steps) ≡ length steps
+count-shifted [] = refl
+count-shifted (n ∷ steps) = ap suc (count-shifted steps)
+
+next : (k : ℕ) → k + 1 ≡ suc k
+next k = omega arith
+
+-- a row that stands nowhere
+pub no_row : QueueRow
+no_row = record {
+  path = root;
+  stopped = false;
+  capacity = 0;
+  maximum = 0;
+  access = Inherited;
+  leaf = record { default_label = Unlabelled; minimum_user_limit_percent = 0; user_limit_factor = 0; maximum_am_resource_percent = 0; maximum_applications = 0 };
+  capacities = [];
+}
+
+-- a step is that of a queue
+pub step-below : (c : Config) (path : Path) (steps : List ℕ) (k : ℕ) → AreSteps c.queues path steps → k < length steps → get_or steps k 0 < length c.queues
+step-below c path steps k are inside = (are.places k 0 (omega (arith, inside, are.each))).inside
+
+module _ (c : Config) (place : ℕ) (inside : place < length c.queues) (d : QueueRow) (steps : List ℕ) (are : AreSteps c.queues (get_or c.queues place d).path steps) where
+  abbrev pub path : Path
+  path = (get_or c.queues place d).path
+
+  own : path_at (paths_of c) (suc place) ≡ path
+  own = row-path c.queues place d inside
+
+  -- the line of the steps
+  pub line-of : IsLine (paths_of c) (suc place) (0 ∷ map (λ n. n + 1) steps)
+  line-of = record {
+    len = omega (arith, count-shifted steps, are.each, ap length own);
+    there = there;
+    path = along;
+  }
+    where
+      at : (k : ℕ) → k < length steps → path_at (paths_of c) (suc (get_or steps k 0)) ≡ take (k + 1) path
+      at k within = row-path c.queues (get_or steps k 0) d (are.places k 0 (omega (arith, within, are.each))).inside ∙ place_path c.queues (take (k + 1) path) (get_or steps k 0) (are.places k 0 (omega (arith, within, are.each))) d
+
+      there : (i e : ℕ) → i < length (0 ∷ map (λ n. n + 1) steps) → HasNumber (paths_of c) (get_or (0 ∷ map (λ n. n + 1) steps) i e)
+      there zero e within = omega arith
+      there (suc k) e within =
+          let low = (are.places k 0 (omega (arith, within, count-shifted steps, are.each))).inside in
+          omega (arith, low, count-paths c.queues, shifted steps k e 0 (omega (arith, within, count-shifted steps)))
+
+      along : (i e : ℕ) → i < length (0 ∷ map (λ n. n + 1) steps) → path_at (paths_of c) (get_or (0 ∷ map (λ n. n + 1) steps) i e) ≡ take i (path_at (paths_of c) (suc place))
+      along zero e within = refl
+      along (suc k) e within = ap (path_at (paths_of c)) (shifted steps k e 0 (omega (arith, within, count-shifted steps))) ∙ at k (omega (arith, within, count-shifted steps)) ∙ ap (λ n. take n path) (next k) ∙ ap (take (suc k)) (sym own)
+
+  -- and where the last step is the queue itself, it is its own
+  pub own-line : EndsAt steps place → IsOwnLine c place (0 ∷ map (λ n. n + 1) steps)
+  own-line ends = record {
+    line = line-of;
+    first = subst (λ p. IsPlaceOf c.queues p place) (ap (λ n. take n path) (sym ends.many ∙ are.each) ∙ take-whole path ∙ sym own) (subst (IsPlaceOf c.queues (take (ends.before + 1) path)) ends.last (are.places ends.before 0 (omega (arith, ends.many, are.each))));
+    below_root = λ e. absurd (omega (arith, ends.many, are.each, ap length (sym own ∙ e)));
+  }
+
+-- ---- the tree
+
+-- root has its line, and each queue below has its own
+abbrev pub HasOwnLine : Config → ℕ → Vec ℕ Global → Type 0
+HasOwnLine c zero list = IsLine (paths_of c) 0 list.items
+HasOwnLine c (suc place) list = IsOwnLine c place list.items
+
+module _ (paths : List Path) where
+  -- the parent stands before a queue on its line
+  pub parent-on : (n : ℕ) (line : List ℕ) → IsLine paths n line → path_at paths n ≢ root → HasParent paths n
+  parent-on n line is other = go (length (path_at paths n)) refl
+    where
+      empty : (path : Path) → length path ≡ 0 → path ≡ root
+      empty [] e = refl
+      empty (name ∷ path) e = absurd (omega (arith, e))
+
+      go : (depth : ℕ) → length (path_at paths n) ≡ depth → HasParent paths n
+      go zero e = absurd (other (empty (path_at paths n) e))
+      go (suc depth) e = record {
+        parent = get_or line depth 0;
+        there = is.there depth 0 (omega (arith, is.len, e));
+        above = parted depth (path_at paths n) (omega (arith, e)) ∙ ap (λ path. below path (last_name (path_at paths n))) (sym (is.path depth 0 (omega (arith, is.len, e))));
+      }
+
+pub tree-of-lines : (c : Config) (lines : List (Vec ℕ Global)) (v : Vec ℕ Global) → Hold (HasOwnLine c) (length c.queues + 1) lines → AreLines (paths_of c) lines
+tree-of-lines c lines v h = record {
+  tree = record { apart = apart; parents = parents };
+  many = h.many ∙ many;
+  each = each;
+}
+  where
+    many : length c.queues + 1 ≡ length (root ∷ paths_of c)
+    many = omega (arith, count-paths c.queues)
+
+    inside : (k : ℕ) → HasNumber (paths_of c) k → k < length c.queues + 1
+    inside k there = omega (arith, there, many)
+
+    one : (n m : ℕ) → Some n ≡ Some m → n ≡ m
+    one n m e = cc
+
+    apart : (n m : ℕ) → HasNumber (paths_of c) n → HasNumber (paths_of c) m → path_at (paths_of c) n ≡ path_at (paths_of c) m → n ≡ m
+    apart zero zero i j e = refl
+    apart zero (suc m) i j e = absurd ((h.each (suc m) (inside (suc m) j) v).below_root (sym e))
+    apart (suc n) zero i j e = absurd ((h.each (suc n) (inside (suc n) i) v).below_root e)
+    apart (suc n) (suc m) i j e =
+        let first = (h.each (suc n) (inside (suc n) i) v).first.first in
+        let second = (h.each (suc m) (inside (suc m) j) v).first.first in
+        ap suc (one n m (sym first ∙ ap (λ path. position (λ (row : QueueRow). same_path row.path path) c.queues) e ∙ second))
+
+    parents : (n : ℕ) → 0 < n → HasNumber (paths_of c) n → HasParent (paths_of c) n
+    parents zero low there = absurd (omega (arith, low))
+    parents (suc n) low there = let own = h.each (suc n) (inside (suc n) there) v in parent-on (paths_of c) (suc n) _ own.line own.below_root
+
+    each : (n : ℕ) (d : Vec ℕ Global) → HasNumber (paths_of c) n → IsLine (paths_of c) n (get_or lines n d).items
+    each zero d there = h.each 0 (inside 0 there) d
+    each (suc n) d there = (h.each (suc n) (inside (suc n) there) d).line

@@ -1,0 +1,120 @@
+//! How the numbers of queues are made.
+
+ghost use Rattle.std.specs.Prelude.{◌≡◌, ◌<◌, ◌^◌, ◌↔◌, List, ℕ, length, IfOk, IfSome, IsTrue};
+ghost use Rattle.std.specs.Bool.{OnTrue};
+ghost use Rattle.ynl_resource.specs.declared.paths.Path.{Path as Names};
+ghost use Rattle.ynl_layout.specs.Paths.{AreChildren, AreLines, HasNumber, HaveChildren, IsChild, IsLine, IsTree, paths_of};
+ghost use Rattle.ynl_layout.specs.Building.{EndsAt, IsOwnLine, name_in};
+
+use std::alloc::{AllocError, Global};
+use ynl_queues::Config;
+use ynl_resource::{Name, Path};
+
+/// The paths of the queues below root.
+pub(crate) fn paths_of(alloc: Global, config: &Config) -> Result<Vec<Path>, AllocError>
+    ensures { IfOk result (λ paths. paths.items ≡ paths_of config.now) }
+{
+    config.queues().iter().map(|row| row.path).collect(alloc)
+}
+
+/// Whether the way to a queue ends at a place.
+fn ends_at(steps: &[usize], place: usize) -> bool
+    ensures { OnTrue result (EndsAt steps.now place) }
+{
+    match steps.last() {
+        Some(last) => *last == place,
+        None => false,
+    }
+}
+
+/// The line of the queue at a place in the configuration. Nothing if a queue above it has no row, if it is
+/// root, or if one before it has its path.
+fn line_to(alloc: Global, config: &Config, place: usize) -> Result<Option<Vec<usize>>, AllocError>
+    requires place { place < length config.now.queues }
+    requires few { length config.now.queues < 2 ^ 63 }
+    ensures { IfOk result (λ built. IfSome built (λ line. IsOwnLine config.now place line.items)) }
+{
+    let Some(steps) = config.steps_at(place) else {
+        return Ok(None);
+    };
+    if !ends_at(steps, place) {
+        return Ok(None);
+    }
+    let mut line = Vec::with_capacity(alloc, steps.len() + 1)?;
+    line.push(0)?;
+    for step in steps {
+        line.push(*step + 1)?;
+    }
+    Ok(Some(line))
+}
+
+/// The lines of all queues, root's first. Nothing if the queues are no tree.
+pub(crate) fn all_lines(
+    alloc: Global,
+    config: &Config,
+) -> Result<Option<Vec<Vec<usize>>>, AllocError>
+    ensures { IfOk result (λ built. IfSome built (λ lines. AreLines (paths_of config.now) lines.items)) }
+{
+    let count = config.queues().len();
+    let mut lines = Vec::with_capacity(alloc, count + 1)?;
+    lines.push(vec![in alloc; 0; 1]?)?;
+    for place in 0..count {
+        match line_to(alloc, config, place)? {
+            Some(line) => lines.push(line)?,
+            None => return Ok(None),
+        }
+    }
+    Ok(Some(lines))
+}
+
+/// Whether a queue with a line stands just below another.
+fn is_just_below(line: &[usize], queue: usize) -> bool
+    ensures { (paths : List Names) (child : ℕ) → IsTree paths → HasNumber paths queue → HasNumber paths child
+        → IsLine paths child line.now → IsTrue result ↔ IsChild paths queue child }
+{
+    line.len() > 1 && line[line.len() - 2] == queue
+}
+
+/// The last name of a queue's path. What is given for root does not matter, since it is below no queue.
+fn name_of(paths: &[Path], queue: usize) -> Option<Name>
+    ensures { result ≡ name_in paths.now queue }
+{
+    paths.get(queue.saturating_sub(1))?.names().last().copied()
+}
+
+/// The numbers of the queues just below one, in the order of their names.
+fn children_of(
+    alloc: Global,
+    paths: &[Path],
+    lines: &[Vec<usize>],
+    queue: usize,
+) -> Result<Vec<usize>, AllocError>
+    requires lines { AreLines paths.now lines.now }
+    requires queue { HasNumber paths.now queue }
+    ensures { IfOk result (λ children. AreChildren paths.now queue children.items) }
+{
+    let mut children = Vec::new(alloc);
+    for child in 0..lines.len() {
+        if is_just_below(&lines[child], queue) {
+            children.push(child)?;
+        }
+    }
+    children.sort_by_key(|child| name_of(paths, *child))?;
+    Ok(children)
+}
+
+/// The children of all queues.
+pub(crate) fn all_children(
+    alloc: Global,
+    paths: &[Path],
+    lines: &[Vec<usize>],
+) -> Result<Vec<Vec<usize>>, AllocError>
+    requires { AreLines paths.now lines.now }
+    ensures { IfOk result (λ all. HaveChildren paths.now all.items) }
+{
+    let mut all = Vec::with_capacity(alloc, lines.len())?;
+    for queue in 0..lines.len() {
+        all.push(children_of(alloc, paths, lines, queue)?)?;
+    }
+    Ok(all)
+}

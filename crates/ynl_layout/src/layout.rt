@@ -1,0 +1,78 @@
+//! The numbers of queues.
+
+ghost use Rattle.std.specs.Prelude.{◌≡◌, ◌<◌, ◌∷◌, length, IfOk, IfSome};
+ghost use Rattle.ynl_resource.specs.Names.{root};
+ghost use Rattle.ynl_model.specs.Service.{last_name};
+ghost use Rattle.ynl_laws.specs.Ways.{IsWay};
+ghost use Rattle.ynl_layout.specs.Paths.{AreChildren, CoverBelow, is_above, HasNumber, IsLine, IsTree, path_at, paths_of};
+
+use crate::building::{all_children, all_lines, paths_of};
+use std::alloc::{AllocError, Global};
+use std::marker::Model;
+use ynl_queues::Config;
+use ynl_resource::{Name, Path};
+
+/// The queues of a configuration under numbers. Root has 0, and the others follow in the order of the
+/// configuration. A contract sees the paths of the queues below root.
+pub struct Layout {
+    paths: Vec<Path>,
+    lines: Vec<Vec<usize>>,
+    children: Vec<Vec<usize>>,
+}
+
+impl Model for Layout {
+    ghost use Rattle.std.specs.Prelude.{List};
+    ghost use Rattle.ynl_resource.specs.declared.paths.Path.{Path};
+    ghost use Rattle.ynl_layout.specs.Fields.{IsLayout};
+
+    ghost Value = { List Path };
+
+    ghost view = { λ a. a.paths.items };
+
+    ghost invariant = { IsLayout };
+}
+
+impl Layout {
+    /// The queues of a configuration under numbers. Nothing if they are no tree: if two have one path, one has
+    /// root's, or one has no parent, which no configuration that is read has. It takes an indexed configuration.
+    pub fn new(alloc: Global, config: &Config) -> Result<Option<Layout>, AllocError>
+        ensures { IfOk result (λ built. IfSome built (λ layout. layout ≡ paths_of config.now)) }
+    {
+        let Some(lines) = all_lines(alloc, config)? else {
+            return Ok(None);
+        };
+        let paths = paths_of(alloc, config)?;
+        let children = all_children(alloc, &paths, &lines)?;
+        Ok(Some(Layout {
+            paths,
+            lines,
+            children,
+        }))
+    }
+
+    /// How many queues there are, root among them.
+    pub fn len(&self) -> usize
+        ensures value { result ≡ length (root ∷ self.now) }
+        ensures tree { IsTree self.now }
+    {
+        self.lines.len()
+    }
+
+    /// The numbers of the queues on the way from root to a queue, both among them.
+    pub fn line(&self, queue: usize) -> &[usize]
+        requires { HasNumber self.now queue }
+        ensures line { IsLine self.now queue result.now }
+        ensures way { IsWay (root ∷ self.now) (is_above self.now queue) result.now }
+    {
+        &self.lines[queue]
+    }
+
+    /// The numbers of the queues just below one, in the order of their names.
+    pub fn children(&self, queue: usize) -> &[usize]
+        requires { HasNumber self.now queue }
+        ensures children { AreChildren self.now queue result.now }
+        ensures below { CoverBelow self.now queue result.now }
+    {
+        &self.children[queue]
+    }
+}
