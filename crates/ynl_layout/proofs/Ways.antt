@@ -64,9 +64,10 @@ has-at (x ∷ xs) n (suc i) inside e = go (x == n) (has-at xs n i (omega (arith,
 -- numbers that differ by their places stand once each
 apart-from : (xs : List ℕ) → ((i j : ℕ) → i < length xs → j < length xs → get_or xs i 0 ≡ get_or xs j 0 → i ≡ j) → AreApart xs
 apart-from [] h = tt
-apart-from (x ∷ xs) h =
-    (recursion_from_All (λ k. x ≢ k) xs (λ k d inside e. zero-no k (h 0 (suc k) (omega arith) (omega (arith, inside)) (e ∙ get_or_default xs k d 0 inside))),
-      apart-from xs (λ i j inside within e. same-suc i j (h (suc i) (suc j) (omega (arith, inside)) (omega (arith, within)) e)))
+apart-from (x ∷ xs) h = (
+  recursion_from_All (λ k. x ≢ k) xs (λ k d inside e. zero-no k (h 0 (suc k) (omega arith) (omega (arith, inside)) (e ∙ get_or_default xs k d 0 inside))),
+  apart-from xs (λ i j inside within e. same-suc i j (h (suc i) (suc j) (omega (arith, inside)) (omega (arith, within)) e)),
+)
   where
     zero-no : (k : ℕ) → 0 ≡ suc k → ⊥
     zero-no k e = omega (arith, e)
