@@ -1,4 +1,4 @@
-//! Lanes, as the scheduler uses them.
+//! A lane: the seats of a leaf's applications on one partition, their users, and the search of them.
 
 ghost use Rattle.std.specs.Prelude.{◌≡◌, ◌↔◌, ◌<◌, [], ℕ, length, map, List, Option, Some, None, IsSome, IsTrue, OnOk, OnErr, IfSome, IfNone, nat_eq, option_map};
 ghost use Rattle.std.specs.Map.{lookup};
@@ -22,12 +22,17 @@ use ynl_lanes::{Low, WithinLimit};
 use ynl_resource::{Name, Resource};
 use ynl_slots::Slots;
 
-/// The applications of a leaf that may use a partition.
+/// The applications of a leaf that may use a partition, each with a seat, in the order of their submission. Of a seat the
+/// lane has what waits there, and of a user with seats what the user uses of the partition. A contract sees the seats under
+/// their tickets, in that order, and the user for whose next seat there is room.
+///
+/// Only `reserve_for` takes memory. A search goes from user to user, as they stand at their first seats at which something
+/// waits, and passes over all who cannot be given anything.
 #[derive(Drop)]
 pub struct Lane {
     rows: Rows,
     numbers: BTreeMap<Name, u32>,
-    /// The user for whose next seat there is room.
+    /// The number of the user for whose next seat there is room. Only this user may have no seat.
     ready: Option<u32>,
 }
 
@@ -85,7 +90,7 @@ impl Lane {
         }
     }
 
-    /// What the user of a seat uses.
+    /// What the user of a seat uses of the partition, in MB and virtual cores.
     pub fn used(&self, ticket: u32) -> Resource
         requires { IsSeat ticket self.now.seats }
         ensures { option_map (λ seat. seat.used) (lookup (nat_eq ticket) self.now.seats) ≡ Some result }
@@ -94,7 +99,7 @@ impl Lane {
         self.rows.users[user].used
     }
 
-    /// At or below the least of a kind that waits at each seat.
+    /// A size, in MB and virtual cores, that no request of a kind that waits is below. It may be below all of them.
     pub fn least(&self, kind: Kind) -> Low
         ensures { (ticket : ℕ) (seat : Seat) → lookup (nat_eq ticket) self.now.seats ≡ Some seat → IsWaiting (of_kind kind seat.waits) → IsBelow result (of_kind kind seat.waits) }
     {
@@ -115,7 +120,8 @@ impl Lane {
         }
     }
 
-    /// Takes all memory that the next seat of a user needs.
+    /// Takes all memory that the next seat of a user needs, so `add` takes none. It fails if memory is refused, and if there
+    /// are 2^32 - 1 seats or users. Lines that are full are packed, so it takes amortized constant time.
     pub fn reserve_for(&mut self, user: &Name) -> Result<(), AllocError>
         ensures seats { self.new.seats ≡ self.old.seats }
         ensures ok { OnOk result (self.new.ready ≡ Some user.now) }
@@ -131,7 +137,8 @@ impl Lane {
         }
     }
 
-    /// One more seat, for the user for whom there is room. Nothing waits there yet.
+    /// One more seat, for an application of the user for whom there is room. Nothing waits there yet. It returns the ticket,
+    /// which a later seat may have once this one is gone.
     pub fn add(&mut self, app: u32) -> u32
         requires { IsSome self.old.ready }
         ensures seats { IfSome self.old.ready (λ user. Adds app result user self.old.seats self.new.seats) }
@@ -144,7 +151,7 @@ impl Lane {
         self.rows.push(user, app)
     }
 
-    /// What waits at a seat.
+    /// What waits at a seat from now on: of each kind the least of the sizes, or `Low::NONE`.
     pub fn enter(&mut self, ticket: u32, waits: &Both<Low>)
         requires { IsSeat ticket self.old.seats }
         ensures seats { self.new.seats ≡ with_waits ticket waits.now self.old.seats }
@@ -154,7 +161,7 @@ impl Lane {
         self.rows.enter(ticket, waits);
     }
 
-    /// What the user of a seat uses from now on.
+    /// What the user of a seat uses of the partition from now on: at most 2^48 MB and virtual cores.
     pub fn set_used(&mut self, ticket: u32, used: Resource)
         requires seat { IsSeat ticket self.old.seats }
         requires used { IsUse used }
@@ -166,7 +173,7 @@ impl Lane {
         self.rows.use_other(user, used);
     }
 
-    /// The seat goes.
+    /// The seat goes. What its user uses is forgotten with the last seat.
     pub fn remove(&mut self, ticket: u32)
         requires { IsSeat ticket self.old.seats }
         ensures seats { self.new.seats ≡ without ticket self.old.seats }
@@ -184,7 +191,8 @@ impl Lane {
         }
     }
 
-    /// The first seat whose application is given something.
+    /// The first seat, before another if there is one, at which something of a kind waits whose least fits in a room and keeps
+    /// its user within `most`, and whose application is given something. It returns the ticket and what is given.
     pub fn first<F: Copy, R: Request<F>>(
         &self,
         kind: Kind,

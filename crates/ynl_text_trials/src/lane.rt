@@ -143,57 +143,71 @@ fn first(
     Ok(lane.first(kind, amount(room), amount(most), range, Some(ticket)))
 }
 
+// Three seats of two users, with masters of 500, 600 and 100 MB.
+fn three(rt: &HostRuntime, lane: &mut Lane) -> Result<(u32, u32, u32), Fail> {
+    let one = seat(rt, lane, 0, 10, 500)?;
+    let two = seat(rt, lane, 1, 11, 600)?;
+    let three = seat(rt, lane, 0, 12, 100)?;
+    Ok((one, two, three))
+}
+
 #[test]
 fn finds_the_first_in_the_order_of_the_seats(rt: HostRuntime) -> Result<(), Fail> {
     let mut lane = Lane::new(rt.alloc());
-    let one = seat(&rt, &mut lane, 0, 10, 500)?;
-    let two = seat(&rt, &mut lane, 1, 11, 600)?;
-    let three = seat(&rt, &mut lane, 0, 12, 100)?;
+    let (one, two, last) = three(&rt, &mut lane)?;
+    assert_eq!(rt; lane.users(), 2);
+    for (room, most, range, before, found) in [
+        (900, 900, ALL, None, Some((one, 10))),
+        (499, 900, ALL, None, Some((last, 12))),
+        (900, 599, Range { from: 11, to: 12 }, None, Some((last, 12))),
+        (
+            900,
+            900,
+            Range { from: 11, to: 12 },
+            Some(last),
+            Some((two, 11)),
+        ),
+        (900, 900, ALL, Some(one), None),
+    ] {
+        assert_eq!(rt;
+            first(&lane, Kind::Master, room, most, &range, before)?,
+            found
+        );
+    }
+    Ok(())
+}
+
+#[test]
+fn keeps_users_within_the_most(rt: HostRuntime) -> Result<(), Fail> {
+    let mut lane = Lane::new(rt.alloc());
+    let (one, _two, last) = three(&rt, &mut lane)?;
+    set_used(&mut lane, last, 750)?;
+    assert_eq!(rt; used(&lane, one)?, 750);
+    assert_eq!(rt;
+        first(&lane, Kind::Master, 500, 850, &ALL, None)?,
+        Some((last, 12))
+    );
+    remove(&mut lane, last)?;
+    assert_eq!(rt; first(&lane, Kind::Master, 500, 850, &ALL, None)?, None);
+    remove(&mut lane, one)?;
+    assert!(rt; !lane.is_seat(one));
+    Ok(())
+}
+
+#[test]
+fn finds_asks_apart_from_masters(rt: HostRuntime) -> Result<(), Fail> {
+    let mut lane = Lane::new(rt.alloc());
+    let (one, two, _last) = three(&rt, &mut lane)?;
     assert_eq!(rt; lane.least(Kind::Master).amount().memory, 100);
-    enter(&mut lane, two, 0, 600)?;
+    enter(&mut lane, one, 0, 300)?;
+    enter(&mut lane, two, 0, 200)?;
     assert_eq!(rt;
-        first(&lane, Kind::Master, 900, 900, &ALL, None)?,
-        Some((one, 10))
-    );
-    assert_eq!(rt;
-        first(&lane, Kind::Master, 499, 900, &ALL, None)?,
-        Some((three, 12))
-    );
-    assert_eq!(rt;
-        first(&lane, Kind::Master, 900, 900, &ALL, Some(one))?,
-        None
-    );
-    assert_eq!(rt;
-        first(&lane, Kind::Ask, 900, 900, &ALL, Some(three))?,
+        first(&lane, Kind::Ask, 299, 900, &ALL, None)?,
         Some((two, 11))
     );
     assert_eq!(rt;
-        first(
-            &lane,
-            Kind::Master,
-            900,
-            900,
-            &Range { from: 11, to: 12 },
-            None
-        )?,
-        Some((three, 12))
-    );
-    set_used(&mut lane, three, 750)?;
-    assert_eq!(rt; used(&lane, one)?, 750);
-    assert_eq!(rt;
-        first(&lane, Kind::Master, 900, 850, &ALL, None)?,
-        Some((three, 12))
-    );
-    assert_eq!(rt; first(&lane, Kind::Master, 900, 849, &ALL, None)?, None);
-    remove(&mut lane, three)?;
-    assert_eq!(rt; first(&lane, Kind::Master, 900, 850, &ALL, None)?, None);
-    remove(&mut lane, one)?;
-    assert!(rt; !lane.is_seat(one));
-    let last = seat(&rt, &mut lane, 0, 13, 200)?;
-    assert_eq!(rt; used(&lane, last)?, 0);
-    assert_eq!(rt;
-        first(&lane, Kind::Master, 200, 200, &ALL, None)?,
-        Some((last, 13))
+        first(&lane, Kind::Ask, 300, 900, &ALL, None)?,
+        Some((one, 10))
     );
     Ok(())
 }
@@ -279,12 +293,10 @@ fn change(lane: &mut Lane, plain: &mut Vec<Plain>, seed: u64, grows: bool) -> Re
     let seat = plain[at];
     let kind = pick(seed, 45, 4);
     if kind == 0 {
-        return use_other(
-            lane,
-            plain.as_mut_slice(),
-            seat.user,
-            pick(seed, 50, 20) as u32,
-        );
+        let Ok(memory) = u32::try_from(pick(seed, 50, 20)) else {
+            return Err(Fail::new("out of range"));
+        };
+        return use_other(lane, plain.as_mut_slice(), seat.user, memory);
     }
     if kind == 1 || grows {
         let master = pick(seed, 50, 12) as u64;
