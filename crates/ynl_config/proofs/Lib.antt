@@ -1,4 +1,5 @@
 pub mod Found
+pub mod Granted
 pub mod Joined
 pub mod Known
 pub mod PlaceViews

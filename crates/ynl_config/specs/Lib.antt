@@ -1,6 +1,7 @@
 pub mod Access
 pub mod Anywhere
 pub mod Earliest
+pub mod GrantTests
 pub mod Known
 pub mod Meaning
 pub mod Misplaced

@@ -1,15 +1,15 @@
 //! The places of the faults of a tree of queues.
 
-ghost use Rattle.std.specs.Prelude.{◌≡◌, ◌≤◌, IfOk, length, map, find, take, not, option_map};
+ghost use Rattle.std.specs.Prelude.{◌≡◌, ◌≤◌, IfOk, length, map, find, take, not, Some, option_map};
 ghost use Rattle.std.specs.List.{list_any};
 ghost use Rattle.ynl_resource.specs.Names.{same_path, root};
-ghost use Rattle.ynl_resource.specs.Texts.{path_text};
+ghost use Rattle.ynl_resource.specs.Texts.{label_text, path_text};
 ghost use Rattle.ynl_resource.specs.Ranges.{most_queues};
 ghost use Rattle.ynl_resource.specs.declared.labels.Label.TheVariants.{Named};
 ghost use Rattle.ynl_model.specs.Nodes.{partition_labels};
 ghost use Rattle.ynl_model.specs.Queues.{may_use};
-ghost use Rattle.ynl_model.specs.Accepted.{sum_below};
-ghost use Rattle.ynl_config.specs.Places.{place_of, first_from};
+ghost use Rattle.ynl_config.specs.Places.{place_of, first_from, nowhere, told_text};
+ghost use Rattle.ynl_config.specs.GrantTests as test;
 ghost use Rattle.ynl_config.specs.RowPlaces as spec;
 ghost use Rattle.ynl_config.specs.Misplaced.{place_at_queue, place_in_tree};
 
@@ -17,8 +17,9 @@ use crate::faults::ConfigFault;
 use crate::places::{Place, RowKind};
 use crate::telling::told_text;
 use std::alloc::{AllocError, Global};
+use ynl_labels::Labels;
 use ynl_model::LabelCapacity;
-use ynl_queues::{Config, QueueRow, parent_of};
+use ynl_queues::{Config, Grant, QueueRow, parent_of, total_capacity};
 use ynl_resource::{Label, Name, Path, WHOLE};
 
 fn path_place(alloc: Global, number: u64, path: &Path) -> Result<Place, AllocError>
@@ -185,32 +186,36 @@ fn unknown_label(
     label_at_fault(alloc, number, &row.path, found)
 }
 
-/// Whether a queue may use a label that its parent may not.
-fn goes_beyond(config: &Config, queue: &[Name], name: Name) -> bool
-    ensures { result ≡ spec.goes_beyond config.now queue.now name }
+/// Whether a queue may use a label that the one above it may not.
+fn goes_beyond(labels: &Labels, queue: &Grant, above: &Grant, name: Name) -> bool
+    ensures { result ≡ test.goes_beyond labels.now queue.now above.now name }
 {
     let label = Label::Named(name);
-    config.may_use(queue, &label) && !config.may_use(parent_of(queue), &label)
+    queue.may_use(labels, &label) && !above.may_use(labels, &label)
 }
 
 fn name_beyond(config: &Config, queue: &[Name]) -> Option<Name>
     ensures { result ≡ find (spec.goes_beyond config.now queue.now) (spec.names_of config.now) }
 {
-    config
-        .labels()
+    let labels = config.labels();
+    let below = config.grant(queue);
+    let above = config.grant(parent_of(queue));
+    labels
         .rows()
         .iter()
         .map(|row| row.name)
-        .find(|name| goes_beyond(config, queue, *name))
+        .find(|name| goes_beyond(labels, &below, &above, *name))
 }
 
-fn share_beyond(config: &Config, queue: &[Name], shares: &[LabelCapacity]) -> Option<Name>
-    ensures { result ≡ find (λ name. not (may_use config.now queue.now (Named name))) (map (λ given. given.label) shares.now) }
+fn share_beyond(config: &Config, row: &QueueRow) -> Option<Name>
+    ensures { result ≡ find (λ name. not (may_use config.now row.now.path (Named name))) (map (λ given. given.label) row.now.capacities) }
 {
-    shares
+    let labels = config.labels();
+    let queue = config.grant(row.path.names());
+    row.capacities
         .iter()
         .map(|given| given.label)
-        .find(|name| !config.may_use(queue, &Label::Named(*name)))
+        .find(|name| !queue.may_use(labels, &Label::Named(*name)))
 }
 
 #[tactic(auto, unfolding(crate::specs::RowPlaces::label_beyond))]
@@ -227,37 +232,36 @@ fn label_beyond(
     let found = AtFault {
         listed: name_beyond(config, queue),
         default: label_if(!config.may_use(queue, &default), default),
-        shared: share_beyond(config, queue, &row.capacities),
+        shared: share_beyond(config, row),
     };
     label_at_fault(alloc, number, &row.path, found)
 }
 
-fn is_low(config: &Config, queue: &[Name], label: &Label) -> bool
-    ensures { result ≡ spec.is_low config.now queue.now label.now }
+fn is_low(labels: &Labels, queue: &Grant, label: &Label) -> bool
+    ensures { result ≡ test.is_low labels.now queue.now label.now }
 {
-    let capacity = config.capacity_on(queue, label).number();
-    let maximum = config.configured_maximum(queue, label).number();
+    let capacity = queue.capacity_on(labels, label).number();
+    let maximum = queue.maximum_on(labels, label).number();
     capacity > maximum
 }
 
-fn low_label(config: &Config, queue: &[Name]) -> Option<Label>
-    ensures { result ≡ find (spec.is_low config.now queue.now) (map (λ row. Named row.name) config.now.labels.rows) }
+fn low_label(labels: &Labels, queue: &Grant) -> Option<Label>
+    ensures { result ≡ find (test.is_low labels.now queue.now) (map (λ row. Named row.name) labels.now.rows) }
 {
-    config
-        .labels()
+    labels
         .rows()
         .iter()
         .map(|row| Label::Named(row.name))
-        .find(|label| is_low(config, queue, label))
+        .find(|label| is_low(labels, queue, label))
 }
 
-fn low_partition(config: &Config, queue: &[Name]) -> Option<Label>
-    ensures { result ≡ find (spec.is_low config.now queue.now) (partition_labels config.now.labels) }
+fn low_partition(labels: &Labels, queue: &Grant) -> Option<Label>
+    ensures { result ≡ find (test.is_low labels.now queue.now) (partition_labels labels.now) }
 {
-    if is_low(config, queue, &Label::Unlabelled) {
+    if is_low(labels, queue, &Label::Unlabelled) {
         return Some(Label::Unlabelled);
     }
-    low_label(config, queue)
+    low_label(labels, queue)
 }
 
 #[tactic(auto, unfolding(crate::specs::RowPlaces::low_maximum))]
@@ -269,66 +273,64 @@ fn low_maximum(
 ) -> Result<Option<Place>, AllocError>
     ensures { IfOk result (λ p. option_map place_of p ≡ spec.low_maximum config.now number row.now) }
 {
-    let queue = row.path.names();
-    let Some(label) = low_partition(config, queue) else {
+    let labels = config.labels();
+    let queue = config.grant(row.path.names());
+    let Some(label) = low_partition(labels, &queue) else {
         return Ok(None);
     };
     let mut place = path_place(alloc, number, &row.path)?;
     place.label = told_text(alloc, label.as_str())?;
-    place.capacity = Some(config.capacity_on(queue, &label).number());
-    place.maximum = Some(config.configured_maximum(queue, &label).number());
+    place.capacity = Some(queue.capacity_on(labels, &label).number());
+    place.maximum = Some(queue.maximum_on(labels, &label).number());
     Ok(Some(place))
 }
 
-/// What the capacities just below a queue come to on a partition.
-fn sum_below(config: &Config, queue: &[Name], label: &Label) -> u64
-    requires { length config.now.queues ≤ most_queues }
-    ensures { result ≡ sum_below config.now queue.now label.now }
+/// Whether what queues have together is the whole of a partition, or nothing of a label.
+fn comes_out(labels: &Labels, queues: &[Grant], label: &Label) -> bool
+    requires { length queues.now ≤ most_queues }
+    ensures { result ≡ test.comes_out labels.now queues.now label.now }
 {
-    let mut below = config.children(queue);
-    let mut total = 0;
-    while let Some(row) = below.next() {
-        total += config.capacity_on(row.path.names(), label).number();
-    }
-    total
-}
-
-fn comes_out(config: &Config, queue: &[Name], label: &Label) -> bool
-    requires { length config.now.queues ≤ most_queues }
-    ensures { result ≡ spec.comes_out config.now queue.now label.now }
-{
-    let sum = sum_below(config, queue, label);
+    let total = total_capacity(labels, queues, label);
     match label {
-        Label::Unlabelled => sum == WHOLE,
-        Label::Named(_) => sum == WHOLE || sum == 0,
+        Label::Unlabelled => total == WHOLE,
+        Label::Named(_) => total == WHOLE || total == 0,
     }
 }
 
-fn odd_label(config: &Config, queue: &[Name]) -> Option<Label>
-    requires { length config.now.queues ≤ most_queues }
-    ensures { result ≡ find (λ label. not (spec.comes_out config.now queue.now label)) (map (λ row. Named row.name) config.now.labels.rows) }
+fn odd_label(labels: &Labels, queues: &[Grant]) -> Option<Label>
+    requires { length queues.now ≤ most_queues }
+    ensures { result ≡ find (λ label. not (test.comes_out labels.now queues.now label)) (map (λ row. Named row.name) labels.now.rows) }
 {
-    config
-        .labels()
+    labels
         .rows()
         .iter()
         .map(|row| Label::Named(row.name))
-        .find(|label| !comes_out(config, queue, label))
+        .find(|label| !comes_out(labels, queues, label))
 }
 
-fn odd_partition(config: &Config, queue: &[Name]) -> Option<Label>
-    requires { length config.now.queues ≤ most_queues }
-    ensures { result ≡ find (λ label. not (spec.comes_out config.now queue.now label)) (partition_labels config.now.labels) }
+fn odd_partition(labels: &Labels, queues: &[Grant]) -> Option<Label>
+    requires { length queues.now ≤ most_queues }
+    ensures { result ≡ find (λ label. not (test.comes_out labels.now queues.now label)) (partition_labels labels.now) }
 {
-    if !comes_out(config, queue, &Label::Unlabelled) {
+    if !comes_out(labels, queues, &Label::Unlabelled) {
         return Some(Label::Unlabelled);
     }
-    odd_label(config, queue)
+    odd_label(labels, queues)
+}
+
+/// The place of a sum on a partition, with the queue's text.
+fn sum_place(alloc: Global, text: &str, label: &Label, sum: u64) -> Result<Place, AllocError>
+    ensures { IfOk result (λ p. place_of p ≡ record nowhere { queue = told_text text.now; label = told_text (label_text label.now); sum = Some sum }) }
+{
+    let mut place = Place::nowhere();
+    place.queue = told_text(alloc, text)?;
+    place.label = told_text(alloc, label.as_str())?;
+    place.sum = Some(sum);
+    Ok(place)
 }
 
 /// The place of the first partition of which what stands just below a queue comes to something else, with the
 /// queue's text.
-#[tactic(auto, unfolding(crate::specs::RowPlaces::wrong_sum))]
 fn wrong_sum(
     alloc: Global,
     config: &Config,
@@ -339,14 +341,13 @@ fn wrong_sum(
     requires text { text.now ≡ path_text queue.now }
     ensures { IfOk result (λ p. option_map place_of p ≡ spec.wrong_sum config.now queue.now) }
 {
-    let Some(label) = odd_partition(config, queue) else {
+    let labels = config.labels();
+    let below = config.grants_below(alloc, queue)?;
+    let Some(label) = odd_partition(labels, &below) else {
         return Ok(None);
     };
-    let mut place = Place::nowhere();
-    place.queue = told_text(alloc, text)?;
-    place.label = told_text(alloc, label.as_str())?;
-    place.sum = Some(sum_below(config, queue, &label));
-    Ok(Some(place))
+    let sum = total_capacity(labels, &below, &label);
+    Ok(Some(sum_place(alloc, text, &label, sum)?))
 }
 
 #[tactic(auto, unfolding(ynl_resource::specs::Texts::path_text))]

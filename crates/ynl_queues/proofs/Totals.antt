@@ -15,7 +15,7 @@ use Rattle.ynl_queues.specs.Grants.{capacity_at, total_at}
 abbrev pub StandBelow : Config → Path → List Grant → Type 0
 StandBelow c queue grants = (label : Label) → map (λ s. capacity_at c.labels s label) grants ≡ map (λ row. capacity_on c row.path label) (children c queue)
 
-total_below : (c : Config) (queue : Path) (grants : List Grant) → StandBelow c queue grants → (label : Label) → total_at c.labels grants label ≡ sum_below c queue label
+pub total_below : (c : Config) (queue : Path) (grants : List Grant) → StandBelow c queue grants → (label : Label) → total_at c.labels grants label ≡ sum_below c queue label
 unfolding total_at
 total_below c queue grants h label = ap sum (h label)
 

@@ -46,9 +46,9 @@ fn covers_all(labels: &Labels, grant: &Grant) -> bool
     covers(labels, grant, &Label::Unlabelled) && covers_labels(labels, grant)
 }
 
-/// What the capacities come to on a partition.
+/// What the capacities of queues come to on a partition.
 #[tactic(auto, unfolding(crate::specs::Grants::total_at))]
-fn total(labels: &Labels, grants: &[Grant], label: &Label) -> u64
+pub fn total_capacity(labels: &Labels, grants: &[Grant], label: &Label) -> u64
     requires { length grants.now ≤ most_queues }
     ensures { result ≡ total_at labels.now grants.now label.now }
 {
@@ -64,7 +64,7 @@ fn comes_to_whole(labels: &Labels, grants: &[Grant], label: &Label) -> bool
     requires { length grants.now ≤ most_queues }
     ensures { result ≡ (total_at labels.now grants.now label.now == whole || total_at labels.now grants.now label.now == 0) }
 {
-    let total = total(labels, grants, label);
+    let total = total_capacity(labels, grants, label);
     total == WHOLE || total == 0
 }
 
@@ -82,7 +82,8 @@ fn come_to_whole(labels: &Labels, grants: &[Grant]) -> bool
     requires { length grants.now ≤ most_queues }
     ensures { result ≡ (total_at labels.now grants.now Label.Unlabelled == whole && list_all (λ row. total_at labels.now grants.now (Label.Named row.name) == whole || total_at labels.now grants.now (Label.Named row.name) == 0) labels.now.rows) }
 {
-    total(labels, grants, &Label::Unlabelled) == WHOLE && labels_come_to_whole(labels, grants)
+    total_capacity(labels, grants, &Label::Unlabelled) == WHOLE
+        && labels_come_to_whole(labels, grants)
 }
 
 impl Config {
@@ -100,8 +101,8 @@ impl Config {
         self.queues().iter().all(|row| self.maximum_covers(row))
     }
 
-    /// How the queues just below a queue stand.
-    fn grants_below(&self, alloc: Global, queue: &[Name]) -> Result<Vec<Grant<'_>>, AllocError>
+    /// What decides the shares of the queues just below a queue, in the order of the configuration.
+    pub fn grants_below(&self, alloc: Global, queue: &[Name]) -> Result<Vec<Grant<'_>>, AllocError>
         ensures few { IfOk result (λ below. length below.items ≤ length self.now.queues) }
         ensures capacities { IfOk result (λ below. (label : Label) → map (λ s. capacity_at self.now.labels s label) below.items ≡ map (λ row. capacity_on self.now row.path label) (children self.now queue.now)) }
     {

@@ -1,6 +1,6 @@
 use Rattle.std.proofs.Common.{◌≡◌, ◌≤◌, ◌*◌, map, take, sum}
 use Rattle.ynl_queues.specs.Grants.{capacity_at}
-use Rattle.ynl_queues.proofs.sums.total.Given as goal
+use Rattle.ynl_queues.proofs.sums.total_capacity.Given as goal
 
 abbrev pub invariant-loop-grant : goal.invariant-loop-grant
 invariant-loop-grant l = record {
