@@ -16,14 +16,14 @@ use Rattle.ynl_lane.specs.declared.kinds.Both.{Both}
 use Rattle.ynl_lane.specs.declared.rows.SeatRow.{SeatRow}
 use Rattle.ynl_lane.specs.declared.rows.UserRow.{UserRow}
 use Rattle.ynl_lane.specs.declared.rows.Rows.{Rows}
-use Rattle.ynl_lane.specs.Changes.{IsOwnRoom, Shown, shown, ShowSame, ShowsOther, SetsWaits, PushesSeat, nothing_waits}
+use Rattle.ynl_lane.specs.Changes.{IsOwnRoom, Shown, shown, ShowSame, ShowsOther, SetsWaits, PushesSeat}
 use Rattle.ynl_lane.specs.Fields.{IsReady, ok_of, name_by, seat_of, count_of, AreNamed, IsUserOf, AreUsersOf, Opens}
 use Rattle.ynl_lane.specs.Found.{EachSeat}
 use Rattle.ynl_lane.specs.Levels.{ArePairs}
 use Rattle.ynl_lane.specs.Lines.{HasRoom}
 use Rattle.ynl_lane.specs.Rooms.{IsSameSeat}
 use Rattle.ynl_lane.specs.Rows.{used_by, IsKept}
-use Rattle.ynl_lane.specs.Seats.{Seat, with_waits, used_at, Adds}
+use Rattle.ynl_lane.specs.Seats.{Seat, nothing_waits, with_waits, used_at, Adds}
 use Rattle.ynl_lane.proofs.Found.{all_from_each}
 use Rattle.ynl_lane.proofs.Lists.{all_lookup, all_then, each_pushed, found_written, found_pushed, last_found, was_without, same_without}
 use Rattle.ynl_lane.proofs.Standing.{user_live}

@@ -16,11 +16,12 @@ use Rattle.ynl_lane.specs.declared.levels.Level.TheVariants.{Lane, User}
 use Rattle.ynl_lane.specs.declared.rows.SeatRow.{SeatRow}
 use Rattle.ynl_lane.specs.declared.rows.UserRow.{UserRow}
 use Rattle.ynl_lane.specs.declared.rows.Rows.{Rows}
-use Rattle.ynl_lane.specs.Changes.{nothing_waits, IsPulled, shown, ShowsOther}
+use Rattle.ynl_lane.specs.Changes.{IsPulled, shown, ShowsOther}
 use Rattle.ynl_lane.specs.Kinds.{of_kind}
 use Rattle.ynl_lane.specs.Levels.{slot_in, IsIn, IsBefore, AreOrdered, AreIn}
 use Rattle.ynl_lane.specs.Lines.{values_of, IsLine}
 use Rattle.ynl_lane.specs.Found.{EachSeat}
+use Rattle.ynl_lane.specs.Seats.{nothing_waits}
 use Rattle.ynl_lane.specs.Rows.{of_user, own_tickets, used_by, tickets_in, HasWaits, EachUser, IsUserRow, IsSeated, IsStood, AreStood, IsKept}
 use Rattle.ynl_lane.specs.Waiting.{IsWaiting}
 use Rattle.ynl_lane.proofs.Lists.{all_without, ordered_without, found_written, found_other, found_without, was_without, distinct_without}

@@ -18,11 +18,12 @@ use Rattle.ynl_lane.specs.declared.levels.Level.TheVariants.{Lane, User}
 use Rattle.ynl_lane.specs.declared.rows.SeatRow.{SeatRow}
 use Rattle.ynl_lane.specs.declared.rows.UserRow.{UserRow}
 use Rattle.ynl_lane.specs.declared.rows.Rows.{Rows}
-use Rattle.ynl_lane.specs.Changes.{nothing_waits, IsOwnRoom, PushesOwn, shown, ShowsOther}
+use Rattle.ynl_lane.specs.Changes.{IsOwnRoom, PushesOwn, shown, ShowsOther}
 use Rattle.ynl_lane.specs.Kinds.{of_kind}
 use Rattle.ynl_lane.specs.Levels.{slot_in, IsIn, IsBefore, AreIn}
 use Rattle.ynl_lane.specs.Lines.{values_of, HasRoom}
 use Rattle.ynl_lane.specs.Found.{EachSeat}
+use Rattle.ynl_lane.specs.Seats.{nothing_waits}
 use Rattle.ynl_lane.specs.Rows.{own_tickets, own_values, used_by, tickets_in, HasWaits, EachUser, IsUse, IsUserRow, IsSeated, IsStood, AreStood, IsKept}
 use Rattle.ynl_lane.specs.Waiting.{IsWaiting}
 use Rattle.ynl_lane.proofs.Lists.{all_then, all_append, ordered_push, found_written, found_other, found_pushed, each_pushed, distinct_pushed}
@@ -181,11 +182,14 @@ module _ (rows new : Rows) (kept : IsKept rows) (app user ticket : ℕ) (unused 
             low = subst (λ v. IsBelowRequest v (used_by e.user new.users.entries) (of_kind kind e.waits)) (sym value) (subst (λ u. IsBelowRequest (get_or (values_of kind rows.line) h.stand.slot no_user) u (of_kind kind e.waits)) (sym (same_used e.user)) h.low);
           }
 
-  pub kept_pushed : IsKept new
+  kept_pushed : IsKept new
   kept_pushed = record { seated = seated_pushed; stood = stood_pushed }
 
-  pub shown_pushed : ShowsOther user (λ s. record s { live = s.live + 1 }) rows.users.entries new.users.entries
+  shown_pushed : ShowsOther user (λ s. record s { live = s.live + 1 }) rows.users.entries new.users.entries
   shown_pushed = record {
     own = ap (λ us. option_map shown (lookup (nat_eq user) us)) pushes.entries ∙ ap (option_map shown) (found_written user pushes.next pushes.row rows.users.entries pushes.found) ∙ ap Some (λ i. record { name = pushes.name i; used = pushes.used i; live = pushes.live i }) ∙ sym (ap (option_map (λ r. record (shown r) { live = r.live + 1 })) pushes.found);
     others = λ other apart. ap (λ us. option_map shown (lookup (nat_eq other) us)) pushes.entries ∙ ap (option_map shown) (found_other other user pushes.next rows.users.entries apart);
   }
+
+  pub pushed : IsKept new × ShowsOther user (λ s. record s { live = s.live + 1 }) rows.users.entries new.users.entries
+  pushed = (kept_pushed, shown_pushed)

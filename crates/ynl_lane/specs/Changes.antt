@@ -9,10 +9,7 @@ use Rattle.ynl_lane.specs.declared.kinds.Both.{Both}
 use Rattle.ynl_lane.specs.declared.rows.SeatRow.{SeatRow}
 use Rattle.ynl_lane.specs.declared.rows.UserRow.{UserRow}
 use Rattle.ynl_lane.specs.Lines.{HasRoom}
-
--- nothing waits
-abbrev pub nothing_waits : Both Resource
-nothing_waits = record { master = no_size; ask = no_size }
+use Rattle.ynl_lane.specs.Seats.{nothing_waits}
 
 -- other things wait at a seat
 pub record SetsWaits (ticket : ℕ) (waits : Both Resource) (old new : List (ℕ × SeatRow)) : Type 0 where

@@ -28,8 +28,8 @@ abbrev pub IsSeat : ℕ → List (ℕ × Seat) → Type 0
 IsSeat ticket seats = IsSome (lookup (nat_eq ticket) seats)
 
 -- nothing waits
-abbrev pub idle : Both Resource
-idle = record { master = no_size; ask = no_size }
+abbrev pub nothing_waits : Both Resource
+nothing_waits = record { master = no_size; ask = no_size }
 
 -- what a user uses, as the user's first seat has it
 abbrev pub used_at : Name → List (ℕ × Seat) → Resource
@@ -39,7 +39,7 @@ used_at user (e ∷ es) = if same_name user e.1.user then e.1.used else used_at 
 -- a seat of the user comes last, with a ticket of its own, and nothing waits there
 pub record Adds (app ticket : ℕ) (user : Name) (old new : List (ℕ × Seat)) : Type 0 where
   pub unused : IsUnused ticket old
-  pub seats : new ≡ old ++ (ticket, record { app = app; user = user; used = used_at user old; waits = idle }) ∷ []
+  pub seats : new ≡ old ++ (ticket, record { app = app; user = user; used = used_at user old; waits = nothing_waits }) ∷ []
 
 -- other things wait at the seat of a ticket
 abbrev pub with_waits : ℕ → Both Resource → List (ℕ × Seat) → List (ℕ × Seat)

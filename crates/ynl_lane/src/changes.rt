@@ -4,10 +4,10 @@ ghost use Rattle.std.specs.Prelude.{◌≡◌, ◌≢◌, ◌<◌, ◌+◌, ◌-
 ghost use Rattle.std.specs.Map.{lookup};
 ghost use Rattle.ynl_slots.specs.Slots.{IsLive, with_row, without};
 ghost use Rattle.ynl_lane.specs.Changes.{SetsWaits, SetsValues, SetsUsed, PushesOwn, PushesSeat, IsOwnRoom, IsPulled, ShowSame, ShowsOther};
-ghost use Rattle.ynl_lane.specs.Changes.{nothing_waits};
 ghost use Rattle.ynl_lane.specs.Found.{EachSeat};
 ghost use Rattle.ynl_lane.specs.Lines.{HasRoom};
 ghost use Rattle.ynl_lane.specs.Rows.{IsKept, IsUse};
+ghost use Rattle.ynl_lane.specs.Seats.{nothing_waits};
 
 use crate::kinds::Both;
 use crate::rows::{Rows, SeatRow, UserRow};

@@ -1,5 +1,6 @@
 //! A configuration that is read at the second try. What texts mean, and their faults, are cases.
 
+use std::process::Abort;
 use std::test::Fail;
 use ynl_config::read_config;
 use ynl_queues::Config;
@@ -23,9 +24,13 @@ fn config(rt: &HostRuntime, text: &str) -> Result<Config, Fail> {
 #[test]
 fn reads_at_the_second_try(rt: HostRuntime) -> Result<(), Fail> {
     let config = config(&rt, ONE_QUEUE)?;
+    has_one_queue(&rt, &config);
+    Ok(())
+}
+
+fn has_one_queue<R: Abort>(rt: &R, config: &Config) {
     assert_eq!(rt; config.labels().rows().len(), 2);
     assert_eq!(rt; config.queues().len(), 1);
     assert_eq!(rt; config.containers_per_heartbeat(), 1);
     assert_eq!(rt; config.maximum_allocation().amount().vcores, 65536);
-    Ok(())
 }

@@ -1,5 +1,6 @@
 //! Maxima and stops as they are configured.
 
+use std::process::Abort;
 use std::test::Fail;
 use ynl_config::built_in;
 use ynl_controls::{Maxima, Stops};
@@ -48,15 +49,19 @@ fn maximum(maxima: &Maxima, label: &str) -> Result<Resource, Fail> {
     Ok(maxima.maximum(eng.names(), &Label::parse(label)?, &total))
 }
 
+fn are_as_configured<R: Abort>(rt: &R, maxima: &Maxima, stops: &Stops) -> Result<(), Fail> {
+    for (label, memory) in [("", 10000), ("gpu", 10000), ("zzz", 0)] {
+        assert_eq!(rt; maximum(maxima, label)?.memory, memory, "{label}");
+    }
+    let eng = Path::parse("root.eng")?;
+    assert!(rt; stops.accepts(eng.names()));
+    Ok(())
+}
+
 #[test]
 fn opens_as_configured_at_the_second_try(rt: HostRuntime) -> Result<(), Fail> {
     let config = config(&rt)?;
     let maxima = maxima(&rt, &config)?;
     let stops = stops(&rt, &config)?;
-    for (label, memory) in [("", 10000), ("gpu", 10000), ("zzz", 0)] {
-        assert_eq!(rt; maximum(&maxima, label)?.memory, memory, "{label}");
-    }
-    let eng = Path::parse("root.eng")?;
-    assert!(rt; stops.accepts(eng.names()));
-    Ok(())
+    are_as_configured(&rt, &maxima, &stops)
 }

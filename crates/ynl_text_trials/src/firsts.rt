@@ -4,6 +4,7 @@ ghost use Rattle.std.specs.Prelude.{◌≤◌, ◌<◌, ◌^◌, OnOk, length};
 ghost use Rattle.std.proofs.Common.{le_refl, le_trans, le_of_suc-le-suc};
 
 use std::alloc::AllocError;
+use std::process::Abort;
 use std::test::Fail;
 use ynl_firsts::{Firsts, Least, Test};
 
@@ -68,7 +69,7 @@ impl Test<Size> for Within {
 
 // Run with each allocation failing in turn: where memory is refused at the first try, which a line
 // tells, the second gives the places.
-fn reserve(rt: &HostRuntime, sizes: &mut Firsts<Size>, count: usize) -> Result<(), Fail>
+fn reserve<R: Print>(rt: &R, sizes: &mut Firsts<Size>, count: usize) -> Result<(), Fail>
     ensures { OnOk result (count ≤ length sizes.new) }
 {
     let first: Result<(), AllocError> = sizes.reserve(count);
@@ -82,8 +83,16 @@ fn reserve(rt: &HostRuntime, sizes: &mut Firsts<Size>, count: usize) -> Result<(
 #[test]
 fn finds_the_first_within(rt: HostRuntime) -> Result<(), Fail> {
     let mut sizes: Firsts<Size> = Firsts::new(rt.alloc());
-    assert_eq!(rt; sizes.next(0, &Within(Size::of(9, 9))), None);
-    reserve(&rt, &mut sizes, 5)?;
+    assert_eq!(rt; first(&sizes, 0, 9, 9), None);
+    finds_first(&rt, &mut sizes)
+}
+
+fn first(sizes: &Firsts<Size>, from: usize, memory: u32, vcores: u32) -> Option<usize> {
+    sizes.next(from, &Within(Size::of(memory, vcores)))
+}
+
+fn finds_first<R: Print + Abort>(rt: &R, sizes: &mut Firsts<Size>) -> Result<(), Fail> {
+    reserve(rt, sizes, 5)?;
     assert_eq!(rt; sizes.room(), 8);
     sizes.set(0, Size::of(4096, 4));
     sizes.set(1, Size::of(1024, 8));
@@ -93,7 +102,7 @@ fn finds_the_first_within(rt: HostRuntime) -> Result<(), Fail> {
     assert_eq!(rt; sizes.get(8), Size::none());
 
     // In 2048 MB and 4 cores each of the two in front has one number that is too great.
-    for (from, memory, vcores, first) in [
+    for (from, memory, vcores, found) in [
         (0, 2048, 4, Some(4)),
         (0, 4096, 8, Some(0)),
         (1, 4096, 8, Some(1)),
@@ -101,25 +110,29 @@ fn finds_the_first_within(rt: HostRuntime) -> Result<(), Fail> {
         (5, 4096, 8, None),
         (100, 4096, 8, None),
     ] {
-        assert_eq!(rt; sizes.next(from, &Within(Size::of(memory, vcores))), first);
+        assert_eq!(rt; first(sizes, from, memory, vcores), found);
     }
     sizes.set(4, Size::none());
-    assert_eq!(rt; sizes.next(0, &Within(Size::of(2048, 4))), None);
+    assert_eq!(rt; first(sizes, 0, 2048, 4), None);
     sizes.clear();
-    assert_eq!(rt; sizes.next(0, &Within(Size::of(4096, 8))), None);
+    assert_eq!(rt; first(sizes, 0, 4096, 8), None);
     Ok(())
 }
 
 #[test]
 fn keeps_values_at_the_second_try(rt: HostRuntime) -> Result<(), Fail> {
     let mut sizes: Firsts<Size> = Firsts::new(rt.alloc());
-    reserve(&rt, &mut sizes, 1)?;
+    keeps_values(&rt, &mut sizes)
+}
+
+fn keeps_values<R: Print + Abort>(rt: &R, sizes: &mut Firsts<Size>) -> Result<(), Fail> {
+    reserve(rt, sizes, 1)?;
     sizes.set(0, Size::of(1024, 1));
-    reserve(&rt, &mut sizes, 3)?;
+    reserve(rt, sizes, 3)?;
     assert_eq!(rt; sizes.room(), 4);
     sizes.set(2, Size::of(512, 1));
-    for (from, first) in [(0, Some(0)), (1, Some(2)), (3, None)] {
-        assert_eq!(rt; sizes.next(from, &Within(Size::of(1024, 1))), first);
+    for (from, found) in [(0, Some(0)), (1, Some(2)), (3, None)] {
+        assert_eq!(rt; first(sizes, from, 1024, 1), found);
     }
     Ok(())
 }

@@ -1,6 +1,7 @@
 //! Labels that are built, and copied.
 
 use std::alloc::{AllocError, Global};
+use std::process::Abort;
 use std::test::Fail;
 use ynl_labels::Labels;
 use ynl_model::{LabelFault, LabelRow};
@@ -18,22 +19,33 @@ fn rows(alloc: Global, names: &[&str], limit: u64) -> Result<Vec<LabelRow>, Fail
     Ok(rows)
 }
 
+fn fault_of(rows: Vec<LabelRow>, default_limit: u64) -> Option<LabelFault> {
+    Labels::build(rows, default_limit).err()
+}
+
+/// Two names and their limit, the limit of DEFAULT, and what is wrong with them.
+const FAULTS: [([&str; 2], u64, u64, Option<LabelFault>); 5] = [
+    (["gpu", "ssd"], 1, 9007199254740991, None),
+    (["gpu", "ssd"], 0, 1, Some(LabelFault::BadLimit)),
+    (["gpu", "ssd"], 1, 0, Some(LabelFault::BadLimit)),
+    (
+        ["gpu", "ssd"],
+        9007199254740992,
+        1,
+        Some(LabelFault::BadLimit),
+    ),
+    (["gpu", "gpu"], 0, 1, Some(LabelFault::DuplicateLabel)),
+];
+
 #[test]
 fn tells_the_first_fault(rt: HostRuntime) -> Result<(), Fail> {
-    for (names, limit, default_limit, fault) in [
-        (["gpu", "ssd"], 1, 9007199254740991, None),
-        (["gpu", "ssd"], 0, 1, Some(LabelFault::BadLimit)),
-        (["gpu", "ssd"], 1, 0, Some(LabelFault::BadLimit)),
-        (
-            ["gpu", "ssd"],
-            9007199254740992,
-            1,
-            Some(LabelFault::BadLimit),
-        ),
-        (["gpu", "gpu"], 0, 1, Some(LabelFault::DuplicateLabel)),
-    ] {
-        let built = Labels::build(rows(rt.alloc(), &names, limit)?, default_limit);
-        assert_eq!(rt; built.err(), fault, "{limit} and {default_limit}");
+    have_faults(&rt, rt.alloc())
+}
+
+fn have_faults<R: Abort>(rt: &R, alloc: Global) -> Result<(), Fail> {
+    for (names, limit, default_limit, fault) in FAULTS {
+        let found = fault_of(rows(alloc, &names, limit)?, default_limit);
+        assert_eq!(rt; found, fault, "{limit} and {default_limit}");
     }
     Ok(())
 }
@@ -55,8 +67,8 @@ fn numbered_rows(alloc: Global, count: u8) -> Result<Vec<LabelRow>, Fail> {
 #[test]
 fn takes_64_labels_and_no_more(rt: HostRuntime) -> Result<(), Fail> {
     for (count, fault) in [(64, None), (65, Some(LabelFault::TooManyLabels))] {
-        let built = Labels::build(numbered_rows(rt.alloc(), count)?, 1);
-        assert_eq!(rt; built.err(), fault, "{count}");
+        let found = fault_of(numbered_rows(rt.alloc(), count)?, 1);
+        assert_eq!(rt; found, fault, "{count}");
     }
     Ok(())
 }
@@ -93,12 +105,16 @@ fn copy(rt: &HostRuntime, labels: &Labels) -> Result<Labels, Fail> {
     }
 }
 
+fn has_limits<R: Abort>(rt: &R, labels: &Labels) -> Result<(), Fail> {
+    assert_eq!(rt; labels.rows().len(), 1);
+    assert_eq!(rt; labels.limit(&Label::parse("gpu")?), 7);
+    assert_eq!(rt; labels.limit(&Label::Unlabelled), 5);
+    Ok(())
+}
+
 #[test]
 fn copies_labels_at_the_second_try(rt: HostRuntime) -> Result<(), Fail> {
     let labels = one_label_again(&rt, Name::parse("gpu")?)?;
     let copy = copy(&rt, &labels)?;
-    assert_eq!(rt; copy.rows().len(), 1);
-    assert_eq!(rt; copy.limit(&Label::parse("gpu")?), 7);
-    assert_eq!(rt; copy.limit(&Label::Unlabelled), 5);
-    Ok(())
+    has_limits(&rt, &copy)
 }

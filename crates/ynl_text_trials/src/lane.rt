@@ -3,6 +3,7 @@
 ghost use Rattle.std.specs.Prelude.{◌+◌, ◌&&◌, nat_le, if◌then◌else◌, Some, None, IsSome, OnOk};
 
 use std::alloc::AllocError;
+use std::process::Abort;
 use std::test::Fail;
 use ynl_lane::{Both, Kind, Lane, Request};
 use ynl_lanes::Low;
@@ -58,7 +59,7 @@ const ALL: Range = Range {
 
 // Run with each allocation failing in turn: where memory is refused at the first try, which a line
 // tells, the second gives the room.
-fn reserve(rt: &HostRuntime, lane: &mut Lane, user: &Name) -> Result<(), Fail>
+fn reserve<R: Print>(rt: &R, lane: &mut Lane, user: &Name) -> Result<(), Fail>
     ensures { OnOk result (IsSome lane.new.ready) }
 {
     let first: Result<(), AllocError> = lane.reserve_for(user);
@@ -82,8 +83,8 @@ fn enter(lane: &mut Lane, ticket: u32, master: u64, ask: u64) -> Result<(), Fail
 }
 
 // A seat of a user, at which a master waits.
-fn seat(
-    rt: &HostRuntime,
+fn seat<R: Print>(
+    rt: &R,
     lane: &mut Lane,
     number: usize,
     app: u32,
@@ -144,17 +145,22 @@ fn first(
 }
 
 // Three seats of two users, with masters of 500, 600 and 100 MB.
-fn three(rt: &HostRuntime, lane: &mut Lane) -> Result<(u32, u32, u32), Fail> {
+fn three<R: Print>(rt: &R, lane: &mut Lane) -> Result<(u32, u32, u32), Fail> {
     let one = seat(rt, lane, 0, 10, 500)?;
     let two = seat(rt, lane, 1, 11, 600)?;
     let three = seat(rt, lane, 0, 12, 100)?;
     Ok((one, two, three))
 }
 
+// Each test hands its lane to a function, since a lane is let go wherever the function that owns it ends.
 #[test]
 fn finds_the_first_in_the_order_of_the_seats(rt: HostRuntime) -> Result<(), Fail> {
     let mut lane = Lane::new(rt.alloc());
-    let (one, two, last) = three(&rt, &mut lane)?;
+    finds_first(&rt, &mut lane)
+}
+
+fn finds_first<R: Print + Abort>(rt: &R, lane: &mut Lane) -> Result<(), Fail> {
+    let (one, two, last) = three(rt, lane)?;
     assert_eq!(rt; lane.users(), 2);
     for (room, most, range, before, found) in [
         (900, 900, ALL, None, Some((one, 10))),
@@ -170,7 +176,7 @@ fn finds_the_first_in_the_order_of_the_seats(rt: HostRuntime) -> Result<(), Fail
         (900, 900, ALL, Some(one), None),
     ] {
         assert_eq!(rt;
-            first(&lane, Kind::Master, room, most, &range, before)?,
+            first(lane, Kind::Master, room, most, &range, before)?,
             found
         );
     }
@@ -180,16 +186,20 @@ fn finds_the_first_in_the_order_of_the_seats(rt: HostRuntime) -> Result<(), Fail
 #[test]
 fn keeps_users_within_the_most(rt: HostRuntime) -> Result<(), Fail> {
     let mut lane = Lane::new(rt.alloc());
-    let (one, _two, last) = three(&rt, &mut lane)?;
-    set_used(&mut lane, last, 750)?;
-    assert_eq!(rt; used(&lane, one)?, 750);
+    keeps_users(&rt, &mut lane)
+}
+
+fn keeps_users<R: Print + Abort>(rt: &R, lane: &mut Lane) -> Result<(), Fail> {
+    let (one, _two, last) = three(rt, lane)?;
+    set_used(lane, last, 750)?;
+    assert_eq!(rt; used(lane, one)?, 750);
     assert_eq!(rt;
-        first(&lane, Kind::Master, 500, 850, &ALL, None)?,
+        first(lane, Kind::Master, 500, 850, &ALL, None)?,
         Some((last, 12))
     );
-    remove(&mut lane, last)?;
-    assert_eq!(rt; first(&lane, Kind::Master, 500, 850, &ALL, None)?, None);
-    remove(&mut lane, one)?;
+    remove(lane, last)?;
+    assert_eq!(rt; first(lane, Kind::Master, 500, 850, &ALL, None)?, None);
+    remove(lane, one)?;
     assert!(rt; !lane.is_seat(one));
     Ok(())
 }
@@ -197,16 +207,20 @@ fn keeps_users_within_the_most(rt: HostRuntime) -> Result<(), Fail> {
 #[test]
 fn finds_asks_apart_from_masters(rt: HostRuntime) -> Result<(), Fail> {
     let mut lane = Lane::new(rt.alloc());
-    let (one, two, _last) = three(&rt, &mut lane)?;
+    finds_asks(&rt, &mut lane)
+}
+
+fn finds_asks<R: Print + Abort>(rt: &R, lane: &mut Lane) -> Result<(), Fail> {
+    let (one, two, _last) = three(rt, lane)?;
     assert_eq!(rt; lane.least(Kind::Master).amount().memory, 100);
-    enter(&mut lane, one, 0, 300)?;
-    enter(&mut lane, two, 0, 200)?;
+    enter(lane, one, 0, 300)?;
+    enter(lane, two, 0, 200)?;
     assert_eq!(rt;
-        first(&lane, Kind::Ask, 299, 900, &ALL, None)?,
+        first(lane, Kind::Ask, 299, 900, &ALL, None)?,
         Some((two, 11))
     );
     assert_eq!(rt;
-        first(&lane, Kind::Ask, 300, 900, &ALL, None)?,
+        first(lane, Kind::Ask, 300, 900, &ALL, None)?,
         Some((one, 10))
     );
     Ok(())
@@ -215,13 +229,17 @@ fn finds_asks_apart_from_masters(rt: HostRuntime) -> Result<(), Fail> {
 #[test]
 fn grows_at_the_second_try(rt: HostRuntime) -> Result<(), Fail> {
     let mut lane = Lane::new(rt.alloc());
+    grows(&rt, &mut lane)
+}
+
+fn grows<R: Print + Abort>(rt: &R, lane: &mut Lane) -> Result<(), Fail> {
     for app in 0..20u32 {
-        let ticket = seat(&rt, &mut lane, app as usize % 3, app, 100)?;
+        let ticket = seat(rt, lane, app as usize % 3, app, 100)?;
         if app < 15 {
-            enter(&mut lane, ticket, 0, 0)?;
+            enter(lane, ticket, 0, 0)?;
         }
     }
-    match first(&lane, Kind::Master, 100, 100, &ALL, None)? {
+    match first(lane, Kind::Master, 100, 100, &ALL, None)? {
         Some((_ticket, app)) => assert_eq!(rt; app, 15),
         None => return Err(Fail::new("none found")),
     }
@@ -251,8 +269,8 @@ fn pick(seed: u64, shift: u32, count: usize) -> usize {
     (seed >> shift) as usize % count
 }
 
-fn add(
-    rt: &HostRuntime,
+fn add<R: Print>(
+    rt: &R,
     lane: &mut Lane,
     plain: &mut Vec<Plain>,
     app: u32,
@@ -349,17 +367,21 @@ fn compare(lane: &Lane, plain: &[Plain], seed: u64, app: u32) -> Result<(), Fail
 fn finds_what_a_plain_scan_finds(rt: HostRuntime) -> Result<(), Fail> {
     let mut lane = Lane::new(rt.alloc());
     let mut plain: Vec<Plain> = Vec::new(rt.alloc());
+    play(&rt, &mut lane, &mut plain)
+}
+
+fn play<R: Print>(rt: &R, lane: &mut Lane, plain: &mut Vec<Plain>) -> Result<(), Fail> {
     let mut seed = 7u64;
     for app in 0..3000u32 {
         seed = next(seed);
         let grows = app % 1000 < 700;
         if grows || pick(seed, 33, 4) == 0 {
-            add(&rt, &mut lane, &mut plain, app, seed)?;
+            add(rt, lane, plain, app, seed)?;
         }
         seed = next(seed);
-        change(&mut lane, &mut plain, seed, grows && seed % 3 > 0)?;
+        change(lane, plain, seed, grows && seed % 3 > 0)?;
         seed = next(seed);
-        compare(&lane, plain.as_slice(), seed, app)?;
+        compare(lane, plain.as_slice(), seed, app)?;
     }
     Ok(())
 }

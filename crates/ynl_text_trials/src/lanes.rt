@@ -1,5 +1,6 @@
 //! The least that waiting requests need, and the tests with which they are searched.
 
+use std::process::Abort;
 use std::test::Fail;
 use ynl_firsts::{Firsts, Least};
 use ynl_lanes::{Low, UserLow, Within, WithinLimit};
@@ -19,6 +20,12 @@ fn low(memory: u64, vcores: u64) -> Result<Low, Fail> {
 #[test]
 fn skips_what_is_too_large(rt: HostRuntime) -> Result<(), Fail> {
     let mut lows: Firsts<Low> = Firsts::new(rt.alloc());
+    set_lows(&rt, &mut lows)?;
+    skips_large(&rt, &lows);
+    Ok(())
+}
+
+fn set_lows<R: Abort>(rt: &R, lows: &mut Firsts<Low>) -> Result<(), Fail> {
     lows.reserve(3)?;
     let large = low(4096, 1)?;
     let wide = low(1024, 4)?;
@@ -27,17 +34,25 @@ fn skips_what_is_too_large(rt: HostRuntime) -> Result<(), Fail> {
     assert_eq!(rt; lows.root().amount(), amount(1024, 1));
     assert_eq!(rt; large.least(wide).amount(), amount(1024, 1));
     assert_eq!(rt; Low::NONE.least(wide).amount(), amount(1024, 4));
-    for (from, room, first) in [
-        (0, amount(4096, 4), Some(0)),
-        (1, amount(4096, 4), Some(2)),
-        (0, amount(4096, 1), Some(0)),
-        (0, amount(4095, 4), Some(2)),
-        (0, amount(4095, 3), None),
-        (3, amount(4096, 4), None),
-    ] {
-        assert_eq!(rt; lows.next(from, &Within { room }), first);
-    }
     Ok(())
+}
+
+fn first(lows: &Firsts<Low>, from: usize, memory: u64, vcores: u64) -> Option<usize> {
+    let room = amount(memory, vcores);
+    lows.next(from, &Within { room })
+}
+
+fn skips_large<R: Abort>(rt: &R, lows: &Firsts<Low>) {
+    for (from, memory, vcores, found) in [
+        (0, 4096, 4, Some(0)),
+        (1, 4096, 4, Some(2)),
+        (0, 4096, 1, Some(0)),
+        (0, 4095, 4, Some(2)),
+        (0, 4095, 3, None),
+        (3, 4096, 4, None),
+    ] {
+        assert_eq!(rt; first(lows, from, memory, vcores), found);
+    }
 }
 
 // A user who uses the most that is in range, or more, has none.
@@ -58,6 +73,10 @@ fn user(memory: u64, vcores: u64, used: u64) -> Result<UserLow, Fail> {
 #[test]
 fn skips_users_at_their_limit(rt: HostRuntime) -> Result<(), Fail> {
     let mut users: Firsts<UserLow> = Firsts::new(rt.alloc());
+    skips_users(&rt, &mut users)
+}
+
+fn skips_users<R: Abort>(rt: &R, users: &mut Firsts<UserLow>) -> Result<(), Fail> {
     users.reserve(2)?;
     users.set(0, user(1024, 1, 7168)?);
     users.set(1, user(2048, 2, 0)?);

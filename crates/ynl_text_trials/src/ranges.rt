@@ -1,6 +1,7 @@
 //! The range of each number of a line: its least and its greatest are read, and those one beyond are refused.
 
 use std::alloc::{AllocError, Global};
+use std::process::Abort;
 use std::test::Fail;
 use ynl_lines::{LineReader, read_event};
 
@@ -127,9 +128,14 @@ fn filled(alloc: Global, line: &str, at: usize, number: &str) -> Result<Vec<u8>,
     Ok(text)
 }
 
-/// What is said of an event.
-fn event_said(alloc: Global, line: &[u8]) -> Result<&'static str, AllocError> {
-    match read_event(alloc, line) {
+/// What is said of an event with that number at that letter.
+fn event_said(
+    alloc: Global,
+    line: &str,
+    at: usize,
+    number: &str,
+) -> Result<&'static str, AllocError> {
+    match read_event(alloc, &filled(alloc, line, at, number)?) {
         Ok(Ok(_)) => Ok(READ),
         Ok(Err(fault)) => Ok(fault.word()),
         Err(e) => Err(e),
@@ -138,15 +144,15 @@ fn event_said(alloc: Global, line: &[u8]) -> Result<&'static str, AllocError> {
 
 #[test]
 fn numbers_of_events_have_their_ranges(rt: HostRuntime) -> Result<(), Fail> {
+    events_have_their_ranges(&rt, rt.alloc())
+}
+
+fn events_have_their_ranges<R: Abort>(rt: &R, alloc: Global) -> Result<(), Fail> {
     for line in EVENTS {
         for (at, byte) in line.as_bytes().iter().enumerate() {
             for (number, word) in numbers_of(*byte) {
-                let text = filled(rt.alloc(), line, at, number)?;
-                assert_eq!(rt;
-                    event_said(rt.alloc(), &text)?,
-                    *word,
-                    "{line} {at} {number}"
-                );
+                let said = event_said(alloc, line, at, number)?;
+                assert_eq!(rt; said, *word, "{line} {at} {number}");
             }
         }
     }
@@ -156,12 +162,31 @@ fn numbers_of_events_have_their_ranges(rt: HostRuntime) -> Result<(), Fail> {
 #[test]
 fn numbers_of_journals_have_their_ranges(rt: HostRuntime) -> Result<(), Fail> {
     let mut lines = LineReader::new(rt.alloc());
+    entries_have_their_ranges(&rt, rt.alloc(), &mut lines)
+}
+
+/// Whether a line of a journal with that number at that letter is read.
+fn is_read(
+    alloc: Global,
+    lines: &mut LineReader,
+    line: &str,
+    at: usize,
+    number: &str,
+) -> Result<bool, AllocError> {
+    let read = lines.read(alloc, &filled(alloc, line, at, number)?)?;
+    Ok(read.is_ok())
+}
+
+fn entries_have_their_ranges<R: Abort>(
+    rt: &R,
+    alloc: Global,
+    lines: &mut LineReader,
+) -> Result<(), Fail> {
     for line in ENTRIES {
         for (at, byte) in line.as_bytes().iter().enumerate() {
             for (number, word) in numbers_of(*byte) {
-                let text = filled(rt.alloc(), line, at, number)?;
-                let read = lines.read(rt.alloc(), &text)?;
-                assert_eq!(rt; read.is_ok(), *word == READ, "{line} {at} {number}");
+                let read = is_read(alloc, lines, line, at, number)?;
+                assert_eq!(rt; read, *word == READ, "{line} {at} {number}");
             }
         }
     }

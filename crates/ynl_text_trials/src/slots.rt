@@ -2,13 +2,14 @@
 
 ghost use Rattle.std.specs.Prelude.{◌<◌, OnOk};
 
-use std::alloc::AllocError;
+use std::alloc::{AllocError, Global};
+use std::process::Abort;
 use std::test::Fail;
 use ynl_slots::Slots;
 
 // Run with each allocation failing in turn: where memory is refused at the first try, which a line
 // tells, the second gives the room.
-fn reserve(rt: &HostRuntime, slots: &mut Slots<u32>) -> Result<(), Fail>
+fn reserve<R: Print>(rt: &R, slots: &mut Slots<u32>) -> Result<(), Fail>
     ensures { OnOk result (0 < slots.new.room) }
 {
     let first: Result<(), AllocError> = slots.reserve_one();
@@ -17,6 +18,16 @@ fn reserve(rt: &HostRuntime, slots: &mut Slots<u32>) -> Result<(), Fail>
         slots.reserve_one()?;
     }
     Ok(())
+}
+
+// These have no contract, so that the proof of a test is not made of what each call says.
+fn push(slots: &mut Slots<u32>, row: u32) -> Result<u32, AllocError> {
+    slots.reserve_one()?;
+    Ok(slots.push(row))
+}
+
+fn row_at(slots: &Slots<u32>, number: u32) -> Option<u32> {
+    slots.get(number).copied()
 }
 
 // What is under the number goes, if a row is.
@@ -39,48 +50,52 @@ fn raise(slots: &mut Slots<u32>, number: u32) -> Option<u32> {
 }
 
 // The rows, at the second try where memory is refused at the first.
-fn copies(rt: &HostRuntime, slots: &Slots<u32>) -> Result<Vec<u32>, Fail> {
-    if let Ok(rows) = slots.copies(rt.alloc()) {
+fn copies<R: Print>(rt: &R, alloc: Global, slots: &Slots<u32>) -> Result<Vec<u32>, Fail> {
+    if let Ok(rows) = slots.copies(alloc) {
         return Ok(rows);
     }
     println!(rt; "refused")?;
-    Ok(slots.copies(rt.alloc())?)
+    Ok(slots.copies(alloc)?)
 }
 
 #[test]
 fn fills_the_slot_that_was_freed(rt: HostRuntime) -> Result<(), Fail> {
     let mut slots: Slots<u32> = Slots::new(rt.alloc());
     assert!(rt; slots.is_empty());
-    slots.reserve_one()?;
-    let first = slots.push(10);
-    slots.reserve_one()?;
-    let second = slots.push(20);
+    fills(&rt, rt.alloc(), &mut slots)
+}
+
+fn fills<R: Abort>(rt: &R, alloc: Global, slots: &mut Slots<u32>) -> Result<(), Fail> {
+    let first = push(slots, 10)?;
+    let second = push(slots, 20)?;
     assert_eq!(rt; (first, second), (0, 1));
-    assert_eq!(rt; take(&mut slots, first), Some(10));
-    assert_eq!(rt; take(&mut slots, first), None);
-    assert_eq!(rt; raise(&mut slots, first), None);
-    slots.reserve_one()?;
-    assert_eq!(rt; slots.push(30), first);
-    slots.reserve_one()?;
-    assert_eq!(rt; slots.push(40), 2);
-    assert_eq!(rt; raise(&mut slots, second), Some(20));
-    assert_eq!(rt; slots.get(second).copied(), Some(21));
-    assert_eq!(rt; slots.get(first).copied(), Some(30));
-    assert_eq!(rt; slots.get(7).copied(), None);
+    assert_eq!(rt; take(slots, first), Some(10));
+    assert_eq!(rt; take(slots, first), None);
+    assert_eq!(rt; raise(slots, first), None);
+    assert_eq!(rt; push(slots, 30)?, first);
+    assert_eq!(rt; push(slots, 40)?, 2);
+    assert_eq!(rt; raise(slots, second), Some(20));
+    assert_eq!(rt; row_at(slots, second), Some(21));
+    assert_eq!(rt; row_at(slots, first), Some(30));
+    assert_eq!(rt; row_at(slots, 7), None);
     assert_eq!(rt; slots.len(), 3);
-    assert!(rt; slots.copies(rt.alloc())?.as_slice() == [21, 30, 40].as_slice());
+    assert!(rt; slots.copies(alloc)?.as_slice() == [21, 30, 40].as_slice());
     Ok(())
 }
 
 #[test]
 fn grows_at_the_second_try(rt: HostRuntime) -> Result<(), Fail> {
     let mut slots: Slots<u32> = Slots::new(rt.alloc());
+    grows(&rt, rt.alloc(), &mut slots)
+}
+
+fn grows<R: Print + Abort>(rt: &R, alloc: Global, slots: &mut Slots<u32>) -> Result<(), Fail> {
     for row in 0..6 {
-        reserve(&rt, &mut slots)?;
+        reserve(rt, slots)?;
         assert_eq!(rt; slots.push(10 * row), row);
     }
     assert_eq!(rt; slots.len(), 6);
-    assert_eq!(rt; take(&mut slots, 2), Some(20));
-    assert!(rt; copies(&rt, &slots)?.as_slice() == [0, 10, 30, 40, 50].as_slice());
+    assert_eq!(rt; take(slots, 2), Some(20));
+    assert!(rt; copies(rt, alloc, slots)?.as_slice() == [0, 10, 30, 40, 50].as_slice());
     Ok(())
 }

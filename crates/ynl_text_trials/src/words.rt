@@ -37,6 +37,14 @@ fn computes_amounts(rt: HostRuntime) {
     assert!(rt; b.fits_in(a) && !a.fits_in(b));
     assert_eq!(rt; a.scale_floor(3333, 10000).memory, 3);
     assert_eq!(rt; a.scale_ceil(3333, 10000).memory, 4);
+    assert!(rt; Hundredths::new(10000).is_some() && Hundredths::new(10001).is_none());
+    assert!(rt;
+        Refusal::BelowCapacity.number() == 28 && Refusal::NoSuchLabel.word() == "NoSuchLabel"
+    );
+}
+
+#[test]
+fn sizes_have_their_ranges(rt: HostRuntime) {
     for (memory, vcores, good) in [
         (1, 1, true),
         (4294967295, 65536, true),
@@ -47,8 +55,4 @@ fn computes_amounts(rt: HostRuntime) {
     ] {
         assert_eq!(rt; Size::new(memory, vcores).is_some(), good);
     }
-    assert!(rt; Hundredths::new(10000).is_some() && Hundredths::new(10001).is_none());
-    assert!(rt;
-        Refusal::BelowCapacity.number() == 28 && Refusal::NoSuchLabel.word() == "NoSuchLabel"
-    );
 }

@@ -2,9 +2,8 @@ use Rattle.std.proofs.Common.{◌∙◌, None, IfSome, map, sym, ap, subst}
 use Rattle.std.specs.BTreeMap.{get}
 use Rattle.ynl_resource.specs.Names.{name_order}
 use Rattle.ynl_slots.specs.Slots.{without}
-use Rattle.ynl_lane.specs.Changes.{nothing_waits}
 use Rattle.ynl_lane.specs.Fields.{seat_of, name_by, AreUsersOf, IsReady}
-use Rattle.ynl_lane.specs.Seats.{Seats}
+use Rattle.ynl_lane.specs.Seats.{Seats, nothing_waits}
 use Rattle.ynl_lane.proofs.Keeping.{live_shown, is_none, users_closed, seats_closed, left_live, left_idle, left_some, gone_live, gone_users, gone_seats, gone_none, gone_other, gone_named, without_idle}
 use Rattle.ynl_lane.proofs.lane.Lane.remove.Goals as goal
 
