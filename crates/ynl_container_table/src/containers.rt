@@ -126,7 +126,8 @@ impl Containers {
     pub fn first_of_node(&self, chain: &Chain) -> Option<u32>
         ensures { IsFirstOfNode self.now chain.now result }
     {
-        let _rows = &self.rows;
+        // Opens the table, in which no two containers have one number.
+        let _ = &self.rows;
         chain.first()
     }
 
@@ -134,7 +135,8 @@ impl Containers {
     pub fn first_of_app(&self, chain: &Chain) -> Option<u32>
         ensures { IsFirstOfApp self.now chain.now result }
     {
-        let _rows = &self.rows;
+        // Opens the table, as for a node.
+        let _ = &self.rows;
         chain.first()
     }
 
