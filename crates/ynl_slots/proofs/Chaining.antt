@@ -28,11 +28,11 @@ all_last_from P x [] n p h is = subst P (same_Some x n is) p
 all_last_from P x (y ∷ ys) n p h is = all_last_from P y ys n h.0 h.1 is
 
 -- what holds of all holds of the last
-all_last : (P : ℕ → Type 0) (xs : List ℕ) (n : ℕ) → AllByRecursion P xs → last_or None xs ≡ Some n → P n
+pub all_last : (P : ℕ → Type 0) (xs : List ℕ) (n : ℕ) → AllByRecursion P xs → last_or None xs ≡ Some n → P n
 all_last P [] n h is = absurd (none-some n is)
 all_last P (x ∷ xs) n h is = all_last_from P x xs n h.0 h.1 is
 
-all_first : (P : ℕ → Type 0) (xs : List ℕ) (n : ℕ) → AllByRecursion P xs → first_or None xs ≡ Some n → P n
+pub all_first : (P : ℕ → Type 0) (xs : List ℕ) (n : ℕ) → AllByRecursion P xs → first_or None xs ≡ Some n → P n
 all_first P [] n h is = absurd (none-some n is)
 all_first P (x ∷ xs) n h is = subst P (same_Some x n is) h.0
 
@@ -70,7 +70,7 @@ distinct_join (x ∷ xs) ys d e a = (all_append (λ m. m ≢ x) xs ys d.0 a.0, d
 
 -- ---- runs
 
-run_same : (at new : ℕ → Option Links) (before : Option ℕ) (xs : List ℕ) (after : Option ℕ) → AllByRecursion (λ n. new n ≡ at n) xs → IsRun at before xs after → IsRun new before xs after
+pub run_same : (at new : ℕ → Option Links) (before : Option ℕ) (xs : List ℕ) (after : Option ℕ) → AllByRecursion (λ n. new n ≡ at n) xs → IsRun at before xs after → IsRun new before xs after
 run_same at new before [] after h r = tt
 run_same at new before (x ∷ xs) after h r = (h.0 ∙ r.0, run_same at new (Some x) xs after h.1 r.1)
 
@@ -123,7 +123,7 @@ module _ {X : Type 0} (links : X → Links) (with_links : X → Links → X) (la
       one (Some r) = ap (λ l. Some l) (law r (to (links r)))
 
 module _ {X : Type 0} where
-  numbers_stay : (number : ℕ) (row : X) (es : List (ℕ × X)) → map (λ e. e.0) (with_row number row es) ≡ map (λ (e : ℕ × X). e.0) es
+  pub numbers_stay : (number : ℕ) (row : X) (es : List (ℕ × X)) → map (λ e. e.0) (with_row number row es) ≡ map (λ (e : ℕ × X). e.0) es
   numbers_stay number row [] = refl
   numbers_stay number row (e ∷ es) = go (nat_eq number e.0) (numbers_stay number row es)
     where
@@ -293,7 +293,7 @@ last_live links entries chain ns n c is =
     all_last (λ m. IsLive m entries) ns n (all_live links entries None ns None c.run) (sym c.last ∙ is)
 
 -- the links of a number between others name the ones beside it
-beside : (at : ℕ → Option Links) (front : List ℕ) (k : ℕ) (back : List ℕ) (chain : Chain) → IsChain at chain (front ++ k ∷ back) → at k ≡ Some (record { prev = last_or None front; next = first_or None back })
+pub beside : (at : ℕ → Option Links) (front : List ℕ) (k : ℕ) (back : List ℕ) (chain : Chain) → IsChain at chain (front ++ k ∷ back) → at k ≡ Some (record { prev = last_or None front; next = first_or None back })
 beside at front k back chain c = (run_back at None front (k ∷ back) None c.run).0
 
 module _ {X : Type 0} (links : X → Links) (entries : List (ℕ × X)) (chain : Chain) (front : List ℕ) (k : ℕ) (back : List ℕ) (c : IsChain (links_at links entries) chain (front ++ k ∷ back)) where

@@ -1,6 +1,7 @@
 pub mod Lists
 pub mod FreeList
 pub mod Lookups
+pub mod Entries
 pub mod Pushes
 pub mod Room
 pub mod Calls

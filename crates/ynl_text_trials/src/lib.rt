@@ -5,6 +5,8 @@
 #[cfg(test)]
 mod configurations;
 #[cfg(test)]
+mod containers;
+#[cfg(test)]
 mod controls;
 #[cfg(test)]
 mod firsts;
@@ -18,6 +20,8 @@ mod lanes;
 mod limits;
 #[cfg(test)]
 mod lines;
+#[cfg(test)]
+mod nodes;
 #[cfg(test)]
 mod queues;
 #[cfg(test)]

@@ -1,0 +1,6 @@
+pub mod Numbers
+pub mod Rows
+pub mod Linking
+pub mod Clocks
+pub mod Placing
+pub mod Removing

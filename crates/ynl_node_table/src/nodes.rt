@@ -1,0 +1,183 @@
+//! The nodes of a cluster.
+
+ghost use Rattle.std.specs.Prelude.{◌≡◌, ◌++◌, ◌∷◌, [], length, nat_eq, option_copied, option_map, Some, None, IsTrue, IfOk, IfSome, OnErr};
+ghost use Rattle.std.specs.Map.{lookup};
+ghost use Rattle.ynl_resource.specs.Amounts.{plus, less, fits_in, IsSmall};
+ghost use Rattle.ynl_slots.specs.Slots.{IsLive, IsUnused, HasDistinctNumbers, without};
+ghost use Rattle.ynl_node_table.specs.Nodes.{HasDistinctNames, Joins, number_of, with_change};
+
+use std::alloc::{AllocError, Global};
+use std::collections::BTreeMap;
+use std::marker::Model;
+use std::ops::Index;
+use ynl_resource::{Name, Resource, Size};
+use ynl_slots::{Chain, Slots};
+
+/// A node. Its partition is given by its number, as that of a container's request is.
+#[derive(Clone, Copy)]
+pub struct NodeRow {
+    pub name: Name,
+    pub partition: u8,
+    /// In MB and virtual cores.
+    pub size: Size,
+    /// What no container uses of it.
+    pub free: Resource,
+    /// The clock of the partition after the node's last change.
+    pub stamp: u64,
+    /// The chain of its containers.
+    pub containers: Chain,
+}
+
+/// The nodes of a cluster under numbers, no two of one name. A node is found by its number in constant time, and by its name
+/// in few steps, whatever names there are. A contract sees the nodes under their numbers, in the order of joining.
+#[derive(Drop)]
+pub struct Nodes {
+    rows: Slots<NodeRow>,
+    numbers: BTreeMap<Name, u32>,
+}
+
+impl Model for Nodes {
+    ghost use Rattle.std.specs.Prelude.{List, ℕ};
+    ghost use Rattle.ynl_node_table.specs.declared.nodes.NodeRow.{NodeRow};
+
+    ghost Value = { List (ℕ × NodeRow) };
+
+    ghost use Rattle.ynl_node_table.specs.Fields.{IsKept};
+
+    ghost view = { λ a. a.rows.entries };
+
+    ghost invariant = { IsKept };
+}
+
+impl Nodes {
+    /// No nodes. It takes no memory.
+    pub fn new(alloc: Global) -> Nodes
+        ensures { result ≡ [] }
+    {
+        Nodes {
+            rows: Slots::new(alloc),
+            numbers: BTreeMap::new(alloc),
+        }
+    }
+
+    /// How many nodes there are.
+    pub fn len(&self) -> usize
+        ensures value { result ≡ length self.now }
+        ensures distinct { HasDistinctNumbers self.now }
+        ensures names { HasDistinctNames self.now }
+    {
+        self.rows.len()
+    }
+
+    /// The node under a number, if there is one.
+    pub fn get(&self, number: u32) -> Option<&NodeRow>
+        ensures { option_copied result ≡ lookup (nat_eq number) self.now }
+    {
+        self.rows.get(number)
+    }
+
+    /// The number of the node of a name, if there is one.
+    pub fn find(&self, name: &Name) -> Option<u32>
+        ensures value { result ≡ number_of name.now self.now }
+        ensures own { IfSome result (λ n.
+            option_map (λ node. node.name) (lookup (nat_eq n) self.now) ≡ Some name.now) }
+    {
+        self.numbers.get(name).copied()
+    }
+
+    /// A node comes last, with all of it free and no containers. It returns the number. It fails if memory is refused, if there
+    /// are 2^32 - 1 nodes, and after 2^64 - 1 calls.
+    pub fn join(
+        &mut self,
+        name: &Name,
+        partition: u8,
+        size: Size,
+        stamp: u64,
+    ) -> Result<u32, AllocError>
+        requires { number_of name.now self.old ≡ None }
+        ensures ok { IfOk result (λ n. Joins n name.now partition size stamp self.old self.new) }
+        ensures err { OnErr result (self.new ≡ self.old) }
+    {
+        self.rows.reserve_one()?;
+        let number = self.rows.push(NodeRow {
+            name: *name,
+            partition,
+            size,
+            free: size.amount(),
+            stamp,
+            containers: Chain::new(),
+        });
+        match self.numbers.insert(*name, number) {
+            Ok(_) => Ok(number),
+            Err(_) => {
+                let _row = self.rows.remove(number);
+                Err(AllocError)
+            }
+        }
+    }
+
+    /// Takes out the node under a number. It takes no memory.
+    pub fn leave(&mut self, number: u32) -> NodeRow
+        requires { IsLive number self.old }
+        ensures value { lookup (nat_eq number) self.old ≡ Some result }
+        ensures nodes { self.new ≡ without number self.old }
+    {
+        let row = self.rows.remove(number);
+        let _number = self.numbers.remove(&row.name);
+        row
+    }
+
+    /// Sets the stamp of a node.
+    pub fn set_stamp(&mut self, number: u32, stamp: u64)
+        requires { IsLive number self.old }
+        ensures { self.new ≡ with_change number (λ node. record node { stamp = stamp }) self.old }
+    {
+        let row = &mut self.rows[number];
+        row.stamp = stamp;
+    }
+
+    /// Sets the chain of a node's containers.
+    pub fn set_containers(&mut self, number: u32, chain: Chain)
+        requires { IsLive number self.old }
+        ensures { self.new ≡ with_change number (λ node. record node { containers = chain }) self.old }
+    {
+        let row = &mut self.rows[number];
+        row.containers = chain;
+    }
+
+    /// A container of this size takes free room of a node.
+    pub fn take(&mut self, number: u32, size: Size)
+        requires live { IsLive number self.old }
+        requires room { IfSome (lookup (nat_eq number) self.old)
+            (λ node. IsTrue (fits_in size node.free)) }
+        ensures { self.new ≡ with_change number (λ node.
+            record node { free = less node.free size }) self.old }
+    {
+        let row = &mut self.rows[number];
+        row.free = row.free.sub(size.amount());
+    }
+
+    /// A container of this size gives its room on a node back.
+    pub fn give(&mut self, number: u32, size: Size)
+        requires live { IsLive number self.old }
+        requires small { IfSome (lookup (nat_eq number) self.old)
+            (λ node. IsSmall (plus node.free size)) }
+        ensures { self.new ≡ with_change number (λ node.
+            record node { free = plus node.free size }) self.old }
+    {
+        let row = &mut self.rows[number];
+        row.free = row.free.add(size.amount());
+    }
+}
+
+impl Index<u32> for Nodes {
+    type Output = NodeRow;
+
+    ghost can_index = { λ nodes number. IsLive number nodes };
+
+    ghost index_gives = { λ nodes number node. lookup (nat_eq number) nodes ≡ Some node };
+
+    fn index(&self, number: u32) -> &NodeRow {
+        &self.rows[number]
+    }
+}
