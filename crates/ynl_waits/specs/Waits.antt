@@ -103,10 +103,14 @@ nodes_told own = if has_nodes own then [] else reason.Nodes ∷ []
 abbrev pub clock_told : Ground → List Reason
 clock_told ground = if ground.is_spent then reason.Clock ground.label ∷ [] else []
 
+-- whether a queue's use with its size is within the queue's maximum
+abbrev pub keeps_maximum : State → Request → Path → Bool
+keeps_maximum s request queue = fits_in (plus (used s queue request.label) request.size) (maximum s queue request.label)
+
 -- a queue's use with its size is not within the queue's maximum
 abbrev pub maximum_of_told : State → Applicant → Request → Path → List Reason
 maximum_of_told s app request queue =
-    if fits_in (plus (used s queue request.label) request.size) (maximum s queue request.label)
+    if keeps_maximum s request queue
     then []
     else reason.Maximum (step_to app.leaf queue) (used s queue request.label) (maximum s queue request.label) ∷ []
 
