@@ -1,0 +1,10 @@
+use Rattle.std.proofs.Common.{◌≡◌, ◌++◌, take, map}
+use Rattle.ynl_waits.specs.Choices.{AreChoices}
+use Rattle.ynl_reasons.specs.Facts.{ask_wait}
+use Rattle.ynl_reasons.proofs.explaining.add_asks.Given as goal
+
+abbrev pub invariant-loop-ask : goal.invariant-loop-ask
+invariant-loop-ask g l = record {
+  so_far : l.waits.items ≡ l.initial.waits.items ++ map (ask_wait (g.F.Facts.config l.facts) (g.F.Facts.state l.facts) l.query.app.now l.label) (take l.ask-index l.asks);
+  known : AreChoices (g.F.Facts.config l.facts) (g.F.Facts.state l.facts) l.known;
+}

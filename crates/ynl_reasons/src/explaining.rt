@@ -1,0 +1,208 @@
+//! Why the requests of an application wait.
+
+ghost use Rattle.std.specs.Prelude.{◌≡◌, ◌++◌, ◌∷◌, [], IfOk, OnOk, Some, map};
+ghost use Rattle.std.specs.List.{flat_map};
+ghost use Rattle.ynl_model.specs.Applications.{Application, find_app};
+ghost use Rattle.ynl_model.specs.Nodes.{partition_labels};
+ghost use Rattle.ynl_waits.specs.Choices.{AreChoices};
+ghost use Rattle.ynl_waits.specs.Grounds.{all_spots, ground, guest_grounds};
+ghost use Rattle.ynl_waits.specs.Waits.{applicant, explained_of, requests, wait};
+ghost use Rattle.ynl_model.specs.declared.proposals.What.TheVariants.{Ask};
+ghost use Rattle.ynl_reasons.specs.Facts.{ask_wait, asks_waiting, found_of, masters_waiting};
+
+use crate::facts::{Facts, Found};
+use crate::grounds::{ground_of, guests_of};
+use crate::telling::reasons_of;
+use std::alloc::{AllocError, Global};
+use ynl_model::{Items, Pending, What};
+use ynl_resource::{Label, Name, Refusal};
+use ynl_waits::{Applicant, Choices, Explained, Ground, Request, Spot, Wait};
+
+/// Adds a request with its reasons.
+fn add_wait<F: Facts>(
+    alloc: Global,
+    facts: &F,
+    known: &mut Choices,
+    app: &Applicant,
+    request: &Request,
+    own: &Ground,
+    guests: &[Ground],
+    waits: &mut Vec<Wait>,
+) -> Result<(), AllocError>
+    requires known { AreChoices (F.config facts.now) (F.state facts.now) known.old }
+    requires own { own.now ≡ ground (F.config facts.now) (F.state facts.now) request.now.label }
+    requires guests { guests.now ≡ guest_grounds (F.config facts.now) (F.state facts.now) request.now.what }
+    ensures waits { OnOk result (waits.new.items ≡ waits.old.items ++ wait (F.config facts.now) (F.state facts.now) app.now request.now ∷ []) }
+    ensures known { AreChoices (F.config facts.now) (F.state facts.now) known.new }
+{
+    waits.reserve(1)?;
+    let reasons = reasons_of(alloc, facts, known, app, request, own, guests)?;
+    waits.push_reserved(Wait {
+        request: *request,
+        reasons: Items::new(reasons),
+    });
+    Ok(())
+}
+
+/// Whose requests are explained, and the nodes there are.
+#[derive(Clone, Copy)]
+struct Query<'a> {
+    alloc: Global,
+    tenant: &'a Name,
+    name: &'a Name,
+    app: &'a Applicant,
+    spots: &'a [Spot],
+}
+
+/// Adds the request for the master, where the application waits.
+fn add_master<F: Facts>(
+    facts: &F,
+    known: &mut Choices,
+    query: &Query<'_>,
+    found: &Found,
+    waits: &mut Vec<Wait>,
+) -> Result<(), AllocError>
+    requires known { AreChoices (F.config facts.now) (F.state facts.now) known.old }
+    requires spots { query.now.spots.now ≡ all_spots (F.state facts.now) }
+    ensures waits { OnOk result (waits.new.items ≡ waits.old.items ++ masters_waiting (F.config facts.now) (F.state facts.now) found.now) }
+    ensures known { AreChoices (F.config facts.now) (F.state facts.now) known.new }
+{
+    if found.applicant.runs {
+        return Ok(());
+    }
+    let alloc = query.alloc;
+    let request = Request {
+        what: What::Master,
+        label: found.home,
+        size: found.master,
+        count: 1,
+    };
+    let own = ground_of(alloc, facts, query.spots, &found.home)?;
+    let guests = guests_of(alloc, facts, query.spots, &What::Master)?;
+    let app = &found.applicant;
+    add_wait(alloc, facts, known, app, &request, &own, &guests, waits)
+}
+
+/// Adds the requests of asks under a label.
+fn add_asks<F: Facts>(
+    facts: &F,
+    known: &mut Choices,
+    query: &Query<'_>,
+    own: &Ground,
+    guests: &[Ground],
+    label: &Label,
+    asks: &[Pending],
+    waits: &mut Vec<Wait>,
+) -> Result<(), AllocError>
+    requires known { AreChoices (F.config facts.now) (F.state facts.now) known.old }
+    requires own { own.now ≡ ground (F.config facts.now) (F.state facts.now) label.now }
+    requires guests { guests.now ≡ guest_grounds (F.config facts.now) (F.state facts.now) (Ask label.now 0) }
+    ensures waits { OnOk result (waits.new.items ≡ waits.old.items ++ map (ask_wait (F.config facts.now) (F.state facts.now) query.now.app.now label.now) asks.now) }
+    ensures known { AreChoices (F.config facts.now) (F.state facts.now) known.new }
+{
+    for ask in asks {
+        let request = Request {
+            what: What::Ask(*label, ask.priority),
+            label: *label,
+            size: ask.size,
+            count: ask.count,
+        };
+        add_wait(
+            query.alloc,
+            facts,
+            known,
+            query.app,
+            &request,
+            own,
+            guests,
+            waits,
+        )?;
+    }
+    Ok(())
+}
+
+/// Adds what an application asks for under a label.
+fn add_label<F: Facts>(
+    facts: &F,
+    known: &mut Choices,
+    query: &Query<'_>,
+    label: &Label,
+    waits: &mut Vec<Wait>,
+) -> Result<(), AllocError>
+    requires known { AreChoices (F.config facts.now) (F.state facts.now) known.old }
+    requires spots { query.now.spots.now ≡ all_spots (F.state facts.now) }
+    ensures waits { OnOk result ((live : Application) → find_app (F.state facts.now).leaves query.now.tenant.now query.now.name.now ≡ Some live → waits.new.items ≡ waits.old.items ++ asks_waiting (F.config facts.now) (F.state facts.now) query.now.app.now live label.now) }
+    ensures known { AreChoices (F.config facts.now) (F.state facts.now) known.new }
+{
+    let alloc = query.alloc;
+    let asks = facts.asks(alloc, query.tenant, query.name, label)?;
+    if asks.is_empty() {
+        return Ok(());
+    }
+    let own = ground_of(alloc, facts, query.spots, label)?;
+    let guests = guests_of(alloc, facts, query.spots, &What::Ask(*label, 0))?;
+    add_asks(facts, known, query, &own, &guests, label, &asks, waits)
+}
+
+/// Adds what an application asks for under some labels.
+fn add_labels<F: Facts>(
+    facts: &F,
+    known: &mut Choices,
+    query: &Query<'_>,
+    labels: &[Label],
+    waits: &mut Vec<Wait>,
+) -> Result<(), AllocError>
+    requires known { AreChoices (F.config facts.now) (F.state facts.now) known.old }
+    requires spots { query.now.spots.now ≡ all_spots (F.state facts.now) }
+    ensures waits { OnOk result ((live : Application) → find_app (F.state facts.now).leaves query.now.tenant.now query.now.name.now ≡ Some live → waits.new.items ≡ waits.old.items ++ flat_map (asks_waiting (F.config facts.now) (F.state facts.now) query.now.app.now live) labels.now) }
+    ensures known { AreChoices (F.config facts.now) (F.state facts.now) known.new }
+{
+    for label in labels {
+        add_label(facts, known, query, label, waits)?;
+    }
+    Ok(())
+}
+
+/// The requests of a live application with their reasons.
+fn waits_of<F: Facts>(
+    alloc: Global,
+    facts: &F,
+    tenant: &Name,
+    name: &Name,
+    found: &Found,
+) -> Result<Vec<Wait>, AllocError>
+    ensures { IfOk result (λ waits. (live : Application) → find_app (F.state facts.now).leaves tenant.now name.now ≡ Some live → found.now ≡ found_of (F.state facts.now) live → waits.items ≡ map (wait (F.config facts.now) (F.state facts.now) (applicant (F.state facts.now) live)) (requests (F.config facts.now) (F.state facts.now) live)) }
+{
+    let mut known = Choices::new(alloc);
+    let mut waits = Vec::new(alloc);
+    let spots = facts.spots(alloc)?;
+    let labels = facts.labels(alloc)?;
+    let query = Query {
+        alloc,
+        tenant,
+        name,
+        app: &found.applicant,
+        spots: &spots,
+    };
+    add_master(facts, &mut known, &query, found, &mut waits)?;
+    add_labels(facts, &mut known, &query, &labels, &mut waits)?;
+    Ok(waits)
+}
+
+/// Why the requests of a tenant's application wait, where it has a live one of that name. One choice is made for each
+/// partition and free room, and shared; none for nodes on which no request of the application may be placed.
+#[tactic(auto, unfolding(ynl_waits::specs::Waits::explained_of))]
+pub fn explain<F: Facts>(
+    alloc: Global,
+    facts: &F,
+    tenant: &Name,
+    name: &Name,
+) -> Result<Explained, AllocError>
+    ensures { IfOk result (λ explained. explained ≡ explained_of (F.config facts.now) (F.state facts.now) tenant.now name.now) }
+{
+    let Some(found) = facts.find(tenant, name) else {
+        return Ok(Explained::Refused(Refusal::NoSuchApplication));
+    };
+    let waits = waits_of(alloc, facts, tenant, name, &found)?;
+    Ok(Explained::Waits(Items::new(waits)))
+}

@@ -1,0 +1,103 @@
+//! What is told of a request.
+
+ghost use Rattle.std.specs.Prelude.{◌≡◌, ◌++◌, IfOk, OnOk};
+ghost use Rattle.std.specs.List.{AllByRecursion};
+ghost use Rattle.ynl_waits.specs.Choices.{AreChoices};
+ghost use Rattle.ynl_waits.specs.Grounds.{IsSpot, ground, guest_grounds};
+ghost use Rattle.ynl_waits.specs.Waits.{held_back, reasons, told_by, turn_told};
+
+use crate::choosing::{choice_on, chosen_among};
+use crate::facts::Facts;
+use crate::limits::{add_limits, passes};
+use std::alloc::{AllocError, Global};
+use ynl_waits::{
+    Applicant, Choices, Ground, Reason, Request, Spot, add_next, add_rooms, add_turn, add_where,
+    first_by_name, places,
+};
+
+/// Adds all that keeps a request from being placed, of where it may go and of the limits.
+#[tactic(auto, unfolding(ynl_waits::specs::Waits::held_back))]
+fn add_held_back<F: Facts>(
+    facts: &F,
+    app: &Applicant,
+    request: &Request,
+    own: &Ground,
+    guests: &[Ground],
+    told: &mut Vec<Reason>,
+) -> Result<(), AllocError>
+    ensures { OnOk result (told.new.items ≡ told.old.items ++ held_back (F.config facts.now) (F.state facts.now) app.now request.now own.now guests.now) }
+{
+    add_where(told, app, request, own, guests)?;
+    add_limits(facts, app, request, own, told)?;
+    add_rooms(told, &request.size.amount(), own, guests)
+}
+
+/// Adds whose turn it is on the first of the nodes on which a request may be placed, where there are any.
+fn add_turn_on<F: Facts>(
+    facts: &F,
+    known: &mut Choices,
+    there: &[Spot],
+    told: &mut Vec<Reason>,
+) -> Result<(), AllocError>
+    requires known { AreChoices (F.config facts.now) (F.state facts.now) known.old }
+    requires spots { AllByRecursion (IsSpot (F.state facts.now)) there.now }
+    ensures told { OnOk result (told.new.items ≡ told.old.items ++ turn_told (F.config facts.now) (F.state facts.now) there.now) }
+    ensures known { AreChoices (F.config facts.now) (F.state facts.now) known.new }
+{
+    let Some(first) = first_by_name(there) else {
+        return Ok(());
+    };
+    match choice_on(facts, known, first)? {
+        Some(ahead) => add_turn(told, first, there, &ahead),
+        None => Ok(()),
+    }
+}
+
+/// What is told of a request, by the nodes on which it may be placed.
+#[tactic(auto, unfolding(ynl_waits::specs::Waits::told_by))]
+fn told_by<F: Facts>(
+    alloc: Global,
+    facts: &F,
+    known: &mut Choices,
+    app: &Applicant,
+    request: &Request,
+    own: &Ground,
+    guests: &[Ground],
+    there: &[Spot],
+) -> Result<Vec<Reason>, AllocError>
+    requires known { AreChoices (F.config facts.now) (F.state facts.now) known.old }
+    requires spots { AllByRecursion (IsSpot (F.state facts.now)) there.now }
+    ensures told { IfOk result (λ told. told.items ≡ told_by (F.config facts.now) (F.state facts.now) app.now request.now own.now guests.now there.now) }
+    ensures known { AreChoices (F.config facts.now) (F.state facts.now) known.new }
+{
+    let mut told = Vec::new(alloc);
+    let chosen = chosen_among(alloc, facts, known, app, request, there)?;
+    add_next(&mut told, &chosen)?;
+    if told.is_empty() {
+        add_held_back(facts, app, request, own, guests, &mut told)?;
+        add_turn_on(facts, known, there, &mut told)?;
+    }
+    Ok(told)
+}
+
+/// The reasons of a request, by the partitions where it may go.
+#[tactic(auto, unfolding(ynl_waits::specs::Waits::reasons))]
+pub(crate) fn reasons_of<F: Facts>(
+    alloc: Global,
+    facts: &F,
+    known: &mut Choices,
+    app: &Applicant,
+    request: &Request,
+    own: &Ground,
+    guests: &[Ground],
+) -> Result<Vec<Reason>, AllocError>
+    requires known { AreChoices (F.config facts.now) (F.state facts.now) known.old }
+    requires own { own.now ≡ ground (F.config facts.now) (F.state facts.now) request.now.label }
+    requires guests { guests.now ≡ guest_grounds (F.config facts.now) (F.state facts.now) request.now.what }
+    ensures told { IfOk result (λ told. told.items ≡ reasons (F.config facts.now) (F.state facts.now) app.now request.now) }
+    ensures known { AreChoices (F.config facts.now) (F.state facts.now) known.new }
+{
+    let passes = passes(facts, app, request);
+    let there = places(alloc, app, request, passes, own, guests)?;
+    told_by(alloc, facts, known, app, request, own, guests, &there)
+}

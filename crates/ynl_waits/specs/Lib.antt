@@ -1,0 +1,4 @@
+pub mod Steps
+pub mod Grounds
+pub mod Choices
+pub mod Waits
