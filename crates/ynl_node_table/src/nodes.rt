@@ -4,7 +4,7 @@ ghost use Rattle.std.specs.Prelude.{◌≡◌, ◌++◌, ◌∷◌, [], length, 
 ghost use Rattle.std.specs.Map.{lookup};
 ghost use Rattle.ynl_resource.specs.Amounts.{plus, less, fits_in, IsSmall};
 ghost use Rattle.ynl_slots.specs.Slots.{IsLive, IsUnused, HasDistinctNumbers, without};
-ghost use Rattle.ynl_node_table.specs.Nodes.{HasDistinctNames, Joins, number_of, with_change};
+ghost use Rattle.ynl_node_table.specs.Nodes.{HasDistinctNames, Joins, Rejoins, number_of, with_change};
 
 use std::alloc::{AllocError, Global};
 use std::collections::BTreeMap;
@@ -113,6 +113,29 @@ impl Nodes {
                 let _row = self.rows.remove(number);
                 Err(AllocError)
             }
+        }
+    }
+
+    /// A node comes last again, on another partition, with all of it free and no containers. It returns the number. It fails
+    /// where `join` does.
+    pub fn rejoin(&mut self, number: u32, partition: u8, stamp: u64) -> Result<u32, AllocError>
+        requires { IsLive number self.old }
+        ensures ok { IfOk result (λ n. Rejoins number n partition stamp self.old self.new) }
+        ensures err { OnErr result (self.new ≡ self.old) }
+    {
+        self.rows.reserve_one()?;
+        let was = self.rows.remove(number);
+        let last = self.rows.push(NodeRow {
+            name: was.name,
+            partition,
+            size: was.size,
+            free: was.size.amount(),
+            stamp,
+            containers: Chain::new(),
+        });
+        match self.numbers.insert(was.name, last) {
+            Ok(_) => Ok(last),
+            Err(_) => unreachable!(),
         }
     }
 
