@@ -153,7 +153,8 @@ impl Nodes {
     /// Sets the stamp of a node.
     pub fn set_stamp(&mut self, number: u32, stamp: u64)
         requires { IsLive number self.old }
-        ensures { self.new ≡ with_change number (λ node. record node { stamp = stamp }) self.old }
+        ensures { self.new ≡ with_change number (λ node.
+            record node { stamp = stamp }) self.old }
     {
         let row = &mut self.rows[number];
         row.stamp = stamp;
@@ -162,7 +163,8 @@ impl Nodes {
     /// Sets the chain of a node's containers.
     pub fn set_containers(&mut self, number: u32, chain: Chain)
         requires { IsLive number self.old }
-        ensures { self.new ≡ with_change number (λ node. record node { containers = chain }) self.old }
+        ensures { self.new ≡ with_change number (λ node.
+            record node { containers = chain }) self.old }
     {
         let row = &mut self.rows[number];
         row.containers = chain;
