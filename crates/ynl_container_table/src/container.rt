@@ -12,7 +12,7 @@ pub enum Role {
 }
 
 /// A container. Its node and its application are given by their numbers.
-#[derive(Clone, Copy, PartialEq, Eq)]
+#[derive(Clone, Copy)]
 pub struct Container {
     /// The clock of the partition after the placement.
     pub clock: u64,

@@ -1,5 +1,5 @@
 -- What the nodes keep while one comes, goes or changes.
-use Rattle.std.proofs.Common.{◌≡◌, ◌≢◌, ℕ, Bool, true, false, cond, List, [], ◌∷◌, ◌++◌, Option, Some, None, nat_eq, refl, sym, ap, subst, ◌∙◌, arith}
+use Rattle.std.proofs.Common.{◌≡◌, ◌≢◌, ℕ, Bool, true, false, cond, List, [], ◌∷◌, ◌++◌, Option, Some, None, option_map, nat_eq, refl, sym, ap, subst, ◌∙◌, arith}
 use Rattle.std.specs.List.{AllByRecursion}
 use Rattle.std.specs.Map.{lookup}
 use Rattle.std.specs.BTreeMap.{BTreeMap, get, is_at}
@@ -18,7 +18,7 @@ use Rattle.ynl_node_table.specs.declared.nodes.NodeRow.{NodeRow}
 use Rattle.ynl_node_table.specs.declared.nodes.Nodes.TheInside.{Inside}
 use Rattle.ynl_node_table.specs.Fields.{IsKept}
 use Rattle.ynl_node_table.specs.Nodes.{HasDistinctNames, by_name, number_of, no_chain, with_change}
-use Rattle.ynl_node_table.proofs.Names.{at_same, names_pushed, number-pushed, names_without, number-without}
+use Rattle.ynl_node_table.proofs.Names.{at_same, names_pushed, number-pushed, names_without, number-without, number_there, unnamed_without}
 
 -- what a push of a new node leaves
 pub joined : (pushed reserved old : List (ℕ × NodeRow)) (n : ℕ) (name : Name) (partition : ℕ) (size : Resource) (stamp : ℕ) (free : Resource) (chain : Chain)
@@ -39,6 +39,25 @@ changed n row change (e ∷ nodes) only = go (nat_eq n e.0) refl (changed n row 
         let same : n ≡ e.0 = grind (arith, nat_tests) in
         ap (λ (x : NodeRow). (e.0, change x) ∷ with_row n (change row) nodes) (sym (only.0 (sym same))) ∙ ap (λ es. (e.0, change e.1) ∷ es) r
     go false q r = ap (λ es. e ∷ es) r
+
+-- what is under a number after a change, for callers
+pub lookup-with_change : (m n : ℕ) (change : NodeRow → NodeRow) (nodes : List (ℕ × NodeRow)) → lookup (nat_eq m) (with_change n change nodes) ≡ cond (nat_eq m n) (option_map change (lookup (nat_eq m) nodes)) (lookup (nat_eq m) nodes)
+lookup-with_change m n change [] = either (nat_eq m n)
+  where
+    either : (b : Bool) → ◌≡◌ {A = Option NodeRow} None (cond b None None)
+    either true = refl
+    either false = refl
+lookup-with_change m n change (e ∷ nodes) = go (nat_eq n e.0) refl (nat_eq m e.0) refl (nat_eq m n) refl (lookup-with_change m n change nodes)
+  where
+    go : (a : Bool) → nat_eq n e.0 ≡ a → (b : Bool) → nat_eq m e.0 ≡ b → (c : Bool) → nat_eq m n ≡ c
+        → lookup (nat_eq m) (with_change n change nodes) ≡ cond (nat_eq m n) (option_map change (lookup (nat_eq m) nodes)) (lookup (nat_eq m) nodes)
+        → lookup (nat_eq m) (cond a (e.0, change e.1) e ∷ with_change n change nodes) ≡ cond (nat_eq m n) (option_map change (cond b (Some e.1) (lookup (nat_eq m) nodes))) (cond b (Some e.1) (lookup (nat_eq m) nodes))
+    go true o true p true q k = rw (p, q) refl
+    go true o true p false q k = absurd (grind (arith, nat_tests))
+    go true o false p c q k = rw p k
+    go false o true p true q k = absurd (grind (arith, nat_tests))
+    go false o true p false q k = rw (p, q) refl
+    go false o false p c q k = rw p k
 
 named_alike : (n : ℕ) (row next : NodeRow) (nodes : List (ℕ × NodeRow)) → IsOnly n row nodes → next.name ≡ row.name → by_name (with_row n next nodes) ≡ by_name nodes
 named_alike n row next [] only is = refl
@@ -109,6 +128,31 @@ module _ (a : Inside) (h : IsKept a) where
         ∙ ap (λ (o : Option ℕ). let p : Option ℕ = cond (same_name row.name q) None o in p) (h.found q)
         ∙ sym (number-without n row a.rows.entries q h.distinct h.names there) ∙ ap (number_of q) (sym is);
   }
+
+  -- a node goes, and one of its name comes last
+  pub moved_kept : (n m : ℕ) (row next : NodeRow) (rows : Numbered NodeRow) (numbers : BTreeMap Name ℕ) → rows.entries ≡ without n a.rows.entries ++ (m, next) ∷ [] → lookup (nat_eq n) a.rows.entries ≡ Some row → next.name ≡ row.name → IsUnused m (without n a.rows.entries)
+      → ((q : Name) → get name_order numbers q ≡ cond (is_at (name_order row.name) q) (Some m) (get name_order a.numbers q)) → IsKept (record { rows = rows; numbers = numbers })
+  moved_kept n m row next rows numbers is there same unused put = record {
+    distinct = subst HasDistinctNumbers (sym is) (distinct_push m next (without n a.rows.entries) unused (distinct_without n a.rows.entries h.distinct));
+    names = subst HasDistinctNames (sym is) (names_pushed m next (without n a.rows.entries) new (names_without n a.rows.entries h.names));
+    found = λ q.
+        put q ∙ ap (λ (b : Bool). cond b (Some m) (get name_order a.numbers q)) (at_same row.name q) ∙ ap (λ (o : Option ℕ). cond (same_name row.name q) (Some m) o) (h.found q)
+        ∙ over (same_name row.name q) (number_of q a.rows.entries)
+        ∙ ap (λ (o : Option ℕ). cond (same_name row.name q) (Some m) o) (sym (number-without n row a.rows.entries q h.distinct h.names there))
+        ∙ ap (λ (x : Name). cond (same_name x q) (Some m) (number_of q (without n a.rows.entries))) (sym same)
+        ∙ sym (number-pushed m next (without n a.rows.entries) q new) ∙ ap (number_of q) (sym is);
+  }
+    where
+      new : number_of next.name (without n a.rows.entries) ≡ None
+      new = ap (λ (x : Name). number_of x (without n a.rows.entries)) same ∙ unnamed_without n row a.rows.entries h.distinct h.names there
+
+      over : (b : Bool) (o : Option ℕ) → cond b (Some m) o ≡ cond b (Some m) (let p : Option ℕ = cond b None o in p)
+      over true o = refl
+      over false o = refl
+
+  -- the map has the name of each node
+  pub name_there : (n : ℕ) (row : NodeRow) → lookup (nat_eq n) a.rows.entries ≡ Some row → get name_order a.numbers row.name ≡ Some n
+  name_there n row there = h.found row.name ∙ number_there n row a.rows.entries h.names there
 
   -- the names stay where the nodes do
   pub same_kept : (rows : Numbered NodeRow) (numbers : BTreeMap Name ℕ) → rows.entries ≡ a.rows.entries → numbers.entries ≡ a.numbers.entries → IsKept (record { rows = rows; numbers = numbers })

@@ -139,3 +139,21 @@ number_own (e ∷ nodes) name n d found = go (same_name name e.1.name) refl foun
 pub number_owns : (nodes : List (ℕ × NodeRow)) (name : Name) (o : Option ℕ) → HasDistinctNumbers nodes → o ≡ number_of name nodes → IfSome o (λ n. option_map (λ (r : NodeRow). r.name) (lookup (nat_eq n) nodes) ≡ Some name)
 number_owns nodes name None d is = tt
 number_owns nodes name (Some n) d is = number_own nodes name n d (sym is)
+
+-- each node is found by its name
+pub number_there : (n : ℕ) (row : NodeRow) (nodes : List (ℕ × NodeRow)) → HasDistinctNames nodes → lookup (nat_eq n) nodes ≡ Some row → number_of row.name nodes ≡ Some n
+number_there n row [] h found = absurd (none-some row found)
+number_there n row (e ∷ nodes) h found = go (nat_eq n e.0) refl found (λ k. number_there n row nodes h.1 k)
+  where
+    go : (b : Bool) → nat_eq n e.0 ≡ b → cond b (Some e.1) (lookup (nat_eq n) nodes) ≡ Some row → (lookup (nat_eq n) nodes ≡ Some row → number_of row.name nodes ≡ Some n) → number_of row.name (e ∷ nodes) ≡ Some n
+    go true p k rest =
+        let same : n ≡ e.0 = grind (arith, nat_tests) in
+        let name = ap (λ (r : NodeRow). r.name) (same_Some e.1 row k) in
+        ap (λ (b : Bool). cond b (Some e.0) (number_of row.name nodes)) (ap (same_name row.name) name ∙ self_same row.name) ∙ ap (λ (m : ℕ). Some m) (sym same)
+    go false p k rest =
+        let apart : row.name ≢ e.1.name = at_found (λ x. x.name ≢ e.1.name) n row nodes h.0 k in
+        ap (λ (b : Bool). cond b (Some e.0) (number_of row.name nodes)) (other_name row.name e.1.name apart) ∙ rest k
+
+pub unnamed_without : (n : ℕ) (row : NodeRow) (nodes : List (ℕ × NodeRow)) → HasDistinctNumbers nodes → HasDistinctNames nodes → lookup (nat_eq n) nodes ≡ Some row → number_of row.name (without n nodes) ≡ None
+unnamed_without n row nodes d h found =
+    number-without n row nodes row.name d h found ∙ ap (λ (b : Bool). let o : Option ℕ = cond b None (number_of row.name nodes) in o) (self_same row.name)

@@ -1,12 +1,12 @@
 -- The nodes of a cluster, as a contract sees them.
-use Rattle.std.specs.Prelude.{◌≡◌, ◌≢◌, ⊤, ℕ, List, [], ◌∷◌, ◌++◌, map, nat_eq, Option, None, if◌then◌else◌}
+use Rattle.std.specs.Prelude.{◌≡◌, ◌≢◌, ⊤, ℕ, List, [], ◌∷◌, ◌++◌, map, nat_eq, Option, Some, None, if◌then◌else◌}
 use Rattle.std.specs.List.{AllByRecursion}
 use Rattle.std.specs.Map.{lookup}
 use Rattle.ynl_resource.specs.declared.amounts.Resource.{Resource}
 use Rattle.ynl_resource.specs.declared.names.Name.{Name}
 use Rattle.ynl_resource.specs.Names.{same_name}
 use Rattle.ynl_slots.specs.declared.chain.Chain.{Chain}
-use Rattle.ynl_slots.specs.Slots.{IsUnused}
+use Rattle.ynl_slots.specs.Slots.{IsUnused, without}
 use Rattle.ynl_node_table.specs.declared.nodes.NodeRow.{NodeRow}
 
 -- no two nodes have one name
@@ -30,6 +30,12 @@ no_chain = record { first = None; last = None }
 pub record Joins (number : ℕ) (name : Name) (partition : ℕ) (size : Resource) (stamp : ℕ) (old new : List (ℕ × NodeRow)) : Type 0 where
   pub unused : IsUnused number old
   pub nodes : new ≡ old ++ (number, record { name = name; partition = partition; size = size; free = size; stamp = stamp; containers = no_chain }) ∷ []
+
+-- a node comes last again, with its name and its size
+pub record Rejoins (number last partition stamp : ℕ) (old new : List (ℕ × NodeRow)) : Type 0 where
+  pub row : NodeRow
+  pub found : lookup (nat_eq number) old ≡ Some row
+  pub joins : Joins last row.name partition row.size stamp (without number old) new
 
 -- the node under a number changes
 abbrev pub with_change : ℕ → (NodeRow → NodeRow) → List (ℕ × NodeRow) → List (ℕ × NodeRow)

@@ -4,7 +4,7 @@ ghost use Rattle.std.specs.Prelude.{◌≡◌, ◌++◌, ◌∷◌, [], length, 
 ghost use Rattle.std.specs.Map.{lookup};
 ghost use Rattle.ynl_resource.specs.Amounts.{plus, less, fits_in, IsSmall};
 ghost use Rattle.ynl_slots.specs.Slots.{IsLive, IsUnused, HasDistinctNumbers, without};
-ghost use Rattle.ynl_node_table.specs.Nodes.{HasDistinctNames, Joins, number_of, with_change};
+ghost use Rattle.ynl_node_table.specs.Nodes.{HasDistinctNames, Joins, Rejoins, number_of, with_change};
 
 use std::alloc::{AllocError, Global};
 use std::collections::BTreeMap;
@@ -116,6 +116,29 @@ impl Nodes {
         }
     }
 
+    /// A node comes last again, on another partition, with all of it free and no containers. It returns the number. It fails
+    /// where `join` does.
+    pub fn rejoin(&mut self, number: u32, partition: u8, stamp: u64) -> Result<u32, AllocError>
+        requires { IsLive number self.old }
+        ensures ok { IfOk result (λ n. Rejoins number n partition stamp self.old self.new) }
+        ensures err { OnErr result (self.new ≡ self.old) }
+    {
+        self.rows.reserve_one()?;
+        let was = self.rows.remove(number);
+        let last = self.rows.push(NodeRow {
+            name: was.name,
+            partition,
+            size: was.size,
+            free: was.size.amount(),
+            stamp,
+            containers: Chain::new(),
+        });
+        match self.numbers.insert(was.name, last) {
+            Ok(_) => Ok(last),
+            Err(_) => unreachable!(),
+        }
+    }
+
     /// Takes out the node under a number. It takes no memory.
     pub fn leave(&mut self, number: u32) -> NodeRow
         requires { IsLive number self.old }
@@ -130,7 +153,8 @@ impl Nodes {
     /// Sets the stamp of a node.
     pub fn set_stamp(&mut self, number: u32, stamp: u64)
         requires { IsLive number self.old }
-        ensures { self.new ≡ with_change number (λ node. record node { stamp = stamp }) self.old }
+        ensures { self.new ≡ with_change number (λ node.
+            record node { stamp = stamp }) self.old }
     {
         let row = &mut self.rows[number];
         row.stamp = stamp;
@@ -139,7 +163,8 @@ impl Nodes {
     /// Sets the chain of a node's containers.
     pub fn set_containers(&mut self, number: u32, chain: Chain)
         requires { IsLive number self.old }
-        ensures { self.new ≡ with_change number (λ node. record node { containers = chain }) self.old }
+        ensures { self.new ≡ with_change number (λ node.
+            record node { containers = chain }) self.old }
     {
         let row = &mut self.rows[number];
         row.containers = chain;

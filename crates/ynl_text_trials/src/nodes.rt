@@ -59,6 +59,18 @@ fn unchain(nodes: &mut Nodes, number: u32) {
     }
 }
 
+// A node comes last, if it is there, at the second try where memory is refused at the first.
+fn rejoin(rt: &HostRuntime, nodes: &mut Nodes, number: u32) -> Result<u32, Fail> {
+    if nodes.get(number).is_none() {
+        return Err(Fail::new("no node"));
+    }
+    if let Ok(last) = nodes.rejoin(number, 2, 6) {
+        return Ok(last);
+    }
+    println!(rt; "refused")?;
+    Ok(nodes.rejoin(number, 2, 6)?)
+}
+
 // A node leaves, if it is there. Its stamp is returned.
 fn leave(nodes: &mut Nodes, number: u32) -> Option<u64> {
     if nodes.get(number).is_none() {
@@ -81,6 +93,8 @@ fn nodes_join_and_leave_at_the_second_try(rt: HostRuntime) -> Result<(), Fail> {
     assert_eq!(rt; give(&mut nodes, second, size), Some(100));
     stamp(&mut nodes, first, 9);
     unchain(&mut nodes, first);
+    let last = rejoin(&rt, &mut nodes, second)?;
+    assert_eq!(rt; nodes.find(&name("b")?), Some(last));
     assert_eq!(rt; leave(&mut nodes, first), Some(9));
     assert_eq!(rt; leave(&mut nodes, first), None);
     assert_eq!(rt; nodes.find(&name("a")?), None);
