@@ -11,6 +11,7 @@ ghost use Rattle.ynl_model.specs.Limits.{user_limit, master_limit};
 ghost use Rattle.ynl_core.specs.Sure.{is_refused, takes_no_memory};
 ghost use Rattle.ynl_core.specs.Sightings.{IsSighting, reply_by};
 ghost use Rattle.ynl_core.specs.World.{opened, beaten, Answers};
+ghost use Rattle.ynl_waits.specs.Waits.{explained_of};
 
 use crate::memory::NoMemory;
 use crate::refusals::{
@@ -31,6 +32,7 @@ use ynl_choice::{
 };
 use ynl_model::{AskRow, Event, Items, Placed, Proposal, Reply};
 use ynl_queues::Config;
+use ynl_reading::explain;
 use ynl_resource::{Hundredths, Id, Label, Name, Path, Refusal, Resource, Size};
 use ynl_sights::Sight;
 use ynl_tables::{
@@ -542,6 +544,16 @@ impl Core {
             Ok(_) => Ok(()),
             Err(refusal) => Err(refusal),
         }
+    }
+
+    /// Why the requests of a tenant's application wait: its master and what it asks for, each with all that keeps it from
+    /// being placed, or that it is next. Nothing changes; `Err` only if memory is refused.
+    #[inline(never)]
+    pub fn explain(&self, tenant: &Name, app: &Name) -> Result<Explained, NoMemory>
+        ensures { IfOk result (λ explained. explained ≡ explained_of self.now.config self.now.state tenant.now app.now) }
+    {
+        let alloc = *self.tables.leaves.allocator();
+        Ok(explain(alloc, &self.config, &self.tables, tenant, app)?)
     }
 
     /// The most that one user may use of the leaf's part of a partition, where a container of this size
