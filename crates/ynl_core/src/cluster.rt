@@ -38,6 +38,7 @@ use ynl_sights::Sight;
 use ynl_tables::{
     Tables, containers_at, list_live, note_seat, own_containers, pending_on, rest, usage_of, wake,
 };
+use ynl_waits::Explained;
 
 /// A cluster: what it is configured with, and its state. A node on which nothing is to be placed rests, so that
 /// its heartbeats take no search; a change of the cluster wakes all nodes. What is known of leaves of which nothing could
