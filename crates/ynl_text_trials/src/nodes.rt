@@ -1,5 +1,6 @@
 //! Nodes under numbers.
 
+use std::process::Abort;
 use std::test::Fail;
 use ynl_node_table::Nodes;
 use ynl_resource::{Name, Size};
@@ -13,7 +14,7 @@ fn name(text: &str) -> Result<Name, Fail> {
 }
 
 // A node joins at the second try where memory is refused at the first.
-fn join(rt: &HostRuntime, nodes: &mut Nodes, text: &str) -> Result<u32, Fail> {
+fn join<R: Print>(rt: &R, nodes: &mut Nodes, text: &str) -> Result<u32, Fail> {
     let name = name(text)?;
     let size = Size::new(100, 10).ok_or("no size")?;
     if nodes.find(&name).is_some() {
@@ -60,7 +61,7 @@ fn unchain(nodes: &mut Nodes, number: u32) {
 }
 
 // A node comes last, if it is there, at the second try where memory is refused at the first.
-fn rejoin(rt: &HostRuntime, nodes: &mut Nodes, number: u32) -> Result<u32, Fail> {
+fn rejoin<R: Print>(rt: &R, nodes: &mut Nodes, number: u32) -> Result<u32, Fail> {
     if nodes.get(number).is_none() {
         return Err(Fail::new("no node"));
     }
@@ -84,20 +85,24 @@ fn leave(nodes: &mut Nodes, number: u32) -> Option<u64> {
 #[test]
 fn nodes_join_and_leave_at_the_second_try(rt: HostRuntime) -> Result<(), Fail> {
     let mut nodes = Nodes::new(rt.alloc());
-    let first = join(&rt, &mut nodes, "a")?;
-    let second = join(&rt, &mut nodes, "b")?;
+    join_and_leave(&rt, &mut nodes)
+}
+
+fn join_and_leave<R: Print + Abort>(rt: &R, nodes: &mut Nodes) -> Result<(), Fail> {
+    let first = join(rt, nodes, "a")?;
+    let second = join(rt, nodes, "b")?;
     assert_eq!(rt; nodes.find(&name("b")?), Some(second));
     assert_eq!(rt; nodes.len(), 2);
     let size = Size::new(30, 1).ok_or("no size")?;
-    assert_eq!(rt; take(&mut nodes, second, size), Some(70));
-    assert_eq!(rt; give(&mut nodes, second, size), Some(100));
-    stamp(&mut nodes, first, 9);
-    unchain(&mut nodes, first);
-    let last = rejoin(&rt, &mut nodes, second)?;
+    assert_eq!(rt; take(nodes, second, size), Some(70));
+    assert_eq!(rt; give(nodes, second, size), Some(100));
+    stamp(nodes, first, 9);
+    unchain(nodes, first);
+    let last = rejoin(rt, nodes, second)?;
     assert_eq!(rt; nodes.find(&name("b")?), Some(last));
-    assert_eq!(rt; leave(&mut nodes, first), Some(9));
-    assert_eq!(rt; leave(&mut nodes, first), None);
+    assert_eq!(rt; leave(nodes, first), Some(9));
+    assert_eq!(rt; leave(nodes, first), None);
     assert_eq!(rt; nodes.find(&name("a")?), None);
-    assert_eq!(rt; join(&rt, &mut nodes, "c")?, first);
+    assert_eq!(rt; join(rt, nodes, "c")?, first);
     Ok(())
 }
