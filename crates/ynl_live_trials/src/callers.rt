@@ -1,13 +1,15 @@
 //! Callers in four threads, and for what causes their journal is not closed.
 
-use crate::events::{called, closed_len, opened, poll, register, submit};
+use crate::events::{
+    called, closed_alone, closed_len, opened, poll, receipt_of, register, reply_with, submit, tried,
+};
 use std::alloc::Global;
 use std::process::Abort;
 use std::sync::Wait;
 use std::test::Fail;
 use std::thread;
 use std::thread::Threads;
-use ynl_live::{CallFault, Cause, Live, Receipt, Seat, Unclosed, close};
+use ynl_live::{CallFault, Cause, Live, Receipt, Seat, Unclosed};
 use ynl_model::{Event, Reply};
 use ynl_resource::Refusal;
 
@@ -20,6 +22,15 @@ struct Caller {
 }
 
 /// Submits an application of its own, and polls it.
+fn two_events(alloc: Global, which: usize, number: u64) -> Option<[Event; 2]> {
+    let app = format!(in alloc; "s{which}a{number}").ok()?;
+    Some([submit(&app, 1)?, poll(&app)?])
+}
+
+fn call_once<R: Wait>(rt: &R, live: &Live, caller: &mut Caller, event: Event) -> Option<()> {
+    called(rt, live, &mut caller.seat, &mut caller.receipts, event)
+}
+
 fn call_twice<R: Wait>(
     rt: &R,
     alloc: Global,
@@ -28,10 +39,10 @@ fn call_twice<R: Wait>(
     which: usize,
     number: u64,
 ) -> Option<()> {
-    let app = format!(in alloc; "s{which}a{number}").ok()?;
-    let Caller { seat, receipts, .. } = caller;
-    called(rt, live, seat, receipts, submit(&app, 1)?)?;
-    called(rt, live, seat, receipts, poll(&app)?)
+    for event in two_events(alloc, which, number)? {
+        call_once(rt, live, caller, event)?;
+    }
+    Some(())
 }
 
 fn call_hundred<R: Wait>(rt: &R, alloc: Global, live: &Live, caller: &mut Caller, which: usize) {
@@ -71,6 +82,16 @@ fn four_callers<R: Threads + Wait + Abort + Sync>(rt: &R, alloc: Global) -> Resu
         4,
         &|which, caller: &mut Caller| call_hundred(rt, alloc, &live, caller, which),
     );
+    let (seats, lists) = handed_in(rt, alloc, callers)?;
+    Ok(Called { live, seats, lists })
+}
+
+/// The seats of the callers, and their lists of receipts.
+fn handed_in<R: Abort>(
+    rt: &R,
+    alloc: Global,
+    callers: Vec<Caller>,
+) -> Result<(Vec<Seat>, Vec<Vec<Receipt>>), Fail> {
     let mut seats = Vec::new(alloc);
     let mut lists = Vec::new(alloc);
     for caller in callers {
@@ -83,87 +104,89 @@ fn four_callers<R: Threads + Wait + Abort + Sync>(rt: &R, alloc: Global) -> Resu
         seats.push(seat)?;
         lists.push(receipts)?;
     }
-    Ok(Called { live, seats, lists })
+    Ok((seats, lists))
 }
 
-/// For what cause the journal was not closed, and what came back.
-fn unclosed(
-    alloc: Global,
-    live: Live,
-    seats: Vec<Seat>,
-    lists: &[Vec<Receipt>],
-) -> Option<(Cause, Live, Vec<Seat>)> {
-    match close(alloc, live, seats, lists) {
-        Ok(_) => None,
-        Err(Unclosed { cause, live, seats }) => Some((cause, live, seats)),
+/// The journal is not closed, for this cause. All that was handed in comes back.
+fn refused<R: Abort>(rt: &R, alloc: Global, called: Called, wanted: Cause) -> Result<Called, Fail> {
+    let Called { live, seats, lists } = called;
+    match tried(alloc, live, seats, lists.as_slice()) {
+        Ok(_) => Err(Fail::new("closed")),
+        Err(Unclosed { cause, live, seats }) => {
+            assert_eq!(rt; cause, wanted);
+            Ok(Called { live, seats, lists })
+        }
     }
 }
 
-/// Puts another reply into the first receipt of the third list, and answers its place.
-fn alter(lists: &mut Vec<Vec<Receipt>>, reply: Reply) -> Option<u64> {
-    let list = lists.get_mut(2)?;
-    let receipt = list.get_mut(0)?;
-    receipt.reply = reply;
-    Some(receipt.place)
+/// How many entries the closed journal has.
+fn closed(alloc: Global, called: Called) -> Option<usize> {
+    let Called { live, seats, lists } = called;
+    closed_len(alloc, live, seats, lists.as_slice())
+}
+
+/// Has the first receipt of the third list tell a refusal, or that it was done, and answers its place.
+fn alter(called: &mut Called, refusal: Option<Refusal>) -> Option<u64> {
+    let reply = match refusal {
+        Some(refusal) => Reply::Refused(refusal),
+        None => Reply::Done,
+    };
+    match receipt_of(&mut called.lists, 2, 0) {
+        Some(receipt) => Some(reply_with(receipt, reply)),
+        None => None,
+    }
+}
+
+/// The journal is not closed where that receipt tells a refusal. Then it tells again that it was done.
+fn altered<R: Abort>(rt: &R, alloc: Global, mut called: Called) -> Result<Called, Fail> {
+    let place = alter(&mut called, Some(Refusal::NameUsed)).ok_or("no receipt")?;
+    let mut called = refused(rt, alloc, called, Cause::Mismatch(place))?;
+    alter(&mut called, None).ok_or("no receipt")?;
+    Ok(called)
 }
 
 #[test]
 fn closes_where_each_reply_is_told(rt: HostRuntime) -> Result<(), Fail> {
     let alloc = rt.alloc();
-    let Called {
-        live,
-        seats,
-        mut lists,
-    } = four_callers(&rt, alloc)?;
-    let other = Reply::Refused(Refusal::NameUsed);
-    let place = alter(&mut lists, other).ok_or("no receipt")?;
-    let back = unclosed(alloc, live, seats, lists.as_slice());
-    let (cause, live, seats) = back.ok_or("closed")?;
-    assert_eq!(rt; cause, Cause::Mismatch(place));
-    alter(&mut lists, Reply::Done).ok_or("no receipt")?;
-    let len = closed_len(alloc, live, seats, lists.as_slice());
-    assert_eq!(rt; len, Some(400));
+    let called = four_callers(&rt, alloc)?;
+    let called = altered(&rt, alloc, called)?;
+    assert_eq!(rt; closed(alloc, called), Some(400));
     Ok(())
 }
 
 #[test]
 fn closes_with_all_seats_and_receipts(rt: HostRuntime) -> Result<(), Fail> {
     let alloc = rt.alloc();
-    let Called {
-        live,
-        mut seats,
-        mut lists,
-    } = four_callers(&rt, alloc)?;
-    let seat = seats.pop().ok_or("no seat")?;
-    let list = lists.pop().ok_or("no list")?;
-    let back = unclosed(alloc, live, seats, lists.as_slice());
-    let (cause, live, mut seats) = back.ok_or("closed")?;
-    assert_eq!(rt; cause, Cause::SeatsMissing);
-    seats.push(seat)?;
-    let back = unclosed(alloc, live, seats, lists.as_slice());
-    let (cause, live, seats) = back.ok_or("closed")?;
-    assert_eq!(rt; cause, Cause::ReceiptsMissing);
-    lists.push(list)?;
-    let len = closed_len(alloc, live, seats, lists.as_slice());
-    assert_eq!(rt; len, Some(400));
+    let mut called = four_callers(&rt, alloc)?;
+    let seat = called.seats.pop().ok_or("no seat")?;
+    let list = called.lists.pop().ok_or("no list")?;
+    let mut called = refused(&rt, alloc, called, Cause::SeatsMissing)?;
+    called.seats.push(seat)?;
+    let mut called = refused(&rt, alloc, called, Cause::ReceiptsMissing)?;
+    called.lists.push(list)?;
+    assert_eq!(rt; closed(alloc, called), Some(400));
     Ok(())
 }
 
-/// For what cause the journal was not closed, and all that was handed in.
-fn refused(alloc: Global, called: Called) -> Result<(Cause, Called), Fail> {
-    let Called { live, seats, lists } = called;
-    let back = unclosed(alloc, live, seats, lists.as_slice());
-    let (cause, live, seats) = back.ok_or("closed")?;
-    Ok((cause, Called { live, seats, lists }))
+/// The place and the event that a receipt tells.
+type Told = (u64, Event);
+
+/// Has a receipt tell this, and answers what it told.
+fn retell(receipt: &mut Receipt, told: Told) -> Told {
+    let before = (receipt.place, receipt.event);
+    receipt.place = told.0;
+    receipt.event = told.1;
+    before
 }
 
-/// Has the first receipt of a list tell this place and event, and answers what it told.
-fn retell(called: &mut Called, list: usize, place: u64, event: &Event) -> Option<(u64, Event)> {
-    let receipt = called.lists.get_mut(list)?.get_mut(0)?;
-    let before = (receipt.place, receipt.event);
-    receipt.place = place;
-    receipt.event = *event;
-    Some(before)
+fn retell_first(lists: &mut Vec<Vec<Receipt>>, list: usize, told: Told) -> Option<Told> {
+    Some(retell(receipt_of(lists, list, 0)?, told))
+}
+
+/// What the first receipt of the third list tells.
+fn first_told(called: &Called) -> Option<Told> {
+    let receipt = called.lists.get(2)?.first()?;
+    Some((receipt.place, receipt.event))
 }
 
 /// Exchanges the first two receipts of the third list.
@@ -176,19 +199,33 @@ fn exchange(called: &mut Called) -> Option<()> {
     Some(())
 }
 
-/// For what cause the journal is not closed where the first receipt of a list tells this. Then it tells
-/// again what it told.
-fn cause_where(
+/// The journal is not closed where these are exchanged, a mismatch at this place. Then they are as before.
+fn exchanged<R: Abort>(
+    rt: &R,
+    alloc: Global,
+    mut called: Called,
+    place: u64,
+) -> Result<Called, Fail> {
+    exchange(&mut called).ok_or("no receipts")?;
+    let mut called = refused(rt, alloc, called, Cause::Mismatch(place))?;
+    exchange(&mut called).ok_or("no receipts")?;
+    Ok(called)
+}
+
+/// The journal is not closed where the first receipt of a list tells this, a mismatch at the place that is
+/// told. Then it tells again what it told.
+fn mismatches<R: Abort>(
+    rt: &R,
     alloc: Global,
     mut called: Called,
     list: usize,
-    place: u64,
-    event: &Event,
-) -> Result<(Cause, Called), Fail> {
-    let (first, was) = retell(&mut called, list, place, event).ok_or("no receipt")?;
-    let (cause, mut called) = refused(alloc, called)?;
-    retell(&mut called, list, first, &was).ok_or("no receipt")?;
-    Ok((cause, called))
+    told: Told,
+) -> Result<Called, Fail> {
+    let (place, _) = told;
+    let was = retell_first(&mut called.lists, list, told).ok_or("no receipt")?;
+    let mut called = refused(rt, alloc, called, Cause::Mismatch(place))?;
+    retell_first(&mut called.lists, list, was).ok_or("no receipt")?;
+    Ok(called)
 }
 
 /// The first receipt of the third list, exchanged with the next one, told on the fourth seat too, and told
@@ -196,50 +233,59 @@ fn cause_where(
 #[test]
 fn closes_where_each_receipt_is_in_its_place(rt: HostRuntime) -> Result<(), Fail> {
     let alloc = rt.alloc();
-    let mut called = four_callers(&rt, alloc)?;
-    exchange(&mut called).ok_or("no receipts")?;
-    let (cause, mut called) = refused(alloc, called)?;
-    exchange(&mut called).ok_or("no receipts")?;
-    let other = register().ok_or("no event")?;
-    let (place, event) = retell(&mut called, 2, 400, &other).ok_or("no receipt")?;
-    retell(&mut called, 2, place, &event).ok_or("no receipt")?;
-    assert_eq!(rt; cause, Cause::Mismatch(place));
-    let (cause, called) = cause_where(alloc, called, 3, place, &event)?;
-    assert_eq!(rt; cause, Cause::Mismatch(place));
-    let (cause, called) = cause_where(alloc, called, 2, 400, &event)?;
-    assert_eq!(rt; cause, Cause::Mismatch(400));
-    let Called { live, seats, lists } = called;
-    assert_eq!(rt; closed_len(alloc, live, seats, lists.as_slice()), Some(400));
+    let called = four_callers(&rt, alloc)?;
+    let first = first_told(&called).ok_or("no receipt")?;
+    let (place, event) = first;
+    let called = exchanged(&rt, alloc, called, place)?;
+    let called = mismatches(&rt, alloc, called, 3, first)?;
+    let called = mismatches(&rt, alloc, called, 2, (400, event))?;
+    assert_eq!(rt; closed(alloc, called), Some(400));
     Ok(())
+}
+
+/// Takes the last receipt of the first list away.
+fn take_last(called: &mut Called) -> Option<Receipt> {
+    called.lists.get_mut(0)?.pop()
+}
+
+/// Puts a receipt behind those of the first list.
+fn put_last(called: &mut Called, receipt: Receipt) -> Option<()> {
+    called.lists.get_mut(0)?.push(receipt).ok()
 }
 
 #[test]
 fn closes_where_no_receipt_is_missing(rt: HostRuntime) -> Result<(), Fail> {
     let alloc = rt.alloc();
     let mut called = four_callers(&rt, alloc)?;
-    let last = called.lists.get_mut(0).ok_or("no list")?.pop();
-    let (cause, mut called) = refused(alloc, called)?;
-    assert_eq!(rt; cause, Cause::ReceiptsMissing);
-    let list = called.lists.get_mut(0).ok_or("no list")?;
-    list.push(last.ok_or("no receipt")?)?;
-    let Called { live, seats, lists } = called;
-    assert_eq!(rt; closed_len(alloc, live, seats, lists.as_slice()), Some(400));
+    let last = take_last(&mut called).ok_or("no receipt")?;
+    let mut called = refused(&rt, alloc, called, Cause::ReceiptsMissing)?;
+    put_last(&mut called, last).ok_or("no list")?;
+    assert_eq!(rt; closed(alloc, called), Some(400));
+    Ok(())
+}
+
+/// A seat that made a call on the first is behind on the other, and stays as it is.
+fn is_behind<R: Wait + Abort>(
+    rt: &R,
+    first: &Live,
+    other: &Live,
+    seat: &mut Seat,
+) -> Result<(), Fail> {
+    let event = register().ok_or("no event")?;
+    let again = register().ok_or("no event")?;
+    let _receipt = first.call(rt, seat, event)?;
+    let fault = other.call(rt, seat, again).err();
+    assert_eq!(rt; fault, Some(CallFault::Behind(0)));
+    assert_eq!(rt; (seat.calls(), seat.front()), (1, 1));
     Ok(())
 }
 
 #[test]
 fn a_seat_of_another_is_behind(rt: HostRuntime) -> Result<(), Fail> {
     let alloc = rt.alloc();
-    let (one, mut seat) = opened(alloc)?;
-    let (two, own) = opened(alloc)?;
-    let event = register().ok_or("no event")?;
-    let again = register().ok_or("no event")?;
-    let _receipt = one.call(&rt, &mut seat, event)?;
-    let fault = two.call(&rt, &mut seat, again).err();
-    assert_eq!(rt; fault, Some(CallFault::Behind(0)));
-    assert_eq!(rt; (seat.calls(), seat.front()), (1, 1));
-    let seats = vec![in alloc; own]?;
-    let lists = vec![in alloc; Vec::new(alloc)]?;
-    assert_eq!(rt; closed_len(alloc, two, seats, lists.as_slice()), Some(0));
+    let (first, mut seat) = opened(alloc)?;
+    let (other, own) = opened(alloc)?;
+    is_behind(&rt, &first, &other, &mut seat)?;
+    assert_eq!(rt; closed_alone(alloc, other, own, Vec::new(alloc))?, Some(0));
     Ok(())
 }

@@ -1,11 +1,13 @@
 //! Events on a configuration of two tenants, and calls that keep their receipts.
 
-use std::alloc::Global;
+ghost use Rattle.std.specs.Prelude.{◌≡◌, IfOk, vec_len};
+
+use std::alloc::{AllocError, Global};
 use std::sync::Wait;
 use std::test::Fail;
 use ynl_config::read_config;
-use ynl_live::{Live, Receipt, Seat, close};
-use ynl_model::Event;
+use ynl_live::{Live, Receipt, Seat, Unclosed, close};
+use ynl_model::{Event, Reply};
 use ynl_queues::Config;
 use ynl_resource::{Label, Name, Path, Size};
 
@@ -106,15 +108,68 @@ pub(crate) fn called<R: Wait>(
     receipts.push(receipt).ok()
 }
 
-/// The number of entries of the closed journal.
+/// A list of one. An array of values that are let go costs a proof of its own.
+pub(crate) fn one<T: Drop>(alloc: Global, item: T) -> Result<Vec<T>, AllocError>
+    ensures { IfOk result (λ list. vec_len list ≡ 1) }
+{
+    let mut list = Vec::new(alloc);
+    list.push(item)?;
+    Ok(list)
+}
+
+/// A list of two.
+pub(crate) fn two<T: Drop>(alloc: Global, first: T, second: T) -> Result<Vec<T>, AllocError>
+    ensures { IfOk result (λ list. vec_len list ≡ 2) }
+{
+    let mut list = one(alloc, first)?;
+    list.push(second)?;
+    Ok(list)
+}
+
+/// A receipt of a list.
+pub(crate) fn receipt_of(
+    lists: &mut Vec<Vec<Receipt>>,
+    list: usize,
+    at: usize,
+) -> Option<&mut Receipt> {
+    lists.get_mut(list)?.get_mut(at)
+}
+
+/// Puts another reply into a receipt, and answers its place.
+pub(crate) fn reply_with(receipt: &mut Receipt, reply: Reply) -> u64 {
+    receipt.reply = reply;
+    receipt.place
+}
+
+/// The number of entries of the closed journal, or what comes back at a cause. It has no contract, since that of
+/// `close` would stand in the proof of each test.
+pub(crate) fn tried(
+    alloc: Global,
+    live: Live,
+    seats: Vec<Seat>,
+    lists: &[Vec<Receipt>],
+) -> Result<usize, Unclosed> {
+    let closed = close(alloc, live, seats, lists)?;
+    Ok(closed.entries.len())
+}
+
+/// The number of entries of the closed journal of one caller.
+pub(crate) fn closed_alone(
+    alloc: Global,
+    live: Live,
+    seat: Seat,
+    receipts: Vec<Receipt>,
+) -> Result<Option<usize>, Fail> {
+    let seats = one(alloc, seat)?;
+    let lists = one(alloc, receipts)?;
+    Ok(closed_len(alloc, live, seats, lists.as_slice()))
+}
+
 pub(crate) fn closed_len(
     alloc: Global,
     live: Live,
     seats: Vec<Seat>,
     lists: &[Vec<Receipt>],
 ) -> Option<usize> {
-    match close(alloc, live, seats, lists) {
-        Ok(closed) => Some(closed.entries.len()),
-        Err(_) => None,
-    }
+    tried(alloc, live, seats, lists).ok()
 }

@@ -1,13 +1,15 @@
 //! Proposals that are planned from what was seen under the lock, and their receipts.
 
-use crate::events::{called, closed_len, opened, register};
+use crate::events::{
+    called, closed_alone, closed_len, one, opened, receipt_of, register, reply_with, tried, two,
+};
 use crate::workers::{Started, play_script};
 use std::alloc::Global;
 use std::process::Abort;
 use std::sync::Wait;
 use std::test::Fail;
 use ynl_core::Sighted;
-use ynl_live::{CallFault, Cause, Live, Receipt, Seat, Unclosed, close};
+use ynl_live::{CallFault, Cause, Live, Receipt, Seat, Unclosed};
 use ynl_model::{Event, Proposal, Reply, What};
 use ynl_resource::{Label, Name, Refusal, Size};
 use ynl_sights::plan;
@@ -63,48 +65,70 @@ fn proposes(receipt: &Receipt, proposal: &Proposal) -> bool {
     }
 }
 
+/// The receipt of a propose, as it is planned from what is seen.
+fn plan_again<R: Wait + Print + Abort>(
+    rt: &R,
+    live: &Live,
+    seat: &mut Seat,
+    node: Name,
+) -> Result<Receipt, Fail> {
+    let (place, sighted) = seen_again(rt, live, seat, &node)?;
+    Ok(planned(node, place, &sighted))
+}
+
 /// A proposal that was planned before a heartbeat of another caller, and its commit after it, on the first seat.
+fn overtake<R: Wait + Print + Abort>(
+    rt: &R,
+    started: &mut Started,
+    other: &mut Seat,
+    others: &mut Vec<Receipt>,
+    node: Name,
+) -> Result<(), Fail> {
+    let receipt = plan_again(rt, &started.live, &mut started.seat, node)?;
+    let heartbeat = Event::Heartbeat { node };
+    called(rt, &started.live, other, others, heartbeat).ok_or("not called")?;
+    let proposal = first_asked().ok_or("no proposal")?;
+    assert!(rt; receipt.place == 4 && proposes(&receipt, &proposal));
+    started.receipts.push(receipt)?;
+    let commit = Event::Commit { proposal };
+    call(rt, started, commit).ok_or("not called")?;
+    Ok(())
+}
+
+/// One call more on the first seat.
+fn call<R: Wait>(rt: &R, started: &mut Started, event: Event) -> Option<()> {
+    called(
+        rt,
+        &started.live,
+        &mut started.seat,
+        &mut started.receipts,
+        event,
+    )
+}
+
+/// What the callers of the two seats hand in.
 fn overtaken<R: Wait + Print + Abort>(
     rt: &R,
     alloc: Global,
     node: Name,
 ) -> Result<(Live, Vec<Seat>, Vec<Vec<Receipt>>), Fail> {
+    let mut started = play_script(rt, alloc)?;
+    let (mut other, mut others) = (started.seat.split(), Vec::new(alloc));
+    overtake(rt, &mut started, &mut other, &mut others, node)?;
     let Started {
         live,
-        mut seat,
-        mut receipts,
-    } = play_script(rt, alloc)?;
-    let (mut other, mut others) = (seat.split(), Vec::new(alloc));
-    let (place, sighted) = seen_again(rt, &live, &mut seat, &node)?;
-    called(
-        rt,
-        &live,
-        &mut other,
-        &mut others,
-        Event::Heartbeat { node },
-    )
-    .ok_or("not called")?;
-    let proposal = first_asked().ok_or("no proposal")?;
-    let receipt = planned(node, place, &sighted);
-    assert!(rt; place == 4 && proposes(&receipt, &proposal));
-    receipts.push(receipt)?;
-    called(
-        rt,
-        &live,
-        &mut seat,
-        &mut receipts,
-        Event::Commit { proposal },
-    )
-    .ok_or("not called")?;
-    let seats = vec![in alloc; seat, other]?;
-    let lists = vec![in alloc; receipts, others]?;
+        seat,
+        receipts,
+    } = started;
+    let seats = two(alloc, seat, other)?;
+    let lists = two(alloc, receipts, others)?;
     Ok((live, seats, lists))
 }
 
 /// Has the first list's fifth receipt, which is the propose's, tell this reply.
 fn retell(lists: &mut Vec<Vec<Receipt>>, proposal: Option<Proposal>) -> Option<()> {
-    let receipt = lists.get_mut(0)?.get_mut(4)?;
-    receipt.reply = Reply::Proposed(proposal);
+    let receipt = receipt_of(lists, 0, 4)?;
+    reply_with(receipt, Reply::Proposed(proposal));
     Some(())
 }
 
@@ -125,43 +149,55 @@ fn is_planned_at_the_second_try(rt: HostRuntime) -> Result<(), Fail> {
     let (live, seats, mut lists) = overtaken(&rt, alloc, Name::parse("g1")?)?;
     assert!(rt; is_stale(&lists));
     retell(&mut lists, None).ok_or("no receipt")?;
-    let Err(Unclosed { cause, live, seats }) = close(alloc, live, seats, lists.as_slice()) else {
+    let Err(Unclosed { cause, live, seats }) = tried(alloc, live, seats, lists.as_slice()) else {
         return Err(Fail::new("closed"));
     };
-    if cause != Cause::NoMemory {
-        assert_eq!(rt; cause, Cause::Mismatch(4));
-    }
+    assert!(rt; cause == Cause::Mismatch(4) || cause == Cause::NoMemory);
     retell(&mut lists, first_asked()).ok_or("no receipt")?;
     let len = closed_len(alloc, live, seats, lists.as_slice());
     assert!(rt; len == Some(7) || cause == Cause::NoMemory);
     Ok(())
 }
 
+/// The receipt of a propose on a node that is not there.
+fn refused<R: Wait + Abort>(rt: &R, live: &Live, seat: &mut Seat) -> Result<Receipt, Fail> {
+    let node = Name::parse("g1")?;
+    let (place, sighted) = live.sight(rt, seat, &node)?;
+    assert!(rt; matches!(&sighted, Sighted::Refused(Refusal::NoSuchNode)));
+    Ok(planned(node, place, &sighted))
+}
+
 #[test]
 fn a_refused_propose_is_told_at_once(rt: HostRuntime) -> Result<(), Fail> {
     let alloc = rt.alloc();
     let (live, mut seat) = opened(alloc)?;
+    let receipt = refused(&rt, &live, &mut seat)?;
+    let receipts = one(alloc, receipt)?;
+    assert_eq!(rt; closed_alone(alloc, live, seat, receipts)?, Some(1));
+    Ok(())
+}
+
+/// A seat that made a call on the first sees nothing of the other, and stays as it is.
+fn sees_nothing<R: Wait + Abort>(
+    rt: &R,
+    first: &Live,
+    other: &Live,
+    seat: &mut Seat,
+) -> Result<(), Fail> {
     let node = Name::parse("g1")?;
-    let (place, sighted) = live.sight(&rt, &mut seat, &node)?;
-    assert!(rt; matches!(&sighted, Sighted::Refused(Refusal::NoSuchNode)));
-    let receipts = vec![in alloc; planned(node, place, &sighted)]?;
-    let lists = vec![in alloc; receipts]?;
-    let seats = vec![in alloc; seat]?;
-    assert_eq!(rt; closed_len(alloc, live, seats, lists.as_slice()), Some(1));
+    let _receipt = first.call(rt, seat, register().ok_or("no event")?)?;
+    let fault = other.sight(rt, seat, &node).err();
+    assert_eq!(rt; fault, Some(CallFault::Behind(0)));
+    assert_eq!(rt; (seat.calls(), seat.front()), (1, 1));
     Ok(())
 }
 
 #[test]
 fn a_seat_of_another_sees_nothing(rt: HostRuntime) -> Result<(), Fail> {
     let alloc = rt.alloc();
-    let (one, mut seat) = opened(alloc)?;
-    let (two, own) = opened(alloc)?;
-    let _receipt = one.call(&rt, &mut seat, register().ok_or("no event")?)?;
-    let fault = two.sight(&rt, &mut seat, &Name::parse("g1")?).err();
-    assert_eq!(rt; fault, Some(CallFault::Behind(0)));
-    assert_eq!(rt; (seat.calls(), seat.front()), (1, 1));
-    let seats = vec![in alloc; own]?;
-    let lists = vec![in alloc; Vec::new(alloc)]?;
-    assert_eq!(rt; closed_len(alloc, two, seats, lists.as_slice()), Some(0));
+    let (first, mut seat) = opened(alloc)?;
+    let (other, own) = opened(alloc)?;
+    sees_nothing(&rt, &first, &other, &mut seat)?;
+    assert_eq!(rt; closed_alone(alloc, other, own, Vec::new(alloc))?, Some(0));
     Ok(())
 }

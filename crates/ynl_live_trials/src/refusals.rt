@@ -1,18 +1,15 @@
 //! A scheduler that is opened, called and closed, a round and a session that are run, at the second try.
 
-ghost use Rattle.std.specs.Prelude.{◌≡◌, length, vec_len};
-
-use crate::events::{closed_len, opened, poll, worked};
+use crate::events::{closed_len, one, opened, poll, tried, worked};
 use crate::sessions;
-use crate::workers::{Started, gathered, open, play_script, script, turns};
+use crate::workers::{Started, gathered, open, play_script, run, script, turns};
 use std::alloc::Global;
 use std::process::Abort;
 use std::sync::Wait;
 use std::test::Fail;
 use std::thread::Threads;
-use ynl_live::{CallFault, Cause, Live, Receipt, Seat, Unclosed, close};
+use ynl_live::{CallFault, Cause, Live, Receipt, Seat, Unclosed};
 use ynl_model::{Event, Reply};
-use ynl_resource::Name;
 use ynl_session::{SessionFault, run_session};
 use ynl_workers::{End, Unrun, WorkerEnd, run_round};
 
@@ -56,8 +53,8 @@ fn closed_again<R: Print>(
     seats: Vec<Seat>,
     lists: &[Vec<Receipt>],
 ) -> Result<Option<usize>, Fail> {
-    match close(alloc, live, seats, lists) {
-        Ok(closed) => Ok(Some(closed.entries.len())),
+    match tried(alloc, live, seats, lists) {
+        Ok(len) => Ok(Some(len)),
         Err(Unclosed { cause, live, seats }) => {
             if cause != Cause::NoMemory {
                 return Ok(None);
@@ -75,22 +72,42 @@ fn holds_one(reply: &Reply) -> bool {
     }
 }
 
+/// One caller's part of it.
+fn closed_alone_again<R: Print>(
+    rt: &R,
+    alloc: Global,
+    live: Live,
+    seat: Seat,
+    receipts: Vec<Receipt>,
+) -> Result<Option<usize>, Fail> {
+    let seats = one(alloc, seat)?;
+    let lists = one(alloc, receipts)?;
+    closed_again(rt, alloc, live, seats, lists.as_slice())
+}
+
 /// What four events placed is told by a poll, which is the fifth.
+fn call_script<R: Wait + Print + Abort>(
+    rt: &R,
+    live: &Live,
+    seat: &mut Seat,
+    receipts: &mut Vec<Receipt>,
+) -> Result<(), Fail> {
+    for event in script().ok_or("no script")? {
+        receipts.push(called_again(rt, live, seat, &event)?)?;
+    }
+    let last = called_again(rt, live, seat, &poll("j1").ok_or("no event")?)?;
+    assert!(rt; holds_one(&last.reply));
+    receipts.push(last)?;
+    Ok(())
+}
+
 #[test]
 fn is_called_at_the_second_try(rt: HostRuntime) -> Result<(), Fail> {
     let alloc = rt.alloc();
     let (live, mut seat) = opened_again(&rt, alloc)?;
     let mut receipts = Vec::with_capacity(alloc, 5)?;
-    for event in script().ok_or("no script")? {
-        receipts.push(called_again(&rt, &live, &mut seat, &event)?)?;
-    }
-    let event = poll("j1").ok_or("no event")?;
-    let last = called_again(&rt, &live, &mut seat, &event)?;
-    assert!(rt; holds_one(&last.reply));
-    receipts.push(last)?;
-    let seats = vec![in alloc; seat]?;
-    let lists = vec![in alloc; receipts]?;
-    let len = closed_again(&rt, alloc, live, seats, lists.as_slice())?;
+    call_script(&rt, &live, &mut seat, &mut receipts)?;
+    let len = closed_alone_again(&rt, alloc, live, seat, receipts)?;
     assert_eq!(rt; len, Some(5));
     Ok(())
 }
@@ -100,50 +117,27 @@ fn run_again<R: Threads + Wait + Sync + Print>(
     rt: &R,
     alloc: Global,
     live: &Live,
-    seats: Vec<Seat>,
-    lists: &[Vec<Name>],
-) -> Result<Vec<WorkerEnd>, Fail>
-    requires { length lists.now ≡ vec_len seats }
-{
-    match run_round(rt, alloc, live, seats, lists, &open()) {
-        Ok(ends) => Ok(ends),
+    seat: Seat,
+) -> Result<WorkerEnd, Fail> {
+    let seats = one(alloc, seat)?;
+    let lists = one(alloc, turns(alloc, 1)?)?;
+    let mut ends = match run_round(rt, alloc, live, seats, &lists, &open()) {
+        Ok(ends) => ends,
         Err(Unrun { seats }) => {
             println!(rt; "refused")?;
-            let ends = run_round(rt, alloc, live, seats, lists, &open());
-            Ok(ends.ok().ok_or("not run")?)
+            run(rt, alloc, live, seats, &lists, &open())?
         }
-    }
+    };
+    Ok(ends.pop().ok_or("no worker")?)
 }
 
-/// Goes over the node once more, where a call of the worker was refused memory, and keeps all its receipts.
-fn worked_again<R: Threads + Wait + Sync + Print + Abort>(
-    rt: &R,
-    alloc: Global,
-    live: &Live,
-    first: WorkerEnd,
-) -> Result<WorkerEnd, Fail> {
-    let WorkerEnd {
-        seat,
-        mut receipts,
-        end,
-    } = first;
-    if end == End::Whole {
-        return Ok(WorkerEnd {
-            seat,
-            receipts,
-            end,
-        });
-    }
-    println!(rt; "refused")?;
-    assert!(rt; end == End::NoMemory && receipts.len() < 2);
-    let lists = [turns(alloc, 1)?];
-    let seats = vec![in alloc; seat]?;
-    let mut ends = run_again(rt, alloc, live, seats, &lists)?;
+/// The worker with these receipts before its own.
+fn joined(mut receipts: Vec<Receipt>, worker: WorkerEnd) -> Result<WorkerEnd, Fail> {
     let WorkerEnd {
         seat,
         receipts: more,
         end,
-    } = ends.pop().ok_or("no worker")?;
+    } = worker;
     for receipt in more {
         receipts.push(receipt)?;
     }
@@ -154,25 +148,43 @@ fn worked_again<R: Threads + Wait + Sync + Print + Abort>(
     })
 }
 
+/// Goes over the node once more, where a call of the worker was refused memory, and keeps all its receipts.
+fn worked_again<R: Threads + Wait + Sync + Print + Abort>(
+    rt: &R,
+    alloc: Global,
+    live: &Live,
+    first: WorkerEnd,
+) -> Result<WorkerEnd, Fail> {
+    if first.end == End::Whole {
+        return Ok(first);
+    }
+    println!(rt; "refused")?;
+    assert!(rt; first.end == End::NoMemory && first.receipts.len() < 2);
+    let WorkerEnd { seat, receipts, .. } = first;
+    joined(receipts, run_again(rt, alloc, live, seat)?)
+}
+
+/// The worker of a round, with all its receipts.
+fn whole_worker<R: Threads + Wait + Sync + Print + Abort>(
+    rt: &R,
+    alloc: Global,
+    started: &Started,
+) -> Result<WorkerEnd, Fail> {
+    let first = run_again(rt, alloc, &started.live, started.seat.split())?;
+    let worker = worked_again(rt, alloc, &started.live, first)?;
+    assert_eq!(rt; worker.end, End::Whole);
+    Ok(worker)
+}
+
 /// A worker that was refused memory did what its receipts tell, and goes over its node at the second try:
 /// the journal has the script, and all that the receipts tell.
 #[test]
 fn round_is_run_at_the_second_try(rt: HostRuntime) -> Result<(), Fail> {
     let alloc = rt.alloc();
-    let Started {
-        live,
-        seat,
-        receipts,
-    } = play_script(&rt, alloc)?;
-    let seats = vec![in alloc; seat.split()]?;
-    let lists = [turns(alloc, 1)?];
-    let mut ends = run_again(&rt, alloc, &live, seats, &lists)?;
-    let first = ends.pop().ok_or("no worker")?;
-    let worker = worked_again(&rt, alloc, &live, first)?;
-    assert_eq!(rt; worker.end, End::Whole);
+    let started = play_script(&rt, alloc)?;
+    let worker = whole_worker(&rt, alloc, &started)?;
     let entries = 4 + worker.receipts.len();
-    ends.push(worker)?;
-    let (seats, lists) = gathered(alloc, seat, receipts, ends)?;
+    let (live, seats, lists) = gathered(alloc, started, one(alloc, worker)?)?;
     let len = closed_again(&rt, alloc, live, seats, lists.as_slice())?;
     assert_eq!(rt; len, Some(entries));
     Ok(())

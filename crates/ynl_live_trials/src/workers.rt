@@ -1,6 +1,8 @@
 //! Workers that overlap, that are halted, and that have nothing to do.
 
-use crate::events::{ask, called, closed_len, opened, register, submit};
+ghost use Rattle.std.specs.Prelude.{◌≡◌, length, vec_len};
+
+use crate::events::{ask, called, closed_len, one, opened, register, submit, two};
 use std::alloc::Global;
 use std::process::Abort;
 use std::rt::Clock;
@@ -204,21 +206,67 @@ fn is_committed_as(worker: &WorkerEnd, id: Id) -> bool {
     }
 }
 
-/// The seats and the lists of all callers, the script's first.
+/// The scheduler, and the seats and the lists of all callers, the script's first.
 pub(crate) fn gathered(
     alloc: Global,
-    seat: Seat,
-    receipts: Vec<Receipt>,
+    started: Started,
     ends: Vec<WorkerEnd>,
-) -> Result<(Vec<Seat>, Vec<Vec<Receipt>>), Fail> {
-    let mut seats = vec![in alloc; seat]?;
-    let mut lists = vec![in alloc; receipts]?;
+) -> Result<(Live, Vec<Seat>, Vec<Vec<Receipt>>), Fail> {
+    let Started {
+        live,
+        seat,
+        receipts,
+    } = started;
+    let mut seats = one(alloc, seat)?;
+    let mut lists = one(alloc, receipts)?;
     for worker in ends {
         let WorkerEnd { seat, receipts, .. } = worker;
         seats.push(seat)?;
         lists.push(receipts)?;
     }
-    Ok((seats, lists))
+    Ok((live, seats, lists))
+}
+
+/// A round of workers. It has no contract, since that of `run_round` would stand in the proof of each test.
+pub(crate) fn run<R: Threads + Wait + Sync, G: Gate + Sync>(
+    rt: &R,
+    alloc: Global,
+    live: &Live,
+    seats: Vec<Seat>,
+    lists: &[Vec<Name>],
+    gate: &G,
+) -> Result<Vec<WorkerEnd>, Fail>
+    requires { length lists.now ≡ vec_len seats }
+{
+    match run_round(rt, alloc, live, seats, lists, gate) {
+        Ok(ends) => Ok(ends),
+        Err(_) => Err(Fail::new("not run")),
+    }
+}
+
+/// How many entries the closed journal of the script and of all workers has.
+fn closed_after(
+    alloc: Global,
+    started: Started,
+    ends: Vec<WorkerEnd>,
+) -> Result<Option<usize>, Fail> {
+    let (live, seats, lists) = gathered(alloc, started, ends)?;
+    Ok(closed_len(alloc, live, seats, lists.as_slice()))
+}
+
+/// Two workers, of which one is stale, and the other's container is committed.
+fn ends_of_two<R: Threads + Wait + Abort + Clock + Sync>(
+    rt: &R,
+    alloc: Global,
+    started: &Started,
+    in_plan: bool,
+) -> Result<Vec<WorkerEnd>, Fail> {
+    let seats = two(alloc, started.seat.split(), started.seat.split())?;
+    let lists = two(alloc, turns(alloc, 1)?, turns(alloc, 1)?)?;
+    let gate = Overlap::new(rt, in_plan);
+    let ends = run(rt, alloc, &started.live, seats, &lists, &gate)?;
+    assert_eq!(rt; gate.late.load(Ordering::SeqCst), 0);
+    Ok(ends)
 }
 
 fn two_that_overlap<R: Threads + Wait + Abort + Clock + Sync>(
@@ -226,27 +274,15 @@ fn two_that_overlap<R: Threads + Wait + Abort + Clock + Sync>(
     alloc: Global,
     in_plan: bool,
 ) -> Result<(), Fail> {
-    let Started {
-        live,
-        seat,
-        receipts,
-    } = play_script(rt, alloc)?;
-    let seats = vec![in alloc; seat.split(), seat.split()]?;
-    let lists = [turns(alloc, 1)?, turns(alloc, 1)?];
-    let gate = Overlap::new(rt, in_plan);
-    let ends = run_round(rt, alloc, &live, seats, &lists, &gate)
-        .ok()
-        .ok_or("not run")?;
-    assert_eq!(rt; gate.late.load(Ordering::SeqCst), 0);
+    let started = play_script(rt, alloc)?;
+    let ends = ends_of_two(rt, alloc, &started, in_plan)?;
     let id = Id::parse("gpu#3")?;
     assert!(rt; ends.first().is_some_and(is_stale));
     assert!(rt;
         ends.last()
             .is_some_and(|worker| is_committed_as(worker, id))
     );
-    let (seats, lists) = gathered(alloc, seat, receipts, ends)?;
-    let len = closed_len(alloc, live, seats, lists.as_slice());
-    assert_eq!(rt; len, Some(8));
+    assert_eq!(rt; closed_after(alloc, started, ends)?, Some(8));
     Ok(())
 }
 
@@ -262,59 +298,64 @@ fn workers_overlap_before_the_plan(rt: HostRuntime) -> Result<(), Fail> {
     two_that_overlap(&rt, rt.alloc(), true)
 }
 
-/// How each worker ended, and how many receipts it has.
-pub(crate) fn told(alloc: Global, ends: &[WorkerEnd]) -> Result<Vec<(End, usize)>, Fail> {
-    let mut told = Vec::new(alloc);
-    for worker in ends {
-        told.push((worker.end, worker.receipts.len()))?;
-    }
-    Ok(told)
+/// How a worker ended, and how many receipts it has.
+fn told(worker: Option<WorkerEnd>) -> Option<(End, usize)> {
+    let worker = worker?;
+    Some((worker.end, worker.receipts.len()))
 }
 
-/// A round of one worker, which is halted at a turn of three on the node.
+/// A round of one worker over so many turns on the node, which is halted at one of them.
+fn halted<R: Threads + Wait + Sync>(
+    rt: &R,
+    alloc: Global,
+    started: &Started,
+    count: usize,
+    turn: u64,
+) -> Result<Vec<WorkerEnd>, Fail> {
+    let seats = one(alloc, started.seat.split())?;
+    let lists = one(alloc, turns(alloc, count)?)?;
+    run(
+        rt,
+        alloc,
+        &started.live,
+        seats,
+        &lists,
+        &HaltsAt::turn(turn),
+    )
+}
+
+/// How a worker ends that is halted at a turn of three, and how many receipts it has.
 fn halted_at<R: Threads + Wait + Sync>(
     rt: &R,
     alloc: Global,
     turn: u64,
-) -> Result<Vec<(End, usize)>, Fail> {
-    let Started { live, seat, .. } = play_script(rt, alloc)?;
-    let seats = vec![in alloc; seat.split()]?;
-    let lists = [turns(alloc, 3)?];
-    let ends = run_round(rt, alloc, &live, seats, &lists, &HaltsAt::turn(turn))
-        .ok()
-        .ok_or("not run")?;
-    told(alloc, ends.as_slice())
+) -> Result<Option<(End, usize)>, Fail> {
+    let started = play_script(rt, alloc)?;
+    let mut ends = halted(rt, alloc, &started, 3, turn)?;
+    let end = told(ends.pop());
+    Ok(if ends.is_empty() { end } else { None })
 }
 
 #[test]
 fn worker_is_halted_before_the_commit(rt: HostRuntime) -> Result<(), Fail> {
     let alloc = rt.alloc();
     // Two containers are asked for: the third propose is answered none, so no gate is met there.
-    let first = halted_at(&rt, alloc, 0)?;
-    assert_eq!(rt; first.as_slice(), [(End::Halted, 1)].as_slice());
-    let second = halted_at(&rt, alloc, 1)?;
-    assert_eq!(rt; second.as_slice(), [(End::Halted, 3)].as_slice());
-    let third = halted_at(&rt, alloc, 2)?;
-    assert_eq!(rt; third.as_slice(), [(End::Whole, 5)].as_slice());
+    for (turn, end) in [
+        (0, (End::Halted, 1)),
+        (1, (End::Halted, 3)),
+        (2, (End::Whole, 5)),
+    ] {
+        assert!(rt; halted_at(&rt, alloc, turn)? == Some(end), "{turn}");
+    }
     Ok(())
 }
 
 #[test]
 fn a_halted_workers_journal_is_closed(rt: HostRuntime) -> Result<(), Fail> {
     let alloc = rt.alloc();
-    let Started {
-        live,
-        seat,
-        receipts,
-    } = play_script(&rt, alloc)?;
-    let seats = vec![in alloc; seat.split()]?;
-    let lists = [turns(alloc, 2)?];
-    let ends = run_round(&rt, alloc, &live, seats, &lists, &HaltsAt::turn(0))
-        .ok()
-        .ok_or("not run")?;
-    let (seats, lists) = gathered(alloc, seat, receipts, ends)?;
-    let len = closed_len(alloc, live, seats, lists.as_slice());
-    assert_eq!(rt; len, Some(5));
+    let started = play_script(&rt, alloc)?;
+    let ends = halted(&rt, alloc, &started, 2, 0)?;
+    assert_eq!(rt; closed_after(alloc, started, ends)?, Some(5));
     Ok(())
 }
 
@@ -322,12 +363,12 @@ fn a_halted_workers_journal_is_closed(rt: HostRuntime) -> Result<(), Fail> {
 fn workers_without_nodes_are_whole(rt: HostRuntime) -> Result<(), Fail> {
     let alloc = rt.alloc();
     let (live, seat) = opened(alloc)?;
-    let seats = vec![in alloc; seat.split(), seat.split(), seat.split()]?;
-    let lists = [turns(alloc, 0)?, turns(alloc, 0)?, turns(alloc, 0)?];
-    let ends = run_round(&rt, alloc, &live, seats, &lists, &HaltsAt::turn(0))
-        .ok()
-        .ok_or("not run")?;
-    let told = told(alloc, ends.as_slice())?;
-    assert!(rt; told.len() == 3 && told.iter().all(|end| *end == (End::Whole, 0)));
+    let mut seats = two(alloc, seat.split(), seat.split())?;
+    seats.push(seat)?;
+    let mut lists = two(alloc, turns(alloc, 0)?, turns(alloc, 0)?)?;
+    lists.push(turns(alloc, 0)?)?;
+    let ends = run(&rt, alloc, &live, seats, &lists, &HaltsAt::turn(0))?;
+    assert_eq!(rt; ends.len(), 3);
+    assert!(rt; ends.iter().all(|worker| worker.end == End::Whole && worker.receipts.is_empty()));
     Ok(())
 }

@@ -1,10 +1,12 @@
 //! A book that is entered at the second try, its audit and its replay.
 
+use std::alloc::Global;
+use std::process::Abort;
 use std::test::Fail;
 use ynl_config::built_in;
 use ynl_core::{Core, NoMemory, Sighted};
 use ynl_journal::{AuditFault, Book, Entry, audit, replay};
-use ynl_model::{Event, Reply};
+use ynl_model::Event;
 use ynl_resource::{Label, Name, Refusal, Size};
 
 /// A node joins, and joins again, which is refused; then it is ready for more.
@@ -19,100 +21,125 @@ fn event(number: u64) -> Result<Event, Fail> {
 }
 
 // Run with each allocation failing in turn: where memory is refused at the first try, which a line
-// tells, the second enters the event.
-fn entered(rt: &HostRuntime, book: &mut Book, number: u64) -> Result<(u64, Reply), Fail> {
+// tells, the second enters the event. It returns the place of the entry.
+fn entered<R: Print>(rt: &R, book: &mut Book, number: u64) -> Result<u64, Fail> {
     match book.enter(event(number)?) {
-        Ok(told) => Ok(told),
+        Ok((place, _reply)) => Ok(place),
         Err(NoMemory) => {
             println!(rt; "refused")?;
-            Ok(book.enter(event(number)?)?)
+            let (place, _reply) = book.enter(event(number)?)?;
+            Ok(place)
         }
     }
 }
 
 /// What an audit finds; where memory is refused, which a line tells, the second finds it.
-fn audited(rt: &HostRuntime, entries: &[Entry]) -> Result<Result<(), AuditFault>, Fail> {
-    let config = built_in(rt.alloc())?;
-    match audit(rt.alloc(), config, entries) {
+fn audited<R: Print>(
+    rt: &R,
+    alloc: Global,
+    entries: &[Entry],
+) -> Result<Result<(), AuditFault>, Fail> {
+    let config = built_in(alloc)?;
+    match audit(alloc, config, entries) {
         Err(AuditFault::NoMemory) => {
             println!(rt; "refused")?;
-            let config = built_in(rt.alloc())?;
-            Ok(audit(rt.alloc(), config, entries))
+            let config = built_in(alloc)?;
+            Ok(audit(alloc, config, entries))
         }
         found => Ok(found),
     }
 }
 
 /// The cluster that the entries lead to; where memory is refused, which a line tells, at the second try.
-fn replayed(rt: &HostRuntime, entries: &[Entry]) -> Result<Core, Fail> {
-    match replay(rt.alloc(), built_in(rt.alloc())?, entries) {
+fn replayed<R: Print>(rt: &R, alloc: Global, entries: &[Entry]) -> Result<Core, Fail> {
+    match replay(alloc, built_in(alloc)?, entries) {
         Ok(core) => Ok(core),
         Err(NoMemory) => {
             println!(rt; "refused")?;
-            Ok(replay(rt.alloc(), built_in(rt.alloc())?, entries)?)
+            Ok(replay(alloc, built_in(alloc)?, entries)?)
         }
     }
 }
 
 /// Whether the cluster that the entries lead to would place anything on the node.
-fn places(rt: &HostRuntime, entries: &[Entry]) -> Result<bool, Fail> {
-    let core = replayed(rt, entries)?;
-    Ok(core.choose(&Name::parse("g1")?).is_some())
+fn places<R: Print>(rt: &R, alloc: Global, entries: &[Entry]) -> Result<bool, Fail> {
+    let node = Name::parse("g1")?;
+    let core = replayed(rt, alloc, entries)?;
+    Ok(core.choose(&node).is_some())
 }
 
 /// All that audits and replays say of the book's entries.
-fn is_told(rt: &HostRuntime, entries: &[Entry]) -> Result<bool, Fail> {
+fn is_told<R: Print>(rt: &R, alloc: Global, entries: &[Entry]) -> Result<bool, Fail> {
     let Some((_, later)) = entries.split_first() else {
         return Ok(false);
     };
     // Without the first event the second is not refused.
-    let whole = audited(rt, entries)? == Ok(());
-    let other = audited(rt, later)? == Err(AuditFault::Differs(1));
-    Ok(whole && other && !places(rt, entries)?)
+    let whole = audited(rt, alloc, entries)? == Ok(());
+    let other = audited(rt, alloc, later)? == Err(AuditFault::Differs(1));
+    Ok(whole && other && !places(rt, alloc, entries)?)
+}
+
+/// Why a propose is refused, if it is.
+fn refusal_of(sighted: &Sighted) -> Option<Refusal> {
+    match sighted {
+        Sighted::Refused(refusal) => Some(*refusal),
+        Sighted::Seen(_) => None,
+    }
 }
 
 /// Enters a propose; where memory is refused, which a line tells, no entry is added, and the second try enters it.
-fn seen(rt: &HostRuntime, book: &mut Book) -> Result<(u64, Sighted), Fail> {
+fn seen<R: Print>(rt: &R, book: &mut Book) -> Result<(u64, Option<Refusal>), Fail> {
     let node = Name::parse("g1")?;
     let count = book.entries().len();
     match book.enter_propose(&node) {
-        Ok(told) => Ok(told),
+        Ok((place, sighted)) => Ok((place, refusal_of(&sighted))),
         Err(NoMemory) => {
             println!(rt; "refused")?;
             if book.entries().len() > count {
                 return Err(Fail::new("an entry was added"));
             }
-            Ok(book.enter_propose(&node)?)
+            let (place, sighted) = book.enter_propose(&node)?;
+            Ok((place, refusal_of(&sighted)))
         }
     }
 }
 
-/// A propose on a node that is not there is entered with its refusal, and one on a node that is without a reply.
-#[test]
-fn enters_a_propose_at_the_second_try(rt: HostRuntime) -> Result<(), Fail> {
-    let mut book = Book::open(rt.alloc(), built_in(rt.alloc())?)?;
-    let first = seen(&rt, &mut book)?;
-    assert!(rt; first.0 == 0 && matches!(&first.1, Sighted::Refused(Refusal::NoSuchNode)));
-    let _joined = entered(&rt, &mut book, 0)?;
-    let second = seen(&rt, &mut book)?;
-    assert!(rt; second.0 == 2 && matches!(&second.1, Sighted::Seen(_)));
-    let has_reply = |place: usize| match book.entries().get(place) {
+fn has_reply(book: &Book, place: usize) -> bool {
+    match book.entries().get(place) {
         Some(entry) => entry.reply.is_some(),
         None => false,
-    };
-    assert!(rt; has_reply(0) && has_reply(1) && !has_reply(2));
-    assert_eq!(rt; audited(&rt, book.entries())?, Ok(()));
+    }
+}
+
+/// A propose on a node that is not there is entered with its refusal, and one on a node that is without a reply.
+fn enters_proposes<R: Print + Abort>(rt: &R, alloc: Global, book: &mut Book) -> Result<(), Fail> {
+    assert!(rt; seen(rt, book)? == (0, Some(Refusal::NoSuchNode)));
+    let _joined = entered(rt, book, 0)?;
+    assert!(rt; seen(rt, book)? == (2, None));
+    assert!(rt; has_reply(book, 0) && has_reply(book, 1) && !has_reply(book, 2));
+    assert!(rt; audited(rt, alloc, book.entries())? == Ok(()));
+    Ok(())
+}
+
+#[test]
+fn enters_a_propose_at_the_second_try(rt: HostRuntime) -> Result<(), Fail> {
+    let alloc = rt.alloc();
+    let mut book = Book::open(alloc, built_in(alloc)?)?;
+    enters_proposes(&rt, alloc, &mut book)
+}
+
+fn enters<R: Print + Abort>(rt: &R, alloc: Global, book: &mut Book) -> Result<(), Fail> {
+    for number in 0..3 {
+        assert_eq!(rt; entered(rt, book, number)?, number);
+    }
+    assert_eq!(rt; book.entries().len(), 3);
+    assert!(rt; is_told(rt, alloc, book.entries())?);
     Ok(())
 }
 
 #[test]
 fn enters_at_the_second_try(rt: HostRuntime) -> Result<(), Fail> {
-    let mut book = Book::open(rt.alloc(), built_in(rt.alloc())?)?;
-    for number in 0..3 {
-        let told = entered(&rt, &mut book, number)?;
-        assert!(rt; told.0 == number);
-    }
-    assert_eq!(rt; book.entries().len(), 3);
-    assert!(rt; is_told(&rt, book.entries())?);
-    Ok(())
+    let alloc = rt.alloc();
+    let mut book = Book::open(alloc, built_in(alloc)?)?;
+    enters(&rt, alloc, &mut book)
 }

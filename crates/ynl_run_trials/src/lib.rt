@@ -13,4 +13,6 @@ mod journals;
 #[cfg(test)]
 mod sights;
 #[cfg(test)]
+mod streams;
+#[cfg(test)]
 mod views;

@@ -1,6 +1,6 @@
 //! What a tenant sees, the answers that are picked, and a cluster without queues.
 
-ghost use Rattle.std.specs.Prelude.{◌≡◌, length};
+ghost use Rattle.std.specs.Prelude.{◌≡◌, IfOk, length, vec_len};
 
 use std::alloc::{AllocError, Global};
 use std::test::Fail;
@@ -68,32 +68,49 @@ fn seen_of(
     pick(alloc, answers, &seen.places)
 }
 
+/// A container of the tenant's, placed on a node.
+fn container(tenant: Name) -> Result<Placed, Fail> {
+    Ok(Placed {
+        id: Id::parse("gpu#2")?,
+        node: tenant,
+        tenant,
+        app: tenant,
+        what: What::Master,
+        size: Size::new(1000, 1).ok_or("no size")?,
+    })
+}
+
+/// The answers to two events, of which the second placed something.
+fn two_answers(rt: &HostRuntime, tenant: Name) -> Result<Vec<Answer>, Fail>
+    ensures { IfOk result (λ answers. vec_len answers ≡ 2) }
+{
+    let second = placed_again(rt, container(tenant)?)?;
+    let mut answers = Vec::new(rt.alloc());
+    answers.push(Answer::NoMemory)?;
+    answers.push(second)?;
+    Ok(answers)
+}
+
+fn picked(rt: &HostRuntime, config: &Config, tenant: &Name) -> Result<Vec<Answer>, Fail> {
+    let events = [registered("d1", "")?, registered("g1", "gpu")?];
+    let answers = two_answers(rt, *tenant)?;
+    match seen_of(rt.alloc(), config, &events, &answers, tenant) {
+        Ok(picked) => Ok(picked),
+        Err(NoMemory) => {
+            println!(rt; "refused")?;
+            Ok(seen_of(rt.alloc(), config, &events, &answers, tenant)?)
+        }
+    }
+}
+
 #[test]
 fn picks_at_the_second_try(rt: HostRuntime) -> Result<(), Fail> {
     let eng = Name::parse("eng")?;
     let config = configured(&rt)?;
     assert!(rt; sole(&config, &eng, &Label::parse("gpu")?));
-    let container = Placed {
-        id: Id::parse("gpu#2")?,
-        node: eng,
-        tenant: eng,
-        app: eng,
-        what: What::Master,
-        size: Size::new(1000, 1).ok_or("no size")?,
-    };
-    let events = [registered("d1", "")?, registered("g1", "gpu")?];
-    let answers = [Answer::NoMemory, placed_again(&rt, container)?];
-    let picked = match seen_of(rt.alloc(), &config, &events, &answers, &eng) {
-        Ok(picked) => picked,
-        Err(NoMemory) => {
-            println!(rt; "refused")?;
-            seen_of(rt.alloc(), &config, &events, &answers, &eng)?
-        }
-    };
+    let picked = picked(&rt, &config, &eng)?;
     assert_eq!(rt; picked.len(), 1);
-    for answer in &picked {
-        assert!(rt; is_placed(answer));
-    }
+    assert!(rt; picked.iter().all(is_placed));
     Ok(())
 }
 
@@ -120,9 +137,10 @@ fn is_refused(answer: &Answer, reason: Refusal) -> bool {
 #[test]
 fn nobody_submits_to_root(rt: HostRuntime) -> Result<(), Fail> {
     let alloc = rt.alloc();
+    let event = submitted_to_root()?;
     let nobody = restrict(alloc, &configured(&rt)?, &Name::parse("mkt")?)?;
     assert!(rt; nobody.queues().is_empty());
-    let ran = run(alloc, nobody, &[submitted_to_root()?])?;
+    let ran = run(alloc, nobody, &[event])?;
     for answer in ran.answers.as_slice() {
         assert!(rt; is_refused(answer, Refusal::NotALeaf));
     }
