@@ -5,6 +5,7 @@
 pub use audit::audit_lines;
 pub use checking::check_text;
 pub use config_text::{fault_of, read_text};
+pub use explaining::explain_lines;
 pub use jobs::{execute_check, execute_live, execute_sequential, tell};
 pub use live::live_lines;
 pub use live_words::Workers;
@@ -20,6 +21,7 @@ pub mod audit_laws;
 mod check_words;
 mod checking;
 mod config_text;
+mod explaining;
 mod jobs;
 mod kept;
 mod lines_in;

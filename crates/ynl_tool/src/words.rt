@@ -33,6 +33,8 @@ pub enum SequentialKind {
     Tenant(Name, Label),
     /// To audit the journal that an input is.
     Audit,
+    /// To explain why an application of a tenant waits after an input.
+    Explain(Name, Name),
 }
 
 /// What the program is asked to do.
@@ -332,13 +334,34 @@ fn command_of_journals<'a>(alloc: Global) -> Result<Command<'a>, AllocError>
     command_of_events(alloc)?.subcommand(audit)
 }
 
+fn app_option<'a>(alloc: Global) -> Arg<'a> {
+    Arg::new(alloc, "app")
+        .long("app")
+        .value_name("NAME")
+        .help("The application")
+        .required(true)
+}
+
+/// The subcommand `explain`.
+fn explain<'a>(alloc: Global) -> Result<Command<'a>, AllocError> {
+    let tenant = tenant_option(alloc);
+    let app = app_option(alloc);
+    let config = config_option(alloc);
+    Command::new(alloc, "explain").about("Tells why an application waits").arg(tenant)?.arg(app)?.arg(config)
+}
+
+fn command_of_explanations<'a>(alloc: Global) -> Result<Command<'a>, AllocError> {
+    let explain = explain(alloc)?;
+    command_of_journals(alloc)?.subcommand(explain)
+}
+
 /// The same with `check`.
 fn command_of_checks<'a>(alloc: Global) -> Result<Command<'a>, AllocError>
     ensures app { IfOk result (λ c. app_of c ≡ spec.command_of_checks) }
     ensures local { IfOk result (λ c. (fields_of c).has_globals ≡ false) }
 {
     let check = check_command(alloc)?;
-    command_of_journals(alloc)?.subcommand(check)
+    command_of_explanations(alloc)?.subcommand(check)
 }
 
 /// The command `ynl`.
@@ -376,6 +399,11 @@ fn kind_of(subcommand: &str, options: &ArgMatches<'_>) -> Option<Kind>
         let tenant = name_in(options.get_str("tenant"))?;
         let label = label_in(options.get_str("label"))?;
         return Some(Kind::Sequential(SequentialKind::Tenant(tenant, label)));
+    }
+    if subcommand == "explain" {
+        let tenant = name_in(options.get_str("tenant"))?;
+        let app = name_in(options.get_str("app"))?;
+        return Some(Kind::Sequential(SequentialKind::Explain(tenant, app)));
     }
     if subcommand == "audit" {
         return Some(Kind::Sequential(SequentialKind::Audit));
