@@ -29,7 +29,7 @@ use Rattle.ynl_tool.specs.declared.words.Kind.TheVariants.{Sequential, Check}
 use Rattle.ynl_tool.specs.declared.words.SequentialKind.TheVariants.{Run, Audit}
 use Rattle.ynl_tool.specs.declared.words.WordsFault.{WordsFault}
 use Rattle.ynl_tool.specs.declared.words.WordsFault.TheVariants.{Words, NoMemory}
-use Rattle.ynl_tool.specs.Words.{command, name_in, label_in, tenant_by, workers_in, rounds_in, live_by, live_met, form_in, check_met, is_number, number_of, kind_met, kind_of}
+use Rattle.ynl_tool.specs.Words.{command, name_in, label_in, tenant_by, explain_by, explain_met, workers_in, rounds_in, live_by, live_met, form_in, check_met, is_number, number_of, kind_met, kind_of}
 
 pub taken : (words : List Text) → drop 1 words ≡ codes "run" ∷ [] → takes command words ≡ true
 unfolding clap_on_literals
@@ -72,7 +72,7 @@ label_read found p e = e ∙ ap (option_and_then label_in) (first_value-rows fou
 
 tenant_met : (name : Text) (rows : List Row) → bytes_eq name (codes "tenant") ≡ true
     → kind_met (name, rows) ≡ tenant_by (option_and_then name_in (first_of (codes "tenant") rows)) (option_and_then label_in (first_of (codes "label") rows))
-tenant_met name rows e = ap (λ b. cond b (tenant_by (option_and_then name_in (first_of (codes "tenant") rows)) (option_and_then label_in (first_of (codes "label") rows))) (cond (bytes_eq name (codes "audit")) (Some (Sequential Audit)) (cond (bytes_eq name (codes "live")) (live_met rows) (cond (bytes_eq name (codes "check")) (Some (check_met rows)) (Some (Sequential Run)))))) e
+tenant_met name rows e = ap (λ b. cond b (tenant_by (option_and_then name_in (first_of (codes "tenant") rows)) (option_and_then label_in (first_of (codes "label") rows))) (cond (bytes_eq name (codes "audit")) (Some (Sequential Audit)) (cond (bytes_eq name (codes "explain")) (explain_met rows) (cond (bytes_eq name (codes "live")) (live_met rows) (cond (bytes_eq name (codes "check")) (Some (check_met rows)) (Some (Sequential Run))))))) e
 
 pub kind_named : (name : Text) (found : Found) (t : Option Name) (p : Option Label) → bytes_eq name (codes "tenant") ≡ true → t ≡ option_and_then name_in (first_value found (codes "tenant"))
     → p ≡ option_and_then label_in (first_value found (codes "label")) → tenant_by t p ≡ kind_met (name, rows_of found)
@@ -83,6 +83,17 @@ kind_named name found t p same named labelled =
 pub kind_unnamed : (name : Text) (found : Found) → bytes_eq name (codes "tenant") ≡ true → None ≡ option_and_then name_in (first_value found (codes "tenant")) → None ≡ kind_met (name, rows_of found)
 kind_unnamed name found same named =
     ap (λ o. tenant_by o (option_and_then label_in (first_of (codes "label") (rows_of found)))) (name_read found None named) ∙ sym (tenant_met name (rows_of found) same)
+
+-- what `explain` asks for, by what its options give
+pub explain_read : (found : Found) (t a : Option Name) → t ≡ option_and_then name_in (first_value found (codes "tenant")) → a ≡ option_and_then name_in (first_value found (codes "app"))
+    → explain_by t a ≡ explain_met (rows_of found)
+explain_read found t a named applied =
+    ap (λ o. explain_by o a) (name_read found t named)
+    ∙ ap (explain_by (option_and_then name_in (first_of (codes "tenant") (rows_of found)))) (applied ∙ ap (option_and_then name_in) (first_value-rows found (codes "app")))
+
+-- without a tenant it asks for nothing, whatever the application
+pub explain_unread : (found : Found) → None ≡ option_and_then name_in (first_value found (codes "tenant")) → None ≡ explain_met (rows_of found)
+explain_unread found named = explain_read found None (option_and_then name_in (first_value found (codes "app"))) named refl
 
 -- what `live` asks for, by what its options give
 pub live_read : (found : Found) (w r : Option ℕ) → w ≡ option_and_then workers_in (first_value found (codes "workers")) → r ≡ option_and_then rounds_in (first_value found (codes "rounds"))

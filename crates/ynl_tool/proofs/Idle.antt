@@ -9,7 +9,7 @@ use Rattle.ynl_model.specs.View.{is_sole}
 use Rattle.ynl_config.specs.declared.faults.ConfigFault.{ConfigFault}
 use Rattle.ynl_tool.specs.declared.run.ToolFault.TheVariants.{NoMemory}
 use Rattle.ynl_tool.specs.declared.words.SequentialKind.{SequentialKind}
-use Rattle.ynl_tool.specs.declared.words.SequentialKind.TheVariants.{Run, Tenant, Audit}
+use Rattle.ynl_tool.specs.declared.words.SequentialKind.TheVariants.{Run, Tenant, Audit, Explain}
 use Rattle.ynl_tool.specs.Jobs.{Doing, Ending, IsIdle, DoesSequentialJob, DoesWith, EndsWithout, LivesJob, TellsJob}
 use Rattle.ynl_tool.specs.Input.{between}
 use Rattle.ynl_tool.proofs.Runs.{stops_at_once}
@@ -41,6 +41,7 @@ module _ (old wold : Option (List ℕ)) where
   idle_job Run = λ c. stops_at_once old wold c (opening c)
   idle_job (Tenant t p) = λ c. idle_by c t p (is_sole c t p)
   idle_job Audit = λ c. inl (record { read = nothing_read (audit_way c) old NoMemory; unwritten = Appends-nil wold })
+  idle_job (Explain t a) = λ c. inl (record { read = nothing_read script_way old NoMemory; unwritten = Appends-nil wold })
 
   idle_live : (rounds : ℕ) → IdlesAt (LivesJob rounds)
   unfolding IdlesAt

@@ -1,6 +1,7 @@
 pub mod Audited
 pub mod Audits
 pub mod Commands
+pub mod Explainings
 pub mod Fronts
 pub mod Held
 pub mod Idle

@@ -2,6 +2,7 @@ pub mod Audit
 pub mod Audited
 pub mod Auditing
 pub mod Checking
+pub mod Explaining
 pub mod Input
 pub mod Jobs
 pub mod Keeping

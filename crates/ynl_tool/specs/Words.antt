@@ -15,7 +15,7 @@ use Rattle.ynl_tool.specs.declared.words.Kind.{Kind}
 use Rattle.ynl_check.specs.declared.checking.Form.{Form}
 use Rattle.ynl_check.specs.declared.checking.Form.TheVariants.{Lines, Plain}
 use Rattle.ynl_tool.specs.declared.words.Kind.TheVariants.{Sequential, Check, Live}
-use Rattle.ynl_tool.specs.declared.words.SequentialKind.TheVariants.{Run, Tenant, Audit}
+use Rattle.ynl_tool.specs.declared.words.SequentialKind.TheVariants.{Run, Tenant, Audit, Explain}
 
 -- the option `--config FILE`
 abbrev pub config_rule : Rule
@@ -28,6 +28,10 @@ tenant_rule = record (new_rule (codes "tenant")) { long = Some (codes "tenant");
 -- the option `--label LABEL`, which is required
 abbrev pub label_rule : Rule
 label_rule = record (new_rule (codes "label")) { long = Some (codes "label"); value_names = 1; required = true }
+
+-- the option `--app NAME`, which is required
+abbrev pub app_rule : Rule
+app_rule = record (new_rule (codes "app")) { long = Some (codes "app"); value_names = 1; required = true }
 
 -- the option `--workers N`, from 1 to 64, without which it is 2
 abbrev pub workers_rule : Rule
@@ -53,6 +57,10 @@ tenant_command = with_rule (with_rule (with_rule (new_app (codes "tenant")) tena
 abbrev pub audit_command : App
 audit_command = with_rule (new_app (codes "audit")) config_rule
 
+-- the subcommand `explain`
+abbrev pub explain_command : App
+explain_command = with_rule (with_rule (with_rule (new_app (codes "explain")) tenant_rule) app_rule) config_rule
+
 -- the subcommand `check`
 abbrev pub check_command : App
 check_command = with_rule (with_rule (new_app (codes "check")) plain_rule) config_rule
@@ -65,13 +73,17 @@ live_command = with_rule (with_rule (with_rule (new_app (codes "live")) workers_
 abbrev pub bare_command : App
 bare_command = on_top (λ s. record s { subcommand_required = true }) (new_app (codes "ynl"))
 
--- the command `ynl` without `check` and `live`
+-- the command `ynl` without `explain`, `check` and `live`
 abbrev pub command_of_journals : App
 command_of_journals = with_subcommand (with_subcommand (with_subcommand bare_command run_command.top) tenant_command.top) audit_command.top
 
+-- the same with `explain`
+abbrev pub command_of_explanations : App
+command_of_explanations = with_subcommand command_of_journals explain_command.top
+
 -- the same with `check`
 abbrev pub command_of_checks : App
-command_of_checks = with_subcommand command_of_journals check_command.top
+command_of_checks = with_subcommand command_of_explanations check_command.top
 
 -- the command `ynl`
 abbrev pub command : App
@@ -98,6 +110,16 @@ abbrev pub tenant_by : Option Name → Option Label → Option Kind
 tenant_by (Some t) (Some p) = Some (Sequential (Tenant t p))
 tenant_by (Some t) None = None
 tenant_by None p = None
+
+-- a tenant and its application, where both are there
+abbrev pub explain_by : Option Name → Option Name → Option Kind
+explain_by (Some t) (Some a) = Some (Sequential (Explain t a))
+explain_by (Some t) None = None
+explain_by None a = None
+
+-- what `explain` asks for with its options
+abbrev pub explain_met : List Row → Option Kind
+explain_met rows = explain_by (option_and_then name_in (first_of (codes "tenant") rows)) (option_and_then name_in (first_of (codes "app") rows))
 
 -- digits, at least one, that are the number of a `u64`
 abbrev pub is_number : Text → Bool
@@ -151,6 +173,7 @@ kind_met met =
     if bytes_eq met.0 (codes "tenant")
     then tenant_by (option_and_then name_in (first_of (codes "tenant") met.1)) (option_and_then label_in (first_of (codes "label") met.1))
     else if bytes_eq met.0 (codes "audit") then Some (Sequential Audit)
+    else if bytes_eq met.0 (codes "explain") then explain_met met.1
     else if bytes_eq met.0 (codes "live") then live_met met.1
     else if bytes_eq met.0 (codes "check") then Some (check_met met.1)
     else Some (Sequential Run)

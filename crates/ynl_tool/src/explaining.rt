@@ -1,64 +1,79 @@
 //! Explaining why an application waits, after a script.
 
-use crate::lines_in::{Lines, Next, is_blank};
+ghost use Rattle.std.specs.Prelude.{◌≡◌, ◌≢◌, IfOk, IfErr};
+ghost use Rattle.ynl_tool.specs.declared.run.ToolFault.TheVariants.{Read};
+ghost use Rattle.ynl_tool.specs.Explaining.{cluster_after, explanation, waits_text, Explains, ExplainsWhole};
+ghost use Rattle.ynl_tool.specs.Input.{between};
+ghost use Rattle.ynl_tool.specs.Running.{Writes};
+ghost use Rattle.ynl_tool.specs.Script.{script_read};
+
 use crate::lines_out::write_text;
 use crate::run::{Summary, ToolFault, report};
+use crate::script_in::{Script, read_script};
 use std::alloc::Global;
 use std::io::{BufRead, Write};
 use ynl_core::{Core, NoMemory};
 use ynl_explain::told_text;
-use ynl_lines::{EventReader, InputFault, LineFault};
+use ynl_lines::InputFault;
+use ynl_model::Event;
 use ynl_queues::Config;
 use ynl_resource::Name;
 
-/// Takes the event of a line, or gives the line's fault.
-fn take_line(
-    alloc: Global,
-    events: &mut EventReader,
-    core: &mut Core,
-    line: &[u8],
-) -> Result<Option<LineFault>, NoMemory> {
-    if is_blank(line) {
-        return Ok(None);
+/// A cluster that the events were applied to.
+fn cluster_after(alloc: Global, config: Config, events: &[Event]) -> Result<Core, NoMemory>
+    ensures { IfOk result (λ core. core ≡ cluster_after config events.now) }
+{
+    let mut core = Core::open(alloc, config)?;
+    for event in events {
+        core.apply(*event)?;
     }
-    match events.read(alloc, line)? {
-        Ok(event) => {
-            core.apply(event)?;
-            Ok(None)
-        }
-        Err(fault) => Ok(Some(fault)),
-    }
+    Ok(core)
 }
 
-/// Takes the events of the reader, to its end or to the first line with a fault.
-fn take_script<R: BufRead>(
+/// The text of why the application waits after the events.
+fn waits_text(
     alloc: Global,
-    core: &mut Core,
-    reader: &mut R,
-) -> Result<Summary, ToolFault> {
-    let mut input = Lines::new(alloc);
-    let mut events = EventReader::new(alloc);
-    'lines: loop {
-        let fault = match input.next(reader)? {
-            Next::TooLong => Some(LineFault::Size),
-            Next::End => {
-                return Ok(Summary {
-                    lines: input.count,
-                    fault: None,
-                });
-            }
-            Next::Line => take_line(alloc, &mut events, core, &input.line)?,
-        };
-        if let Some(fault) = fault {
-            return Ok(Summary {
-                lines: input.count,
-                fault: Some(InputFault::Script(fault)),
-            });
-        }
-    }
+    config: Config,
+    tenant: &Name,
+    app: &Name,
+    events: &[Event],
+) -> Result<Vec<u8>, NoMemory>
+    ensures { IfOk result (λ text. text.items ≡ waits_text config tenant.now app.now events.now) }
+{
+    let core = cluster_after(alloc, config, events)?;
+    let explained = core.explain(tenant, app)?;
+    Ok(told_text(alloc, tenant, app, &explained)?)
 }
 
-/// Reads the script, and only then writes why the requests of an application wait.
+/// Writes what is told of a script.
+fn tell<W: Write>(
+    alloc: Global,
+    config: Config,
+    tenant: &Name,
+    app: &Name,
+    script: &Script,
+    writer: &mut W,
+) -> Result<Summary, ToolFault>
+    ensures text { Writes (W.contents writer.old) (W.contents writer.new) (explanation config tenant.now app.now (script_read script.now)) result }
+    ensures fault { IfErr result (λ e. e ≢ Read) }
+{
+    if let Some(fault) = script.fault {
+        return report(alloc, writer, InputFault::Script(fault), script.lines);
+    }
+    let text = waits_text(alloc, config, tenant, app, &script.events)?;
+    write_text(writer, &text)?;
+    Ok(Summary {
+        lines: script.lines,
+        fault: None,
+    })
+}
+
+/// Reads the script, and only then writes why the requests of the tenant's application wait after its
+/// events: a line for each request, or the reply of a refusal where there is no such application. Of a
+/// script with a fault nothing is told but that fault, in one line.
+///
+/// After a read fault nothing is written, nor where memory was refused; after a write fault a front of
+/// the text.
 pub fn explain_lines<R: BufRead, W: Write>(
     alloc: Global,
     config: Config,
@@ -66,14 +81,10 @@ pub fn explain_lines<R: BufRead, W: Write>(
     app: &Name,
     reader: &mut R,
     writer: &mut W,
-) -> Result<Summary, ToolFault> {
-    let mut core = Core::open(alloc, config)?;
-    let read = take_script(alloc, &mut core, reader)?;
-    if let Some(fault) = read.fault {
-        return report(alloc, writer, fault, read.lines);
-    }
-    let explained = core.explain(tenant, app)?;
-    let text = told_text(alloc, tenant, app, &explained)?;
-    write_text(writer, &text)?;
-    Ok(read)
+) -> Result<Summary, ToolFault>
+    ensures whole { ExplainsWhole (between (R.remaining reader.old) (R.remaining reader.new)) (between (W.contents writer.old) (W.contents writer.new)) config tenant.now app.now result }
+    ensures steps { Explains (between (R.remaining reader.old) (R.remaining reader.new)) (between (W.contents writer.old) (W.contents writer.new)) config tenant.now app.now result }
+{
+    let script = read_script(alloc, reader)?;
+    tell(alloc, config, tenant, app, &script, writer)
 }

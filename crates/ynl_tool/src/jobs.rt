@@ -10,8 +10,8 @@ ghost use Rattle.ynl_tool.specs.Checking.{verdict_status, ExecutesCheck};
 
 use crate::audit::audit_lines;
 use crate::checking::check_text;
-use crate::lines_out::{write_text, write_three};
 use crate::explaining::explain_lines;
+use crate::lines_out::{write_text, write_three};
 use crate::live::{FreeGate, live_lines};
 use crate::live_words::Workers;
 use crate::run::{Summary, ToolFault, run_lines};
@@ -103,16 +103,16 @@ fn do_job<R: BufRead, W: Write>(
                 Err(fault) => Err(fault),
             }
         }
+        SequentialKind::Audit => match audit_lines(alloc, config, reader, writer) {
+            Ok(summary) => Ok(Ok(summary)),
+            Err(fault) => Err(fault),
+        },
         SequentialKind::Explain(tenant, app) => {
             match explain_lines(alloc, config, &tenant, &app, reader, writer) {
                 Ok(summary) => Ok(Ok(summary)),
                 Err(fault) => Err(fault),
             }
         }
-        SequentialKind::Audit => match audit_lines(alloc, config, reader, writer) {
-            Ok(summary) => Ok(Ok(summary)),
-            Err(fault) => Err(fault),
-        },
     }
 }
 

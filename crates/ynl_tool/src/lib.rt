@@ -21,6 +21,7 @@ pub mod audit_laws;
 mod check_words;
 mod checking;
 mod config_text;
+mod explain_words;
 mod explaining;
 mod jobs;
 mod kept;

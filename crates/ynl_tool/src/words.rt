@@ -16,6 +16,7 @@ ghost use Rattle.ynl_tool.specs.Words as spec;
 ghost use Rattle.ynl_tool.specs.declared.words.WordsFault.TheVariants.{Words, BadName, NoMemory};
 
 use crate::check_words::{check_command, check_kind};
+use crate::explain_words::{explain_command, explain_kind};
 use crate::live_words::{Workers, live_command, live_kind};
 use clap::error::ErrorKind;
 use clap::{Arg, ArgMatches, Command};
@@ -62,8 +63,8 @@ pub enum WordsFault {
     /// They are wrong, or ask for help. The error's text is what the user is to read.
     #[error(transparent)]
     Words(clap::Error),
-    /// The tenant is no name, or the label is none.
-    #[error("the tenant is no name, or the label is none")]
+    /// The tenant or the application is no name, or the label is none.
+    #[error("the tenant or the application is no name, or the label is none")]
     BadName,
     /// Memory was refused.
     #[error("out of memory")]
@@ -113,6 +114,7 @@ Examples:
   ynl run < events > replies
   ynl tenant --tenant eng --label gpu < events
   ynl audit < journal
+  ynl explain --tenant eng --app j1 < events
   ynl check --config cluster.toml
   ynl live --workers 4 < events > journal";
 
@@ -217,7 +219,8 @@ pub(crate) fn config_option<'a>(alloc: Global) -> Arg<'a>
         .help(CONFIG_HELP)
 }
 
-fn tenant_option<'a>(alloc: Global) -> Arg<'a>
+/// The option that names the tenant.
+pub(crate) fn tenant_option<'a>(alloc: Global) -> Arg<'a>
     ensures rule { rule_of result ≡ spec.tenant_rule }
     ensures local { result.global ≡ false }
 {
@@ -334,24 +337,12 @@ fn command_of_journals<'a>(alloc: Global) -> Result<Command<'a>, AllocError>
     command_of_events(alloc)?.subcommand(audit)
 }
 
-fn app_option<'a>(alloc: Global) -> Arg<'a> {
-    Arg::new(alloc, "app")
-        .long("app")
-        .value_name("NAME")
-        .help("The application")
-        .required(true)
-}
-
-/// The subcommand `explain`.
-fn explain<'a>(alloc: Global) -> Result<Command<'a>, AllocError> {
-    let tenant = tenant_option(alloc);
-    let app = app_option(alloc);
-    let config = config_option(alloc);
-    Command::new(alloc, "explain").about("Tells why an application waits").arg(tenant)?.arg(app)?.arg(config)
-}
-
-fn command_of_explanations<'a>(alloc: Global) -> Result<Command<'a>, AllocError> {
-    let explain = explain(alloc)?;
+/// The same with `explain`.
+fn command_of_explanations<'a>(alloc: Global) -> Result<Command<'a>, AllocError>
+    ensures app { IfOk result (λ c. app_of c ≡ spec.command_of_explanations) }
+    ensures local { IfOk result (λ c. (fields_of c).has_globals ≡ false) }
+{
+    let explain = explain_command(alloc)?;
     command_of_journals(alloc)?.subcommand(explain)
 }
 
@@ -373,7 +364,8 @@ fn command<'a>(alloc: Global) -> Result<Command<'a>, AllocError>
     command_of_checks(alloc)?.subcommand(live)
 }
 
-fn name_in(text: Option<&str>) -> Option<Name>
+/// The name that a text is.
+pub(crate) fn name_in(text: Option<&str>) -> Option<Name>
     ensures { result ≡ option_and_then spec.name_in (option_map (λ s. s.now) text.entry) }
 {
     match text {
@@ -400,13 +392,11 @@ fn kind_of(subcommand: &str, options: &ArgMatches<'_>) -> Option<Kind>
         let label = label_in(options.get_str("label"))?;
         return Some(Kind::Sequential(SequentialKind::Tenant(tenant, label)));
     }
-    if subcommand == "explain" {
-        let tenant = name_in(options.get_str("tenant"))?;
-        let app = name_in(options.get_str("app"))?;
-        return Some(Kind::Sequential(SequentialKind::Explain(tenant, app)));
-    }
     if subcommand == "audit" {
         return Some(Kind::Sequential(SequentialKind::Audit));
+    }
+    if subcommand == "explain" {
+        return explain_kind(options);
     }
     if subcommand == "live" {
         return live_kind(options);
@@ -418,8 +408,8 @@ fn kind_of(subcommand: &str, options: &ArgMatches<'_>) -> Option<Kind>
 }
 
 /// The job that the words ask for, with the file that `--config` names. The first word is the program's
-/// name. Words that `clap` takes give their job, unless memory is refused, or the tenant is no name or
-/// the label none. Of all others its error is told, which has one of the kinds that its definitions
+/// name. Words that `clap` takes give their job, unless memory is refused, or the tenant or the application
+/// is no name, or the label none. Of all others its error is told, which has one of the kinds that its definitions
 /// find.
 pub fn parse_words<'a>(alloc: Global, words: &'a [String]) -> Result<Job<'a>, WordsFault>
     ensures run { drop 1 (map string_bytes words.now) ≡ codes "run" ∷ [] → IfErr result (λ e. e ≡ NoMemory) }

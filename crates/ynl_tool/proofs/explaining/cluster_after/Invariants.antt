@@ -1,0 +1,6 @@
+use Rattle.std.proofs.Common.{◌≡◌, take}
+use Rattle.ynl_tool.specs.Explaining.{cluster_after}
+use Rattle.ynl_tool.proofs.explaining.cluster_after.Given as goal
+
+abbrev pub invariant-loop-event : goal.invariant-loop-event
+invariant-loop-event l = l.core ≡ cluster_after l.fn.config (take l.event-index l.events)

@@ -1,0 +1,91 @@
+//! The words of the subcommand `explain`.
+
+ghost use Rattle.std.specs.Prelude.{◌≡◌, IfOk, codes, false};
+ghost use Rattle.clap.specs.Simple.{app_of, new_app, with_rule};
+ghost use Rattle.clap.specs.Walk.{rule_of};
+ghost use Rattle.clap.specs.Words.{found_of, rows_of};
+ghost use Rattle.clap.specs.declared.builder.command.Command.TheViews.{out-Command as fields_of};
+ghost use Rattle.ynl_tool.specs.Words as spec;
+
+use crate::words::{Kind, SequentialKind, config_option, name_in, tenant_option};
+use clap::{Arg, ArgMatches, Command};
+use std::alloc::{AllocError, Global};
+
+const EXPLAIN_ABOUT: &str = "Tells why the requests of an application wait after the events";
+
+const EXPLAIN_AFTER: &str = "\
+Standard input has an event on each line, as for run. Once it is read to its end, standard output has a
+line for each request of the application that waits: the one for its master, and those for its asks. The
+reasons of each are all that keeps it from being placed, or that it is next on a node:
+
+  {\"app\":\"j1\",\"label\":\"gpu\",\"memory\":1000,\"reasons\":[{\"reason\":\"nodes\"}],\"tenant\":\"eng\",\"vcores\":1,\"what\":\"master\"}
+
+Where nothing waits there is no line. Where the tenant has no such application there is one:
+
+  {\"refused\":\"NoSuchApplication\",\"reply\":\"refused\"}
+
+A line that is no event ends the input: nothing is explained then, and the one line of the output tells
+its fault, as for run.
+
+Exit status:
+  0  all was told
+  1  a line of the input is no event, or the input is too long; or the configuration has a fault, as a
+     line on standard error tells: nothing is read
+  2  the words of the command line are wrong, or ask for help; or the tenant is no name, or the
+     application
+  3  reading, writing or memory failed, as a line on standard error tells
+
+Example:
+  ynl explain --tenant eng --app j1 --config cluster.toml < events";
+
+const APP_HELP: &str = "The application";
+
+fn app_option<'a>(alloc: Global) -> Arg<'a>
+    ensures rule { rule_of result ≡ spec.app_rule }
+    ensures local { result.global ≡ false }
+{
+    Arg::new(alloc, "app")
+        .long("app")
+        .value_name("NAME")
+        .help(APP_HELP)
+        .required(true)
+}
+
+/// The subcommand with the first of its options.
+fn explain_named<'a>(alloc: Global) -> Result<Command<'a>, AllocError>
+    ensures app { IfOk result (λ c. app_of c ≡ with_rule (new_app (codes "explain")) spec.tenant_rule) }
+    ensures local { IfOk result (λ c. (fields_of c).has_globals ≡ false) }
+{
+    let tenant = tenant_option(alloc);
+    Command::new(alloc, "explain")
+        .about(EXPLAIN_ABOUT)
+        .after_help(EXPLAIN_AFTER)
+        .arg(tenant)
+}
+
+/// The same with the second.
+fn explain_applied<'a>(alloc: Global) -> Result<Command<'a>, AllocError>
+    ensures app { IfOk result (λ c. app_of c ≡ with_rule (with_rule (new_app (codes "explain")) spec.tenant_rule) spec.app_rule) }
+    ensures local { IfOk result (λ c. (fields_of c).has_globals ≡ false) }
+{
+    let app = app_option(alloc);
+    explain_named(alloc)?.arg(app)
+}
+
+/// The subcommand `explain`.
+pub(crate) fn explain_command<'a>(alloc: Global) -> Result<Command<'a>, AllocError>
+    ensures app { IfOk result (λ c. app_of c ≡ spec.explain_command) }
+    ensures local { IfOk result (λ c. (fields_of c).has_globals ≡ false) }
+{
+    let config = config_option(alloc);
+    explain_applied(alloc)?.arg(config)
+}
+
+/// What `explain` asks for with these options, unless one of them is a bad name.
+pub(crate) fn explain_kind(options: &ArgMatches<'_>) -> Option<Kind>
+    ensures { result ≡ spec.explain_met (rows_of (found_of options.now)) }
+{
+    let tenant = name_in(options.get_str("tenant"))?;
+    let app = name_in(options.get_str("app"))?;
+    Some(Kind::Sequential(SequentialKind::Explain(tenant, app)))
+}
