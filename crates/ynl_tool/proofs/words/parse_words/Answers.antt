@@ -1,4 +1,4 @@
-use Rattle.std.proofs.Common.{◌≡◌, IfErr, Some, None, codes, rules, map, option_and_then, string_bytes, ap, sym, subst, ◌∙◌}
+use Rattle.std.proofs.Common.{◌≡◌, true, false, is_some, IfErr, Some, None, codes, rules, map, option_and_then, string_bytes, ap, sym, subst, ◌∙◌}
 use Rattle.std.proofs.lemmas.Result.{err_from_is_err_and}
 use Rattle.ynl_tool.specs.declared.words.WordsFault.TheVariants.{Words, NoMemory}
 use Rattle.clap.specs.Values.{kind_of}
@@ -10,7 +10,7 @@ use Rattle.clap.specs.Words.{found_of, is_simple, rows_of, subcommand_of}
 use Rattle.clap.proofs.WalkLemmas.{first_value-rows}
 use Rattle.ynl_tool.specs.declared.words.Kind.TheVariants.{Sequential}
 use Rattle.ynl_tool.specs.declared.words.SequentialKind.TheVariants.{Run}
-use Rattle.ynl_tool.specs.Words.{command, kind_met, file_met}
+use Rattle.ynl_tool.specs.Words.{command, kind_met, file_met, kind_of as words_kind}
 use Rattle.ynl_tool.proofs.Commands.{taken, command_simple, command_free, wants_memory, told_by_kind, asks_run, met_is}
 use Rattle.ynl_tool.proofs.words.parse_words.Goals as goal
 
@@ -61,3 +61,20 @@ returns-clause-file c =
     let met = (c.in_ok-matches.ensures.matches (ap is_simple c.in_ok-command.ensures.app ∙ command_simple)).1 ∙ ap (λ a. subcommand_of a words) c.in_ok-command.ensures.app in
     let is = met_is _ c.in-Some.name.now (rows_of (found_of c.in-Some.options.now)) c.in-Some.ensures.name c.in-Some.ensures.rows in
     c.get_str-config.ensures ∙ first_value-rows (found_of c.in-Some.options.now) (codes "config") ∙ ap (option_and_then file_met) (sym is ∙ met)
+
+pub returns-in_default-clause-good : goal.returns-in_default-clause-good
+returns-in_default-clause-good c = λ good known.
+    let words = map string_bytes c.args.words.now in
+    let met = (c.in_ok-matches.ensures.matches (ap is_simple c.in_ok-command.ensures.app ∙ command_simple)).1 ∙ ap (λ a. subcommand_of a words) c.in_ok-command.ensures.app in
+    let is = met_is _ c.in-Some.name.now (rows_of (found_of c.in-Some.options.now)) c.in-Some.ensures.name c.in-Some.ensures.rows in
+    let none : c.kind_of.result ≡ None = search rules in
+    let asked : words_kind words ≡ None = ap (option_and_then kind_met) (sym met ∙ is) ∙ sym c.kind_of.ensures ∙ none in
+    let no : false ≡ true = sym (ap is_some asked) ∙ known in
+    absurd (cc)
+
+pub returns-clause-kind : goal.returns-clause-kind
+returns-clause-kind c =
+    let words = map string_bytes c.args.words.now in
+    let met = (c.in_ok-matches.ensures.matches (ap is_simple c.in_ok-command.ensures.app ∙ command_simple)).1 ∙ ap (λ a. subcommand_of a words) c.in_ok-command.ensures.app in
+    let is = met_is _ c.in-Some.name.now (rows_of (found_of c.in-Some.options.now)) c.in-Some.ensures.name c.in-Some.ensures.rows in
+    ap (option_and_then kind_met) (sym met ∙ is) ∙ sym c.kind_of.ensures ∙ c.in-Some-kind_of.is
