@@ -1,2 +1,11 @@
 pub mod Shared
 pub mod Spots
+pub mod Among
+pub mod WellFormed
+pub mod Requests
+pub mod Placing
+pub mod Listed
+pub mod Told
+pub mod Taken
+pub mod Served
+pub mod Following

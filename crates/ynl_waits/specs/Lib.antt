@@ -2,3 +2,4 @@ pub mod Steps
 pub mod Grounds
 pub mod Choices
 pub mod Waits
+pub mod Laws
