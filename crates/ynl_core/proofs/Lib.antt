@@ -6,3 +6,4 @@ pub mod Alone
 pub mod Reserved
 pub mod Lulled
 pub mod Sighting
+pub mod Explaining

@@ -6,3 +6,4 @@ pub mod Sure
 pub mod Runs
 pub mod Isolated
 pub mod Sightings
+pub mod Explaining

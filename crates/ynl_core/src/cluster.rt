@@ -8,9 +8,11 @@ ghost use Rattle.ynl_model.specs.declared.events.Event.TheVariants as event;
 ghost use Rattle.ynl_model.specs.Check.{proposed, commit_reasons};
 ghost use Rattle.ynl_model.specs.Cluster.{containers_on, node_of};
 ghost use Rattle.ynl_model.specs.Limits.{user_limit, master_limit};
+ghost use Rattle.ynl_core.specs.Explaining.{OfRequests};
 ghost use Rattle.ynl_core.specs.Sure.{is_refused, takes_no_memory};
 ghost use Rattle.ynl_core.specs.Sightings.{IsSighting, reply_by};
 ghost use Rattle.ynl_core.specs.World.{opened, beaten, Answers};
+ghost use Rattle.ynl_waits.specs.Laws.{AreNextPlaced, IsNotCommitted, IsNotPlaced, IsTold, OfEach};
 ghost use Rattle.ynl_waits.specs.Waits.{explained_of};
 
 use crate::memory::NoMemory;
@@ -548,10 +550,16 @@ impl Core {
     }
 
     /// Why the requests of a tenant's application wait: its master and what it asks for, each with all that keeps it from
-    /// being placed, or that it is next. Nothing changes; `Err` only if memory is refused.
+    /// being placed, or that it is next. If it is next on a node, a heartbeat of that node as the very next event places it
+    /// first. If it is not, no heartbeat does; if no other is ahead either, no commit places it. Nothing changes; `Err`
+    /// only if memory is refused.
     #[inline(never)]
     pub fn explain(&self, tenant: &Name, app: &Name) -> Result<Explained, NoMemory>
-        ensures { IfOk result (λ explained. explained ≡ explained_of self.now.config self.now.state tenant.now app.now) }
+        ensures waits { IfOk result (λ explained. explained ≡ explained_of self.now.config self.now.state tenant.now app.now) }
+        ensures next { IfOk result (OfRequests AreNextPlaced self.now tenant.now app.now) }
+        ensures others { IfOk result (OfRequests IsNotPlaced self.now tenant.now app.now) }
+        ensures commits { IfOk result (OfRequests IsNotCommitted self.now tenant.now app.now) }
+        ensures told { IfOk result (OfEach (IsTold self.now.config self.now.state)) }
     {
         let alloc = *self.tables.leaves.allocator();
         Ok(explain(alloc, &self.config, &self.tables, tenant, app)?)

@@ -57,6 +57,7 @@ invariant_of-self-then-count-gt0 c =
       sound = subst (λ s. IsSound config s c.rest.new.tables.nodes.resting) (sym same) (record {
         working = sound.working;
         tabled = sound.tabled;
+        formed = sound.formed;
         resting = rests_more config reserved c.serve.new.tables.nodes.resting c.rest.new.tables.nodes.resting c.args.name.now (unplaced_rests config reserved c.args.name.now node times free found inside unplaced) c.rest.ensures.resting
             (subst (AreResting config reserved) (sym c.serve.ensures.resting) sound.resting);
       });
