@@ -12,7 +12,7 @@ ghost use Rattle.ynl_reasons.specs.Facts.{ask_wait, asks_waiting, found_of, mast
 
 use crate::facts::{Facts, Found};
 use crate::grounds::{ground_of, guests_of};
-use crate::telling::reasons_of;
+use crate::telling::{Asked, reasons_of};
 use std::alloc::{AllocError, Global};
 use ynl_model::{Items, Pending, What};
 use ynl_resource::{Label, Name, Refusal};
@@ -23,22 +23,19 @@ fn add_wait<F: Facts>(
     alloc: Global,
     facts: &F,
     known: &mut Choices,
-    app: &Applicant,
-    request: &Request,
-    own: &Ground,
-    guests: &[Ground],
+    asked: &Asked<'_>,
     waits: &mut Vec<Wait>,
 ) -> Result<(), AllocError>
     requires known { AreChoices (F.config facts.now) (F.state facts.now) known.old }
-    requires own { own.now ≡ ground (F.config facts.now) (F.state facts.now) request.now.label }
-    requires guests { guests.now ≡ guest_grounds (F.config facts.now) (F.state facts.now) request.now.what }
-    ensures waits { OnOk result (waits.new.items ≡ waits.old.items ++ wait (F.config facts.now) (F.state facts.now) app.now request.now ∷ []) }
+    requires own { asked.now.own.now ≡ ground (F.config facts.now) (F.state facts.now) asked.now.request.now.label }
+    requires guests { asked.now.guests.now ≡ guest_grounds (F.config facts.now) (F.state facts.now) asked.now.request.now.what }
+    ensures waits { OnOk result (waits.new.items ≡ waits.old.items ++ wait (F.config facts.now) (F.state facts.now) asked.now.app.now asked.now.request.now ∷ []) }
     ensures known { AreChoices (F.config facts.now) (F.state facts.now) known.new }
 {
     waits.reserve(1)?;
-    let reasons = reasons_of(alloc, facts, known, app, request, own, guests)?;
+    let reasons = reasons_of(alloc, facts, known, asked)?;
     waits.push_reserved(Wait {
-        request: *request,
+        request: *asked.request,
         reasons: Items::new(reasons),
     });
     Ok(())
@@ -79,8 +76,22 @@ fn add_master<F: Facts>(
     };
     let own = ground_of(alloc, facts, query.spots, &found.home)?;
     let guests = guests_of(alloc, facts, query.spots, &What::Master)?;
-    let app = &found.applicant;
-    add_wait(alloc, facts, known, app, &request, &own, &guests, waits)
+    let asked = Asked {
+        app: &found.applicant,
+        request: &request,
+        own: &own,
+        guests: &guests,
+    };
+    add_wait(alloc, facts, known, &asked, waits)
+}
+
+/// What is asked for under a label, and the partitions where that may go.
+#[derive(Clone, Copy)]
+struct Under<'a> {
+    label: &'a Label,
+    asks: &'a [Pending],
+    own: &'a Ground,
+    guests: &'a [Ground],
 }
 
 /// Adds the requests of asks under a label.
@@ -88,35 +99,29 @@ fn add_asks<F: Facts>(
     facts: &F,
     known: &mut Choices,
     query: &Query<'_>,
-    own: &Ground,
-    guests: &[Ground],
-    label: &Label,
-    asks: &[Pending],
+    under: &Under<'_>,
     waits: &mut Vec<Wait>,
 ) -> Result<(), AllocError>
     requires known { AreChoices (F.config facts.now) (F.state facts.now) known.old }
-    requires own { own.now ≡ ground (F.config facts.now) (F.state facts.now) label.now }
-    requires guests { guests.now ≡ guest_grounds (F.config facts.now) (F.state facts.now) (Ask label.now 0) }
-    ensures waits { OnOk result (waits.new.items ≡ waits.old.items ++ map (ask_wait (F.config facts.now) (F.state facts.now) query.now.app.now label.now) asks.now) }
+    requires own { under.now.own.now ≡ ground (F.config facts.now) (F.state facts.now) under.now.label.now }
+    requires guests { under.now.guests.now ≡ guest_grounds (F.config facts.now) (F.state facts.now) (Ask under.now.label.now 0) }
+    ensures waits { OnOk result (waits.new.items ≡ waits.old.items ++ map (ask_wait (F.config facts.now) (F.state facts.now) query.now.app.now under.now.label.now) under.now.asks.now) }
     ensures known { AreChoices (F.config facts.now) (F.state facts.now) known.new }
 {
-    for ask in asks {
+    for ask in under.asks {
         let request = Request {
-            what: What::Ask(*label, ask.priority),
-            label: *label,
+            what: What::Ask(*under.label, ask.priority),
+            label: *under.label,
             size: ask.size,
             count: ask.count,
         };
-        add_wait(
-            query.alloc,
-            facts,
-            known,
-            query.app,
-            &request,
-            own,
-            guests,
-            waits,
-        )?;
+        let asked = Asked {
+            app: query.app,
+            request: &request,
+            own: under.own,
+            guests: under.guests,
+        };
+        add_wait(query.alloc, facts, known, &asked, waits)?;
     }
     Ok(())
 }
@@ -141,7 +146,13 @@ fn add_label<F: Facts>(
     }
     let own = ground_of(alloc, facts, query.spots, label)?;
     let guests = guests_of(alloc, facts, query.spots, &What::Ask(*label, 0))?;
-    add_asks(facts, known, query, &own, &guests, label, &asks, waits)
+    let under = Under {
+        label,
+        asks: &asks,
+        own: &own,
+        guests: &guests,
+    };
+    add_asks(facts, known, query, &under, waits)
 }
 
 /// Adds what an application asks for under some labels.

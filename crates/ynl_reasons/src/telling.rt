@@ -15,21 +15,27 @@ use ynl_waits::{
     first_by_name, places,
 };
 
+/// A request of an application, and the partitions where it may go: its own, and those where it may be a guest.
+#[derive(Clone, Copy)]
+pub(crate) struct Asked<'a> {
+    pub(crate) app: &'a Applicant,
+    pub(crate) request: &'a Request,
+    pub(crate) own: &'a Ground,
+    pub(crate) guests: &'a [Ground],
+}
+
 /// Adds all that keeps a request from being placed, of where it may go and of the limits.
 #[tactic(auto, unfolding(ynl_waits::specs::Waits::held_back))]
 fn add_held_back<F: Facts>(
     facts: &F,
-    app: &Applicant,
-    request: &Request,
-    own: &Ground,
-    guests: &[Ground],
+    asked: &Asked<'_>,
     told: &mut Vec<Reason>,
 ) -> Result<(), AllocError>
-    ensures { OnOk result (told.new.items ≡ told.old.items ++ held_back (F.config facts.now) (F.state facts.now) app.now request.now own.now guests.now) }
+    ensures { OnOk result (told.new.items ≡ told.old.items ++ held_back (F.config facts.now) (F.state facts.now) asked.now.app.now asked.now.request.now asked.now.own.now asked.now.guests.now) }
 {
-    add_where(told, app, request, own, guests)?;
-    add_limits(facts, app, request, own, told)?;
-    add_rooms(told, &request.size.amount(), own, guests)
+    add_where(told, asked.app, asked.request, asked.own, asked.guests)?;
+    add_limits(facts, asked.app, asked.request, asked.own, told)?;
+    add_rooms(told, &asked.request.size.amount(), asked.own, asked.guests)
 }
 
 /// Adds whose turn it is on the first of the nodes on which a request may be placed, where there are any.
@@ -59,22 +65,19 @@ fn told_by<F: Facts>(
     alloc: Global,
     facts: &F,
     known: &mut Choices,
-    app: &Applicant,
-    request: &Request,
-    own: &Ground,
-    guests: &[Ground],
+    asked: &Asked<'_>,
     there: &[Spot],
 ) -> Result<Vec<Reason>, AllocError>
     requires known { AreChoices (F.config facts.now) (F.state facts.now) known.old }
     requires spots { AllByRecursion (IsSpot (F.state facts.now)) there.now }
-    ensures told { IfOk result (λ told. told.items ≡ told_by (F.config facts.now) (F.state facts.now) app.now request.now own.now guests.now there.now) }
+    ensures told { IfOk result (λ told. told.items ≡ told_by (F.config facts.now) (F.state facts.now) asked.now.app.now asked.now.request.now asked.now.own.now asked.now.guests.now there.now) }
     ensures known { AreChoices (F.config facts.now) (F.state facts.now) known.new }
 {
     let mut told = Vec::new(alloc);
-    let chosen = chosen_among(alloc, facts, known, app, request, there)?;
+    let chosen = chosen_among(alloc, facts, known, asked.app, asked.request, there)?;
     add_next(&mut told, &chosen)?;
     if told.is_empty() {
-        add_held_back(facts, app, request, own, guests, &mut told)?;
+        add_held_back(facts, asked, &mut told)?;
         add_turn_on(facts, known, there, &mut told)?;
     }
     Ok(told)
@@ -86,18 +89,22 @@ pub(crate) fn reasons_of<F: Facts>(
     alloc: Global,
     facts: &F,
     known: &mut Choices,
-    app: &Applicant,
-    request: &Request,
-    own: &Ground,
-    guests: &[Ground],
+    asked: &Asked<'_>,
 ) -> Result<Vec<Reason>, AllocError>
     requires known { AreChoices (F.config facts.now) (F.state facts.now) known.old }
-    requires own { own.now ≡ ground (F.config facts.now) (F.state facts.now) request.now.label }
-    requires guests { guests.now ≡ guest_grounds (F.config facts.now) (F.state facts.now) request.now.what }
-    ensures told { IfOk result (λ told. told.items ≡ reasons (F.config facts.now) (F.state facts.now) app.now request.now) }
+    requires own { asked.now.own.now ≡ ground (F.config facts.now) (F.state facts.now) asked.now.request.now.label }
+    requires guests { asked.now.guests.now ≡ guest_grounds (F.config facts.now) (F.state facts.now) asked.now.request.now.what }
+    ensures told { IfOk result (λ told. told.items ≡ reasons (F.config facts.now) (F.state facts.now) asked.now.app.now asked.now.request.now) }
     ensures known { AreChoices (F.config facts.now) (F.state facts.now) known.new }
 {
-    let passes = passes(facts, app, request);
-    let there = places(alloc, app, request, passes, own, guests)?;
-    told_by(alloc, facts, known, app, request, own, guests, &there)
+    let passes = passes(facts, asked.app, asked.request);
+    let there = places(
+        alloc,
+        asked.app,
+        asked.request,
+        passes,
+        asked.own,
+        asked.guests,
+    )?;
+    told_by(alloc, facts, known, asked, &there)
 }

@@ -5,6 +5,6 @@ use Rattle.ynl_reasons.proofs.explaining.add_asks.Given as goal
 
 abbrev pub invariant-loop-ask : goal.invariant-loop-ask
 invariant-loop-ask g l = record {
-  so_far : l.waits.items ≡ l.initial.waits.items ++ map (ask_wait (g.F.Facts.config l.facts) (g.F.Facts.state l.facts) l.query.app.now l.label) (take l.ask-index l.asks);
+  so_far : l.waits.items ≡ l.initial.waits.items ++ map (ask_wait (g.F.Facts.config l.facts) (g.F.Facts.state l.facts) l.query.app.now l.under.label.now) (take l.ask-index l.under.asks.now);
   known : AreChoices (g.F.Facts.config l.facts) (g.F.Facts.state l.facts) l.known;
 }

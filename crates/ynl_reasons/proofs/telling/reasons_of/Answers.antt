@@ -12,8 +12,8 @@ pub told_by-requires-clause-spots : goal.told_by-requires-clause-spots
 told_by-requires-clause-spots g c =
     let config : Config = g.F.Facts.config c.args.facts.now in
     let s : State = g.F.Facts.state c.args.facts.now in
-    let app = c.args.app.now in
-    let request = c.args.request.now in
+    let app = c.args.asked.now.app.now in
+    let request = c.args.asked.now.request.now in
     let passes = c.passes-passes.result in
     let is : c.deref.result.now ≡ places app request passes (ground config s request.label) (guest_grounds config s request.what) =
     c.deref.ensures.value ∙ c.in_ok-there.ensures ∙ ap₂ (places app request passes) c.requires.own c.requires.guests in
