@@ -1,0 +1,2 @@
+pub mod Submissions
+pub mod Fields
