@@ -1,0 +1,4 @@
+pub mod Places
+pub mod Asking
+pub mod Chaining
+pub mod Rows

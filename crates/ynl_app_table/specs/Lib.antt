@@ -1,0 +1,3 @@
+pub mod Asks
+pub mod Chains
+pub mod Apps
