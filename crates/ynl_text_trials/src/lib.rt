@@ -3,6 +3,8 @@
 #![tactic(auto)]
 
 #[cfg(test)]
+mod apps;
+#[cfg(test)]
 mod configurations;
 #[cfg(test)]
 mod containers;
@@ -30,5 +32,7 @@ mod ranges;
 mod rosters;
 #[cfg(test)]
 mod slots;
+#[cfg(test)]
+mod submissions;
 #[cfg(test)]
 mod words;
