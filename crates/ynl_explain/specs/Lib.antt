@@ -1,2 +1,4 @@
 pub mod Objects
+pub mod Pieces
+pub mod Sentences
 pub mod Told
