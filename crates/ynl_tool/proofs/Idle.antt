@@ -41,7 +41,7 @@ module _ (old wold : Option (List ℕ)) where
   idle_job Run = λ c. stops_at_once old wold c (opening c)
   idle_job (Tenant t p) = λ c. idle_by c t p (is_sole c t p)
   idle_job Audit = λ c. inl (record { read = nothing_read (audit_way c) old NoMemory; unwritten = Appends-nil wold })
-  idle_job (Explain t a) = λ c. inl (record { read = nothing_read script_way old NoMemory; unwritten = Appends-nil wold })
+  idle_job (Explain q) = λ c. inl (record { read = nothing_read script_way old NoMemory; unwritten = Appends-nil wold })
 
   idle_live : (rounds : ℕ) → IdlesAt (LivesJob rounds)
   unfolding IdlesAt

@@ -21,6 +21,7 @@ use Rattle.ynl_tool.specs.Auditing.{AuditsJournal}
 use Rattle.ynl_tool.specs.Explaining.{Explains}
 use Rattle.ynl_tool.specs.Telling.{TellsTenant}
 use Rattle.ynl_tool.specs.Living.{Lives}
+use Rattle.ynl_tool.specs.declared.explaining.Question.{Question}
 use Rattle.ynl_tool.specs.declared.jobs.JobRefusal.{JobRefusal}
 use Rattle.ynl_tool.specs.declared.jobs.JobRefusal.TheVariants.{Config, NotSole}
 use Rattle.ynl_tool.specs.declared.words.SequentialKind.{SequentialKind}
@@ -91,10 +92,10 @@ AuditsJob reader writer c (Ok (Err refusal)) = ⊥
 AuditsJob reader writer c (Err e) = AuditsJournal reader writer c (Err e)
 
 -- why a tenant's application waits is told
-abbrev pub ExplainsJob : Stream → Stream → Configured → Name → Name → Ending → Type 0
-ExplainsJob reader writer c t a (Ok (Ok summary)) = Explains reader writer c t a (Ok summary)
-ExplainsJob reader writer c t a (Ok (Err refusal)) = ⊥
-ExplainsJob reader writer c t a (Err e) = Explains reader writer c t a (Err e)
+abbrev pub ExplainsJob : Stream → Stream → Configured → Question → Ending → Type 0
+ExplainsJob reader writer c q (Ok (Ok summary)) = Explains reader writer c q (Ok summary)
+ExplainsJob reader writer c q (Ok (Err refusal)) = ⊥
+ExplainsJob reader writer c q (Err e) = Explains reader writer c q (Err e)
 
 -- what a tenant's partition sees is told, where the tenant is alone there
 abbrev pub TellsJob : Stream → Stream → Bool → Configured → Name → Label → Bool → Ending → Type 0
@@ -114,7 +115,7 @@ abbrev pub DoesSequentialJob : Bool → SequentialKind → Stream → Stream →
 DoesSequentialJob accepted Run reader writer c ended = RunsJob reader writer c ended
 DoesSequentialJob accepted (Tenant t p) reader writer c ended = TellsJob reader writer accepted c t p (is_sole c t p) ended
 DoesSequentialJob accepted Audit reader writer c ended = AuditsJob reader writer c ended
-DoesSequentialJob accepted (Explain t a) reader writer c ended = ExplainsJob reader writer c t a ended
+DoesSequentialJob accepted (Explain q) reader writer c ended = ExplainsJob reader writer c q ended
 
 -- what a job does to its reader and its writer with a cluster of a configuration, and how it ends
 abbrev pub Doing : Type 1

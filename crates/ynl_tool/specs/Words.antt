@@ -1,6 +1,6 @@
 -- The command line.
-use Rattle.std.specs.Prelude.{◌≡◌, ℕ, Bool, true, ◌&&◌, List, [], ◌∷◌, length, nat_lt, nat_le, Option, Some, None, option_and_then, codes, if◌then◌else◌}
-use Rattle.std.specs.Option.{option_map_or}
+use Rattle.std.specs.Prelude.{◌≡◌, ℕ, Bool, true, ◌&&◌, List, [], ◌∷◌, length, nat_lt, nat_le, Option, Some, None, option_and_then, option_map, codes, if◌then◌else◌}
+use Rattle.std.specs.Option.{option_map_or, option_zip}
 use Rattle.std.specs.Result.{result_ok}
 use Rattle.std.specs.Str.{bytes_eq, all_ascii_digits}
 use Rattle.std.specs.Str.Parse.{digits_value, without_leading_plus}
@@ -11,6 +11,7 @@ use Rattle.clap.specs.declared.builder.value_parser.ValueParser.TheVariants.{Uns
 use Rattle.ynl_resource.specs.declared.names.Name.{Name}
 use Rattle.ynl_resource.specs.declared.labels.Label.{Label}
 use Rattle.ynl_resource.specs.Texts.{read_name, read_label}
+use Rattle.ynl_tool.specs.declared.explaining.Question.{Question}
 use Rattle.ynl_tool.specs.declared.words.Kind.{Kind}
 use Rattle.ynl_check.specs.declared.checking.Form.{Form}
 use Rattle.ynl_check.specs.declared.checking.Form.TheVariants.{Lines, Plain}
@@ -49,9 +50,13 @@ plain_rule = record (new_rule (codes "plain")) { long = Some (codes "plain"); ac
 abbrev pub run_command : App
 run_command = with_rule (new_app (codes "run")) config_rule
 
+-- a subcommand with two options more, and behind them the one that names the configuration
+abbrev pub with_options : App → Rule → Rule → App
+with_options a first second = with_rule (with_rule (with_rule a first) second) config_rule
+
 -- the subcommand `tenant`
 abbrev pub tenant_command : App
-tenant_command = with_rule (with_rule (with_rule (new_app (codes "tenant")) tenant_rule) label_rule) config_rule
+tenant_command = with_options (new_app (codes "tenant")) tenant_rule label_rule
 
 -- the subcommand `audit`
 abbrev pub audit_command : App
@@ -59,7 +64,7 @@ audit_command = with_rule (new_app (codes "audit")) config_rule
 
 -- the subcommand `explain`
 abbrev pub explain_command : App
-explain_command = with_rule (with_rule (with_rule (new_app (codes "explain")) tenant_rule) app_rule) config_rule
+explain_command = with_options (with_rule (new_app (codes "explain")) tenant_rule) app_rule plain_rule
 
 -- the subcommand `check`
 abbrev pub check_command : App
@@ -67,7 +72,7 @@ check_command = with_rule (with_rule (new_app (codes "check")) plain_rule) confi
 
 -- the subcommand `live`
 abbrev pub live_command : App
-live_command = with_rule (with_rule (with_rule (new_app (codes "live")) workers_rule) rounds_rule) config_rule
+live_command = with_options (new_app (codes "live")) workers_rule rounds_rule
 
 -- the command `ynl`, which wants a subcommand, without those that there are
 abbrev pub bare_command : App
@@ -105,21 +110,31 @@ name_in text = result_ok (read_name text)
 abbrev pub label_in : Text → Option Label
 label_in text = result_ok (read_label text)
 
--- a tenant and a label, where both are there
-abbrev pub tenant_by : Option Name → Option Label → Option Kind
-tenant_by (Some t) (Some p) = Some (Sequential (Tenant t p))
-tenant_by (Some t) None = None
-tenant_by None p = None
+-- the form that `--plain` asks for, or its absence
+abbrev pub form_in : Text → Form
+form_in text = if bytes_eq text (codes "true") then Plain else Lines
 
--- a tenant and its application, where both are there
-abbrev pub explain_by : Option Name → Option Name → Option Kind
-explain_by (Some t) (Some a) = Some (Sequential (Explain t a))
-explain_by (Some t) None = None
-explain_by None a = None
+-- the same of the options of a subcommand
+abbrev pub form_met : List Row → Form
+form_met rows = option_map_or form_in (first_of (codes "plain") rows) Lines
+
+-- the name that an option of a subcommand gives
+abbrev pub name_met : Text → List Row → Option Name
+name_met option rows = option_and_then name_in (first_of option rows)
+
+-- what `tenant` asks for with its options: both are to be there
+abbrev pub tenant_met : List Row → Option Kind
+tenant_met rows =
+    option_map (λ p. Sequential (Tenant p.0 p.1)) (option_zip (name_met (codes "tenant") rows) (option_and_then label_in (first_of (codes "label") rows)))
+
+-- a question on a tenant's application
+abbrev pub question : Form → Name × Name → Question
+question form names = record { tenant = names.0; app = names.1; form = form }
 
 -- what `explain` asks for with its options
 abbrev pub explain_met : List Row → Option Kind
-explain_met rows = explain_by (option_and_then name_in (first_of (codes "tenant") rows)) (option_and_then name_in (first_of (codes "app") rows))
+explain_met rows =
+    option_map (λ p. Sequential (Explain (question (form_met rows) p))) (option_zip (name_met (codes "tenant") rows) (name_met (codes "app") rows))
 
 -- digits, at least one, that are the number of a `u64`
 abbrev pub is_number : Text → Bool
@@ -149,29 +164,19 @@ workers_in text = option_and_then workers_of (number_in text)
 abbrev pub rounds_in : Text → Option ℕ
 rounds_in text = option_and_then rounds_of (number_in text)
 
--- workers and rounds, where both are there
-abbrev pub live_by : Option ℕ → Option ℕ → Option Kind
-live_by (Some workers) (Some rounds) = Some (Live workers rounds)
-live_by (Some workers) None = None
-live_by None rounds = None
-
 -- what `live` asks for with its options
 abbrev pub live_met : List Row → Option Kind
-live_met rows = live_by (option_and_then workers_in (first_of (codes "workers") rows)) (option_and_then rounds_in (first_of (codes "rounds") rows))
-
--- the form that `--plain` asks for, or its absence
-abbrev pub form_in : Text → Form
-form_in text = if bytes_eq text (codes "true") then Plain else Lines
+live_met rows =
+    option_map (λ p. Live p.0 p.1) (option_zip (option_and_then workers_in (first_of (codes "workers") rows)) (option_and_then rounds_in (first_of (codes "rounds") rows)))
 
 -- what `check` asks for with its options
 abbrev pub check_met : List Row → Kind
-check_met rows = Check (option_map_or form_in (first_of (codes "plain") rows) Lines)
+check_met rows = Check (form_met rows)
 
 -- what a subcommand asks for with its options
 abbrev pub kind_met : Text × List Row → Option Kind
 kind_met met =
-    if bytes_eq met.0 (codes "tenant")
-    then tenant_by (option_and_then name_in (first_of (codes "tenant") met.1)) (option_and_then label_in (first_of (codes "label") met.1))
+    if bytes_eq met.0 (codes "tenant") then tenant_met met.1
     else if bytes_eq met.0 (codes "audit") then Some (Sequential Audit)
     else if bytes_eq met.0 (codes "explain") then explain_met met.1
     else if bytes_eq met.0 (codes "live") then live_met met.1

@@ -1,17 +1,15 @@
 //! The words of the subcommand `check`.
 
-ghost use Rattle.std.specs.Prelude.{◌≡◌, IfOk, codes, option_map, false};
-ghost use Rattle.std.specs.Option.{option_map_or};
+ghost use Rattle.std.specs.Prelude.{◌≡◌, IfOk, codes, false};
 ghost use Rattle.clap.specs.Simple.{app_of, new_app, with_rule};
-ghost use Rattle.clap.specs.Walk.{rule_of};
 ghost use Rattle.clap.specs.Words.{found_of, rows_of};
 ghost use Rattle.clap.specs.declared.builder.command.Command.TheViews.{out-Command as fields_of};
 ghost use Rattle.ynl_tool.specs.Words as spec;
 
-use crate::words::{Kind, config_option};
-use clap::{Arg, ArgAction, ArgMatches, Command};
+use crate::options::{config_option, form_in, plain_option, value_in};
+use crate::words::Kind;
+use clap::{ArgMatches, Command};
 use std::alloc::{AllocError, Global};
-use ynl_check::Form;
 
 const CHECK_ABOUT: &str = "Tells what the configuration says, or where its fault is";
 
@@ -41,22 +39,12 @@ Example:
 
 const PLAIN_HELP: &str = "Draw the tree in columns, and tell a fault in a sentence";
 
-fn plain_option<'a>(alloc: Global) -> Arg<'a>
-    ensures rule { rule_of result ≡ spec.plain_rule }
-    ensures local { result.global ≡ false }
-{
-    Arg::new(alloc, "plain")
-        .long("plain")
-        .action(ArgAction::SetTrue)
-        .help(PLAIN_HELP)
-}
-
 /// The subcommand with the first of its options.
 fn check_in_form<'a>(alloc: Global) -> Result<Command<'a>, AllocError>
     ensures app { IfOk result (λ c. app_of c ≡ with_rule (new_app (codes "check")) spec.plain_rule) }
     ensures local { IfOk result (λ c. (fields_of c).has_globals ≡ false) }
 {
-    let plain = plain_option(alloc);
+    let plain = plain_option(alloc, PLAIN_HELP);
     Command::new(alloc, "check")
         .about(CHECK_ABOUT)
         .after_help(CHECK_AFTER)
@@ -72,19 +60,9 @@ pub(crate) fn check_command<'a>(alloc: Global) -> Result<Command<'a>, AllocError
     check_in_form(alloc)?.arg(config)
 }
 
-/// The form that a flag asks for, by the text of its value.
-fn form_in(text: Option<&str>) -> Form
-    ensures { result ≡ option_map_or spec.form_in (option_map (λ s. s.now) text.entry) Form.Lines }
-{
-    match text {
-        Some("true") => Form::Plain,
-        _ => Form::Lines,
-    }
-}
-
 /// What `check` asks for with these options.
 pub(crate) fn check_kind(options: &ArgMatches<'_>) -> Kind
     ensures { result ≡ spec.check_met (rows_of (found_of options.now)) }
 {
-    Kind::Check(form_in(options.get_str("plain")))
+    Kind::Check(form_in(value_in(options, "plain")))
 }

@@ -7,7 +7,9 @@ ghost use Rattle.clap.specs.Words.{found_of, rows_of};
 ghost use Rattle.clap.specs.declared.builder.command.Command.TheViews.{out-Command as fields_of};
 ghost use Rattle.ynl_tool.specs.Words as spec;
 
-use crate::words::{Kind, SequentialKind, config_option, name_in, tenant_option};
+use crate::explaining::Question;
+use crate::options::{form_in, name_in, plain_option, tenant_option, value_in, with_options};
+use crate::words::{Kind, SequentialKind};
 use clap::{Arg, ArgMatches, Command};
 use std::alloc::{AllocError, Global};
 
@@ -24,6 +26,11 @@ Where nothing waits there is no line. Where the tenant has no such application t
 
   {\"refused\":\"NoSuchApplication\",\"reply\":\"refused\"}
 
+With --plain each request has a line for a reader, and below it a sentence for each reason:
+
+  eng/j1 asks for its master of 1000 MB and 1 vcore on gpu:
+    gpu has no nodes
+
 A line that is no event ends the input: nothing is explained then, and the one line of the output tells
 its fault, as for run.
 
@@ -36,9 +43,11 @@ Exit status:
   3  reading, writing or memory failed, as a line on standard error tells
 
 Example:
-  ynl explain --tenant eng --app j1 --config cluster.toml < events";
+  ynl explain --plain --tenant eng --app j1 --config cluster.toml < events";
 
 const APP_HELP: &str = "The application";
+
+const PLAIN_HELP: &str = "Tell each reason in a sentence";
 
 fn app_option<'a>(alloc: Global) -> Arg<'a>
     ensures rule { rule_of result ≡ spec.app_rule }
@@ -63,29 +72,27 @@ fn explain_named<'a>(alloc: Global) -> Result<Command<'a>, AllocError>
         .arg(tenant)
 }
 
-/// The same with the second.
-fn explain_applied<'a>(alloc: Global) -> Result<Command<'a>, AllocError>
-    ensures app { IfOk result (λ c. app_of c ≡ with_rule (with_rule (new_app (codes "explain")) spec.tenant_rule) spec.app_rule) }
-    ensures local { IfOk result (λ c. (fields_of c).has_globals ≡ false) }
-{
-    let app = app_option(alloc);
-    explain_named(alloc)?.arg(app)
-}
-
 /// The subcommand `explain`.
 pub(crate) fn explain_command<'a>(alloc: Global) -> Result<Command<'a>, AllocError>
     ensures app { IfOk result (λ c. app_of c ≡ spec.explain_command) }
     ensures local { IfOk result (λ c. (fields_of c).has_globals ≡ false) }
 {
-    let config = config_option(alloc);
-    explain_applied(alloc)?.arg(config)
+    let named = explain_named(alloc)?;
+    with_options(
+        alloc,
+        named,
+        app_option(alloc),
+        plain_option(alloc, PLAIN_HELP),
+    )
 }
 
 /// What `explain` asks for with these options, unless one of them is a bad name.
 pub(crate) fn explain_kind(options: &ArgMatches<'_>) -> Option<Kind>
     ensures { result ≡ spec.explain_met (rows_of (found_of options.now)) }
 {
-    let tenant = name_in(options.get_str("tenant"))?;
-    let app = name_in(options.get_str("app"))?;
-    Some(Kind::Sequential(SequentialKind::Explain(tenant, app)))
+    let tenant = name_in(value_in(options, "tenant"));
+    let app = name_in(value_in(options, "app"));
+    let form = form_in(value_in(options, "plain"));
+    let (tenant, app) = tenant.zip(app)?;
+    Some(Kind::Sequential(SequentialKind::Explain(Question { tenant, app, form })))
 }

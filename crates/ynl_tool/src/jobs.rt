@@ -107,8 +107,8 @@ fn do_job<R: BufRead, W: Write>(
             Ok(summary) => Ok(Ok(summary)),
             Err(fault) => Err(fault),
         },
-        SequentialKind::Explain(tenant, app) => {
-            match explain_lines(alloc, config, &tenant, &app, reader, writer) {
+        SequentialKind::Explain(question) => {
+            match explain_lines(alloc, config, &question, reader, writer) {
                 Ok(summary) => Ok(Ok(summary)),
                 Err(fault) => Err(fault),
             }

@@ -5,7 +5,7 @@
 pub use audit::audit_lines;
 pub use checking::check_text;
 pub use config_text::{fault_of, read_text};
-pub use explaining::explain_lines;
+pub use explaining::{Question, explain_lines};
 pub use jobs::{execute_check, execute_live, execute_sequential, tell};
 pub use live::live_lines;
 pub use live_words::Workers;
@@ -29,6 +29,7 @@ mod lines_in;
 mod lines_out;
 mod live;
 mod live_words;
+mod options;
 mod run;
 mod script_in;
 mod tenant;

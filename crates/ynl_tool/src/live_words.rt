@@ -1,14 +1,15 @@
 //! The words of the subcommand `live`.
 
-ghost use Rattle.std.specs.Prelude.{◌≡◌, ◌≤◌, IfOk, codes, option_map, false};
+ghost use Rattle.std.specs.Prelude.{◌≡◌, ◌≤◌, IfOk, option_map, false};
 ghost use Rattle.std.specs.Option.{option_and_then};
-ghost use Rattle.clap.specs.Simple.{app_of, new_app, with_rule};
+ghost use Rattle.clap.specs.Simple.{app_of};
 ghost use Rattle.clap.specs.Walk.{rule_of};
 ghost use Rattle.clap.specs.Words.{found_of, rows_of};
 ghost use Rattle.clap.specs.declared.builder.command.Command.TheViews.{out-Command as fields_of};
 ghost use Rattle.ynl_tool.specs.Words as spec;
 
-use crate::words::{Kind, config_option};
+use crate::options::{value_in, with_options};
+use crate::words::Kind;
 use clap::builder::ValueParser;
 use clap::{Arg, ArgMatches, Command};
 use std::alloc::{AllocError, Global};
@@ -109,34 +110,15 @@ fn rounds_option<'a>(alloc: Global) -> Arg<'a>
         .default_value("1")
 }
 
-/// The subcommand with the first of its options.
-fn live_worked<'a>(alloc: Global) -> Result<Command<'a>, AllocError>
-    ensures app { IfOk result (λ c. app_of c ≡ with_rule (new_app (codes "live")) spec.workers_rule) }
-    ensures local { IfOk result (λ c. (fields_of c).has_globals ≡ false) }
-{
-    let workers = workers_option(alloc);
-    Command::new(alloc, "live")
-        .about(LIVE_ABOUT)
-        .after_help(LIVE_AFTER)
-        .arg(workers)
-}
-
-/// The same with the second.
-fn live_in_rounds<'a>(alloc: Global) -> Result<Command<'a>, AllocError>
-    ensures app { IfOk result (λ c. app_of c ≡ with_rule (with_rule (new_app (codes "live")) spec.workers_rule) spec.rounds_rule) }
-    ensures local { IfOk result (λ c. (fields_of c).has_globals ≡ false) }
-{
-    let rounds = rounds_option(alloc);
-    live_worked(alloc)?.arg(rounds)
-}
-
 /// The subcommand `live`.
 pub(crate) fn live_command<'a>(alloc: Global) -> Result<Command<'a>, AllocError>
     ensures app { IfOk result (λ c. app_of c ≡ spec.live_command) }
     ensures local { IfOk result (λ c. (fields_of c).has_globals ≡ false) }
 {
-    let config = config_option(alloc);
-    live_in_rounds(alloc)?.arg(config)
+    let bare = Command::new(alloc, "live")
+        .about(LIVE_ABOUT)
+        .after_help(LIVE_AFTER);
+    with_options(alloc, bare, workers_option(alloc), rounds_option(alloc))
 }
 
 /// The number that a text is.
@@ -165,7 +147,8 @@ fn rounds_in(text: Option<&str>) -> Option<u64>
 pub(crate) fn live_kind(options: &ArgMatches<'_>) -> Option<Kind>
     ensures { result ≡ spec.live_met (rows_of (found_of options.now)) }
 {
-    let workers = workers_in(options.get_str("workers"))?;
-    let rounds = rounds_in(options.get_str("rounds"))?;
+    let workers = workers_in(value_in(options, "workers"));
+    let rounds = rounds_in(value_in(options, "rounds"));
+    let (workers, rounds) = workers.zip(rounds)?;
     Some(Kind::Live(workers, rounds))
 }

@@ -3,7 +3,7 @@
 ghost use Rattle.std.specs.Prelude.{◌≡◌, ◌∷◌, [], IfOk, IfErr, IsErr, Some, None, is_some, option_map, drop, map, codes, true, false};
 ghost use Rattle.std.specs.Option.{option_and_then};
 ghost use Rattle.std.specs.String.{string_bytes};
-ghost use Rattle.clap.specs.Simple.{app_of, new_app, with_rule, with_subcommand};
+ghost use Rattle.clap.specs.Simple.{app_of, with_subcommand};
 ghost use Rattle.clap.specs.Walk.{rule_of};
 ghost use Rattle.clap.specs.Faults.{fault_of};
 ghost use Rattle.clap.specs.Kinds.{IsAmong};
@@ -17,7 +17,9 @@ ghost use Rattle.ynl_tool.specs.declared.words.WordsFault.TheVariants.{Words, Ba
 
 use crate::check_words::{check_command, check_kind};
 use crate::explain_words::{explain_command, explain_kind};
+use crate::explaining::Question;
 use crate::live_words::{Workers, live_command, live_kind};
+use crate::options::{config_option, name_in, tenant_option, value_in, with_options};
 use clap::error::ErrorKind;
 use clap::{Arg, ArgMatches, Command};
 use std::alloc::{AllocError, Global};
@@ -35,7 +37,7 @@ pub enum SequentialKind {
     /// To audit the journal that an input is.
     Audit,
     /// To explain why an application of a tenant waits after an input.
-    Explain(Name, Name),
+    Explain(Question),
 }
 
 /// What the program is asked to do.
@@ -117,9 +119,6 @@ Examples:
   ynl explain --tenant eng --app j1 < events
   ynl check --config cluster.toml
   ynl live --workers 4 < events > journal";
-
-const CONFIG_HELP: &str =
-    "The configuration, a TOML text, of which ynl check tells what it says or where its fault is; without it there is one queue, root.eng, and one label, gpu";
 
 const RUN_ABOUT: &str = "Answers the events of standard input, one reply for each";
 
@@ -204,32 +203,7 @@ Exit status:
 Example:
   ynl audit --config cluster.toml < journal";
 
-const TENANT_HELP: &str = "The tenant, by the name of its top-level queue";
-
 const LABEL_HELP: &str = "The label of its partition";
-
-/// The option that names the file of the configuration.
-pub(crate) fn config_option<'a>(alloc: Global) -> Arg<'a>
-    ensures rule { rule_of result ≡ spec.config_rule }
-    ensures local { result.global ≡ false }
-{
-    Arg::new(alloc, "config")
-        .long("config")
-        .value_name("FILE")
-        .help(CONFIG_HELP)
-}
-
-/// The option that names the tenant.
-pub(crate) fn tenant_option<'a>(alloc: Global) -> Arg<'a>
-    ensures rule { rule_of result ≡ spec.tenant_rule }
-    ensures local { result.global ≡ false }
-{
-    Arg::new(alloc, "tenant")
-        .long("tenant")
-        .value_name("NAME")
-        .help(TENANT_HELP)
-        .required(true)
-}
 
 fn label_option<'a>(alloc: Global) -> Arg<'a>
     ensures rule { rule_of result ≡ spec.label_rule }
@@ -253,35 +227,15 @@ fn run<'a>(alloc: Global) -> Result<Command<'a>, AllocError>
         .arg(config)
 }
 
-/// The subcommand `tenant` with the first of its options. It is made in steps, since a proof of many
-/// questions on a command takes long.
-fn tenant_named<'a>(alloc: Global) -> Result<Command<'a>, AllocError>
-    ensures app { IfOk result (λ c. app_of c ≡ with_rule (new_app (codes "tenant")) spec.tenant_rule) }
-    ensures local { IfOk result (λ c. (fields_of c).has_globals ≡ false) }
-{
-    let tenant = tenant_option(alloc);
-    Command::new(alloc, "tenant")
-        .about(TENANT_ABOUT)
-        .after_help(TENANT_AFTER)
-        .arg(tenant)
-}
-
-/// The same with the second.
-fn tenant_labelled<'a>(alloc: Global) -> Result<Command<'a>, AllocError>
-    ensures app { IfOk result (λ c. app_of c ≡ with_rule (with_rule (new_app (codes "tenant")) spec.tenant_rule) spec.label_rule) }
-    ensures local { IfOk result (λ c. (fields_of c).has_globals ≡ false) }
-{
-    let label = label_option(alloc);
-    tenant_named(alloc)?.arg(label)
-}
-
 /// The subcommand `tenant`.
 fn tenant<'a>(alloc: Global) -> Result<Command<'a>, AllocError>
     ensures app { IfOk result (λ c. app_of c ≡ spec.tenant_command) }
     ensures local { IfOk result (λ c. (fields_of c).has_globals ≡ false) }
 {
-    let config = config_option(alloc);
-    tenant_labelled(alloc)?.arg(config)
+    let bare = Command::new(alloc, "tenant")
+        .about(TENANT_ABOUT)
+        .after_help(TENANT_AFTER);
+    with_options(alloc, bare, tenant_option(alloc), label_option(alloc))
 }
 
 /// The subcommand `audit`.
@@ -364,16 +318,6 @@ fn command<'a>(alloc: Global) -> Result<Command<'a>, AllocError>
     command_of_checks(alloc)?.subcommand(live)
 }
 
-/// The name that a text is.
-pub(crate) fn name_in(text: Option<&str>) -> Option<Name>
-    ensures { result ≡ option_and_then spec.name_in (option_map (λ s. s.now) text.entry) }
-{
-    match text {
-        Some(text) => Name::parse(text).ok(),
-        None => None,
-    }
-}
-
 fn label_in(text: Option<&str>) -> Option<Label>
     ensures { result ≡ option_and_then spec.label_in (option_map (λ s. s.now) text.entry) }
 {
@@ -383,14 +327,22 @@ fn label_in(text: Option<&str>) -> Option<Label>
     }
 }
 
+/// What `tenant` asks for with these options, unless one of them is a bad name.
+fn tenant_kind(options: &ArgMatches<'_>) -> Option<Kind>
+    ensures { result ≡ spec.tenant_met (rows_of (found_of options.now)) }
+{
+    let tenant = name_in(value_in(options, "tenant"));
+    let label = label_in(value_in(options, "label"));
+    let (tenant, label) = tenant.zip(label)?;
+    Some(Kind::Sequential(SequentialKind::Tenant(tenant, label)))
+}
+
 /// What a subcommand asks for with these options, unless one of them is a bad name.
 fn kind_of(subcommand: &str, options: &ArgMatches<'_>) -> Option<Kind>
     ensures { result ≡ spec.kind_met (subcommand.now, rows_of (found_of options.now)) }
 {
     if subcommand == "tenant" {
-        let tenant = name_in(options.get_str("tenant"))?;
-        let label = label_in(options.get_str("label"))?;
-        return Some(Kind::Sequential(SequentialKind::Tenant(tenant, label)));
+        return tenant_kind(options);
     }
     if subcommand == "audit" {
         return Some(Kind::Sequential(SequentialKind::Audit));
@@ -426,7 +378,7 @@ pub fn parse_words<'a>(alloc: Global, words: &'a [String]) -> Result<Job<'a>, Wo
             let Some(kind) = kind_of(name, options) else {
                 return Err(WordsFault::BadName);
             };
-            let config = options.get_str("config");
+            let config = value_in(options, "config");
             Ok(Job { kind, config })
         }
         // One is required.

@@ -1,4 +1,4 @@
-use Rattle.std.proofs.Common.{◌≡◌, true, false, is_some, IfErr, Some, None, codes, rules, map, option_and_then, string_bytes, ap, sym, subst, ◌∙◌}
+use Rattle.std.proofs.Common.{◌≡◌, true, false, is_some, IfErr, Some, None, rules, map, option_and_then, string_bytes, ap, sym, subst, ◌∙◌}
 use Rattle.std.proofs.lemmas.Result.{err_from_is_err_and}
 use Rattle.ynl_tool.specs.declared.words.WordsFault.TheVariants.{Words, NoMemory}
 use Rattle.clap.specs.Values.{kind_of}
@@ -6,12 +6,11 @@ use Rattle.clap.specs.Kinds.{HasKind, IsAmong}
 use Rattle.clap.specs.Faults.{fault_of, is_simple_and_free}
 use Rattle.clap.specs.declared.error.Error.{Error}
 use Rattle.clap.specs.Takes.{takes}
-use Rattle.clap.specs.Words.{found_of, is_simple, rows_of, subcommand_of}
-use Rattle.clap.proofs.WalkLemmas.{first_value-rows}
+use Rattle.clap.specs.Words.{found_of, rows_of}
 use Rattle.ynl_tool.specs.declared.words.Kind.TheVariants.{Sequential}
 use Rattle.ynl_tool.specs.declared.words.SequentialKind.TheVariants.{Run}
 use Rattle.ynl_tool.specs.Words.{command, kind_met, file_met, kind_of as words_kind}
-use Rattle.ynl_tool.proofs.Commands.{taken, command_simple, command_free, wants_memory, told_by_kind, asks_run, met_is}
+use Rattle.ynl_tool.proofs.Commands.{taken, command_free, wants_memory, told_by_kind, asks_run, met_of}
 use Rattle.ynl_tool.proofs.words.parse_words.Goals as goal
 
 pub returns-in_err-matches-clause-run : goal.returns-in_err-matches-clause-run
@@ -40,41 +39,35 @@ returns-in_err-matches-clause-words c =
 pub returns-in_default-clause-bad : goal.returns-in_default-clause-bad
 returns-in_default-clause-bad c = λ _.
     let words = map string_bytes c.args.words.now in
-    let met = (c.in_ok-matches.ensures.matches (ap is_simple c.in_ok-command.ensures.app ∙ command_simple)).1 ∙ ap (λ a. subcommand_of a words) c.in_ok-command.ensures.app in
-    let rows = rows_of (found_of c.in-Some.options.now) in
-    let is = met_is _ c.in-Some.name.now rows c.in-Some.ensures.name c.in-Some.ensures.rows in
+    let met = met_of _ words c.in_ok-matches.matches _ _ c.in_ok-command.ensures.app c.in_ok-matches.ensures.matches c.in-Some.ensures.name c.in-Some.ensures.rows in
     let none : c.kind_of.result ≡ None = search rules in
-    ((c.in-Some.name.now, rows), sym met ∙ is, sym c.kind_of.ensures ∙ none)
+    ((c.in-Some.name.now, rows_of (found_of c.in-Some.options.now)), met, sym c.kind_of.ensures ∙ none)
 
 pub returns-in_default-clause-run : goal.returns-in_default-clause-run
 returns-in_default-clause-run c = λ same.
     let words = map string_bytes c.args.words.now in
-    let met = (c.in_ok-matches.ensures.matches (ap is_simple c.in_ok-command.ensures.app ∙ command_simple)).1 ∙ ap (λ a. subcommand_of a words) c.in_ok-command.ensures.app in
-    let is = met_is _ c.in-Some.name.now (rows_of (found_of c.in-Some.options.now)) c.in-Some.ensures.name c.in-Some.ensures.rows in
+    let met = met_of _ words c.in_ok-matches.matches _ _ c.in_ok-command.ensures.app c.in_ok-matches.ensures.matches c.in-Some.ensures.name c.in-Some.ensures.rows in
     let none : c.kind_of.result ≡ None = search rules in
-    let asked : None ≡ Some (Sequential Run) = sym none ∙ c.kind_of.ensures ∙ ap (option_and_then kind_met) (sym is ∙ met) ∙ asks_run words same in
+    let asked : None ≡ Some (Sequential Run) = sym none ∙ c.kind_of.ensures ∙ ap (option_and_then kind_met) (sym met) ∙ asks_run words same in
     absurd (cc)
 
 pub returns-clause-file : goal.returns-clause-file
 returns-clause-file c =
     let words = map string_bytes c.args.words.now in
-    let met = (c.in_ok-matches.ensures.matches (ap is_simple c.in_ok-command.ensures.app ∙ command_simple)).1 ∙ ap (λ a. subcommand_of a words) c.in_ok-command.ensures.app in
-    let is = met_is _ c.in-Some.name.now (rows_of (found_of c.in-Some.options.now)) c.in-Some.ensures.name c.in-Some.ensures.rows in
-    c.get_str-config.ensures ∙ first_value-rows (found_of c.in-Some.options.now) (codes "config") ∙ ap (option_and_then file_met) (sym is ∙ met)
+    let met = met_of _ words c.in_ok-matches.matches _ _ c.in_ok-command.ensures.app c.in_ok-matches.ensures.matches c.in-Some.ensures.name c.in-Some.ensures.rows in
+    c.value_in-config.ensures ∙ ap (option_and_then file_met) (sym met)
 
 pub returns-in_default-clause-good : goal.returns-in_default-clause-good
 returns-in_default-clause-good c = λ good known.
     let words = map string_bytes c.args.words.now in
-    let met = (c.in_ok-matches.ensures.matches (ap is_simple c.in_ok-command.ensures.app ∙ command_simple)).1 ∙ ap (λ a. subcommand_of a words) c.in_ok-command.ensures.app in
-    let is = met_is _ c.in-Some.name.now (rows_of (found_of c.in-Some.options.now)) c.in-Some.ensures.name c.in-Some.ensures.rows in
+    let met = met_of _ words c.in_ok-matches.matches _ _ c.in_ok-command.ensures.app c.in_ok-matches.ensures.matches c.in-Some.ensures.name c.in-Some.ensures.rows in
     let none : c.kind_of.result ≡ None = search rules in
-    let asked : words_kind words ≡ None = ap (option_and_then kind_met) (sym met ∙ is) ∙ sym c.kind_of.ensures ∙ none in
+    let asked : words_kind words ≡ None = ap (option_and_then kind_met) met ∙ sym c.kind_of.ensures ∙ none in
     let no : false ≡ true = sym (ap is_some asked) ∙ known in
     absurd (cc)
 
 pub returns-clause-kind : goal.returns-clause-kind
 returns-clause-kind c =
     let words = map string_bytes c.args.words.now in
-    let met = (c.in_ok-matches.ensures.matches (ap is_simple c.in_ok-command.ensures.app ∙ command_simple)).1 ∙ ap (λ a. subcommand_of a words) c.in_ok-command.ensures.app in
-    let is = met_is _ c.in-Some.name.now (rows_of (found_of c.in-Some.options.now)) c.in-Some.ensures.name c.in-Some.ensures.rows in
-    ap (option_and_then kind_met) (sym met ∙ is) ∙ sym c.kind_of.ensures ∙ c.in-Some-kind_of.is
+    let met = met_of _ words c.in_ok-matches.matches _ _ c.in_ok-command.ensures.app c.in_ok-matches.ensures.matches c.in-Some.ensures.name c.in-Some.ensures.rows in
+    ap (option_and_then kind_met) met ∙ sym c.kind_of.ensures ∙ c.in-Some-kind_of.is

@@ -1,0 +1,115 @@
+//! Options that subcommands share, and what they are given.
+
+ghost use Rattle.std.specs.Prelude.{◌≡◌, IfOk, option_map, false};
+ghost use Rattle.std.specs.Option.{option_and_then, option_map_or};
+ghost use Rattle.clap.specs.Simple.{app_of, with_rule};
+ghost use Rattle.clap.specs.Walk.{first_of, rule_of};
+ghost use Rattle.clap.specs.Words.{found_of, rows_of};
+ghost use Rattle.clap.specs.declared.builder.command.Command.TheViews.{out-Command as fields_of};
+ghost use Rattle.ynl_tool.specs.Words as spec;
+
+use clap::{Arg, ArgAction, ArgMatches, Command};
+use std::alloc::{AllocError, Global};
+use ynl_check::Form;
+use ynl_resource::Name;
+
+const CONFIG_HELP: &str =
+    "The configuration, a TOML text, of which ynl check tells what it says or where its fault is; without it there is one queue, root.eng, and one label, gpu";
+
+const TENANT_HELP: &str = "The tenant, by the name of its top-level queue";
+
+/// The option that names the file of the configuration.
+pub(crate) fn config_option<'a>(alloc: Global) -> Arg<'a>
+    ensures rule { rule_of result ≡ spec.config_rule }
+    ensures local { result.global ≡ false }
+{
+    Arg::new(alloc, "config")
+        .long("config")
+        .value_name("FILE")
+        .help(CONFIG_HELP)
+}
+
+/// The option that names the tenant.
+pub(crate) fn tenant_option<'a>(alloc: Global) -> Arg<'a>
+    ensures rule { rule_of result ≡ spec.tenant_rule }
+    ensures local { result.global ≡ false }
+{
+    Arg::new(alloc, "tenant")
+        .long("tenant")
+        .value_name("NAME")
+        .help(TENANT_HELP)
+        .required(true)
+}
+
+/// The flag for what a reader is to read.
+pub(crate) fn plain_option<'a>(alloc: Global, help: &'a str) -> Arg<'a>
+    ensures rule { rule_of result ≡ spec.plain_rule }
+    ensures local { result.global ≡ false }
+{
+    Arg::new(alloc, "plain")
+        .long("plain")
+        .action(ArgAction::SetTrue)
+        .help(help)
+}
+
+/// The subcommand with two options more. A proof of many questions on a command takes long, so this is a step.
+fn with_two<'a>(
+    command: Command<'a>,
+    first: Arg<'a>,
+    second: Arg<'a>,
+) -> Result<Command<'a>, AllocError>
+    requires command { (fields_of command).has_globals ≡ false }
+    requires first { first.global ≡ false }
+    requires second { second.global ≡ false }
+    ensures app { IfOk result (λ c. app_of c ≡ with_rule
+        (with_rule (app_of command.entry) (rule_of first.entry)) (rule_of second.entry)) }
+    ensures local { IfOk result (λ c. (fields_of c).has_globals ≡ false) }
+{
+    command.arg(first)?.arg(second)
+}
+
+/// The subcommand with two options more, and behind them the one that names the configuration.
+pub(crate) fn with_options<'a>(
+    alloc: Global,
+    command: Command<'a>,
+    first: Arg<'a>,
+    second: Arg<'a>,
+) -> Result<Command<'a>, AllocError>
+    requires command { (fields_of command).has_globals ≡ false }
+    requires first { first.global ≡ false }
+    requires second { second.global ≡ false }
+    ensures app { IfOk result (λ c. app_of c
+        ≡ spec.with_options (app_of command.entry) (rule_of first.entry) (rule_of second.entry)) }
+    ensures local { IfOk result (λ c. (fields_of c).has_globals ≡ false) }
+{
+    let config = config_option(alloc);
+    with_two(command, first, second)?.arg(config)
+}
+
+/// The text that an option is given.
+pub(crate) fn value_in<'a>(options: &ArgMatches<'a>, option: &str) -> Option<&'a str>
+    ensures { option_map (λ s. s.now) result
+        ≡ first_of option.now (rows_of (found_of options.now)) }
+{
+    options.get_str(option)
+}
+
+/// The name that a text is.
+pub(crate) fn name_in(text: Option<&str>) -> Option<Name>
+    ensures { result ≡ option_and_then spec.name_in (option_map (λ s. s.now) text.entry) }
+{
+    match text {
+        Some(text) => Name::parse(text).ok(),
+        None => None,
+    }
+}
+
+/// The form that the flag asks for, by the text of its value.
+pub(crate) fn form_in(text: Option<&str>) -> Form
+    ensures { result ≡ option_map_or spec.form_in (option_map (λ s. s.now) text.entry) Form.Lines }
+{
+    match text {
+        Some("true") => Form::Plain,
+        _ => Form::Lines,
+    }
+}
