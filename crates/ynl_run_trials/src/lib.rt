@@ -1,11 +1,14 @@
 //! Tests of what runs: a cluster that is refused memory, what a tenant sees of one, a book of its events, and
-//! jobs and checks whose reader or writer fails. The crates themselves have none, since a crate with tests is proved twice.
+//! jobs, checks and explanations whose reader or writer fails. The crates themselves have none, since a crate with
+//! tests is proved twice.
 #![tactic(auto)]
 
 #[cfg(test)]
 mod checks;
 #[cfg(test)]
 mod cluster;
+#[cfg(test)]
+mod explanations;
 #[cfg(test)]
 mod jobs;
 #[cfg(test)]
