@@ -25,6 +25,8 @@ mod lines;
 #[cfg(test)]
 mod nodes;
 #[cfg(test)]
+mod packed;
+#[cfg(test)]
 mod queues;
 #[cfg(test)]
 mod ranges;

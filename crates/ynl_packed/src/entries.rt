@@ -1,0 +1,127 @@
+//! Lists of entries of which each has a reply.
+
+ghost use Rattle.std.specs.Prelude.{◌≡◌, ◌+◌, ◌^◌, ◌<◌, ◌++◌, ◌∷◌, ◌↔◌, [], length, slice_index_or, IfOk, OnOk, OnErr, IsTrue};
+ghost use Rattle.ynl_packed.specs.Lists.{answered, entry_at};
+ghost use Rattle.ynl_packed.specs.Reading.{Gives};
+
+use crate::cursor::Cursor;
+use crate::event_reading::event_at;
+use crate::event_writing::put_event;
+use crate::pieces::Pieces;
+use crate::replies::{put_reply, reply_at};
+use std::alloc::{AllocError, Global};
+use std::marker::Model;
+use ynl_model::{Entry, Event, Reply};
+
+/// A list of events with their replies, each kept as its bytes. A contract sees the list of entries.
+pub struct Entries {
+    alloc: Global,
+    pieces: Pieces,
+    // The bytes of the entry that is added.
+    entry: Vec<u8>,
+}
+
+// By hand, so that crates above call it: one that is derived is proved anew in each of them, with all that it holds.
+impl Drop for Entries {
+    fn drop(self) {
+        let Entries {
+            alloc: _,
+            pieces: _,
+            entry: _,
+        } = self;
+    }
+}
+
+impl Model for Entries {
+    ghost use Rattle.std.specs.Prelude.{List};
+    ghost use Rattle.ynl_model.specs.declared.entries.Entry.{Entry};
+
+    ghost Value = { List Entry };
+
+    ghost use Rattle.ynl_packed.specs.EntriesFields.{entries_of, HasEntries};
+
+    ghost view = { entries_of };
+
+    ghost invariant = { HasEntries };
+}
+
+impl Entries {
+    /// No entry.
+    pub fn new(alloc: Global) -> Entries
+        ensures { result ≡ [] }
+    {
+        Entries {
+            alloc,
+            pieces: Pieces::new(alloc),
+            entry: Vec::new(alloc),
+        }
+    }
+
+    /// How many there are.
+    pub fn len(&self) -> usize
+        ensures value { result ≡ length self.now }
+        ensures counted { result + 1 < 2 ^ 64 }
+    {
+        self.pieces.len()
+    }
+
+    /// Puts an event with its reply behind all others. `Err` only if memory is refused; nothing has changed then.
+    pub fn push(&mut self, event: &Event, reply: &Reply) -> Result<(), AllocError>
+        ensures ok { OnOk result (self.new ≡ self.old ++ answered event.now reply.now ∷ []) }
+        ensures err { OnErr result (self.new ≡ self.old) }
+    {
+        self.entry.clear();
+        put_event(self.alloc, &mut self.entry, event)?;
+        put_reply(&mut self.entry, reply)?;
+        self.pieces.push(&self.entry)
+    }
+
+    /// The entry of this number, counted from 0. What a reply lists takes memory.
+    pub fn get(&self, i: usize) -> Result<Entry, AllocError>
+        requires { i < length self.now }
+        ensures { (d : _) → IfOk result (λ entry. entry ≡ slice_index_or self.now i d) }
+    {
+        let mut c = Cursor::new(self.pieces.get(i));
+        match entry_at(self.alloc, &mut c)? {
+            Some(entry) => Ok(entry),
+            None => unreachable!(),
+        }
+    }
+
+    /// The entries once more, each with room for the longest names.
+    pub fn to_vec(&self) -> Result<Vec<Entry>, AllocError>
+        ensures { IfOk result (λ list. list.items ≡ self.now) }
+    {
+        let mut list = Vec::new(self.alloc);
+        for i in 0..self.len() {
+            let entry = self.get(i)?;
+            list.push(entry)?;
+        }
+        Ok(list)
+    }
+
+    /// Whether the entry of this number is that of another list.
+    pub fn is_same(&self, i: usize, other: &Entries, at: usize) -> bool
+        requires here { i < length self.now }
+        requires there { at < length other.now }
+        ensures { (d : _) → IsTrue result ↔ (slice_index_or self.now i d ≡ slice_index_or other.now at d) }
+    {
+        self.pieces.get(i) == other.pieces.get(at)
+    }
+}
+
+#[tactic(auto, unfolding(crate::specs::Lists::entry_at))]
+fn entry_at(alloc: Global, c: &mut Cursor) -> Result<Option<Entry>, AllocError>
+    ensures { IfOk result (λ found. Gives (λ x. (x, c.new.rest.now)) found (entry_at c.old.rest.now)) }
+{
+    let Some(event) = event_at(c) else {
+        return Ok(None);
+    };
+    match reply_at(alloc, c)? {
+        Some(reply) => Ok(Some(Entry {
+            event,
+            reply: Some(reply),
+        })),
+        None => Ok(None),
+    }
+}

@@ -1,0 +1,105 @@
+//! Lists of events.
+
+ghost use Rattle.std.specs.Prelude.{◌≡◌, ◌+◌, ◌^◌, ◌<◌, ◌≤◌, ◌++◌, ◌∷◌, [], length, take, slice_index_or, IfOk, OnOk, OnErr};
+
+use crate::cursor::Cursor;
+use crate::event_reading::event_at;
+use crate::event_writing::put_event;
+use crate::pieces::Pieces;
+use std::alloc::{AllocError, Global};
+use std::marker::Model;
+use ynl_model::Event;
+
+/// A list of events, each kept as its bytes. A contract sees the list.
+pub struct Events {
+    alloc: Global,
+    pieces: Pieces,
+    // The bytes of the event that is added.
+    event: Vec<u8>,
+}
+
+// By hand, so that crates above call it: one that is derived is proved anew in each of them, with all that it holds.
+impl Drop for Events {
+    fn drop(self) {
+        let Events {
+            alloc: _,
+            pieces: _,
+            event: _,
+        } = self;
+    }
+}
+
+impl Model for Events {
+    ghost use Rattle.std.specs.Prelude.{List};
+    ghost use Rattle.ynl_model.specs.declared.events.Event.{Event};
+
+    ghost Value = { List Event };
+
+    ghost use Rattle.ynl_packed.specs.EventsFields.{events_of, HasEvents};
+
+    ghost view = { events_of };
+
+    ghost invariant = { HasEvents };
+}
+
+impl Events {
+    /// No event.
+    pub fn new(alloc: Global) -> Events
+        ensures { result ≡ [] }
+    {
+        Events {
+            alloc,
+            pieces: Pieces::new(alloc),
+            event: Vec::new(alloc),
+        }
+    }
+
+    /// These events.
+    pub fn of(alloc: Global, events: &[Event]) -> Result<Events, AllocError>
+        ensures { IfOk result (λ kept. kept ≡ events.now) }
+    {
+        let mut kept = Events::new(alloc);
+        for event in events {
+            kept.push(event)?;
+        }
+        Ok(kept)
+    }
+
+    /// How many there are.
+    pub fn len(&self) -> usize
+        ensures value { result ≡ length self.now }
+        ensures counted { result + 1 < 2 ^ 64 }
+    {
+        self.pieces.len()
+    }
+
+    /// Puts an event behind all others. `Err` only if memory is refused; nothing has changed then.
+    pub fn push(&mut self, event: &Event) -> Result<(), AllocError>
+        ensures ok { OnOk result (self.new ≡ self.old ++ event.now ∷ []) }
+        ensures err { OnErr result (self.new ≡ self.old) }
+    {
+        self.event.clear();
+        put_event(self.alloc, &mut self.event, event)?;
+        self.pieces.push(&self.event)
+    }
+
+    /// The event of this number, counted from 0.
+    pub fn get(&self, i: usize) -> Event
+        requires { i < length self.now }
+        ensures { (d : _) → result ≡ slice_index_or self.now i d }
+    {
+        let mut c = Cursor::new(self.pieces.get(i));
+        match event_at(&mut c) {
+            Some(event) => event,
+            None => unreachable!(),
+        }
+    }
+
+    /// Keeps so many events of the front.
+    pub fn truncate(&mut self, len: usize)
+        requires { len ≤ length self.old }
+        ensures { self.new ≡ take len self.old }
+    {
+        self.pieces.truncate(len);
+    }
+}

@@ -1,0 +1,162 @@
+//! Replies as bytes.
+
+ghost use Rattle.std.specs.Prelude.{◌≡◌, ◌++◌, OnOk, IfOk};
+ghost use Rattle.ynl_packed.specs.Fits.{FitsReply};
+ghost use Rattle.ynl_packed.specs.Spelling.{reply_bytes};
+ghost use Rattle.ynl_packed.specs.Reading.{Gives, refused_at, placed_at, proposed_at, committed_at, held_at, usage_reply_at, reply_of, reply_at};
+
+use crate::cursor::Cursor;
+use crate::kept::{Kept, items_at, put_items};
+use crate::writing::{put_amount, put_long, put_proposal};
+use std::alloc::{AllocError, Global};
+use ynl_model::{Placed, Reply};
+use ynl_resource::Refusal;
+
+/// Adds a reply.
+pub(crate) fn put_reply(bytes: &mut Vec<u8>, reply: &Reply) -> Result<(), AllocError>
+    ensures put { OnOk result (bytes.new.items ≡ bytes.old.items ++ reply_bytes reply.now) }
+    ensures fits { OnOk result (FitsReply reply.now) }
+{
+    match reply {
+        Reply::Done => Ok(bytes.push(0)?),
+        Reply::Refused(refusal) => {
+            bytes.push(1)?;
+            put_long(bytes, refusal.word())
+        }
+        Reply::Placed(containers) => {
+            bytes.push(2)?;
+            put_items(bytes, containers)
+        }
+        Reply::Proposed(None) => {
+            bytes.push(3)?;
+            Ok(bytes.push(0)?)
+        }
+        Reply::Proposed(Some(proposal)) => {
+            bytes.push(3)?;
+            bytes.push(1)?;
+            put_proposal(bytes, proposal)
+        }
+        Reply::Committed(container) => {
+            bytes.push(4)?;
+            container.put(bytes)
+        }
+        Reply::Held { containers, asks } => {
+            bytes.push(5)?;
+            put_items(bytes, containers)?;
+            put_items(bytes, asks)
+        }
+        Reply::Usage {
+            used,
+            guaranteed,
+            maximum,
+            masters,
+            guests,
+        } => {
+            bytes.push(6)?;
+            put_amount(bytes, used)?;
+            put_amount(bytes, guaranteed)?;
+            put_amount(bytes, maximum)?;
+            put_amount(bytes, masters)?;
+            put_amount(bytes, guests)
+        }
+    }
+}
+
+#[tactic(auto, unfolding(crate::specs::Reading::refused_at))]
+fn refused_at(c: &mut Cursor) -> Option<Reply>
+    ensures { Gives (λ x. (x, c.new.rest.now)) result (refused_at c.old.rest.now) }
+{
+    let word = c.long()?;
+    let refusal = Refusal::from_word(word)?;
+    Some(Reply::Refused(refusal))
+}
+
+#[tactic(auto, unfolding(crate::specs::Reading::proposed_at))]
+fn proposed_at(c: &mut Cursor) -> Option<Reply>
+    ensures { Gives (λ x. (x, c.new.rest.now)) result (proposed_at c.old.rest.now) }
+{
+    match c.kind()? {
+        0 => Some(Reply::Proposed(None)),
+        _ => {
+            let proposal = c.proposal()?;
+            Some(Reply::Proposed(Some(proposal)))
+        }
+    }
+}
+
+#[tactic(auto, unfolding(crate::specs::Reading::committed_at))]
+fn committed_at(c: &mut Cursor) -> Option<Reply>
+    ensures { Gives (λ x. (x, c.new.rest.now)) result (committed_at c.old.rest.now) }
+{
+    let container = Placed::at(c)?;
+    Some(Reply::Committed(container))
+}
+
+#[tactic(auto, unfolding(crate::specs::Reading::usage_reply_at))]
+fn usage_at(c: &mut Cursor) -> Option<Reply>
+    ensures { Gives (λ x. (x, c.new.rest.now)) result (usage_reply_at c.old.rest.now) }
+{
+    let used = c.amount()?;
+    let guaranteed = c.amount()?;
+    let maximum = c.amount()?;
+    let masters = c.amount()?;
+    let guests = c.amount()?;
+    Some(Reply::Usage {
+        used,
+        guaranteed,
+        maximum,
+        masters,
+        guests,
+    })
+}
+
+#[tactic(auto, unfolding(crate::specs::Reading::placed_at))]
+fn placed_at(alloc: Global, c: &mut Cursor) -> Result<Option<Reply>, AllocError>
+    ensures { IfOk result (λ found. Gives (λ x. (x, c.new.rest.now)) found (placed_at c.old.rest.now)) }
+{
+    match items_at(alloc, c)? {
+        Some(containers) => Ok(Some(Reply::Placed(containers))),
+        None => Ok(None),
+    }
+}
+
+#[tactic(auto, unfolding(crate::specs::Reading::held_at))]
+fn held_at(alloc: Global, c: &mut Cursor) -> Result<Option<Reply>, AllocError>
+    ensures { IfOk result (λ found. Gives (λ x. (x, c.new.rest.now)) found (held_at c.old.rest.now)) }
+{
+    let Some(containers) = items_at(alloc, c)? else {
+        return Ok(None);
+    };
+    match items_at(alloc, c)? {
+        Some(asks) => Ok(Some(Reply::Held { containers, asks })),
+        None => Ok(None),
+    }
+}
+
+/// The fields of a reply of this kind.
+#[tactic(auto, unfolding(crate::specs::Reading::reply_of))]
+fn reply_of(alloc: Global, kind: u8, c: &mut Cursor) -> Result<Option<Reply>, AllocError>
+    ensures { IfOk result (λ found. Gives (λ x. (x, c.new.rest.now)) found (reply_of kind c.old.rest.now)) }
+{
+    match kind {
+        0 => Ok(Some(Reply::Done)),
+        1 => Ok(refused_at(c)),
+        2 => placed_at(alloc, c),
+        3 => Ok(proposed_at(c)),
+        4 => Ok(committed_at(c)),
+        5 => held_at(alloc, c),
+        6 => Ok(usage_at(c)),
+        _ => Ok(None),
+    }
+}
+
+/// A reply: its kind, and its fields.
+#[tactic(auto, unfolding(crate::specs::Reading::reply_at))]
+pub(crate) fn reply_at(alloc: Global, c: &mut Cursor) -> Result<Option<Reply>, AllocError>
+    ensures { IfOk result (λ found. Gives (λ x. (x, c.new.rest.now)) found (reply_at c.old.rest.now)) }
+{
+    match c.kind() {
+        Some(kind) => reply_of(alloc, kind, c),
+        None => Ok(None),
+    }
+}
