@@ -501,6 +501,13 @@ impl Core {
         self.apply_any(&event)
     }
 
+    /// What the cluster is configured with.
+    pub fn config(&self) -> &Config
+        ensures { result.now ≡ self.now.config }
+    {
+        &self.config
+    }
+
     /// The containers on a partition, in the order of placement, which is that of their ids.
     pub fn containers(&self, alloc: Global, label: &Label) -> Result<Vec<Placed>, NoMemory>
         ensures { IfOk result (λ list. list.items ≡ containers_on self.now.state label.now) }

@@ -1,4 +1,4 @@
 pub mod Longer
-pub mod Replies
+pub mod Booked
 pub mod Shown
 pub mod Same

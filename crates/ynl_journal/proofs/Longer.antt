@@ -10,9 +10,6 @@ use Rattle.ynl_model.specs.Queues.{Config}
 use Rattle.ynl_model.specs.Cluster.{State, opening}
 use Rattle.ynl_model.specs.Events.{IsHistory, step, after, replies, replies_to, state_after}
 use Rattle.ynl_core.specs.World.{World, Answers}
-use Rattle.ynl_core.specs.Sightings.{reply_by, reply_before}
-use Rattle.ynl_core.specs.declared.sightings.Sighted.{Sighted}
-use Rattle.ynl_core.specs.declared.sightings.Sighted.TheVariants.{Refused, Seen}
 use Rattle.ynl_core.proofs.RunMore.{replies_push, state_push}
 use Rattle.ynl_journal.specs.Journal.{entry, events_in, replayed, FitsReply, Agrees, FirstDiffers}
 
@@ -93,26 +90,6 @@ first_differs c es i e old new r inside at is agrees step_is differs =
       there = λ all. differs (subst R (sym (known_reply c (take i es) old new e.event r is step_is)) (agrees_last c (take i es) e (subst A (take_one_more es i e inside at) all)));
     }
 
--- what a book keeps, with one entry more
-pub grown_core : (old new : World) (es longer : List Entry) (event : Event) (o : Option Reply) (r : Reply) → old ≡ replayed old.config es → Answers old event new r → longer ≡ es ++ entry event o ∷ [] → new ≡ replayed new.config longer
-grown_core old new es longer event o r is step_is more =
-    let P : World → Type 0 = λ w. w ≡ replayed w.config longer in
-    let known : new ≡ replayed old.config longer = known_step old.config es old new (entry event o) r is step_is ∙ ap (replayed old.config) (sym more) in
-    subst P (sym known) refl
-
-pub grown_agrees : (old new : World) (es longer : List Entry) (event : Event) (kept r : Reply) → old ≡ replayed old.config es → Agrees old.config es → Answers old event new r → kept ≡ r → longer ≡ es ++ entry event (Some kept) ∷ [] → Agrees new.config longer
-grown_agrees old new es longer event kept r is agrees step_is same more =
-    let Q : List Entry → Type 0 = λ xs. Agrees old.config xs in
-    let C : Config → Type 0 = λ c. Agrees c longer in
-    subst C (sym (ap (λ (w : World). w.config) step_is.left)) (subst Q (sym more) (agrees_push old.config es (entry event (Some kept)) agrees (same ∙ known_reply old.config es old new event r is step_is)))
-
--- what a book keeps where nothing has changed
-pub kept_replay : (old new : World) (es others : List Entry) → new ≡ old → others ≡ es → old ≡ replayed old.config es → Agrees old.config es → (new ≡ replayed new.config others) × Agrees new.config others
-kept_replay old new es others same same_entries is agrees =
-    let P : World → Type 0 = λ w. (w ≡ replayed w.config others) × Agrees w.config others in
-    let Q : List Entry → Type 0 = λ xs. (old ≡ replayed old.config xs) × Agrees old.config xs in
-    subst P (sym same) (subst Q (sym same_entries) (is, agrees))
-
 -- the replies to one entry more
 replies_more : (c : Config) (es : List Entry) (e : Entry) →
     map Some (replies_to c (events_in (es ++ e ∷ []))) ≡ map Some (replies_to c (events_in es)) ++ Some (step c (state_after c (events_in es)) e.event).reply ∷ []
@@ -132,24 +109,11 @@ history_push c es longer event kept more same closed =
     )
 
 -- the closed history of the events up to a place, and that of those up to the next
-pub history_more : (c : Config) (es done longer : List Entry) (i : ℕ) (e : Entry) (old new : World) (r : Reply) → i < length es → e ≡ get_or es i e → old ≡ replayed c done → events_in done ≡ events_in (take i es) → IsHistory c done → Answers old e.event new r → longer ≡ done ++ entry e.event (Some r) ∷ [] → (new ≡ replayed c longer) × (events_in longer ≡ events_in (take (i + 1) es)) × IsHistory c longer
-history_more c es done longer i e old new r inside at is same closed step_is more =
-    let n = entry e.event (Some r) in
-    let push : List Event → List Event = λ xs. xs ++ e.event ∷ [] in (
+pub history_more : (c : Config) (all : List Event) (done longer : List Entry) (i : ℕ) (event : Event) (old new : World) (r : Reply) → i < length all → event ≡ get_or all i event → old ≡ replayed c done → events_in done ≡ take i all → IsHistory c done → Answers old event new r → longer ≡ done ++ entry event (Some r) ∷ [] → (new ≡ replayed c longer) × (events_in longer ≡ take (i + 1) all) × IsHistory c longer
+history_more c all done longer i event old new r inside at is same closed step_is more =
+    let n = entry event (Some r) in
+    let push : List Event → List Event = λ xs. xs ++ event ∷ [] in (
       known_step c done old new n r is step_is ∙ ap (replayed c) (sym more),
-      ap events_in more ∙ events_push done n ∙ ap push same ∙ sym (ap events_in (take_one_more es i e inside at) ∙ events_push (take i es) e),
-      history_push c done longer e.event r more (known_reply c done old new e.event r is step_is) closed,
+      ap events_in more ∙ events_push done n ∙ ap push same ∙ sym (take_more all i event inside ∙ ap (λ (x : Event). take i all ++ x ∷ []) (sym at)),
+      history_push c done longer event r more (known_reply c done old new event r is step_is) closed,
     )
-
--- an entry more, whatever is written down of its reply, if it fits
-pub grown_fitting : (old new : World) (es longer : List Entry) (event : Event) (o : Option Reply) (r : Reply) → old ≡ replayed old.config es → Agrees old.config es → Answers old event new r → FitsReply (entry event o) r → longer ≡ es ++ entry event o ∷ [] → Agrees new.config longer
-grown_fitting old new es longer event o r is agrees step_is fits more =
-    let Q : List Entry → Type 0 = λ xs. Agrees old.config xs in
-    let C : Config → Type 0 = λ c. Agrees c longer in
-    let F : Reply → Type 0 = λ x. FitsReply (entry event o) x in
-    subst C (sym (ap (λ (w : World). w.config) step_is.left)) (subst Q (sym more) (agrees_push old.config es (entry event o) agrees (subst F (known_reply old.config es old new event r is step_is) fits)))
-
--- what is written down before the choice is made fits the reply
-pub before_fits : (event : Event) (sighted : Sighted) → FitsReply (entry event (reply_before sighted)) (reply_by sighted)
-before_fits event (Refused refusal) = refl
-before_fits event (Seen seen) = tt

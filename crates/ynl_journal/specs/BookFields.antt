@@ -1,14 +1,37 @@
 -- What a book's fields mean.
-use Rattle.std.specs.Prelude.{◌≡◌}
+use Rattle.std.specs.Prelude.{◌≡◌, Bool, true, false, not, ◌&&◌, if◌then◌else◌, List, [], ◌∷◌, Option, Some, None, length}
+use Rattle.ynl_model.specs.declared.events.Event.{Event}
+use Rattle.ynl_model.specs.declared.replies.Reply.{Reply}
+use Rattle.ynl_model.specs.declared.replies.Reply.TheVariants.{Refused}
+use Rattle.ynl_model.specs.declared.entries.Entry.{Entry}
+use Rattle.ynl_model.specs.Queues.{Config}
+use Rattle.ynl_model.specs.Cluster.{State, opening}
+use Rattle.ynl_model.specs.Events.{step, state_after}
 use Rattle.ynl_journal.specs.declared.journal.Book.TheInside.{Inside}
-use Rattle.ynl_journal.specs.Journal.{Journal, Agrees, replayed}
+use Rattle.ynl_journal.specs.Journal.{Journal, entry}
+
+-- whether a reply is a refusal
+abbrev pub is_refusal : Reply → Bool
+is_refusal (Refused refusal) = true
+is_refusal _ = false
+
+-- what is written down of a reply: all of it, or, where it is left to be planned, a refusal alone
+abbrev pub written : Bool → Reply → Option Reply
+written planned r = if planned && not (is_refusal r) then None else Some r
+
+-- the entries of events from a state on, each with what is written down of the cluster's reply
+abbrev pub entries_from : Config → State → List Event → List Bool → List Entry
+entries_from c s [] planned = []
+entries_from c s (e ∷ es) [] = []
+entries_from c s (e ∷ es) (p ∷ ps) = entry e (written p (step c s e).reply) ∷ entries_from c (step c s e).state es ps
+
+abbrev pub entries_after : Config → List Event → List Bool → List Entry
+entries_after c events planned = entries_from c (opening c) events planned
 
 abbrev pub journal_of : Inside → Journal
-journal_of b = record { config = b.core.config; entries = b.entries.items }
+journal_of b = record { config = b.core.config; entries = entries_after b.core.config b.events b.planned.items }
 
--- The cluster is the one that the entries' events lead to, each reply that is there is the cluster's, and the number beside them is the
--- most containers that a heartbeat places.
+-- the cluster is the one that the events lead to, and of each event it is kept whether its reply was left to be planned
 pub record IsReplay (b : Inside) : Type 0 where
-  pub state : b.core ≡ replayed b.core.config b.entries.items
-  pub agrees : Agrees b.core.config b.entries.items
-  pub most : b.containers_per_heartbeat ≡ b.core.config.containers_per_heartbeat
+  pub state : b.core.state ≡ state_after b.core.config b.events
+  pub counted : length b.planned.items ≡ length b.events

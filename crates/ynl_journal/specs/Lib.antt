@@ -1,6 +1,5 @@
 pub mod Journal
 pub mod Audits
 pub mod BookFields
-pub mod Copies
 pub mod Promises
 pub mod Same

@@ -1,36 +1,38 @@
 //! The book of a cluster: all that it was told, and what it answered.
 
-ghost use Rattle.std.specs.Prelude.{◌≡◌, [], ◌∷◌, ◌++◌, length, IfOk, OnErr, Some};
+ghost use Rattle.std.specs.Prelude.{◌≡◌, ◌+◌, ◌^◌, ◌<◌, [], ◌∷◌, ◌++◌, length, vec_len, vec_capacity, IfOk, OnOk, OnErr, Some};
 ghost use Rattle.ynl_core.specs.Sightings.{IsSighting, reply_by, reply_before};
 ghost use Rattle.ynl_model.specs.Events.{IsHistory, state_after, step};
 ghost use Rattle.ynl_model.specs.declared.events.Event.TheVariants.{Propose};
 ghost use Rattle.ynl_journal.specs.Journal.{Agrees, Journal, entry, events_in, replayed};
 
-use crate::copying::{copy_into, reserve_for};
-use std::alloc::Global;
+use crate::replaying::entries_of;
+use std::alloc::{AllocError, Global};
 use std::marker::Model;
 use ynl_core::{Core, NoMemory, Sighted};
 use ynl_model::{Entry, Event, Reply};
+use ynl_packed::Events;
 use ynl_queues::Config;
 use ynl_resource::Name;
 
 /// A cluster with its journal. Each event that comes is entered with its reply, and the state is at all
 /// times what the entries' events lead to.
+///
+/// A reply is the cluster's, and can be worked out again; so only events are kept, each as its bytes.
 pub struct Book {
-    alloc: Global,
     core: Core,
-    entries: Vec<Entry>,
-    containers_per_heartbeat: usize,
+    events: Events,
+    // Of each event, whether its reply was left to be planned.
+    planned: Vec<bool>,
 }
 
 // By hand, so that crates above call it: one that is derived is proved anew in each of them, with all that it holds.
 impl Drop for Book {
     fn drop(self) {
         let Book {
-            alloc: _,
             core: _,
-            entries: _,
-            containers_per_heartbeat: _,
+            events: _,
+            planned: _,
         } = self;
     }
 }
@@ -51,27 +53,40 @@ impl Book {
     pub fn open(alloc: Global, config: Config) -> Result<Book, NoMemory>
         ensures { IfOk result (λ book. book ≡ record { config = config; entries = [] }) }
     {
-        let containers_per_heartbeat = config.containers_per_heartbeat() as usize;
-        let core = Core::open(alloc, config)?;
         Ok(Book {
-            alloc,
-            core,
-            entries: Vec::new(alloc),
-            containers_per_heartbeat,
+            core: Core::open(alloc, config)?,
+            events: Events::new(alloc),
+            planned: Vec::new(alloc),
         })
     }
 
-    /// The entries, in the order in which their events came. Each reply that is there is the cluster's.
-    pub fn entries(&self) -> &[Entry]
-        ensures entries { result.now ≡ self.now.entries }
+    /// How many entries there are.
+    pub fn len(&self) -> usize
+        ensures value { result ≡ length self.now.entries }
+        ensures counted { result + 1 < 2 ^ 64 }
+    {
+        self.events.len()
+    }
+
+    /// The events of the entries, in the order in which they came.
+    pub fn events(&self) -> &Events
+        ensures { result.now ≡ events_in self.now.entries }
+    {
+        &self.events
+    }
+
+    /// The entries, in the order in which their events came. Each reply that is there is the cluster's: a second
+    /// cluster of the same configuration answers the events once more.
+    pub fn entries(&self, alloc: Global) -> Result<Vec<Entry>, NoMemory>
+        ensures entries { IfOk result (λ entries. entries.items ≡ self.now.entries) }
         ensures agrees { Agrees self.now.config self.now.entries }
     {
-        self.entries.as_slice()
+        let config = self.core.config().copy(alloc)?;
+        entries_of(alloc, config, &self.events, &self.planned)
     }
 
     /// Takes an event, and answers its place, counted from 0, and the cluster's reply. Where memory is
-    /// refused nothing has changed: memory for the entry and for the second copy of the reply is reserved
-    /// before the event is applied, and what a poll lists is copied after it, since a poll changes nothing.
+    /// refused nothing has changed: the event is kept before it is applied, and is given up where it is not.
     pub fn enter(&mut self, event: Event) -> Result<(u64, Reply), NoMemory>
         ensures place { IfOk result (λ told. told.0 ≡ length self.old.entries) }
         ensures reply { IfOk result (λ told. told.1 ≡ (step self.old.config (state_after self.old.config (events_in self.old.entries)) event).reply) }
@@ -79,16 +94,18 @@ impl Book {
         ensures closed { IfOk result (λ _. IsHistory self.old.config self.old.entries → IsHistory self.new.config self.new.entries) }
         ensures err { OnErr result (self.new ≡ self.old) }
     {
-        let place = self.entries.len() as u64;
-        self.entries.reserve(1)?;
-        let reserved = reserve_for(self.alloc, &event, self.containers_per_heartbeat)?;
-        let reply = self.core.apply(event)?;
-        let kept = copy_into(self.alloc, reserved, &reply)?;
-        self.entries.push_reserved(Entry {
-            event,
-            reply: Some(kept),
-        });
-        Ok((place, reply))
+        let place = self.events.len();
+        keep(&mut self.events, &mut self.planned, &event)?;
+        match self.core.apply(event) {
+            Ok(reply) => {
+                self.planned.push_reserved(false);
+                Ok((place as u64, reply))
+            }
+            Err(refused) => {
+                self.events.truncate(place);
+                Err(refused)
+            }
+        }
     }
 
     /// Enters a propose on a node, and answers its place with what is seen of the cluster, from which the reply can be worked
@@ -101,25 +118,29 @@ impl Book {
         ensures entry { IfOk result (λ told. self.new ≡ record self.old { entries = self.old.entries ++ entry (Propose node.now) (reply_before told.1) ∷ [] }) }
         ensures err { OnErr result (self.new ≡ self.old) }
     {
-        let place = self.entries.len() as u64;
-        self.entries.reserve(1)?;
-        let sighted = self.core.sight(node)?;
-        let reply = reply_before(&sighted);
-        let entry = Entry {
-            event: Event::Propose { node: *node },
-            reply,
-        };
-        self.entries.push_reserved(entry);
-        Ok((place, sighted))
+        let place = self.events.len();
+        let event = Event::Propose { node: *node };
+        keep(&mut self.events, &mut self.planned, &event)?;
+        match self.core.sight(node) {
+            Ok(sighted) => {
+                self.planned.push_reserved(true);
+                Ok((place as u64, sighted))
+            }
+            Err(refused) => {
+                self.events.truncate(place);
+                Err(refused)
+            }
+        }
     }
 }
 
-/// What is entered as the reply before the choice is made: a refusal, or nothing.
-fn reply_before(sighted: &Sighted) -> Option<Reply>
-    ensures { result ≡ reply_before sighted.now }
+/// Keeps an event, with memory for what is said of it.
+fn keep(events: &mut Events, planned: &mut Vec<bool>, event: &Event) -> Result<(), AllocError>
+    ensures events { OnOk result (events.new ≡ events.old ++ event.now ∷ []) }
+    ensures planned { planned.new.items ≡ planned.old.items }
+    ensures room { OnOk result (vec_len planned.new < vec_capacity planned.new) }
+    ensures err { OnErr result (events.new ≡ events.old) }
 {
-    match sighted {
-        Sighted::Refused(refusal) => Some(Reply::Refused(*refusal)),
-        Sighted::Seen(_) => None,
-    }
+    planned.reserve(1)?;
+    events.push(event)
 }

@@ -9,7 +9,6 @@ pub use ynl_model::Entry;
 
 mod auditing;
 mod comparing;
-mod copying;
 pub mod histories;
 mod journal;
 mod replaying;

@@ -1,14 +1,18 @@
-use Rattle.std.proofs.Common.{◌≡◌, [], ◌∷◌, ◌++◌, Some, ap, ◌∙◌, arith}
-use Rattle.ynl_model.specs.declared.entries.Entry.{Entry}
+use Rattle.std.proofs.Common.{◌≡◌, ◌<◌, [], ◌∷◌, ◌++◌, Some, length, ◌∙◌, arith}
+use Rattle.std.proofs.lemmas.List.{take_all}
 use Rattle.ynl_journal.specs.Journal.{entry}
 use Rattle.ynl_journal.proofs.Longer.{history_more}
 use Rattle.ynl_journal.proofs.replaying.replay_history.Goals as goal
 
-pub loop-entry-preserved : goal.loop-entry-preserved
-loop-entry-preserved c =
-    let done = c.loop-entry.history.items in
-    let e = c.entry-item.result in
-    let was = c.loop-entry.invariant in
-    let more : c.push.new.self.items ≡ done ++ entry e.event (Some c.in_ok-reply.reply) ∷ [] =
-    c.in_ok-push.ensures.items ∙ ap (λ (x : Entry). done ++ x ∷ []) c.entry_with.ensures in
-    history_more c.args.config c.args.entries.now done c.push.new.self.items c.loop-entry.entry-index e c.loop-entry.core c.apply.new.self c.in_ok-reply.reply (omega arith) c.entry-item.is was.0 was.1 was.2 c.in_ok-reply.ensures.ok more
+pub loop-i-preserved : goal.loop-i-preserved
+loop-i-preserved c =
+    let done = c.loop-i.history in
+    let event = c.get-event.result in
+    let was = c.loop-i.invariant in
+    let inside : c.loop-i.i < length c.args.events.now = omega (arith, c.loop-i-test.true, c.len-i-end.ensures.value) in
+    let more : c.push.new.self ≡ done ++ entry event (Some c.in_ok-reply.reply) ∷ [] =
+    c.in_ok-push.ensures.ok in
+    history_more c.args.config c.args.events.now done c.push.new.self c.loop-i.i event c.loop-i.core c.answer.new.core c.in_ok-reply.reply inside (c.get-event.ensures event) was.0 was.1 was.2 c.in_ok-reply.ensures more
+
+pub returns-clause-events : goal.returns-clause-events
+returns-clause-events c = c.loop-i.invariant.1 ∙ take_all c.loop-i.i c.args.events.now (omega (arith, c.loop-i-test.false, c.len-i-end.ensures.value))

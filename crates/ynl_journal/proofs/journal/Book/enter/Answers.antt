@@ -1,46 +1,37 @@
-use Rattle.std.proofs.Common.{◌≡◌, List, [], ◌∷◌, ◌++◌, Some, sym, ap, subst, ◌∙◌}
-use Rattle.ynl_model.specs.Queues.{Config}
+use Rattle.std.proofs.Common.{◌≡◌, false, List, [], ◌∷◌, ◌++◌, Some, refl, sym, ap, subst, ◌∙◌, Bool}
 use Rattle.ynl_model.specs.Events.{IsHistory}
-use Rattle.ynl_core.specs.World.{World}
-use Rattle.ynl_model.specs.declared.entries.Entry.{Entry}
 use Rattle.ynl_journal.specs.Journal.{Journal, entry}
-use Rattle.ynl_journal.proofs.Longer.{known_reply, kept_replay, grown_core, grown_agrees, history_push}
-use Rattle.ynl_journal.proofs.Replies.{fits_reserved, held_stays}
+use Rattle.ynl_journal.proofs.Longer.{history_push}
+use Rattle.ynl_journal.proofs.Booked.{journal, entries_len, state_grown, counted_grown, reply_known, entry_grown}
 use Rattle.ynl_journal.proofs.journal.Book.enter.Goals as goal
 
-pub copy_into-requires-clause-reserved : goal.copy_into-requires-clause-reserved
-copy_into-requires-clause-reserved c =
-    fits_reserved c.self.inside.core c.apply.new.self c.args.event c.in_ok-reply.reply c.self.inside.containers_per_heartbeat _ c.in_ok-reply.ensures.ok c.self.invariant.most c.in_ok-reserved.ensures.reserved
-
-pub invariant_of-self-in_err-kept : goal.invariant_of-self-in_err-kept
-invariant_of-self-in_err-kept c =
-    let old = c.self.inside.core in
-    let same : c.apply.new.self ≡ old = held_stays old c.apply.new.self c.args.event c.in_ok-reply.reply c.in_ok-reply.ensures.ok c.in_err-kept.ensures.err in
-    let kept = kept_replay old c.apply.new.self c.self.inside.entries.items c.reserve.new.self.items same c.in_ok-reserve.ensures.items c.self.invariant.state c.self.invariant.agrees in
-    record { state = kept.0; agrees = kept.1; most = c.self.invariant.most ∙ sym (ap (λ (w : World). w.config.containers_per_heartbeat) same) }
-
-pub invariant_of-self-2 : goal.invariant_of-self-2
-invariant_of-self-2 c =
-    let old = c.self.inside.core in
-    let es = c.self.inside.entries.items in
-    let step_is = c.in_ok-reply.ensures.ok in
-    let longer : c.push_reserved.new.self.items ≡ es ++ entry c.args.event (Some c.in_ok-kept.kept) ∷ [] =
-    c.push_reserved.ensures.items ∙ ap (λ (xs : List Entry). xs ++ entry c.args.event (Some c.in_ok-kept.kept) ∷ []) c.in_ok-reserve.ensures.items in
+pub invariant_of-self-in-Ok : goal.invariant_of-self-in-Ok
+invariant_of-self-in-Ok c =
+    let was = c.self.inside in
+    let planned = c.push_reserved.ensures.items ∙ ap (λ (ps : List Bool). ps ++ false ∷ []) c.keep.ensures.planned in
     record {
-      state = grown_core old c.apply.new.self es c.push_reserved.new.self.items c.args.event (Some c.in_ok-kept.kept) c.in_ok-reply.reply c.self.invariant.state step_is longer;
-      agrees = grown_agrees old c.apply.new.self es c.push_reserved.new.self.items c.args.event c.in_ok-kept.kept c.in_ok-reply.reply c.self.invariant.state c.self.invariant.agrees step_is c.in_ok-kept.ensures.ok longer;
-      most = c.self.invariant.most ∙ sym (ap (λ (w : World). w.config.containers_per_heartbeat) step_is.left);
+      state = state_grown was.core c.apply.new.self was.events c.keep.new.events c.args.event c.in-Ok.reply c.self.invariant.state c.in-Ok.ensures.ok c.in_ok-keep.ensures.events;
+      counted = counted_grown was.events c.keep.new.events was.planned.items c.push_reserved.new.self.items c.args.event false c.self.invariant.counted c.in_ok-keep.ensures.events planned;
     }
 
-pub returns-clause-closed : goal.returns-clause-closed
-returns-clause-closed c closed =
-    let old = c.self.inside.core in
-    let es = c.self.inside.entries.items in
-    let step_is = c.in_ok-reply.ensures.ok in
+pub returns-in-Ok-clause-place : goal.returns-in-Ok-clause-place
+returns-in-Ok-clause-place c = rw (← c.self.view_is) (c.len-place.ensures.value ∙ sym (entries_len c.self.inside.core.config c.self.inside.events c.self.inside.planned.items c.self.invariant.counted))
+
+pub returns-in-Ok-clause-reply : goal.returns-in-Ok-clause-reply
+returns-in-Ok-clause-reply c =
+    let was = c.self.inside in
+    rw (← c.self.view_is) (reply_known was.core c.apply.new.self was.events was.planned.items c.args.event c.in-Ok.reply c.self.invariant.counted c.self.invariant.state c.in-Ok.ensures.ok)
+
+pub returns-in-Ok-clause-entry : goal.returns-in-Ok-clause-entry
+returns-in-Ok-clause-entry c =
+    let was = c.self.inside in
+    let planned = c.push_reserved.ensures.items ∙ ap (λ (ps : List Bool). ps ++ false ∷ []) c.keep.ensures.planned in
+    entry_grown was.core c.apply.new.self was.events c.keep.new.events was.planned.items c.push_reserved.new.self.items c.args.event false c.in-Ok.reply (Some c.in-Ok.reply) c.self.invariant.counted c.self.invariant.state
+    c.in-Ok.ensures.ok c.in_ok-keep.ensures.events planned refl
+    ∙ ap (λ (j : Journal). journal j.config (j.entries ++ entry c.args.event (Some c.in-Ok.reply) ∷ [])) c.self.view_is
+
+pub returns-in-Ok-clause-closed : goal.returns-in-Ok-clause-closed
+returns-in-Ok-clause-closed c closed =
     let P : Journal → Type 0 = λ j. IsHistory j.config j.entries in
-    let C : Config → Type 0 = λ k. IsHistory k c.push_reserved.new.self.items in
-    let longer : c.push_reserved.new.self.items ≡ es ++ entry c.args.event (Some c.in_ok-kept.kept) ∷ [] =
-    c.push_reserved.ensures.items ∙ ap (λ (xs : List Entry). xs ++ entry c.args.event (Some c.in_ok-kept.kept) ∷ []) c.in_ok-reserve.ensures.items in
-    let before : IsHistory old.config es = subst P (sym c.self.view_is) closed in
-    let told = c.in_ok-kept.ensures.ok ∙ known_reply old.config es old c.apply.new.self c.args.event c.in_ok-reply.reply c.self.invariant.state step_is in
-    subst C (sym (ap (λ (w : World). w.config) step_is.left)) (history_push old.config es c.push_reserved.new.self.items c.args.event c.in_ok-kept.kept longer told before)
+    subst P (sym (returns-in-Ok-clause-entry c))
+    (history_push c.args.self.now.config c.args.self.now.entries _ c.args.event c.in-Ok.reply refl (returns-in-Ok-clause-reply c) closed)

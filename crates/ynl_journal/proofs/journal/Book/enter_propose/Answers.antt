@@ -1,23 +1,41 @@
-use Rattle.std.proofs.Common.{◌≡◌, List, [], ◌∷◌, ◌++◌, Option, ◌∙◌}
-use Rattle.ynl_model.specs.declared.entries.Entry.{Entry}
+use Rattle.std.proofs.Common.{◌≡◌, true, List, [], ◌∷◌, ◌++◌, Bool, sym, ap, subst, ◌∙◌}
 use Rattle.ynl_model.specs.declared.events.Event.{Event}
 use Rattle.ynl_model.specs.declared.events.Event.TheVariants.{Propose}
-use Rattle.ynl_core.specs.Sightings.{reply_by, reply_before}
-use Rattle.ynl_journal.specs.Journal.{entry}
-use Rattle.ynl_journal.proofs.Longer.{grown_core, grown_fitting, before_fits}
+use Rattle.ynl_core.specs.World.{World}
+use Rattle.ynl_core.specs.Sightings.{IsSighting, reply_by, reply_before}
+use Rattle.ynl_journal.specs.Journal.{Journal, entry}
+use Rattle.ynl_journal.proofs.Booked.{journal, entries_len, state_grown, counted_grown, reply_known, world_known, entry_grown, written_before}
 use Rattle.ynl_journal.proofs.journal.Book.enter_propose.Goals as goal
 
-pub invariant_of-self-2 : goal.invariant_of-self-2
-invariant_of-self-2 c =
-    let core = c.self.inside.core in
-    let es = c.self.inside.entries.items in
-    let sighted = c.in_ok-sighted.sighted in
+pub invariant_of-self-in-Ok : goal.invariant_of-self-in-Ok
+invariant_of-self-in-Ok c =
+    let was = c.self.inside in
     let event : Event = Propose c.args.node.now in
-    let step_is = c.in_ok-sighted.ensures.told in
-    let all = c.push_reserved.new.self.items in
-    let longer : all ≡ es ++ entry event (reply_before sighted) ∷ [] = c.push_reserved.ensures.items ∙ (λ i. c.in_ok-reserve.ensures.items i ++ entry event (c.reply_before-reply.ensures i) ∷ []) in
+    let planned = c.push_reserved.ensures.items ∙ ap (λ (ps : List Bool). ps ++ true ∷ []) c.keep.ensures.planned in
     record {
-      state = grown_core core core es all event (reply_before sighted) (reply_by sighted) c.self.invariant.state step_is longer;
-      agrees = grown_fitting core core es all event (reply_before sighted) (reply_by sighted) c.self.invariant.state c.self.invariant.agrees step_is (before_fits event sighted) longer;
-      most = c.self.invariant.most;
+      state = state_grown was.core was.core was.events c.keep.new.events event (reply_by c.in-Ok.sighted) c.self.invariant.state c.in-Ok.ensures.told c.in_ok-keep.ensures.events;
+      counted = counted_grown was.events c.keep.new.events was.planned.items c.push_reserved.new.self.items event true c.self.invariant.counted c.in_ok-keep.ensures.events planned;
     }
+
+pub returns-in-Ok-clause-place : goal.returns-in-Ok-clause-place
+returns-in-Ok-clause-place c = rw (← c.self.view_is) (c.len-place.ensures.value ∙ sym (entries_len c.self.inside.core.config c.self.inside.events c.self.inside.planned.items c.self.invariant.counted))
+
+pub returns-in-Ok-clause-sighting : goal.returns-in-Ok-clause-sighting
+returns-in-Ok-clause-sighting c =
+    let was = c.self.inside in
+    let P : World → Type 0 = λ w. IsSighting w c.args.node.now c.in-Ok.sighted in
+    rw (← c.self.view_is) (subst P (world_known was.core was.events was.planned.items c.self.invariant.counted c.self.invariant.state) c.in-Ok.ensures.sighting)
+
+pub returns-in-Ok-clause-reply : goal.returns-in-Ok-clause-reply
+returns-in-Ok-clause-reply c =
+    let was = c.self.inside in
+    rw (← c.self.view_is) (reply_known was.core was.core was.events was.planned.items (Propose c.args.node.now) (reply_by c.in-Ok.sighted) c.self.invariant.counted c.self.invariant.state c.in-Ok.ensures.told)
+
+pub returns-in-Ok-clause-entry : goal.returns-in-Ok-clause-entry
+returns-in-Ok-clause-entry c =
+    let was = c.self.inside in
+    let event : Event = Propose c.args.node.now in
+    let planned = c.push_reserved.ensures.items ∙ ap (λ (ps : List Bool). ps ++ true ∷ []) c.keep.ensures.planned in
+    entry_grown was.core was.core was.events c.keep.new.events was.planned.items c.push_reserved.new.self.items event true (reply_by c.in-Ok.sighted) (reply_before c.in-Ok.sighted) c.self.invariant.counted
+    c.self.invariant.state c.in-Ok.ensures.told c.in_ok-keep.ensures.events planned (written_before c.in-Ok.sighted)
+    ∙ ap (λ (j : Journal). journal j.config (j.entries ++ entry event (reply_before c.in-Ok.sighted) ∷ [])) c.self.view_is
