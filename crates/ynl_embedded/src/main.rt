@@ -8,7 +8,7 @@ use std::sync::Wait;
 use std::thread;
 use ynl_config::built_in;
 use ynl_journal::audit;
-use ynl_live::{Closed, Live, Receipt, Seat, close};
+use ynl_live::{Closed, Live, Receipts, Seat, close};
 use ynl_model::Event;
 use ynl_resource::{Label, Name, Size};
 
@@ -17,7 +17,7 @@ use ynl_resource::{Label, Name, Size};
 struct Node {
     name: Name,
     seat: Seat,
-    receipts: Vec<Receipt>,
+    receipts: Receipts,
     work: anyhow::Result<()>,
 }
 
@@ -26,14 +26,14 @@ impl Node {
         Ok(Node {
             name: Name::parse(name)?,
             seat,
-            receipts: Vec::new(alloc),
+            receipts: Receipts::new(alloc),
             work: Ok(()),
         })
     }
 
     fn call<R: Wait>(&mut self, rt: &R, live: &Live, event: Event) -> anyhow::Result<()> {
         let receipt = live.call(rt, &mut self.seat, event)?;
-        self.receipts.push(receipt)?;
+        self.receipts.push(&receipt)?;
         Ok(())
     }
 
@@ -66,7 +66,7 @@ fn main(rt: HostRuntime) -> anyhow::Result<()> {
         },
     );
     let mut seats = vec![in alloc; seat]?;
-    let mut lists = vec![in alloc; Vec::new(alloc)]?;
+    let mut lists = vec![in alloc; Receipts::new(alloc)]?;
     for Node {
         seat,
         receipts,
@@ -79,7 +79,7 @@ fn main(rt: HostRuntime) -> anyhow::Result<()> {
     }
     match close(alloc, live, seats, &lists) {
         Ok(Closed { config, entries }) => {
-            audit(alloc, config, &entries)?;
+            audit(alloc, config, &entries.to_vec()?)?;
             println!(rt; "{} entries", entries.len())?;
             Ok(())
         }

@@ -1,3 +1,4 @@
+pub mod Kept
 pub mod Marks
 pub mod Lists
 pub mod Sums

@@ -1,5 +1,6 @@
 pub mod Seats
 pub mod Receipts
+pub mod ReceiptsFields
 pub mod Marks
 pub mod Misfits
 pub mod Faults

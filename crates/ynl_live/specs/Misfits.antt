@@ -1,6 +1,5 @@
 -- The first receipt that does not fit a journal.
-use Rattle.std.specs.Prelude.{◌≡◌, ℕ, ◌+◌, ◌≤◌, List, ◌++◌, take, All, Some, slice_get, Vec}
-use Rattle.std.specs.declared.alloc.Global.{Global}
+use Rattle.std.specs.Prelude.{◌≡◌, ℕ, ◌+◌, ◌≤◌, List, ◌++◌, take, All, Some, slice_get}
 use Rattle.ynl_model.specs.declared.entries.Entry.{Entry}
 use Rattle.ynl_live.specs.declared.receipts.Receipt.{Receipt}
 use Rattle.ynl_live.specs.Receipts.{all_receipts, times_at, ListFits}
@@ -20,9 +19,9 @@ pub record IsFirstMisfit (entries : List Entry) (seen list : List Receipt) (plac
   pub misfit : FitBehind entries seen (take (before + 1) list) → ⊥
 
 -- the first receipt, list by list, that does not fit the journal has this place
-pub record IsMisfit (entries : List Entry) (lists : List (Vec Receipt Global)) (place : ℕ) : Type 0 where
+pub record IsMisfit (entries : List Entry) (lists : List (List Receipt)) (place : ℕ) : Type 0 where
   pub before : ℕ
-  pub list : Vec Receipt Global
+  pub list : List Receipt
   pub at : slice_get lists before ≡ Some list
-  pub fit : All (λ other. ListFits entries other.items) (take before lists)
-  pub first : IsFirstMisfit entries (all_receipts (take before lists)) list.items place
+  pub fit : All (λ other. ListFits entries other) (take before lists)
+  pub first : IsFirstMisfit entries (all_receipts (take before lists)) list place

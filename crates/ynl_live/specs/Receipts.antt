@@ -1,15 +1,14 @@
 -- Receipts held against a journal.
-use Rattle.std.specs.Prelude.{◌≡◌, ℕ, ◌<◌, List, ◌==◌, length, count_by, sum_by, map, All, AllPairs, Some, slice_get, Vec}
+use Rattle.std.specs.Prelude.{◌≡◌, ℕ, ◌<◌, List, ◌==◌, length, count_by, sum_by, map, All, AllPairs, Some, slice_get}
 use Rattle.std.specs.List.{flat_map}
-use Rattle.std.specs.declared.alloc.Global.{Global}
 use Rattle.ynl_model.specs.declared.entries.Entry.{Entry}
 use Rattle.ynl_journal.specs.Journal.{entry}
 use Rattle.ynl_live.specs.declared.receipts.Receipt.{Receipt}
 use Rattle.ynl_live.specs.Seats.{Standing}
 
 -- the receipts of all lists, list by list
-abbrev pub all_receipts : List (Vec Receipt Global) → List Receipt
-all_receipts lists = flat_map (λ list. list.items) lists
+abbrev pub all_receipts : List (List Receipt) → List Receipt
+all_receipts lists = flat_map (λ list. list) lists
 
 -- how many of the receipts have this place
 abbrev pub times_at : ℕ → List Receipt → ℕ
@@ -41,5 +40,5 @@ abbrev pub calls_on : List Standing → ℕ
 calls_on seats = sum_by (λ seat. seat.calls) seats
 
 -- there is one list for each seat, as long as the seat's calls
-abbrev pub IsOneForEach : List Standing → List (Vec Receipt Global) → Type 0
-IsOneForEach seats lists = map (λ list. length list.items) lists ≡ map (λ seat. seat.calls) seats
+abbrev pub IsOneForEach : List Standing → List (List Receipt) → Type 0
+IsOneForEach seats lists = map (λ list. length list) lists ≡ map (λ seat. seat.calls) seats

@@ -122,7 +122,7 @@ fn next_place(book: &Book, seat: &Seat) -> Result<u64, CallFault>
     ensures counted { IfOk result (λ place. place + 1 < 2 ^ 64) }
     ensures fault { IfErr result (IsFaultBehind (length book.now.entries) seat.now.front) }
 {
-    let entered = book.entries().len() as u64;
+    let entered = book.len() as u64;
     if entered < seat.front() {
         return Err(CallFault::Behind(entered));
     }

@@ -10,13 +10,13 @@ ghost use Rattle.ynl_live.specs.Receipts.{all_receipts, EachOnce, ListFits, call
 
 use crate::calling::Live;
 use crate::matching::{are_calls, is_one_for_each, mark_lists};
-use crate::receipts::Receipt;
+use crate::receipts::Receipts;
 use crate::seats::Seat;
 use std::alloc::Global;
 use thiserror::Error;
 use ynl_core::NoMemory;
 use ynl_journal::{Book, replay_history};
-use ynl_model::Entry;
+use ynl_packed::{Entries, Events};
 use ynl_queues::Config;
 
 /// Why a journal is not closed. They are looked for in this order.
@@ -42,7 +42,7 @@ pub enum Cause {
 #[derive(Drop)]
 pub struct Closed {
     pub config: Config,
-    pub entries: Vec<Entry>,
+    pub entries: Entries,
 }
 
 /// A scheduler that goes on, with the seats that were handed in, and why its journal is not closed.
@@ -63,15 +63,15 @@ pub fn close(
     alloc: Global,
     live: Live,
     seats: Vec<Seat>,
-    lists: &[Vec<Receipt>],
+    lists: &[Receipts],
 ) -> Result<Closed, Unclosed>
     ensures config { IfOk result (λ closed. closed.config ≡ live) }
-    ensures history { IfOk result (λ closed. IsHistory closed.config closed.entries.items) }
-    ensures alone { IfOk result (λ closed. ShowTenantsAlone closed.config closed.entries.items) }
-    ensures calls { IfOk result (λ closed. length closed.entries.items ≡ calls_on seats.items) }
+    ensures history { IfOk result (λ closed. IsHistory closed.config closed.entries) }
+    ensures alone { IfOk result (λ closed. ShowTenantsAlone closed.config closed.entries) }
+    ensures calls { IfOk result (λ closed. length closed.entries ≡ calls_on seats.items) }
     ensures lists { OnOk result (IsOneForEach seats.items lists.now) }
-    ensures receipts { IfOk result (λ closed. All (λ list. ListFits closed.entries.items list.items) lists.now) }
-    ensures once { IfOk result (λ closed. EachOnce (length closed.entries.items) (all_receipts lists.now)) }
+    ensures receipts { IfOk result (λ closed. All (λ list. ListFits closed.entries list) lists.now) }
+    ensures once { IfOk result (λ closed. EachOnce (length closed.entries) (all_receipts lists.now)) }
     ensures live { IfErr result (λ unclosed. unclosed.live ≡ live) }
     ensures seats { IfErr result (λ unclosed. unclosed.seats ≡ seats) }
     ensures cause { IfErr result (λ unclosed. IsCauseFor live seats.items lists.now unclosed.cause) }
@@ -93,42 +93,42 @@ fn close_book(
     config: &Config,
     book: Book,
     seats: &[Seat],
-    lists: &[Vec<Receipt>],
-) -> Result<Vec<Entry>, (Cause, Book)>
-    ensures events { IfOk result (λ entries. events_in entries.items ≡ events_in book.entries) }
-    ensures history { IfOk result (λ entries. IsHistory config.now entries.items) }
-    ensures calls { IfOk result (λ entries. length entries.items ≡ calls_on seats.now) }
+    lists: &[Receipts],
+) -> Result<Entries, (Cause, Book)>
+    ensures events { IfOk result (λ entries. events_in entries ≡ events_in book.entries) }
+    ensures history { IfOk result (λ entries. IsHistory config.now entries) }
+    ensures calls { IfOk result (λ entries. length entries ≡ calls_on seats.now) }
     ensures lists { OnOk result (IsOneForEach seats.now lists.now) }
-    ensures receipts { IfOk result (λ entries. All (λ list. ListFits entries.items list.items) lists.now) }
-    ensures once { IfOk result (λ entries. EachOnce (length entries.items) (all_receipts lists.now)) }
+    ensures receipts { IfOk result (λ entries. All (λ list. ListFits entries list) lists.now) }
+    ensures once { IfOk result (λ entries. EachOnce (length entries) (all_receipts lists.now)) }
     ensures book { IfErr result (λ back. back.1 ≡ book) }
     ensures cause { IfErr result (λ back. IsCause config.now (events_in book.entries) seats.now lists.now back.0) }
 {
-    if !are_calls(seats, book.entries().len() as u64) {
+    if !are_calls(seats, book.len() as u64) {
         return Err((Cause::SeatsMissing, book));
     }
     if !is_one_for_each(seats, lists) {
         return Err((Cause::ReceiptsMissing, book));
     }
-    let Ok(entries) = replayed(alloc, config, book.entries()) else {
+    let Ok(entries) = replayed(alloc, config, book.events()) else {
         return Err((Cause::NoMemory, book));
     };
     let Ok(mut marks) = unmarked(alloc, entries.len()) else {
         return Err((Cause::NoMemory, book));
     };
-    match mark_lists(entries.as_slice(), marks.as_mut_slice(), lists) {
+    match mark_lists(&entries, marks.as_mut_slice(), lists) {
         Ok(()) => Ok(entries),
         Err(place) => Err((Cause::Mismatch(place), book)),
     }
 }
 
-/// The closed history of a journal's events.
-fn replayed(alloc: Global, config: &Config, journal: &[Entry]) -> Result<Vec<Entry>, NoMemory>
-    ensures events { IfOk result (λ entries. events_in entries.items ≡ events_in journal.now) }
-    ensures history { IfOk result (λ entries. IsHistory config.now entries.items) }
-    ensures len { IfOk result (λ entries. length entries.items ≡ length journal.now) }
+/// The closed history of events.
+fn replayed(alloc: Global, config: &Config, events: &Events) -> Result<Entries, NoMemory>
+    ensures events { IfOk result (λ entries. events_in entries ≡ events.now) }
+    ensures history { IfOk result (λ entries. IsHistory config.now entries) }
+    ensures len { IfOk result (λ entries. length entries ≡ length events.now) }
 {
-    replay_history(alloc, config.copy(alloc)?, journal)
+    replay_history(alloc, config.copy(alloc)?, events)
 }
 
 /// As many places, none of which is marked.

@@ -12,12 +12,11 @@
 
 pub use calling::{CallFault, Live};
 pub use closing::{Cause, Closed, Unclosed, close};
-pub use receipts::Receipt;
+pub use receipts::{Receipt, Receipts};
 pub use seats::Seat;
 
 mod calling;
 mod closing;
-mod comparing;
 pub mod counts;
 mod matching;
 mod receipts;

@@ -6,7 +6,7 @@ use std::alloc::{AllocError, Global};
 use std::sync::Wait;
 use std::test::Fail;
 use ynl_config::read_config;
-use ynl_live::{Live, Receipt, Seat, Unclosed, close};
+use ynl_live::{Cause, Live, Receipt, Receipts, Seat, Unclosed, close};
 use ynl_model::{Event, Reply};
 use ynl_queues::Config;
 use ynl_resource::{Label, Name, Path, Size};
@@ -149,8 +149,21 @@ pub(crate) fn tried(
     seats: Vec<Seat>,
     lists: &[Vec<Receipt>],
 ) -> Result<usize, Unclosed> {
-    let closed = close(alloc, live, seats, lists)?;
+    let Ok(kept) = kept_lists(alloc, lists) else {
+        let cause = Cause::NoMemory;
+        return Err(Unclosed { cause, live, seats });
+    };
+    let closed = close(alloc, live, seats, &kept)?;
     Ok(closed.entries.len())
+}
+
+/// The lists as they are handed in.
+fn kept_lists(alloc: Global, lists: &[Vec<Receipt>]) -> Result<Vec<Receipts>, AllocError> {
+    let mut kept = Vec::new(alloc);
+    for list in lists {
+        kept.push(Receipts::of(alloc, list)?)?;
+    }
+    Ok(kept)
 }
 
 /// The number of entries of the closed journal of one caller.

@@ -10,6 +10,7 @@ use std::test::Fail;
 use std::thread::Threads;
 use ynl_live::{CallFault, Cause, Live, Receipt, Seat, Unclosed};
 use ynl_model::{Event, Reply};
+use ynl_packed::Events;
 use ynl_session::{SessionFault, run_session};
 use ynl_workers::{End, Unrun, WorkerEnd, run_round};
 
@@ -198,6 +199,7 @@ fn session<R: Threads + Wait + Sync>(rt: &R, alloc: Global) -> Result<usize, Ses
     let Some(config) = worked(alloc) else {
         return Err(SessionFault::NoMemory);
     };
+    let events = Events::of(alloc, &events)?;
     let entries = run_session(rt, alloc, config, &events, 1, 2, &open())?;
     Ok(entries.len())
 }

@@ -11,6 +11,7 @@ use std::test::Fail;
 use std::thread::Threads;
 use ynl_journal::audit;
 use ynl_model::{Entry, Event};
+use ynl_packed::Events;
 use ynl_resource::Name;
 use ynl_session::run_session;
 use ynl_workers::Gate;
@@ -35,9 +36,10 @@ fn played<R: Threads + Wait + Sync, G: Gate + Sync>(
 ) -> Result<Vec<Entry>, Fail>
     requires { 0 < workers }
 {
-    let events = script().ok_or("no script")?;
+    let events = Events::of(alloc, &script().ok_or("no script")?)?;
     let config = worked(alloc).ok_or("no configuration")?;
-    Ok(run_session(rt, alloc, config, &events, workers, rounds, gate)?)
+    let entries = run_session(rt, alloc, config, &events, workers, rounds, gate)?;
+    Ok(entries.to_vec()?)
 }
 
 fn begins_with(entries: &[Entry], events: &[Event]) -> bool {

@@ -16,30 +16,20 @@ AreCalls-push n [] (x ∷ xs) e r calls event place = absurd (cc)
 AreCalls-push n (other ∷ events) [] e r calls event place = absurd calls
 AreCalls-push n (other ∷ events) (x ∷ rs) e r calls event place = (calls.0, calls.1, AreCalls-push (n + 1) events rs e r calls.2 event (omega (arith, place)))
 
--- the calls so far, and room for the others
-pub record CalledSoFar (events : List Event) (rs : List Receipt) (len capacity i : ℕ) : Type 0 where
-  pub calls : AreCalls 0 (take i events) rs
-  pub len_is : len ≡ i
-  pub fits : length events ≤ capacity
-
 length-take_within : (events : List Event) (i : ℕ) → i ≤ length events → length (take i events) ≡ i
 length-take_within [] zero h = refl
 length-take_within [] (suc i) h = absurd (omega (arith, h))
 length-take_within (e ∷ es) zero h = refl
 length-take_within (e ∷ es) (suc i) h = let r = length-take_within es i (omega (arith, h)) in omega (arith, r)
 
--- the same after one call more
-pub CalledSoFar-more : (events : List Event) (rs now : List Receipt) (len len' capacity capacity' i : ℕ) (e : Event) (r : Receipt) → i < length events → e ≡ get_or events i e → r.event ≡ e → r.place ≡ i → now ≡ rs ++ r ∷ [] → len' ≡ len + 1 → capacity' ≡ capacity → CalledSoFar events rs len capacity i → CalledSoFar events now len' capacity' (i + 1)
-CalledSoFar-more events rs now len len' capacity capacity' i e r inside at event place is one same so =
+-- the calls so far, with one call more
+pub AreCalls-more : (events : List Event) (rs now : List Receipt) (i : ℕ) (e : Event) (r : Receipt) → i < length events → e ≡ get_or events i e → r.event ≡ e → r.place ≡ i → now ≡ rs ++ r ∷ [] → AreCalls 0 (take i events) rs → AreCalls 0 (take (i + 1) events) now
+AreCalls-more events rs now i e r inside at event place is calls =
     let more : take (i + 1) events ≡ take i events ++ e ∷ [] = take_more events i e inside ∙ ap (λ (x : Event). take i events ++ x ∷ []) (sym at) in
     let taken = length-take_within events i (omega arith) in
     let A : List Event → Type 0 = λ es. AreCalls 0 es now in
     let B : List Receipt → Type 0 = λ xs. AreCalls 0 (take i events ++ e ∷ []) xs in
-    record {
-      calls = subst A (sym more) (subst B (sym is) (AreCalls-push 0 (take i events) rs e r so.calls event (omega (arith, place, taken))));
-      len_is = omega (arith, one, so.len_is);
-      fits = omega (arith, same, so.fits);
-    }
+    subst A (sym more) (subst B (sym is) (AreCalls-push 0 (take i events) rs e r calls event (omega (arith, place, taken))))
 
 -- what stands at a place, and what follows
 next_entry : (entries : List Entry) (n : ℕ) (x : Entry) → slice_get entries n ≡ Some x → drop n entries ≡ x ∷ drop (n + 1) entries

@@ -69,50 +69,50 @@ rounds_over c events rounds node =
 
 -- ---- receipts
 
-all_at : (entries : List Entry) (lists : List (Vec Receipt Global)) → All (λ list. ListFits entries list.items) lists → All (IsAt entries) (all_receipts lists)
+all_at : (entries : List Entry) (lists : List (List Receipt)) → All (λ list. ListFits entries list) lists → All (IsAt entries) (all_receipts lists)
 all_at entries [] fits = All-nil (IsAt entries)
 all_at entries (v ∷ vs) fits =
-    let P : Vec Receipt Global → Type 0 = λ list. ListFits entries list.items in
+    let P : List Receipt → Type 0 = λ list. ListFits entries list in
     let here = All-head P v vs fits in
-    All-append (IsAt entries) v.items (all_receipts vs) here.at (all_at entries vs (All-tail P v vs fits))
+    All-append (IsAt entries) v (all_receipts vs) here.at (all_at entries vs (All-tail P v vs fits))
 
-module _ (entries : List Entry) (events : List Event) (first : Vec Receipt Global) (more : List (Vec Receipt Global)) (calls : AreCalls 0 events first.items)
-    (fits : All (λ list. ListFits entries list.items) (first ∷ more)) (once : EachOnce (length entries) (all_receipts (first ∷ more))) where
+module _ (entries : List Entry) (events : List Event) (first : List Receipt) (more : List (List Receipt)) (calls : AreCalls 0 events first)
+    (fits : All (λ list. ListFits entries list) (first ∷ more)) (once : EachOnce (length entries) (all_receipts (first ∷ more))) where
   abbrev rest : List Entry
-  rest = drop (length first.items) entries
+  rest = drop (length first) entries
 
-  split : entries ≡ map entry_of first.items ++ rest
-  split = front entries events first.items calls (All-head (λ (list : Vec Receipt Global). ListFits entries list.items) first more fits).at
+  split : entries ≡ map entry_of first ++ rest
+  split = front entries events first calls (All-head (λ (list : List Receipt). ListFits entries list) first more fits).at
 
   -- whatever is counted of what follows the script, the workers' receipts count it alike
   rests_alike : (f : Entry → ℕ) → sum_by f rest ≡ sum_by (λ r. f (entry_of r)) (all_receipts more)
   rests_alike f =
       let alike = count_alike f entries (all_receipts (first ∷ more)) once (all_at entries (first ∷ more) fits) in
-      let left = sum_by-append (λ (r : Receipt). f (entry_of r)) first.items (all_receipts more) in
-      let right : sum_by f entries ≡ sum_by f (map entry_of first.items) + sum_by f rest = ap (sum_by f) split ∙ sum_by-append f (map entry_of first.items) rest in
-      let same = sum_by_mapped f entry_of first.items in
+      let left = sum_by-append (λ (r : Receipt). f (entry_of r)) first (all_receipts more) in
+      let right : sum_by f entries ≡ sum_by f (map entry_of first) + sum_by f rest = ap (sum_by f) split ∙ sum_by-append f (map entry_of first) rest in
+      let same = sum_by_mapped f entry_of first in
       omega (arith, alike, left, right, same)
 
   begins : events_in entries ≡ events ++ events_in rest
   begins =
-      ap events_in split ∙ map-append (λ (e : Entry). e.event) (map entry_of first.items) rest
-      ∙ ap (λ es. es ++ events_in rest) (events_called 0 events first.items calls)
+      ap events_in split ∙ map-append (λ (e : Entry). e.event) (map entry_of first) rest
+      ∙ ap (λ es. es ++ events_in rest) (events_called 0 events first calls)
 
-pub session : (free : Type 0) (c : Config) (events : List Event) (rounds : ℕ) (entries : List Entry) (dealt : List (Vec Name Global)) (first : Vec Receipt Global) (lists : List (Vec Receipt Global))
-    → AreCalls 0 events first.items → AddsRounds free dealt rounds (first ∷ []) lists → AreDealt (nodes_after c events) dealt
-    → IsHistory c entries → ShowTenantsAlone c entries → All (λ list. ListFits entries list.items) lists → EachOnce (length entries) (all_receipts lists)
+pub session : (free : Type 0) (c : Config) (events : List Event) (rounds : ℕ) (entries : List Entry) (dealt : List (Vec Name Global)) (first : List Receipt) (lists : List (List Receipt))
+    → AreCalls 0 events first → AddsRounds free dealt rounds (first ∷ []) lists → AreDealt (nodes_after c events) dealt
+    → IsHistory c entries → ShowTenantsAlone c entries → All (λ list. ListFits entries list) lists → EachOnce (length entries) (all_receipts lists)
     → IsSession free c events rounds entries
 session free c events rounds entries dealt first lists calls adds are_dealt history alone fits once =
-    let F : List (Vec Receipt Global) → Type 0 = λ ls. All (λ list. ListFits entries list.items) ls in
-    let O : List (Vec Receipt Global) → Type 0 = λ ls. EachOnce (length entries) (all_receipts ls) in
+    let F : List (List Receipt) → Type 0 = λ ls. All (λ list. ListFits entries list) ls in
+    let O : List (List Receipt) → Type 0 = λ ls. EachOnce (length entries) (all_receipts ls) in
     let fit : F (first ∷ adds.more) = subst F adds.all fits in
     let each : O (first ∷ adds.more) = subst O adds.all once in
     let alike = rests_alike entries events first adds.more calls fit each in
-    let after : List Entry = drop (length first.items) entries in
+    let after : List Entry = drop (length first) entries in
     let commits_are : (q : Proposal) → count_by (commits q) (events_in after) ≡ count_by (λ receipt. commits q receipt.event) (all_receipts adds.more) =
     λ q. sum_by_mapped (λ e. cond (commits q e) 1 0) (λ (e : Entry). e.event) after ∙ alike (λ e. cond (commits q e.event) 1 0) in
     let answers_are : (q : Proposal) → count_by (answers q) (drop (length events) entries) ≡ count_by (λ receipt. answers q (entry_of receipt)) (all_receipts adds.more) =
-    λ q. ap (λ n. count_by (answers q) (drop n entries)) (sym (length_called 0 events first.items calls)) ∙ alike (λ e. cond (answers q e) 1 0) in
+    λ q. ap (λ n. count_by (answers q) (drop n entries)) (sym (length_called 0 events first calls)) ∙ alike (λ e. cond (answers q e) 1 0) in
     record {
       history = history;
       further = events_in after;

@@ -178,7 +178,7 @@ TellsFree-append free xs ys rs ss a b = record {
 abbrev pub HasEnded : WorkerEnd → Type 0
 HasEnded w = (w.end ≡ Whole) ⊎ (w.end ≡ Halted)
 
-round_tells : (free : Type 0) (seats : List Standing) (lists : List (Vec Name Global)) (ends : List WorkerEnd) → length seats ≡ length ends → length lists ≡ length ends → IsRound free seats lists ends → All HasEnded ends → TellsFree free (all_dealt lists) (all_receipts (map (λ w. w.receipts) ends))
+round_tells : (free : Type 0) (seats : List Standing) (lists : List (Vec Name Global)) (ends : List WorkerEnd) → length seats ≡ length ends → length lists ≡ length ends → IsRound free seats lists ends → All HasEnded ends → TellsFree free (all_dealt lists) (all_receipts (map (λ w. w.receipts.items) ends))
 round_tells free [] [] [] a b round ended = record { workers = All-nil IsOfWorker; asked = λ _ n. refl; answered = λ q. omega arith; committed = λ _ q. refl }
 round_tells free [] [] (w ∷ ws) a b round ended = absurd (omega arith)
 round_tells free [] (l ∷ ls) [] a b round ended = absurd (omega arith)
@@ -189,14 +189,14 @@ round_tells free (s ∷ ss) (l ∷ ls) [] a b round ended = absurd (omega arith)
 round_tells free (s ∷ ss) (l ∷ ls) (w ∷ ws) a b round ended =
     let here = work_tells free l.items w.receipts.items w.end (round 0 s l w refl refl refl).work (All-head HasEnded w ws ended) in
     let rest = round_tells free ss ls ws (omega arith) (omega arith) (λ k. round (suc k)) (All-tail HasEnded w ws ended) in
-    TellsFree-append free l.items (all_dealt ls) w.receipts.items (all_receipts (map (λ w. w.receipts) ws)) here rest
+    TellsFree-append free l.items (all_dealt ls) w.receipts.items (all_receipts (map (λ w. w.receipts.items) ws)) here rest
 
 -- one round
-pub AddsRounds-one : (free : Type 0) (seats : List Standing) (lists : List (Vec Name Global)) (ends : List WorkerEnd) (old new : List (Vec Receipt Global)) → length seats ≡ length ends → length lists ≡ length ends → IsRound free seats lists ends → All HasEnded ends → new ≡ old ++ map (λ w. w.receipts) ends → AddsRounds free lists 1 old new
+pub AddsRounds-one : (free : Type 0) (seats : List Standing) (lists : List (Vec Name Global)) (ends : List WorkerEnd) (old new : List (List Receipt)) → length seats ≡ length ends → length lists ≡ length ends → IsRound free seats lists ends → All HasEnded ends → new ≡ old ++ map (λ w. w.receipts.items) ends → AddsRounds free lists 1 old new
 AddsRounds-one free seats lists ends old new a b round ended is =
     let t = round_tells free seats lists ends a b round ended in
     record {
-      more = map (λ w. w.receipts) ends;
+      more = map (λ w. w.receipts.items) ends;
       all = is;
       workers = t.workers;
       idle = λ none. absurd (omega (arith, none));
@@ -205,13 +205,13 @@ AddsRounds-one free seats lists ends old new a b round ended is =
       committed = t.committed;
     }
 
-pub AddsRounds-none : (free : Type 0) (dealt : List (Vec Name Global)) (old : List (Vec Receipt Global)) → AddsRounds free dealt 0 old old
+pub AddsRounds-none : (free : Type 0) (dealt : List (Vec Name Global)) (old : List (List Receipt)) → AddsRounds free dealt 0 old old
 AddsRounds-none free dealt old = record { more = []; all = sym (append-nil old); workers = All-nil IsOfWorker; idle = λ _. refl; asked = λ _ n. (let e : 0 * times_in n (all_dealt dealt) ≡ 0 = omega arith in sym e); answered = λ q. omega arith; committed = λ _ q. refl }
 
 -- rounds, and one more
-pub AddsRounds-more : (free : Type 0) (dealt : List (Vec Name Global)) (k : ℕ) (a b c : List (Vec Receipt Global)) → AddsRounds free dealt k a b → AddsRounds free dealt 1 b c → AddsRounds free dealt (k + 1) a c
+pub AddsRounds-more : (free : Type 0) (dealt : List (Vec Name Global)) (k : ℕ) (a b c : List (List Receipt)) → AddsRounds free dealt k a b → AddsRounds free dealt 1 b c → AddsRounds free dealt (k + 1) a c
 AddsRounds-more free dealt k a b c first next =
-    let both : all_receipts (first.more ++ next.more) ≡ all_receipts first.more ++ all_receipts next.more = flat_map-append (λ (v : Vec Receipt Global). v.items) first.more next.more in
+    let both : all_receipts (first.more ++ next.more) ≡ all_receipts first.more ++ all_receipts next.more = flat_map-append (λ (v : List Receipt). v) first.more next.more in
     record {
       more = first.more ++ next.more;
       all = next.all ∙ ap (λ xs. xs ++ next.more) first.all ∙ append_assoc a first.more next.more;
@@ -227,6 +227,6 @@ AddsRounds-more free dealt k a b c first next =
     }
 
 -- the same, where it is known to have come to its end
-pub AddsRounds-if : {T E : Type 0} (r : Result T E) (free : Type 0) (seats : List Standing) (lists : List (Vec Name Global)) (ends : List WorkerEnd) (old new : List (Vec Receipt Global)) → length seats ≡ length ends → length lists ≡ length ends → IsRound free seats lists ends → OnOk r (All HasEnded ends) → OnOk r (new ≡ old ++ map (λ w. w.receipts) ends) → OnOk r (AddsRounds free lists 1 old new)
+pub AddsRounds-if : {T E : Type 0} (r : Result T E) (free : Type 0) (seats : List Standing) (lists : List (Vec Name Global)) (ends : List WorkerEnd) (old new : List (List Receipt)) → length seats ≡ length ends → length lists ≡ length ends → IsRound free seats lists ends → OnOk r (All HasEnded ends) → OnOk r (new ≡ old ++ map (λ w. w.receipts.items) ends) → OnOk r (AddsRounds free lists 1 old new)
 AddsRounds-if (Ok x) free seats lists ends old new a b round ended is = AddsRounds-one free seats lists ends old new a b round ended is
 AddsRounds-if (Err e) free seats lists ends old new a b round ended is = tt

@@ -14,28 +14,28 @@ use Rattle.ynl_session.specs.Faults.{ended}
 use Rattle.ynl_session.specs.Handed.{OneWasBehind}
 use Rattle.ynl_session.proofs.Rounds.{HasEnded}
 
-abbrev lists_of : List WorkerEnd → List (Vec Receipt Global)
-lists_of ends = map (λ w. w.receipts) ends
+abbrev lists_of : List WorkerEnd → List (List Receipt)
+lists_of ends = map (λ w. w.receipts.items) ends
 
 -- the workers so far were taken in, and these are left
-pub record TakenSoFar (old now : List (Vec Receipt Global)) (all left : List WorkerEnd) : Type 0 where
+pub record TakenSoFar (old now : List (List Receipt)) (all left : List WorkerEnd) : Type 0 where
   pub done : List WorkerEnd
   pub all_are : done ++ left ≡ all
   pub ended : All (λ worker. HasEnded worker) done
-  pub lists : now ≡ old ++ map (λ w. w.receipts) done
+  pub lists : now ≡ old ++ map (λ w. w.receipts.items) done
 
-pub TakenSoFar-none : (old : List (Vec Receipt Global)) (all left : List WorkerEnd) → left ≡ all → TakenSoFar old old all left
+pub TakenSoFar-none : (old : List (List Receipt)) (all left : List WorkerEnd) → left ≡ all → TakenSoFar old old all left
 TakenSoFar-none old all left is = record { done = []; all_are = is; ended = All-nil (λ worker. HasEnded worker); lists = sym (append-nil old) }
 
-pub TakenSoFar-more : (old now next : List (Vec Receipt Global)) (all left rest : List WorkerEnd) (w : WorkerEnd) → left ≡ w ∷ rest → HasEnded w → next ≡ now ++ w.receipts ∷ [] → TakenSoFar old now all left → TakenSoFar old next all rest
+pub TakenSoFar-more : (old now next : List (List Receipt)) (all left rest : List WorkerEnd) (w : WorkerEnd) → left ≡ w ∷ rest → HasEnded w → next ≡ now ++ w.receipts.items ∷ [] → TakenSoFar old now all left → TakenSoFar old next all rest
 TakenSoFar-more old now next all left rest w is ended one so = record {
   done = so.done ++ w ∷ [];
   all_are = append_assoc so.done (w ∷ []) rest ∙ ap (λ ws. so.done ++ ws) (sym is) ∙ so.all_are;
   ended = All-push (λ worker. HasEnded worker) so.done w so.ended ended;
-  lists = one ∙ ap (λ ls. ls ++ w.receipts ∷ []) so.lists ∙ append_assoc old (lists_of so.done) (w.receipts ∷ []) ∙ ap (λ ls. old ++ ls) (sym (map-append (λ (x : WorkerEnd). x.receipts) so.done (w ∷ [])));
+  lists = one ∙ ap (λ ls. ls ++ w.receipts.items ∷ []) so.lists ∙ append_assoc old (lists_of so.done) (w.receipts.items ∷ []) ∙ ap (λ ls. old ++ ls) (sym (map-append (λ (x : WorkerEnd). x.receipts.items) so.done (w ∷ [])));
 }
 
-pub TakenSoFar-all : (old now : List (Vec Receipt Global)) (all left : List WorkerEnd) → left ≡ [] → TakenSoFar old now all left → All HasEnded all × (now ≡ old ++ map (λ w. w.receipts) all)
+pub TakenSoFar-all : (old now : List (List Receipt)) (all left : List WorkerEnd) → left ≡ [] → TakenSoFar old now all left → All HasEnded all × (now ≡ old ++ map (λ w. w.receipts.items) all)
 TakenSoFar-all old now all left none so =
     let same : so.done ≡ all = sym (append-nil so.done) ∙ ap (λ ws. so.done ++ ws) (sym none) ∙ so.all_are in
     (subst (All HasEnded) same so.ended, so.lists ∙ ap (λ ws. old ++ lists_of ws) same)

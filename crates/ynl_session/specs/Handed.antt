@@ -51,8 +51,8 @@ OneWasBehind workers = Any WasBehind workers
 
 -- The lists with those of so many rounds more: all calls are workers', and no proposal is committed more often than it was answered. Where no
 -- worker is halted, each node was asked about once a round for each time that it was dealt, and each proposal committed as often as answered.
-pub record AddsRounds (free : Type 0) (dealt : List (Vec Name Global)) (rounds : ℕ) (old new : List (Vec Receipt Global)) : Type 0 where
-  pub more : List (Vec Receipt Global)
+pub record AddsRounds (free : Type 0) (dealt : List (Vec Name Global)) (rounds : ℕ) (old new : List (List Receipt)) : Type 0 where
+  pub more : List (List Receipt)
   pub all : new ≡ old ++ more
   pub workers : All (λ receipt. IsTrue (is_workers receipt.event)) (all_receipts more)
   pub idle : rounds ≡ 0 → more ≡ []

@@ -9,7 +9,7 @@ use crate::sessions::SessionFault;
 use std::alloc::{AllocError, Global};
 use std::sync::Wait;
 use std::thread::Threads;
-use ynl_live::{Live, Receipt, Seat};
+use ynl_live::{Live, Receipts, Seat};
 use ynl_resource::Name;
 use ynl_workers::{End, Gate, WorkerEnd, run_round};
 
@@ -17,7 +17,7 @@ use ynl_workers::{End, Gate, WorkerEnd, run_round};
 #[derive(Drop)]
 pub struct Handed {
     pub seats: Vec<Seat>,
-    pub lists: Vec<Vec<Receipt>>,
+    pub lists: Vec<Receipts>,
 }
 
 /// Seats for so many workers.
@@ -44,11 +44,7 @@ fn has_ended(end: End) -> Result<(), SessionFault>
 
 impl Handed {
     /// Nothing but the first seat and its receipts.
-    pub(crate) fn first(
-        alloc: Global,
-        seat: Seat,
-        receipts: Vec<Receipt>,
-    ) -> Result<Handed, AllocError>
+    pub(crate) fn first(alloc: Global, seat: Seat, receipts: Receipts) -> Result<Handed, AllocError>
         ensures { IfOk result (λ handed. handed.lists.items ≡ receipts ∷ []) }
     {
         let mut seats = Vec::new(alloc);
@@ -59,23 +55,24 @@ impl Handed {
     }
 
     /// Takes in a worker's seat and its receipts.
-    fn keep(&mut self, end: WorkerEnd) -> Result<(), AllocError>
-        ensures { OnOk result (self.new.lists.items ≡ self.old.lists.items ++ end.receipts ∷ []) }
+    fn keep(&mut self, alloc: Global, end: WorkerEnd) -> Result<(), AllocError>
+        ensures { OnOk result (self.new.lists.items ≡ self.old.lists.items ++ end.receipts.items ∷ []) }
     {
+        let receipts = Receipts::of(alloc, &end.receipts)?;
         self.seats.push(end.seat)?;
-        self.lists.push(end.receipts)?;
+        self.lists.push(receipts)?;
         Ok(())
     }
 
     /// Takes in what the workers of a round hand back, if each went over its nodes or was halted.
-    fn take(&mut self, ends: Vec<WorkerEnd>) -> Result<(), SessionFault>
+    fn take(&mut self, alloc: Global, ends: Vec<WorkerEnd>) -> Result<(), SessionFault>
         ensures ended { OnOk result (All (λ worker. (worker.end ≡ Whole) ⊎ (worker.end ≡ Halted)) ends.items) }
-        ensures lists { OnOk result (self.new.lists.items ≡ self.old.lists.items ++ map (λ worker. worker.receipts) ends.items) }
+        ensures lists { OnOk result (self.new.lists.items ≡ self.old.lists.items ++ map (λ worker. worker.receipts.items) ends.items) }
         ensures unclosed { IfErr result (λ fault. fault ≡ SessionFault.Unclosed → OneWasBehind ends.items) }
     {
         for end in ends {
             has_ended(end.end)?;
-            self.keep(end)?;
+            self.keep(alloc, end)?;
         }
         Ok(())
     }
@@ -94,7 +91,7 @@ impl Handed {
     {
         let seats = split_seats(alloc, seat, dealt.len())?;
         let ends = run_round(rt, alloc, live, seats, dealt, gate)?;
-        self.take(ends)
+        self.take(alloc, ends)
     }
 
     /// Runs so many rounds, one after another.

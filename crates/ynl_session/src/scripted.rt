@@ -6,8 +6,8 @@ ghost use Rattle.ynl_session.specs.Scripted.{AreCalls};
 use crate::sessions::SessionFault;
 use std::alloc::Global;
 use std::sync::Wait;
-use ynl_live::{Live, Receipt, Seat};
-use ynl_model::Event;
+use ynl_live::{Live, Receipts, Seat};
+use ynl_packed::Events;
 
 /// Calls the events one after another. Each has to get its own place.
 pub(crate) fn call_events<T: Wait>(
@@ -15,17 +15,17 @@ pub(crate) fn call_events<T: Wait>(
     alloc: Global,
     live: &Live,
     seat: &mut Seat,
-    events: &[Event],
-) -> Result<Vec<Receipt>, SessionFault>
-    ensures { IfOk result (λ receipts. AreCalls 0 events.now receipts.items) }
+    events: &Events,
+) -> Result<Receipts, SessionFault>
+    ensures { IfOk result (λ receipts. AreCalls 0 events.now receipts) }
 {
-    let mut receipts = Vec::with_capacity(alloc, events.len())?;
-    for (i, event) in events.iter().enumerate() {
-        let receipt = live.call(rt, seat, *event)?;
+    let mut receipts = Receipts::new(alloc);
+    for i in 0..events.len() {
+        let receipt = live.call(rt, seat, events.get(i))?;
         if receipt.place != i as u64 {
             return Err(SessionFault::Unclosed);
         }
-        receipts.push_reserved(receipt);
+        receipts.push(&receipt)?;
     }
     Ok(receipts)
 }

@@ -15,7 +15,7 @@ use std::thread::Threads;
 use thiserror::Error;
 use ynl_core::NoMemory;
 use ynl_live::{CallFault, Cause, Live, close};
-use ynl_model::{Entry, Event};
+use ynl_packed::{Entries, Events};
 use ynl_queues::Config;
 use ynl_resource::Name;
 use ynl_view::tracked_nodes;
@@ -93,7 +93,7 @@ fn fault_of(cause: Cause) -> SessionFault
 fn nodes_in_order(
     alloc: Global,
     config: &Config,
-    events: &[Event],
+    events: &Events,
 ) -> Result<Vec<Name>, SessionFault>
     ensures all { IfOk result (λ nodes. IsPermutation (nodes_after config.now events.now) nodes.items) }
     ensures order { IfOk result (λ nodes. AreInOrder nodes.items) }
@@ -107,7 +107,7 @@ fn nodes_in_order(
 fn dealt_nodes(
     alloc: Global,
     config: &Config,
-    events: &[Event],
+    events: &Events,
     workers: usize,
 ) -> Result<Vec<Vec<Name>>, SessionFault>
     requires { 0 < workers }
@@ -129,13 +129,13 @@ pub fn run_session<T: Threads + Wait + Sync, G: Gate + Sync>(
     rt: &T,
     alloc: Global,
     config: Config,
-    events: &[Event],
+    events: &Events,
     workers: usize,
     rounds: u64,
     gate: &G,
-) -> Result<Vec<Entry>, SessionFault>
+) -> Result<Entries, SessionFault>
     requires { 0 < workers }
-    ensures { IfOk result (λ entries. IsSession (G.is_free gate.now) config events.now rounds entries.items) }
+    ensures { IfOk result (λ entries. IsSession (G.is_free gate.now) config events.now rounds entries) }
 {
     let dealt = dealt_nodes(alloc, &config, events, workers)?;
     let (live, mut seat) = Live::open(alloc, config)?;

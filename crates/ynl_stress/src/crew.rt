@@ -5,7 +5,7 @@ use std::alloc::Global;
 use std::rt::Clock;
 use std::sync::Wait;
 use std::thread::Threads;
-use ynl_live::{Live, Receipt, Seat};
+use ynl_live::{Live, Receipts, Seat};
 use ynl_resource::Name;
 use ynl_workers::{End, Gate, run_round};
 
@@ -20,7 +20,7 @@ pub(crate) struct Crew {
     workers: u64,
     nodes: Vec<Name>,
     pub(crate) seats: Vec<Seat>,
-    pub(crate) lists: Vec<Vec<Receipt>>,
+    pub(crate) lists: Vec<Receipts>,
     /// The longest commit, in microseconds.
     pub(crate) longest: u64,
 }
@@ -85,7 +85,7 @@ impl Crew {
                         return Err(anyhow::anyhow!("a worker was cut off"));
                     }
                     self.seats.push(end.seat)?;
-                    self.lists.push(end.receipts)?;
+                    self.lists.push(Receipts::of(self.alloc, &end.receipts)?)?;
                 }
                 Ok(())
             }

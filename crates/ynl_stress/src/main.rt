@@ -18,7 +18,7 @@ use writer::Writer;
 use ynl_config::built_in;
 use ynl_lines::write_line;
 use ynl_live::{Closed, Live, close};
-use ynl_model::Entry;
+use ynl_packed::Entries;
 
 mod crew;
 mod watch;
@@ -53,13 +53,14 @@ fn load_of(rt: &HostRuntime) -> anyhow::Result<Load> {
     }
 }
 
-fn write_journal<W: Write + Drop>(alloc: Global, to: W, entries: &[Entry]) -> anyhow::Result<()> {
+fn write_journal<W: Write + Drop>(alloc: Global, to: W, entries: &Entries) -> anyhow::Result<()> {
     let mut writer = BufWriter::new(alloc, to)?;
-    for (place, entry) in entries.iter().enumerate() {
+    for place in 0..entries.len() {
+        let entry = entries.get(place)?;
         if entry.reply.is_none() {
             return Err(anyhow::anyhow!("an entry has no reply"));
         }
-        let line = write_line(alloc, place as u64, entry)?;
+        let line = write_line(alloc, place as u64, &entry)?;
         writer.write_all(line.as_slice())?;
         writer.write_all(b"\n")?;
     }
@@ -88,7 +89,7 @@ fn put_to_work<R: Threads + Wait + Clock + Sync>(
 }
 
 /// The closed journal of all callers.
-fn closed(alloc: Global, live: Live, crew: Crew, writer: Writer) -> anyhow::Result<Vec<Entry>> {
+fn closed(alloc: Global, live: Live, crew: Crew, writer: Writer) -> anyhow::Result<Entries> {
     let Writer { seat, receipts, .. } = writer;
     let Crew {
         mut seats,

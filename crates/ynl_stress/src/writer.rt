@@ -6,7 +6,7 @@ use std::alloc::Global;
 use std::rt::Clock;
 use std::sync::Wait;
 use std::time::Instant;
-use ynl_live::{Live, Receipt, Seat};
+use ynl_live::{Live, Receipts, Seat};
 use ynl_model::Event;
 use ynl_resource::{Label, Name, Path, Size};
 
@@ -19,7 +19,7 @@ const LIVE: u64 = 20;
 pub(crate) struct Writer {
     alloc: Global,
     pub(crate) seat: Seat,
-    pub(crate) receipts: Vec<Receipt>,
+    pub(crate) receipts: Receipts,
     pub(crate) longest: u64,
 }
 
@@ -28,7 +28,7 @@ impl Writer {
         Writer {
             alloc,
             seat,
-            receipts: Vec::new(alloc),
+            receipts: Receipts::new(alloc),
             longest: 0,
         }
     }
@@ -37,7 +37,7 @@ impl Writer {
         let start = Instant::now(rt)?;
         let receipt = live.call(rt, &mut self.seat, event)?;
         self.longest = self.longest.max(micros(start.elapsed(rt)?));
-        self.receipts.push(receipt)?;
+        self.receipts.push(&receipt)?;
         Ok(())
     }
 

@@ -55,7 +55,7 @@ script_of bytes = reading_of script_way bytes
 
 -- the script that was read
 abbrev pub script_read : Kept → Script
-script_read s = come_to s.events.items s.lines s.fault
+script_read s = come_to s.events s.lines s.fault
 
 -- a line was added to the events, or has a fault
 abbrev pub Adds : {E : Type 0} → List Event → List Event → List ℕ → Result (Option LineFault) E → Type 0

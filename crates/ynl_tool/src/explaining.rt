@@ -16,7 +16,7 @@ use ynl_check::Form;
 use ynl_core::{Core, NoMemory};
 use ynl_explain::{plain_text, told_text};
 use ynl_lines::InputFault;
-use ynl_model::Event;
+use ynl_packed::Events;
 use ynl_queues::Config;
 use ynl_resource::Name;
 use ynl_waits::Explained;
@@ -30,12 +30,12 @@ pub struct Question {
 }
 
 /// A cluster that the events were applied to.
-fn cluster_after(alloc: Global, config: Config, events: &[Event]) -> Result<Core, NoMemory>
+fn cluster_after(alloc: Global, config: Config, events: &Events) -> Result<Core, NoMemory>
     ensures { IfOk result (λ core. core ≡ cluster_after config events.now) }
 {
     let mut core = Core::open(alloc, config)?;
-    for event in events {
-        core.apply(*event)?;
+    for i in 0..events.len() {
+        core.apply(events.get(i))?;
     }
     Ok(core)
 }
@@ -56,7 +56,7 @@ fn waits_text(
     alloc: Global,
     config: Config,
     question: &Question,
-    events: &[Event],
+    events: &Events,
 ) -> Result<Vec<u8>, NoMemory>
     ensures { IfOk result (λ text. text.items ≡ waits_text config question.now events.now) }
 {

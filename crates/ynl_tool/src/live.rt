@@ -1,6 +1,7 @@
 //! Telling the closed journal of a live scheduler that is given a script.
 
-ghost use Rattle.std.specs.Prelude.{◌≡◌, ◌<◌, ◌++◌, IfOk, OnOk, OnErr};
+ghost use Rattle.std.specs.Prelude.{◌≡◌, ◌<◌, ◌++◌, length, slice_index_or, IfOk, OnOk, OnErr};
+ghost use Rattle.ynl_model.specs.declared.entries.Entry.{Entry};
 ghost use Rattle.ynl_tool.specs.Input.{between};
 ghost use Rattle.ynl_tool.specs.Living.{rounds_of, journal_line, journal_lines, session_lines, session_fault, Lives, LivesWhole, SumsUp};
 ghost use Rattle.ynl_tool.specs.Run.{fault_lines};
@@ -16,6 +17,7 @@ use std::sync::Wait;
 use std::thread::Threads;
 use ynl_lines::{InputFault, put_line};
 use ynl_model::Entry;
+use ynl_packed::Entries;
 use ynl_queues::Config;
 use ynl_session::{SessionFault, run_session};
 use ynl_workers::{Gate, Go, Sight};
@@ -62,7 +64,7 @@ fn rounds_of(script: &Script, rounds: u64) -> u64
 }
 
 /// Adds the line of an entry to what is held back.
-fn hold_entry(
+fn hold_line(
     place: u64,
     entry: &Entry,
     text: &mut Vec<u8>,
@@ -81,14 +83,29 @@ fn hold_entry(
     }
 }
 
+/// Adds the line of the entry of this number to what is held back.
+fn hold_entry(
+    entries: &Entries,
+    i: usize,
+    text: &mut Vec<u8>,
+    held: &mut Vec<u8>,
+) -> Result<(), AllocError>
+    requires { i < length entries.now }
+    ensures ok { (d : Entry) → OnOk result (held.new.items ≡ held.old.items ++ journal_line i (slice_index_or entries.now i d)) }
+    ensures err { OnErr result (held.new.items ≡ held.old.items) }
+{
+    let entry = entries.get(i)?;
+    hold_line(i as u64, &entry, text, held)
+}
+
 /// Writes the lines of the entries.
-fn tell_entries<W: Write>(alloc: Global, entries: &[Entry], writer: &mut W) -> Result<(), ToolFault>
+fn tell_entries<W: Write>(alloc: Global, entries: &Entries, writer: &mut W) -> Result<(), ToolFault>
     ensures { SaysLines (W.contents writer.old) (W.contents writer.new) (journal_lines 0 entries.now) result }
 {
     let mut text = Vec::new(alloc);
     let mut held = Vec::new(alloc);
-    for (i, entry) in entries.iter().enumerate() {
-        match hold_entry(i as u64, entry, &mut text, &mut held) {
+    for i in 0..entries.len() {
+        match hold_entry(entries, i, &mut text, &mut held) {
             Ok(()) => write_on(writer, &mut held)?,
             Err(AllocError) => {
                 write_held(writer, &mut held)?;
@@ -117,7 +134,7 @@ fn tell_end<W: Write>(alloc: Global, script: &Script, writer: &mut W) -> Result<
 /// Writes what is told of a session.
 fn tell_session<W: Write>(
     alloc: Global,
-    entries: &[Entry],
+    entries: &Entries,
     script: &Script,
     writer: &mut W,
 ) -> Result<Summary, ToolFault>

@@ -9,13 +9,13 @@ use crate::lines_in::{Lines, Next, ReadFault, is_blank};
 use std::alloc::{AllocError, Global};
 use std::io::BufRead;
 use ynl_lines::{EventReader, LineFault};
-use ynl_model::Event;
+use ynl_packed::Events;
 
 /// The events of an input, to its end or to the first line with a fault: how many lines were read for
 /// them, and that fault, if there is one.
 #[derive(Drop)]
 pub struct Script {
-    pub events: Vec<Event>,
+    pub events: Events,
     pub lines: u64,
     pub fault: Option<LineFault>,
 }
@@ -24,18 +24,17 @@ pub struct Script {
 fn add_line(
     alloc: Global,
     lines: &mut EventReader,
-    events: &mut Vec<Event>,
+    events: &mut Events,
     line: &[u8],
 ) -> Result<Option<LineFault>, AllocError>
-    ensures { Adds events.old.items events.new.items line.now result }
+    ensures { Adds events.old events.new line.now result }
 {
     if is_blank(line) {
         return Ok(None);
     }
     match lines.read(alloc, line) {
         Ok(Ok(event)) => {
-            // As a slice of one: of a push of an event the kit makes no proof.
-            events.extend_from_slice(&[event])?;
+            events.push(&event)?;
             Ok(None)
         }
         Ok(Err(fault)) => Ok(Some(fault)),
@@ -44,8 +43,8 @@ fn add_line(
 }
 
 /// The script that ends here.
-fn end_script(events: Vec<Event>, lines: u64, fault: Option<LineFault>) -> Script
-    ensures { script_read result ≡ come_to events.items lines fault }
+fn end_script(events: Events, lines: u64, fault: Option<LineFault>) -> Script
+    ensures { script_read result ≡ come_to events lines fault }
 {
     Script {
         events,
@@ -60,7 +59,7 @@ pub fn read_script<R: BufRead>(alloc: Global, reader: &mut R) -> Result<Script, 
     ensures whole { ReadsWhole (between (R.remaining reader.old) (R.remaining reader.new)) result }
     ensures steps { ReadsScript (between (R.remaining reader.old) (R.remaining reader.new)) result }
 {
-    let mut events = Vec::new(alloc);
+    let mut events = Events::new(alloc);
     let mut lines = EventReader::new(alloc);
     let mut input = Lines::new(alloc);
     'lines: loop {

@@ -13,16 +13,16 @@ use Rattle.ynl_session.proofs.sessions.run_session.Goals as goal
 pub returns-in-Ok : goal.returns-in-Ok
 returns-in-Ok g c =
     let free = g.G.Gate.is_free c.args.gate.now in
-    let entries = c.in-Ok.closed.entries.items in
+    let entries = c.in-Ok.closed.entries in
     let dealt = c.in_ok-dealt.dealt.items in
     let first = c.in_ok-receipts.receipts in
     let lists = c.run_rounds.new.self.lists.items in
     let D : List (Vec Name Global) → Type 0 = λ d. AddsRounds free d c.args.rounds (first ∷ []) lists in
-    let O : List (Vec Receipt Global) → Type 0 = λ old. AddsRounds free c.deref.result.now c.args.rounds old lists in
+    let O : List (List Receipt) → Type 0 = λ old. AddsRounds free c.deref.result.now c.args.rounds old lists in
     let H : Config → Type 0 = λ k. IsHistory k entries in
     let A : Config → Type 0 = λ k. ShowTenantsAlone k entries in
-    let F : List (Vec Receipt Global) → Type 0 = λ ls. All (λ list. ListFits entries list.items) ls in
-    let E : List (Vec Receipt Global) → Type 0 = λ ls. EachOnce (length entries) (all_receipts ls) in
+    let F : List (List Receipt) → Type 0 = λ ls. All (λ list. ListFits entries list) ls in
+    let E : List (List Receipt) → Type 0 = λ ls. EachOnce (length entries) (all_receipts ls) in
     let same : c.in-Ok.closed.config ≡ c.args.config = c.in-Ok.ensures.config ∙ c.in_ok-live.ensures.0 in
     session free c.args.config c.args.events.now c.args.rounds entries dealt first lists c.in_ok-receipts.ensures
     (subst D c.deref.ensures.value (subst O c.in_ok-handed.ensures c.in_ok-run_rounds.ensures))

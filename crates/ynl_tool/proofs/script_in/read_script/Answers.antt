@@ -11,7 +11,7 @@ use Rattle.ynl_tool.proofs.script_in.read_script.Goals as goal
 pub lines-init : goal.lines-init
 lines-init g c =
     let a = g.R.Read.remaining c.args.reader.now in
-    subst (ReadSoFar script_way (between a a) c.new-input.result) (sym c.new-events.ensures.items) (at_first script_way a c.new-input.result c.new-input.ensures.count c.new-input.ensures.budget c.new-input.ensures.ongoing)
+    subst (ReadSoFar script_way (between a a) c.new-input.result) (sym c.new-events.ensures) (at_first script_way a c.new-input.result c.new-input.ensures.count c.new-input.ensures.budget c.new-input.ensures.ongoing)
 
 -- the reader failed
 pub returns-in_err-next : goal.returns-in_err-next
@@ -57,11 +57,11 @@ pub returns-in-Some : goal.returns-in-Some
 returns-in-Some g c =
     let a = g.R.Read.remaining c.args.reader.now in
     let d = g.R.Read.remaining c.next.new.reader in
-    let events = c.lines.events.items in
+    let events = c.lines.events in
     let new = c.next.new.self in
     let t = subst (Takes _ _ _) c.in-Line.is c.in_ok-next.ensures.next in
-    let added = subst (λ l. Adds events c.add_line.new.events.items l c.add_line.result) c.deref.ensures.value c.add_line.ensures in
-    let bad = subst (Adds events c.add_line.new.events.items new.line.items) (c.in_ok-fault.was ∙ ap Ok c.in-Some.is) added in
+    let added = subst (λ l. Adds events c.add_line.new.events l c.add_line.result) c.deref.ensures.value c.add_line.ensures in
+    let bad = subst (Adds events c.add_line.new.events new.line.items) (c.in_ok-fault.was ∙ ap Ok c.in-Some.is) added in
     let made = c.end_script-in-Some.ensures ∙ ap (λ es. come_to es new.count (Some c.in-Some.fault)) bad.1 in
     let steps : ReadsScript (between a d) (Ok c.end_script-in-Some.result) = subst (ReadsTo script_way (between a d)) (sym made) (ends_faulty script_way _ _ _ _ _ _ c.lines.invariant t c.in-Some.fault (has_fault events new.line.items c.in-Some.fault bad.0)) in
     record { whole = reads_whole a d (Ok c.end_script-in-Some.result) steps; steps = steps }
@@ -71,9 +71,9 @@ pub lines-preserved : goal.lines-preserved
 lines-preserved g c =
     let a = g.R.Read.remaining c.args.reader.now in
     let d = g.R.Read.remaining c.next.new.reader in
-    let events = c.lines.events.items in
+    let events = c.lines.events in
     let new = c.next.new.self in
     let t = subst (Takes _ _ _) c.in-Line.is c.in_ok-next.ensures.next in
-    let added = subst (λ l. Adds events c.add_line.new.events.items l c.add_line.result) c.deref.ensures.value c.add_line.ensures in
-    let good = subst (Adds events c.add_line.new.events.items new.line.items) (c.in_ok-fault.was ∙ ap Ok c.in_default.is) added in
+    let added = subst (λ l. Adds events c.add_line.new.events l c.add_line.result) c.deref.ensures.value c.add_line.ensures in
+    let good = subst (Adds events c.add_line.new.events new.line.items) (c.in_ok-fault.was ∙ ap Ok c.in_default.is) added in
     subst (ReadSoFar script_way (between a d) new) (sym good.1) (took script_way _ _ _ _ _ _ c.lines.invariant t _ (adds_events events new.line.items good.0))
