@@ -1,6 +1,8 @@
 //! The configured labels.
 
-ghost use Rattle.std.specs.Prelude.{◌≡◌, option_map, IfOk};
+ghost use Rattle.std.specs.Prelude.{◌≡◌, map, option_map, true, IfOk};
+ghost use Rattle.ynl_resource.specs.Names.{same_name};
+ghost use Rattle.ynl_model.specs.Accepted.{all_differ};
 ghost use Rattle.ynl_model.specs.Nodes.{label_row, has_label, is_exclusive, clock_limit};
 ghost use Rattle.ynl_labels.specs.Built.{labels_of};
 
@@ -38,9 +40,10 @@ impl Labels {
 
     /// The labels of these rows; or their first fault: more than 64 rows, two of one name, or a clock
     /// limit (that of a row, or the one for DEFAULT) that is not from 1 to 9007199254740991.
-    #[tactic(auto, unfolding(crate::specs::Built::labels_of))]
+    #[tactic(auto, unfolding(crate::specs::Built::labels_of), using(crate::proofs::Differ::names_differ))]
     pub fn build(rows: Vec<LabelRow>, default_limit: u64) -> Result<Labels, LabelFault>
-        ensures { result ≡ labels_of rows.items default_limit }
+        ensures built { result ≡ labels_of rows.items default_limit }
+        ensures differ { IfOk result (λ labels. all_differ same_name (map (λ row. row.name) labels.rows) ≡ true) }
     {
         match fault_of(&rows, default_limit) {
             Some(fault) => Err(fault),
