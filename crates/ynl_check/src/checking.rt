@@ -69,13 +69,10 @@ pub fn check(alloc: Global, form: Form, text: &[u8]) -> Result<Checked, AllocErr
     ensures verdict { IfOk result (λ checked. checked.verdict ≡ verdict_on (config_of text.now)) }
 {
     match check_config(alloc, text)? {
-        Ok(config) => {
-            let config = config.indexed(alloc)?;
-            Ok(Checked {
-                text: said_of_tree(alloc, form, &config)?,
-                verdict: Verdict::Accepted,
-            })
-        }
+        Ok(config) => Ok(Checked {
+            text: said_of_tree(alloc, form, &config)?,
+            verdict: Verdict::Accepted,
+        }),
         Err(misplaced) => Ok(Checked {
             text: said_of_fault(alloc, form, &misplaced)?,
             verdict: Verdict::Faulty,

@@ -13,12 +13,12 @@ use Rattle.ynl_model.specs.Nodes.{Labels}
 use Rattle.ynl_model.specs.declared.labels.LabelRow.{LabelRow}
 use Rattle.ynl_model.specs.Queues.{Access, QueueRow, Config}
 use Rattle.ynl_model.specs.declared.queues.LabelCapacity.{LabelCapacity}
-use Rattle.ynl_model.specs.Accepted.{label_faults, row_in_range, in_range, is_accepted}
+use Rattle.ynl_model.specs.Accepted.{label_faults, tree_faults, row_in_range, in_range, is_accepted}
 use Rattle.ynl_model.specs.declared.faults.LabelFault.{LabelFault}
 use Rattle.ynl_model.specs.declared.faults.TreeFault.{TreeFault}
 use Rattle.ynl_labels.specs.Built.{unless_fault, labels_of}
-use Rattle.ynl_queues.specs.Written.{WrittenRow, row_of, tree_of, written_faults}
-use Rattle.ynl_queues.proofs.Faultless.{given_none, tree_faultless}
+use Rattle.ynl_queues.specs.Written.{WrittenRow, row_of, made_of, built_of}
+use Rattle.ynl_queues.proofs.Faultless.{built_faultless}
 use Rattle.ynl_config.specs.declared.keys.TableKind.TheVariants as kind
 use Rattle.ynl_config.specs.declared.queues.Bounds.{Bounds}
 use Rattle.ynl_model.specs.declared.queues.LeafSettings.{LeafSettings}
@@ -265,33 +265,32 @@ labels_ok : (fault : Option LabelFault) (labels made : Labels) → unless_fault 
 labels_ok None labels made h = (refl, cc)
 labels_ok (Some fault) labels made h = absurd cc
 
-accepted_of : (w : WrittenConfig) (labels : Labels) (queues : List QueueRow) → IsInRange w → labels_of w.labels w.numbers.default_limit ≡ Ok labels → tree_of labels w.queues ≡ Ok queues
-    → is_accepted (record { labels = labels; queues = queues; containers_per_heartbeat = w.numbers.containers_per_heartbeat; maximum_allocation = w.numbers.maximum_allocation }) ≡ true
-unfolding is_accepted in_range labels_of tree_of
-accepted_of w labels queues h made planted =
-    let c : Config = record { labels = labels; queues = queues; containers_per_heartbeat = w.numbers.containers_per_heartbeat; maximum_allocation = w.numbers.maximum_allocation } in
+accepted_of : (w : WrittenConfig) (labels : Labels) (c : Config) → IsInRange w → labels_of w.labels w.numbers.default_limit ≡ Ok labels → built_of labels w.queues w.numbers.containers_per_heartbeat w.numbers.maximum_allocation ≡ Ok c
+    → is_accepted c ≡ true
+unfolding is_accepted in_range labels_of
+accepted_of w labels c h made planted =
     let given : Labels = record { rows = w.labels; default_limit = w.numbers.default_limit } in
     let of_labels = labels_ok (first_that_holds (label_faults given)) given labels made in
     let no_label_fault : first_that_holds (label_faults labels) ≡ None = ap (λ (l : Labels). first_that_holds (label_faults l)) (sym of_labels.1) ∙ of_labels.0 in
-    let same : map row_of w.queues ≡ queues = (given_none (first_that_holds (written_faults labels w.queues)) (map row_of w.queues) queues planted).1 in
-    let rows : list_all row_in_range queues ≡ true = ap (list_all row_in_range) (sym same) ∙ list_all-map row_in_range row_of w.queues ∙ h.1 in
-    λ i. (h.0.0 i && h.0.1.0 i && h.0.1.1 i && rows i) && is_none (no_label_fault i) && is_none (tree_faultless labels w.queues queues planted c refl refl i)
+    let all : Config = made_of labels w.queues w.numbers.containers_per_heartbeat w.numbers.maximum_allocation in
+    let of_tree = built_faultless labels w.queues w.numbers.containers_per_heartbeat w.numbers.maximum_allocation c planted in
+    let no_tree_fault : first_that_holds (tree_faults all) ≡ None = ap (λ (c : Config). first_that_holds (tree_faults c)) of_tree.0 ∙ of_tree.1 in
+    let rows : list_all row_in_range all.queues ≡ true = list_all-map row_in_range row_of w.queues ∙ h.1 in
+    ap is_accepted (sym of_tree.0) ∙ (λ i. (h.0.0 i && h.0.1.0 i && h.0.1.1 i && rows i) && is_none (no_label_fault i) && is_none (no_tree_fault i))
 
 built_if : (w : WrittenConfig) → IsInRange w → IfOk (built w) (λ c. is_accepted c ≡ true)
 unfolding built
 built_if w h = with_labels (labels_of w.labels w.numbers.default_limit) refl
   where
-    of : Labels → List QueueRow → Config
-    of labels queues = record { labels = labels; queues = queues; containers_per_heartbeat = w.numbers.containers_per_heartbeat; maximum_allocation = w.numbers.maximum_allocation }
+    of : Labels → Result Config TreeFault
+    of labels = built_of labels w.queues w.numbers.containers_per_heartbeat w.numbers.maximum_allocation
 
-    with_queues : (labels : Labels) → labels_of w.labels w.numbers.default_limit ≡ Ok labels → (r : Result (List QueueRow) TreeFault) → tree_of labels w.queues ≡ r
-        → IfOk (told_as tree_fault r >>= λ queues. Ok (of labels queues)) (λ c. is_accepted c ≡ true)
-    with_queues labels made (Ok queues) planted = accepted_of w labels queues h made planted
+    with_queues : (labels : Labels) → labels_of w.labels w.numbers.default_limit ≡ Ok labels → (r : Result Config TreeFault) → of labels ≡ r → IfOk (told_as tree_fault r) (λ c. is_accepted c ≡ true)
+    with_queues labels made (Ok c) planted = accepted_of w labels c h made planted
     with_queues labels made (Err e) planted = tt
 
-    with_labels : (r : Result Labels LabelFault) → labels_of w.labels w.numbers.default_limit ≡ r
-        → IfOk (told_as label_fault r >>= λ labels. told_as tree_fault (tree_of labels w.queues) >>= λ queues. Ok (of labels queues)) (λ c. is_accepted c ≡ true)
-    with_labels (Ok labels) made = with_queues labels made (tree_of labels w.queues) refl
+    with_labels : (r : Result Labels LabelFault) → labels_of w.labels w.numbers.default_limit ≡ r → IfOk (told_as label_fault r >>= λ labels. told_as tree_fault (of labels)) (λ c. is_accepted c ≡ true)
+    with_labels (Ok labels) made = with_queues labels made (of labels) refl
     with_labels (Err e) made = tt
 
 -- what a text means is accepted

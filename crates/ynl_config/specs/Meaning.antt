@@ -10,7 +10,7 @@ use Rattle.ynl_model.specs.declared.faults.TreeFault.TheVariants as tree
 use Rattle.ynl_model.specs.Queues.{Config}
 use Rattle.ynl_model.specs.Accepted.{is_accepted}
 use Rattle.ynl_labels.specs.Built.{labels_of}
-use Rattle.ynl_queues.specs.Written.{tree_of}
+use Rattle.ynl_queues.specs.Written.{built_of}
 use Rattle.ynl_config.specs.Earliest.{ConfigFault, ◌>>=◌}
 use Rattle.ynl_config.specs.declared.faults.ConfigFault.TheVariants as fault
 use Rattle.ynl_config.specs.Readings.{or_fault}
@@ -47,8 +47,7 @@ told_as fault_of (Err e) = Err (fault_of e)
 unfoldable pub built : WrittenConfig → Result Config ConfigFault
 built written = do
   labels ← told_as label_fault (labels_of written.labels written.numbers.default_limit)
-  queues ← told_as tree_fault (tree_of labels written.queues)
-  Ok (record { labels = labels; queues = queues; containers_per_heartbeat = written.numbers.containers_per_heartbeat; maximum_allocation = written.numbers.maximum_allocation })
+  told_as tree_fault (built_of labels written.queues written.numbers.containers_per_heartbeat written.numbers.maximum_allocation)
 
 -- a text has at most so many bytes
 abbrev pub most_bytes : ℕ

@@ -13,7 +13,7 @@ use std::alloc::{AllocError, Global};
 use toml::Table;
 use toml::de::Error;
 use ynl_labels::Labels;
-use ynl_queues::{Config, QueueTree};
+use ynl_queues::Config;
 
 /// A text has at most so many bytes.
 pub(crate) const MOST_BYTES: usize = 1_048_576;
@@ -56,13 +56,15 @@ pub(crate) fn build(
         Ok(labels) => labels,
         Err(fault) => return Ok(Err(ConfigFault::from(fault))),
     };
-    match QueueTree::build(alloc, &labels, written.queues)? {
-        Ok(tree) => Ok(Ok(Config::new(
-            labels,
-            tree,
-            numbers.containers_per_heartbeat,
-            numbers.maximum_allocation,
-        ))),
+    let built = Config::build(
+        alloc,
+        labels,
+        written.queues,
+        numbers.containers_per_heartbeat,
+        numbers.maximum_allocation,
+    )?;
+    match built {
+        Ok(config) => Ok(Ok(config)),
         Err(fault) => Ok(Err(ConfigFault::from(fault))),
     }
 }

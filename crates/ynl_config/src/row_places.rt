@@ -18,7 +18,7 @@ use crate::written::Written;
 use std::alloc::{AllocError, Global};
 use ynl_labels::Labels;
 use ynl_model::LabelRow;
-use ynl_queues::{Config, WrittenQueue, above, as_written, count_together, is_too_deep};
+use ynl_queues::{Draft, WrittenQueue, above, as_written, count_together, is_too_deep};
 use ynl_resource::{MOST_CHILDREN, MOST_QUEUES, Name, Path};
 
 /// The place at which so many rows are told.
@@ -169,7 +169,7 @@ fn tree_of_rows(
     alloc: Global,
     labels: &Labels,
     rows: Vec<WrittenQueue>,
-) -> Result<Option<Config>, AllocError>
+) -> Result<Option<Draft>, AllocError>
     ensures tree { IfOk result (λ tree. tree ≡ tree_of_rows labels.now rows.items) }
     ensures few { IfOk result (λ tree. IfSome tree (λ config. length config.queues ≤ most_queues)) }
 {
@@ -180,7 +180,7 @@ fn tree_of_rows(
 }
 
 /// The tree that is written.
-fn tree_written(alloc: Global, written: Written) -> Result<Option<Config>, AllocError>
+fn tree_written(alloc: Global, written: Written) -> Result<Option<Draft>, AllocError>
     ensures tree { IfOk result (λ tree. tree ≡ tree_written written) }
     ensures few { IfOk result (λ tree. IfSome tree (λ config. length config.queues ≤ most_queues)) }
 {

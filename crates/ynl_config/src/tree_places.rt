@@ -19,7 +19,7 @@ use crate::telling::told_text;
 use std::alloc::{AllocError, Global};
 use ynl_labels::Labels;
 use ynl_model::LabelCapacity;
-use ynl_queues::{Config, Grant, QueueRow, parent_of, total_capacity};
+use ynl_queues::{Draft, Grant, QueueRow, parent_of, total_capacity};
 use ynl_resource::{Label, Name, Path, WHOLE};
 
 fn path_place(alloc: Global, number: u64, path: &Path) -> Result<Place, AllocError>
@@ -54,7 +54,7 @@ fn has_path(rows: &[QueueRow], count: usize, path: &Path) -> bool
 
 fn repeated_queue(
     alloc: Global,
-    config: &Config,
+    config: &Draft,
     number: u64,
     row: &QueueRow,
 ) -> Result<Option<Place>, AllocError>
@@ -67,7 +67,7 @@ fn repeated_queue(
 
 fn orphan(
     alloc: Global,
-    config: &Config,
+    config: &Draft,
     number: u64,
     row: &QueueRow,
 ) -> Result<Option<Place>, AllocError>
@@ -122,25 +122,25 @@ fn label_at_fault(
     Ok(Some(at_label(alloc, number, path, key, &label)?))
 }
 
-fn is_unknown(config: &Config, name: Name) -> bool
+fn is_unknown(config: &Draft, name: Name) -> bool
     ensures { result ≡ spec.is_unknown config.now name }
 {
     !config.labels().has(&Label::Named(name))
 }
 
-fn unknown_listed(config: &Config, row: &QueueRow) -> Option<Name>
+fn unknown_listed(config: &Draft, row: &QueueRow) -> Option<Name>
     ensures { result ≡ spec.unknown_listed config.now row.now }
 {
     unknown_name(config, row.access.listed())
 }
 
-fn unknown_name(config: &Config, names: &[Name]) -> Option<Name>
+fn unknown_name(config: &Draft, names: &[Name]) -> Option<Name>
     ensures { result ≡ find (spec.is_unknown config.now) names.now }
 {
     names.iter().copied().find(|name| is_unknown(config, *name))
 }
 
-fn unknown_share(config: &Config, shares: &[LabelCapacity]) -> Option<Name>
+fn unknown_share(config: &Draft, shares: &[LabelCapacity]) -> Option<Name>
     ensures { result ≡ find (spec.is_unknown config.now) (map (λ given. given.label) shares.now) }
 {
     shares
@@ -149,13 +149,13 @@ fn unknown_share(config: &Config, shares: &[LabelCapacity]) -> Option<Name>
         .find(|name| is_unknown(config, *name))
 }
 
-fn unknown_shared(config: &Config, row: &QueueRow) -> Option<Name>
+fn unknown_shared(config: &Draft, row: &QueueRow) -> Option<Name>
     ensures { result ≡ spec.unknown_shared config.now row.now }
 {
     unknown_share(config, &row.capacities)
 }
 
-fn unknown_default(config: &Config, row: &QueueRow) -> Option<Label>
+fn unknown_default(config: &Draft, row: &QueueRow) -> Option<Label>
     ensures { result ≡ spec.unknown_default config.now row.now }
 {
     let default = row.leaf.default_label;
@@ -172,7 +172,7 @@ fn label_if(there: bool, label: Label) -> Option<Label>
 #[tactic(auto, unfolding(crate::specs::RowPlaces::unknown_label))]
 fn unknown_label(
     alloc: Global,
-    config: &Config,
+    config: &Draft,
     number: u64,
     row: &QueueRow,
 ) -> Result<Option<Place>, AllocError>
@@ -194,7 +194,7 @@ fn goes_beyond(labels: &Labels, queue: &Grant, above: &Grant, name: Name) -> boo
     queue.may_use(labels, &label) && !above.may_use(labels, &label)
 }
 
-fn name_beyond(config: &Config, queue: &[Name]) -> Option<Name>
+fn name_beyond(config: &Draft, queue: &[Name]) -> Option<Name>
     ensures { result ≡ find (spec.goes_beyond config.now queue.now) (spec.names_of config.now) }
 {
     let labels = config.labels();
@@ -207,7 +207,7 @@ fn name_beyond(config: &Config, queue: &[Name]) -> Option<Name>
         .find(|name| goes_beyond(labels, &below, &above, *name))
 }
 
-fn share_beyond(config: &Config, row: &QueueRow) -> Option<Name>
+fn share_beyond(config: &Draft, row: &QueueRow) -> Option<Name>
     ensures { result ≡ find (λ name. not (may_use config.now row.now.path (Named name))) (map (λ given. given.label) row.now.capacities) }
 {
     let labels = config.labels();
@@ -221,7 +221,7 @@ fn share_beyond(config: &Config, row: &QueueRow) -> Option<Name>
 #[tactic(auto, unfolding(crate::specs::RowPlaces::label_beyond))]
 fn label_beyond(
     alloc: Global,
-    config: &Config,
+    config: &Draft,
     number: u64,
     row: &QueueRow,
 ) -> Result<Option<Place>, AllocError>
@@ -267,7 +267,7 @@ fn low_partition(labels: &Labels, queue: &Grant) -> Option<Label>
 #[tactic(auto, unfolding(crate::specs::RowPlaces::low_maximum))]
 fn low_maximum(
     alloc: Global,
-    config: &Config,
+    config: &Draft,
     number: u64,
     row: &QueueRow,
 ) -> Result<Option<Place>, AllocError>
@@ -333,7 +333,7 @@ fn sum_place(alloc: Global, text: &str, label: &Label, sum: u64) -> Result<Place
 /// queue's text.
 fn wrong_sum(
     alloc: Global,
-    config: &Config,
+    config: &Draft,
     queue: &[Name],
     text: &str,
 ) -> Result<Option<Place>, AllocError>
@@ -351,14 +351,14 @@ fn wrong_sum(
 }
 
 #[tactic(auto, unfolding(ynl_resource::specs::Texts::path_text))]
-fn wrong_root(alloc: Global, config: &Config) -> Result<Option<Place>, AllocError>
+fn wrong_root(alloc: Global, config: &Draft) -> Result<Option<Place>, AllocError>
     requires { length config.now.queues ≤ most_queues }
     ensures { IfOk result (λ p. option_map place_of p ≡ spec.wrong_sum config.now root) }
 {
     wrong_sum(alloc, config, &[], "root")
 }
 
-fn wrong_parent(alloc: Global, config: &Config, row: &QueueRow) -> Result<Option<Place>, AllocError>
+fn wrong_parent(alloc: Global, config: &Draft, row: &QueueRow) -> Result<Option<Place>, AllocError>
     requires { length config.now.queues ≤ most_queues }
     ensures { IfOk result (λ p. option_map place_of p ≡ spec.wrong_parent config.now row.now) }
 {
@@ -373,7 +373,7 @@ fn wrong_parent(alloc: Global, config: &Config, row: &QueueRow) -> Result<Option
 fn place_at_queue(
     alloc: Global,
     fault: ConfigFault,
-    config: &Config,
+    config: &Draft,
     number: u64,
     row: &QueueRow,
 ) -> Result<Option<Place>, AllocError>
@@ -394,7 +394,7 @@ fn place_at_queue(
 fn place_in_queues(
     alloc: Global,
     fault: ConfigFault,
-    config: &Config,
+    config: &Draft,
     rows: &[QueueRow],
 ) -> Result<Option<Place>, AllocError>
     requires { length config.now.queues ≤ most_queues }
@@ -414,7 +414,7 @@ fn place_in_queues(
 pub(crate) fn place_in_tree(
     alloc: Global,
     fault: ConfigFault,
-    config: &Config,
+    config: &Draft,
 ) -> Result<Option<Place>, AllocError>
     requires { length config.now.queues ≤ most_queues }
     ensures { IfOk result (λ p. option_map place_of p ≡ place_in_tree fault config.now) }

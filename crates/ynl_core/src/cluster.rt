@@ -420,7 +420,6 @@ impl Core {
     pub fn open(alloc: Global, config: Config) -> Result<Core, NoMemory>
         ensures { IfOk result (λ core. core ≡ opened config) }
     {
-        let config = config.indexed(alloc)?;
         let tables = opening_tables(alloc, &config)?;
         let lulls = Lulls::new(alloc, config.labels(), tables.leaves.len())?;
         Ok(Core {

@@ -2,17 +2,16 @@
 use Rattle.std.proofs.Common.{◌≡◌, ◌≢◌, ℕ, zero, suc, false, ◌+◌, ◌<◌, ◌≤◌, List, [], ◌∷◌, ◌++◌, length, map, take, get_or, Some, refl, sym, ap, subst, ◌∙◌, arith}
 use Rattle.std.specs.Prelude.{Vec}
 use Rattle.std.specs.declared.alloc.Global.{Global}
-use Rattle.std.specs.List.{position}
-use Rattle.ynl_resource.specs.Names.{root, same_path}
+use Rattle.ynl_resource.specs.Names.{root}
 use Rattle.ynl_resource.specs.declared.paths.Path.{Path}
-use Rattle.ynl_resource.specs.declared.labels.Label.TheVariants.{Unlabelled}
-use Rattle.ynl_model.specs.Queues.{QueueRow, Config, Inherited}
+use Rattle.ynl_model.specs.Queues.{QueueRow, Config}
 use Rattle.ynl_model.specs.Service.{last_name}
 use Rattle.ynl_laws.specs.Decided.{below}
-use Rattle.ynl_queues.specs.Index.{IsPlaceOf, AreSteps}
+use Rattle.ynl_queues.specs.Index.{AreSteps}
+use Rattle.ynl_queues.specs.Trees.{HasTree}
 use Rattle.ynl_queues.proofs.Places.{place_path}
+use Rattle.ynl_queues.proofs.Trees.{apart}
 use Rattle.ynl_layout.specs.Paths.{AreLines, HasNumber, HasParent, IsLine, path_at, paths_of}
-use Rattle.ynl_layout.specs.Building.{EndsAt, IsOwnLine}
 use Rattle.ynl_layout.proofs.Filled.{Hold}
 
 -- ---- paths
@@ -28,10 +27,6 @@ parted (suc n) (name ∷ next ∷ path) e = ap (λ rest. name ∷ rest) (parted 
 pub take-front : (path : Path) (rest : Path) → take (length path) (path ++ rest) ≡ path
 take-front [] rest = refl
 take-front (name ∷ path) rest = ap (λ front. name ∷ front) (take-front path rest)
-
-pub take-whole : (path : Path) → take (length path) path ≡ path
-take-whole [] = refl
-take-whole (name ∷ path) = ap (λ front. name ∷ front) (take-whole path)
 
 -- the path under a number below root is that of the row
 pub row-path : (rows : List QueueRow) (place : ℕ) (d : QueueRow) → place < length rows → get_or (map (λ (row : QueueRow). row.path) rows) place root ≡ (get_or rows place d).path
@@ -73,18 +68,6 @@ count-shifted (n ∷ steps) = ap suc (count-shifted steps)
 next : (k : ℕ) → k + 1 ≡ suc k
 next k = omega arith
 
--- a row that stands nowhere
-pub no_row : QueueRow
-no_row = record {
-  path = root;
-  stopped = false;
-  capacity = 0;
-  maximum = 0;
-  access = Inherited;
-  leaf = record { default_label = Unlabelled; minimum_user_limit_percent = 0; user_limit_factor = 0; maximum_am_resource_percent = 0; maximum_applications = 0 };
-  capacities = [];
-}
-
 -- a step is that of a queue
 pub step-below : (c : Config) (path : Path) (steps : List ℕ) (k : ℕ) → AreSteps c.queues path steps → k < length steps → get_or steps k 0 < length c.queues
 step-below c path steps k are inside = (are.places k 0 (omega (arith, inside, are.each))).inside
@@ -117,20 +100,7 @@ module _ (c : Config) (place : ℕ) (inside : place < length c.queues) (d : Queu
       along zero e within = refl
       along (suc k) e within = ap (path_at (paths_of c)) (shifted steps k e 0 (omega (arith, within, count-shifted steps))) ∙ at k (omega (arith, within, count-shifted steps)) ∙ ap (λ n. take n path) (next k) ∙ ap (take (suc k)) (sym own)
 
-  -- and where the last step is the queue itself, it is its own
-  pub own-line : EndsAt steps place → IsOwnLine c place (0 ∷ map (λ n. n + 1) steps)
-  own-line ends = record {
-    line = line-of;
-    first = subst (λ p. IsPlaceOf c.queues p place) (ap (λ n. take n path) (sym ends.many ∙ are.each) ∙ take-whole path ∙ sym own) (subst (IsPlaceOf c.queues (take (ends.before + 1) path)) ends.last (are.places ends.before 0 (omega (arith, ends.many, are.each))));
-    below_root = λ e. absurd (omega (arith, ends.many, are.each, ap length (sym own ∙ e)));
-  }
-
 -- ---- the tree
-
--- root has its line, and each queue below has its own
-abbrev pub HasOwnLine : Config → ℕ → Vec ℕ Global → Type 0
-HasOwnLine c zero list = IsLine (paths_of c) 0 list.items
-HasOwnLine c (suc place) list = IsOwnLine c place list.items
 
 module _ (paths : List Path) where
   -- the parent stands before a queue on its line
@@ -149,35 +119,19 @@ module _ (paths : List Path) where
         above = parted depth (path_at paths n) (omega (arith, e)) ∙ ap (λ path. below path (last_name (path_at paths n))) (sym (is.path depth 0 (omega (arith, is.len, e))));
       }
 
-pub tree-of-lines : (c : Config) (lines : List (Vec ℕ Global)) (v : Vec ℕ Global) → Hold (HasOwnLine c) (length c.queues + 1) lines → AreLines (paths_of c) lines
-tree-of-lines c lines v h = record {
-  tree = record { apart = apart; parents = parents };
-  many = h.many ∙ many;
-  each = each;
+-- a list is the line of the queue under a number
+abbrev pub HasLine : Config → ℕ → Vec ℕ Global → Type 0
+HasLine c n list = IsLine (paths_of c) n list.items
+
+pub tree-of-lines : (c : Config) (lines : List (Vec ℕ Global)) (v : Vec ℕ Global) → HasTree c → Hold (HasLine c) (length c.queues + 1) lines → AreLines (paths_of c) lines
+tree-of-lines c lines v tree h = record {
+  tree = record {
+    apart = apart (root ∷ paths_of c) tree.paths;
+    parents = λ n low there. parent-on (paths_of c) n (get_or lines n v).items (h.each n (inside n there) v) (λ e. absurd (omega (arith, low, apart (root ∷ paths_of c) tree.paths n 0 there (omega arith) e)));
+  };
+  many = omega (arith, h.many, count-paths c.queues);
+  each = λ n d there. h.each n (inside n there) d;
 }
   where
-    many : length c.queues + 1 ≡ length (root ∷ paths_of c)
-    many = omega (arith, count-paths c.queues)
-
     inside : (k : ℕ) → HasNumber (paths_of c) k → k < length c.queues + 1
-    inside k there = omega (arith, there, many)
-
-    one : (n m : ℕ) → Some n ≡ Some m → n ≡ m
-    one n m e = cc
-
-    apart : (n m : ℕ) → HasNumber (paths_of c) n → HasNumber (paths_of c) m → path_at (paths_of c) n ≡ path_at (paths_of c) m → n ≡ m
-    apart zero zero i j e = refl
-    apart zero (suc m) i j e = absurd ((h.each (suc m) (inside (suc m) j) v).below_root (sym e))
-    apart (suc n) zero i j e = absurd ((h.each (suc n) (inside (suc n) i) v).below_root e)
-    apart (suc n) (suc m) i j e =
-        let first = (h.each (suc n) (inside (suc n) i) v).first.first in
-        let second = (h.each (suc m) (inside (suc m) j) v).first.first in
-        ap suc (one n m (sym first ∙ ap (λ path. position (λ (row : QueueRow). same_path row.path path) c.queues) e ∙ second))
-
-    parents : (n : ℕ) → 0 < n → HasNumber (paths_of c) n → HasParent (paths_of c) n
-    parents zero low there = absurd (omega (arith, low))
-    parents (suc n) low there = let own = h.each (suc n) (inside (suc n) there) v in parent-on (paths_of c) (suc n) _ own.line own.below_root
-
-    each : (n : ℕ) (d : Vec ℕ Global) → HasNumber (paths_of c) n → IsLine (paths_of c) n (get_or lines n d).items
-    each zero d there = h.each 0 (inside 0 there) d
-    each (suc n) d there = (h.each (suc n) (inside (suc n) there) d).line
+    inside k there = omega (arith, there, count-paths c.queues)

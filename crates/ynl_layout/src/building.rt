@@ -1,10 +1,9 @@
 //! How the numbers of queues are made.
 
-ghost use Rattle.std.specs.Prelude.{◌≡◌, ◌<◌, ◌^◌, ◌↔◌, List, ℕ, length, IfOk, IfSome, IsTrue};
-ghost use Rattle.std.specs.Bool.{OnTrue};
+ghost use Rattle.std.specs.Prelude.{◌≡◌, ◌<◌, ◌^◌, ◌↔◌, List, ℕ, suc, length, IfOk, IsTrue};
 ghost use Rattle.ynl_resource.specs.declared.paths.Path.{Path as Names};
 ghost use Rattle.ynl_layout.specs.Paths.{AreChildren, AreLines, HasNumber, HaveChildren, IsChild, IsLine, IsTree, paths_of};
-ghost use Rattle.ynl_layout.specs.Building.{EndsAt, IsOwnLine, name_in};
+ghost use Rattle.ynl_layout.specs.Building.{name_in};
 
 use std::alloc::{AllocError, Global};
 use ynl_queues::Config;
@@ -17,54 +16,32 @@ pub(crate) fn paths_of(alloc: Global, config: &Config) -> Result<Vec<Path>, Allo
     config.queues().iter().map(|row| row.path).collect(alloc)
 }
 
-/// Whether the way to a queue ends at a place.
-fn ends_at(steps: &[usize], place: usize) -> bool
-    ensures { OnTrue result (EndsAt steps.now place) }
-{
-    match steps.last() {
-        Some(last) => *last == place,
-        None => false,
-    }
-}
-
-/// The line of the queue at a place in the configuration. Nothing if a queue above it has no row, if it is
-/// root, or if one before it has its path.
-fn line_to(alloc: Global, config: &Config, place: usize) -> Result<Option<Vec<usize>>, AllocError>
+/// The line of the queue at a place in the configuration.
+fn line_to(alloc: Global, config: &Config, place: usize) -> Result<Vec<usize>, AllocError>
     requires place { place < length config.now.queues }
     requires few { length config.now.queues < 2 ^ 63 }
-    ensures { IfOk result (λ built. IfSome built (λ line. IsOwnLine config.now place line.items)) }
+    ensures { IfOk result (λ line. IsLine (paths_of config.now) (suc place) line.items) }
 {
-    let Some(steps) = config.steps_at(place) else {
-        return Ok(None);
-    };
-    if !ends_at(steps, place) {
-        return Ok(None);
-    }
+    let steps = config.way(place);
     let mut line = Vec::with_capacity(alloc, steps.len() + 1)?;
     line.push(0)?;
     for step in steps {
         line.push(*step + 1)?;
     }
-    Ok(Some(line))
+    Ok(line)
 }
 
-/// The lines of all queues, root's first. Nothing if the queues are no tree.
-pub(crate) fn all_lines(
-    alloc: Global,
-    config: &Config,
-) -> Result<Option<Vec<Vec<usize>>>, AllocError>
-    ensures { IfOk result (λ built. IfSome built (λ lines. AreLines (paths_of config.now) lines.items)) }
+/// The lines of all queues, root's first.
+pub(crate) fn all_lines(alloc: Global, config: &Config) -> Result<Vec<Vec<usize>>, AllocError>
+    ensures { IfOk result (λ lines. AreLines (paths_of config.now) lines.items) }
 {
-    let count = config.queues().len();
+    let count = config.draft().queues().len();
     let mut lines = Vec::with_capacity(alloc, count + 1)?;
     lines.push(vec![in alloc; 0; 1]?)?;
     for place in 0..count {
-        match line_to(alloc, config, place)? {
-            Some(line) => lines.push(line)?,
-            None => return Ok(None),
-        }
+        lines.push(line_to(alloc, config, place)?)?;
     }
-    Ok(Some(lines))
+    Ok(lines)
 }
 
 /// Whether a queue with a line stands just below another.

@@ -1,6 +1,6 @@
 //! The numbers of queues.
 
-ghost use Rattle.std.specs.Prelude.{◌≡◌, ◌<◌, ◌∷◌, length, IfOk, IfSome};
+ghost use Rattle.std.specs.Prelude.{◌≡◌, ◌<◌, ◌∷◌, length, IfOk};
 ghost use Rattle.ynl_resource.specs.Names.{root};
 ghost use Rattle.ynl_model.specs.Service.{last_name};
 ghost use Rattle.ynl_laws.specs.Ways.{IsWay};
@@ -33,21 +33,18 @@ impl Model for Layout {
 }
 
 impl Layout {
-    /// The queues of a configuration under numbers. Nothing if they are no tree: if two have one path, one has
-    /// root's, or one has no parent, which no configuration that is read has. It takes an indexed configuration.
-    pub fn new(alloc: Global, config: &Config) -> Result<Option<Layout>, AllocError>
-        ensures { IfOk result (λ built. IfSome built (λ layout. layout ≡ paths_of config.now)) }
+    /// The queues of a configuration under numbers.
+    pub fn new(alloc: Global, config: &Config) -> Result<Layout, AllocError>
+        ensures { IfOk result (λ layout. layout ≡ paths_of config.now) }
     {
-        let Some(lines) = all_lines(alloc, config)? else {
-            return Ok(None);
-        };
+        let lines = all_lines(alloc, config)?;
         let paths = paths_of(alloc, config)?;
         let children = all_children(alloc, &paths, &lines)?;
-        Ok(Some(Layout {
+        Ok(Layout {
             paths,
             lines,
             children,
-        }))
+        })
     }
 
     /// How many queues there are, root among them.

@@ -11,3 +11,4 @@ pub mod Prefixes
 pub mod Shares
 pub mod Told
 pub mod Totals
+pub mod Trees

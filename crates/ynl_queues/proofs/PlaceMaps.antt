@@ -56,7 +56,7 @@ equal_is Less e = absurd (true≢false (sym e))
 equal_is Equal e = refl
 equal_is Greater e = absurd (true≢false (sym e))
 
-path_self : (a b : Path) → a ≡ b → same_path a b ≡ true
+pub path_self : (a b : Path) → a ≡ b → same_path a b ≡ true
 path_self a b e = (pointwise_decides bytes_decides a b).1 e
 
 key_same : (a b : Path) → same_path a b ≡ is_eq (slice_cmp name_order a b)

@@ -1,5 +1,6 @@
 -- An index of the queues: the places of those on the way to each, and what all have of each partition.
-use Rattle.std.specs.Prelude.{◌≡◌, ℕ, ◌+◌, ◌<◌, Bool, not, ◌&&◌, List, length, map, take, slice_index_or, Option, Some, IfSome, Vec}
+use Rattle.std.specs.Prelude.{◌≡◌, ℕ, ◌+◌, ◌<◌, Bool, not, ◌&&◌, List, length, map, take, slice_index_or, Option, Some, IfSome, is_some, true, Vec}
+use Rattle.std.specs.Option.{IsSome}
 use Rattle.std.specs.Global.{Global}
 use Rattle.std.specs.List.{All, list_any, position}
 use Rattle.std.specs.BTreeMap.{BTreeMap, get_by}
@@ -27,13 +28,18 @@ pub record AreStepsTo (rows : List QueueRow) (queue : Path) (depth : ℕ) (steps
 abbrev pub AreSteps : List QueueRow → Path → List ℕ → Type 0
 AreSteps rows queue steps = AreStepsTo rows queue (length queue) steps
 
+-- each queue on the way to a queue, and that queue, has a place
+abbrev pub HasSteps : List QueueRow → Path → Type 0
+HasSteps rows queue = (depth : ℕ) → depth < length queue → is_some (position (λ row. same_path row.path (take (depth + 1) queue)) rows) ≡ true
+
 -- whether another queue is below a queue
 abbrev pub has_below : List QueueRow → Path → Bool
 has_below rows queue = list_any (λ row. is_within queue row.path && not (same_path queue row.path)) rows
 
--- where the steps to a queue are kept, they are its steps; and whether a queue is below it
+-- where the steps to a queue are kept, they are its steps, and they are kept where all have places; and whether a queue is below it
 pub record IsKeptOf (rows : List QueueRow) (row : IndexRow) : Type 0 where
   pub steps : IfSome row.steps (λ steps. AreSteps rows row.path steps.items)
+  pub sure : HasSteps rows row.path → IsSome row.steps
   pub below : row.has_below ≡ has_below rows row.path
 
 -- the place that is kept for a queue

@@ -1,7 +1,8 @@
--- The queues as a configuration writes them, and the tree that they make or its first fault.
+-- The queues as they are written, and the configuration that they make or its first fault.
 use Rattle.std.specs.Prelude.{◌≡◌, ℕ, Bool, true, false, not, ◌||◌, nat_lt, List, [], ◌∷◌, map, filter, length, bytes_eq, Option, Some, None, Result, Ok, Err, if◌then◌else◌}
 use Rattle.std.specs.List.{list_any, list_all, slice_split}
 use Rattle.ynl_resource.specs.Amounts.{amount}
+use Rattle.ynl_resource.specs.declared.amounts.Resource.{Resource}
 use Rattle.ynl_resource.specs.Names.{root}
 use Rattle.ynl_resource.specs.declared.paths.Path.{Path}
 use Rattle.ynl_resource.specs.Refusals.{first_that_holds}
@@ -70,21 +71,22 @@ row_of row = record {
   capacities = row.capacities;
 }
 
--- a configuration of these labels and queues; the faults of a tree do not look at its other numbers
+-- a draft of these labels and queues; the faults of a tree do not look at its other numbers
 unfoldable pub configured : Labels → List QueueRow → Config
 configured labels queues = record { labels = labels; queues = queues; containers_per_heartbeat = 1; maximum_allocation = amount 1 1 }
 
--- the faults of queues that are written, in their order, each with whether it holds: first those of the paths' texts, then those of the tree
-unfoldable pub written_faults : Labels → List WrittenRow → List (TreeFault × Bool)
-written_faults labels rows =
+-- the configuration of these labels, queues and numbers, whatever faults it has
+abbrev pub made_of : Labels → List WrittenRow → ℕ → Resource → Config
+made_of labels rows containers_per_heartbeat maximum_allocation =
+    record { labels = labels; queues = map row_of rows; containers_per_heartbeat = containers_per_heartbeat; maximum_allocation = maximum_allocation }
+
+-- the faults of the queues of a configuration as they are written, in their order, each with whether it holds: first those of the paths' texts, then those of the tree
+unfoldable pub written_faults : Config → List WrittenRow → List (TreeFault × Bool)
+written_faults c rows =
     (TooDeep, list_any (λ row. is_too_deep row.path) rows)
     ∷ (TooMany, are_too_many rows)
     ∷ (BadPath, not (list_all (λ row. is_below_root (read_path row.path)) rows))
-    ∷ tree_faults (configured labels (map row_of rows))
-
--- no fault of a tree holds in any configuration with these labels and queues
-abbrev pub IsFaultless : Labels → List QueueRow → Type 0
-IsFaultless labels queues = (c : Config) → c.labels ≡ labels → c.queues ≡ queues → first_that_holds (tree_faults c) ≡ None
+    ∷ tree_faults c
 
 -- whether there are more than 1,024 queues, or more than 64 just below one
 abbrev pub is_crowded : Config → Bool
@@ -95,6 +97,8 @@ abbrev pub unless_fault : {X : Type 0} → Option TreeFault → X → Result X T
 unless_fault None x = Ok x
 unless_fault (Some fault) x = Err fault
 
--- the tree of the queues that are written, or the first fault that holds
-unfoldable pub tree_of : Labels → List WrittenRow → Result (List QueueRow) TreeFault
-tree_of labels rows = unless_fault (first_that_holds (written_faults labels rows)) (map row_of rows)
+-- the configuration of these labels, queues and numbers, or the first fault that holds
+unfoldable pub built_of : Labels → List WrittenRow → ℕ → Resource → Result Config TreeFault
+built_of labels rows containers_per_heartbeat maximum_allocation =
+    let c : Config = made_of labels rows containers_per_heartbeat maximum_allocation in
+    unless_fault (first_that_holds (written_faults c rows)) c

@@ -6,7 +6,7 @@ ghost use Rattle.ynl_model.specs.Queues.{given, accessible, may_use, Inherited, 
 ghost use Rattle.ynl_resource.specs.Names.{same_name};
 ghost use Rattle.ynl_queues.specs.Reach.{reached, is_among};
 
-use crate::config::Config;
+use crate::draft::Draft;
 use crate::rows::Access;
 use crate::ways::step_at;
 use ynl_labels::Labels;
@@ -39,7 +39,7 @@ pub(crate) fn reaches(labels: &Labels, reach: Option<&[Name]>, label: &Label) ->
     }
 }
 
-impl Config {
+impl Draft {
     /// The labels that a queue's own row gives, where those above are its parent's.
     fn step_reach<'a>(&'a self, step: &[Name], above: Option<&'a [Name]>) -> Option<&'a [Name]>
         ensures { reached self.now.labels (option_copied result) ≡ given (reached self.now.labels (option_copied above.entry)) self.now (setting (λ row. row.access) Inherited self.now step.now) }

@@ -7,7 +7,7 @@ ghost use Rattle.ynl_model.specs.Queues.{setting, written_capacity, written_maxi
 ghost use Rattle.ynl_resource.specs.Amounts.{scale_floor, fits_in, IsSmall};
 ghost use Rattle.ynl_resource.specs.Ranges.{whole};
 
-use crate::config::Config;
+use crate::draft::Draft;
 use crate::ways::step_at;
 use ynl_resource::{Hundredths, Label, Name, Resource, WHOLE};
 
@@ -47,7 +47,7 @@ pub fn nested_floor<F: Fn(&[Name]) -> Hundredths>(
     above
 }
 
-impl Config {
+impl Draft {
     fn written_capacity(&self, queue: &[Name], label: &Label) -> Hundredths
         ensures { result ≡ setting (written_capacity label.now) 0 self.now queue.now }
     {
@@ -70,7 +70,7 @@ impl Config {
     fn kept_capacity(&self, queue: &[Name], label: &Label) -> Option<Hundredths>
         ensures { IfSome result (λ share. share ≡ capacity_on self.now queue.now label.now) }
     {
-        let place = self.index()?.place(queue)?;
+        let place = self.index().place(queue)?;
         let capacities = self.capacities(label)?;
         let share = capacities.get(place)?;
         Some(*share)

@@ -1,19 +1,20 @@
-//! The tree that queues make as a configuration writes them, or its first fault.
+//! The configuration that queues make as they are written, or its first fault.
 
-ghost use Rattle.std.specs.Prelude.{◌≡◌, ◌≤◌, ◌||◌, length, map, true, false, IfOk, IsTrue, MatchOption};
+ghost use Rattle.std.specs.Prelude.{◌≡◌, ◌≤◌, ◌||◌, length, map, true, false, None, IfOk, IsTrue, MatchOption};
 ghost use Rattle.std.specs.List.{list_all, list_any};
 ghost use Rattle.std.specs.Result.{IsOk};
 ghost use Rattle.ynl_resource.specs.Amounts.{amount};
 ghost use Rattle.ynl_resource.specs.Texts.{read_path};
 ghost use Rattle.ynl_resource.specs.Refusals.{first_that_holds};
-ghost use Rattle.ynl_model.specs.Accepted.{tree_faults};
-ghost use Rattle.ynl_queues.specs.Written.{is_too_deep, are_too_many, is_below_root, row_of, is_crowded, configured, unless_fault, tree_of, IsFaultless};
+ghost use Rattle.ynl_resource.specs.Names.{same_name};
+ghost use Rattle.ynl_model.specs.Accepted.{all_differ, tree_faults};
+ghost use Rattle.ynl_queues.specs.Written.{is_too_deep, are_too_many, is_below_root, row_of, is_crowded, configured, unless_fault, built_of};
 ghost use Rattle.ynl_resource.specs.Ranges.{most_queues};
 
 use crate::config::Config;
+use crate::draft::Draft;
 use crate::rows::QueueRow;
 use crate::texts::{any_too_deep, are_too_many};
-use crate::tree::QueueTree;
 use crate::written::WrittenQueue;
 use std::alloc::{AllocError, Global};
 use ynl_labels::Labels;
@@ -43,7 +44,7 @@ fn read_rows(alloc: Global, rows: Vec<WrittenQueue>) -> Result<Option<Vec<QueueR
     Ok(Some(read))
 }
 
-impl Config {
+impl Draft {
     /// The first fault of the tree, but for too many queues.
     #[tactic(auto, unfolding(ynl_model::specs::Accepted::tree_faults))]
     fn tree_fault(&self, alloc: Global) -> Result<Option<TreeFault>, AllocError>
@@ -69,61 +70,59 @@ impl Config {
     }
 }
 
-/// A configuration of these rows, to be looked at, with an index of its queues.
+/// A draft of these rows.
 #[tactic(auto, unfolding(crate::specs::Written::configured))]
-fn configured(alloc: Global, labels: &Labels, rows: Vec<QueueRow>) -> Result<Config, AllocError>
-    ensures { IfOk result (λ config. config ≡ configured labels.now rows.items) }
+fn configured(alloc: Global, labels: &Labels, rows: Vec<QueueRow>) -> Result<Draft, AllocError>
+    ensures { IfOk result (λ draft. draft ≡ configured labels.now rows.items) }
 {
-    let config = Config::new(labels.copy(alloc)?, QueueTree::new(rows), 1, smallest());
-    config.indexed(alloc)
+    Draft::new(alloc, labels.copy(alloc)?, rows, 1, smallest())
 }
 
-/// A configuration of these queues as they are written, whatever faults their tree has, to be looked at; nothing
-/// where a text is no path of a queue below root.
+/// A draft of these queues as they are written, whatever faults their tree has; nothing where a text is no path of
+/// a queue below root.
 pub fn as_written(
     alloc: Global,
     labels: &Labels,
     rows: Vec<WrittenQueue>,
-) -> Result<Option<Config>, AllocError>
-    ensures { IfOk result (λ read. MatchOption read (list_all (λ row. is_below_root (read_path row.path)) rows.items ≡ false) (λ config. (list_all (λ row. is_below_root (read_path row.path)) rows.items ≡ true) × (config ≡ configured labels.now (map row_of rows.items)))) }
+) -> Result<Option<Draft>, AllocError>
+    ensures { IfOk result (λ read. MatchOption read (list_all (λ row. is_below_root (read_path row.path)) rows.items ≡ false) (λ draft. (list_all (λ row. is_below_root (read_path row.path)) rows.items ≡ true) × (draft ≡ configured labels.now (map row_of rows.items)))) }
 {
     match read_rows(alloc, rows)? {
         Some(rows) => {
-            let config = configured(alloc, labels, rows)?;
-            Ok(Some(config))
+            let draft = configured(alloc, labels, rows)?;
+            Ok(Some(draft))
         }
         None => Ok(None),
     }
 }
 
-/// The tree of these rows, or its first fault, where there are not too many.
-#[tactic(auto, unfolding(crate::specs::Written::configured))]
-fn accept(
-    alloc: Global,
-    labels: &Labels,
-    rows: Vec<QueueRow>,
-) -> Result<Result<QueueTree, TreeFault>, AllocError>
-    requires few { length rows.items ≤ most_queues }
-    requires apart { is_crowded (configured labels.now rows.items) ≡ false }
-    ensures { IfOk result (λ built. built ≡ unless_fault (first_that_holds (tree_faults (configured labels.now rows.items))) rows.items) }
+/// The configuration of a draft, or its first fault, where there are not too many queues.
+#[tactic(auto, using(crate::proofs::Faultless::tree_without_fault))]
+fn accept(alloc: Global, draft: Draft) -> Result<Result<Config, TreeFault>, AllocError>
+    requires few { length draft.queues ≤ most_queues }
+    requires apart { is_crowded draft ≡ false }
+    requires labels { all_differ same_name (map (λ row. row.name) draft.labels.rows) ≡ true }
+    ensures { IfOk result (λ built. built ≡ unless_fault (first_that_holds (tree_faults draft)) draft) }
 {
-    let config = configured(alloc, labels, rows)?;
-    match config.tree_fault(alloc)? {
+    match draft.tree_fault(alloc)? {
         Some(fault) => Ok(Err(fault)),
-        None => Ok(Ok(config.into_tree())),
+        None => Ok(Ok(Config::new(draft))),
     }
 }
 
-impl QueueTree {
-    /// The tree of these queues, or the first fault: of the paths' texts, and then of the tree. That a path is too
-    /// deep, or that there are too many, is told whatever memory there is.
+impl Config {
+    /// The configuration of these labels, queues and numbers, or the first fault: of the paths' texts, and then of
+    /// the tree. That a path is too deep, or that there are too many, is told whatever memory there is.
     pub fn build(
         alloc: Global,
-        labels: &Labels,
+        labels: Labels,
         rows: Vec<WrittenQueue>,
-    ) -> Result<Result<QueueTree, TreeFault>, AllocError>
-        ensures built { IfOk result (λ built. built ≡ tree_of labels.now rows.items) }
-        ensures accepted { IfOk result (λ built. IfOk built (IsFaultless labels.now)) }
+        containers_per_heartbeat: u32,
+        maximum_allocation: Size,
+    ) -> Result<Result<Config, TreeFault>, AllocError>
+        requires { all_differ same_name (map (λ row. row.name) labels.rows) ≡ true }
+        ensures built { IfOk result (λ built. built ≡ built_of labels rows.items containers_per_heartbeat maximum_allocation) }
+        ensures accepted { IfOk result (λ built. IfOk built (λ config. first_that_holds (tree_faults config) ≡ None)) }
         ensures sure { IsTrue (list_any (λ row. is_too_deep row.path) rows.items || are_too_many rows.items) → IsOk result }
     {
         if any_too_deep(&rows) {
@@ -133,7 +132,16 @@ impl QueueTree {
             return Ok(Err(TreeFault::TooMany));
         }
         match read_rows(alloc, rows)? {
-            Some(rows) => accept(alloc, labels, rows),
+            Some(rows) => {
+                let draft = Draft::new(
+                    alloc,
+                    labels,
+                    rows,
+                    containers_per_heartbeat,
+                    maximum_allocation,
+                )?;
+                accept(alloc, draft)
+            }
             None => Ok(Err(TreeFault::BadPath)),
         }
     }

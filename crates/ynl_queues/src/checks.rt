@@ -11,7 +11,7 @@ ghost use Rattle.ynl_model.specs.Accepted.{all_differ, all_queues, parent_of, na
 ghost use Rattle.ynl_queues.specs.Reach.{reached, is_among};
 
 use crate::access::reaches;
-use crate::config::Config;
+use crate::draft::Draft;
 use crate::rows::QueueRow;
 use crate::ways::parent_of;
 use ynl_labels::Labels;
@@ -112,7 +112,7 @@ fn know_labels(labels: &Labels, capacities: &[LabelCapacity]) -> bool
         .all(|given| labels.has(&Label::Named(given.label)))
 }
 
-impl Config {
+impl Draft {
     /// Whether neither two queues have one path, nor one has root's.
     pub(crate) fn queues_differ(&self) -> bool
         ensures { result ≡ all_differ same_path (all_queues self.now) }

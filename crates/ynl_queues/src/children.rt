@@ -3,7 +3,7 @@
 ghost use Rattle.std.specs.Prelude.{◌≡◌, [], ◌∷◌, MatchOption};
 ghost use Rattle.ynl_model.specs.Accepted.{children};
 
-use crate::config::Config;
+use crate::draft::Draft;
 use crate::rows::QueueRow;
 use crate::ways::parent_of;
 use std::marker::Model;
@@ -44,7 +44,7 @@ impl<'a> Children<'a> {
     }
 }
 
-impl Config {
+impl Draft {
     /// The rows of the queues just below a queue.
     pub fn children<'a>(&'a self, queue: &'a [Name]) -> Children<'a>
         ensures { result ≡ children self.now queue.now }

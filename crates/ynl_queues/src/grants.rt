@@ -4,7 +4,7 @@ ghost use Rattle.std.specs.Prelude.{◌≡◌};
 ghost use Rattle.ynl_resource.specs.declared.labels.Label.{Label};
 
 use crate::access::reaches;
-use crate::config::Config;
+use crate::draft::Draft;
 use crate::rows::QueueRow;
 use ynl_labels::Labels;
 use ynl_resource::{Hundredths, Label, Name};
@@ -50,7 +50,7 @@ impl<'a> Grant<'a> {
     }
 }
 
-impl Config {
+impl Draft {
     ghost use Rattle.ynl_model.specs.Queues.{capacity_on, configured_maximum, may_use};
     ghost use Rattle.ynl_queues.specs.Grants.{capacity_at, maximum_at, reaches};
 

@@ -1,16 +1,16 @@
 //! An index of the queues, and how it is built.
 
-ghost use Rattle.std.specs.Prelude.{◌≡◌, [], ◌∷◌, ◌++◌, ◌&&◌, not, map, slice_index_or, IfOk, IfSome, OnOk, List, Some, None, if◌then◌else◌};
+ghost use Rattle.std.specs.Prelude.{◌≡◌, [], ◌∷◌, ◌++◌, ◌&&◌, ◌<◌, length, not, map, slice_index_or, IfOk, IfSome, OnOk, List, Some, None, if◌then◌else◌};
 ghost use Rattle.std.specs.List.{All, position};
-ghost use Rattle.std.specs.Option.{option_or};
+ghost use Rattle.std.specs.Option.{IsSome, option_or};
 ghost use Rattle.ynl_resource.specs.Names.{same_path, is_within};
 ghost use Rattle.ynl_resource.specs.declared.labels.Label.{Label};
 ghost use Rattle.ynl_queues.specs.Grants.{capacity_at};
 ghost use Rattle.ynl_resource.specs.declared.paths.Path.{Path as Names};
 ghost use Rattle.ynl_model.specs.Queues.{QueueRow as Row, Config as Configured};
-ghost use Rattle.ynl_queues.specs.Index.{AreSteps, IsKeptOf, ArePlaces, AreShares, IsIndexOf, has_below, place_in, capacities_on};
+ghost use Rattle.ynl_queues.specs.Index.{AreSteps, IsKeptOf, ArePlaces, AreShares, HasSteps, IsIndexOf, has_below, place_in, capacities_on};
 
-use crate::config::Config;
+use crate::draft::Draft;
 use crate::grants::Grant;
 use crate::rows::QueueRow;
 use crate::ways::{is_within, step_at};
@@ -45,29 +45,17 @@ pub(crate) struct QueueIndex {
 }
 
 impl QueueIndex {
-    /// The index of a configuration's queues, which has no shares yet.
-    pub fn new(alloc: Global, config: &Config) -> Result<QueueIndex, AllocError>
-        ensures { IfOk result (λ index. IsIndexOf config.now index) }
+    /// The index of queues, which has no shares yet.
+    pub fn new(alloc: Global, rows: &[QueueRow]) -> Result<QueueIndex, AllocError>
+        ensures { IfOk result (λ index. (config : Configured) → config.queues ≡ rows.now → IsIndexOf config index) }
     {
-        let places = all_places(alloc, config.queues())?;
-        let rows = all_rows(alloc, config.queues(), &places)?;
+        let places = all_places(alloc, rows)?;
+        let kept = all_rows(alloc, rows, &places)?;
         Ok(QueueIndex {
-            rows,
+            rows: kept,
             shares: Vec::new(alloc),
             places,
         })
-    }
-
-    /// The same index with the shares of a configuration's queues. These are found by the index, so
-    /// they come last.
-    pub fn with_shares(self, shares: Vec<LabelShares>) -> QueueIndex
-        ensures { (config : Configured) → IsIndexOf config self → All (AreShares config) shares.items → IsIndexOf config result }
-    {
-        QueueIndex {
-            rows: self.rows,
-            shares,
-            places: self.places,
-        }
     }
 
     /// The place of a queue, where it has one.
@@ -81,6 +69,7 @@ impl QueueIndex {
     pub fn row_at(&self, place: usize) -> Option<&IndexRow>
         ensures kept { (rows : List Row) → All (IsKeptOf rows) self.now.rows.items → IfSome result (λ row. IsKeptOf rows row.now) }
         ensures path { (rows : List Row) (d : Row) → map (λ row. row.path) self.now.rows.items ≡ map (λ row. row.path) rows → IfSome result (λ row. row.now.path ≡ (slice_index_or rows place d).path) }
+        ensures sure { (rows : List Row) → map (λ row. row.path) self.now.rows.items ≡ map (λ row. row.path) rows → place < length rows → IsSome result }
     {
         self.rows.get(place)
     }
@@ -140,7 +129,8 @@ fn steps_to(
     places: &BTreeMap<Vec<Name>, usize>,
     queue: &[Name],
 ) -> Result<Option<Vec<usize>>, AllocError>
-    ensures { IfOk result (λ found. IfSome found (λ steps. (rows : List Row) → ArePlaces rows places.now → AreSteps rows queue.now steps.items)) }
+    ensures steps { IfOk result (λ found. IfSome found (λ steps. (rows : List Row) → ArePlaces rows places.now → AreSteps rows queue.now steps.items)) }
+    ensures sure { IfOk result (λ found. (rows : List Row) → ArePlaces rows places.now → HasSteps rows queue.now → IsSome found) }
 {
     let mut steps = Vec::new(alloc);
     for depth in 0..queue.len() {
@@ -208,7 +198,7 @@ fn all_rows(
 }
 
 /// How all queues stand.
-fn all_grants(alloc: Global, config: &Config) -> Result<Vec<Grant<'_>>, AllocError>
+fn all_grants(alloc: Global, config: &Draft) -> Result<Vec<Grant<'_>>, AllocError>
     ensures { IfOk result (λ grants. (label : Label) → map (λ s. capacity_at config.now.labels s label) grants.items ≡ capacities_on config.now label) }
 {
     let mut grants = Vec::with_capacity(alloc, config.queues().len())?;
@@ -236,7 +226,7 @@ fn shares_on(
 fn push_shares(
     shares: &mut Vec<LabelShares>,
     alloc: Global,
-    config: &Config,
+    config: &Draft,
     grants: &[Grant],
     label: Label,
 ) -> Result<(), AllocError>
@@ -249,7 +239,7 @@ fn push_shares(
 }
 
 /// The capacities on all partitions.
-pub(crate) fn all_shares(alloc: Global, config: &Config) -> Result<Vec<LabelShares>, AllocError>
+pub(crate) fn all_shares(alloc: Global, config: &Draft) -> Result<Vec<LabelShares>, AllocError>
     ensures { IfOk result (λ shares. All (AreShares config.now) shares.items) }
 {
     let grants = all_grants(alloc, config)?;

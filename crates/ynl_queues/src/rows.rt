@@ -1,11 +1,12 @@
 //! The rows of a configuration.
 
-ghost use Rattle.std.specs.Prelude.{◌≡◌, find, IfOk};
-ghost use Rattle.ynl_resource.specs.Names.{same_name, tenant_of};
+ghost use Rattle.std.specs.Prelude.{◌≡◌, find, filter, IfOk};
+ghost use Rattle.ynl_resource.specs.Names.{same_name, tenant_of, top_level, is_within};
 ghost use Rattle.ynl_model.specs.Queues.{capacity_row, written_capacity, written_maximum};
 ghost use Rattle.ynl_model.specs.Accepted.{listed};
 ghost use Rattle.ynl_queues.specs.Rows.{access_of};
 
+use crate::ways::is_within;
 use std::alloc::{AllocError, Global};
 use std::marker::Model;
 use ynl_model::{LabelCapacity, LeafSettings};
@@ -147,4 +148,32 @@ impl QueueRow {
             Label::Named(name) => self.capacity_row(name).maximum,
         }
     }
+}
+
+/// The same rows once more.
+pub(crate) fn copy_rows(alloc: Global, rows: &[QueueRow]) -> Result<Vec<QueueRow>, AllocError>
+    ensures { IfOk result (λ copy. copy.items ≡ rows.now) }
+{
+    let mut copy = Vec::with_capacity(alloc, rows.len())?;
+    for row in rows {
+        copy.push(row.copy(alloc)?)?;
+    }
+    Ok(copy)
+}
+
+/// The rows of a tenant's queues. Their capacities below root need not come to the whole.
+pub(crate) fn copy_within(
+    alloc: Global,
+    rows: &[QueueRow],
+    tenant: &Name,
+) -> Result<Vec<QueueRow>, AllocError>
+    ensures { IfOk result (λ copy. copy.items ≡ filter (λ row. is_within (top_level tenant.now) row.path) rows.now) }
+{
+    let mut copy = Vec::new(alloc);
+    for row in rows {
+        if is_within(&[*tenant], row.path.names()) {
+            copy.push(row.copy(alloc)?)?;
+        }
+    }
+    Ok(copy)
 }

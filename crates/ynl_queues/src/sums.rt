@@ -11,7 +11,7 @@ ghost use Rattle.ynl_model.specs.Accepted.{children, maximum_covers, adds_up};
 ghost use Rattle.ynl_queues.specs.Grants.{capacity_at, maximum_at, total_at};
 ghost use Rattle.ynl_resource.specs.Ranges.{most_queues, whole};
 
-use crate::config::Config;
+use crate::draft::Draft;
 use crate::grants::Grant;
 use crate::rows::QueueRow;
 use crate::ways::parent_of;
@@ -86,7 +86,7 @@ fn come_to_whole(labels: &Labels, grants: &[Grant]) -> bool
         && labels_come_to_whole(labels, grants)
 }
 
-impl Config {
+impl Draft {
     fn maximum_covers(&self, row: &QueueRow) -> bool
         ensures { result ≡ maximum_covers self.now row.now }
     {

@@ -1,12 +1,16 @@
-//! A tree that is built at the second try, and a configuration that is copied.
+//! A configuration that is built at the second try, and one that is copied.
+
+ghost use Rattle.std.specs.Prelude.{◌≡◌, map, true, IfOk};
+ghost use Rattle.ynl_resource.specs.Names.{same_name};
+ghost use Rattle.ynl_model.specs.Accepted.{all_differ};
 
 use std::alloc::{AllocError, Global};
 use std::test::Fail;
 use ynl_config::built_in;
 use ynl_labels::Labels;
 use ynl_model::{LeafSettings, TreeFault};
-use ynl_queues::{Access, Config, QueueTree, WrittenQueue};
-use ynl_resource::{Hundredths, Label, Name, Path};
+use ynl_queues::{Access, Config, WrittenQueue};
+use ynl_resource::{Hundredths, Label, Path, Size};
 
 // Run with each allocation failing in turn: where memory is refused at the first try, which a line
 // tells, the second gives the value.
@@ -30,45 +34,53 @@ fn written(alloc: Global, path: &str) -> Result<WrittenQueue, AllocError> {
 
 fn built(
     alloc: Global,
-    labels: &Labels,
+    labels: Labels,
+    most: Size,
     path: &str,
-) -> Result<Result<QueueTree, TreeFault>, AllocError> {
+) -> Result<Result<Config, TreeFault>, AllocError>
+    requires { all_differ same_name (map (λ row. row.name) labels.rows) ≡ true }
+{
     let mut rows = Vec::new(alloc);
     rows.push(written(alloc, path)?)?;
-    QueueTree::build(alloc, labels, rows)
+    Config::build(alloc, labels, rows, 1, most)
 }
 
-fn fault_of(rt: &HostRuntime, labels: &Labels, path: &str) -> Result<Option<TreeFault>, Fail> {
-    match built(rt.alloc(), labels, path) {
-        Ok(tree) => Ok(tree.err()),
+fn no_labels(alloc: Global) -> Result<Labels, Fail>
+    ensures { IfOk result (λ labels. all_differ same_name (map (λ row. row.name) labels.rows) ≡ true) }
+{
+    Ok(Labels::build(Vec::new(alloc), 1)?)
+}
+
+fn fault_of(rt: &HostRuntime, path: &str) -> Result<Option<TreeFault>, Fail> {
+    let most = Size::new(1, 1).ok_or("no size")?;
+    match built(rt.alloc(), no_labels(rt.alloc())?, most, path) {
+        Ok(config) => Ok(config.err()),
         Err(_) => {
             println!(rt; "refused")?;
-            Ok(built(rt.alloc(), labels, path)?.err())
+            Ok(built(rt.alloc(), no_labels(rt.alloc())?, most, path)?.err())
         }
     }
 }
 
 #[test]
 fn builds_at_the_second_try(rt: HostRuntime) -> Result<(), Fail> {
-    let labels = Labels::new(Vec::new(rt.alloc()), 1);
     for (path, fault) in [
         ("root.eng", None),
         ("root", Some(TreeFault::BadPath)),
         ("root.eng.ml", Some(TreeFault::NoParent)),
     ] {
-        assert_eq!(rt; fault_of(&rt, &labels, path)?, fault, "{path}");
+        assert_eq!(rt; fault_of(&rt, path)?, fault, "{path}");
     }
     Ok(())
 }
 
-/// Whether root has just one queue, which is a leaf and the top of its tenant.
+/// Whether root has just one queue, which is a leaf.
 fn has_one_queue(config: &Config) -> Result<bool, Fail> {
     let root = Path::parse("root")?;
     let eng = Path::parse("root.eng")?;
     let mut below = config.children(root.names());
     let is_one = below.next().is_some() && below.next().is_none();
-    let is_leaf = config.leaf(eng.names()).is_some();
-    Ok(is_one && is_leaf && config.tree().top(&Name::parse("eng")?).is_some())
+    Ok(is_one && config.leaf(eng.names()).is_some())
 }
 
 #[test]
@@ -91,7 +103,7 @@ fn has_its_place(config: &Config) -> Result<bool, Fail> {
 
 #[test]
 fn an_index_has_the_queues(rt: HostRuntime) -> Result<(), Fail> {
-    let config = built_in(rt.alloc())?.indexed(rt.alloc())?;
+    let config = built_in(rt.alloc())?;
     assert!(rt; has_one_queue(&config)? && has_its_place(&config)?);
     Ok(())
 }

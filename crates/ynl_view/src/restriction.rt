@@ -13,12 +13,5 @@ use ynl_resource::Name;
 pub fn restrict(alloc: Global, config: &Config, tenant: &Name) -> Result<Config, NoMemory>
     ensures { IfOk result (λ alone. alone ≡ restrict config.now tenant.now) }
 {
-    let labels = config.labels().copy(alloc)?;
-    let tree = config.tree().only(alloc, tenant)?;
-    Ok(Config::new(
-        labels,
-        tree,
-        config.containers_per_heartbeat(),
-        config.maximum_allocation(),
-    ))
+    Ok(config.only(alloc, tenant)?)
 }

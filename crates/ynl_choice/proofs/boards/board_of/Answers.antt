@@ -3,6 +3,7 @@ use Rattle.std.proofs.lemmas.List.Quantifiers.{position-Some}
 use Rattle.std.specs.List.{position}
 use Rattle.ynl_laws.specs.Uses.{use_of}
 use Rattle.ynl_model.specs.Cluster.{containers_on}
+use Rattle.ynl_model.specs.Queues.{Config, capacity_on}
 use Rattle.ynl_resource.specs.Names.{root, same_label}
 use Rattle.ynl_resource.specs.declared.labels.Label.{Label}
 use Rattle.ynl_resource.specs.declared.paths.Path.{Path}
@@ -26,8 +27,8 @@ returns c =
     let row : PartitionRow = c.index-rows-place.result in
     let found = row-at label c.as_slice-rows.result.now t.partitions.items c.in_ok-place.place row c.as_slice-rows.ensures.value c.in_ok-place.ensures c.index-rows-place.is in
     record {
-      capacities = c.in_ok-capacities.ensures;
-      uses = c.deref.ensures.value ∙ kept_uses t label row c.requires.kept.amounts.summed found ∙ ap (λ (queues : List Path). map (use_of (state_of t) label) (root ∷ queues)) c.requires.numbered;
-      users = subst (λ (queues : List Path). AreByUser queues (state_of t).leaves c.deref-2.result.now (containers_on (state_of t) label)) c.requires.numbered
-          (kept_users t label row c.deref-2.result.now c.requires.kept.amounts.summed found c.deref-2.ensures.value);
+      capacities = c.in_ok-capacities.ensures ∙ ap (λ (d : Config). map (λ row. capacity_on d row.path label) d.queues) c.deref.ensures;
+      uses = c.deref-2.ensures.value ∙ kept_uses t label row c.requires.kept.amounts.summed found ∙ ap (λ (queues : List Path). map (use_of (state_of t) label) (root ∷ queues)) c.requires.numbered;
+      users = subst (λ (queues : List Path). AreByUser queues (state_of t).leaves c.deref-3.result.now (containers_on (state_of t) label)) c.requires.numbered
+          (kept_users t label row c.deref-3.result.now c.requires.kept.amounts.summed found c.deref-3.ensures.value);
     }

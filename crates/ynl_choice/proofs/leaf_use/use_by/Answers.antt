@@ -1,4 +1,4 @@
-use Rattle.std.proofs.Common.{ℕ, ◌∷◌, not, ap, subst, ◌∙◌}
+use Rattle.std.proofs.Common.{ℕ, ◌∷◌, get_or, not, ap, subst, ◌∙◌}
 use Rattle.std.specs.Prelude.{nat_lt}
 use Rattle.std.specs.List.{list_all}
 use Rattle.ynl_resource.specs.Amounts.{scale_floor}
@@ -7,7 +7,7 @@ use Rattle.ynl_resource.specs.Names.{root, way_to}
 use Rattle.ynl_resource.specs.declared.amounts.Resource.{Resource}
 use Rattle.ynl_resource.specs.declared.paths.Path.{Path}
 use Rattle.ynl_model.specs.declared.uses.Use.{Use}
-use Rattle.ynl_model.specs.Queues.{QueueRow}
+use Rattle.ynl_model.specs.Queues.{QueueRow, Config}
 use Rattle.ynl_model.specs.Cluster.{guaranteed, maximum, is_master, counted}
 use Rattle.ynl_model.specs.Limits.{master_limit}
 use Rattle.ynl_laws.specs.Uses.{use_of}
@@ -29,7 +29,7 @@ returns-clause-meaning c =
     let place : ℕ = c.args.place in
     let at : IsPlaceOf config.queues leaf place = c.requires.place in
     let row : QueueRow = c.row_at-row.result.now in
-    let is = c.row_at-row.ensures row in
+    let is = c.row_at-row.ensures row ∙ ap (λ (d : Config). get_or d.queues place row) c.deref.ensures in
     let kept = c.use_at-kept.ensures.value ∙ ap (use_of s label) c.names.ensures.names in
     let reach = c.reach_by-reach.ensures in
     let given = reach.guaranteed ∙ ap (λ (q : Path). guaranteed config s q label) c.names-2.ensures.names in

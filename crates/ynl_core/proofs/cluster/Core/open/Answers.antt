@@ -10,9 +10,9 @@ use Rattle.ynl_core.proofs.cluster.Core.open.Goals as goal
 
 pub invariant_of-result : goal.invariant_of-result
 invariant_of-result c = record {
-  sound = none_rests c.in_ok-config.config _ _ c.in_ok-tables.ensures.resting (subst (IsWorking c.in_ok-config.config) (sym c.in_ok-tables.ensures.state) (working-opening c.in_ok-config.config)) (subst Tabled (sym c.in_ok-tables.ensures.state) (are-tabled c.in_ok-config.config []))
-      (subst (IsWellFormed c.in_ok-config.config) (sym c.in_ok-tables.ensures.state) (well-formed-opening c.in_ok-config.config));
+  sound = none_rests c.args.config _ _ c.in_ok-tables.ensures.resting (subst (IsWorking c.args.config) (sym c.in_ok-tables.ensures.state) (working-opening c.args.config)) (subst Tabled (sym c.in_ok-tables.ensures.state) (are-tabled c.args.config []))
+      (subst (IsWellFormed c.args.config) (sym c.in_ok-tables.ensures.state) (well-formed-opening c.args.config));
   kept = c.in_ok-tables.ensures.kept;
   numbered = c.in_ok-tables.ensures.numbered;
-  lulls = c.in_ok-lulls.ensures c.in_ok-config.config _;
+  lulls = c.in_ok-lulls.ensures c.args.config _;
 }

@@ -7,3 +7,6 @@ pub returns-then-eq-clause-path : goal.returns-then-eq-clause-path
 returns-then-eq-clause-path c =
     let same : same_path c.names.result.now c.args.path.now ≡ true = search rules in
     sym c.names.ensures.names ∙ same_path_equal c.names.result.now c.args.path.now same
+
+pub returns-then-eq-clause-kept : goal.returns-then-eq-clause-kept
+returns-then-eq-clause-kept c = λ rows all. c.in_ok-row.ensures.kept rows all

@@ -1,4 +1,0 @@
-use Rattle.ynl_queues.proofs.config.Config.kept_at.Goals as goal
-
-pub returns-clause-kept : goal.returns-clause-kept
-returns-clause-kept c = c.row.ensures.kept c.args.self.now.queues c.in_ok-index.ensures.rows
