@@ -1,4 +1,4 @@
-//! Events and replies as bytes, for lists of many: in memory an event takes 700 bytes, since names and paths have room for the
+//! Events and replies as bytes, for lists of many: in memory an event takes 670 bytes, since names and paths have room for the
 //! longest, and as bytes mostly less than 60.
 //!
 //! What is kept so is private to a process: the bytes are no format to hand on.
