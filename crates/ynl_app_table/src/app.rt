@@ -26,6 +26,8 @@ pub struct AppRow {
     pub turn: u32,
     /// The number of its leaf.
     pub leaf: u32,
+    /// The number of its user.
+    pub user: u32,
     /// The number of the partition of its master.
     pub home: u8,
     pub master_size: Size,
@@ -36,22 +38,27 @@ pub struct AppRow {
     pub chains: Chains,
 }
 
+/// What is known of an application when it is submitted, by numbers.
+#[derive(Clone, Copy)]
+pub struct NewApp {
+    pub tenant: u32,
+    pub turn: u32,
+    pub leaf: u32,
+    pub user: u32,
+    pub home: u8,
+    pub master_size: Size,
+}
+
 impl AppRow {
     /// A new application has no containers and asks for nothing yet. It takes no memory.
-    pub fn new(
-        alloc: Global,
-        tenant: u32,
-        turn: u32,
-        leaf: u32,
-        home: u8,
-        master_size: Size,
-    ) -> AppRow
+    pub fn new(alloc: Global, new: NewApp) -> AppRow
         ensures { result ≡ record {
-          tenant = tenant;
-          turn = turn;
-          leaf = leaf;
-          home = home;
-          master_size = master_size;
+          tenant = new.tenant;
+          turn = new.turn;
+          leaf = new.leaf;
+          user = new.user;
+          home = new.home;
+          master_size = new.master_size;
           master = None;
           tickets = no_tickets;
           asks = [];
@@ -59,11 +66,12 @@ impl AppRow {
         } }
     {
         AppRow {
-            tenant,
-            turn,
-            leaf,
-            home,
-            master_size,
+            tenant: new.tenant,
+            turn: new.turn,
+            leaf: new.leaf,
+            user: new.user,
+            home: new.home,
+            master_size: new.master_size,
             master: None,
             tickets: Tickets {
                 home: None,

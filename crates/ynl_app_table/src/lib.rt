@@ -1,7 +1,7 @@
 //! The live applications under numbers, with what they ask for and the chains of their containers.
 #![tactic(auto)]
 
-pub use app::{AppRow, Tickets};
+pub use app::{AppRow, NewApp, Tickets};
 pub use apps::Apps;
 pub use asks::{Ask, Asks};
 pub use chains::Chains;

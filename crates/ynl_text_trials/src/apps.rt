@@ -7,7 +7,7 @@ ghost use Rattle.ynl_slots.specs.Slots.{IsLive};
 use std::alloc::Global;
 use std::process::Abort;
 use std::test::Fail;
-use ynl_app_table::{AppRow, Apps, Ask, Tickets};
+use ynl_app_table::{AppRow, Apps, Ask, NewApp, Tickets};
 use ynl_resource::Size;
 use ynl_slots::Chain;
 
@@ -27,7 +27,15 @@ fn reserve<R: Print>(rt: &R, apps: &mut Apps) -> Result<(), Fail>
 fn add<R: Print>(rt: &R, alloc: Global, apps: &mut Apps, turn: u32) -> Result<u32, Fail> {
     let size = Size::new(100, 10).ok_or("no size")?;
     reserve(rt, apps)?;
-    Ok(apps.add(AppRow::new(alloc, 1, turn, 5, 2, size)))
+    let new = NewApp {
+        tenant: 1,
+        turn,
+        leaf: 5,
+        user: 7,
+        home: 2,
+        master_size: size,
+    };
+    Ok(apps.add(AppRow::new(alloc, new)))
 }
 
 // An application asks, at the second try where memory is refused at the first.
