@@ -38,9 +38,11 @@ impl Stops {
     pub fn any(&self, queues: &[usize]) -> bool
         ensures { result ≡ list_any (λ n. slice_index_or self.now (n - 1) false) queues.now }
     {
-        queues
-            .iter()
-            .any(|n| self.marks.get(n.saturating_sub(1)).copied().unwrap_or(false))
+        queues.iter().any(|n| self
+            .marks
+            .get(n.saturating_sub(1))
+            .copied()
+            .unwrap_or(false))
     }
 
     /// A queue below root is stopped, or started again.

@@ -10,5 +10,5 @@ returns c =
     let row = row-is c.args.partition c.self.inside.rows.items c.args.self.now c.index_mut-row.result.now c.self.view_is there c.index_mut-row.ensures.value in
     set-row c.args.partition c.self.inside.rows.items c.index_mut-row.result.now _ (with_at c.args.queue (λ (share : Share). record share { maximum = c.args.maximum })) there c.index_mut-row.ensures.value
     (set-at c.args.queue c.index_mut-row.result.now.items c.index_mut-share.result.now _ (λ (share : Share). record share { maximum = c.args.maximum })
-     (subst (λ (xs : List Share). c.args.queue < length xs) row c.requires.queue) c.index_mut-share.ensures.value refl)
+    (subst (λ (xs : List Share). c.args.queue < length xs) row c.requires.queue) c.index_mut-share.ensures.value refl)
     ∙ ap (with_maximum c.args.partition c.args.queue c.args.maximum) c.self.view_is
