@@ -2,7 +2,7 @@
 #![tactic(auto)]
 
 pub use exclusivity::sole;
-pub use picking::pick;
+pub use picking::{copy_reply, pick};
 pub use restriction::restrict;
 pub use track::Track;
 pub use tracking::tracked_nodes;

@@ -7,7 +7,8 @@ use std::alloc::{AllocError, Global};
 use ynl_core::{Answer, NoMemory};
 use ynl_model::Reply;
 
-fn reply_copy(alloc: Global, reply: &Reply) -> Result<Reply, AllocError>
+/// The same reply, in memory of its own.
+pub fn copy_reply(alloc: Global, reply: &Reply) -> Result<Reply, AllocError>
     ensures { IfOk result (λ copy. copy ≡ reply.now) }
 {
     match reply {
@@ -40,7 +41,7 @@ fn answer_copy(alloc: Global, answer: &Answer) -> Result<Answer, AllocError>
     ensures { IfOk result (λ copy. copy ≡ answer.now) }
 {
     match answer {
-        Answer::Replied(reply) => Ok(Answer::Replied(reply_copy(alloc, reply)?)),
+        Answer::Replied(reply) => Ok(Answer::Replied(copy_reply(alloc, reply)?)),
         Answer::NoMemory => Ok(Answer::NoMemory),
     }
 }

@@ -1,0 +1,64 @@
+-- The evidence of a journal, one entry after another.
+use Rattle.std.proofs.Common.{◌≡◌, ℕ, ◌+◌, ◌<◌, List, [], ◌∷◌, ◌++◌, map, length, get_or, drop, Option, Some, None, refl, sym, ap, subst, ◌∙◌, append_assoc, length-append}
+use Rattle.std.specs.Prelude.{slice_get}
+use Rattle.std.specs.Option.{option_and_then}
+use Rattle.std.proofs.lemmas.List.{drop_more}
+use Rattle.ynl_resource.specs.declared.names.Name.{Name}
+use Rattle.ynl_resource.specs.declared.labels.Label.{Label}
+use Rattle.ynl_model.specs.declared.entries.Entry.{Entry}
+use Rattle.ynl_model.specs.declared.events.Event.{Event}
+use Rattle.ynl_model.specs.declared.nodes.Tracked.{Tracked}
+use Rattle.ynl_model.specs.declared.replies.Reply.{Reply}
+use Rattle.ynl_model.specs.Queues.{Config}
+use Rattle.ynl_model.specs.View.{Viewed, seen_of, track_step, with_seen, view_from}
+use Rattle.ynl_journal.specs.Journal.{events_in, entry}
+use Rattle.ynl_evidence.specs.Evidence.{Placed, reply_at, with_reply, evidence_of, noted, evidence_from}
+
+entry-at : (before : List Entry) (e : Entry) (es : List Entry) → slice_get (before ++ (e ∷ es)) (length before) ≡ Some e
+entry-at [] e es = refl
+entry-at (x ∷ before) e es = entry-at before e es
+
+noted-next : (o : Option Event) (place : ℕ) (all : List Entry) (reply : Option Reply) (rest : List Viewed) (more : List Placed) → reply_at all place ≡ reply → map (with_reply all) rest ≡ more
+    → map (with_reply all) (with_seen place o rest) ≡ noted place o reply ++ more
+noted-next None place all reply rest more at same = same
+noted-next (Some event) place all reply rest more at same = λ i. (place, entry event (at i)) ∷ same i
+
+module _ (t : Name) (p : Label) (c : Config) where
+  abbrev Gathers : List Entry → ℕ → List Tracked → List Entry → Type 0
+  Gathers all place nodes es = map (with_reply all) (view_from t p c place nodes (events_in es)) ≡ evidence_from t p c place nodes es
+
+  gathers : (before : List Entry) (nodes : List Tracked) (es : List Entry) → Gathers (before ++ es) (length before) nodes es
+  gathers before nodes [] = refl
+  gathers before nodes (e ∷ es) =
+      let next = track_step c nodes e.event in
+      let rest : Gathers ((before ++ e ∷ []) ++ es) (length (before ++ e ∷ [])) next es = gathers (before ++ e ∷ []) next es in
+      noted-next (seen_of t p c nodes e.event) (length before) (before ++ (e ∷ es)) e.reply (view_from t p c (length before + 1) next (events_in es)) (evidence_from t p c (length before + 1) next es)
+      (ap (option_and_then (λ (x : Entry). x.reply)) (entry-at before e es))
+      (go _ _ _ _ (append_assoc before (e ∷ []) es) (length-append before (e ∷ [])) next rest)
+    where
+      go : (all more : List Entry) (n k : ℕ) → all ≡ more → n ≡ k → (next : List Tracked) → Gathers all n next es → Gathers more k next es
+      go all more n k same at next h = subst (λ (x : List Entry). Gathers x k next es) same (subst (λ (x : ℕ). Gathers all x next es) at h)
+
+pub gathered : (c : Config) (entries : List Entry) (t : Name) (p : Label) → evidence_of c entries t p ≡ evidence_from t p c 0 [] entries
+gathered c entries t p = gathers t p c [] [] entries
+
+-- ---- as it is gathered
+
+-- the evidence from a place on, by the entry that stands there
+pub gathered-more : (t : Name) (p : Label) (c : Config) (i : ℕ) (nodes next : List Tracked) (entries : List Entry) (e : Entry) → i < length entries → e ≡ get_or entries i e → next ≡ track_step c nodes e.event
+    → evidence_from t p c i nodes (drop i entries) ≡ noted i (seen_of t p c nodes e.event) e.reply ++ evidence_from t p c (i + 1) next (drop (i + 1) entries)
+gathered-more t p c i nodes next entries e inside is step =
+    ap (evidence_from t p c i nodes) (drop_more entries i e inside ∙ ap (λ (x : Entry). x ∷ drop (i + 1) entries) (sym is))
+    ∙ ap (λ track. noted i (seen_of t p c nodes e.event) e.reply ++ evidence_from t p c (i + 1) track (drop (i + 1) entries)) (sym step)
+
+-- an event that is seen comes last
+pub noted-last : (place : ℕ) (event : Event) (found : Option Event) (reply kept : Option Reply) (now rest xs ys all : List Placed) → found ≡ Some event → now ≡ noted place found reply ++ rest → kept ≡ reply
+    → ys ≡ xs ++ (place, entry event kept) ∷ [] → xs ++ now ≡ all → ys ++ rest ≡ all
+noted-last place event found reply kept now rest xs ys all is more same new so_far =
+    ap (λ zs. zs ++ rest) new ∙ append_assoc xs ((place, entry event kept) ∷ []) rest
+    ∙ (λ i. xs ++ (noted place (sym is i) (same i) ++ rest)) ∙ ap (λ zs. xs ++ zs) (sym more) ∙ so_far
+
+-- an event that is not seen leaves what there is
+pub noted-none : (place : ℕ) (found : Option Event) (reply : Option Reply) (now rest xs ys all : List Placed) → found ≡ None → now ≡ noted place found reply ++ rest → ys ≡ xs → xs ++ now ≡ all → ys ++ rest ≡ all
+noted-none place found reply now rest xs ys all is more same so_far =
+    (λ i. same i ++ (noted place (sym is i) reply ++ rest)) ∙ ap (λ zs. xs ++ zs) (sym more) ∙ so_far

@@ -1,0 +1,38 @@
+//! The audit of evidence.
+
+ghost use Rattle.std.specs.Prelude.{◌≡◌, None, IsTrue, OnOk, IfErr};
+ghost use Rattle.ynl_model.specs.View.{is_sole};
+ghost use Rattle.ynl_evidence.specs.Flaws.{flaw_of, IsFault};
+ghost use Rattle.ynl_evidence.specs.Promises.{IsRight};
+
+use crate::flaws::EvidenceFault;
+use crate::trial::Trial;
+use std::alloc::Global;
+use ynl_model::Entry;
+use ynl_queues::Config;
+use ynl_resource::{Label, Name};
+
+/// Applies the events in order to a cluster of this configuration that holds the tenant alone, and compares
+/// each reply that is there. Before that each entry is tested: its place is above the one before, and its
+/// event is one that the tenant's view of the evidence keeps as it is. So nobody else's journal is needed
+/// to check that the tenant was served as if alone. Whether the evidence is whole it does not tell.
+pub fn audit_evidence(
+    alloc: Global,
+    config: Config,
+    tenant: &Name,
+    label: &Label,
+    placed: &[(u64, Entry)],
+) -> Result<(), EvidenceFault>
+    requires { IsTrue (is_sole config tenant.now label.now) }
+    ensures ok { OnOk result (flaw_of config tenant.now label.now placed.now ≡ None) }
+    ensures right { OnOk result (IsRight config tenant.now label.now placed.now) }
+    ensures err { IfErr result (IsFault config tenant.now label.now placed.now) }
+{
+    let mut trial = Trial::open(alloc, &config, tenant)?;
+    for (i, (place, entry)) in placed.iter().enumerate() {
+        if let Some(flaw) = trial.take(&config, tenant, label, *place, entry)? {
+            return Err(EvidenceFault::Flawed(i as u64 + 1, flaw));
+        }
+    }
+    Ok(())
+}
