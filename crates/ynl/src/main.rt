@@ -41,6 +41,10 @@ fn main(rt: HostRuntime) -> ExitCode {
             let _told = eprintln!(rt; "ynl: bad name");
             ExitCode::from(2)
         }
+        Err(WordsFault::Unpaired) => {
+            let _told = eprintln!(rt; "ynl: --tenant and --label go together");
+            ExitCode::from(2)
+        }
         Err(WordsFault::NoMemory) => out_of_memory(&rt),
     }
 }

@@ -1,13 +1,20 @@
 -- Which words the command takes, and what they ask for.
-use Rattle.std.proofs.Common.{ℕ, ◌<◌, ◌^◌, Bool, false, length, Result, Ok, Err, arith, ◌≡◌, ◌≢◌, ◌⊎◌, inl, inr, subst, ◌&&◌, ◌∙◌, true, cond, List, [], ◌∷◌, Option, Some, None, codes, drop, refl, sym, ap, option_map, option_and_then}
+use Rattle.std.proofs.Common.{ℕ, ◌<◌, ◌^◌, Bool, false, length, Result, Ok, Err, arith, ◌≡◌, ◌≢◌, ◌⊎◌, inl, inr, subst, ◌&&◌, ◌||◌, not, is_some, ◌∙◌, true, cond, List, [], ◌∷◌, Option, Some, None, codes, drop, refl, sym, ap, option_map, option_and_then}
 use Rattle.std.specs.Prelude.{Box}
 use Rattle.std.specs.Box.{box_value}
+use Rattle.std.specs.Cmp.Lexicographic.{bytes_decides}
+use Rattle.std.specs.Option.{option_zip}
+use Rattle.std.specs.Str.{bytes_eq}
+use Rattle.std.proofs.lemmas.Bool.{and_parts}
+use mathlib.Core.Bool.{true≢false}
+use Rattle.ynl_resource.specs.declared.names.Name.{Name}
+use Rattle.ynl_resource.specs.declared.labels.Label.{Label}
 use Rattle.std.specs.Str.{all_ascii_digits}
 use Rattle.std.specs.Str.Parse.{digits_value, IsNumeral}
 use Rattle.std.specs.Result.{OkIff, result_ok}
 use Rattle.std.proofs.lemmas.Bool.Decides.{nat_tests}
 use Rattle.std.proofs.lemmas.Str.Parse.{IsNumeralModel, numerals_by_value, tells_all_ascii_digits}
-use Rattle.clap.specs.Walk.{Text, Row, nothing_held, stop_after}
+use Rattle.clap.specs.Walk.{Text, Row, first_of, nothing_held, stop_after}
 use Rattle.clap.specs.Simple.{built, entered, is_simple, names_of, subcommand_rows}
 use Rattle.clap.specs.Takes.{takes, built_takes}
 use Rattle.clap.specs.Faults.{is_simple_and_free}
@@ -21,10 +28,10 @@ use Rattle.clap.specs.declared.parser.matches.ArgMatches.TheViews.{out-SubComman
 use Rattle.clap.specs.declared.parser.matches.SubCommand.{SubCommand}
 use Rattle.clap.proofs.OnLiterals.{clap_on_literals}
 use Rattle.ynl_tool.specs.declared.words.Kind.TheVariants.{Sequential}
-use Rattle.ynl_tool.specs.declared.words.SequentialKind.TheVariants.{Run}
+use Rattle.ynl_tool.specs.declared.words.SequentialKind.TheVariants.{Run, Audit, AuditEvidence}
 use Rattle.ynl_tool.specs.declared.words.WordsFault.{WordsFault}
 use Rattle.ynl_tool.specs.declared.words.WordsFault.TheVariants.{Words, NoMemory}
-use Rattle.ynl_tool.specs.Words.{command, is_number, number_of, kind_met, kind_of}
+use Rattle.ynl_tool.specs.Words.{command, has_option, is_number, is_unpaired, label_in, name_in, number_of, kind_met, kind_of}
 
 pub taken : (words : List Text) → drop 1 words ≡ codes "run" ∷ [] → takes command words ≡ true
 unfolding clap_on_literals
@@ -95,3 +102,23 @@ pub met_of : (a : App) (words : List Text) (m : ArgMatches) (name : Text) (rows 
     → Some rows ≡ option_map (λ p. p.1) (subcommand_rows_of m) → subcommand_of command words ≡ Some (name, rows)
 met_of a words m name rows same matches named given =
     ap (λ b. subcommand_of b words) (sym same) ∙ sym (matches (ap is_simple same ∙ command_simple)).1 ∙ met_is _ name rows named given
+
+-- ---- an audit of one option alone
+
+zip-none : (o : Option Name) → option_map (λ (p : Name × Label). Sequential (AuditEvidence p.0 p.1)) (option_zip o None) ≡ None
+zip-none None = refl
+zip-none (Some name) = refl
+
+-- with the tenant or the label alone an audit asks for nothing
+audit-none : (a b : Option Text) → ((is_some a && not (is_some b)) || (not (is_some a) && is_some b)) ≡ true
+    → cond (not (is_some a) && not (is_some b)) (Some (Sequential Audit)) (option_map (λ (p : Name × Label). Sequential (AuditEvidence p.0 p.1)) (option_zip (option_and_then name_in a) (option_and_then label_in b))) ≡ None
+audit-none None None h = absurd (true≢false (sym h))
+audit-none (Some x) None h = zip-none (name_in x)
+audit-none None (Some y) h = refl
+audit-none (Some x) (Some y) h = absurd (true≢false (sym h))
+
+pub unpaired-none : (met : Text × List Row) → is_unpaired met ≡ true → kind_met met ≡ None
+unpaired-none met h =
+    let parts = and_parts (bytes_eq met.0 (codes "audit")) ((has_option (codes "tenant") met.1 && not (has_option (codes "label") met.1)) || (not (has_option (codes "tenant") met.1) && has_option (codes "label") met.1)) h in
+    let named : met.0 ≡ codes "audit" = (bytes_decides met.0 (codes "audit")).0 parts.0 in
+    ap (λ (name : Text). kind_met (name, met.1)) named ∙ audit-none (first_of (codes "tenant") met.1) (first_of (codes "label") met.1) parts.1

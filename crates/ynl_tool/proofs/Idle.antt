@@ -9,11 +9,14 @@ use Rattle.ynl_model.specs.View.{is_sole}
 use Rattle.ynl_config.specs.declared.faults.ConfigFault.{ConfigFault}
 use Rattle.ynl_tool.specs.declared.run.ToolFault.TheVariants.{NoMemory}
 use Rattle.ynl_tool.specs.declared.words.SequentialKind.{SequentialKind}
-use Rattle.ynl_tool.specs.declared.words.SequentialKind.TheVariants.{Run, Tenant, Audit, Explain}
-use Rattle.ynl_tool.specs.Jobs.{Doing, Ending, IsIdle, DoesSequentialJob, DoesWith, EndsWithout, LivesJob, TellsJob}
+use Rattle.ynl_tool.specs.declared.words.SequentialKind.TheVariants.{Run, Tenant, Audit, Evidence, AuditEvidence, Explain}
+use Rattle.ynl_tool.specs.Jobs.{Doing, Ending, IsIdle, DoesSequentialJob, DoesWith, EndsWithout, LivesJob, TellsJob, AnswersJob, tenancy}
 use Rattle.ynl_tool.specs.Input.{between}
 use Rattle.ynl_tool.proofs.Runs.{stops_at_once}
-use Rattle.ynl_tool.specs.Audit.{audit_way}
+use Rattle.ynl_tool.specs.Audit.{audit_way, journal_way}
+use Rattle.ynl_tool.specs.Evidence.{evidence_answer, evidence_way, placed_answer}
+use Rattle.ynl_tool.specs.Readings.{Way, Reading}
+use Rattle.ynl_tool.specs.Run.{Outcome}
 use Rattle.ynl_tool.specs.Script.{script_way}
 use Rattle.ynl_tool.proofs.Readings.{nothing_read}
 
@@ -24,6 +27,10 @@ module _ (old wold : Option (List ℕ)) where
   idle_by : (c : Config) (t : Name) (p : Label) (sole : Bool) → TellsJob (between old old) (between wold wold) true c t p sole (Err NoMemory)
   idle_by c t p true = inl (record { read = nothing_read script_way old NoMemory; unwritten = Appends-nil wold })
   idle_by c t p false = (refl, idle)
+
+  idle_answer : {S F : Type 0} (w : Way S F) (answer : Reading S F → Outcome) (sole : Bool) → AnswersJob w answer (between old old) (between wold wold) sole (Err NoMemory)
+  idle_answer w answer true = inl (record { read = nothing_read w old NoMemory; unwritten = Appends-nil wold })
+  idle_answer w answer false = (refl, idle)
 
   -- nothing was read or written for want of memory
   IdlesAt : Doing → Type 0
@@ -41,6 +48,8 @@ module _ (old wold : Option (List ℕ)) where
   idle_job Run = λ c. stops_at_once old wold c (opening c)
   idle_job (Tenant t p) = λ c. idle_by c t p (is_sole c t p)
   idle_job Audit = λ c. inl (record { read = nothing_read (audit_way c) old NoMemory; unwritten = Appends-nil wold })
+  idle_job (Evidence t p) = λ c. idle_answer journal_way (evidence_answer (tenancy c t p)) (is_sole c t p)
+  idle_job (AuditEvidence t p) = λ c. idle_answer (evidence_way (tenancy c t p)) placed_answer (is_sole c t p)
   idle_job (Explain q) = λ c. inl (record { read = nothing_read script_way old NoMemory; unwritten = Appends-nil wold })
 
   idle_live : (rounds : ℕ) → IdlesAt (LivesJob rounds)

@@ -1,7 +1,10 @@
+pub mod Answerings
 pub mod Audited
 pub mod Audits
 pub mod Commands
+pub mod Evidences
 pub mod Explainings
+pub mod Handed
 pub mod Fronts
 pub mod Held
 pub mod Idle

@@ -15,7 +15,12 @@ use Rattle.ynl_tool.specs.declared.run.ToolFault.TheVariants.{Read, Write, NoMem
 use Rattle.ynl_tool.specs.declared.run.Summary.{Summary}
 use Rattle.ynl_tool.specs.Input.{Stream}
 use Rattle.ynl_tool.specs.Lines.{AppendsFront}
-use Rattle.ynl_tool.specs.Run.{line_of}
+use Rattle.ynl_tool.specs.declared.evidence.Tenancy.{Tenancy}
+use Rattle.ynl_tool.specs.Answering.{Answers}
+use Rattle.ynl_tool.specs.Audit.{journal_way}
+use Rattle.ynl_tool.specs.Evidence.{evidence_answer, evidence_way, placed_answer}
+use Rattle.ynl_tool.specs.Readings.{Way, Reading}
+use Rattle.ynl_tool.specs.Run.{line_of, Outcome}
 use Rattle.ynl_tool.specs.Running.{Runs}
 use Rattle.ynl_tool.specs.Auditing.{AuditsJournal}
 use Rattle.ynl_tool.specs.Explaining.{Explains}
@@ -25,7 +30,7 @@ use Rattle.ynl_tool.specs.declared.explaining.Question.{Question}
 use Rattle.ynl_tool.specs.declared.jobs.JobRefusal.{JobRefusal}
 use Rattle.ynl_tool.specs.declared.jobs.JobRefusal.TheVariants.{Config, NotSole}
 use Rattle.ynl_tool.specs.declared.words.SequentialKind.{SequentialKind}
-use Rattle.ynl_tool.specs.declared.words.SequentialKind.TheVariants.{Run, Tenant, Audit, Explain}
+use Rattle.ynl_tool.specs.declared.words.SequentialKind.TheVariants.{Run, Tenant, Audit, Evidence, AuditEvidence, Explain}
 
 -- how many bytes of a configuration are read at most: one more than it may have
 abbrev pub most_read : ℕ
@@ -104,6 +109,25 @@ TellsJob reader writer accepted c t p true (Ok (Err refusal)) = ⊥
 TellsJob reader writer accepted c t p true (Err e) = TellsTenant reader writer accepted c t p (Err e)
 TellsJob reader writer accepted c t p false ended = NotBegun reader writer NotSole ended
 
+-- a cluster's tenant and partition
+abbrev pub tenancy : Configured → Name → Label → Tenancy
+tenancy c t p = record { config = c; tenant = t; label = p }
+
+-- a job that writes only once reading has ended, where the tenant is alone
+abbrev pub AnswersJob : {S F : Type 0} → Way S F → (Reading S F → Outcome) → Stream → Stream → Bool → Ending → Type 0
+AnswersJob w answer reader writer true (Ok (Ok summary)) = Answers w answer reader writer (Ok summary)
+AnswersJob w answer reader writer true (Ok (Err refusal)) = ⊥
+AnswersJob w answer reader writer true (Err e) = Answers w answer reader writer (Err e)
+AnswersJob w answer reader writer false ended = NotBegun reader writer NotSole ended
+
+-- the evidence of a journal is written
+abbrev pub HandsJob : Stream → Stream → Tenancy → Ending → Type 0
+HandsJob reader writer whose ended = AnswersJob journal_way (evidence_answer whose) reader writer (is_sole whose.config whose.tenant whose.label) ended
+
+-- evidence is audited
+abbrev pub AuditsEvidenceJob : Stream → Stream → Tenancy → Ending → Type 0
+AuditsEvidenceJob reader writer whose ended = AnswersJob (evidence_way whose) placed_answer reader writer (is_sole whose.config whose.tenant whose.label) ended
+
 -- a session of so many rounds is told, in which no worker is halted
 abbrev pub LivesJob : ℕ → Stream → Stream → Configured → Ending → Type 0
 LivesJob rounds reader writer c (Ok (Ok summary)) = Lives ⊤ reader writer c rounds (Ok summary)
@@ -115,6 +139,8 @@ abbrev pub DoesSequentialJob : Bool → SequentialKind → Stream → Stream →
 DoesSequentialJob accepted Run reader writer c ended = RunsJob reader writer c ended
 DoesSequentialJob accepted (Tenant t p) reader writer c ended = TellsJob reader writer accepted c t p (is_sole c t p) ended
 DoesSequentialJob accepted Audit reader writer c ended = AuditsJob reader writer c ended
+DoesSequentialJob accepted (Evidence t p) reader writer c ended = HandsJob reader writer (tenancy c t p) ended
+DoesSequentialJob accepted (AuditEvidence t p) reader writer c ended = AuditsEvidenceJob reader writer (tenancy c t p) ended
 DoesSequentialJob accepted (Explain q) reader writer c ended = ExplainsJob reader writer c q ended
 
 -- what a job does to its reader and its writer with a cluster of a configuration, and how it ends

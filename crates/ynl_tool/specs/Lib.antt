@@ -1,8 +1,11 @@
+pub mod Answering
 pub mod Audit
 pub mod Audited
 pub mod Auditing
 pub mod Checking
+pub mod Evidence
 pub mod Explaining
+pub mod Handed
 pub mod Input
 pub mod Jobs
 pub mod Keeping

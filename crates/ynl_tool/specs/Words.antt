@@ -1,5 +1,5 @@
 -- The command line.
-use Rattle.std.specs.Prelude.{◌≡◌, ℕ, Bool, true, ◌&&◌, List, [], ◌∷◌, length, nat_lt, nat_le, Option, Some, None, option_and_then, option_map, codes, if◌then◌else◌}
+use Rattle.std.specs.Prelude.{◌≡◌, ℕ, Bool, true, not, ◌&&◌, ◌||◌, List, [], ◌∷◌, length, nat_lt, nat_le, Option, Some, None, is_some, option_and_then, option_map, codes, if◌then◌else◌}
 use Rattle.std.specs.Option.{option_map_or, option_zip}
 use Rattle.std.specs.Result.{result_ok}
 use Rattle.std.specs.Str.{bytes_eq, all_ascii_digits}
@@ -16,7 +16,7 @@ use Rattle.ynl_tool.specs.declared.words.Kind.{Kind}
 use Rattle.ynl_check.specs.declared.checking.Form.{Form}
 use Rattle.ynl_check.specs.declared.checking.Form.TheVariants.{Lines, Plain}
 use Rattle.ynl_tool.specs.declared.words.Kind.TheVariants.{Sequential, Check, Live}
-use Rattle.ynl_tool.specs.declared.words.SequentialKind.TheVariants.{Run, Tenant, Audit, Explain}
+use Rattle.ynl_tool.specs.declared.words.SequentialKind.TheVariants.{Run, Tenant, Audit, Evidence, AuditEvidence, Explain}
 
 -- the option `--config FILE`
 abbrev pub config_rule : Rule
@@ -58,9 +58,21 @@ with_options a first second = with_rule (with_rule (with_rule a first) second) c
 abbrev pub tenant_command : App
 tenant_command = with_options (new_app (codes "tenant")) tenant_rule label_rule
 
+-- the option `--tenant NAME` of an audit
+abbrev pub audit_tenant_rule : Rule
+audit_tenant_rule = record (new_rule (codes "tenant")) { long = Some (codes "tenant"); value_names = 1 }
+
+-- the option `--label LABEL` of an audit
+abbrev pub audit_label_rule : Rule
+audit_label_rule = record (new_rule (codes "label")) { long = Some (codes "label"); value_names = 1 }
+
 -- the subcommand `audit`
 abbrev pub audit_command : App
-audit_command = with_rule (new_app (codes "audit")) config_rule
+audit_command = with_options (new_app (codes "audit")) audit_tenant_rule audit_label_rule
+
+-- the subcommand `evidence`
+abbrev pub evidence_command : App
+evidence_command = with_options (new_app (codes "evidence")) tenant_rule label_rule
 
 -- the subcommand `explain`
 abbrev pub explain_command : App
@@ -78,13 +90,17 @@ live_command = with_options (new_app (codes "live")) workers_rule rounds_rule
 abbrev pub bare_command : App
 bare_command = on_top (λ s. record s { subcommand_required = true }) (new_app (codes "ynl"))
 
--- the command `ynl` without `explain`, `check` and `live`
+-- the command `ynl` without `evidence`, `explain`, `check` and `live`
 abbrev pub command_of_journals : App
 command_of_journals = with_subcommand (with_subcommand (with_subcommand bare_command run_command.top) tenant_command.top) audit_command.top
 
+-- the same with `evidence`
+abbrev pub command_of_evidence : App
+command_of_evidence = with_subcommand command_of_journals evidence_command.top
+
 -- the same with `explain`
 abbrev pub command_of_explanations : App
-command_of_explanations = with_subcommand command_of_journals explain_command.top
+command_of_explanations = with_subcommand command_of_evidence explain_command.top
 
 -- the same with `check`
 abbrev pub command_of_checks : App
@@ -122,10 +138,33 @@ form_met rows = option_map_or form_in (first_of (codes "plain") rows) Lines
 abbrev pub name_met : Text → List Row → Option Name
 name_met option rows = option_and_then name_in (first_of option rows)
 
--- what `tenant` asks for with its options: both are to be there
+-- the tenant and the label that the options give: both are to be there
+abbrev pub partition_met : List Row → Option (Name × Label)
+partition_met rows = option_zip (name_met (codes "tenant") rows) (option_and_then label_in (first_of (codes "label") rows))
+
+-- what `tenant` asks for with its options
 abbrev pub tenant_met : List Row → Option Kind
-tenant_met rows =
-    option_map (λ p. Sequential (Tenant p.0 p.1)) (option_zip (name_met (codes "tenant") rows) (option_and_then label_in (first_of (codes "label") rows)))
+tenant_met rows = option_map (λ p. Sequential (Tenant p.0 p.1)) (partition_met rows)
+
+-- what `evidence` asks for with its options
+abbrev pub evidence_met : List Row → Option Kind
+evidence_met rows = option_map (λ p. Sequential (Evidence p.0 p.1)) (partition_met rows)
+
+-- whether an option is given
+abbrev pub has_option : Text → List Row → Bool
+has_option option rows = is_some (first_of option rows)
+
+-- what `audit` asks for with its options: without tenant and label the audit of a journal, and else that of evidence
+abbrev pub audit_met : List Row → Option Kind
+audit_met rows =
+    if not (has_option (codes "tenant") rows) && not (has_option (codes "label") rows) then Some (Sequential Audit)
+    else option_map (λ p. Sequential (AuditEvidence p.0 p.1)) (partition_met rows)
+
+-- whether an audit is given the tenant or the label alone
+abbrev pub is_unpaired : Text × List Row → Bool
+is_unpaired met =
+    bytes_eq met.0 (codes "audit")
+    && ((has_option (codes "tenant") met.1 && not (has_option (codes "label") met.1)) || (not (has_option (codes "tenant") met.1) && has_option (codes "label") met.1))
 
 -- a question on a tenant's application
 abbrev pub question : Form → Name × Name → Question
@@ -177,7 +216,8 @@ check_met rows = Check (form_met rows)
 abbrev pub kind_met : Text × List Row → Option Kind
 kind_met met =
     if bytes_eq met.0 (codes "tenant") then tenant_met met.1
-    else if bytes_eq met.0 (codes "audit") then Some (Sequential Audit)
+    else if bytes_eq met.0 (codes "audit") then audit_met met.1
+    else if bytes_eq met.0 (codes "evidence") then evidence_met met.1
     else if bytes_eq met.0 (codes "explain") then explain_met met.1
     else if bytes_eq met.0 (codes "live") then live_met met.1
     else if bytes_eq met.0 (codes "check") then Some (check_met met.1)
@@ -190,3 +230,7 @@ kind_of words = option_and_then kind_met (subcommand_of command words)
 -- a subcommand was found, and what it is given for a name, a label or a number is none
 abbrev pub HasBadName : List Text → Type 0
 HasBadName words = (met : Text × List Row) × (subcommand_of command words ≡ Some met) × (kind_met met ≡ None)
+
+-- a subcommand was found that is an audit, which is given the tenant or the label alone
+abbrev pub IsUnpaired : List Text → Type 0
+IsUnpaired words = (met : Text × List Row) × (subcommand_of command words ≡ Some met) × (is_unpaired met ≡ true)

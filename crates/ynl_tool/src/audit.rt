@@ -1,6 +1,7 @@
 //! The audit of a journal: whether each line is its next entry, and each reply that is there the cluster's.
 
-ghost use Rattle.std.specs.Prelude.{◌≡◌, ◌≢◌, ◌+◌, ◌<◌, ◌≤◌, [], IfOk, IfErr, OnErr, IsUtf8};
+ghost use Rattle.std.specs.Prelude.{◌≡◌, ◌≢◌, ◌+◌, ◌<◌, ◌≤◌, [], IfOk, IfErr, IfSome, OnErr, IsUtf8};
+ghost use Rattle.ynl_lines.specs.ReadingReplies.{MayBeTold};
 ghost use Rattle.ynl_tool.specs.declared.run.ToolFault.TheVariants.{Read};
 ghost use Rattle.ynl_tool.specs.Input.{between, limit};
 ghost use Rattle.ynl_tool.specs.Audit.{answer_of, entry_said, if_read};
@@ -24,7 +25,9 @@ fn next_entry(
     entries: u64,
     read: Result<(u64, Entry), BadLine>,
 ) -> Result<Option<Entry>, JournalFault>
-    ensures { result ≡ if_read entries read }
+    requires { IfOk read (λ line. MayBeTold line.1.event line.1.reply) }
+    ensures said { result ≡ if_read entries read }
+    ensures told { IfOk result (λ found. IfSome found (λ e. MayBeTold e.event e.reply)) }
 {
     let Ok((place, entry)) = read else {
         return Err(JournalFault::Line);
@@ -38,13 +41,14 @@ fn next_entry(
 
 /// What a line says after so many entries: the next entry, or nothing where it is blank; or the line's
 /// fault. Bytes that are no text take no memory.
-fn entry_said(
+pub(crate) fn entry_said(
     alloc: Global,
     lines: &mut LineReader,
     entries: u64,
     line: &[u8],
 ) -> Result<Result<Option<Entry>, JournalFault>, AllocError>
     ensures said { IfOk result (λ said. said ≡ entry_said entries line.now) }
+    ensures told { IfOk result (λ said. IfOk said (λ found. IfSome found (λ e. MayBeTold e.event e.reply))) }
     ensures text { OnErr result (IsUtf8 line.now) }
 {
     if is_blank(line) {
@@ -115,10 +119,10 @@ impl Audit {
 /// What an audit found: how many entries pass, how many lines were read for them, and the fault that
 /// ended them, if one did.
 #[derive(Clone, Copy)]
-struct Found {
-    entries: u64,
-    lines: u64,
-    fault: Option<JournalFault>,
+pub(crate) struct Found {
+    pub(crate) entries: u64,
+    pub(crate) lines: u64,
+    pub(crate) fault: Option<JournalFault>,
 }
 
 /// Audits the journal of the reader, to its end or to the first line with a fault.
@@ -161,7 +165,11 @@ fn audit_entries<R: BufRead>(
 }
 
 /// Writes what an audit found.
-fn tell<W: Write>(alloc: Global, found: Found, writer: &mut W) -> Result<Summary, ToolFault>
+pub(crate) fn tell<W: Write>(
+    alloc: Global,
+    found: Found,
+    writer: &mut W,
+) -> Result<Summary, ToolFault>
     ensures text { Writes (W.contents writer.old) (W.contents writer.new) (answer_of found.entries found.lines found.fault) result }
     ensures fault { IfErr result (λ e. e ≢ Read) }
 {

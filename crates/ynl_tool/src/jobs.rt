@@ -5,11 +5,13 @@ ghost use Rattle.ynl_config.specs.Meaning.{config_of};
 ghost use Rattle.ynl_model.specs.Accepted.{is_accepted};
 ghost use Rattle.ynl_tool.specs.Input.{between};
 ghost use Rattle.ynl_tool.specs.Lines.{AppendsFront};
-ghost use Rattle.ynl_tool.specs.Jobs.{error_line, config_line, refusal_line, status_by, status_of, DoesSequentialJob, DoesText, EndsWithout, Executes, LivesJob, Tells};
+ghost use Rattle.ynl_tool.specs.Jobs.{error_line, config_line, refusal_line, status_by, status_of, tenancy, AuditsEvidenceJob, DoesSequentialJob, DoesText, EndsWithout, Executes, HandsJob, LivesJob, Tells};
 ghost use Rattle.ynl_tool.specs.Checking.{verdict_status, ExecutesCheck};
 
 use crate::audit::audit_lines;
 use crate::checking::check_text;
+use crate::evidence::{Tenancy, evidence_lines};
+use crate::evidence_audit::audit_evidence_lines;
 use crate::explaining::explain_lines;
 use crate::lines_out::{write_text, write_three};
 use crate::live::{FreeGate, live_lines};
@@ -25,6 +27,7 @@ use thiserror::Error;
 use ynl_check::{Form, Verdict};
 use ynl_config::{ConfigFault, read_config};
 use ynl_queues::Config;
+use ynl_resource::{Label, Name};
 use ynl_view::sole;
 
 /// Why a job is not begun: nothing is read or written then.
@@ -79,6 +82,52 @@ fn tell_refusal<E: Write>(errors: &mut E, refusal: JobRefusal)
 /// How a job ends.
 type Ending = Result<Result<Summary, JobRefusal>, ToolFault>;
 
+fn tenancy(config: Config, tenant: Name, label: Label) -> Tenancy
+    ensures { result ≡ tenancy config tenant label }
+{
+    Tenancy {
+        config,
+        tenant,
+        label,
+    }
+}
+
+/// Writes the evidence of a journal, if the tenant is alone on the partition.
+fn hand_evidence<R: BufRead, W: Write>(
+    alloc: Global,
+    whose: &Tenancy,
+    reader: &mut R,
+    writer: &mut W,
+) -> Ending
+    ensures { HandsJob (between (R.remaining reader.old) (R.remaining reader.new)) (between (W.contents writer.old) (W.contents writer.new)) whose.now result }
+{
+    if !sole(&whose.config, &whose.tenant, &whose.label) {
+        return Ok(Err(JobRefusal::NotSole));
+    }
+    match evidence_lines(alloc, whose, reader, writer) {
+        Ok(summary) => Ok(Ok(summary)),
+        Err(fault) => Err(fault),
+    }
+}
+
+/// Audits evidence, if the tenant is alone on the partition.
+fn audit_evidence<R: BufRead, W: Write>(
+    alloc: Global,
+    whose: &Tenancy,
+    reader: &mut R,
+    writer: &mut W,
+) -> Ending
+    ensures { AuditsEvidenceJob (between (R.remaining reader.old) (R.remaining reader.new)) (between (W.contents writer.old) (W.contents writer.new)) whose.now result }
+{
+    if !sole(&whose.config, &whose.tenant, &whose.label) {
+        return Ok(Err(JobRefusal::NotSole));
+    }
+    match audit_evidence_lines(alloc, whose, reader, writer) {
+        Ok(summary) => Ok(Ok(summary)),
+        Err(fault) => Err(fault),
+    }
+}
+
 /// Does the job with a cluster of this configuration.
 fn do_job<R: BufRead, W: Write>(
     alloc: Global,
@@ -107,6 +156,14 @@ fn do_job<R: BufRead, W: Write>(
             Ok(summary) => Ok(Ok(summary)),
             Err(fault) => Err(fault),
         },
+        SequentialKind::Evidence(tenant, label) => {
+            let whose = tenancy(config, tenant, label);
+            hand_evidence(alloc, &whose, reader, writer)
+        }
+        SequentialKind::AuditEvidence(tenant, label) => {
+            let whose = tenancy(config, tenant, label);
+            audit_evidence(alloc, &whose, reader, writer)
+        }
         SequentialKind::Explain(question) => {
             match explain_lines(alloc, config, &question, reader, writer) {
                 Ok(summary) => Ok(Ok(summary)),

@@ -5,6 +5,8 @@
 pub use audit::audit_lines;
 pub use checking::check_text;
 pub use config_text::{fault_of, read_text};
+pub use evidence::{Tenancy, evidence_lines};
+pub use evidence_audit::audit_evidence_lines;
 pub use explaining::{Question, explain_lines};
 pub use jobs::{execute_check, execute_live, execute_sequential, tell};
 pub use live::live_lines;
@@ -18,9 +20,13 @@ pub use ynl_config::BUILT_IN;
 
 mod audit;
 pub mod audit_laws;
+mod audit_words;
 mod check_words;
 mod checking;
 mod config_text;
+mod evidence;
+mod evidence_audit;
+pub mod evidence_laws;
 mod explain_words;
 mod explaining;
 mod jobs;

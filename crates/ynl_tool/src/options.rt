@@ -11,12 +11,14 @@ ghost use Rattle.ynl_tool.specs.Words as spec;
 use clap::{Arg, ArgAction, ArgMatches, Command};
 use std::alloc::{AllocError, Global};
 use ynl_check::Form;
-use ynl_resource::Name;
+use ynl_resource::{Label, Name};
 
 const CONFIG_HELP: &str =
     "The configuration, a TOML text, of which ynl check tells what it says or where its fault is; without it there is one queue, root.eng, and one label, gpu";
 
 const TENANT_HELP: &str = "The tenant, by the name of its top-level queue";
+
+const LABEL_HELP: &str = "The label of its partition";
 
 /// The option that names the file of the configuration.
 pub(crate) fn config_option<'a>(alloc: Global) -> Arg<'a>
@@ -38,6 +40,18 @@ pub(crate) fn tenant_option<'a>(alloc: Global) -> Arg<'a>
         .long("tenant")
         .value_name("NAME")
         .help(TENANT_HELP)
+        .required(true)
+}
+
+/// The option that names the label.
+pub(crate) fn label_option<'a>(alloc: Global) -> Arg<'a>
+    ensures rule { rule_of result ≡ spec.label_rule }
+    ensures local { result.global ≡ false }
+{
+    Arg::new(alloc, "label")
+        .long("label")
+        .value_name("LABEL")
+        .help(LABEL_HELP)
         .required(true)
 }
 
@@ -102,6 +116,25 @@ pub(crate) fn name_in(text: Option<&str>) -> Option<Name>
         Some(text) => Name::parse(text).ok(),
         None => None,
     }
+}
+
+/// The label that a text is.
+pub(crate) fn label_in(text: Option<&str>) -> Option<Label>
+    ensures { result ≡ option_and_then spec.label_in (option_map (λ s. s.now) text.entry) }
+{
+    match text {
+        Some(text) => Label::parse(text).ok(),
+        None => None,
+    }
+}
+
+/// The tenant and the label that are given.
+pub(crate) fn partition_in(options: &ArgMatches<'_>) -> Option<(Name, Label)>
+    ensures { result ≡ spec.partition_met (rows_of (found_of options.now)) }
+{
+    let tenant = name_in(value_in(options, "tenant"));
+    let label = label_in(value_in(options, "label"));
+    tenant.zip(label)
 }
 
 /// The form that the flag asks for, by the text of its value.

@@ -13,15 +13,18 @@ ghost use Rattle.clap.specs.declared.error.Error.{Error};
 ghost use Rattle.clap.specs.Words.{found_of, rows_of};
 ghost use Rattle.clap.specs.declared.builder.command.Command.TheViews.{out-Command as fields_of};
 ghost use Rattle.ynl_tool.specs.Words as spec;
-ghost use Rattle.ynl_tool.specs.declared.words.WordsFault.TheVariants.{Words, BadName, NoMemory};
+ghost use Rattle.ynl_tool.specs.declared.words.WordsFault.TheVariants.{Words, BadName, Unpaired, NoMemory};
 
+use crate::audit_words::{audit_command, audit_kind, evidence_command, evidence_kind, is_unpaired};
 use crate::check_words::{check_command, check_kind};
 use crate::explain_words::{explain_command, explain_kind};
 use crate::explaining::Question;
 use crate::live_words::{Workers, live_command, live_kind};
-use crate::options::{config_option, name_in, tenant_option, value_in, with_options};
+use crate::options::{
+    config_option, label_option, partition_in, tenant_option, value_in, with_options,
+};
 use clap::error::ErrorKind;
-use clap::{Arg, ArgMatches, Command};
+use clap::{ArgMatches, Command};
 use std::alloc::{AllocError, Global};
 use thiserror::Error;
 use ynl_check::Form;
@@ -36,6 +39,10 @@ pub enum SequentialKind {
     Tenant(Name, Label),
     /// To audit the journal that an input is.
     Audit,
+    /// To hand a tenant what the partition of a label keeps of the journal that an input is.
+    Evidence(Name, Label),
+    /// To audit an input as a tenant's evidence on the partition of a label.
+    AuditEvidence(Name, Label),
     /// To explain why an application of a tenant waits after an input.
     Explain(Question),
 }
@@ -68,6 +75,9 @@ pub enum WordsFault {
     /// The tenant or the application is no name, or the label is none.
     #[error("the tenant or the application is no name, or the label is none")]
     BadName,
+    /// Of the tenant and the label of an audit one is given alone.
+    #[error("--tenant and --label go together")]
+    Unpaired,
     /// Memory was refused.
     #[error("out of memory")]
     NoMemory,
@@ -116,6 +126,7 @@ Examples:
   ynl run < events > replies
   ynl tenant --tenant eng --label gpu < events
   ynl audit < journal
+  ynl evidence --tenant eng --label gpu < journal
   ynl explain --tenant eng --app j1 < events
   ynl check --config cluster.toml
   ynl live --workers 4 < events > journal";
@@ -172,50 +183,6 @@ Exit status:
 Example:
   ynl tenant --tenant eng --label gpu --config cluster.toml < events";
 
-const AUDIT_ABOUT: &str = "Checks that the replies in a journal are those of a cluster";
-
-const AUDIT_AFTER: &str = "\
-Standard input has an entry of the journal on each line, a JSON object with an event as for run, its
-place, counted from 0 over the entries, and the reply that it got. The entry of a propose may be without
-its reply. A line of blanks is passed over.
-
-  {\"event\":{\"event\":\"lost\",\"node\":\"g1\"},\"place\":6,\"reply\":{\"reply\":\"done\"}}
-
-A cluster of the configuration is given the events one after another, and its replies are compared with
-those in the journal. Once reading has ended, standard output has one line. Where all agree it tells how
-many entries there are:
-
-  {\"audit\":\"ok\",\"entries\":7}
-
-Else it tells the first line that is bad, and reading ends there: with the fault line one that is no entry,
-or whose place is not the number of the entries before it; with differs one whose reply is not the
-cluster's; and with size the line with which the input gets longer than 67108864 bytes:
-
-  {\"fault\":\"differs\",\"line\":4}
-
-Exit status:
-  0  all replies agree
-  1  a line is bad, or the input is too long; or the configuration has a fault, as a line on standard
-     error tells: nothing is read
-  2  the words of the command line are wrong, or ask for help
-  3  reading, writing or memory failed, as a line on standard error tells
-
-Example:
-  ynl audit --config cluster.toml < journal";
-
-const LABEL_HELP: &str = "The label of its partition";
-
-fn label_option<'a>(alloc: Global) -> Arg<'a>
-    ensures rule { rule_of result ≡ spec.label_rule }
-    ensures local { result.global ≡ false }
-{
-    Arg::new(alloc, "label")
-        .long("label")
-        .value_name("LABEL")
-        .help(LABEL_HELP)
-        .required(true)
-}
-
 fn run<'a>(alloc: Global) -> Result<Command<'a>, AllocError>
     ensures app { IfOk result (λ c. app_of c ≡ spec.run_command) }
     ensures local { IfOk result (λ c. (fields_of c).has_globals ≡ false) }
@@ -236,18 +203,6 @@ fn tenant<'a>(alloc: Global) -> Result<Command<'a>, AllocError>
         .about(TENANT_ABOUT)
         .after_help(TENANT_AFTER);
     with_options(alloc, bare, tenant_option(alloc), label_option(alloc))
-}
-
-/// The subcommand `audit`.
-fn audit<'a>(alloc: Global) -> Result<Command<'a>, AllocError>
-    ensures app { IfOk result (λ c. app_of c ≡ spec.audit_command) }
-    ensures local { IfOk result (λ c. (fields_of c).has_globals ≡ false) }
-{
-    let config = config_option(alloc);
-    Command::new(alloc, "audit")
-        .about(AUDIT_ABOUT)
-        .after_help(AUDIT_AFTER)
-        .arg(config)
 }
 
 /// The command without its subcommands.
@@ -287,8 +242,17 @@ fn command_of_journals<'a>(alloc: Global) -> Result<Command<'a>, AllocError>
     ensures app { IfOk result (λ c. app_of c ≡ spec.command_of_journals) }
     ensures local { IfOk result (λ c. (fields_of c).has_globals ≡ false) }
 {
-    let audit = audit(alloc)?;
+    let audit = audit_command(alloc)?;
     command_of_events(alloc)?.subcommand(audit)
+}
+
+/// The same with `evidence`.
+fn command_of_evidence<'a>(alloc: Global) -> Result<Command<'a>, AllocError>
+    ensures app { IfOk result (λ c. app_of c ≡ spec.command_of_evidence) }
+    ensures local { IfOk result (λ c. (fields_of c).has_globals ≡ false) }
+{
+    let evidence = evidence_command(alloc)?;
+    command_of_journals(alloc)?.subcommand(evidence)
 }
 
 /// The same with `explain`.
@@ -297,7 +261,7 @@ fn command_of_explanations<'a>(alloc: Global) -> Result<Command<'a>, AllocError>
     ensures local { IfOk result (λ c. (fields_of c).has_globals ≡ false) }
 {
     let explain = explain_command(alloc)?;
-    command_of_journals(alloc)?.subcommand(explain)
+    command_of_evidence(alloc)?.subcommand(explain)
 }
 
 /// The same with `check`.
@@ -318,22 +282,11 @@ fn command<'a>(alloc: Global) -> Result<Command<'a>, AllocError>
     command_of_checks(alloc)?.subcommand(live)
 }
 
-fn label_in(text: Option<&str>) -> Option<Label>
-    ensures { result ≡ option_and_then spec.label_in (option_map (λ s. s.now) text.entry) }
-{
-    match text {
-        Some(text) => Label::parse(text).ok(),
-        None => None,
-    }
-}
-
 /// What `tenant` asks for with these options, unless one of them is a bad name.
 fn tenant_kind(options: &ArgMatches<'_>) -> Option<Kind>
     ensures { result ≡ spec.tenant_met (rows_of (found_of options.now)) }
 {
-    let tenant = name_in(value_in(options, "tenant"));
-    let label = label_in(value_in(options, "label"));
-    let (tenant, label) = tenant.zip(label)?;
+    let (tenant, label) = partition_in(options)?;
     Some(Kind::Sequential(SequentialKind::Tenant(tenant, label)))
 }
 
@@ -345,7 +298,10 @@ fn kind_of(subcommand: &str, options: &ArgMatches<'_>) -> Option<Kind>
         return tenant_kind(options);
     }
     if subcommand == "audit" {
-        return Some(Kind::Sequential(SequentialKind::Audit));
+        return audit_kind(options);
+    }
+    if subcommand == "evidence" {
+        return evidence_kind(options);
     }
     if subcommand == "explain" {
         return explain_kind(options);
@@ -361,13 +317,14 @@ fn kind_of(subcommand: &str, options: &ArgMatches<'_>) -> Option<Kind>
 
 /// The job that the words ask for, with the file that `--config` names. The first word is the program's
 /// name. Words that `clap` takes give their job, unless memory is refused, or the tenant or the application
-/// is no name, or the label none. Of all others its error is told, which has one of the kinds that its definitions
+/// is no name, or the label none, or of the two an audit is given one alone. Of all others its error is told, which has one of the kinds that its definitions
 /// find.
 pub fn parse_words<'a>(alloc: Global, words: &'a [String]) -> Result<Job<'a>, WordsFault>
     ensures run { drop 1 (map string_bytes words.now) ≡ codes "run" ∷ [] → IfErr result (λ e. e ≡ NoMemory) }
     ensures kind { IfOk result (λ job. spec.kind_of (map string_bytes words.now) ≡ Some job.kind) }
     ensures good { takes spec.command (map string_bytes words.now) ≡ true → is_some (spec.kind_of (map string_bytes words.now)) ≡ true → IfErr result (λ e. e ≡ NoMemory) }
     ensures bad { IfErr result (λ e. e ≡ BadName → spec.HasBadName (map string_bytes words.now)) }
+    ensures unpaired { IfErr result (λ e. e ≡ Unpaired → spec.IsUnpaired (map string_bytes words.now)) }
     ensures words { IfErr result (λ e. (error : Error) → e ≡ Words error → IsAmong (kind_of error) (fault_of spec.command (map string_bytes words.now))) }
     ensures file { IfOk result (λ job. option_map (λ s. s.now) job.config ≡ spec.file_of (map string_bytes words.now)) }
     ensures missing { drop 1 (map string_bytes words.now) ≡ [] → IsErr result }
@@ -375,6 +332,9 @@ pub fn parse_words<'a>(alloc: Global, words: &'a [String]) -> Result<Job<'a>, Wo
     let matches = command(alloc)?.try_get_matches_from(words)?;
     match matches.subcommand() {
         Some((name, options)) => {
+            if is_unpaired(name, options) {
+                return Err(WordsFault::Unpaired);
+            }
             let Some(kind) = kind_of(name, options) else {
                 return Err(WordsFault::BadName);
             };

@@ -10,7 +10,7 @@ use Rattle.clap.specs.Words.{found_of, rows_of}
 use Rattle.ynl_tool.specs.declared.words.Kind.TheVariants.{Sequential}
 use Rattle.ynl_tool.specs.declared.words.SequentialKind.TheVariants.{Run}
 use Rattle.ynl_tool.specs.Words.{command, kind_met, file_met, kind_of as words_kind}
-use Rattle.ynl_tool.proofs.Commands.{taken, command_free, wants_memory, told_by_kind, asks_run, met_of}
+use Rattle.ynl_tool.proofs.Commands.{taken, command_free, wants_memory, told_by_kind, asks_run, met_of, unpaired-none}
 use Rattle.ynl_tool.proofs.words.parse_words.Goals as goal
 
 pub returns-in_err-matches-clause-run : goal.returns-in_err-matches-clause-run
@@ -71,3 +71,27 @@ returns-clause-kind c =
     let words = map string_bytes c.args.words.now in
     let met = met_of _ words c.in_ok-matches.matches _ _ c.in_ok-command.ensures.app c.in_ok-matches.ensures.matches c.in-Some.ensures.name c.in-Some.ensures.rows in
     ap (option_and_then kind_met) met ∙ sym c.kind_of.ensures ∙ c.in-Some-kind_of.is
+
+-- ---- the tenant or the label alone
+
+pub returns-then-is_unpaired-clause-unpaired : goal.returns-then-is_unpaired-clause-unpaired
+returns-then-is_unpaired-clause-unpaired c = λ _.
+    let words = map string_bytes c.args.words.now in
+    let met = met_of _ words c.in_ok-matches.matches _ _ c.in_ok-command.ensures.app c.in_ok-matches.ensures.matches c.in-Some.ensures.name c.in-Some.ensures.rows in
+    ((c.in-Some.name.now, rows_of (found_of c.in-Some.options.now)), met, sym c.is_unpaired.ensures ∙ c.if-is_unpaired.true)
+
+pub returns-then-is_unpaired-clause-good : goal.returns-then-is_unpaired-clause-good
+returns-then-is_unpaired-clause-good c = λ good known.
+    let words = map string_bytes c.args.words.now in
+    let met = met_of _ words c.in_ok-matches.matches _ _ c.in_ok-command.ensures.app c.in_ok-matches.ensures.matches c.in-Some.ensures.name c.in-Some.ensures.rows in
+    let asked : words_kind words ≡ None = ap (option_and_then kind_met) met ∙ unpaired-none (c.in-Some.name.now, rows_of (found_of c.in-Some.options.now)) (sym c.is_unpaired.ensures ∙ c.if-is_unpaired.true) in
+    let no : false ≡ true = sym (ap is_some asked) ∙ known in
+    absurd (cc)
+
+pub returns-then-is_unpaired-clause-run : goal.returns-then-is_unpaired-clause-run
+returns-then-is_unpaired-clause-run c = λ same.
+    let words = map string_bytes c.args.words.now in
+    let met = met_of _ words c.in_ok-matches.matches _ _ c.in_ok-command.ensures.app c.in_ok-matches.ensures.matches c.in-Some.ensures.name c.in-Some.ensures.rows in
+    let none : words_kind words ≡ None = ap (option_and_then kind_met) met ∙ unpaired-none (c.in-Some.name.now, rows_of (found_of c.in-Some.options.now)) (sym c.is_unpaired.ensures ∙ c.if-is_unpaired.true) in
+    let asked : None ≡ Some (Sequential Run) = sym none ∙ asks_run words same in
+    absurd (cc)
