@@ -12,7 +12,10 @@ use std::test::Fail;
 use std::thread::Threads;
 use ynl_config::built_in;
 use ynl_resource::{Label, Name};
-use ynl_tool::{ToolFault, audit_lines, live_lines, run_lines, tenant_lines};
+use ynl_tool::{
+    Tenancy, ToolFault, audit_evidence_lines, audit_lines, evidence_lines, live_lines, run_lines,
+    tenant_lines,
+};
 use ynl_view::sole;
 use ynl_workers::{Gate, Go, Sight};
 
@@ -54,6 +57,8 @@ enum Job {
     Run,
     Tenant,
     Audit,
+    Evidence,
+    AuditEvidence,
     Live,
 }
 
@@ -111,6 +116,37 @@ fn audit_once(alloc: Global, reader: &mut Reader<'_>, writer: &mut Sink) -> Resu
     Ok(audit_lines(alloc, built_in(alloc)?, reader, writer).err())
 }
 
+/// The tenant of the built-in configuration, and its partition.
+fn tenancy(alloc: Global) -> Result<Tenancy, Fail> {
+    Ok(Tenancy {
+        config: built_in(alloc)?,
+        tenant: Name::parse("eng")?,
+        label: Label::parse("gpu")?,
+    })
+}
+
+fn hand_once(
+    rt: &impl Abort,
+    alloc: Global,
+    reader: &mut Reader<'_>,
+    writer: &mut Sink,
+) -> Result<Ended, Fail> {
+    let whose = tenancy(alloc)?;
+    assert!(rt; sole(&whose.config, &whose.tenant, &whose.label));
+    Ok(evidence_lines(alloc, &whose, reader, writer).err())
+}
+
+fn audit_evidence_once(
+    rt: &impl Abort,
+    alloc: Global,
+    reader: &mut Reader<'_>,
+    writer: &mut Sink,
+) -> Result<Ended, Fail> {
+    let whose = tenancy(alloc)?;
+    assert!(rt; sole(&whose.config, &whose.tenant, &whose.label));
+    Ok(audit_evidence_lines(alloc, &whose, reader, writer).err())
+}
+
 /// Has so many workers go over the nodes of a script, once.
 fn live_once<R: Threads + Wait + Sync>(
     rt: &R,
@@ -126,7 +162,7 @@ fn live_once<R: Threads + Wait + Sync>(
     Ok(live_lines(rt, alloc, config, workers, 1, gate, reader, writer).err())
 }
 
-/// Why a job ended early, if it did. Neither this nor the four above have a contract, since those of the jobs would
+/// Why a job ended early, if it did. Neither this nor the six above have a contract, since those of the jobs would
 /// stand in the proof of each test.
 fn fault_of<R: Threads + Wait + Sync + Abort>(
     rt: &R,
@@ -139,6 +175,8 @@ fn fault_of<R: Threads + Wait + Sync + Abort>(
         Job::Run => run_once(alloc, reader, writer),
         Job::Tenant => tell_once(rt, alloc, reader, writer),
         Job::Audit => audit_once(alloc, reader, writer),
+        Job::Evidence => hand_once(rt, alloc, reader, writer),
+        Job::AuditEvidence => audit_evidence_once(rt, alloc, reader, writer),
         Job::Live => live_once(rt, alloc, 1, &Free::new(), reader, writer),
     }
 }
@@ -147,7 +185,7 @@ fn text_of(job: Job) -> &'static [u8] {
     match job {
         Job::Run => ALL_KINDS,
         Job::Tenant => SCRIPT,
-        Job::Audit => JOURNAL,
+        Job::Audit | Job::Evidence | Job::AuditEvidence => JOURNAL,
         Job::Live => NODE,
     }
 }
@@ -168,7 +206,8 @@ fn told_by(alloc: Global, job: Job) -> Result<Vec<u8>, Fail> {
     match job {
         Job::Run => all_replies(alloc),
         Job::Tenant => Ok(Vec::from_slice(alloc, TOLD)?),
-        Job::Audit => Ok(Vec::from_slice(alloc, PASSED)?),
+        Job::Audit | Job::AuditEvidence => Ok(Vec::from_slice(alloc, PASSED)?),
+        Job::Evidence => Ok(Vec::from_slice(alloc, JOURNAL)?),
         Job::Live => Ok(Vec::from_slice(alloc, LIVED)?),
     }
 }
@@ -302,6 +341,8 @@ fn tells_a_front(rt: HostRuntime) -> Result<(), Fail> {
     let alloc = rt.alloc();
     assert!(rt; tells_front(&rt, alloc, Job::Tenant, TOLD, 7, true)?);
     assert!(rt; tells_front(&rt, alloc, Job::Audit, PASSED, 7, false)?);
+    assert!(rt; tells_front(&rt, alloc, Job::Evidence, JOURNAL, 7, true)?);
+    assert!(rt; tells_front(&rt, alloc, Job::AuditEvidence, PASSED, 7, true)?);
     assert!(rt; tells_front(&rt, alloc, Job::Live, LIVED, 120, true)?);
     Ok(())
 }
@@ -324,6 +365,8 @@ fn tells_nothing_after_a_read_fault(rt: HostRuntime) -> Result<(), Fail> {
     let alloc = rt.alloc();
     assert!(rt; tells_nothing(&rt, alloc, Job::Tenant, REGISTER)?);
     assert!(rt; tells_nothing(&rt, alloc, Job::Audit, JOURNAL)?);
+    assert!(rt; tells_nothing(&rt, alloc, Job::Evidence, JOURNAL)?);
+    assert!(rt; tells_nothing(&rt, alloc, Job::AuditEvidence, JOURNAL)?);
     assert!(rt; tells_nothing(&rt, alloc, Job::Live, NODE)?);
     Ok(())
 }
@@ -339,8 +382,13 @@ fn play<R: Threads + Wait + Sync + Abort>(
     fault_of(rt, alloc, job, &mut reader, writer)
 }
 
+/// Whether a job writes nothing before it has all that it writes.
+fn writes_once(job: Job) -> bool {
+    matches!(job, Job::Audit | Job::Evidence | Job::AuditEvidence)
+}
+
 // Run with each allocation failing in turn: where memory is refused at the first try, which a line
-// tells, the second tells all. Whole lines may be there of the first, but none of an audit.
+// tells, the second tells all. Whole lines may be there of the first, but none of a job that writes once.
 fn tells_again<R: Threads + Wait + Sync + Abort + Print>(
     rt: &R,
     alloc: Global,
@@ -350,7 +398,7 @@ fn tells_again<R: Threads + Wait + Sync + Abort + Print>(
     if play(rt, alloc, job, writer)? == Some(ToolFault::NoMemory) {
         println!(rt; "refused")?;
         assert!(rt; told_by(alloc, job)?.starts_with(&writer.taken));
-        assert!(rt; job != Job::Audit || writer.taken.is_empty());
+        assert!(rt; !writes_once(job) || writer.taken.is_empty());
         writer.taken.clear();
         let again = play(rt, alloc, job, writer)?;
         assert!(rt; again.is_none());
@@ -378,6 +426,20 @@ fn audits_at_the_second_try(rt: HostRuntime) -> Result<(), Fail> {
     let alloc = rt.alloc();
     let mut writer = Sink::new(Vec::with_capacity(alloc, 256)?);
     tells_again(&rt, alloc, Job::Audit, &mut writer)
+}
+
+#[test]
+fn hands_evidence_at_the_second_try(rt: HostRuntime) -> Result<(), Fail> {
+    let alloc = rt.alloc();
+    let mut writer = Sink::new(Vec::with_capacity(alloc, 256)?);
+    tells_again(&rt, alloc, Job::Evidence, &mut writer)
+}
+
+#[test]
+fn audits_evidence_at_the_second_try(rt: HostRuntime) -> Result<(), Fail> {
+    let alloc = rt.alloc();
+    let mut writer = Sink::new(Vec::with_capacity(alloc, 256)?);
+    tells_again(&rt, alloc, Job::AuditEvidence, &mut writer)
 }
 
 #[test]

@@ -1,5 +1,5 @@
-//! Tests of what runs: a cluster that is refused memory, what a tenant sees of one, a book of its events, and
-//! jobs, checks and explanations whose reader or writer fails. The crates themselves have none, since a crate with
+//! Tests of what runs: a cluster that is refused memory, what a tenant sees of one, a book of its events, the
+//! evidence of one, and jobs, checks and explanations whose reader or writer fails. The crates themselves have none, since a crate with
 //! tests is proved twice.
 #![tactic(auto)]
 
@@ -7,6 +7,8 @@
 mod checks;
 #[cfg(test)]
 mod cluster;
+#[cfg(test)]
+mod evidence;
 #[cfg(test)]
 mod explanations;
 #[cfg(test)]
