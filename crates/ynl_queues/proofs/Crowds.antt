@@ -176,11 +176,3 @@ not_crowded labels rows few below =
     let c : Config = configured labels (map row_of rows) in
     let len : nat_lt 1024 (length (map row_of rows)) ≡ false = ap (λ n. nat_lt 1024 n) (length-map rows row_of) ∙ parts.0 in
     rw len (none_of (λ (queue : Path). nat_lt 64 (length (children c queue))) (λ queue. few_below labels rows queue below parts.1) (all_queues c))
-
--- where there are not too many texts there are at most 1,024 queues
-pub not_more : (rows : List WrittenRow) → are_too_many rows ≡ false → length (map row_of rows) ≤ 1024
-not_more rows few =
-    let parts = neither (nat_lt 1024 (length rows)) (list_any (λ row. nat_lt 64 (length (filter (λ other. stand_together row.path other.path) rows))) rows) few in
-    let most : nat_lt 1024 (length rows) ≡ false = parts.0 in
-    let same : length (map row_of rows) ≡ length rows = length-map rows row_of in
-    grind (arith, nat_tests)

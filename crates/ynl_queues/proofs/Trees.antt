@@ -4,13 +4,13 @@ use Rattle.std.specs.Prelude.{◌&&◌, ◌||◌, is_some}
 use Rattle.std.specs.List.{list_any, list_all, filter, position}
 use Rattle.std.proofs.lemmas.Bool.{and_parts}
 use Rattle.std.proofs.lemmas.List.Folds.{list_any_at}
-use Rattle.ynl_resource.specs.Names.{same_name, same_path, root, is_within, top_level}
+use Rattle.ynl_resource.specs.Names.{same_path, root, is_within, top_level}
 use Rattle.ynl_resource.specs.declared.names.Name.{Name}
 use Rattle.ynl_resource.specs.declared.paths.Path.{Path}
 use Rattle.ynl_resource.specs.declared.labels.Label.TheVariants.{Unlabelled}
 use Rattle.ynl_model.specs.Queues.{QueueRow, Config, Inherited, is_queue, queue_row}
 use Rattle.ynl_model.specs.View.{restrict}
-use Rattle.ynl_model.specs.Accepted.{all_differ, all_queues, parent_of}
+use Rattle.ynl_model.specs.Accepted.{all_differ, parent_of}
 use Rattle.ynl_queues.specs.Index.{HasSteps}
 use Rattle.ynl_queues.specs.Trees.{HasTree}
 use Rattle.ynl_queues.proofs.Places.{same_path_equal, no_row}

@@ -4,7 +4,7 @@ use Rattle.std.proofs.lemmas.List.Elements.{All-map}
 use Rattle.ynl_resource.specs.Texts.{path_text}
 use Rattle.ynl_model.specs.Accepted.{parent_of}
 use Rattle.ynl_model.specs.Nodes.{partition_labels}
-use Rattle.ynl_model.specs.Queues.{QueueRow, is_leaf}
+use Rattle.ynl_model.specs.Queues.{QueueRow, Config, is_leaf}
 use Rattle.ynl_check.specs.declared.shares.Portion.{Portion}
 use Rattle.ynl_check.specs.Tree.{line_if_usable, portion, state_word}
 use Rattle.ynl_check.proofs.Lists.{flat_map-map}
@@ -25,7 +25,7 @@ returns c =
     let lines : List ℕ → List ℕ → Bool → List Portion → List ℕ = λ path state leaf portions. flat_map (λ (above : Portion). line_if_usable c.args.style config row path state leaf above.label) portions in
     let path = c.as_str.ensures.value ∙ c.in_ok-path.ensures.text ∙ ap (λ (r : QueueRow). path_text r.path) c.row.view_is in
     let state = c.state_word.ensures ∙ ap (state_word config) names in
-    let leaf = c.is_leaf.ensures ∙ ap (is_leaf config) names in
+    let leaf = c.is_leaf.ensures ∙ ap (λ (d : Config). is_leaf d c.names-names.result.now) c.deref.ensures ∙ ap (is_leaf config) names in
     subst (λ (t : List ℕ). IfOk c.put_shares.result (λ longer. longer.items ≡ c.args.text.items ++ t))
     (ap (λ p. lines p c.state_word.result.now c.is_leaf.result c.args.portions.now) path
     ∙ ap (λ s. lines (path_text row.path) s c.is_leaf.result c.args.portions.now) state

@@ -1,4 +1,4 @@
-use Rattle.std.proofs.Common.{◌≡◌, ◌+◌, subst, ap, length, arith}
+use Rattle.std.proofs.Common.{◌+◌, subst, ap, length, arith}
 use Rattle.ynl_model.specs.Queues.{Config}
 use Rattle.ynl_layout.proofs.Filled.{Hold}
 use Rattle.ynl_layout.proofs.Lines.{HasLine, tree-of-lines}

@@ -1,11 +1,11 @@
-use Rattle.std.proofs.Common.{IfOk, ◌≡◌, List, true, false, rules, sym, ap, subst, ◌∙◌}
+use Rattle.std.proofs.Common.{◌≡◌, List, true, false, rules, sym, ap, ◌∙◌}
 use Rattle.std.proofs.lemmas.Result.{IfOk-weaker}
 use Rattle.std.specs.List.{list_any}
 use Rattle.ynl_resource.specs.Refusals.{first_that_holds}
 use Rattle.ynl_model.specs.Queues.{Config, QueueRow}
 use Rattle.ynl_model.specs.Accepted.{tree_faults}
-use Rattle.ynl_queues.specs.Written.{is_too_deep, are_too_many, configured, is_crowded, made_of, unless_fault, built_of}
-use Rattle.ynl_queues.proofs.Crowds.{not_crowded, not_more}
+use Rattle.ynl_queues.specs.Written.{is_too_deep, are_too_many, configured, is_crowded, made_of, unless_fault}
+use Rattle.ynl_queues.proofs.Crowds.{not_crowded}
 use Rattle.ynl_queues.proofs.Told.{told_deep, told_many, told_bad, told_tree}
 use Rattle.ynl_queues.proofs.config.Config.build.Goals as goal
 
