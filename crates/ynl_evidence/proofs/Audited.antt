@@ -1,13 +1,11 @@
 -- The audit of evidence, one entry after another.
-use Rattle.std.proofs.Common.{◌≡◌, ℕ, ◌+◌, ◌<◌, Bool, true, false, cond, ◌&&◌, List, [], ◌∷◌, ◌++◌, length, get_or, take, drop, Option, Some, None, Result, Ok, Err, refl, sym, ap, subst, ◌∙◌, arith, append-nil, length-take}
+use Rattle.std.proofs.Common.{◌≡◌, ℕ, ◌+◌, ◌<◌, Bool, true, false, cond, ◌&&◌, List, [], ◌∷◌, ◌++◌, length, get_or, take, drop, Option, Some, None, Ok, Err, refl, sym, ap, ◌∙◌, arith, length-take}
 use Rattle.std.specs.Prelude.{nat_lt}
 use Rattle.std.proofs.lemmas.Bool.Decides.{nat_tests}
 use Rattle.std.proofs.lemmas.List.{drop_more, take_more, map-append}
 use Rattle.std.proofs.lemmas.List.Folds.{list_all-append}
 use Rattle.ynl_resource.specs.declared.names.Name.{Name}
 use Rattle.ynl_resource.specs.declared.labels.Label.{Label}
-use Rattle.ynl_model.specs.declared.entries.Entry.{Entry}
-use Rattle.ynl_model.specs.declared.nodes.Tracked.{Tracked}
 use Rattle.ynl_model.specs.declared.replies.Reply.{Reply}
 use Rattle.ynl_model.specs.Queues.{Config}
 use Rattle.ynl_model.specs.Events.{step}
@@ -20,7 +18,7 @@ use Rattle.ynl_evidence.specs.declared.flaws.Flaw.{Flaw}
 use Rattle.ynl_evidence.specs.declared.flaws.Flaw.TheVariants.{NotKept, Differs}
 use Rattle.ynl_evidence.specs.declared.trial.Trial.{Trial}
 use Rattle.ynl_evidence.specs.Evidence.{Placed, entries_in, events_placed}
-use Rattle.ynl_evidence.specs.Flaws.{comes_behind, may_follow, reply_alone, taken, Found, unless_flawed, flaw_from, flaw_of}
+use Rattle.ynl_evidence.specs.Flaws.{comes_behind, may_follow, reply_alone, taken, unless_flawed, flaw_from, flaw_of}
 use Rattle.ynl_evidence.specs.Kept.{is_kept}
 use Rattle.ynl_evidence.specs.Trials.{is_behind, IsTrialOf}
 use Rattle.ynl_evidence.proofs.Kept.{events-push, track-push}

@@ -17,8 +17,8 @@ use Rattle.ynl_model.specs.declared.replies.Reply.{Reply}
 use Rattle.ynl_model.specs.Queues.{Config}
 use Rattle.ynl_model.specs.View.{tracked, is_in, relabels, kept_if, seen_of, track, track_step}
 use Rattle.ynl_journal.specs.Journal.{entry, events_in}
-use Rattle.ynl_evidence.specs.Evidence.{Placed, events_placed, evidence_of, noted, evidence_from}
-use Rattle.ynl_evidence.specs.Flaws.{comes_behind, flaw_from, flaw_of}
+use Rattle.ynl_evidence.specs.Evidence.{Placed, events_placed, noted, evidence_from}
+use Rattle.ynl_evidence.specs.Flaws.{comes_behind, flaw_from}
 use Rattle.ynl_evidence.specs.Kept.{is_kept}
 use Rattle.ynl_evidence.specs.Promises.{is_of_another, IsOwn, HasNoOthers, HandsNoOthers}
 use Rattle.ynl_evidence.proofs.Kept.{kept-is, track-push}

@@ -1,14 +1,13 @@
 -- Of a journal whose replies are the cluster's, the evidence passes its audit.
-use Rattle.std.proofs.Common.{◌≡◌, ℕ, ◌+◌, ◌≤◌, Bool, true, false, cond, not, ◌&&◌, List, [], ◌∷◌, ◌++◌, map, length, Option, Some, None, is_some, Result, Ok, Err, refl, sym, ap, subst, ◌∙◌, arith}
+use Rattle.std.proofs.Common.{◌≡◌, ℕ, ◌+◌, ◌≤◌, true, cond, ◌&&◌, List, [], ◌∷◌, ◌++◌, length, Option, Some, None, Ok, Err, refl, sym, ap, subst, ◌∙◌, arith}
 use Rattle.std.specs.Prelude.{nat_lt, IfSome}
-use Rattle.std.specs.List.{AllZip, list_all}
+use Rattle.std.specs.List.{AllZip}
 use Rattle.std.proofs.lemmas.Bool.Decides.{nat_tests}
 use Rattle.std.proofs.lemmas.List.Folds.{list_all-append}
 use Rattle.ynl_resource.specs.declared.names.Name.{Name}
 use Rattle.ynl_resource.specs.declared.labels.Label.{Label}
 use Rattle.ynl_model.specs.declared.entries.Entry.{Entry}
 use Rattle.ynl_model.specs.declared.events.Event.{Event}
-use Rattle.ynl_model.specs.declared.nodes.Tracked.{Tracked}
 use Rattle.ynl_model.specs.declared.replies.Reply.{Reply}
 use Rattle.ynl_model.specs.Queues.{Config}
 use Rattle.ynl_model.specs.Cluster.{State, opening}
@@ -26,11 +25,10 @@ use Rattle.ynl_core.proofs.RunMore.{state_push}
 use Rattle.ynl_journal.specs.Journal.{entry, events_in, FitsReply}
 use Rattle.ynl_journal.specs.Same.{fits_reply}
 use Rattle.ynl_journal.proofs.Same.{fits_decides}
-use Rattle.ynl_evidence.specs.declared.flaws.Flaw.{Flaw}
 use Rattle.ynl_evidence.specs.declared.flaws.Flaw.TheVariants.{NotKept, Differs}
 use Rattle.ynl_evidence.specs.Kept.{is_kept}
 use Rattle.ynl_evidence.specs.Evidence.{Placed, events_placed, noted, evidence_from}
-use Rattle.ynl_evidence.specs.Flaws.{comes_behind, may_follow, reply_alone, taken, Found, unless_flawed, flaw_from, flaw_of}
+use Rattle.ynl_evidence.specs.Flaws.{comes_behind, may_follow, reply_alone, taken, unless_flawed, flaw_from, flaw_of}
 use Rattle.ynl_evidence.specs.Promises.{EvidencePasses}
 use Rattle.ynl_evidence.proofs.Again.{Again, again}
 use Rattle.ynl_evidence.proofs.Kept.{is-kept, events-push, track-alone}

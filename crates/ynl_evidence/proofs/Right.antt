@@ -1,7 +1,6 @@
 -- What evidence without a flaw is.
-use Rattle.std.proofs.Common.{◌≡◌, ℕ, ◌+◌, ◌<◌, Bool, true, false, cond, ◌&&◌, List, [], ◌∷◌, ◌++◌, length, get_or, Option, Some, None, Result, Ok, Err, refl, sym, ap, subst, ◌∙◌, arith, append_assoc, append-nil}
+use Rattle.std.proofs.Common.{◌≡◌, ℕ, ◌+◌, ◌<◌, Bool, true, false, cond, List, [], ◌∷◌, ◌++◌, length, get_or, Option, None, Ok, Err, refl, sym, ap, subst, ◌∙◌, arith, append_assoc, append-nil}
 use Rattle.std.specs.Prelude.{nat_lt}
-use Rattle.std.specs.List.{list_all}
 use Rattle.std.proofs.lemmas.Bool.{and_parts}
 use Rattle.std.proofs.lemmas.Bool.Decides.{nat_tests}
 use Rattle.std.proofs.lemmas.List.{map-append}
@@ -11,17 +10,15 @@ use mathlib.Core.Bool.{true≢false}
 use Rattle.ynl_resource.specs.declared.names.Name.{Name}
 use Rattle.ynl_resource.specs.declared.labels.Label.{Label}
 use Rattle.ynl_model.specs.declared.entries.Entry.{Entry}
-use Rattle.ynl_model.specs.declared.events.Event.{Event}
 use Rattle.ynl_model.specs.Queues.{Config}
 use Rattle.ynl_model.specs.View.{track, view, events_of, restrict}
 use Rattle.ynl_journal.specs.Journal.{Agrees}
 use Rattle.ynl_journal.specs.Same.{fits_reply}
 use Rattle.ynl_journal.proofs.Longer.{agrees_push}
 use Rattle.ynl_journal.proofs.Same.{fits_decides}
-use Rattle.ynl_evidence.specs.declared.flaws.Flaw.{Flaw}
 use Rattle.ynl_evidence.specs.declared.flaws.Flaw.TheVariants.{NotKept, Differs}
 use Rattle.ynl_evidence.specs.Evidence.{Placed, entries_in, events_placed}
-use Rattle.ynl_evidence.specs.Flaws.{comes_behind, may_follow, reply_alone, taken, Found, unless_flawed, flaw_from, flaw_of}
+use Rattle.ynl_evidence.specs.Flaws.{comes_behind, may_follow, reply_alone, taken, Found, unless_flawed, flaw_from}
 use Rattle.ynl_evidence.specs.Kept.{is_kept}
 use Rattle.ynl_evidence.specs.Promises.{IsRight, FlawlessIsRight}
 use Rattle.ynl_evidence.proofs.Kept.{kept-is, events-push, view-push}

@@ -1,5 +1,5 @@
 -- What right evidence shows, and which evidence is right.
-use Rattle.std.specs.Prelude.{◌≡◌, ℕ, ◌<◌, Bool, false, not, IsTrue, List, ◌∷◌, ◌++◌, take, All, AllPairs, None}
+use Rattle.std.specs.Prelude.{◌≡◌, ◌<◌, Bool, false, not, IsTrue, List, ◌∷◌, ◌++◌, take, All, AllPairs, None}
 use Rattle.ynl_resource.specs.Names.{same_name, top_level, is_within}
 use Rattle.ynl_resource.specs.declared.names.Name.{Name}
 use Rattle.ynl_resource.specs.declared.labels.Label.{Label}

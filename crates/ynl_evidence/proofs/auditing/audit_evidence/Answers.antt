@@ -1,7 +1,7 @@
-use Rattle.std.proofs.Common.{◌≡◌, ◌<◌, ◌≤◌, List, [], length, take, drop, None, Some, Ok, ap, sym, subst, ◌∙◌, arith}
+use Rattle.std.proofs.Common.{◌≡◌, ◌<◌, ◌≤◌, List, [], length, take, drop, Ok, ap, sym, subst, ◌∙◌, arith}
 use Rattle.std.proofs.lemmas.List.{drop_all}
 use Rattle.ynl_evidence.specs.Evidence.{Placed}
-use Rattle.ynl_evidence.specs.Flaws.{flaw_from, flaw_of}
+use Rattle.ynl_evidence.specs.Flaws.{flaw_from}
 use Rattle.ynl_evidence.specs.Trials.{IsTrialOf, Takes}
 use Rattle.ynl_evidence.proofs.Audited.{flaw-on, flaw-here, more-is}
 use Rattle.ynl_evidence.proofs.Right.{flawless_is_right}
