@@ -1,0 +1,5 @@
+pub mod Rows
+pub mod Meaning
+pub mod Changes
+pub mod Sound
+pub mod Parts

@@ -1,0 +1,113 @@
+-- What the parts of an inventory mean as rows, and how they go together.
+use Rattle.std.specs.Prelude.{◌≡◌, ℕ, ◌<◌, true, nat_eq, List, [], map, filter, slice_get, Option, Some, None, IfSome}
+use Rattle.std.specs.Map.{lookup}
+use Rattle.std.specs.Option.{option_map_or, option_and_then}
+use Rattle.ynl_resource.specs.Amounts.{nothing, less, fits_in, total_of, IsSmall}
+use Rattle.ynl_resource.specs.declared.amounts.Resource.{Resource}
+use Rattle.ynl_slots.specs.Slots.{IsLive}
+use Rattle.ynl_slots.specs.declared.chain.Chain.{Chain}
+use Rattle.ynl_node_table.specs.declared.nodes.NodeRow.{NodeRow as NodePart}
+use Rattle.ynl_app_table.specs.declared.app.AppRow.{AppRow as AppPart}
+use Rattle.ynl_app_table.specs.Chains.{chain_of}
+use Rattle.ynl_container_table.specs.declared.container.Container.{Container}
+use Rattle.ynl_container_table.specs.declared.container.Role.{Role}
+use Rattle.ynl_container_table.specs.declared.container.Role.TheVariants.{Master, Ask as Asked}
+use Rattle.ynl_app_table.specs.Asks.{with_one_taken}
+use Rattle.ynl_container_table.specs.Chains.{IsNodeChain, IsAppChain}
+use Rattle.ynl_container_table.specs.Fields.{of_rows}
+use Rattle.ynl_inventory.specs.declared.partition.Placement.{Placement}
+use Rattle.ynl_inventory.specs.declared.partition.Partition.{Partition}
+use Rattle.ynl_inventory.specs.declared.inventory.Inventory.TheInside.{Inside}
+use Rattle.ynl_inventory.specs.Rows.{Rows, PartitionRow, NodeRow, AppRow}
+use Rattle.ynl_inventory.specs.Changes.{partition_of_node}
+use Rattle.ynl_inventory.specs.Sound.{IsSound, IsPlaceable}
+
+-- the container that is placed at a clock
+abbrev pub placed_on : Placement → ℕ → Container
+placed_on placed clock = record { clock = clock; node = placed.node; app = placed.app; role = placed.role; size = placed.size }
+
+-- a partition as a row
+abbrev pub partition_row : Partition → PartitionRow
+partition_row part = record { label = part.label; limit = part.limit; clock = part.clock; containers = part.containers.entries }
+
+-- a node as a row
+abbrev pub node_row : NodePart → NodeRow
+node_row part = record { name = part.name; partition = part.partition; size = part.size; stamp = part.stamp }
+
+-- an application as a row
+abbrev pub app_row : AppPart → AppRow
+app_row part = record {
+  tenant = part.tenant;
+  turn = part.turn;
+  leaf = part.leaf;
+  user = part.user;
+  home = part.home;
+  master = part.master_size;
+  asks = part.asks;
+  tickets = part.tickets;
+}
+
+-- its master is placed under a number, or one less is asked for
+abbrev pub taken_part : Role → ℕ → AppPart → AppPart
+taken_part Master number part = record part { master = Some number }
+taken_part (Asked p priority) number part = record part { asks = with_one_taken p priority part.asks }
+
+-- what a contract sees: the rows, by partition how many placements take no memory, and the chains for which applications have a place
+pub record Held : Type 0 where
+  pub rows : Rows
+  pub rooms : List ℕ
+  pub chains : List (ℕ × List (ℕ × Chain))
+
+-- what the parts mean
+abbrev pub held_of : Inside → Held
+held_of a = record {
+  rows = record {
+    paths = a.layout;
+    partitions = map partition_row a.partitions.items;
+    nodes = of_rows node_row a.nodes;
+    apps = of_rows app_row a.apps.entries;
+    tenants = map (λ listing. listing.entries) a.tenants.items;
+    users = a.users.items;
+  };
+  rooms = map (λ part. part.containers.room) a.partitions.items;
+  chains = of_rows (λ row. row.chains) a.apps.entries;
+}
+
+-- what containers of a partition use of a node
+abbrev pub used_of : List (ℕ × Container) → ℕ → Resource
+used_of containers node = total_of (λ e. e.1.size) (filter (λ e. nat_eq e.1.node node) containers)
+
+-- what is free of a node
+abbrev pub free_of : Rows → ℕ → Resource
+free_of v node = option_map_or
+    (λ row. less row.size (used_of (option_map_or (λ p. p.containers) (slice_get v.partitions row.partition) []) node))
+    (lookup (nat_eq node) v.nodes) nothing
+
+-- each node and each application has the chains of its containers, which fit on the node, and what is free of a node is what they leave
+pub record AreLinked (partitions : List Partition) (nodes : List (ℕ × NodePart)) (apps : List (ℕ × AppPart)) : Type 0 where
+  pub node : (n : ℕ) (row : NodePart) (part : Partition) → lookup (nat_eq n) nodes ≡ Some row → slice_get partitions row.partition ≡ Some part → IsNodeChain part.containers row.containers n
+  pub app : (n : ℕ) (row : AppPart) (p : ℕ) (part : Partition) → lookup (nat_eq n) apps ≡ Some row → slice_get partitions p ≡ Some part → IsAppChain part.containers (chain_of p row.chains) n
+  pub free : (n : ℕ) (row : NodePart) (part : Partition) → lookup (nat_eq n) nodes ≡ Some row → slice_get partitions row.partition ≡ Some part → row.free ≡ less row.size (used_of part.containers.entries n)
+  pub fits : (n : ℕ) (row : NodePart) (part : Partition) → lookup (nat_eq n) nodes ≡ Some row → slice_get partitions row.partition ≡ Some part → fits_in (used_of part.containers.entries n) row.size ≡ true
+  pub small : (n : ℕ) (row : NodePart) → lookup (nat_eq n) nodes ≡ Some row → IsSmall row.size
+
+-- the container of a number in a partition
+abbrev pub held_at : Rows → ℕ → ℕ → Option Container
+held_at v p number = option_and_then (λ row. lookup (nat_eq number) row.containers) (slice_get v.partitions p)
+
+-- its master is no more, if that was the container
+abbrev pub released_part : Role → AppPart → AppPart
+released_part Master part = record part { master = None }
+released_part (Asked p priority) part = part
+
+-- the rows are sound, and the parts go together
+pub record IsInventory (a : Inside) : Type 0 where
+  pub sound : IsSound (held_of a).rows
+  pub linked : AreLinked a.partitions.items a.nodes a.apps.entries
+
+-- a container may be placed: there is room for it, in the partition and on the node, and its application has a place for the chain
+pub record CanPlace (h : Held) (placed : Placement) : Type 0 where
+  pub placeable : IsPlaceable h.rows placed.node placed.app placed.role
+  pub room : IfSome (slice_get h.rooms (partition_of_node h.rows.nodes placed.node)) (λ room. 0 < room)
+  pub chain : IfSome (lookup (nat_eq placed.app) h.chains) (λ chains. IsLive (partition_of_node h.rows.nodes placed.node) chains)
+  pub fits : fits_in placed.size (free_of h.rows placed.node) ≡ true

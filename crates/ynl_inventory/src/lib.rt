@@ -1,0 +1,8 @@
+//! What a cluster holds, under numbers: its partitions, nodes, applications and containers, and what they mean in the model.
+#![tactic(auto)]
+
+pub use inventory::Inventory;
+pub use partition::Placement;
+
+mod inventory;
+mod partition;
