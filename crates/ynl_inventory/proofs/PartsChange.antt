@@ -1,0 +1,111 @@
+-- A partition's part changes, and with it one node and one application: the parts still go together.
+use Rattle.std.proofs.Common.{◌≡◌, ◌≢◌, ℕ, true, cond, List, slice_get, Some, nat_eq, sym, ap, subst, ◌∙◌, inl, inr}
+use Rattle.std.specs.Prelude.{slice_set}
+use Rattle.std.specs.Map.{lookup}
+use Rattle.std.proofs.lemmas.Bool.{cases_eq}
+use Rattle.std.proofs.lemmas.Option.{same_Some}
+use Rattle.ynl_resource.specs.Amounts.{less, fits_in, IsSmall}
+use Rattle.ynl_slots.proofs.Entries.{itself, other}
+use Rattle.ynl_node_table.specs.declared.nodes.NodeRow.{NodeRow as NodePart}
+use Rattle.ynl_app_table.specs.declared.app.AppRow.{AppRow as AppPart}
+use Rattle.ynl_app_table.specs.Apps.{with_change}
+use Rattle.ynl_app_table.specs.Chains.{chain_of}
+use Rattle.ynl_container_table.specs.Chains.{IsNodeChain, IsAppChain, KeepsNodes, KeepsApps}
+use Rattle.ynl_inventory.specs.declared.partition.Partition.{Partition}
+use Rattle.ynl_inventory.specs.Parts.{used_of, AreLinked}
+use Rattle.ynl_inventory.proofs.Lookups.{read-after, was-found}
+use Rattle.ynl_inventory.proofs.PartLists.{set-cases, set-same}
+
+-- what is known of a node and its partition
+pub record IsRight (n : ℕ) (r : NodePart) (x : Partition) : Type 0 where
+  pub chain : IsNodeChain x.containers r.containers n
+  pub free : r.free ≡ less r.size (used_of x.containers.entries n)
+  pub fits : fits_in (used_of x.containers.entries n) r.size ≡ true
+
+-- what is known of an application whose chain in the partition changes
+pub record IsTouched (p app : ℕ) (new : Partition) (touch : AppPart → AppPart) (r : AppPart) : Type 0 where
+  pub chain : IsAppChain new.containers (chain_of p (touch r).chains) app
+  pub others : (q : ℕ) → q ≢ p → chain_of q (touch r).chains ≡ chain_of q r.chains
+
+module _ (items : List Partition) (nodes : List (ℕ × NodePart)) (apps : List (ℕ × AppPart)) (linked : AreLinked items nodes apps)
+    (p : ℕ) (part new : Partition) (there : slice_get items p ≡ Some part)
+    (node : ℕ) (row : NodePart) (at : lookup (nat_eq node) nodes ≡ Some row) (stands : row.partition ≡ p)
+    (change : NodePart → NodePart) (partition : (r : NodePart) → (change r).partition ≡ r.partition) (size : (r : NodePart) → (change r).size ≡ r.size)
+    (own : IsRight node (change row) new) (used : (n : ℕ) → n ≢ node → used_of new.containers.entries n ≡ used_of part.containers.entries n)
+    (app : ℕ) (touch : AppPart → AppPart) (touched : (r : AppPart) → lookup (nat_eq app) apps ≡ Some r → IsTouched p app new touch r)
+    (keeps-nodes : KeepsNodes node part.containers new.containers) (keeps-apps : KeepsApps app part.containers new.containers) where
+  abbrev parts : List Partition
+  parts = slice_set items p new
+
+  other-right : (n : ℕ) (r : NodePart) (x : Partition) → n ≢ node → lookup (nat_eq n) nodes ≡ Some r → slice_get parts r.partition ≡ Some x → IsRight n r x
+  other-right n r x apart found here =
+      elim (set-cases items p r.partition part new x there here) [
+        | inl same ↦
+            let stood : slice_get items r.partition ≡ Some part = ap (slice_get items) same.0 ∙ there in
+            subst (IsRight n r) (sym same.1)
+            (record {
+              chain = keeps-nodes n r.containers apart (linked.node n r part found stood);
+              free = linked.free n r part found stood ∙ ap (less r.size) (sym (used n apart));
+              fits = ap (λ u. fits_in u r.size) (used n apart) ∙ linked.fits n r part found stood;
+            })
+        | inr elsewhere ↦ record { chain = linked.node n r x found elsewhere.1; free = linked.free n r x found elsewhere.1; fits = linked.fits n r x found elsewhere.1 }
+      ]
+
+  each-right : (n : ℕ) (r : NodePart) (x : Partition) → lookup (nat_eq n) (with_change node change nodes) ≡ Some r → slice_get parts r.partition ≡ Some x → IsRight n r x
+  each-right n r x found here =
+      let old = was-found n node change nodes r found in
+      elim (cases_eq n node) [
+        | inl same ↦
+            let stood : old.0 ≡ row = same_Some old.0 row (sym old.1 ∙ ap (λ m. lookup (nat_eq m) nodes) same ∙ at) in
+            let now : r ≡ change row = old.2 ∙ ap (λ b. cond b (change old.0) old.0) (ap (λ m. nat_eq m node) same ∙ itself node) ∙ ap change stood in
+            let place : r.partition ≡ p = ap (λ (r : NodePart). r.partition) now ∙ partition row ∙ stands in
+            let its : x ≡ new = same_Some x new (sym here ∙ ap (slice_get parts) place ∙ set-same items p part new there) in
+            subst (λ m. IsRight m r x) (sym same) (subst (λ s. IsRight node s x) (sym now) (subst (IsRight node (change row)) (sym its) own))
+        | inr apart ↦
+            let now : r ≡ old.0 = old.2 ∙ ap (λ b. cond b (change old.0) old.0) (other n node apart) in
+            subst (λ s. IsRight n s x) (sym now) (other-right n old.0 x apart old.1 (ap (λ (r : NodePart). slice_get parts r.partition) (sym now) ∙ here))
+      ]
+
+  own-chain : (r : AppPart) (q : ℕ) (x : Partition) → lookup (nat_eq app) apps ≡ Some r → slice_get parts q ≡ Some x → IsAppChain x.containers (chain_of q (touch r).chains) app
+  own-chain r q x found here =
+      elim (set-cases items p q part new x there here) [
+        | inl same ↦
+            subst (λ m. IsAppChain x.containers (chain_of m (touch r).chains) app) (sym same.0)
+            (subst (λ (y : Partition). IsAppChain y.containers (chain_of p (touch r).chains) app) (sym same.1) (touched r found).chain)
+        | inr elsewhere ↦
+            subst (λ chain. IsAppChain x.containers chain app) (sym ((touched r found).others q elsewhere.0)) (linked.app app r q x found elsewhere.1)
+      ]
+
+  other-chain : (n : ℕ) (r : AppPart) (q : ℕ) (x : Partition) → n ≢ app → lookup (nat_eq n) apps ≡ Some r → slice_get parts q ≡ Some x → IsAppChain x.containers (chain_of q r.chains) n
+  other-chain n r q x apart found here =
+      elim (set-cases items p q part new x there here) [
+        | inl same ↦
+            subst (λ (y : Partition). IsAppChain y.containers (chain_of q r.chains) n) (sym same.1)
+            (keeps-apps n (chain_of q r.chains) apart (linked.app n r q part found (ap (slice_get items) same.0 ∙ there)))
+        | inr elsewhere ↦ linked.app n r q x found elsewhere.1
+      ]
+
+  each-chain : (n : ℕ) (r : AppPart) (q : ℕ) (x : Partition) → lookup (nat_eq n) (with_change app touch apps) ≡ Some r → slice_get parts q ≡ Some x → IsAppChain x.containers (chain_of q r.chains) n
+  each-chain n r q x found here =
+      let old = was-found n app touch apps r found in
+      elim (cases_eq n app) [
+        | inl same ↦
+            let now : r ≡ touch old.0 = old.2 ∙ ap (λ b. cond b (touch old.0) old.0) (ap (λ m. nat_eq m app) same ∙ itself app) in
+            subst (λ m. IsAppChain x.containers (chain_of q r.chains) m) (sym same)
+            (subst (λ (s : AppPart). IsAppChain x.containers (chain_of q s.chains) app) (sym now) (own-chain old.0 q x (ap (λ m. lookup (nat_eq m) apps) (sym same) ∙ old.1) here))
+        | inr apart ↦
+            let now : r ≡ old.0 = old.2 ∙ ap (λ b. cond b (touch old.0) old.0) (other n app apart) in
+            subst (λ (s : AppPart). IsAppChain x.containers (chain_of q s.chains) n) (sym now) (other-chain n old.0 q x apart old.1 here)
+      ]
+
+  -- the parts still go together
+  pub still-linked : AreLinked parts (with_change node change nodes) (with_change app touch apps)
+  still-linked = record {
+    node = λ n r x found here. (each-right n r x found here).chain;
+    app = each-chain;
+    free = λ n r x found here. (each-right n r x found here).free;
+    fits = λ n r x found here. (each-right n r x found here).fits;
+    small = λ n r found.
+        let old = was-found n node change nodes r found in
+        subst IsSmall (sym (ap (λ (r : NodePart). r.size) old.2 ∙ read-after (λ r. r.size) n node change old.0 (size old.0))) (linked.small n old.0 old.1);
+  }

@@ -1,0 +1,281 @@
+-- A container is placed: what the parts give before, and how they go together after.
+use Rattle.std.proofs.Common.{◌≡◌, ◌≢◌, ◌<◌, ◌+◌, ℕ, true, cond, nat_lt, is_some, List, [], ◌∷◌, ◌++◌, map, length, slice_get, Some, option_map, nat_eq, refl, sym, ap, subst, ◌∙◌, arith}
+use Rattle.std.specs.Prelude.{slice_set}
+use Rattle.std.specs.Map.{lookup}
+use Rattle.std.specs.Option.{option_map_or}
+use Rattle.std.proofs.lemmas.Bool.Decides.{nat_tests}
+use Rattle.std.proofs.lemmas.Option.{same_Some, slice_get-map, slice_get_within}
+use Rattle.ynl_resource.specs.Amounts.{nothing, plus, less, fits_in}
+use Rattle.ynl_slots.specs.Slots.{Numbered, IsLive, IsUnused, with_row}
+use Rattle.ynl_slots.specs.declared.chain.Chain.{Chain}
+use Rattle.ynl_slots.proofs.Entries.{itself, other}
+use Rattle.ynl_node_table.specs.declared.nodes.NodeRow.{NodeRow as NodePart}
+use Rattle.ynl_app_table.specs.declared.app.AppRow.{AppRow as AppPart}
+use Rattle.ynl_app_table.specs.Apps.{with_change, with_app}
+use Rattle.ynl_app_table.specs.Chains.{chain_of}
+use Rattle.ynl_container_table.specs.declared.container.Container.{Container}
+use Rattle.ynl_container_table.specs.declared.container.Role.{Role}
+use Rattle.ynl_container_table.specs.declared.container.Role.TheVariants.{Master, Ask as Asked}
+use Rattle.ynl_container_table.specs.Table.{IsAbove}
+use Rattle.ynl_container_table.specs.Chains.{IsNodeChain, IsAppChain, KeepsNodes, KeepsApps}
+use Rattle.ynl_container_table.specs.Fields.{of_rows}
+use Rattle.ynl_container_table.proofs.Rows.{lookup-of_rows}
+use Rattle.ynl_container_table.proofs.Removing.{at_live}
+use Rattle.ynl_inventory.specs.declared.partition.Placement.{Placement}
+use Rattle.ynl_inventory.specs.declared.partition.Partition.{Partition}
+use Rattle.ynl_inventory.specs.declared.inventory.Inventory.TheInside.{Inside}
+use Rattle.ynl_inventory.specs.Rows.{Rows, PartitionRow, NodeRow}
+use Rattle.ynl_inventory.specs.Changes.{with_at, ticked, next_clock, next_clock_at, next_container, partition_of_node, with_taken, with_placed}
+use Rattle.ynl_inventory.specs.Sound.{IsSound, IsPartition}
+use Rattle.ynl_inventory.specs.Parts.{held_of, partition_row, node_row, app_row, placed_on, taken_part, used_of, free_of, AreLinked, IsInventory, CanPlace}
+use Rattle.ynl_inventory.proofs.Placing.{placed-sound}
+use Rattle.ynl_inventory.proofs.Used.{fits-left, less-twice, used-push, nothing-plus}
+use Rattle.ynl_inventory.proofs.PartLists.{unmapped, map-set, of_rows-changed, chain-same, chain-other}
+use Rattle.ynl_inventory.proofs.PartsChange.{IsRight, IsTouched, still-linked}
+use Rattle.ynl_inventory.proofs.Updates.{each-number}
+
+-- ---- before
+
+-- the node and the application are there
+pub node-live : (a : Inside) (placed : Placement) → CanPlace (held_of a) placed → IsLive placed.node a.nodes
+node-live a placed can =
+    ap is_some (unmapped node_row (lookup (nat_eq placed.node) a.nodes) can.placeable.node_row (sym (lookup-of_rows node_row placed.node a.nodes) ∙ can.placeable.node_found)).1
+
+pub app-live : (a : Inside) (placed : Placement) → CanPlace (held_of a) placed → IsLive placed.app a.apps.entries
+app-live a placed can =
+    ap is_some (unmapped app_row (lookup (nat_eq placed.app) a.apps.entries) can.placeable.app_row (sym (lookup-of_rows app_row placed.app a.apps.entries) ∙ can.placeable.app_found)).1
+
+module _ (a : Inside) (inv : IsInventory a) (placed : Placement) (can : CanPlace (held_of a) placed) (row : NodePart) (at : lookup (nat_eq placed.node) a.nodes ≡ Some row) where
+  abbrev v : Rows
+  v = (held_of a).rows
+
+  row-at : lookup (nat_eq placed.node) v.nodes ≡ Some (node_row row)
+  row-at = lookup-of_rows node_row placed.node a.nodes ∙ ap (option_map node_row) at
+
+  is-row : node_row row ≡ can.placeable.node_row
+  is-row = same_Some (node_row row) can.placeable.node_row (sym row-at ∙ can.placeable.node_found)
+
+  stands : partition_of_node v.nodes placed.node ≡ row.partition
+  stands = ap (λ o. option_map_or (λ (r : NodeRow). r.partition) o 0) row-at
+
+  -- the partition's part
+  pub own-part : (part : Partition) × (slice_get a.partitions.items row.partition ≡ Some part) × (partition_row part ≡ can.placeable.partition)
+  own-part =
+      unmapped partition_row (slice_get a.partitions.items row.partition) can.placeable.partition
+      (sym (slice_get-map partition_row a.partitions.items row.partition) ∙ ap (λ (r : NodeRow). slice_get v.partitions r.partition) is-row ∙ can.placeable.partition_found)
+
+  -- the application's part
+  pub own-app : (arow : AppPart) × (lookup (nat_eq placed.app) a.apps.entries ≡ Some arow) × (app_row arow ≡ can.placeable.app_row)
+  own-app =
+      unmapped app_row (lookup (nat_eq placed.app) a.apps.entries) can.placeable.app_row (sym (lookup-of_rows app_row placed.app a.apps.entries) ∙ can.placeable.app_found)
+
+  -- the partition is there
+  pub has-part : row.partition < length a.partitions.items
+  has-part = slice_get_within a.partitions.items row.partition own-part.0 own-part.1
+
+  module _ (part : Partition) (there : slice_get a.partitions.items row.partition ≡ Some part) where
+    is-part : partition_row part ≡ can.placeable.partition
+    is-part = ap partition_row (same_Some part own-part.0 (sym there ∙ own-part.1)) ∙ own-part.2
+
+    row-there : slice_get v.partitions row.partition ≡ Some (partition_row part)
+    row-there = slice_get-map partition_row a.partitions.items row.partition ∙ ap (option_map partition_row) there
+
+    is-partition : IsPartition v row.partition (partition_row part)
+    is-partition = inv.sound.partitions row.partition (partition_row part) row-there
+
+    pub has-room : 0 < part.containers.room
+    has-room =
+        at_live (λ room. 0 < room) (slice_get (held_of a).rooms (partition_of_node v.nodes placed.node)) part.containers.room can.room
+        (ap (slice_get (held_of a).rooms) stands ∙ slice_get-map (λ (part : Partition). part.containers.room) a.partitions.items row.partition
+        ∙ ap (option_map (λ (part : Partition). part.containers.room)) there)
+
+    pub still-rises : part.clock < part.limit
+    still-rises = subst (λ (r : PartitionRow). r.clock < r.limit) (sym is-part) can.placeable.rises
+
+    pub is-above : IsAbove (part.clock + 1) part.containers.entries
+    is-above =
+        each-number (λ n c. c.clock < part.clock + 1) part.containers.entries is-partition.numbers (λ n c found. omega (arith, (is-partition.each n c found).clock))
+
+    pub node-chain : IsNodeChain part.containers row.containers placed.node
+    node-chain = inv.linked.node placed.node row part at there
+
+    -- the node has room for the container
+    pub has-free : fits_in placed.size row.free ≡ true
+    has-free = ap (fits_in placed.size) (inv.linked.free placed.node row part at there ∙ sym free-is) ∙ can.fits
+      where
+        free-is : free_of v placed.node ≡ less row.size (used_of part.containers.entries placed.node)
+        free-is =
+            ap (λ o. option_map_or (λ (r : NodeRow). less r.size (used_of (option_map_or (λ (p : PartitionRow). p.containers) (slice_get v.partitions r.partition) []) placed.node)) o nothing) row-at
+            ∙ ap (λ o. less row.size (used_of (option_map_or (λ (p : PartitionRow). p.containers) o []) placed.node)) row-there
+
+    module _ (arow : AppPart) (app-at : lookup (nat_eq placed.app) a.apps.entries ≡ Some arow) where
+      pub app-chain : IsAppChain part.containers (chain_of row.partition arow.chains) placed.app
+      app-chain = inv.linked.app placed.app arow row.partition part app-at there
+
+      pub has-place : IsLive row.partition arow.chains
+      has-place =
+          subst (λ p. IsLive p arow.chains) stands
+          (at_live (λ chains. IsLive (partition_of_node v.nodes placed.node) chains) (lookup (nat_eq placed.app) (held_of a).chains) arow.chains can.chain
+          (lookup-of_rows (λ (r : AppPart). r.chains) placed.app a.apps.entries ∙ ap (option_map (λ (r : AppPart). r.chains)) app-at))
+
+-- ---- after
+
+-- an application's part changes as its row
+taken-row : (r : Role) (number : ℕ) (chains : List (ℕ × Chain) → List (ℕ × Chain)) (part : AppPart)
+    → app_row (taken_part r number (record part { chains = chains part.chains })) ≡ with_taken r (app_row part)
+taken-row Master number chains part = refl
+taken-row (Asked p priority) number chains part = refl
+
+-- and keeps its chains
+taken-chains : (r : Role) (number : ℕ) (part : AppPart) → (taken_part r number part).chains ≡ part.chains
+taken-chains Master number part = refl
+taken-chains (Asked p priority) number part = refl
+
+-- what `Partition::place` leaves
+pub record IsPlaced (placed : Placement) (number : ℕ) (old new : Partition) (of_node of_app : Chain) : Type 0 where
+  pub label : new.label ≡ old.label
+  pub limit : new.limit ≡ old.limit
+  pub clock : new.clock ≡ old.clock + 1
+  pub entries : new.containers.entries ≡ old.containers.entries ++ (number, placed_on placed (old.clock + 1)) ∷ []
+  pub unused : IsUnused number old.containers.entries
+  pub node_chain : IsNodeChain new.containers of_node placed.node
+  pub app_chain : IsAppChain new.containers of_app placed.app
+  pub nodes : KeepsNodes placed.node old.containers new.containers
+  pub apps : KeepsApps placed.app old.containers new.containers
+
+module _ (a : Inside) (inv : IsInventory a) (placed : Placement) (can : CanPlace (held_of a) placed) (row : NodePart) (at : lookup (nat_eq placed.node) a.nodes ≡ Some row)
+    (part : Partition) (there : slice_get a.partitions.items row.partition ≡ Some part)
+    (number : ℕ) (new : Partition) (of_node of_app : Chain) (is : IsPlaced placed number part new of_node of_app) where
+  abbrev used_one : NodePart → NodePart
+  used_one r = record r { containers = of_node; stamp = new.clock; free = less r.free placed.size }
+
+  abbrev taken_one : AppPart → AppPart
+  taken_one r = taken_part placed.role number (record r { chains = with_row row.partition of_app r.chains })
+
+  abbrev before : Rows
+  before = (held_of a).rows
+
+  abbrev p : ℕ
+  p = partition_of_node before.nodes placed.node
+
+  p-is : p ≡ row.partition
+  p-is = stands a inv placed can row at
+
+  clock-is : next_clock_at before.partitions p ≡ part.clock + 1
+  clock-is =
+      let yes : nat_lt part.clock part.limit ≡ true = let rises = still-rises a inv placed can row at part there in grind (arith, nat_tests, rises) in
+      ap (λ o. option_map_or next_clock o 0) (ap (slice_get before.partitions) p-is ∙ row-there a inv placed can row at part there)
+      ∙ ap (λ b. cond b (part.clock + 1) part.clock) yes
+
+  next-is : placed_on placed (part.clock + 1) ≡ next_container before placed.node placed.app placed.role placed.size
+  next-is = λ i. placed_on placed (sym clock-is i)
+
+  abbrev push : List (ℕ × Container) → List (ℕ × Container)
+  push = λ containers. containers ++ (number, next_container before placed.node placed.app placed.role placed.size) ∷ []
+
+  part-is : partition_row new ≡ ticked push (partition_row part)
+  part-is = λ i. record { label = is.label i; limit = is.limit i; clock = ticks i; containers = (is.entries ∙ (λ j. part.containers.entries ++ (number, next-is j) ∷ [])) i }
+    where
+      ticks : new.clock ≡ next_clock (partition_row part)
+      ticks = is.clock ∙ sym clock-is ∙ ap (λ o. option_map_or next_clock o 0) (ap (slice_get before.partitions) p-is ∙ row-there a inv placed can row at part there)
+
+  -- the rows are those with the container placed
+  pub rows-placed : ◌≡◌ {A = Rows} (record {
+    paths = a.layout;
+    partitions = map partition_row (slice_set a.partitions.items row.partition new);
+    nodes = of_rows node_row (with_change placed.node used_one a.nodes);
+    apps = of_rows app_row (with_change placed.app taken_one a.apps.entries);
+    tenants = before.tenants;
+    users = a.users.items;
+  }) (with_placed number placed.node placed.app placed.role placed.size before)
+  rows-placed = λ i. record {
+    paths = a.layout;
+    partitions = partitions i;
+    nodes = nodes i;
+    apps = apps i;
+    tenants = before.tenants;
+    users = a.users.items;
+  }
+    where
+      partitions : map partition_row (slice_set a.partitions.items row.partition new) ≡ with_at p (ticked push) before.partitions
+      partitions =
+          map-set partition_row (ticked push) a.partitions.items row.partition part new there part-is ∙ ap (λ q. with_at q (ticked push) before.partitions) (sym p-is)
+
+      nodes : of_rows node_row (with_change placed.node used_one a.nodes) ≡ with_change placed.node (λ r. record r { stamp = next_clock_at before.partitions p }) before.nodes
+      nodes =
+          of_rows-changed node_row used_one (λ r. record r { stamp = new.clock }) placed.node a.nodes (λ r. refl)
+          ∙ ap (λ t. with_change placed.node (λ (r : NodeRow). record r { stamp = t }) before.nodes) (is.clock ∙ sym clock-is)
+
+      apps : of_rows app_row (with_change placed.app taken_one a.apps.entries) ≡ with_change placed.app (with_taken placed.role) before.apps
+      apps = of_rows-changed app_row taken_one (with_taken placed.role) placed.app a.apps.entries (λ r. taken-row placed.role number (with_row row.partition of_app) r)
+
+  used-is : (n : ℕ) → used_of new.containers.entries n ≡ plus (used_of part.containers.entries n) (cond (nat_eq placed.node n) placed.size nothing)
+  used-is n = ap (λ es. used_of es n) is.entries ∙ used-push n number (placed_on placed (part.clock + 1)) part.containers.entries
+
+  own-right : IsRight placed.node (used_one row) new
+  own-right = record {
+    chain = is.node_chain;
+    free =
+        ap (λ free. less free placed.size) (inv.linked.free placed.node row part at there)
+        ∙ less-twice row.size (used_of part.containers.entries placed.node) placed.size
+        ∙ ap (less row.size) (sym own-used);
+    fits =
+        ap (λ used. fits_in used row.size) own-used
+        ∙ fits-left (used_of part.containers.entries placed.node) placed.size row.size (inv.linked.fits placed.node row part at there)
+        (ap (fits_in placed.size) (sym (inv.linked.free placed.node row part at there)) ∙ has-free a inv placed can row at part there);
+  }
+    where
+      own-used : used_of new.containers.entries placed.node ≡ plus (used_of part.containers.entries placed.node) placed.size
+      own-used = used-is placed.node ∙ ap (λ b. plus (used_of part.containers.entries placed.node) (cond b placed.size nothing)) (itself placed.node)
+
+  others-use : (n : ℕ) → n ≢ placed.node → used_of new.containers.entries n ≡ used_of part.containers.entries n
+  others-use n apart =
+      used-is n ∙ ap (λ b. plus (used_of part.containers.entries n) (cond b placed.size nothing)) (other placed.node n (λ same. apart (sym same)))
+      ∙ nothing-plus (used_of part.containers.entries n)
+
+  touched : (r : AppPart) → lookup (nat_eq placed.app) a.apps.entries ≡ Some r → IsTouched row.partition placed.app new taken_one r
+  touched r found = record {
+    chain =
+        subst (λ chain. IsAppChain new.containers chain placed.app)
+        (sym
+        (ap (chain_of row.partition) (taken-chains placed.role number (record r { chains = with_row row.partition of_app r.chains }))
+        ∙ chain-same row.partition of_app r.chains (has-place a inv placed can row at part there r found)))
+        is.app_chain;
+    others = λ q apart.
+        ap (chain_of q) (taken-chains placed.role number (record r { chains = with_row row.partition of_app r.chains })) ∙ chain-other row.partition q of_app r.chains apart;
+  }
+
+  -- the parts go together
+  pub parts-linked : AreLinked (slice_set a.partitions.items row.partition new) (with_change placed.node used_one a.nodes) (with_change placed.app taken_one a.apps.entries)
+  parts-linked =
+      still-linked a.partitions.items a.nodes a.apps.entries inv.linked row.partition part new there placed.node row at refl used_one (λ r. refl) (λ r. refl) own-right others-use placed.app
+      taken_one touched is.nodes is.apps
+
+  -- and the rows are sound
+  pub rows-sound : IsSound (with_placed number placed.node placed.app placed.role placed.size before)
+  rows-sound =
+      placed-sound before inv.sound number placed.node placed.app placed.role placed.size can.placeable
+      (subst (λ (r : PartitionRow). IsUnused number r.containers) (is-part a inv placed can row at part there) is.unused)
+
+  module _ (nodes' : List (ℕ × NodePart)) (apps' : Numbered AppPart) (nodes-are : nodes' ≡ with_change placed.node used_one a.nodes) (apps-are : apps' ≡ with_app placed.app taken_one a.apps) where
+    abbrev rows_after : Rows
+    rows_after = record {
+      paths = a.layout;
+      partitions = map partition_row (slice_set a.partitions.items row.partition new);
+      nodes = of_rows node_row nodes';
+      apps = of_rows app_row apps'.entries;
+      tenants = before.tenants;
+      users = a.users.items;
+    }
+
+    -- so it is with what the calls leave
+    pub all-rows : rows_after ≡ with_placed number placed.node placed.app placed.role placed.size before
+    all-rows = (λ i. record rows_after { nodes = of_rows node_row (nodes-are i); apps = of_rows app_row (apps-are i).entries }) ∙ rows-placed
+
+    pub all-sound : IsSound rows_after
+    all-sound = subst IsSound (sym all-rows) rows-sound
+
+    pub all-linked : AreLinked (slice_set a.partitions.items row.partition new) nodes' apps'.entries
+    all-linked =
+        subst (λ (apps : Numbered AppPart). AreLinked (slice_set a.partitions.items row.partition new) nodes' apps.entries) (sym apps-are)
+        (subst (λ nodes. AreLinked (slice_set a.partitions.items row.partition new) nodes (with_change placed.app taken_one a.apps.entries)) (sym nodes-are) parts-linked)

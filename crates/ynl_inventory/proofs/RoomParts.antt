@@ -1,0 +1,59 @@
+-- Room is reserved in a partition: nothing else changes.
+use Rattle.std.proofs.Common.{◌≡◌, ℕ, zero, suc, List, [], ◌∷◌, map, slice_get, Some, sym, ap, subst, ◌∙◌, inl, inr}
+use Rattle.std.specs.Prelude.{slice_set}
+use Rattle.std.proofs.lemmas.Option.{none-some, same_Some}
+use Rattle.ynl_resource.specs.Amounts.{less, fits_in}
+use Rattle.ynl_node_table.specs.declared.nodes.NodeRow.{NodeRow as NodePart}
+use Rattle.ynl_app_table.specs.declared.app.AppRow.{AppRow as AppPart}
+use Rattle.ynl_app_table.specs.Chains.{chain_of}
+use Rattle.ynl_container_table.specs.Table.{Table}
+use Rattle.ynl_container_table.specs.Chains.{IsNodeChain, IsAppChain}
+use Rattle.ynl_inventory.specs.declared.partition.Partition.{Partition}
+use Rattle.ynl_inventory.specs.Parts.{partition_row, used_of, AreLinked}
+use Rattle.ynl_inventory.proofs.PartLists.{set-cases}
+
+-- a part that is set and means the same leaves what all mean
+map-kept : {X Y : Type 0} (f : X → Y) (xs : List X) (p : ℕ) (x new : X) → slice_get xs p ≡ Some x → f new ≡ f x → map f (slice_set xs p new) ≡ map f xs
+map-kept f [] p x new at is = absurd (none-some x at)
+map-kept f (y ∷ xs) zero x new at is = ap (λ z. z ∷ map f xs) (is ∙ ap f (sym (same_Some y x at)))
+map-kept f (y ∷ xs) (suc p) x new at is = ap (λ ys. f y ∷ ys) (map-kept f xs p x new at is)
+
+module _ (items : List Partition) (p : ℕ) (part new : Partition) (there : slice_get items p ≡ Some part)
+    (own : new ≡ record part { containers = new.containers }) (same : new.containers ≡ record part.containers { room = new.containers.room }) where
+  -- the rows stay
+  pub room-rows : map partition_row (slice_set items p new) ≡ map partition_row items
+  room-rows = map-kept partition_row items p part new there (ap partition_row own ∙ (λ i. record { label = part.label; limit = part.limit; clock = part.clock; containers = (same i).entries }))
+
+  -- and the parts still go together
+  pub room-linked : (nodes : List (ℕ × NodePart)) (apps : List (ℕ × AppPart)) → AreLinked items nodes apps → AreLinked (slice_set items p new) nodes apps
+  room-linked nodes apps linked = record {
+    node = λ n r x found here.
+        elim (set-cases items p r.partition part new x there here) [
+          | inl is ↦
+              subst (λ (y : Partition). IsNodeChain y.containers r.containers n) (sym is.1)
+              (subst (λ (t : Table). IsNodeChain t r.containers n) (sym same) (linked.node n r part found (ap (slice_get items) is.0 ∙ there)))
+          | inr elsewhere ↦ linked.node n r x found elsewhere.1
+        ];
+    app = λ n r q x found here.
+        elim (set-cases items p q part new x there here) [
+          | inl is ↦
+              subst (λ (y : Partition). IsAppChain y.containers (chain_of q r.chains) n) (sym is.1)
+              (subst (λ (t : Table). IsAppChain t (chain_of q r.chains) n) (sym same) (linked.app n r q part found (ap (slice_get items) is.0 ∙ there)))
+          | inr elsewhere ↦ linked.app n r q x found elsewhere.1
+        ];
+    free = λ n r x found here.
+        elim (set-cases items p r.partition part new x there here) [
+          | inl is ↦
+              linked.free n r part found (ap (slice_get items) is.0 ∙ there)
+              ∙ sym (ap (λ (y : Partition). less r.size (used_of y.containers.entries n)) is.1 ∙ ap (λ (t : Table). less r.size (used_of t.entries n)) same)
+          | inr elsewhere ↦ linked.free n r x found elsewhere.1
+        ];
+    fits = λ n r x found here.
+        elim (set-cases items p r.partition part new x there here) [
+          | inl is ↦
+              ap (λ (y : Partition). fits_in (used_of y.containers.entries n) r.size) is.1 ∙ ap (λ (t : Table). fits_in (used_of t.entries n) r.size) same
+              ∙ linked.fits n r part found (ap (slice_get items) is.0 ∙ there)
+          | inr elsewhere ↦ linked.fits n r x found elsewhere.1
+        ];
+    small = linked.small;
+  }

@@ -1,0 +1,166 @@
+-- What is known where a container is placed.
+use Rattle.std.proofs.Common.{◌≡◌, ◌<◌, ◌+◌, true, IsTrue, IfSome, length, get_or, slice_get, Some, nat_eq, refl, sym, ap, subst, ◌∙◌}
+use Rattle.std.specs.Map.{lookup}
+use Rattle.std.proofs.lemmas.Option.{slice_get_read}
+use Rattle.ynl_resource.specs.Amounts.{fits_in}
+use Rattle.ynl_slots.specs.Slots.{IsLive}
+use Rattle.ynl_slots.specs.declared.chain.Chain.{Chain}
+use Rattle.ynl_app_table.specs.declared.app.AppRow.{AppRow as AppPart}
+use Rattle.ynl_app_table.specs.Chains.{chain_of}
+use Rattle.ynl_node_table.specs.declared.nodes.NodeRow.{NodeRow as NodePart}
+use Rattle.ynl_container_table.specs.Chains.{IsNodeChain, IsAppChain}
+use Rattle.ynl_container_table.specs.Table.{IsAbove}
+use Rattle.ynl_container_table.proofs.Removing.{at_live}
+use Rattle.ynl_inventory.specs.declared.partition.Placement.{Placement}
+use Rattle.ynl_inventory.specs.declared.partition.Partition.{Partition}
+use Rattle.ynl_inventory.specs.declared.inventory.Inventory.TheInside.{Inside}
+use Rattle.ynl_inventory.specs.Changes.{with_placed}
+use Rattle.ynl_inventory.specs.Parts.{Held, held_of, IsInventory, CanPlace}
+use Rattle.ynl_inventory.proofs.PlacingParts.{node-live, app-live, own-app, has-part, has-room, still-rises, is-above, node-chain, has-free, app-chain, has-place, all-rows, all-sound, all-linked}
+use Rattle.ynl_inventory.proofs.inventory.Inventory.place.Goals as goal
+
+-- what is required, of the parts
+can : (a : Inside) (h : Held) (placed : Placement) → held_of a ≡ h → CanPlace h placed → CanPlace (held_of a) placed
+can a h placed view required = subst (λ h. CanPlace h placed) (sym view) required
+
+-- the partition that was read
+there : (a : Inside) (row : NodePart) (part : Partition) → row.partition < length a.partitions.items → part ≡ get_or a.partitions.items row.partition part → slice_get a.partitions.items row.partition ≡ Some part
+there a row part has read = slice_get_read a.partitions.items (length a.partitions.items) row.partition part refl has read
+
+pub index-row-requires : goal.index-row-requires
+index-row-requires c = node-live c.self.inside c.args.placed.now (can c.self.inside c.args.self.now c.args.placed.now c.self.view_is c.requires)
+
+pub chain_in-of_app-requires : goal.chain_in-of_app-requires
+chain_in-of_app-requires c = app-live c.self.inside c.args.placed.now (can c.self.inside c.args.self.now c.args.placed.now c.self.view_is c.requires)
+
+pub index_mut-part-requires : goal.index_mut-part-requires
+index_mut-part-requires c =
+    let has : c.index-row.result.now.partition < length c.self.inside.partitions.items =
+    has-part c.self.inside c.self.invariant c.args.placed.now (can c.self.inside c.args.self.now c.args.placed.now c.self.view_is c.requires) c.index-row.result.now c.index-row.ensures
+    in
+    subst (λ n. c.index-row.result.now.partition < n) (sym c.self.inside.partitions.ok.0) has
+
+module _ (a : Inside) (h : Held) (placed : Placement) (view : held_of a ≡ h) (inv : IsInventory a) (required : CanPlace h placed)
+    (row : NodePart) (at : lookup (nat_eq placed.node) a.nodes ≡ Some row) (part : Partition) (read : part ≡ get_or a.partitions.items row.partition part) where
+  abbrev able : CanPlace (held_of a) placed
+  able = can a h placed view required
+
+  stood : slice_get a.partitions.items row.partition ≡ Some part
+  stood = there a row part (has-part a inv placed able row at) read
+
+  room : 0 < part.containers.room
+  room = has-room a inv placed able row at part stood
+
+  rises : part.clock < part.limit
+  rises = still-rises a inv placed able row at part stood
+
+  above : IsAbove (part.clock + 1) part.containers.entries
+  above = is-above a inv placed able row at part stood
+
+  of_node : IsNodeChain part.containers row.containers placed.node
+  of_node = node-chain a inv placed able row at part stood
+
+  free : fits_in placed.size row.free ≡ true
+  free = has-free a inv placed able row at part stood
+
+  own : (arow : AppPart) × (lookup (nat_eq placed.app) a.apps.entries ≡ Some arow)
+  own = let its = own-app a inv placed able row at in (its.0, its.1)
+
+  of_app : (chain : Chain) → IfSome (lookup (nat_eq placed.app) a.apps.entries) (λ r. chain ≡ chain_of row.partition r.chains) → IsAppChain part.containers chain placed.app
+  of_app chain is =
+      subst (λ chain. IsAppChain part.containers chain placed.app)
+      (sym (at_live (λ (r : AppPart). chain ≡ chain_of row.partition r.chains) (lookup (nat_eq placed.app) a.apps.entries) own.0 is own.1))
+      (app-chain a inv placed able row at part stood own.0 own.1)
+
+  place-there : IfSome (lookup (nat_eq placed.app) a.apps.entries) (λ r. IsLive row.partition r.chains)
+  place-there = subst (λ o. IfSome o (λ (r : AppPart). IsLive row.partition r.chains)) (sym own.1) (has-place a inv placed able row at part stood own.0 own.1)
+
+  free-there : IfSome (lookup (nat_eq placed.node) a.nodes) (λ r. IsTrue (fits_in placed.size r.free))
+  free-there = subst (λ o. IfSome o (λ (r : NodePart). IsTrue (fits_in placed.size r.free))) (sym at) free
+
+pub place-number-requires-clause-room : goal.place-number-requires-clause-room
+place-number-requires-clause-room c =
+    room c.self.inside c.args.self.now c.args.placed.now c.self.view_is c.self.invariant c.requires c.index-row.result.now c.index-row.ensures c.index_mut-part.result.now c.index_mut-part.ensures.value
+
+pub place-number-requires-clause-rises : goal.place-number-requires-clause-rises
+place-number-requires-clause-rises c =
+    rises c.self.inside c.args.self.now c.args.placed.now c.self.view_is c.self.invariant c.requires c.index-row.result.now c.index-row.ensures c.index_mut-part.result.now c.index_mut-part.ensures.value
+
+pub place-number-requires-clause-above : goal.place-number-requires-clause-above
+place-number-requires-clause-above c =
+    above c.self.inside c.args.self.now c.args.placed.now c.self.view_is c.self.invariant c.requires c.index-row.result.now c.index-row.ensures c.index_mut-part.result.now c.index_mut-part.ensures.value
+
+pub place-number-requires-clause-of_node : goal.place-number-requires-clause-of_node
+place-number-requires-clause-of_node c =
+    of_node c.self.inside c.args.self.now c.args.placed.now c.self.view_is c.self.invariant c.requires c.index-row.result.now c.index-row.ensures c.index_mut-part.result.now c.index_mut-part.ensures.value
+
+pub place-number-requires-clause-of_app : goal.place-number-requires-clause-of_app
+place-number-requires-clause-of_app c =
+    of_app c.self.inside c.args.self.now c.args.placed.now c.self.view_is c.self.invariant c.requires c.index-row.result.now c.index-row.ensures c.index_mut-part.result.now c.index_mut-part.ensures.value
+    c.chain_in-of_app.result c.chain_in-of_app.ensures
+
+pub used-requires-clause-room : goal.used-requires-clause-room
+used-requires-clause-room c =
+    free-there c.self.inside c.args.self.now c.args.placed.now c.self.view_is c.self.invariant c.requires c.index-row.result.now c.index-row.ensures c.index_mut-part.result.now c.index_mut-part.ensures.value
+
+pub taken-requires-clause-live : goal.taken-requires-clause-live
+taken-requires-clause-live c = app-live c.self.inside c.args.placed.now (can c.self.inside c.args.self.now c.args.placed.now c.self.view_is c.requires)
+
+pub taken-requires-clause-place : goal.taken-requires-clause-place
+taken-requires-clause-place c =
+    place-there c.self.inside c.args.self.now c.args.placed.now c.self.view_is c.self.invariant c.requires c.index-row.result.now c.index-row.ensures c.index_mut-part.result.now c.index_mut-part.ensures.value
+
+pub invariant_of-self : goal.invariant_of-self
+invariant_of-self c = record {
+  sound =
+      all-sound c.self.inside c.self.invariant c.args.placed.now (can c.self.inside c.args.self.now c.args.placed.now c.self.view_is c.requires) c.index-row.result.now c.index-row.ensures c.index_mut-part.result.now
+      (stood c.self.inside c.args.self.now c.args.placed.now c.self.view_is c.self.invariant c.requires c.index-row.result.now c.index-row.ensures c.index_mut-part.result.now c.index_mut-part.ensures.value)
+      c.place-number.result c.place-number.new.self c.place-number.new.of_node c.place-number.new.of_app
+      (record {
+        label = c.place-number.ensures.label;
+        limit = c.place-number.ensures.limit;
+        clock = c.place-number.ensures.clock;
+        entries = c.place-number.ensures.entries;
+        unused = c.place-number.ensures.unused;
+        node_chain = c.place-number.ensures.of_node;
+        app_chain = c.place-number.ensures.of_app;
+        nodes = c.place-number.ensures.nodes;
+        apps = c.place-number.ensures.apps;
+      })
+      c.used.new.nodes c.taken.new.apps c.used.ensures c.taken.ensures;
+  linked =
+      all-linked c.self.inside c.self.invariant c.args.placed.now (can c.self.inside c.args.self.now c.args.placed.now c.self.view_is c.requires) c.index-row.result.now c.index-row.ensures c.index_mut-part.result.now
+      (stood c.self.inside c.args.self.now c.args.placed.now c.self.view_is c.self.invariant c.requires c.index-row.result.now c.index-row.ensures c.index_mut-part.result.now c.index_mut-part.ensures.value)
+      c.place-number.result c.place-number.new.self c.place-number.new.of_node c.place-number.new.of_app
+      (record {
+        label = c.place-number.ensures.label;
+        limit = c.place-number.ensures.limit;
+        clock = c.place-number.ensures.clock;
+        entries = c.place-number.ensures.entries;
+        unused = c.place-number.ensures.unused;
+        node_chain = c.place-number.ensures.of_node;
+        app_chain = c.place-number.ensures.of_app;
+        nodes = c.place-number.ensures.nodes;
+        apps = c.place-number.ensures.apps;
+      })
+      c.used.new.nodes c.taken.new.apps c.used.ensures c.taken.ensures;
+}
+
+pub returns : goal.returns
+returns c =
+    all-rows c.self.inside c.self.invariant c.args.placed.now (can c.self.inside c.args.self.now c.args.placed.now c.self.view_is c.requires) c.index-row.result.now c.index-row.ensures c.index_mut-part.result.now
+    (stood c.self.inside c.args.self.now c.args.placed.now c.self.view_is c.self.invariant c.requires c.index-row.result.now c.index-row.ensures c.index_mut-part.result.now c.index_mut-part.ensures.value)
+    c.place-number.result c.place-number.new.self c.place-number.new.of_node c.place-number.new.of_app
+    (record {
+      label = c.place-number.ensures.label;
+      limit = c.place-number.ensures.limit;
+      clock = c.place-number.ensures.clock;
+      entries = c.place-number.ensures.entries;
+      unused = c.place-number.ensures.unused;
+      node_chain = c.place-number.ensures.of_node;
+      app_chain = c.place-number.ensures.of_app;
+      nodes = c.place-number.ensures.nodes;
+      apps = c.place-number.ensures.apps;
+    })
+    c.used.new.nodes c.taken.new.apps c.used.ensures c.taken.ensures
+    ∙ ap (λ (h : Held). with_placed c.place-number.result c.args.placed.now.node c.args.placed.now.app c.args.placed.now.role c.args.placed.now.size h.rows) c.self.view_is
