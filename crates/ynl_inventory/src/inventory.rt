@@ -1,0 +1,180 @@
+//! What a cluster holds.
+
+ghost use Rattle.std.specs.Prelude.{◌≡◌, ◌<◌, nat_eq, length, slice_get, Some, OnOk, IfSome, IsSome, IsTrue};
+ghost use Rattle.std.specs.Map.{lookup};
+ghost use Rattle.ynl_resource.specs.Amounts.{fits_in, less, plus, IsSmall};
+ghost use Rattle.ynl_slots.specs.Slots.{IsLive, with_row};
+ghost use Rattle.ynl_node_table.specs.Nodes.{with_change};
+ghost use Rattle.ynl_app_table.specs.Apps.{with_app};
+ghost use Rattle.ynl_app_table.specs.Chains.{chain_of};
+ghost use Rattle.ynl_inventory.specs.Changes.{with_placed, with_ended};
+ghost use Rattle.ynl_inventory.specs.Sound.{HasPartition};
+ghost use Rattle.ynl_inventory.specs.Parts.{CanPlace, taken_part, held_at, released_part};
+
+use crate::partition::{Partition, Placement};
+use std::alloc::AllocError;
+use std::marker::Model;
+use ynl_app_table::Apps;
+use ynl_container_table::{Container, Role};
+use ynl_layout::Layout;
+use ynl_node_table::Nodes;
+use ynl_resource::{Name, Size};
+use ynl_slots::Chain;
+use ynl_submissions::Submissions;
+
+/// What a cluster holds under numbers. A partition's number is its place, DEFAULT first; a tenant's is that of its top-level
+/// queue. A contract sees the rows.
+pub struct Inventory {
+    layout: Layout,
+    partitions: Vec<Partition>,
+    nodes: Nodes,
+    apps: Apps,
+    tenants: Vec<Submissions>,
+    users: Vec<Name>,
+}
+
+impl Model for Inventory {
+    ghost use Rattle.ynl_inventory.specs.Parts.{Held, held_of, IsInventory};
+
+    ghost Value = { Held };
+
+    ghost view = { held_of };
+
+    ghost invariant = { IsInventory };
+}
+
+impl Inventory {
+    /// A container is placed on a node. It returns the container's number in the node's partition. It takes no memory.
+    pub fn place(&mut self, placed: &Placement) -> u32
+        requires { CanPlace self.old placed.now }
+        ensures { self.new.rows ≡ with_placed result
+            placed.now.node placed.now.app placed.now.role placed.now.size self.old.rows }
+    {
+        let row = &self.nodes[placed.node];
+        let p = row.partition;
+        let mut of_node = row.containers;
+        let mut of_app = chain_in(&self.apps, placed.app, p);
+        let part = &mut self.partitions[p as usize];
+        let number = part.place(placed, &mut of_node, &mut of_app);
+        let clock = part.clock;
+        used(&mut self.nodes, placed.node, of_node, clock, placed.size);
+        taken(&mut self.apps, placed, p, of_app, number);
+        number
+    }
+
+    /// Reserves room for one more container in a partition. It fails if memory is refused, and where `Containers::reserve_one`
+    /// does.
+    pub fn reserve(&mut self, p: u8) -> Result<(), AllocError>
+        requires { HasPartition self.old.rows p }
+        ensures rows { self.new.rows ≡ self.old.rows }
+        ensures ok { OnOk result (IfSome (slice_get self.new.rooms p) (λ room. 0 < room)) }
+        ensures chains { self.new.chains ≡ self.old.chains }
+    {
+        let part = &mut self.partitions[p as usize];
+        part.reserve()
+    }
+
+    /// The container under a number in a partition ends. It takes no memory.
+    pub fn end(&mut self, p: u8, number: u32) -> Container
+        requires { IsSome (held_at self.old.rows p number) }
+        ensures value { held_at self.old.rows p number ≡ Some result }
+        ensures rows { self.new.rows ≡ with_ended p number result.node self.old.rows }
+    {
+        let held = container_in(&self.partitions, p, number);
+        let row = &self.nodes[held.node];
+        let mut of_node = row.containers;
+        let mut of_app = chain_in(&self.apps, held.app, p);
+        let part = &mut self.partitions[p as usize];
+        let _held = part.end(number, &mut of_node, &mut of_app);
+        let clock = part.clock;
+        freed(&mut self.nodes, &held, of_node, clock);
+        released(&mut self.apps, &held, p, of_app);
+        held
+    }
+}
+
+/// The container under a number in a partition.
+fn container_in(partitions: &[Partition], p: u8, number: u32) -> Container
+    requires live { IfSome (slice_get partitions.now p)
+        (λ part. IsLive number part.containers.entries) }
+    requires part { p < length partitions.now }
+    ensures { IfSome (slice_get partitions.now p)
+        (λ part. lookup (nat_eq number) part.containers.entries ≡ Some result) }
+{
+    let part = &partitions[p as usize];
+    part.containers[number]
+}
+
+/// A node has one container less: its chain, the clock that is its stamp, and what is free of it.
+fn freed(nodes: &mut Nodes, ended: &Container, chain: Chain, clock: u64)
+    requires live { IsLive ended.now.node nodes.old }
+    requires small { IfSome (lookup (nat_eq ended.now.node) nodes.old)
+        (λ row. IsSmall (plus row.free ended.now.size)) }
+    ensures { nodes.new ≡ with_change ended.now.node (λ row.
+        record row { containers = chain; stamp = clock; free = plus row.free ended.now.size })
+        nodes.old }
+{
+    nodes.set_containers(ended.node, chain);
+    nodes.set_stamp(ended.node, clock);
+    nodes.give(ended.node, ended.size);
+}
+
+/// An application has one container less: its chain in the partition, and its master.
+fn released(apps: &mut Apps, ended: &Container, p: u8, chain: Chain)
+    requires live { IsLive ended.now.app apps.old.entries }
+    requires place { IfSome (lookup (nat_eq ended.now.app) apps.old.entries)
+        (λ row. IsLive p row.chains) }
+    ensures { apps.new ≡ with_app ended.now.app (λ row.
+        released_part ended.now.role (record row { chains = with_row p chain row.chains }))
+        apps.old }
+{
+    let app = ended.app;
+    apps.set_chain(app, p, chain);
+    match ended.role {
+        Role::Master => apps.set_master(app, None),
+        Role::Ask { .. } => {}
+    }
+}
+
+/// The chain of an application's containers in a partition.
+fn chain_in(apps: &Apps, app: u32, p: u8) -> Chain
+    requires { IsLive app apps.now.entries }
+    ensures { IfSome (lookup (nat_eq app) apps.now.entries)
+        (λ row. result ≡ chain_of p row.chains) }
+{
+    let row = &apps[app];
+    row.chains.get(p)
+}
+
+/// A node has one more container of this size: its chain, the clock that is its stamp, and what is free of it.
+fn used(nodes: &mut Nodes, node: u32, chain: Chain, clock: u64, size: Size)
+    requires live { IsLive node nodes.old }
+    requires room { IfSome (lookup (nat_eq node) nodes.old)
+        (λ row. IsTrue (fits_in size row.free)) }
+    ensures { nodes.new ≡ with_change node (λ row.
+        record row { containers = chain; stamp = clock; free = less row.free size }) nodes.old }
+{
+    nodes.set_containers(node, chain);
+    nodes.set_stamp(node, clock);
+    nodes.take(node, size);
+}
+
+/// An application has one more container: its chain in the partition, and its master or one less that is asked for.
+fn taken(apps: &mut Apps, placed: &Placement, p: u8, chain: Chain, number: u32)
+    requires live { IsLive placed.now.app apps.old.entries }
+    requires place { IfSome (lookup (nat_eq placed.now.app) apps.old.entries)
+        (λ row. IsLive p row.chains) }
+    ensures { apps.new ≡ with_app placed.now.app (λ row.
+        taken_part placed.now.role number
+        (record row { chains = with_row p chain row.chains })) apps.old }
+{
+    let app = placed.app;
+    apps.set_chain(app, p, chain);
+    match placed.role {
+        Role::Master => apps.set_master(app, Some(number)),
+        Role::Ask {
+            partition,
+            priority,
+        } => apps.take_one(app, partition, priority),
+    }
+}
