@@ -130,7 +130,7 @@ module _ (paths : List Path) (tree : IsTree paths) (queue : ℕ) (has : HasNumbe
   -- ---- once they are sorted
 
   -- a child has a name
-  named : (child : ℕ) → IsChild paths queue child → name_in paths child ≡ Some (last_name (path_at paths child))
+  pub named : (child : ℕ) → IsChild paths queue child → name_in paths child ≡ Some (last_name (path_at paths child))
   named zero h = absurd (omega (arith, ap length h.path, length-append (path_at paths queue) (last_name (path_at paths 0) ∷ [])))
   named (suc k) h =
       ap (λ i. option_and_then (λ (path : Path). slice_get path (length path - 1)) (slice_get paths i)) (omega arith)

@@ -1,5 +1,7 @@
 -- Children of queues as they are gathered, one after another.
-use Rattle.std.specs.Prelude.{ℕ, ◌<◌, List, length, slice_get, ◌-◌, Option, option_and_then}
+use Rattle.std.specs.Prelude.{ℕ, ◌<◌, Bool, false, List, length, slice_get, ◌-◌, Option, option_and_then}
+use Rattle.std.specs.Option.{option_map_or}
+use Rattle.ynl_resource.specs.Names.{same_name}
 use Rattle.std.specs.List.{All, Contains}
 use Rattle.std.specs.List.Sorted.{IsStrictlyIncreasing}
 use Rattle.ynl_resource.specs.declared.names.Name.{Name}
@@ -16,3 +18,7 @@ pub record AreChildrenUpTo (paths : List Path) (queue n : ℕ) (numbers : List �
 -- the last name of a queue's path, by which siblings are sorted
 abbrev pub name_in : List Path → ℕ → Option Name
 name_in paths n = option_and_then (λ path. slice_get path (length path - 1)) (slice_get paths (n - 1))
+
+-- whether a queue has this name
+abbrev pub is_named : List Path → Name → ℕ → Bool
+is_named paths name n = option_map_or (same_name name) (name_in paths n) false

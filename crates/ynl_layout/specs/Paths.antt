@@ -59,6 +59,24 @@ module _ (paths : List Path) where
     pub each : All (IsChild n) numbers
     pub all : (child : ℕ) → IsChild n child → Contains numbers child
 
+  -- a queue of this name stands just below another
+  pub record IsChildOf (n : ℕ) (name : Name) (child : ℕ) : Type 0 where
+    pub there : HasNumber child
+    pub path : path_at child ≡ below (path_at n) name
+
+  -- none does
+  abbrev pub HasNoChild : ℕ → Name → Type 0
+  HasNoChild n name = (child : ℕ) → HasNumber child → path_at child ≢ below (path_at n) name
+
+  -- a number is that of the queue of a path
+  pub record IsNumberOf (queue : Path) (n : ℕ) : Type 0 where
+    pub there : HasNumber n
+    pub path : path_at n ≡ queue
+
+  -- none is
+  abbrev pub HasNoNumber : Path → Type 0
+  HasNoNumber queue = (n : ℕ) → HasNumber n → path_at n ≢ queue
+
   -- each queue below a queue stands in one of these, or below it
   abbrev pub CoverBelow : ℕ → List ℕ → Type 0
   CoverBelow n numbers =

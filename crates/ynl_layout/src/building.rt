@@ -1,9 +1,9 @@
 //! How the numbers of queues are made.
 
-ghost use Rattle.std.specs.Prelude.{◌≡◌, ◌<◌, ◌^◌, ◌↔◌, List, ℕ, suc, length, IfOk, IsTrue};
+ghost use Rattle.std.specs.Prelude.{◌≡◌, ◌<◌, ◌^◌, ◌↔◌, List, ℕ, suc, length, find, IfOk, IsTrue};
 ghost use Rattle.ynl_resource.specs.declared.paths.Path.{Path as Names};
 ghost use Rattle.ynl_layout.specs.Paths.{AreChildren, AreLines, HasNumber, HaveChildren, IsChild, IsLine, IsTree, paths_of};
-ghost use Rattle.ynl_layout.specs.Building.{name_in};
+ghost use Rattle.ynl_layout.specs.Building.{is_named, name_in};
 
 use std::alloc::{AllocError, Global};
 use ynl_queues::Config;
@@ -57,6 +57,26 @@ fn name_of(paths: &[Path], queue: usize) -> Option<Name>
     ensures { result ≡ name_in paths.now queue }
 {
     paths.get(queue.saturating_sub(1))?.names().last().copied()
+}
+
+/// Whether a queue below root has this name.
+fn is_named(paths: &[Path], queue: usize, name: &Name) -> bool
+    ensures { result ≡ is_named paths.now name.now queue }
+{
+    match name_of(paths, queue) {
+        Some(other) => *name == other,
+        None => false,
+    }
+}
+
+/// Of some queues the first of a name, if there is one.
+pub(crate) fn child_of(paths: &[Path], children: &[usize], name: &Name) -> Option<usize>
+    ensures { result ≡ find (is_named paths.now name.now) children.now }
+{
+    children
+        .iter()
+        .copied()
+        .find(|child| is_named(paths, *child, name))
 }
 
 /// The numbers of the queues just below one, in the order of their names.

@@ -1,12 +1,12 @@
 //! The numbers of queues.
 
-ghost use Rattle.std.specs.Prelude.{◌≡◌, ◌<◌, ◌∷◌, length, IfOk};
+ghost use Rattle.std.specs.Prelude.{◌≡◌, ◌<◌, ◌∷◌, length, IfNone, IfOk, IfSome};
 ghost use Rattle.ynl_resource.specs.Names.{root};
 ghost use Rattle.ynl_model.specs.Service.{last_name};
 ghost use Rattle.ynl_laws.specs.Ways.{IsWay};
-ghost use Rattle.ynl_layout.specs.Paths.{AreChildren, CoverBelow, is_above, HasNumber, IsLine, IsTree, path_at, paths_of};
+ghost use Rattle.ynl_layout.specs.Paths.{AreChildren, CoverBelow, is_above, HasNoChild, HasNoNumber, HasNumber, IsChildOf, IsLine, IsNumberOf, IsTree, path_at, paths_of};
 
-use crate::building::{all_children, all_lines, paths_of};
+use crate::building::{all_children, all_lines, child_of, paths_of};
 use std::alloc::{AllocError, Global};
 use std::marker::Model;
 use ynl_queues::Config;
@@ -71,5 +71,26 @@ impl Layout {
         ensures below { CoverBelow self.now queue result.now }
     {
         &self.children[queue]
+    }
+
+    /// The number of the queue of a name just below one, if there is one.
+    pub fn child(&self, queue: usize, name: &Name) -> Option<usize>
+        requires { HasNumber self.now queue }
+        ensures some { IfSome result (IsChildOf self.now queue name.now) }
+        ensures none { IfNone result (HasNoChild self.now queue name.now) }
+    {
+        child_of(&self.paths, self.children(queue), name)
+    }
+
+    /// The number of a queue, if there is one of this path.
+    pub fn find(&self, queue: &[Name]) -> Option<usize>
+        ensures some { IfSome result (IsNumberOf self.now queue.now) }
+        ensures none { IfNone result (HasNoNumber self.now queue.now) }
+    {
+        let mut at = 0;
+        for name in queue {
+            at = child_of(&self.paths, self.children(at), name)?;
+        }
+        Some(at)
     }
 }

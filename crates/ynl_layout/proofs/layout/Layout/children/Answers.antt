@@ -1,5 +1,5 @@
 use Rattle.std.proofs.Common.{sym, subst, ◌∙◌, ap}
-use Rattle.ynl_layout.specs.Paths.{AreChildren, CoverBelow, HasNumber}
+use Rattle.ynl_layout.specs.Paths.{CoverBelow, HasNumber}
 use Rattle.ynl_layout.proofs.Ways.{cover-below}
 use Rattle.ynl_layout.proofs.layout.Layout.children.Goals as goal
 
