@@ -1,4 +1,4 @@
-use Rattle.std.proofs.Common.{◌≡◌, ℕ, take, true}
+use Rattle.std.proofs.Common.{◌≡◌, take, true}
 use Rattle.ynl_resource.specs.Amounts.{fits_in}
 use Rattle.ynl_settings.specs.Shares.{capacity_at, reached}
 use Rattle.ynl_settings.proofs.shares.Shares.guaranteed.Given as goal

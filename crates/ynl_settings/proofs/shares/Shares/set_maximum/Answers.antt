@@ -1,4 +1,4 @@
-use Rattle.std.proofs.Common.{◌≡◌, ◌∙◌, ℕ, ◌<◌, List, length, refl, ap, sym, subst}
+use Rattle.std.proofs.Common.{◌∙◌, ◌<◌, List, length, refl, ap, subst}
 use Rattle.ynl_settings.specs.declared.shares.Share.{Share}
 use Rattle.ynl_settings.specs.Shares.{with_at, with_maximum}
 use Rattle.ynl_settings.proofs.Cells.{set-at, set-row, inside-rows, row-is}
