@@ -145,7 +145,7 @@ module _ (rows new : Rows) (kept : IsKept rows) (ticket : ℕ) (waits : Both Res
           }
 
   pub shown_entered : ShowSame rows.users.entries new.users.entries
-  shown_entered other = ap (λ us. option_map shown (lookup (nat_eq other) us)) values.entries ∙ shown_written row.user values.row values.next rows.users.entries values.found (λ i. record { name = values.name i; used = values.used i; live = values.live i }) other
+  shown_entered other = ap (λ us. option_map shown (lookup (nat_eq other) us)) values.entries ∙ shown_written row.user values.row values.next rows.users.entries values.found (λ i. record { user = values.user_is i; used = values.used i; live = values.live i }) other
 
 -- a user uses another amount
 module _ (rows new : Rows) (kept : IsKept rows) (user : ℕ) (used : Resource) (small : IsUse used) (seats : new.seats ≡ rows.seats) (sets : SetsUsed user used rows.users.entries new.users.entries) (line : new.line ≡ rows.line) where

@@ -8,7 +8,6 @@ use Rattle.std.proofs.lemmas.Bool.Decides.{nat_tests}
 use Rattle.std.proofs.lemmas.Option.{same_Some, none-some}
 use Rattle.std.proofs.lemmas.List.{map-append}
 use Rattle.ynl_resource.specs.declared.amounts.Resource.{Resource}
-use Rattle.ynl_resource.specs.declared.names.Name.{Name}
 use Rattle.ynl_resource.specs.Amounts.{nothing}
 use Rattle.ynl_slots.specs.Slots.{IsOnly, IsUnused, IsLive, without}
 use Rattle.ynl_slots.proofs.Lookups.{only_from_distinct}
@@ -17,7 +16,7 @@ use Rattle.ynl_lane.specs.declared.rows.SeatRow.{SeatRow}
 use Rattle.ynl_lane.specs.declared.rows.UserRow.{UserRow}
 use Rattle.ynl_lane.specs.declared.rows.Rows.{Rows}
 use Rattle.ynl_lane.specs.Changes.{IsOwnRoom, Shown, shown, ShowSame, ShowsOther, SetsWaits, PushesSeat}
-use Rattle.ynl_lane.specs.Fields.{IsReady, ok_of, name_by, seat_of, count_of, AreNamed, IsUserOf, AreUsersOf, Opens}
+use Rattle.ynl_lane.specs.Fields.{IsReady, ok_of, user_by, seat_of, count_of, AreKeyed, IsUserOf, AreUsersOf, Opens}
 use Rattle.ynl_lane.specs.Found.{EachSeat}
 use Rattle.ynl_lane.specs.Levels.{ArePairs}
 use Rattle.ynl_lane.specs.Lines.{HasRoom}
@@ -28,12 +27,12 @@ use Rattle.ynl_lane.proofs.Found.{all_from_each}
 use Rattle.ynl_lane.proofs.Lists.{all_lookup, all_then, each_pushed, found_written, found_pushed, last_found, was_without, same_without}
 use Rattle.ynl_lane.proofs.Standing.{user_live}
 use Rattle.ynl_lane.proofs.Opening.{no_seat_of}
-use Rattle.ynl_lane.proofs.Showing.{mapped_row, shown_row, seat_as, seats_as, map_as, map_any, count_written, count_pushed, count_pairs, count_none, count_without}
+use Rattle.ynl_lane.proofs.Showing.{shown_row, seat_as, seats_as, map_as, map_any, count_written, count_pushed, count_pairs, count_none, count_without}
 use Rattle.ynl_lane.proofs.Views.{seat_live, view_entered, view_pairs, view_without, used_first, user_as, users_as, HaveRows}
 
--- each user is found by name
-pub named_of : (numbers : Name → Option ℕ) (ready : Option ℕ) (seats : List (ℕ × SeatRow)) (users : List (ℕ × UserRow)) → AreUsersOf numbers ready seats users → AreNamed numbers users
-named_of numbers ready seats users h n row there = (h n row there).named
+-- each user is found
+pub keyed_of : (numbers : ℕ → Option ℕ) (ready : Option ℕ) (seats : List (ℕ × SeatRow)) (users : List (ℕ × UserRow)) → AreUsersOf numbers ready seats users → AreKeyed numbers users
+keyed_of numbers ready seats users h n row there = (h n row there).keyed
 
 -- a seat that a contract sees has a row
 pub live_shown : (users : List (ℕ × UserRow)) (ticket : ℕ) (seats : List (ℕ × SeatRow)) (seen : List (ℕ × Seat)) → map (seat_of users) seats ≡ seen → is_some (lookup (nat_eq ticket) seen) ≡ true → IsLive ticket seats
@@ -70,7 +69,7 @@ have_rows rows kept = all_from_each (λ e. (row : UserRow) × (lookup (nat_eq e.
     go e (Some row) q live = (row, q)
 
 -- other things wait at a seat
-module _ (numbers : Name → Option ℕ) (ready : Option ℕ) (rows new : Rows) (kept : IsKept rows) (ticket : ℕ) (waits : Both Resource) (sets : SetsWaits ticket waits rows.seats.entries new.seats.entries) (same : ShowSame rows.users.entries new.users.entries) where
+module _ (numbers : ℕ → Option ℕ) (ready : Option ℕ) (rows new : Rows) (kept : IsKept rows) (ticket : ℕ) (waits : Both Resource) (sets : SetsWaits ticket waits rows.seats.entries new.seats.entries) (same : ShowSame rows.users.entries new.users.entries) where
   only : IsOnly ticket sets.row rows.seats.entries
   only = only_from_distinct ticket sets.row rows.seats.entries kept.seated.distinct sets.found
 
@@ -82,12 +81,12 @@ module _ (numbers : Name → Option ℕ) (ready : Option ℕ) (rows new : Rows) 
   seats_entered = seats_as rows.users.entries new.users.entries same new.seats.entries ∙ ap (map (seat_of rows.users.entries)) sets.entries ∙ view_entered rows.users.entries ticket waits sets.row rows.seats.entries only
 
 -- a user is closed who has no seat
-module _ (numbers after : Name → Option ℕ) (ready : Option ℕ) (user : ℕ) (rows new : Rows) (kept : IsKept rows) (seats : new.seats ≡ rows.seats) (users : new.users.entries ≡ without user rows.users.entries) (named : AreNamed after new.users.entries) where
+module _ (numbers after : ℕ → Option ℕ) (ready : Option ℕ) (user : ℕ) (rows new : Rows) (kept : IsKept rows) (seats : new.seats ≡ rows.seats) (users : new.users.entries ≡ without user rows.users.entries) (keyed : AreKeyed after new.users.entries) where
   pub users_closed : ((n : ℕ) (row : UserRow) → n ≢ user → lookup (nat_eq n) rows.users.entries ≡ Some row → IsUserOf numbers None rows.seats.entries n (shown row)) → AreUsersOf after None new.seats.entries new.users.entries
   users_closed h n row there =
       let was = was_without user n row rows.users.entries (ap (λ us. lookup (nat_eq n) us) (sym users) ∙ there) in
       let known = h n row was.0 was.1 in
-      record { named = named n row there; counted = known.counted ∙ ap (λ s. count_of n s.entries) (sym seats); some = known.some; spare = known.spare }
+      record { keyed = keyed n row there; counted = known.counted ∙ ap (λ s. count_of n s.entries) (sym seats); some = known.some; spare = known.spare }
 
   pub seats_closed : EachSeat (λ _ row. row.user ≢ user) rows.seats.entries → map (seat_of new.users.entries) new.seats.entries ≡ map (seat_of rows.users.entries) rows.seats.entries
   seats_closed none = ap (λ s. map (seat_of new.users.entries) s.entries) seats ∙ map_as (seat_of new.users.entries) (seat_of rows.users.entries) rows.seats.entries
@@ -95,7 +94,7 @@ module _ (numbers after : Name → Option ℕ) (ready : Option ℕ) (user : ℕ)
       (λ n e there. seat_as (n, e) rows.users.entries new.users.entries (ap (λ us. option_map shown (lookup (nat_eq e.user) us)) users ∙ ap (option_map shown) (same_without user e.user rows.users.entries (none n e there)))))
 
 -- a seat goes
-module _ (numbers : Name → Option ℕ) (rows new : Rows) (kept : IsKept rows) (ticket : ℕ) (seat : SeatRow) (found : lookup (nat_eq ticket) rows.seats.entries ≡ Some seat) (seats : new.seats.entries ≡ without ticket rows.seats.entries)
+module _ (numbers : ℕ → Option ℕ) (rows new : Rows) (kept : IsKept rows) (ticket : ℕ) (seat : SeatRow) (found : lookup (nat_eq ticket) rows.seats.entries ≡ Some seat) (seats : new.seats.entries ≡ without ticket rows.seats.entries)
     (shows : ShowsOther seat.user (λ s. record s { live = s.live - 1 }) rows.users.entries new.users.entries) (h : AreUsersOf numbers None rows.seats.entries rows.users.entries) where
   counts : (user : ℕ) → count_of user rows.seats.entries ≡ count_of user new.seats.entries + cond (nat_eq user seat.user) 1 0
   counts user = count_without user ticket seat rows.seats.entries kept.seated.distinct found ∙ ap (λ s. count_of user s + cond (nat_eq user seat.user) 1 0) (sym seats)
@@ -106,11 +105,11 @@ module _ (numbers : Name → Option ℕ) (rows new : Rows) (kept : IsKept rows) 
       let missed : nat_eq n seat.user ≡ false = grind (arith, nat_tests) in
       let one : cond (nat_eq n seat.user) 1 0 ≡ 0 = ap (λ (b : Bool). let k : ℕ = cond b 1 0 in k) missed in
       let all = counts n in
-      user_as numbers numbers None None rows.seats.entries new.seats.entries rows.users.entries new.users.entries h n row (shows.others n apart) there (subst (λ (s : Shown). numbers s.name ≡ Some n) own.2 (h n own.0 own.1).named) (λ away. away) (omega (arith, all, one))
+      user_as numbers numbers None None rows.seats.entries new.seats.entries rows.users.entries new.users.entries h n row (shows.others n apart) there (subst (λ (s : Shown). numbers s.user ≡ Some n) own.2 (h n own.0 own.1).keyed) (λ away. away) (omega (arith, all, one))
 
   -- what is known of the user, of whom one seat less is counted
   pub record Pulled (row : UserRow) : Type 0 where
-    pub named : numbers row.name ≡ Some seat.user
+    pub keyed : numbers row.user ≡ Some seat.user
     pub counted : row.live ≡ count_of seat.user new.seats.entries
 
   pub pulled_own : (row : UserRow) → lookup (nat_eq seat.user) new.users.entries ≡ Some row → Pulled row
@@ -126,7 +125,7 @@ module _ (numbers : Name → Option ℕ) (rows new : Rows) (kept : IsKept rows) 
           let all = counts seat.user in
           let counted = known.counted in
           let live : r.live - 1 ≡ row.live = ap (λ (s : Shown). s.live) is in
-          record { named = ap numbers (sym (ap (λ (s : Shown). s.name) is)) ∙ known.named; counted = omega (arith, all, one, counted, live) }
+          record { keyed = ap numbers (sym (ap (λ (s : Shown). s.user) is)) ∙ known.keyed; counted = omega (arith, all, one, counted, live) }
 
   -- where the user has a seat still
   pub users_pulled : (row : UserRow) → lookup (nat_eq seat.user) new.users.entries ≡ Some row → row.live ≢ 0 → AreUsersOf numbers None new.seats.entries new.users.entries
@@ -135,7 +134,7 @@ module _ (numbers : Name → Option ℕ) (rows new : Rows) (kept : IsKept rows) 
       let is : row ≡ x = same_Some _ _ (sym own ∙ ap (λ k. lookup (nat_eq k) new.users.entries) (sym same) ∙ there) in
       let known = pulled_own row own in
       subst (λ (r : UserRow). IsUserOf numbers None new.seats.entries n (shown r)) is (subst (λ k. IsUserOf numbers None new.seats.entries k (shown row)) (sym same)
-      (record { named = known.named; counted = known.counted; some = λ away. omega (arith, some); spare = λ zero. absurd (some zero) })))
+      (record { keyed = known.keyed; counted = known.counted; some = λ away. omega (arith, some); spare = λ zero. absurd (some zero) })))
       (λ apart. pulled_other n x apart there)
       (cases_eq n seat.user)
 
@@ -153,14 +152,14 @@ module _ (numbers : Name → Option ℕ) (rows new : Rows) (kept : IsKept rows) 
               go None q k = seat_as e rows.users.entries new.users.entries (ap (λ u. option_map shown (lookup (nat_eq u) new.users.entries)) same ∙ k ∙ ap (option_map (λ r. record (shown r) { live = r.live - 1 })) q ∙ sym (ap (option_map shown) q) ∙ ap (λ u. option_map shown (lookup (nat_eq u) rows.users.entries)) (sym same))
               go (Some r) q k =
                   let next = shown_row seat.user (record (shown r) { live = r.live - 1 }) new.users.entries (k ∙ ap (option_map (λ r. record (shown r) { live = r.live - 1 })) q) in
-                  let name : name_by e.1.user new.users.entries ≡ name_by e.1.user rows.users.entries = ap (λ u. name_by u new.users.entries) same ∙ ap (λ o. option_map_or (λ (r : UserRow). r.name) o []) next.1 ∙ ap (λ (s : Shown). s.name) next.2 ∙ sym (ap (λ u. name_by u rows.users.entries) same ∙ ap (λ o. option_map_or (λ (r : UserRow). r.name) o []) q) in
+                  let user_is : user_by e.1.user new.users.entries ≡ user_by e.1.user rows.users.entries = ap (λ u. user_by u new.users.entries) same ∙ ap (λ o. option_map_or (λ (r : UserRow). r.user) o 0) next.1 ∙ ap (λ (s : Shown). s.user) next.2 ∙ sym (ap (λ u. user_by u rows.users.entries) same ∙ ap (λ o. option_map_or (λ (r : UserRow). r.user) o 0) q) in
                   let uses : used_by e.1.user new.users.entries ≡ used_by e.1.user rows.users.entries = ap (λ u. used_by u new.users.entries) same ∙ ap (λ o. option_map_or (λ (r : UserRow). r.used) o nothing) next.1 ∙ ap (λ (s : Shown). s.used) next.2 ∙ sym (ap (λ u. used_by u rows.users.entries) same ∙ ap (λ o. option_map_or (λ (r : UserRow). r.used) o nothing) q) in
-                  λ i. (e.0, record { app = e.1.app; user = name i; used = uses i; waits = e.1.waits })
+                  λ i. (e.0, record { app = e.1.app; user = user_is i; used = uses i; waits = e.1.waits })
 
 -- ---- room for a user's next seat
 
 -- the same seats in other slots, and users who show the same
-pub users_moved : (numbers : Name → Option ℕ) (rows new : Rows) → AreUsersOf numbers None rows.seats.entries rows.users.entries → ArePairs IsSameSeat rows.seats.entries new.seats.entries → ShowSame rows.users.entries new.users.entries → AreUsersOf numbers None new.seats.entries new.users.entries
+pub users_moved : (numbers : ℕ → Option ℕ) (rows new : Rows) → AreUsersOf numbers None rows.seats.entries rows.users.entries → ArePairs IsSameSeat rows.seats.entries new.seats.entries → ShowSame rows.users.entries new.users.entries → AreUsersOf numbers None new.seats.entries new.users.entries
 users_moved numbers rows new h pairs same = users_as numbers None rows.seats.entries new.seats.entries rows.users.entries new.users.entries h same (λ user. count_pairs user rows.seats.entries new.seats.entries pairs)
 
 pub seats_moved : (rows new : Rows) → ArePairs IsSameSeat rows.seats.entries new.seats.entries → ShowSame rows.users.entries new.users.entries → map (seat_of new.users.entries) new.seats.entries ≡ map (seat_of rows.users.entries) rows.seats.entries
@@ -170,26 +169,40 @@ pub shows_itself : (old new : List (ℕ × UserRow)) → new ≡ old → ShowSam
 shows_itself old new same user = ap (λ us. option_map shown (lookup (nat_eq user) us)) same
 
 -- room is kept for a user
-pub users_ready : (numbers : Name → Option ℕ) (user : ℕ) (seats : List (ℕ × SeatRow)) (users : List (ℕ × UserRow)) → AreUsersOf numbers None seats users → AreUsersOf numbers (Some user) seats users
+pub users_ready : (numbers : ℕ → Option ℕ) (user : ℕ) (seats : List (ℕ × SeatRow)) (users : List (ℕ × UserRow)) → AreUsersOf numbers None seats users → AreUsersOf numbers (Some user) seats users
 users_ready numbers user seats users h n row there =
     let known = h n row there in
-    record { named = known.named; counted = known.counted; some = λ apart. known.some (λ none. none-some n none); spare = known.spare }
+    record { keyed = known.keyed; counted = known.counted; some = λ apart. known.some (λ none. none-some n none); spare = known.spare }
+
+-- no room is kept any more for a user who has a seat
+pub users_left : (numbers : ℕ → Option ℕ) (user : ℕ) (own : UserRow) (seats : List (ℕ × SeatRow)) (users : List (ℕ × UserRow)) → AreUsersOf numbers (Some user) seats users → lookup (nat_eq user) users ≡ Some own → own.live ≢ 0 → AreUsersOf numbers None seats users
+users_left numbers user own seats users h found some n row there =
+    let known = h n row there in
+    record {
+      keyed = known.keyed;
+      counted = known.counted;
+      some = λ none. ⊎_elim
+          (λ same. subst (λ (r : UserRow). 0 < r.live) (same_Some _ _ (sym found ∙ ap (λ k. lookup (nat_eq k) users) (sym same) ∙ there)) (omega (arith, some)))
+          (λ apart. known.some (λ is. apart (sym (same_Some _ _ is))))
+          (cases_eq n user);
+      spare = known.spare;
+    }
 
 -- a user comes who has no seat yet
-module _ (numbers : Name → Option ℕ) (number : ℕ) (name : Name) (rows new : Rows) (kept : IsKept rows) (seats : new.seats ≡ rows.seats) (opens : Opens number name rows.users.entries new.users.entries) where
-  pub users_opened : (was : Name → Option ℕ) → AreUsersOf was None rows.seats.entries rows.users.entries → AreNamed numbers new.users.entries → AreUsersOf numbers (Some number) new.seats.entries new.users.entries
-  users_opened was h named =
+module _ (numbers : ℕ → Option ℕ) (number user : ℕ) (rows new : Rows) (kept : IsKept rows) (seats : new.seats ≡ rows.seats) (opens : Opens number user rows.users.entries new.users.entries) where
+  pub users_opened : (was : ℕ → Option ℕ) → AreUsersOf was None rows.seats.entries rows.users.entries → AreKeyed numbers new.users.entries → AreUsersOf numbers (Some number) new.seats.entries new.users.entries
+  users_opened was h keyed =
       subst (λ s. AreUsersOf numbers (Some number) s.entries new.users.entries) (sym seats)
       (subst (AreUsersOf numbers (Some number) rows.seats.entries) (sym opens.entries)
-      (each_pushed (λ n row. IsUserOf was None rows.seats.entries n (shown row) × (numbers row.name ≡ Some n)) (λ n row. IsUserOf numbers (Some number) rows.seats.entries n (shown row)) number opens.row rows.users.entries opens.unused
+      (each_pushed (λ n row. IsUserOf was None rows.seats.entries n (shown row) × (numbers row.user ≡ Some n)) (λ n row. IsUserOf numbers (Some number) rows.seats.entries n (shown row)) number opens.row rows.users.entries opens.unused
       (record {
-        named = named number opens.row (ap (λ us. lookup (nat_eq number) us) opens.entries ∙ last_found number opens.row rows.users.entries opens.unused);
+        keyed = keyed number opens.row (ap (λ us. lookup (nat_eq number) us) opens.entries ∙ last_found number opens.row rows.users.entries opens.unused);
         counted = ap (λ (s : Shown). s.live) opens.shown_is ∙ sym (count_zero number rows.seats.entries (all_from_each (λ e. e.1.user ≢ number) rows.seats.entries kept.seated.distinct (no_seat_of rows kept number opens.unused)));
         some = λ apart. absurd (apart refl);
         spare = λ zero. ap (λ (s : Shown). s.used) opens.shown_is;
       })
-      (λ n row there k. record { named = k.1; counted = k.0.counted; some = λ apart. k.0.some (λ none. none-some n none); spare = k.0.spare })
-      (λ n row there. (h n row there, named n row (ap (λ us. lookup (nat_eq n) us) opens.entries ∙ found_pushed number n opens.row row rows.users.entries opens.unused there)))))
+      (λ n row there k. record { keyed = k.1; counted = k.0.counted; some = λ apart. k.0.some (λ none. none-some n none); spare = k.0.spare })
+      (λ n row there. (h n row there, keyed n row (ap (λ us. lookup (nat_eq n) us) opens.entries ∙ found_pushed number n opens.row row rows.users.entries opens.unused there)))))
 
   pub seats_opened : map (seat_of new.users.entries) new.seats.entries ≡ map (seat_of rows.users.entries) rows.seats.entries
   seats_opened = ap (λ s. map (seat_of new.users.entries) s.entries) seats ∙ map_as (seat_of new.users.entries) (seat_of rows.users.entries) rows.seats.entries
@@ -208,43 +221,36 @@ module _ (numbers : Name → Option ℕ) (number : ℕ) (name : Name) (rows new 
       let none : opens.row.live ≡ 0 = ap (λ (s : Shown). s.live) opens.shown_is in
       subst (λ (r : UserRow). HasRoom r.line × (r.live < 2 ^ 32 - 1)) is (opens.room, omega (arith, none))
 
-  pub opened_name : name_by number new.users.entries ≡ name
-  opened_name = ap (λ o. option_map_or (λ (r : UserRow). r.name) o []) opened_found ∙ ap (λ (s : Shown). s.name) opens.shown_is
-
--- a user with a row is live, and has the row's name
-pub live_named : (user : ℕ) (name : Name) (old new : List (ℕ × UserRow)) → option_map (λ (row : UserRow). row.name) (lookup (nat_eq user) old) ≡ Some name → ShowSame old new → IsLive user new × (name_by user new ≡ name)
-live_named user name old new h same =
-    let own = mapped_row (λ (row : UserRow). row.name) user name old h in
-    let next = shown_row user (shown own.0) new (same user ∙ ap (option_map shown) own.1) in
-    (ap is_some next.1, ap (λ o. option_map_or (λ (r : UserRow). r.name) o []) next.1 ∙ ap (λ (s : Shown). s.name) next.2 ∙ own.2)
+  pub opened_is : user_by number new.users.entries ≡ user
+  opened_is = ap (λ o. option_map_or (λ (r : UserRow). r.user) o 0) opened_found ∙ ap (λ (s : Shown). s.user) opens.shown_is
 
 -- what `open` leaves, whatever it returns
-module _ (old numbers : Name → Option ℕ) (name : Name) (rows new : Rows) (kept : IsKept rows) (h : AreUsersOf old None rows.seats.entries rows.users.entries) (seats : new.seats ≡ rows.seats) (named : AreNamed numbers new.users.entries) where
+module _ (old numbers : ℕ → Option ℕ) (user : ℕ) (rows new : Rows) (kept : IsKept rows) (h : AreUsersOf old None rows.seats.entries rows.users.entries) (seats : new.seats ≡ rows.seats) (keyed : AreKeyed numbers new.users.entries) where
   unopened : new.users.entries ≡ rows.users.entries → AreUsersOf numbers None new.seats.entries new.users.entries
   unopened same n row there =
       let known = h n row (ap (λ us. lookup (nat_eq n) us) (sym same) ∙ there) in
-      record { named = named n row there; counted = known.counted ∙ ap (λ s. count_of n s.entries) (sym seats); some = known.some; spare = known.spare }
+      record { keyed = keyed n row there; counted = known.counted ∙ ap (λ s. count_of n s.entries) (sym seats); some = known.some; spare = known.spare }
 
-  pub opened_users : {E : Type 0} (result : Result ℕ E) → IfOk result (λ number. Opens number name rows.users.entries new.users.entries) → OnErr result (new.users.entries ≡ rows.users.entries) → AreUsersOf numbers (ok_of result) new.seats.entries new.users.entries
-  opened_users (Ok number) opens err = users_opened numbers number name rows new kept seats opens old h named
+  pub opened_users : {E : Type 0} (result : Result ℕ E) → IfOk result (λ number. Opens number user rows.users.entries new.users.entries) → OnErr result (new.users.entries ≡ rows.users.entries) → AreUsersOf numbers (ok_of result) new.seats.entries new.users.entries
+  opened_users (Ok number) opens err = users_opened numbers number user rows new kept seats opens old h keyed
   opened_users (Err e) opens err = unopened err
 
-  pub opened_seats : {E : Type 0} (result : Result ℕ E) → IfOk result (λ number. Opens number name rows.users.entries new.users.entries) → OnErr result (new.users.entries ≡ rows.users.entries) → map (seat_of new.users.entries) new.seats.entries ≡ map (seat_of rows.users.entries) rows.seats.entries
-  opened_seats (Ok number) opens err = seats_opened numbers number name rows new kept seats opens
+  pub opened_seats : {E : Type 0} (result : Result ℕ E) → IfOk result (λ number. Opens number user rows.users.entries new.users.entries) → OnErr result (new.users.entries ≡ rows.users.entries) → map (seat_of new.users.entries) new.seats.entries ≡ map (seat_of rows.users.entries) rows.seats.entries
+  opened_seats (Ok number) opens err = seats_opened numbers number user rows new kept seats opens
   opened_seats (Err e) opens err = ap (λ s. map (seat_of new.users.entries) s.entries) seats ∙ ap (λ us. map (seat_of us) rows.seats.entries) err
 
-  pub opened_ready : {E : Type 0} (result : Result ℕ E) → IfOk result (λ number. Opens number name rows.users.entries new.users.entries) → 0 < rows.seats.room → HasRoom rows.line → new.line ≡ rows.line → IfOk result (IsReady new)
+  pub opened_ready : {E : Type 0} (result : Result ℕ E) → IfOk result (λ number. Opens number user rows.users.entries new.users.entries) → 0 < rows.seats.room → HasRoom rows.line → new.line ≡ rows.line → IfOk result (IsReady new)
   opened_ready (Ok number) opens seat_room room line = record {
-    live = opened_live numbers number name rows new kept seats opens;
+    live = opened_live numbers number user rows new kept seats opens;
     seat_room = subst (λ s. 0 < s.room) (sym seats) seat_room;
     room = subst HasRoom (sym line) room;
-    own_room = opened_room numbers number name rows new kept seats opens;
+    own_room = opened_room numbers number user rows new kept seats opens;
   }
   opened_ready (Err e) opens seat_room room line = tt
 
-  pub opened_names : {E : Type 0} (result : Result ℕ E) → IfOk result (λ number. Opens number name rows.users.entries new.users.entries) → IfOk result (λ number. name_by number new.users.entries ≡ name)
-  opened_names (Ok number) opens = opened_name numbers number name rows new kept seats opens
-  opened_names (Err e) opens = tt
+  pub opened_are : {E : Type 0} (result : Result ℕ E) → IfOk result (λ number. Opens number user rows.users.entries new.users.entries) → IfOk result (λ number. user_by number new.users.entries ≡ user)
+  opened_are (Ok number) opens = opened_is numbers number user rows new kept seats opens
+  opened_are (Err e) opens = tt
 
 -- ---- a seat comes
 
@@ -259,11 +265,11 @@ seat_counted user count old new shows e = ⊎_elim own (λ apart. seat_as e old 
         go None q = seat_as e old new (ap (λ u. option_map shown (lookup (nat_eq u) new)) same ∙ shows.own ∙ ap (option_map (λ r. record (shown r) { live = count (shown r) })) q ∙ sym (ap (option_map shown) q) ∙ ap (λ u. option_map shown (lookup (nat_eq u) old)) (sym same))
         go (Some r) q =
             let next = shown_row user (record (shown r) { live = count (shown r) }) new (shows.own ∙ ap (option_map (λ r. record (shown r) { live = count (shown r) })) q) in
-            let name : name_by e.1.user new ≡ name_by e.1.user old = ap (λ u. name_by u new) same ∙ ap (λ o. option_map_or (λ (r : UserRow). r.name) o []) next.1 ∙ ap (λ (s : Shown). s.name) next.2 ∙ sym (ap (λ u. name_by u old) same ∙ ap (λ o. option_map_or (λ (r : UserRow). r.name) o []) q) in
+            let user_is : user_by e.1.user new ≡ user_by e.1.user old = ap (λ u. user_by u new) same ∙ ap (λ o. option_map_or (λ (r : UserRow). r.user) o 0) next.1 ∙ ap (λ (s : Shown). s.user) next.2 ∙ sym (ap (λ u. user_by u old) same ∙ ap (λ o. option_map_or (λ (r : UserRow). r.user) o 0) q) in
             let uses : used_by e.1.user new ≡ used_by e.1.user old = ap (λ u. used_by u new) same ∙ ap (λ o. option_map_or (λ (r : UserRow). r.used) o nothing) next.1 ∙ ap (λ (s : Shown). s.used) next.2 ∙ sym (ap (λ u. used_by u old) same ∙ ap (λ o. option_map_or (λ (r : UserRow). r.used) o nothing) q) in
-            λ i. (e.0, record { app = e.1.app; user = name i; used = uses i; waits = e.1.waits })
+            λ i. (e.0, record { app = e.1.app; user = user_is i; used = uses i; waits = e.1.waits })
 
-module _ (numbers : Name → Option ℕ) (app user ticket : ℕ) (rows new : Rows) (kept : IsKept rows) (pushes : PushesSeat app user ticket rows.seats.entries new.seats.entries) (shows : ShowsOther user (λ s. record s { live = s.live + 1 }) rows.users.entries new.users.entries) (h : AreUsersOf numbers (Some user) rows.seats.entries rows.users.entries) where
+module _ (numbers : ℕ → Option ℕ) (app user ticket : ℕ) (rows new : Rows) (kept : IsKept rows) (pushes : PushesSeat app user ticket rows.seats.entries new.seats.entries) (shows : ShowsOther user (λ s. record s { live = s.live + 1 }) rows.users.entries new.users.entries) (h : AreUsersOf numbers (Some user) rows.seats.entries rows.users.entries) where
   counts_more : (n : ℕ) → count_of n new.seats.entries ≡ count_of n rows.seats.entries + cond (nat_eq n user) 1 0
   counts_more n = ap (count_of n) pushes.entries ∙ count_pushed n ticket pushes.row rows.seats.entries ∙ ap (λ u. let k : ℕ = count_of n rows.seats.entries + cond (nat_eq n u) 1 0 in k) pushes.user_is
 
@@ -283,7 +289,7 @@ module _ (numbers : Name → Option ℕ) (app user ticket : ℕ) (rows new : Row
               let more = counts_more user in
               let counted = known.counted in
               subst (IsUserOf numbers None new.seats.entries n) is (subst (λ k. IsUserOf numbers None new.seats.entries k (record (shown r) { live = r.live + 1 })) (sym same) (record {
-                named = known.named;
+                keyed = known.keyed;
                 counted = omega (arith, more, one, counted);
                 some = λ apart. omega arith;
                 spare = λ zero. absurd (omega (arith, zero));
@@ -295,26 +301,26 @@ module _ (numbers : Name → Option ℕ) (app user ticket : ℕ) (rows new : Row
           let missed : nat_eq n user ≡ false = grind (arith, nat_tests) in
           let one : cond (nat_eq n user) 1 0 ≡ 0 = ap (λ (b : Bool). let k : ℕ = cond b 1 0 in k) missed in
           let more = counts_more n in
-          user_as numbers numbers (Some user) None rows.seats.entries new.seats.entries rows.users.entries new.users.entries h n row (shows.others n apart) there (subst (λ (s : Shown). numbers s.name ≡ Some n) own.2 (h n own.0 own.1).named) (λ away is. apart (sym (same_Some _ _ is))) (omega (arith, more, one))
+          user_as numbers numbers (Some user) None rows.seats.entries new.seats.entries rows.users.entries new.users.entries h n row (shows.others n apart) there (subst (λ (s : Shown). numbers s.user ≡ Some n) own.2 (h n own.0 own.1).keyed) (λ away is. apart (sym (same_Some _ _ is))) (omega (arith, more, one))
 
-  pub seats_added : (own : UserRow) → lookup (nat_eq user) rows.users.entries ≡ Some own → Adds app ticket (name_by user rows.users.entries) (map (seat_of rows.users.entries) rows.seats.entries) (map (seat_of new.users.entries) new.seats.entries)
+  pub seats_added : (own : UserRow) → lookup (nat_eq user) rows.users.entries ≡ Some own → Adds app ticket (user_by user rows.users.entries) (map (seat_of rows.users.entries) rows.seats.entries) (map (seat_of new.users.entries) new.seats.entries)
   seats_added own found = record {
     unused = unused_shown rows.seats.entries pushes.unused;
     seats = map_any (seat_of new.users.entries) (seat_of rows.users.entries) (seat_counted user (λ s. s.live + 1) rows.users.entries new.users.entries shows) new.seats.entries ∙ ap (map (seat_of rows.users.entries)) pushes.entries ∙ map-append (seat_of rows.users.entries) rows.seats.entries ((ticket, pushes.row) ∷ [])
-        ∙ (λ i. map (seat_of rows.users.entries) rows.seats.entries ++ (ticket, record { app = pushes.app_is i; user = name_by (pushes.user_is i) rows.users.entries; used = uses i; waits = pushes.waits i }) ∷ []);
+        ∙ (λ i. map (seat_of rows.users.entries) rows.seats.entries ++ (ticket, record { app = pushes.app_is i; user = user_by (pushes.user_is i) rows.users.entries; used = uses i; waits = pushes.waits i }) ∷ []);
   }
     where
       unused_shown : (seats : List (ℕ × SeatRow)) → IsUnused ticket seats → IsUnused ticket (map (seat_of rows.users.entries) seats)
       unused_shown [] h = tt
       unused_shown (e ∷ seats) h = (h.0, unused_shown seats h.1)
 
-      name : name_by user rows.users.entries ≡ own.name
-      name = ap (λ o. option_map_or (λ (r : UserRow). r.name) o []) found
+      user_is : user_by user rows.users.entries ≡ own.user
+      user_is = ap (λ o. option_map_or (λ (r : UserRow). r.user) o 0) found
 
-      uses : used_by pushes.row.user rows.users.entries ≡ used_at (name_by user rows.users.entries) (map (seat_of rows.users.entries) rows.seats.entries)
+      uses : used_by pushes.row.user rows.users.entries ≡ used_at (user_by user rows.users.entries) (map (seat_of rows.users.entries) rows.seats.entries)
       uses = ap (λ k. used_by k rows.users.entries) pushes.user_is ∙ ap (λ o. option_map_or (λ (r : UserRow). r.used) o nothing) found
-          ∙ sym (used_first numbers rows.users.entries (named_of numbers (Some user) rows.seats.entries rows.users.entries h) user own found rows.seats.entries (have_rows rows kept) (λ none. (h user own found).spare ((h user own found).counted ∙ none)))
-          ∙ ap (λ n. used_at n (map (seat_of rows.users.entries) rows.seats.entries)) (sym name)
+          ∙ sym (used_first numbers rows.users.entries (keyed_of numbers (Some user) rows.seats.entries rows.users.entries h) user own found rows.seats.entries (have_rows rows kept) (λ none. (h user own found).spare ((h user own found).counted ∙ none)))
+          ∙ ap (λ n. used_at n (map (seat_of rows.users.entries) rows.seats.entries)) (sym user_is)
 
 -- the row of a user who is live
 pub live_row : (user : ℕ) (users : List (ℕ × UserRow)) → IsLive user users → (row : UserRow) × (lookup (nat_eq user) users ≡ Some row)
@@ -326,7 +332,7 @@ live_row user users live = go (lookup (nat_eq user) users) refl
 
 -- ---- a seat goes at which nothing waits any more
 
-module _ (numbers : Name → Option ℕ) (rows mid new : Rows) (kept : IsKept rows) (stays : IsKept mid) (ticket : ℕ) (sets : SetsWaits ticket nothing_waits rows.seats.entries mid.seats.entries) (same : ShowSame rows.users.entries mid.users.entries) where
+module _ (numbers : ℕ → Option ℕ) (rows mid new : Rows) (kept : IsKept rows) (stays : IsKept mid) (ticket : ℕ) (sets : SetsWaits ticket nothing_waits rows.seats.entries mid.seats.entries) (same : ShowSame rows.users.entries mid.users.entries) where
   left_seat : lookup (nat_eq ticket) mid.seats.entries ≡ Some (record sets.row { waits = nothing_waits })
   left_seat = ap (lookup (nat_eq ticket)) sets.entries ∙ found_written ticket (record sets.row { waits = nothing_waits }) sets.row rows.seats.entries sets.found
 
@@ -370,10 +376,10 @@ module _ (numbers : Name → Option ℕ) (rows mid new : Rows) (kept : IsKept ro
       pub gone_other : (n : ℕ) (row : UserRow) → n ≢ user → lookup (nat_eq n) new.users.entries ≡ Some row → IsUserOf numbers None new.seats.entries n (shown row)
       gone_other n row apart there = pulled_other numbers mid new stays ticket (record sets.row { waits = nothing_waits }) left_seat seats seat_shows left_users n row (λ is. apart (is ∙ own)) there
 
-      pub gone_named : AreNamed numbers new.users.entries
-      gone_named n row there = ⊎_elim
-          (λ is. ap numbers refl ∙ (let known = pulled_own numbers mid new stays ticket (record sets.row { waits = nothing_waits }) left_seat seats seat_shows left_users row (ap (λ u. lookup (nat_eq u) new.users.entries) (own ∙ sym is) ∙ there) in known.named) ∙ ap Some (own ∙ sym is))
-          (λ apart. (gone_other n row apart there).named)
+      pub gone_keyed : AreKeyed numbers new.users.entries
+      gone_keyed n row there = ⊎_elim
+          (λ is. ap numbers refl ∙ (let known = pulled_own numbers mid new stays ticket (record sets.row { waits = nothing_waits }) left_seat seats seat_shows left_users row (ap (λ u. lookup (nat_eq u) new.users.entries) (own ∙ sym is) ∙ there) in known.keyed) ∙ ap Some (own ∙ sym is))
+          (λ apart. (gone_other n row apart there).keyed)
           (cases_eq n user)
 
 -- what waited at a seat that goes does not matter

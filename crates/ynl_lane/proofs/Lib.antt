@@ -1,11 +1,12 @@
 pub mod Changing
 pub mod Counting
+pub mod Distinct
 pub mod Found
 pub mod Fronts
 pub mod Keeping
+pub mod Keys
 pub mod Lists
 pub mod Moving
-pub mod Naming
 pub mod Opening
 pub mod Packing
 pub mod Pulling

@@ -187,7 +187,7 @@ module _ (rows new : Rows) (kept : IsKept rows) (app user ticket : ℕ) (unused 
 
   shown_pushed : ShowsOther user (λ s. record s { live = s.live + 1 }) rows.users.entries new.users.entries
   shown_pushed = record {
-    own = ap (λ us. option_map shown (lookup (nat_eq user) us)) pushes.entries ∙ ap (option_map shown) (found_written user pushes.next pushes.row rows.users.entries pushes.found) ∙ ap Some (λ i. record { name = pushes.name i; used = pushes.used i; live = pushes.live i }) ∙ sym (ap (option_map (λ r. record (shown r) { live = r.live + 1 })) pushes.found);
+    own = ap (λ us. option_map shown (lookup (nat_eq user) us)) pushes.entries ∙ ap (option_map shown) (found_written user pushes.next pushes.row rows.users.entries pushes.found) ∙ ap Some (λ i. record { user = pushes.user_is i; used = pushes.used i; live = pushes.live i }) ∙ sym (ap (option_map (λ r. record (shown r) { live = r.live + 1 })) pushes.found);
     others = λ other apart. ap (λ us. option_map shown (lookup (nat_eq other) us)) pushes.entries ∙ ap (option_map shown) (found_other other user pushes.next rows.users.entries apart);
   }
 

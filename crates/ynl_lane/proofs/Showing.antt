@@ -5,17 +5,16 @@ use Rattle.std.specs.Map.{lookup}
 use Rattle.std.specs.Option.{option_map_or}
 use Rattle.std.proofs.lemmas.Bool.Decides.{nat_tests}
 use Rattle.std.proofs.lemmas.Option.{same_Some, none-some}
-use Rattle.ynl_resource.specs.declared.names.Name.{Name}
 use Rattle.ynl_resource.specs.Amounts.{nothing}
 use Rattle.ynl_slots.specs.Slots.{IsOnly, IsUnused, HasDistinctNumbers, with_row, without}
 use Rattle.ynl_lane.specs.declared.rows.SeatRow.{SeatRow}
 use Rattle.ynl_lane.specs.declared.rows.UserRow.{UserRow}
 use Rattle.ynl_lane.specs.Changes.{Shown, shown, ShowSame}
-use Rattle.ynl_lane.specs.Fields.{name_by, count_of, seat_of}
+use Rattle.ynl_lane.specs.Fields.{user_by, count_of, seat_of}
 use Rattle.ynl_lane.specs.Levels.{ArePairs}
 use Rattle.ynl_lane.specs.Rooms.{IsSameSeat}
 use Rattle.ynl_lane.specs.Rows.{of_user, used_by}
-use Rattle.ynl_lane.proofs.Naming.{without_unused}
+use Rattle.ynl_lane.proofs.Keys.{without_unused}
 
 -- the row of which something is known
 pub mapped_row : {Y : Type 0} (f : UserRow → Y) (user : ℕ) (y : Y) (users : List (ℕ × UserRow)) → option_map f (lookup (nat_eq user) users) ≡ Some y → (row : UserRow) × (lookup (nat_eq user) users ≡ Some row) × (f row ≡ y)
@@ -25,8 +24,8 @@ mapped_row {Y = Y} f user y users h = go (lookup (nat_eq user) users) refl h
     go None q k = absurd (none-some y k)
     go (Some row) q k = (row, q, same_Some _ _ k)
 
-pub named_row : (user : ℕ) (name : Name) (users : List (ℕ × UserRow)) → option_map (λ (row : UserRow). row.name) (lookup (nat_eq user) users) ≡ Some name → (row : UserRow) × (lookup (nat_eq user) users ≡ Some row) × (row.name ≡ name)
-named_row user name users h = mapped_row (λ (row : UserRow). row.name) user name users h
+pub row_with : (number user : ℕ) (users : List (ℕ × UserRow)) → option_map (λ (row : UserRow). row.user) (lookup (nat_eq number) users) ≡ Some user → (row : UserRow) × (lookup (nat_eq number) users ≡ Some row) × (row.user ≡ user)
+row_with number user users h = mapped_row (λ (row : UserRow). row.user) number user users h
 
 pub shown_row : (user : ℕ) (s : Shown) (users : List (ℕ × UserRow)) → option_map shown (lookup (nat_eq user) users) ≡ Some s → (row : UserRow) × (lookup (nat_eq user) users ≡ Some row) × (shown row ≡ s)
 shown_row user s users h = mapped_row shown user s users h
@@ -45,9 +44,9 @@ shows_as f none user old new same = of_shown f none user new ∙ ap (λ o. optio
 -- a seat shows the same where its user does
 pub seat_as : (e : ℕ × SeatRow) (old new : List (ℕ × UserRow)) → option_map shown (lookup (nat_eq e.1.user) new) ≡ option_map shown (lookup (nat_eq e.1.user) old) → seat_of new e ≡ seat_of old e
 seat_as e old new same =
-    let name : name_by e.1.user new ≡ name_by e.1.user old = shows_as (λ (s : Shown). s.name) [] e.1.user old new same in
+    let user_is : user_by e.1.user new ≡ user_by e.1.user old = shows_as (λ (s : Shown). s.user) 0 e.1.user old new same in
     let used : used_by e.1.user new ≡ used_by e.1.user old = shows_as (λ (s : Shown). s.used) nothing e.1.user old new same in
-    λ i. (e.0, record { app = e.1.app; user = name i; used = used i; waits = e.1.waits })
+    λ i. (e.0, record { app = e.1.app; user = user_is i; used = used i; waits = e.1.waits })
 
 pub map_as : {X Y : Type 0} (f g : X → Y) (xs : List X) → AllByRecursion (λ x. f x ≡ g x) xs → map f xs ≡ map g xs
 map_as f g [] h = refl

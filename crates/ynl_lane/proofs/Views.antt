@@ -3,24 +3,21 @@ use Rattle.std.proofs.Common.{◌≡◌, ◌≢◌, ℕ, ◌+◌, ⊎_elim, Bool
 use Rattle.std.specs.List.{AllByRecursion}
 use Rattle.std.specs.Map.{lookup}
 use Rattle.std.specs.Option.{option_map_or}
-use Rattle.std.proofs.lemmas.Bool.{cases_eq}
+use Rattle.std.proofs.lemmas.Bool.{cases_eq, eq-eqb, eqb-true}
 use Rattle.std.proofs.lemmas.Bool.Decides.{nat_tests}
 use Rattle.std.proofs.lemmas.Option.{same_Some, none-some}
 use Rattle.ynl_resource.specs.declared.amounts.Resource.{Resource}
-use Rattle.ynl_resource.specs.declared.names.Name.{Name}
 use Rattle.ynl_resource.specs.Amounts.{nothing}
-use Rattle.ynl_resource.specs.Names.{same_name}
 use Rattle.ynl_slots.specs.Slots.{IsOnly, with_row, without}
 use Rattle.ynl_lane.specs.declared.kinds.Both.{Both}
 use Rattle.ynl_lane.specs.declared.rows.SeatRow.{SeatRow}
 use Rattle.ynl_lane.specs.declared.rows.UserRow.{UserRow}
 use Rattle.ynl_lane.specs.Changes.{Shown, shown, ShowSame, ShowsOther}
-use Rattle.ynl_lane.specs.Fields.{name_by, seat_of, count_of, IsUserOf, AreUsersOf}
+use Rattle.ynl_lane.specs.Fields.{user_by, seat_of, count_of, IsUserOf, AreUsersOf}
 use Rattle.ynl_lane.specs.Levels.{ArePairs}
 use Rattle.ynl_lane.specs.Rooms.{IsSameSeat}
 use Rattle.ynl_lane.specs.Rows.{used_by, EachUser}
 use Rattle.ynl_lane.specs.Seats.{Seat, with_waits, with_used, used_at}
-use Rattle.ynl_lane.proofs.Naming.{same_is, self_same}
 use Rattle.ynl_lane.proofs.Showing.{shown_row, seat_as}
 
 -- a seat that is looked up
@@ -55,7 +52,7 @@ pub view_pairs : (users : List (ℕ × UserRow)) (es fs : List (ℕ × SeatRow))
 view_pairs users [] [] k = refl
 view_pairs users (e ∷ es) (f ∷ fs) k =
     let rest = view_pairs users es fs k.1 in
-    λ i. (k.0.ticket i, record { app = k.0.app i; user = name_by (k.0.user i) users; used = used_by (k.0.user i) users; waits = k.0.waits i }) ∷ rest i
+    λ i. (k.0.ticket i, record { app = k.0.app i; user = user_by (k.0.user i) users; used = used_by (k.0.user i) users; waits = k.0.waits i }) ∷ rest i
 view_pairs users [] (f ∷ fs) k = absurd k
 view_pairs users (e ∷ es) [] k = absurd k
 
@@ -72,63 +69,63 @@ view_without users ticket (e ∷ seats) = go (nat_eq ticket e.0) (view_without u
 abbrev pub HaveRows : List (ℕ × UserRow) → List (ℕ × SeatRow) → Type 0
 HaveRows users seats = AllByRecursion (λ e. (row : UserRow) × (lookup (nat_eq e.1.user) users ≡ Some row)) seats
 
--- the number of a user is that of the name
-module _ (numbers : Name → Option ℕ) (users : List (ℕ × UserRow)) (named : EachUser (λ number row. numbers row.name ≡ Some number) users) (user : ℕ) (row : UserRow) (found : lookup (nat_eq user) users ≡ Some row) where
-  named_number : (e : ℕ × SeatRow) → (own : UserRow) × (lookup (nat_eq e.1.user) users ≡ Some own) → same_name row.name (name_by e.1.user users) ≡ true → e.1.user ≡ user
-  named_number e own h =
-      let is : row.name ≡ own.0.name = same_is row.name (name_by e.1.user users) h ∙ ap (λ o. option_map_or (λ (r : UserRow). r.name) o []) own.1 in
-      same_Some _ _ (sym (named e.1.user own.0 own.1) ∙ ap numbers (sym is) ∙ named user row found)
+-- a row is found by the user
+module _ (numbers : ℕ → Option ℕ) (users : List (ℕ × UserRow)) (keyed : EachUser (λ number row. numbers row.user ≡ Some number) users) (user : ℕ) (row : UserRow) (found : lookup (nat_eq user) users ≡ Some row) where
+  row_of_user : (e : ℕ × SeatRow) → (own : UserRow) × (lookup (nat_eq e.1.user) users ≡ Some own) → nat_eq row.user (user_by e.1.user users) ≡ true → e.1.user ≡ user
+  row_of_user e own h =
+      let is : row.user ≡ own.0.user = eqb-true row.user (user_by e.1.user users) h ∙ ap (λ o. option_map_or (λ (r : UserRow). r.user) o 0) own.1 in
+      same_Some _ _ (sym (keyed e.1.user own.0 own.1) ∙ ap numbers (sym is) ∙ keyed user row found)
 
-  number_named : (e : ℕ × SeatRow) → e.1.user ≡ user → same_name row.name (name_by e.1.user users) ≡ true
-  number_named e same = ap (same_name row.name) (ap (λ k. name_by k users) same ∙ ap (λ o. option_map_or (λ (r : UserRow). r.name) o []) found) ∙ self_same row.name
+  user_of_row : (e : ℕ × SeatRow) → e.1.user ≡ user → nat_eq row.user (user_by e.1.user users) ≡ true
+  user_of_row e same = eq-eqb row.user (user_by e.1.user users) (sym (ap (λ k. user_by k users) same ∙ ap (λ o. option_map_or (λ (r : UserRow). r.user) o 0) found))
 
-  pub view_used : (used : Resource) (new : List (ℕ × UserRow)) → ShowsOther user (λ s. record s { used = used }) users new → (seats : List (ℕ × SeatRow)) → HaveRows users seats → map (seat_of new) seats ≡ with_used row.name used (map (seat_of users) seats)
+  pub view_used : (used : Resource) (new : List (ℕ × UserRow)) → ShowsOther user (λ s. record s { used = used }) users new → (seats : List (ℕ × SeatRow)) → HaveRows users seats → map (seat_of new) seats ≡ with_used row.user used (map (seat_of users) seats)
   view_used used new shows [] have = refl
-  view_used used new shows (e ∷ seats) have = (let first = go (same_name row.name (name_by e.1.user users)) refl in let rest = view_used used new shows seats have.1 in λ i. first i ∷ rest i)
+  view_used used new shows (e ∷ seats) have = (let first = go (nat_eq row.user (user_by e.1.user users)) refl in let rest = view_used used new shows seats have.1 in λ i. first i ∷ rest i)
     where
-      go : (b : Bool) → same_name row.name (name_by e.1.user users) ≡ b → seat_of new e ≡ cond b (e.0, record (seat_of users e).1 { used = used }) (seat_of users e)
+      go : (b : Bool) → nat_eq row.user (user_by e.1.user users) ≡ b → seat_of new e ≡ cond b (e.0, record (seat_of users e).1 { used = used }) (seat_of users e)
       go true q =
-          let same : e.1.user ≡ user = named_number e have.0 q in
+          let same : e.1.user ≡ user = row_of_user e have.0 q in
           let now : option_map shown (lookup (nat_eq user) new) ≡ Some (record (shown row) { used = used }) = shows.own ∙ ap (option_map (λ r. record (shown r) { used = used })) found in
           let next = shown_row user (record (shown row) { used = used }) new now in
-          let name : name_by e.1.user new ≡ name_by e.1.user users = ap (λ k. name_by k new) same ∙ ap (λ o. option_map_or (λ (r : UserRow). r.name) o []) next.1 ∙ ap (λ (s : Shown). s.name) next.2 ∙ sym (ap (λ k. name_by k users) same ∙ ap (λ o. option_map_or (λ (r : UserRow). r.name) o []) found) in
+          let user_is : user_by e.1.user new ≡ user_by e.1.user users = ap (λ k. user_by k new) same ∙ ap (λ o. option_map_or (λ (r : UserRow). r.user) o 0) next.1 ∙ ap (λ (s : Shown). s.user) next.2 ∙ sym (ap (λ k. user_by k users) same ∙ ap (λ o. option_map_or (λ (r : UserRow). r.user) o 0) found) in
           let uses : used_by e.1.user new ≡ used = ap (λ k. used_by k new) same ∙ ap (λ o. option_map_or (λ (r : UserRow). r.used) o nothing) next.1 ∙ ap (λ (s : Shown). s.used) next.2 in
-          λ i. (e.0, record { app = e.1.app; user = name i; used = uses i; waits = e.1.waits })
+          λ i. (e.0, record { app = e.1.app; user = user_is i; used = uses i; waits = e.1.waits })
       go false q =
-          let apart : e.1.user ≢ user = λ same. true≢false (sym (number_named e same) ∙ q) in
+          let apart : e.1.user ≢ user = λ same. true≢false (sym (user_of_row e same) ∙ q) in
           seat_as e users new (shows.others e.1.user apart)
 
   -- what the user's first seat says that the user uses
-  pub used_first : (seats : List (ℕ × SeatRow)) → HaveRows users seats → (count_of user seats ≡ 0 → row.used ≡ nothing) → used_at row.name (map (seat_of users) seats) ≡ row.used
+  pub used_first : (seats : List (ℕ × SeatRow)) → HaveRows users seats → (count_of user seats ≡ 0 → row.used ≡ nothing) → used_at row.user (map (seat_of users) seats) ≡ row.used
   used_first [] have spare = sym (spare refl)
-  used_first (e ∷ seats) have spare = go (same_name row.name (name_by e.1.user users)) refl (λ more. used_first seats have.1 more)
+  used_first (e ∷ seats) have spare = go (nat_eq row.user (user_by e.1.user users)) refl (λ more. used_first seats have.1 more)
     where
-      go : (b : Bool) → same_name row.name (name_by e.1.user users) ≡ b → ((count_of user seats ≡ 0 → row.used ≡ nothing) → used_at row.name (map (seat_of users) seats) ≡ row.used)
-          → cond b (used_by e.1.user users) (used_at row.name (map (seat_of users) seats)) ≡ row.used
-      go true q later = ap (λ k. used_by k users) (named_number e have.0 q) ∙ ap (λ o. option_map_or (λ (r : UserRow). r.used) o nothing) found
+      go : (b : Bool) → nat_eq row.user (user_by e.1.user users) ≡ b → ((count_of user seats ≡ 0 → row.used ≡ nothing) → used_at row.user (map (seat_of users) seats) ≡ row.used)
+          → cond b (used_by e.1.user users) (used_at row.user (map (seat_of users) seats)) ≡ row.used
+      go true q later = ap (λ k. used_by k users) (row_of_user e have.0 q) ∙ ap (λ o. option_map_or (λ (r : UserRow). r.used) o nothing) found
       go false q later = later (λ none. spare (
-          let apart : user ≢ e.1.user = λ same. true≢false (sym (number_named e (sym same)) ∙ q) in
+          let apart : user ≢ e.1.user = λ same. true≢false (sym (user_of_row e (sym same)) ∙ q) in
           let missed : nat_eq user e.1.user ≡ false = grind (arith, nat_tests) in
           ap (λ (b : Bool). let n : ℕ = cond b 1 0 + count_of user seats in n) missed ∙ (let zero : 0 + count_of user seats ≡ 0 = omega (arith, none) in zero)))
 
 -- ---- what is known of users
 
-module _ (old new : Name → Option ℕ) (was is : Option ℕ) (before after : List (ℕ × SeatRow)) (users next : List (ℕ × UserRow)) (h : AreUsersOf old was before users) where
+module _ (old new : ℕ → Option ℕ) (was is : Option ℕ) (before after : List (ℕ × SeatRow)) (users next : List (ℕ × UserRow)) (h : AreUsersOf old was before users) where
   -- a user who shows the same
-  pub user_as : (number : ℕ) (row : UserRow) → option_map shown (lookup (nat_eq number) next) ≡ option_map shown (lookup (nat_eq number) users) → lookup (nat_eq number) next ≡ Some row → new row.name ≡ Some number → (is ≢ Some number → was ≢ Some number) → count_of number after ≡ count_of number before → IsUserOf new is after number (shown row)
-  user_as number row same there named ready count =
+  pub user_as : (number : ℕ) (row : UserRow) → option_map shown (lookup (nat_eq number) next) ≡ option_map shown (lookup (nat_eq number) users) → lookup (nat_eq number) next ≡ Some row → new row.user ≡ Some number → (is ≢ Some number → was ≢ Some number) → count_of number after ≡ count_of number before → IsUserOf new is after number (shown row)
+  user_as number row same there keyed ready count =
       let own = shown_row number (shown row) users (sym same ∙ ap (option_map shown) there) in
       let known : IsUserOf old was before number (shown row) = subst (IsUserOf old was before number) own.2 (h number own.0 own.1) in
-      record { named = named; counted = known.counted ∙ sym count; some = λ apart. known.some (ready apart); spare = known.spare }
+      record { keyed = keyed; counted = known.counted ∙ sym count; some = λ apart. known.some (ready apart); spare = known.spare }
 
 -- the users show the same, and have as many seats
-pub users_as : (numbers : Name → Option ℕ) (ready : Option ℕ) (before after : List (ℕ × SeatRow)) (users next : List (ℕ × UserRow)) → AreUsersOf numbers ready before users → ShowSame users next → ((user : ℕ) → count_of user after ≡ count_of user before) → AreUsersOf numbers ready after next
+pub users_as : (numbers : ℕ → Option ℕ) (ready : Option ℕ) (before after : List (ℕ × SeatRow)) (users next : List (ℕ × UserRow)) → AreUsersOf numbers ready before users → ShowSame users next → ((user : ℕ) → count_of user after ≡ count_of user before) → AreUsersOf numbers ready after next
 users_as numbers ready before after users next h same count number row there =
     let own = shown_row number (shown row) users (sym (same number) ∙ ap (option_map shown) there) in
-    user_as numbers numbers ready ready before after users next h number row (same number) there (subst (λ (s : Shown). numbers s.name ≡ Some number) own.2 (h number own.0 own.1).named) (λ apart. apart) (count number)
+    user_as numbers numbers ready ready before after users next h number row (same number) there (subst (λ (s : Shown). numbers s.user ≡ Some number) own.2 (h number own.0 own.1).keyed) (λ apart. apart) (count number)
 
 -- a user shows another amount in use
-pub users_used : (numbers : Name → Option ℕ) (user : ℕ) (used : Resource) (seats : List (ℕ × SeatRow)) (users next : List (ℕ × UserRow)) → AreUsersOf numbers None seats users → ShowsOther user (λ s. record s { used = used }) users next → AreUsersOf numbers None seats next
+pub users_used : (numbers : ℕ → Option ℕ) (user : ℕ) (used : Resource) (seats : List (ℕ × SeatRow)) (users next : List (ℕ × UserRow)) → AreUsersOf numbers None seats users → ShowsOther user (λ s. record s { used = used }) users next → AreUsersOf numbers None seats next
 users_used numbers user used seats users next h shows number row there = ⊎_elim own other (cases_eq number user)
   where
     own : number ≡ user → IsUserOf numbers None seats number (shown row)
@@ -142,7 +139,7 @@ users_used numbers user used seats users next h shows number row there = ⊎_eli
             let known = h user r q in
             let is : record (shown r) { used = used } ≡ shown row = same_Some _ _ k in
             subst (IsUserOf numbers None seats number) is (subst (λ k. IsUserOf numbers None seats k (record (shown r) { used = used })) (sym same) (record {
-              named = known.named;
+              keyed = known.keyed;
               counted = known.counted;
               some = known.some;
               spare = λ zero. absurd (let some = known.some (λ e. none-some user e) in omega (arith, some, zero));
@@ -151,7 +148,7 @@ users_used numbers user used seats users next h shows number row there = ⊎_eli
     other : number ≢ user → IsUserOf numbers None seats number (shown row)
     other apart =
         let own = shown_row number (shown row) users (sym (shows.others number apart) ∙ ap (option_map shown) there) in
-        user_as numbers numbers None None seats seats users next h number row (shows.others number apart) there (subst (λ (s : Shown). numbers s.name ≡ Some number) own.2 (h number own.0 own.1).named) (λ apart. apart) refl
+        user_as numbers numbers None None seats seats users next h number row (shows.others number apart) there (subst (λ (s : Shown). numbers s.user ≡ Some number) own.2 (h number own.0 own.1).keyed) (λ apart. apart) refl
 
 -- the row of a seat that a contract sees
 pub found_seat : (users : List (ℕ × UserRow)) (ticket : ℕ) (seats : List (ℕ × SeatRow)) (seat : Seat) → lookup (nat_eq ticket) (map (seat_of users) seats) ≡ Some seat → (row : SeatRow) × (lookup (nat_eq ticket) seats ≡ Some row) × ((seat_of users (ticket, row)).1 ≡ seat)

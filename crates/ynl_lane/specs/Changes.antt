@@ -2,7 +2,6 @@
 use Rattle.std.specs.Prelude.{◌≡◌, ◌≢◌, ◌<◌, ◌^◌, ℕ, option_map, ◌-◌, ◌+◌, List, [], ◌∷◌, ◌++◌, length, Some, nat_eq, slice_set}
 use Rattle.std.specs.Map.{lookup}
 use Rattle.ynl_resource.specs.declared.amounts.Resource.{Resource}
-use Rattle.ynl_resource.specs.declared.names.Name.{Name}
 use Rattle.ynl_slots.specs.Slots.{IsUnused, with_row}
 use Rattle.ynl_lanes.specs.Lows.{no_size}
 use Rattle.ynl_lane.specs.declared.kinds.Both.{Both}
@@ -23,7 +22,7 @@ pub record SetsValues (user slot : ℕ) (waits : Both Resource) (old new : List 
   pub found : lookup (nat_eq user) old ≡ Some row
   pub next : UserRow
   pub entries : new ≡ with_row user next old
-  pub name : next.name ≡ row.name
+  pub user_is : next.user ≡ row.user
   pub used : next.used ≡ row.used
   pub live : next.live ≡ row.live
   pub tickets : next.line.tickets.items ≡ row.line.tickets.items
@@ -46,7 +45,7 @@ pub record PushesOwn (user ticket : ℕ) (old new : List (ℕ × UserRow)) : Typ
   pub found : lookup (nat_eq user) old ≡ Some row
   pub next : UserRow
   pub entries : new ≡ with_row user next old
-  pub name : next.name ≡ row.name
+  pub user_is : next.user ≡ row.user
   pub used : next.used ≡ row.used
   pub live : next.live ≡ row.live + 1
   pub tickets : next.line.tickets.items ≡ row.line.tickets.items ++ ticket ∷ []
@@ -70,12 +69,12 @@ pub record IsPulled (user : ℕ) (old new : List (ℕ × UserRow)) : Type 0 wher
 
 -- what a lane shows of a user's row
 pub record Shown : Type 0 where
-  pub name : Name
+  pub user : ℕ
   pub used : Resource
   pub live : ℕ
 
 abbrev pub shown : UserRow → Shown
-shown row = record { name = row.name; used = row.used; live = row.live }
+shown row = record { user = row.user; used = row.used; live = row.live }
 
 -- the users show the same
 abbrev pub ShowSame : List (ℕ × UserRow) → List (ℕ × UserRow) → Type 0

@@ -12,7 +12,7 @@ ghost use Rattle.ynl_lane.specs.Seats.{nothing_waits};
 use crate::kinds::Both;
 use crate::rows::{Rows, SeatRow, UserRow};
 use ynl_lanes::Low;
-use ynl_resource::{Name, Resource};
+use ynl_resource::Resource;
 use ynl_slots::Slots;
 
 /// Other things wait at a seat. It returns the row.
@@ -139,18 +139,18 @@ impl Rows {
         row.user
     }
 
-    /// A user goes who has no seat. It returns the name.
-    pub(crate) fn close(&mut self, user: u32) -> Name
+    /// The row of a user goes who has no seat. It returns the user.
+    pub(crate) fn close(&mut self, user: u32) -> u32
         requires kept { IsKept self.old }
         requires live { IsLive user self.old.users.entries }
         requires none { EachSeat (λ _ row. row.user ≢ user) self.old.seats.entries }
         ensures kept { IsKept self.new }
-        ensures name { option_map (λ row. row.name) (lookup (nat_eq user) self.old.users.entries) ≡ Some result }
+        ensures user { option_map (λ row. row.user) (lookup (nat_eq user) self.old.users.entries) ≡ Some result }
         ensures seats { self.new.seats ≡ self.old.seats }
         ensures users { self.new.users.entries ≡ without user self.old.users.entries }
         ensures line { self.new.line ≡ self.old.line }
     {
         let row = self.users.remove(user);
-        row.name
+        row.user
     }
 }

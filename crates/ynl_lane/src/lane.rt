@@ -3,12 +3,11 @@
 ghost use Rattle.std.specs.Prelude.{◌≡◌, ◌↔◌, ◌<◌, [], ℕ, length, map, List, Option, Some, None, IsSome, IsTrue, OnOk, OnErr, IfSome, IfNone, nat_eq, option_map};
 ghost use Rattle.std.specs.Map.{lookup};
 ghost use Rattle.ynl_lanes.specs.Lows.{IsBelow};
-ghost use Rattle.ynl_model.specs.Limits.{distinct};
 ghost use Rattle.ynl_slots.specs.Slots.{without};
 ghost use Rattle.ynl_lane.specs.Kinds.{of_kind};
 ghost use Rattle.ynl_lane.specs.Rows.{IsUse};
 ghost use Rattle.ynl_lane.specs.Waiting.{IsWaiting};
-ghost use Rattle.ynl_lane.specs.Seats.{Seat, IsSeat, Adds, with_waits, with_used, given, first_given, seats_up_to};
+ghost use Rattle.ynl_lane.specs.Seats.{Seat, IsSeat, Adds, each_once, with_waits, with_used, given, first_given, seats_up_to};
 
 use crate::kinds::{Both, Kind};
 use crate::line::Line;
@@ -19,19 +18,20 @@ use std::alloc::{AllocError, Global};
 use std::collections::BTreeMap;
 use std::marker::Model;
 use ynl_lanes::{Low, WithinLimit};
-use ynl_resource::{Name, Resource};
+use ynl_resource::Resource;
 use ynl_slots::Slots;
 
 /// The applications of a leaf that may use a partition, each with a seat, in the order of their submission. Of a seat the
 /// lane has what waits there, and of a user with seats what the user uses of the partition. A contract sees the seats under
-/// their tickets, in that order, and the user for whose next seat there is room.
+/// their tickets, in that order, and the user for whose next seat there is room. A user is known by a number.
 ///
 /// Only `reserve_for` takes memory. A search goes from user to user, as they stand at their first seats at which something
 /// waits, and passes over all who cannot be given anything.
 pub struct Lane {
     rows: Rows,
-    numbers: BTreeMap<Name, u32>,
-    /// The number of the user for whose next seat there is room. Only this user may have no seat.
+    /// The number of each user's row.
+    numbers: BTreeMap<u32, u32>,
+    /// The number of the row of the user for whose next seat there is room. Only this user may have no seat.
     ready: Option<u32>,
 }
 
@@ -85,7 +85,7 @@ impl Lane {
 
     /// How many users have a seat.
     pub fn users(&self) -> usize
-        ensures { result ≡ length (distinct (map (λ e. e.1.user) self.now.seats)) }
+        ensures { result ≡ length (each_once (map (λ e. e.1.user) self.now.seats)) }
     {
         let count = self.rows.users.len();
         match self.ready {
@@ -132,9 +132,9 @@ impl Lane {
 
     /// Takes all memory that the next seat of a user needs, so `add` takes none. It fails if memory is refused, and if there
     /// are 2^32 - 1 seats or users. Lines that are full are packed, so it takes amortized constant time.
-    pub fn reserve_for(&mut self, user: &Name) -> Result<(), AllocError>
+    pub fn reserve_for(&mut self, user: u32) -> Result<(), AllocError>
         ensures seats { self.new.seats ≡ self.old.seats }
-        ensures ok { OnOk result (self.new.ready ≡ Some user.now) }
+        ensures ok { OnOk result (self.new.ready ≡ Some user) }
         ensures err { OnErr result (self.new.ready ≡ None) }
     {
         self.give_up_room();

@@ -3,7 +3,7 @@
 use crate::kinds::Both;
 use crate::line::Line;
 use ynl_lanes::{Low, UserLow};
-use ynl_resource::{Name, Resource};
+use ynl_resource::Resource;
 use ynl_slots::Slots;
 
 /// The seat of an application.
@@ -23,7 +23,8 @@ pub(crate) struct SeatRow {
 /// A user with seats.
 #[derive(Drop)]
 pub(crate) struct UserRow {
-    pub(crate) name: Name,
+    /// The user's number among all users of the cluster.
+    pub(crate) user: u32,
     pub(crate) used: Resource,
     /// How many seats the user has.
     pub(crate) live: u32,

@@ -7,19 +7,7 @@ use std::process::Abort;
 use std::test::Fail;
 use ynl_lane::{Both, Kind, Lane, Request};
 use ynl_lanes::Low;
-use ynl_resource::{Name, Resource, Size};
-
-fn user(number: usize) -> Result<Name, Fail> {
-    let text = match number {
-        0 => "ann",
-        1 => "bob",
-        _ => "cid",
-    };
-    match Name::parse(text) {
-        Ok(name) => Ok(name),
-        Err(_) => Err(Fail::new("no name")),
-    }
-}
+use ynl_resource::{Resource, Size};
 
 fn amount(memory: u64) -> Resource {
     Resource { memory, vcores: 9 }
@@ -59,7 +47,7 @@ const ALL: Range = Range {
 
 // Run with each allocation failing in turn: where memory is refused at the first try, which a line
 // tells, the second gives the room.
-fn reserve<R: Print>(rt: &R, lane: &mut Lane, user: &Name) -> Result<(), Fail>
+fn reserve<R: Print>(rt: &R, lane: &mut Lane, user: u32) -> Result<(), Fail>
     ensures { OnOk result (IsSome lane.new.ready) }
 {
     let first: Result<(), AllocError> = lane.reserve_for(user);
@@ -86,12 +74,11 @@ fn enter(lane: &mut Lane, ticket: u32, master: u64, ask: u64) -> Result<(), Fail
 fn seat<R: Print>(
     rt: &R,
     lane: &mut Lane,
-    number: usize,
+    user: u32,
     app: u32,
     master: u64,
 ) -> Result<u32, Fail> {
-    let name = user(number)?;
-    reserve(rt, lane, &name)?;
+    reserve(rt, lane, user)?;
     let ticket = lane.add(app);
     enter(lane, ticket, master, 0)?;
     Ok(ticket)
@@ -146,9 +133,9 @@ fn first(
 
 // Three seats of two users, with masters of 500, 600 and 100 MB.
 fn three<R: Print>(rt: &R, lane: &mut Lane) -> Result<(u32, u32, u32), Fail> {
-    let one = seat(rt, lane, 0, 10, 500)?;
-    let two = seat(rt, lane, 1, 11, 600)?;
-    let three = seat(rt, lane, 0, 12, 100)?;
+    let one = seat(rt, lane, 7, 10, 500)?;
+    let two = seat(rt, lane, 4294967295, 11, 600)?;
+    let three = seat(rt, lane, 7, 12, 100)?;
     Ok((one, two, three))
 }
 
@@ -234,7 +221,7 @@ fn grows_at_the_second_try(rt: HostRuntime) -> Result<(), Fail> {
 
 fn grows<R: Print + Abort>(rt: &R, lane: &mut Lane) -> Result<(), Fail> {
     for app in 0..20u32 {
-        let ticket = seat(rt, lane, app as usize % 3, app, 100)?;
+        let ticket = seat(rt, lane, app % 3, app, 100)?;
         if app < 15 {
             enter(lane, ticket, 0, 0)?;
         }
@@ -251,7 +238,7 @@ fn grows<R: Print + Abort>(rt: &R, lane: &mut Lane) -> Result<(), Fail> {
 struct Plain {
     ticket: u32,
     app: u32,
-    user: usize,
+    user: u32,
     used: u32,
     master: u64,
 }
@@ -276,7 +263,7 @@ fn add<R: Print>(
     app: u32,
     seed: u64,
 ) -> Result<(), Fail> {
-    let user = pick(seed, 40, 3);
+    let user = ((seed >> 40) % 3) as u32;
     let master = pick(seed, 50, 12) as u64;
     let ticket = seat(rt, lane, user, app, master)?;
     let used = match plain.iter().find(|p| p.user == user) {
@@ -293,7 +280,7 @@ fn add<R: Print>(
     Ok(())
 }
 
-fn use_other(lane: &mut Lane, plain: &mut [Plain], user: usize, memory: u32) -> Result<(), Fail> {
+fn use_other(lane: &mut Lane, plain: &mut [Plain], user: u32, memory: u32) -> Result<(), Fail> {
     for p in plain.iter_mut() {
         if p.user == user {
             p.used = memory;

@@ -5,9 +5,9 @@ pub returns : goal.returns
 returns c = record {
   row = c.index_mut-row.result.now;
   found = c.index_mut-row.ensures.value;
-  next = record { name = c.index_mut-row.result.now.name; used = c.index_mut-row.result.now.used; live = c.index_mut-row.result.now.live + 1; line = c.push.new.self };
+  next = record { user = c.index_mut-row.result.now.user; used = c.index_mut-row.result.now.used; live = c.index_mut-row.result.now.live + 1; line = c.push.new.self };
   entries = refl;
-  name = refl;
+  user_is = refl;
   used = refl;
   live = refl;
   tickets = c.push.ensures.tickets;

@@ -5,9 +5,9 @@ pub returns : goal.returns
 returns c = record {
   row = c.index_mut.result.now;
   found = c.index_mut.ensures.value;
-  next = record { name = c.index_mut.result.now.name; used = c.index_mut.result.now.used; live = c.index_mut.result.now.live; line = c.set_both.new.self };
+  next = record { user = c.index_mut.result.now.user; used = c.index_mut.result.now.used; live = c.index_mut.result.now.live; line = c.set_both.new.self };
   entries = refl;
-  name = refl;
+  user_is = refl;
   used = refl;
   live = refl;
   tickets = c.set_both.ensures.tickets;

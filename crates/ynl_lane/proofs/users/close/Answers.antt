@@ -1,13 +1,13 @@
 use Rattle.std.proofs.Common.{sym, subst}
 use Rattle.std.specs.BTreeMap.{get}
-use Rattle.ynl_resource.specs.Names.{name_order}
-use Rattle.ynl_lane.specs.Fields.{AreNamed}
-use Rattle.ynl_lane.proofs.Naming.{named_closed}
-use Rattle.ynl_lane.proofs.Showing.{named_row}
+use Rattle.std.specs.Ordering.{nat_cmp}
+use Rattle.ynl_lane.specs.Fields.{AreKeyed}
+use Rattle.ynl_lane.proofs.Keys.{keyed_closed}
+use Rattle.ynl_lane.proofs.Showing.{row_with}
 use Rattle.ynl_lane.proofs.users.close.Goals as goal
 
-pub returns-clause-named : goal.returns-clause-named
-returns-clause-named c =
-    let own = named_row c.args.user c.close-name.result c.args.rows.now.users.entries c.close-name.ensures.name in
-    subst (AreNamed (λ n. get name_order c.remove-number.new.self n)) (sym c.close-name.ensures.users)
-    (named_closed (λ n. get name_order c.args.numbers.now n) (λ n. get name_order c.remove-number.new.self n) c.close-name.result c.args.user own.0 c.args.rows.now.users.entries c.requires.named own.1 own.2 c.remove-number.ensures.updates.0)
+pub returns-clause-keyed : goal.returns-clause-keyed
+returns-clause-keyed c =
+    let own = row_with c.args.number c.close-user.result c.args.rows.now.users.entries c.close-user.ensures.user in
+    subst (AreKeyed (λ n. get nat_cmp c.remove-number.new.self n)) (sym c.close-user.ensures.users)
+    (keyed_closed (λ n. get nat_cmp c.args.numbers.now n) (λ n. get nat_cmp c.remove-number.new.self n) c.close-user.result c.args.number own.0 c.args.rows.now.users.entries c.requires.keyed own.1 own.2 c.remove-number.ensures.updates.0)

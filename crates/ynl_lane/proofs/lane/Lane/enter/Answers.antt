@@ -1,7 +1,7 @@
 use Rattle.std.proofs.Common.{◌∙◌, ap}
 use Rattle.std.specs.BTreeMap.{get}
-use Rattle.ynl_resource.specs.Names.{name_order}
-use Rattle.ynl_lane.specs.Fields.{name_by, IsReady}
+use Rattle.std.specs.Ordering.{nat_cmp}
+use Rattle.ynl_lane.specs.Fields.{user_by, IsReady}
 use Rattle.ynl_lane.specs.Seats.{Seats, with_waits}
 use Rattle.ynl_lane.proofs.Keeping.{live_shown, none_ready, users_entered, seats_entered}
 use Rattle.ynl_lane.proofs.lane.Lane.enter.Goals as goal
@@ -12,11 +12,11 @@ enter-requires-clause-live c = live_shown c.self.inside.rows.users.entries c.arg
 pub invariant_of-self : goal.invariant_of-self
 invariant_of-self c = record {
   kept = c.enter.ensures.kept;
-  users = users_entered (λ name. get name_order c.self.inside.numbers name) c.self.inside.ready c.self.inside.rows c.enter.new.self c.self.invariant.kept c.args.ticket c.args.waits.now c.enter.ensures.seats c.enter.ensures.users c.self.invariant.users;
-  ready = none_ready (λ user. name_by user c.self.inside.rows.users.entries) (IsReady c.enter.new.self) c.self.inside.ready (ap (λ (s : Seats). s.ready) c.self.view_is ∙ c.give_up_room.ensures.ready);
+  users = users_entered (λ n. get nat_cmp c.self.inside.numbers n) c.self.inside.ready c.self.inside.rows c.enter.new.self c.self.invariant.kept c.args.ticket c.args.waits.now c.enter.ensures.seats c.enter.ensures.users c.self.invariant.users;
+  ready = none_ready (λ user. user_by user c.self.inside.rows.users.entries) (IsReady c.enter.new.self) c.self.inside.ready (ap (λ (s : Seats). s.ready) c.self.view_is ∙ c.give_up_room.ensures.ready);
 }
 
 pub returns-clause-seats : goal.returns-clause-seats
 returns-clause-seats c =
-    seats_entered (λ name. get name_order c.self.inside.numbers name) c.self.inside.ready c.self.inside.rows c.enter.new.self c.self.invariant.kept c.args.ticket c.args.waits.now c.enter.ensures.seats c.enter.ensures.users
+    seats_entered (λ n. get nat_cmp c.self.inside.numbers n) c.self.inside.ready c.self.inside.rows c.enter.new.self c.self.invariant.kept c.args.ticket c.args.waits.now c.enter.ensures.seats c.enter.ensures.users
     ∙ ap (with_waits c.args.ticket c.args.waits.now) (ap (λ (s : Seats). s.seats) c.self.view_is ∙ c.give_up_room.ensures.seats)

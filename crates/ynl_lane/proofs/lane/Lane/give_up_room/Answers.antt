@@ -1,28 +1,38 @@
-use Rattle.std.proofs.Common.{◌∙◌, None, sym, ap}
+use Rattle.std.proofs.Common.{◌∙◌, None, sym, ap, subst}
 use Rattle.std.specs.BTreeMap.{get}
 use Rattle.std.proofs.lemmas.Option.{same_Some}
-use Rattle.ynl_resource.specs.Names.{name_order}
+use Rattle.std.specs.Ordering.{nat_cmp}
+use Rattle.ynl_lane.specs.Fields.{AreUsersOf}
 use Rattle.ynl_lane.specs.Seats.{Seats}
-use Rattle.ynl_lane.proofs.Keeping.{named_of, none_of_count, users_closed, seats_closed}
+use Rattle.ynl_lane.proofs.Keeping.{keyed_of, none_of_count, users_closed, users_left, seats_closed}
 use Rattle.ynl_lane.proofs.lane.Lane.give_up_room.Goals as goal
 
 pub close-requires-clause-none : goal.close-requires-clause-none
 close-requires-clause-none c =
     none_of_count c.in-Some.user c.self.inside.rows.seats.entries (sym (c.self.invariant.users c.in-Some.user c.index.result.now c.index.ensures).counted ∙ c.if-index-eq0.true)
 
-pub close-requires-clause-named : goal.close-requires-clause-named
-close-requires-clause-named c = named_of (λ name. get name_order c.self.inside.numbers name) c.self.inside.ready c.self.inside.rows.seats.entries c.self.inside.rows.users.entries c.self.invariant.users
+pub close-requires-clause-keyed : goal.close-requires-clause-keyed
+close-requires-clause-keyed c = keyed_of (λ n. get nat_cmp c.self.inside.numbers n) c.self.inside.ready c.self.inside.rows.seats.entries c.self.inside.rows.users.entries c.self.invariant.users
 
 pub invariant_of-self : goal.invariant_of-self
 invariant_of-self c = record {
   kept = c.close.ensures.kept;
-  users = users_closed (λ name. get name_order c.self.inside.numbers name) (λ name. get name_order c.close.new.numbers name) None c.in-Some.user c.self.inside.rows c.close.new.rows c.self.invariant.kept c.close.ensures.seats c.close.ensures.users c.close.ensures.named
-      (λ n row apart there. (let known = c.self.invariant.users n row there in record { named = known.named; counted = known.counted; some = λ none. known.some (λ is. apart (sym (same_Some _ _ (sym c.in-Some.is ∙ is)))); spare = known.spare }));
+  users = users_closed (λ n. get nat_cmp c.self.inside.numbers n) (λ n. get nat_cmp c.close.new.numbers n) None c.in-Some.user c.self.inside.rows c.close.new.rows c.self.invariant.kept c.close.ensures.seats c.close.ensures.users c.close.ensures.keyed
+      (λ n row apart there. (let known = c.self.invariant.users n row there in record { keyed = known.keyed; counted = known.counted; some = λ none. known.some (λ is. apart (sym (same_Some _ _ (sym c.in-Some.is ∙ is)))); spare = known.spare }));
   ready = tt;
 }
 
 pub returns-then-index-eq0-clause-seats : goal.returns-then-index-eq0-clause-seats
 returns-then-index-eq0-clause-seats c =
-    seats_closed (λ name. get name_order c.self.inside.numbers name) (λ name. get name_order c.close.new.numbers name) None c.in-Some.user c.self.inside.rows c.close.new.rows c.self.invariant.kept c.close.ensures.seats c.close.ensures.users c.close.ensures.named
+    seats_closed (λ n. get nat_cmp c.self.inside.numbers n) (λ n. get nat_cmp c.close.new.numbers n) None c.in-Some.user c.self.inside.rows c.close.new.rows c.self.invariant.kept c.close.ensures.seats c.close.ensures.users c.close.ensures.keyed
     (none_of_count c.in-Some.user c.self.inside.rows.seats.entries (sym (c.self.invariant.users c.in-Some.user c.index.result.now c.index.ensures).counted ∙ c.if-index-eq0.true))
     ∙ ap (λ (s : Seats). s.seats) c.self.view_is
+
+pub invariant_of-self-else-index-eq0 : goal.invariant_of-self-else-index-eq0
+invariant_of-self-else-index-eq0 c = record {
+  kept = c.self.invariant.kept;
+  users = users_left (λ n. get nat_cmp c.self.inside.numbers n) c.in-Some.user c.index.result.now c.self.inside.rows.seats.entries c.self.inside.rows.users.entries
+      (subst (λ ready. AreUsersOf (λ n. get nat_cmp c.self.inside.numbers n) ready c.self.inside.rows.seats.entries c.self.inside.rows.users.entries) c.in-Some.is c.self.invariant.users)
+      c.index.ensures c.if-index-eq0.false;
+  ready = tt;
+}

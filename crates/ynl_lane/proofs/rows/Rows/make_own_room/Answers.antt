@@ -18,7 +18,7 @@ make_room-requires-clause-seats c = (own_line c.args.self.now c.requires.kept.se
 pub returns-clause-kept : goal.returns-clause-kept
 returns-clause-kept c =
     kept_own c.args.self.now _ c.requires.kept c.args.user c.index_mut-row.result.now
-    (record { name = c.index_mut-row.result.now.name; used = c.index_mut-row.result.now.used; live = c.index_mut-row.result.now.live; line = c.make_room.new.line })
+    (record { user = c.index_mut-row.result.now.user; used = c.index_mut-row.result.now.used; live = c.index_mut-row.result.now.live; line = c.make_room.new.line })
     c.index_mut-row.ensures.value refl refl refl c.make_room.ensures.line c.make_room.ensures.seats c.make_room.ensures.distinct c.make_room.ensures.moved
 
 pub returns-clause-seats : goal.returns-clause-seats
@@ -27,7 +27,7 @@ returns-clause-seats c = same_moved (User c.args.user) c.index_mut-row.result.no
 pub returns-clause-users : goal.returns-clause-users
 returns-clause-users c =
     shown_written c.args.user c.index_mut-row.result.now
-    (record { name = c.index_mut-row.result.now.name; used = c.index_mut-row.result.now.used; live = c.index_mut-row.result.now.live; line = c.make_room.new.line })
+    (record { user = c.index_mut-row.result.now.user; used = c.index_mut-row.result.now.used; live = c.index_mut-row.result.now.live; line = c.make_room.new.line })
     c.args.self.now.users.entries c.index_mut-row.ensures.value refl
 
 on_ok-then : {A E : Type 0} (r : Result A E) (P Q : Type 0) → (P → Q) → OnOk r P → OnOk r Q
@@ -40,6 +40,6 @@ returns-clause-room c =
     let few : c.index_mut-row.result.now.live < 2 ^ 32 - 1 = subst (λ (r : UserRow). r.live < 2 ^ 32 - 1) same (omega (arith, c.if-index-ge4294967295.false)) in
     on_ok-then c.make_room.result _ _
     (λ room row found.
-    let is = same_Some _ _ (sym (found_written c.args.user (record { name = c.index_mut-row.result.now.name; used = c.index_mut-row.result.now.used; live = c.index_mut-row.result.now.live; line = c.make_room.new.line }) c.index_mut-row.result.now c.args.self.now.users.entries c.index_mut-row.ensures.value) ∙ found) in
+    let is = same_Some _ _ (sym (found_written c.args.user (record { user = c.index_mut-row.result.now.user; used = c.index_mut-row.result.now.used; live = c.index_mut-row.result.now.live; line = c.make_room.new.line }) c.index_mut-row.result.now c.args.self.now.users.entries c.index_mut-row.ensures.value) ∙ found) in
     subst (λ (r : UserRow). HasRoom r.line × (r.live < 2 ^ 32 - 1)) is (room, few))
     c.make_room.ensures.room
