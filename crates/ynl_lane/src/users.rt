@@ -1,4 +1,4 @@
-//! The rows of a lane's users.
+//! The rows of a lane's users, and the map that leads from a user to the row.
 
 ghost use Rattle.std.specs.Prelude.{◌≡◌, ◌≢◌, map, None, Some, IfSome, IfNone, IfOk, OnErr, nat_eq, option_map};
 ghost use Rattle.std.specs.Map.{lookup};
