@@ -1,11 +1,9 @@
 //! The lanes of all leaves on all partitions.
 
-ghost use Rattle.std.specs.Prelude.{◌≡◌, ℕ, IfOk, IsSome, IfSome, OnOk, OnErr, None, Some, nat_eq, replicate};
-ghost use Rattle.std.specs.Map.{lookup};
-ghost use Rattle.ynl_slots.specs.Slots.{without};
+ghost use Rattle.std.specs.Prelude.{◌≡◌, IfOk, IsSome, replicate};
 ghost use Rattle.ynl_lane.specs.Rows.{IsUse};
-ghost use Rattle.ynl_lane.specs.Seats.{Seats, Adds, IsSeat, with_used, with_waits};
-ghost use Rattle.ynl_lane_table.specs.Lanes.{Changes, IsLaneAt, lane_at, no_seats};
+ghost use Rattle.ynl_lane.specs.Seats.{IsSeat};
+ghost use Rattle.ynl_lane_table.specs.Lanes.{AddsOne, Changes, Enters, IsLaneAt, Removes, Reserves, SetsUsed, lane_at, no_seats};
 
 use std::alloc::{AllocError, Global};
 use std::marker::Model;
@@ -68,7 +66,7 @@ impl Lanes {
     pub fn add(&mut self, partition: usize, queue: usize, app: u32) -> u32
         requires lane { IsLaneAt partition queue self.old }
         requires ready { IsSome (lane_at partition queue self.old).ready }
-        ensures { Changes partition queue (λ old new. IfSome old.ready (λ user. Adds app result user old.seats new.seats) × (new.ready ≡ None)) self.old self.new }
+        ensures { Changes partition queue (AddsOne app result) self.old self.new }
     {
         self.lanes[partition][queue].add(app)
     }
@@ -77,7 +75,7 @@ impl Lanes {
     /// the lane has 2^32 - 1 seats or users.
     pub fn reserve(&mut self, partition: usize, queue: usize, user: u32) -> Result<(), AllocError>
         requires { IsLaneAt partition queue self.old }
-        ensures { Changes partition queue (λ old new. (new.seats ≡ old.seats) × OnOk result (new.ready ≡ Some user) × OnErr result (new.ready ≡ None)) self.old self.new }
+        ensures { Changes partition queue (Reserves user result) self.old self.new }
     {
         self.lanes[partition][queue].reserve_for(user)
     }
@@ -86,7 +84,7 @@ impl Lanes {
     pub fn enter(&mut self, partition: usize, queue: usize, ticket: u32, waits: &Both<Low>)
         requires lane { IsLaneAt partition queue self.old }
         requires seat { IsSeat ticket (lane_at partition queue self.old).seats }
-        ensures { Changes partition queue (λ old new. (new.seats ≡ with_waits ticket waits.now old.seats) × (new.ready ≡ None)) self.old self.new }
+        ensures { Changes partition queue (Enters ticket waits.now) self.old self.new }
     {
         self.lanes[partition][queue].enter(ticket, waits);
     }
@@ -96,7 +94,7 @@ impl Lanes {
         requires lane { IsLaneAt partition queue self.old }
         requires seat { IsSeat ticket (lane_at partition queue self.old).seats }
         requires used { IsUse used }
-        ensures { Changes partition queue (λ old new. IfSome (lookup (nat_eq ticket) old.seats) (λ seat. new.seats ≡ with_used seat.user used old.seats) × (new.ready ≡ None)) self.old self.new }
+        ensures { Changes partition queue (SetsUsed ticket used) self.old self.new }
     {
         self.lanes[partition][queue].set_used(ticket, used);
     }
@@ -105,7 +103,7 @@ impl Lanes {
     pub fn remove(&mut self, partition: usize, queue: usize, ticket: u32)
         requires lane { IsLaneAt partition queue self.old }
         requires seat { IsSeat ticket (lane_at partition queue self.old).seats }
-        ensures { Changes partition queue (λ old new. (new.seats ≡ without ticket old.seats) × (new.ready ≡ None)) self.old self.new }
+        ensures { Changes partition queue (Removes ticket) self.old self.new }
     {
         self.lanes[partition][queue].remove(ticket);
     }
