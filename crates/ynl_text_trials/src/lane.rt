@@ -71,13 +71,7 @@ fn enter(lane: &mut Lane, ticket: u32, master: u64, ask: u64) -> Result<(), Fail
 }
 
 // A seat of a user, at which a master waits.
-fn seat<R: Print>(
-    rt: &R,
-    lane: &mut Lane,
-    user: u32,
-    app: u32,
-    master: u64,
-) -> Result<u32, Fail> {
+fn seat<R: Print>(rt: &R, lane: &mut Lane, user: u32, app: u32, master: u64) -> Result<u32, Fail> {
     reserve(rt, lane, user)?;
     let ticket = lane.add(app);
     enter(lane, ticket, master, 0)?;
