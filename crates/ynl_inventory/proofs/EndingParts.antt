@@ -181,12 +181,12 @@ module _ (a : Inside) (inv : IsInventory a) (p number : ℕ) (part : Partition) 
     nodes = of_rows node_row nodes';
     apps = of_rows app_row apps'.entries;
     tenants = before.tenants;
-    users = a.users.items;
+    users = a.users;
   }
 
   -- the rows are those without the container
   pub ended-rows : rows_after ≡ with_ended p number held.node before
-  ended-rows = λ i. record { paths = a.layout; partitions = partitions i; nodes = nodes i; apps = apps i; tenants = before.tenants; users = a.users.items }
+  ended-rows = λ i. record { paths = a.layout; partitions = partitions i; nodes = nodes i; apps = apps i; tenants = before.tenants; users = a.users }
     where
       partitions : map partition_row (slice_set a.partitions.items p new) ≡ with_at p (ticked (without number)) before.partitions
       partitions = map-set partition_row (ticked (without number)) a.partitions.items p part new there part-is

@@ -186,7 +186,7 @@ module _ (a : Inside) (inv : IsInventory a) (placed : Placement) (can : CanPlace
     nodes = of_rows node_row (with_change placed.node used_one a.nodes);
     apps = of_rows app_row (with_change placed.app taken_one a.apps.entries);
     tenants = before.tenants;
-    users = a.users.items;
+    users = a.users;
   }) (with_placed number placed.node placed.app placed.role placed.size before)
   rows-placed = λ i. record {
     paths = a.layout;
@@ -194,7 +194,7 @@ module _ (a : Inside) (inv : IsInventory a) (placed : Placement) (can : CanPlace
     nodes = nodes i;
     apps = apps i;
     tenants = before.tenants;
-    users = a.users.items;
+    users = a.users;
   }
     where
       partitions : map partition_row (slice_set a.partitions.items row.partition new) ≡ with_at p (ticked push) before.partitions
@@ -265,7 +265,7 @@ module _ (a : Inside) (inv : IsInventory a) (placed : Placement) (can : CanPlace
       nodes = of_rows node_row nodes';
       apps = of_rows app_row apps'.entries;
       tenants = before.tenants;
-      users = a.users.items;
+      users = a.users;
     }
 
     -- so it is with what the calls leave

@@ -67,7 +67,7 @@ held_of a = record {
     nodes = of_rows node_row a.nodes;
     apps = of_rows app_row a.apps.entries;
     tenants = map (λ listing. listing.entries) a.tenants.items;
-    users = a.users.items;
+    users = a.users;
   };
   rooms = map (λ part. part.containers.room) a.partitions.items;
   chains = of_rows (λ row. row.chains) a.apps.entries;

@@ -18,9 +18,10 @@ use ynl_app_table::Apps;
 use ynl_container_table::{Container, Role};
 use ynl_layout::Layout;
 use ynl_node_table::Nodes;
-use ynl_resource::{Name, Size};
+use ynl_resource::Size;
 use ynl_slots::Chain;
 use ynl_submissions::Submissions;
+use ynl_users::Users;
 
 /// What a cluster holds under numbers. A partition's number is its place, DEFAULT first; a tenant's is that of its top-level
 /// queue. A contract sees the rows.
@@ -30,7 +31,7 @@ pub struct Inventory {
     nodes: Nodes,
     apps: Apps,
     tenants: Vec<Submissions>,
-    users: Vec<Name>,
+    users: Users,
 }
 
 impl Model for Inventory {
