@@ -30,3 +30,4 @@ pub mod PartsChange
 pub mod PlacingParts
 pub mod EndingParts
 pub mod RoomParts
+pub mod Opening

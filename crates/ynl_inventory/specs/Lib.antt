@@ -1,5 +1,6 @@
 pub mod Rows
 pub mod Meaning
 pub mod Changes
+pub mod Opening
 pub mod Sound
 pub mod Parts

@@ -1,6 +1,6 @@
 //! What a cluster holds.
 
-ghost use Rattle.std.specs.Prelude.{◌≡◌, ◌<◌, nat_eq, length, slice_get, Some, OnOk, IfSome, IsSome, IsTrue};
+ghost use Rattle.std.specs.Prelude.{◌≡◌, ◌<◌, nat_eq, length, slice_get, Some, IfOk, OnOk, IfSome, IsSome, IsTrue};
 ghost use Rattle.std.specs.Map.{lookup};
 ghost use Rattle.ynl_resource.specs.Amounts.{fits_in, less, plus, IsSmall};
 ghost use Rattle.ynl_slots.specs.Slots.{IsLive, with_row};
@@ -8,16 +8,19 @@ ghost use Rattle.ynl_node_table.specs.Nodes.{with_change};
 ghost use Rattle.ynl_app_table.specs.Apps.{with_app};
 ghost use Rattle.ynl_app_table.specs.Chains.{chain_of};
 ghost use Rattle.ynl_inventory.specs.Changes.{with_placed, with_ended};
-ghost use Rattle.ynl_inventory.specs.Sound.{HasPartition};
+ghost use Rattle.ynl_inventory.specs.Opening.{opening_rows, IsOpening};
+ghost use Rattle.ynl_inventory.specs.Sound.{HasPartition, IsFor};
 ghost use Rattle.ynl_inventory.specs.Parts.{CanPlace, taken_part, held_at, released_part};
 
 use crate::partition::{Partition, Placement};
-use std::alloc::AllocError;
+use crate::start::{no_submissions, partitions_of};
+use std::alloc::{AllocError, Global};
 use std::marker::Model;
 use ynl_app_table::Apps;
 use ynl_container_table::{Container, Role};
 use ynl_layout::Layout;
 use ynl_node_table::Nodes;
+use ynl_queues::Config;
 use ynl_resource::Size;
 use ynl_slots::Chain;
 use ynl_submissions::Submissions;
@@ -45,6 +48,28 @@ impl Model for Inventory {
 }
 
 impl Inventory {
+    /// The cluster of a configuration before any event. It fails if memory is refused.
+    pub fn new(alloc: Global, config: &Config) -> Result<Inventory, AllocError>
+        ensures rows { IfOk result (λ inventory. inventory.rows ≡ opening_rows config.now) }
+        ensures config { IfOk result (λ inventory. IsFor config.now inventory.rows) }
+        ensures state { IfOk result (λ inventory. IsOpening config.now inventory.rows) }
+    {
+        let draft = config.draft();
+        let partitions = partitions_of(alloc, draft.labels())?;
+        let tenants = no_submissions(alloc, draft.queues().len() + 1)?;
+        let layout = Layout::new(alloc, config)?;
+        // Opens the layout, whose paths are a tree.
+        let _ = layout.len();
+        Ok(Inventory {
+            layout,
+            partitions,
+            nodes: Nodes::new(alloc),
+            apps: Apps::new(alloc),
+            tenants,
+            users: Users::new(alloc),
+        })
+    }
+
     /// A container is placed on a node. It returns the container's number in the node's partition. It takes no memory.
     pub fn place(&mut self, placed: &Placement) -> u32
         requires { CanPlace self.old placed.now }

@@ -6,3 +6,4 @@ pub use partition::Placement;
 
 mod inventory;
 mod partition;
+mod start;

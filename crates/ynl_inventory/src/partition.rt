@@ -14,6 +14,7 @@ use ynl_resource::{Label, Size};
 use ynl_slots::Chain;
 
 /// A partition: its clock and how far that goes, and the containers there.
+#[derive(Drop)]
 pub(crate) struct Partition {
     pub(crate) label: Label,
     pub(crate) limit: u64,
