@@ -31,3 +31,4 @@ pub mod PlacingParts
 pub mod EndingParts
 pub mod RoomParts
 pub mod Opening
+pub mod NodeParts

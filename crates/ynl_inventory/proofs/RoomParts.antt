@@ -1,7 +1,10 @@
--- Room is reserved in a partition: nothing else changes.
-use Rattle.std.proofs.Common.{◌≡◌, ℕ, zero, suc, List, [], ◌∷◌, map, slice_get, Some, sym, ap, subst, ◌∙◌, inl, inr}
+-- Room is reserved in a partition, or its clock rises: the containers there stay.
+use Rattle.std.proofs.Common.{◌≡◌, ◌<◌, ℕ, zero, suc, List, [], ◌∷◌, map, length, get_or, slice_get, Some, refl, sym, ap, subst, ◌∙◌, inl, inr}
 use Rattle.std.specs.Prelude.{slice_set}
-use Rattle.std.proofs.lemmas.Option.{none-some, same_Some}
+use Rattle.std.proofs.lemmas.Option.{none-some, same_Some, slice_get_read}
+use Rattle.std.proofs.lemmas.List.{length-map}
+use Rattle.ynl_inventory.specs.declared.inventory.Inventory.TheInside.{Inside}
+use Rattle.ynl_inventory.specs.Sound.{HasPartition}
 use Rattle.ynl_resource.specs.Amounts.{less, fits_in}
 use Rattle.ynl_node_table.specs.declared.nodes.NodeRow.{NodeRow as NodePart}
 use Rattle.ynl_app_table.specs.declared.app.AppRow.{AppRow as AppPart}
@@ -9,20 +12,20 @@ use Rattle.ynl_app_table.specs.Chains.{chain_of}
 use Rattle.ynl_container_table.specs.Table.{Table}
 use Rattle.ynl_container_table.specs.Chains.{IsNodeChain, IsAppChain}
 use Rattle.ynl_inventory.specs.declared.partition.Partition.{Partition}
-use Rattle.ynl_inventory.specs.Parts.{partition_row, used_of, AreLinked}
+use Rattle.ynl_inventory.specs.Parts.{Held, held_of, partition_row, used_of, AreLinked}
 use Rattle.ynl_inventory.proofs.PartLists.{set-cases}
 
 -- a part that is set and means the same leaves what all mean
-map-kept : {X Y : Type 0} (f : X → Y) (xs : List X) (p : ℕ) (x new : X) → slice_get xs p ≡ Some x → f new ≡ f x → map f (slice_set xs p new) ≡ map f xs
+pub map-kept : {X Y : Type 0} (f : X → Y) (xs : List X) (p : ℕ) (x new : X) → slice_get xs p ≡ Some x → f new ≡ f x → map f (slice_set xs p new) ≡ map f xs
 map-kept f [] p x new at is = absurd (none-some x at)
 map-kept f (y ∷ xs) zero x new at is = ap (λ z. z ∷ map f xs) (is ∙ ap f (sym (same_Some y x at)))
 map-kept f (y ∷ xs) (suc p) x new at is = ap (λ ys. f y ∷ ys) (map-kept f xs p x new at is)
 
 module _ (items : List Partition) (p : ℕ) (part new : Partition) (there : slice_get items p ≡ Some part)
-    (own : new ≡ record part { containers = new.containers }) (same : new.containers ≡ record part.containers { room = new.containers.room }) where
+    (same : new.containers ≡ record part.containers { room = new.containers.room }) where
   -- the rows stay
-  pub room-rows : map partition_row (slice_set items p new) ≡ map partition_row items
-  room-rows = map-kept partition_row items p part new there (ap partition_row own ∙ (λ i. record { label = part.label; limit = part.limit; clock = part.clock; containers = (same i).entries }))
+  pub room-rows : new ≡ record part { containers = new.containers } → map partition_row (slice_set items p new) ≡ map partition_row items
+  room-rows own = map-kept partition_row items p part new there (ap partition_row own ∙ (λ i. record { label = part.label; limit = part.limit; clock = part.clock; containers = (same i).entries }))
 
   -- and the parts still go together
   pub room-linked : (nodes : List (ℕ × NodePart)) (apps : List (ℕ × AppPart)) → AreLinked items nodes apps → AreLinked (slice_set items p new) nodes apps
@@ -57,3 +60,11 @@ module _ (items : List Partition) (p : ℕ) (part new : Partition) (there : slic
         ];
     small = linked.small;
   }
+
+-- a partition that is there has a part, which is the one that was read
+pub part-there : (a : Inside) (h : Held) (p : ℕ) → held_of a ≡ h → HasPartition h.rows p → p < length a.partitions.items
+part-there a h p view required =
+    subst (λ n. p < n) (length-map a.partitions.items partition_row) (subst (λ (h : Held). HasPartition h.rows p) (sym view) required)
+
+pub part-read : (a : Inside) (h : Held) (p : ℕ) → held_of a ≡ h → HasPartition h.rows p → (part : Partition) → part ≡ get_or a.partitions.items p part → slice_get a.partitions.items p ≡ Some part
+part-read a h p view required part read = slice_get_read a.partitions.items (length a.partitions.items) p part refl (part-there a h p view required) read

@@ -1,5 +1,5 @@
 -- Which rows are sound: each number names a row, and names are told apart.
-use Rattle.std.specs.Prelude.{◌≡◌, ℕ, ◌<◌, ◌≤◌, true, false, nat_eq, List, ◌∷◌, length, map, slice_get, Some, IfSome}
+use Rattle.std.specs.Prelude.{◌≡◌, ◌≢◌, ℕ, ◌<◌, ◌≤◌, true, false, nat_eq, List, ◌∷◌, length, map, slice_get, Some, IfSome}
 use Rattle.std.specs.List.{All, AllByRecursion}
 use Rattle.std.specs.Map.{lookup}
 use Rattle.ynl_resource.specs.Names.{same_name, root}
@@ -110,3 +110,7 @@ module _ (v : Rows) where
     pub unnamed : AllByRecursion (λ e. same_name e.1.name name ≡ false) v.nodes
     pub partition : PartitionRow
     pub found : slice_get v.partitions p ≡ Some partition
+
+  -- no container stands on a node
+  abbrev pub HasNoContainers : ℕ → Type 0
+  HasNoContainers node = (p : ℕ) (row : PartitionRow) → slice_get v.partitions p ≡ Some row → AllByRecursion (λ e. e.1.node ≢ node) row.containers

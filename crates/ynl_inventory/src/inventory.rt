@@ -1,18 +1,20 @@
 //! What a cluster holds.
 
-ghost use Rattle.std.specs.Prelude.{◌≡◌, ◌<◌, nat_eq, length, slice_get, Some, IfOk, OnOk, IfSome, IsSome, IsTrue};
+ghost use Rattle.std.specs.Prelude.{◌≡◌, ◌<◌, nat_eq, length, slice_get, Some, None, IfOk, OnOk, OnErr, IfSome, IsSome, IsTrue};
 ghost use Rattle.std.specs.Map.{lookup};
 ghost use Rattle.ynl_resource.specs.Amounts.{fits_in, less, plus, IsSmall};
-ghost use Rattle.ynl_slots.specs.Slots.{IsLive, with_row};
+ghost use Rattle.ynl_slots.specs.Slots.{IsLive, IsUnused, with_row};
 ghost use Rattle.ynl_node_table.specs.Nodes.{with_change};
 ghost use Rattle.ynl_app_table.specs.Apps.{with_app};
 ghost use Rattle.ynl_app_table.specs.Chains.{chain_of};
-ghost use Rattle.ynl_inventory.specs.Changes.{with_placed, with_ended};
+ghost use Rattle.ynl_inventory.specs.Changes.{with_placed, with_ended, with_joined, with_node_gone};
+ghost use Rattle.ynl_model.specs.Nodes.{rises};
+ghost use Rattle.ynl_inventory.specs.Meaning.{node_number};
 ghost use Rattle.ynl_inventory.specs.Opening.{opening_rows, IsOpening};
-ghost use Rattle.ynl_inventory.specs.Sound.{HasPartition, IsFor};
+ghost use Rattle.ynl_inventory.specs.Sound.{HasPartition, HasNoContainers, IsFor};
 ghost use Rattle.ynl_inventory.specs.Parts.{CanPlace, taken_part, held_at, released_part};
 
-use crate::partition::{Partition, Placement};
+use crate::partition::{Partition, Placement, risen};
 use crate::start::{no_submissions, partitions_of};
 use std::alloc::{AllocError, Global};
 use std::marker::Model;
@@ -21,7 +23,7 @@ use ynl_container_table::{Container, Role};
 use ynl_layout::Layout;
 use ynl_node_table::Nodes;
 use ynl_queues::Config;
-use ynl_resource::Size;
+use ynl_resource::{Name, Size};
 use ynl_slots::Chain;
 use ynl_submissions::Submissions;
 use ynl_users::Users;
@@ -100,6 +102,35 @@ impl Inventory {
         part.reserve()
     }
 
+    /// A node of a new name joins a partition, with all of it free. It returns the node's number. It fails where
+    /// `Nodes::join` does.
+    pub fn join(&mut self, name: &Name, p: u8, size: Size) -> Result<u32, AllocError>
+        requires partition { HasPartition self.old.rows p }
+        requires new { node_number name.now self.old.rows.nodes ≡ None }
+        ensures ok { IfOk result (λ n. self.new ≡ record self.old {
+          rows = with_joined n name.now p size self.old.rows;
+        }) }
+        ensures unused { IfOk result (λ n. IsUnused n self.old.rows.nodes) }
+        ensures err { OnErr result (self.new ≡ self.old) }
+    {
+        // Opens the size, which is small.
+        let _amount = size.amount();
+        let clock = next_clock(&self.partitions, p);
+        let number = self.nodes.join(name, p, size, clock)?;
+        let part = &mut self.partitions[p as usize];
+        part.clock = clock;
+        Ok(number)
+    }
+
+    /// A node without containers leaves. It takes no memory.
+    pub fn leave(&mut self, node: u32)
+        requires live { IsLive node self.old.rows.nodes }
+        requires empty { HasNoContainers self.old.rows node }
+        ensures { self.new ≡ record self.old { rows = with_node_gone node self.old.rows } }
+    {
+        let _row = self.nodes.leave(node);
+    }
+
     /// The container under a number in a partition ends. It takes no memory.
     pub fn end(&mut self, p: u8, number: u32) -> Container
         requires { IsSome (held_at self.old.rows p number) }
@@ -117,6 +148,15 @@ impl Inventory {
         released(&mut self.apps, &held, p, of_app);
         held
     }
+}
+
+/// What the clock of a partition shows after one more change.
+fn next_clock(partitions: &[Partition], p: u8) -> u64
+    requires { p < length partitions.now }
+    ensures { IfSome (slice_get partitions.now p) (λ part. result ≡ rises part.limit part.clock) }
+{
+    let part = &partitions[p as usize];
+    risen(part.clock, part.limit)
 }
 
 /// The container under a number in a partition.

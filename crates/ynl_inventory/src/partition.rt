@@ -102,7 +102,7 @@ impl Partition {
 }
 
 /// What a clock shows after one more change.
-fn risen(clock: u64, limit: u64) -> u64
+pub(crate) fn risen(clock: u64, limit: u64) -> u64
     ensures { result ≡ rises limit clock }
 {
     if clock < limit { clock + 1 } else { clock }
