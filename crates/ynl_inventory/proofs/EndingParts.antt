@@ -76,7 +76,7 @@ module _ (a : Inside) (inv : IsInventory a) (p number : ℕ) (part : Partition) 
   abbrev v : Rows
   v = (held_of a).rows
 
-  row-there : slice_get v.partitions p ≡ Some (partition_row part)
+  pub row-there : slice_get v.partitions p ≡ Some (partition_row part)
   row-there = slice_get-map partition_row a.partitions.items p ∙ ap (option_map partition_row) there
 
   is-partition : IsPartition v p (partition_row part)
@@ -134,16 +134,20 @@ held-is a p number part held there found =
 
 -- ---- after
 
--- what `Partition::end` leaves
-pub record IsEnded (number : ℕ) (held : Container) (old new : Partition) (of_node of_app : Chain) : Type 0 where
-  pub label : new.label ≡ old.label
-  pub limit : new.limit ≡ old.limit
-  pub clock : new.clock ≡ rises old.limit old.clock
+-- a container is out of its partition
+pub record IsOut (number : ℕ) (held : Container) (old new : Partition) (of_node of_app : Chain) : Type 0 where
   pub entries : new.containers.entries ≡ without number old.containers.entries
   pub node_chain : IsNodeChain new.containers of_node held.node
   pub app_chain : IsAppChain new.containers of_app held.app
   pub nodes : KeepsNodes held.node old.containers new.containers
   pub apps : KeepsApps held.app old.containers new.containers
+
+-- what `Partition::end` leaves
+pub record IsEnded (number : ℕ) (held : Container) (old new : Partition) (of_node of_app : Chain) : Type 0 where
+  pub label : new.label ≡ old.label
+  pub limit : new.limit ≡ old.limit
+  pub clock : new.clock ≡ rises old.limit old.clock
+  pub out : IsOut number held old new of_node of_app
 
 -- an application's row stays, and its chains
 released-row : (r : Role) (chains : List (ℕ × Chain) → List (ℕ × Chain)) (part : AppPart) → app_row (released_part r (record part { chains = chains part.chains })) ≡ app_row part
@@ -155,56 +159,25 @@ released-chains Master part = refl
 released-chains (Asked p priority) part = refl
 
 module _ (a : Inside) (inv : IsInventory a) (p number : ℕ) (part : Partition) (there : slice_get a.partitions.items p ≡ Some part) (held : Container) (found : lookup (nat_eq number) part.containers.entries ≡ Some held)
-    (row : NodePart) (at : lookup (nat_eq held.node) a.nodes ≡ Some row) (new : Partition) (of_node of_app : Chain) (is : IsEnded number held part new of_node of_app)
+    (row : NodePart) (at : lookup (nat_eq held.node) a.nodes ≡ Some row) (new : Partition) (of_node of_app : Chain) (is : IsOut number held part new of_node of_app) (stamp : ℕ)
     (nodes' : List (ℕ × NodePart)) (apps' : Numbered AppPart)
-    (nodes-are : nodes' ≡ with_change held.node (λ r. record r { containers = of_node; stamp = new.clock; free = plus r.free held.size }) a.nodes)
+    (nodes-are : nodes' ≡ with_change held.node (λ r. record r { containers = of_node; stamp = stamp; free = plus r.free held.size }) a.nodes)
     (apps-are : apps' ≡ with_app held.app (λ r. released_part held.role (record r { chains = with_row p of_app r.chains })) a.apps) where
   abbrev freed_one : NodePart → NodePart
-  freed_one r = record r { containers = of_node; stamp = new.clock; free = plus r.free held.size }
+  freed_one r = record r { containers = of_node; stamp = stamp; free = plus r.free held.size }
 
   abbrev released_one : AppPart → AppPart
   released_one r = released_part held.role (record r { chains = with_row p of_app r.chains })
 
-  abbrev before : Rows
-  before = (held_of a).rows
+  -- the rows of applications stay
+  pub out-apps : of_rows app_row apps'.entries ≡ of_rows app_row a.apps.entries
+  out-apps =
+      ap (λ (apps : Numbered AppPart). of_rows app_row apps.entries) apps-are
+      ∙ of_rows-kept app_row released_one held.app a.apps.entries (λ r. released-row held.role (with_row p of_app) r)
 
-  clock-is : new.clock ≡ next_clock_at before.partitions p
-  clock-is = is.clock ∙ sym (ap (λ o. option_map_or next_clock o 0) (row-there a inv p number part there held found))
-
-  part-is : partition_row new ≡ ticked (without number) (partition_row part)
-  part-is = λ i. record { label = is.label i; limit = is.limit i; clock = is.clock i; containers = is.entries i }
-
-  abbrev rows_after : Rows
-  rows_after = record {
-    paths = a.layout;
-    partitions = map partition_row (slice_set a.partitions.items p new);
-    nodes = of_rows node_row nodes';
-    apps = of_rows app_row apps'.entries;
-    tenants = before.tenants;
-    users = a.users;
-  }
-
-  -- the rows are those without the container
-  pub ended-rows : rows_after ≡ with_ended p number held.node before
-  ended-rows = λ i. record { paths = a.layout; partitions = partitions i; nodes = nodes i; apps = apps i; tenants = before.tenants; users = a.users }
-    where
-      partitions : map partition_row (slice_set a.partitions.items p new) ≡ with_at p (ticked (without number)) before.partitions
-      partitions = map-set partition_row (ticked (without number)) a.partitions.items p part new there part-is
-
-      nodes : of_rows node_row nodes' ≡ with_change held.node (λ r. record r { stamp = next_clock_at before.partitions p }) before.nodes
-      nodes =
-          ap (of_rows node_row) nodes-are
-          ∙ of_rows-changed node_row freed_one (λ r. record r { stamp = new.clock }) held.node a.nodes (λ r. refl)
-          ∙ ap (λ t. with_change held.node (λ (r : NodeRow). record r { stamp = t }) before.nodes) clock-is
-
-      apps : of_rows app_row apps'.entries ≡ before.apps
-      apps =
-          ap (λ (apps : Numbered AppPart). of_rows app_row apps.entries) apps-are
-          ∙ of_rows-kept app_row released_one held.app a.apps.entries (λ r. released-row held.role (with_row p of_app) r)
-
-  -- they are sound
-  pub ended-rows-sound : IsSound rows_after
-  ended-rows-sound = subst IsSound (sym ended-rows) (ended-sound before inv.sound p (partition_row part) (row-there a inv p number part there held found) number held found)
+  -- those of the nodes have the stamp
+  pub out-nodes : of_rows node_row nodes' ≡ with_change held.node (λ r. record r { stamp = stamp }) (of_rows node_row a.nodes)
+  out-nodes = ap (of_rows node_row) nodes-are ∙ of_rows-changed node_row freed_one (λ r. record r { stamp = stamp }) held.node a.nodes (λ r. refl)
 
   own-right : IsRight held.node (freed_one row) new
   own-right = record {
@@ -236,9 +209,52 @@ module _ (a : Inside) (inv : IsInventory a) (p number : ℕ) (part : Partition) 
   }
 
   -- and the parts go together
-  pub ended-linked : AreLinked (slice_set a.partitions.items p new) nodes' apps'.entries
-  ended-linked =
+  pub out-linked : AreLinked (slice_set a.partitions.items p new) nodes' apps'.entries
+  out-linked =
       subst (λ (apps : Numbered AppPart). AreLinked (slice_set a.partitions.items p new) nodes' apps.entries) (sym apps-are)
       (subst (λ nodes. AreLinked (slice_set a.partitions.items p new) nodes (with_change held.app released_one a.apps.entries)) (sym nodes-are)
       (still-linked a.partitions.items a.nodes a.apps.entries inv.linked p part new there held.node row at (stands a inv p number part there held found row at) freed_one (λ r. refl) (λ r. refl)
       own-right others-use held.app released_one touched is.nodes is.apps))
+
+module _ (a : Inside) (inv : IsInventory a) (p number : ℕ) (part : Partition) (there : slice_get a.partitions.items p ≡ Some part) (held : Container) (found : lookup (nat_eq number) part.containers.entries ≡ Some held)
+    (row : NodePart) (at : lookup (nat_eq held.node) a.nodes ≡ Some row) (new : Partition) (of_node of_app : Chain) (is : IsEnded number held part new of_node of_app)
+    (nodes' : List (ℕ × NodePart)) (apps' : Numbered AppPart)
+    (nodes-are : nodes' ≡ with_change held.node (λ r. record r { containers = of_node; stamp = new.clock; free = plus r.free held.size }) a.nodes)
+    (apps-are : apps' ≡ with_app held.app (λ r. released_part held.role (record r { chains = with_row p of_app r.chains })) a.apps) where
+  abbrev before : Rows
+  before = (held_of a).rows
+
+  clock-is : new.clock ≡ next_clock_at before.partitions p
+  clock-is = is.clock ∙ sym (ap (λ o. option_map_or next_clock o 0) (row-there a inv p number part there held found))
+
+  part-is : partition_row new ≡ ticked (without number) (partition_row part)
+  part-is = λ i. record { label = is.label i; limit = is.limit i; clock = is.clock i; containers = is.out.entries i }
+
+  abbrev rows_after : Rows
+  rows_after = record {
+    paths = a.layout;
+    partitions = map partition_row (slice_set a.partitions.items p new);
+    nodes = of_rows node_row nodes';
+    apps = of_rows app_row apps'.entries;
+    tenants = before.tenants;
+    users = a.users;
+  }
+
+  -- the rows are those without the container
+  pub ended-rows : rows_after ≡ with_ended p number held.node before
+  ended-rows = λ i. record { paths = a.layout; partitions = partitions i; nodes = nodes i; apps = apps i; tenants = before.tenants; users = a.users }
+    where
+      partitions : map partition_row (slice_set a.partitions.items p new) ≡ with_at p (ticked (without number)) before.partitions
+      partitions = map-set partition_row (ticked (without number)) a.partitions.items p part new there part-is
+
+      nodes : of_rows node_row nodes' ≡ with_change held.node (λ r. record r { stamp = next_clock_at before.partitions p }) before.nodes
+      nodes =
+          out-nodes a inv p number part there held found row at new of_node of_app is.out new.clock nodes' apps' nodes-are apps-are
+          ∙ ap (λ t. with_change held.node (λ (r : NodeRow). record r { stamp = t }) before.nodes) clock-is
+
+      apps : of_rows app_row apps'.entries ≡ before.apps
+      apps = out-apps a inv p number part there held found row at new of_node of_app is.out new.clock nodes' apps' nodes-are apps-are
+
+  -- they are sound
+  pub ended-rows-sound : IsSound rows_after
+  ended-rows-sound = subst IsSound (sym ended-rows) (ended-sound before inv.sound p (partition_row part) (row-there a inv p number part there held found) number held found)

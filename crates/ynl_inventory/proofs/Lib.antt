@@ -32,3 +32,5 @@ pub mod EndingParts
 pub mod RoomParts
 pub mod Opening
 pub mod NodeParts
+pub mod EndingCalls
+pub mod DroppingParts

@@ -7,7 +7,7 @@ ghost use Rattle.ynl_slots.specs.Slots.{IsLive, IsUnused, with_row};
 ghost use Rattle.ynl_node_table.specs.Nodes.{with_change};
 ghost use Rattle.ynl_app_table.specs.Apps.{with_app};
 ghost use Rattle.ynl_app_table.specs.Chains.{chain_of};
-ghost use Rattle.ynl_inventory.specs.Changes.{with_placed, with_ended, with_joined, with_node_gone};
+ghost use Rattle.ynl_inventory.specs.Changes.{with_placed, with_ended, with_joined, with_dropped, with_node_gone};
 ghost use Rattle.ynl_model.specs.Nodes.{rises};
 ghost use Rattle.ynl_inventory.specs.Meaning.{node_number};
 ghost use Rattle.ynl_inventory.specs.Opening.{opening_rows, IsOpening};
@@ -145,6 +145,24 @@ impl Inventory {
         let _held = part.end(number, &mut of_node, &mut of_app);
         let clock = part.clock;
         freed(&mut self.nodes, &held, of_node, clock);
+        released(&mut self.apps, &held, p, of_app);
+        held
+    }
+
+    /// The container under a number in a partition goes with its node: no clock rises, and no stamp changes. It takes no memory.
+    pub fn drop(&mut self, p: u8, number: u32) -> Container
+        requires { IsSome (held_at self.old.rows p number) }
+        ensures value { held_at self.old.rows p number ≡ Some result }
+        ensures rows { self.new.rows ≡ with_dropped p number self.old.rows }
+    {
+        let held = container_in(&self.partitions, p, number);
+        let row = &self.nodes[held.node];
+        let mut of_node = row.containers;
+        let stamp = row.stamp;
+        let mut of_app = chain_in(&self.apps, held.app, p);
+        let part = &mut self.partitions[p as usize];
+        let _held = part.discard(number, &mut of_node, &mut of_app);
+        freed(&mut self.nodes, &held, of_node, stamp);
         released(&mut self.apps, &held, p, of_app);
         held
     }

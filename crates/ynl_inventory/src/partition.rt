@@ -99,6 +99,31 @@ impl Partition {
         self.clock = risen(self.clock, self.limit);
         self.containers.remove(number, of_node, of_app)
     }
+
+    /// The container under a number goes with its node, as in `end`, but the clock stays.
+    pub(crate) fn discard(
+        &mut self,
+        number: u32,
+        of_node: &mut Chain,
+        of_app: &mut Chain,
+    ) -> Container
+        requires live { IsLive number self.old.containers.entries }
+        requires of_node { IfSome (lookup (nat_eq number) self.old.containers.entries)
+            (λ c. IsNodeChain self.old.containers of_node.old c.node) }
+        requires of_app { IfSome (lookup (nat_eq number) self.old.containers.entries)
+            (λ c. IsAppChain self.old.containers of_app.old c.app) }
+        ensures label { self.new.label ≡ self.old.label }
+        ensures limit { self.new.limit ≡ self.old.limit }
+        ensures clock { self.new.clock ≡ self.old.clock }
+        ensures value { lookup (nat_eq number) self.old.containers.entries ≡ Some result }
+        ensures entries { self.new.containers.entries ≡ without number self.old.containers.entries }
+        ensures of_node { IsNodeChain self.new.containers of_node.new result.node }
+        ensures of_app { IsAppChain self.new.containers of_app.new result.app }
+        ensures nodes { KeepsNodes result.node self.old.containers self.new.containers }
+        ensures apps { KeepsApps result.app self.old.containers self.new.containers }
+    {
+        self.containers.remove(number, of_node, of_app)
+    }
 }
 
 /// What a clock shows after one more change.

@@ -1,0 +1,111 @@
+-- What is known where a container goes with its node.
+use Rattle.std.proofs.Common.{◌≡◌, ◌<◌, ℕ, sym, ap, subst, ◌∙◌}
+use Rattle.ynl_slots.specs.declared.chain.Chain.{Chain}
+use Rattle.ynl_container_table.specs.declared.container.Container.{Container}
+use Rattle.ynl_inventory.specs.declared.partition.Partition.{Partition}
+use Rattle.ynl_inventory.specs.Changes.{with_dropped}
+use Rattle.ynl_inventory.specs.Parts.{Held, held_at}
+use Rattle.ynl_inventory.proofs.EndingParts.{held-is, out-linked}
+use Rattle.ynl_inventory.proofs.DroppingParts.{IsDropped, dropped-rows, dropped-rows-sound}
+use Rattle.ynl_inventory.proofs.EndingCalls.{has, there-of, found-in, node-live, app-live, chain-there, small-there, live, of_node, of_app, same}
+use Rattle.ynl_inventory.proofs.inventory.Inventory.drop.Goals as goal
+
+pub index-row-requires : goal.index-row-requires
+index-row-requires c =
+    node-live c.self.inside c.args.self.now c.args.p c.args.number c.self.view_is c.requires c.deref.result.now c.deref.ensures.value c.container_in-held.result c.container_in-held.ensures c.self.invariant
+
+pub chain_in-of_app-requires : goal.chain_in-of_app-requires
+chain_in-of_app-requires c =
+    app-live c.self.inside c.args.self.now c.args.p c.args.number c.self.view_is c.requires c.deref.result.now c.deref.ensures.value c.container_in-held.result c.container_in-held.ensures c.self.invariant
+
+pub index_mut-part-requires : goal.index_mut-part-requires
+index_mut-part-requires c =
+    subst (λ n. c.args.p < n) (sym c.self.inside.partitions.ok.0) (has c.self.inside c.args.self.now c.args.p c.args.number c.self.view_is c.requires c.deref.result.now c.deref.ensures.value c.container_in-held.result c.container_in-held.ensures)
+
+pub discard-held-requires-clause-live : goal.discard-held-requires-clause-live
+discard-held-requires-clause-live c =
+    live c.self.inside c.args.self.now c.args.p c.args.number c.self.view_is c.requires c.deref.result.now c.deref.ensures.value c.container_in-held.result c.container_in-held.ensures c.self.invariant c.index-row.result.now c.index-row.ensures c.index_mut-part.result.now c.index_mut-part.ensures.value
+
+pub discard-held-requires-clause-of_node : goal.discard-held-requires-clause-of_node
+discard-held-requires-clause-of_node c =
+    of_node c.self.inside c.args.self.now c.args.p c.args.number c.self.view_is c.requires c.deref.result.now c.deref.ensures.value c.container_in-held.result c.container_in-held.ensures c.self.invariant c.index-row.result.now c.index-row.ensures c.index_mut-part.result.now c.index_mut-part.ensures.value
+
+pub discard-held-requires-clause-of_app : goal.discard-held-requires-clause-of_app
+discard-held-requires-clause-of_app c =
+    of_app c.self.inside c.args.self.now c.args.p c.args.number c.self.view_is c.requires c.deref.result.now c.deref.ensures.value c.container_in-held.result c.container_in-held.ensures c.self.invariant c.index-row.result.now c.index-row.ensures c.index_mut-part.result.now c.index_mut-part.ensures.value c.chain_in-of_app.result c.chain_in-of_app.ensures
+
+pub freed-requires-clause-live : goal.freed-requires-clause-live
+freed-requires-clause-live c =
+    node-live c.self.inside c.args.self.now c.args.p c.args.number c.self.view_is c.requires c.deref.result.now c.deref.ensures.value c.container_in-held.result c.container_in-held.ensures c.self.invariant
+
+pub freed-requires-clause-small : goal.freed-requires-clause-small
+freed-requires-clause-small c =
+    small-there c.self.inside c.args.self.now c.args.p c.args.number c.self.view_is c.requires c.deref.result.now c.deref.ensures.value c.container_in-held.result c.container_in-held.ensures c.self.invariant c.index-row.result.now c.index-row.ensures
+
+pub released-requires-clause-live : goal.released-requires-clause-live
+released-requires-clause-live c =
+    app-live c.self.inside c.args.self.now c.args.p c.args.number c.self.view_is c.requires c.deref.result.now c.deref.ensures.value c.container_in-held.result c.container_in-held.ensures c.self.invariant
+
+pub released-requires-clause-place : goal.released-requires-clause-place
+released-requires-clause-place c =
+    chain-there c.self.inside c.args.self.now c.args.p c.args.number c.self.view_is c.requires c.deref.result.now c.deref.ensures.value c.container_in-held.result c.container_in-held.ensures c.self.invariant
+
+-- what the call left, of what was held
+dropped-of : (number : ℕ) (held ended : Container) (old new : Partition) (of_node of_app : Chain) → ended ≡ held → IsDropped number ended old new of_node of_app → IsDropped number held old new of_node of_app
+dropped-of number held ended old new of_node of_app same is = subst (λ h. IsDropped number h old new of_node of_app) same is
+
+pub invariant_of-self : goal.invariant_of-self
+invariant_of-self c = record {
+  sound =
+      dropped-rows-sound c.self.inside c.self.invariant c.args.p c.args.number c.index_mut-part.result.now
+      (there-of c.self.inside c.args.self.now c.args.p c.args.number c.self.view_is c.requires c.deref.result.now c.deref.ensures.value c.container_in-held.result c.container_in-held.ensures c.index_mut-part.result.now c.index_mut-part.ensures.value)
+      c.container_in-held.result (found-in c.self.inside c.args.self.now c.args.p c.args.number c.self.view_is c.requires c.deref.result.now c.deref.ensures.value c.container_in-held.result c.container_in-held.ensures c.index_mut-part.result.now (there-of c.self.inside c.args.self.now c.args.p c.args.number c.self.view_is c.requires c.deref.result.now c.deref.ensures.value c.container_in-held.result c.container_in-held.ensures c.index_mut-part.result.now c.index_mut-part.ensures.value))
+      c.index-row.result.now c.index-row.ensures c.discard-held.new.self c.discard-held.new.of_node c.discard-held.new.of_app
+      (dropped-of c.args.number c.container_in-held.result c.discard-held.result c.index_mut-part.result.now c.discard-held.new.self c.discard-held.new.of_node c.discard-held.new.of_app
+      (same c.self.inside c.args.self.now c.args.p c.args.number c.self.view_is c.requires c.deref.result.now c.deref.ensures.value c.container_in-held.result c.container_in-held.ensures c.self.invariant c.index-row.result.now c.index-row.ensures c.index_mut-part.result.now c.index_mut-part.ensures.value c.discard-held.result c.discard-held.ensures.value)
+      (record {
+        label = c.discard-held.ensures.label;
+        limit = c.discard-held.ensures.limit;
+        clock = c.discard-held.ensures.clock;
+        out = record { entries = c.discard-held.ensures.entries; node_chain = c.discard-held.ensures.of_node; app_chain = c.discard-held.ensures.of_app; nodes = c.discard-held.ensures.nodes; apps = c.discard-held.ensures.apps };
+      }))
+      c.freed.new.nodes c.released.new.apps c.freed.ensures c.released.ensures;
+  linked =
+      out-linked c.self.inside c.self.invariant c.args.p c.args.number c.index_mut-part.result.now
+      (there-of c.self.inside c.args.self.now c.args.p c.args.number c.self.view_is c.requires c.deref.result.now c.deref.ensures.value c.container_in-held.result c.container_in-held.ensures c.index_mut-part.result.now c.index_mut-part.ensures.value)
+      c.container_in-held.result (found-in c.self.inside c.args.self.now c.args.p c.args.number c.self.view_is c.requires c.deref.result.now c.deref.ensures.value c.container_in-held.result c.container_in-held.ensures c.index_mut-part.result.now (there-of c.self.inside c.args.self.now c.args.p c.args.number c.self.view_is c.requires c.deref.result.now c.deref.ensures.value c.container_in-held.result c.container_in-held.ensures c.index_mut-part.result.now c.index_mut-part.ensures.value))
+      c.index-row.result.now c.index-row.ensures c.discard-held.new.self c.discard-held.new.of_node c.discard-held.new.of_app
+      (dropped-of c.args.number c.container_in-held.result c.discard-held.result c.index_mut-part.result.now c.discard-held.new.self c.discard-held.new.of_node c.discard-held.new.of_app
+      (same c.self.inside c.args.self.now c.args.p c.args.number c.self.view_is c.requires c.deref.result.now c.deref.ensures.value c.container_in-held.result c.container_in-held.ensures c.self.invariant c.index-row.result.now c.index-row.ensures c.index_mut-part.result.now c.index_mut-part.ensures.value c.discard-held.result c.discard-held.ensures.value)
+      (record {
+        label = c.discard-held.ensures.label;
+        limit = c.discard-held.ensures.limit;
+        clock = c.discard-held.ensures.clock;
+        out = record { entries = c.discard-held.ensures.entries; node_chain = c.discard-held.ensures.of_node; app_chain = c.discard-held.ensures.of_app; nodes = c.discard-held.ensures.nodes; apps = c.discard-held.ensures.apps };
+      })).out c.index-row.result.now.stamp
+      c.freed.new.nodes c.released.new.apps c.freed.ensures c.released.ensures;
+}
+
+pub returns-clause-value : goal.returns-clause-value
+returns-clause-value c =
+    ap (λ (h : Held). held_at h.rows c.args.p c.args.number) (sym c.self.view_is)
+    ∙ held-is c.self.inside c.args.p c.args.number c.index_mut-part.result.now c.container_in-held.result
+    (there-of c.self.inside c.args.self.now c.args.p c.args.number c.self.view_is c.requires c.deref.result.now c.deref.ensures.value c.container_in-held.result c.container_in-held.ensures c.index_mut-part.result.now c.index_mut-part.ensures.value)
+    (found-in c.self.inside c.args.self.now c.args.p c.args.number c.self.view_is c.requires c.deref.result.now c.deref.ensures.value c.container_in-held.result c.container_in-held.ensures c.index_mut-part.result.now (there-of c.self.inside c.args.self.now c.args.p c.args.number c.self.view_is c.requires c.deref.result.now c.deref.ensures.value c.container_in-held.result c.container_in-held.ensures c.index_mut-part.result.now c.index_mut-part.ensures.value))
+
+pub returns-clause-rows : goal.returns-clause-rows
+returns-clause-rows c =
+    dropped-rows c.self.inside c.self.invariant c.args.p c.args.number c.index_mut-part.result.now
+    (there-of c.self.inside c.args.self.now c.args.p c.args.number c.self.view_is c.requires c.deref.result.now c.deref.ensures.value c.container_in-held.result c.container_in-held.ensures c.index_mut-part.result.now c.index_mut-part.ensures.value)
+    c.container_in-held.result (found-in c.self.inside c.args.self.now c.args.p c.args.number c.self.view_is c.requires c.deref.result.now c.deref.ensures.value c.container_in-held.result c.container_in-held.ensures c.index_mut-part.result.now (there-of c.self.inside c.args.self.now c.args.p c.args.number c.self.view_is c.requires c.deref.result.now c.deref.ensures.value c.container_in-held.result c.container_in-held.ensures c.index_mut-part.result.now c.index_mut-part.ensures.value))
+    c.index-row.result.now c.index-row.ensures c.discard-held.new.self c.discard-held.new.of_node c.discard-held.new.of_app
+    (dropped-of c.args.number c.container_in-held.result c.discard-held.result c.index_mut-part.result.now c.discard-held.new.self c.discard-held.new.of_node c.discard-held.new.of_app
+    (same c.self.inside c.args.self.now c.args.p c.args.number c.self.view_is c.requires c.deref.result.now c.deref.ensures.value c.container_in-held.result c.container_in-held.ensures c.self.invariant c.index-row.result.now c.index-row.ensures c.index_mut-part.result.now c.index_mut-part.ensures.value c.discard-held.result c.discard-held.ensures.value)
+    (record {
+      label = c.discard-held.ensures.label;
+      limit = c.discard-held.ensures.limit;
+      clock = c.discard-held.ensures.clock;
+      out = record { entries = c.discard-held.ensures.entries; node_chain = c.discard-held.ensures.of_node; app_chain = c.discard-held.ensures.of_app; nodes = c.discard-held.ensures.nodes; apps = c.discard-held.ensures.apps };
+    }))
+    c.freed.new.nodes c.released.new.apps c.freed.ensures c.released.ensures
+    ∙ ap (λ (h : Held). with_dropped c.args.p c.args.number h.rows) c.self.view_is
