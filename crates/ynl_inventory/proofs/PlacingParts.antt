@@ -55,7 +55,8 @@ module _ (a : Inside) (inv : IsInventory a) (placed : Placement) (can : CanPlace
   is-row : node_row row ≡ can.placeable.node_row
   is-row = same_Some (node_row row) can.placeable.node_row (sym row-at ∙ can.placeable.node_found)
 
-  stands : partition_of_node v.nodes placed.node ≡ row.partition
+  -- the node stands there
+  pub stands : partition_of_node v.nodes placed.node ≡ row.partition
   stands = ap (λ o. option_map_or (λ (r : NodeRow). r.partition) o 0) row-at
 
   -- the partition's part

@@ -1,7 +1,7 @@
 -- Room is reserved in a partition, or its clock rises: the containers there stay.
-use Rattle.std.proofs.Common.{◌≡◌, ◌<◌, ℕ, zero, suc, List, [], ◌∷◌, map, length, get_or, slice_get, Some, refl, sym, ap, subst, ◌∙◌, inl, inr}
+use Rattle.std.proofs.Common.{◌≡◌, ◌<◌, ◌≤◌, ◌+◌, IfSome, option_map, ℕ, zero, suc, List, [], ◌∷◌, map, length, get_or, slice_get, Some, refl, sym, ap, subst, ◌∙◌, inl, inr}
 use Rattle.std.specs.Prelude.{slice_set}
-use Rattle.std.proofs.lemmas.Option.{none-some, same_Some, slice_get_read}
+use Rattle.std.proofs.lemmas.Option.{none-some, same_Some, slice_get_read, slice_get-map}
 use Rattle.std.proofs.lemmas.List.{length-map}
 use Rattle.ynl_inventory.specs.declared.inventory.Inventory.TheInside.{Inside}
 use Rattle.ynl_inventory.specs.Sound.{HasPartition}
@@ -12,8 +12,8 @@ use Rattle.ynl_app_table.specs.Chains.{chain_of}
 use Rattle.ynl_container_table.specs.Table.{Table}
 use Rattle.ynl_container_table.specs.Chains.{IsNodeChain, IsAppChain}
 use Rattle.ynl_inventory.specs.declared.partition.Partition.{Partition}
-use Rattle.ynl_inventory.specs.Parts.{Held, held_of, partition_row, used_of, AreLinked}
-use Rattle.ynl_inventory.proofs.PartLists.{set-cases}
+use Rattle.ynl_inventory.specs.Parts.{Held, LeavesRoom, held_of, partition_row, used_of, AreLinked}
+use Rattle.ynl_inventory.proofs.PartLists.{set-cases, set-same, set-other}
 
 -- a part that is set and means the same leaves what all mean
 pub map-kept : {X Y : Type 0} (f : X → Y) (xs : List X) (p : ℕ) (x new : X) → slice_get xs p ≡ Some x → f new ≡ f x → map f (slice_set xs p new) ≡ map f xs
@@ -68,3 +68,21 @@ part-there a h p view required =
 
 pub part-read : (a : Inside) (h : Held) (p : ℕ) → held_of a ≡ h → HasPartition h.rows p → (part : Partition) → part ≡ get_or a.partitions.items p part → slice_get a.partitions.items p ≡ Some part
 part-read a h p view required part read = slice_get_read a.partitions.items (length a.partitions.items) p part refl (part-there a h p view required) read
+
+-- what a part that is set leaves of the rooms
+pub rooms-left : (items : List Partition) (p : ℕ) (part new : Partition) (most : ℕ) → slice_get items p ≡ Some part → part.containers.room ≤ new.containers.room + most
+    → LeavesRoom p most (map (λ x. x.containers.room) items) (map (λ x. x.containers.room) (slice_set items p new))
+rooms-left items p part new most there enough = record {
+  own = λ room at.
+      let same : room ≡ part.containers.room =
+      same_Some room part.containers.room (sym at ∙ slice_get-map (λ (x : Partition). x.containers.room) items p ∙ ap (option_map (λ (x : Partition). x.containers.room)) there)
+      in
+      subst (λ o. IfSome o (λ left. room ≤ left + most)) (sym now) (subst (λ r. r ≤ new.containers.room + most) (sym same) enough);
+  others = λ q apart.
+      slice_get-map (λ (x : Partition). x.containers.room) (slice_set items p new) q ∙ ap (option_map (λ (x : Partition). x.containers.room)) (set-other items p q new apart)
+      ∙ sym (slice_get-map (λ (x : Partition). x.containers.room) items q);
+}
+  where
+    now : slice_get (map (λ (x : Partition). x.containers.room) (slice_set items p new)) p ≡ Some new.containers.room
+    now =
+        slice_get-map (λ (x : Partition). x.containers.room) (slice_set items p new) p ∙ ap (option_map (λ (x : Partition). x.containers.room)) (set-same items p part new there)

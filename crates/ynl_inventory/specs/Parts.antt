@@ -1,5 +1,5 @@
 -- What the parts of an inventory mean as rows, and how they go together.
-use Rattle.std.specs.Prelude.{◌≡◌, ℕ, ◌<◌, true, nat_eq, List, [], map, filter, slice_get, Option, Some, None, IfSome}
+use Rattle.std.specs.Prelude.{◌≡◌, ◌≢◌, ℕ, ◌+◌, ◌<◌, ◌≤◌, true, nat_eq, List, [], map, filter, slice_get, Option, Some, None, IfSome}
 use Rattle.std.specs.Map.{lookup}
 use Rattle.std.specs.Option.{option_map_or, option_and_then}
 use Rattle.ynl_resource.specs.Amounts.{nothing, less, fits_in, total_of, IsSmall}
@@ -111,3 +111,8 @@ pub record CanPlace (h : Held) (placed : Placement) : Type 0 where
   pub room : IfSome (slice_get h.rooms (partition_of_node h.rows.nodes placed.node)) (λ room. 0 < room)
   pub chain : IfSome (lookup (nat_eq placed.app) h.chains) (λ chains. IsLive (partition_of_node h.rows.nodes placed.node) chains)
   pub fits : fits_in placed.size (free_of h.rows placed.node) ≡ true
+
+-- a partition loses at most so much room, and the others none
+pub record LeavesRoom (p most : ℕ) (old new : List ℕ) : Type 0 where
+  pub own : (room : ℕ) → slice_get old p ≡ Some room → IfSome (slice_get new p) (λ left. room ≤ left + most)
+  pub others : (q : ℕ) → q ≢ p → slice_get new q ≡ slice_get old q

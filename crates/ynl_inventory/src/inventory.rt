@@ -7,12 +7,12 @@ ghost use Rattle.ynl_slots.specs.Slots.{IsLive, IsUnused, with_row};
 ghost use Rattle.ynl_node_table.specs.Nodes.{with_change};
 ghost use Rattle.ynl_app_table.specs.Apps.{with_app};
 ghost use Rattle.ynl_app_table.specs.Chains.{chain_of};
-ghost use Rattle.ynl_inventory.specs.Changes.{with_placed, with_ended, with_joined, with_dropped, with_node_gone};
+ghost use Rattle.ynl_inventory.specs.Changes.{partition_of_node, with_placed, with_ended, with_joined, with_dropped, with_node_gone};
 ghost use Rattle.ynl_model.specs.Nodes.{rises};
 ghost use Rattle.ynl_inventory.specs.Meaning.{node_number};
 ghost use Rattle.ynl_inventory.specs.Opening.{opening_rows, IsOpening};
 ghost use Rattle.ynl_inventory.specs.Sound.{HasPartition, HasNoContainers, IsFor};
-ghost use Rattle.ynl_inventory.specs.Parts.{CanPlace, taken_part, held_at, released_part};
+ghost use Rattle.ynl_inventory.specs.Parts.{CanPlace, LeavesRoom, taken_part, held_at, released_part};
 
 use crate::partition::{Partition, Placement, risen};
 use crate::start::{no_submissions, partitions_of};
@@ -75,8 +75,10 @@ impl Inventory {
     /// A container is placed on a node. It returns the container's number in the node's partition. It takes no memory.
     pub fn place(&mut self, placed: &Placement) -> u32
         requires { CanPlace self.old placed.now }
-        ensures { self.new.rows ≡ with_placed result
+        ensures rows { self.new.rows ≡ with_placed result
             placed.now.node placed.now.app placed.now.role placed.now.size self.old.rows }
+        ensures rooms { LeavesRoom (partition_of_node self.old.rows.nodes placed.now.node) 1
+            self.old.rooms self.new.rooms }
     {
         let row = &self.nodes[placed.node];
         let p = row.partition;
@@ -96,6 +98,7 @@ impl Inventory {
         requires { HasPartition self.old.rows p }
         ensures rows { self.new.rows ≡ self.old.rows }
         ensures ok { OnOk result (IfSome (slice_get self.new.rooms p) (λ room. 0 < room)) }
+        ensures rooms { LeavesRoom p 0 self.old.rooms self.new.rooms }
         ensures chains { self.new.chains ≡ self.old.chains }
     {
         let part = &mut self.partitions[p as usize];
@@ -136,6 +139,7 @@ impl Inventory {
         requires { IsSome (held_at self.old.rows p number) }
         ensures value { held_at self.old.rows p number ≡ Some result }
         ensures rows { self.new.rows ≡ with_ended p number result.node self.old.rows }
+        ensures rooms { LeavesRoom p 0 self.old.rooms self.new.rooms }
     {
         let held = container_in(&self.partitions, p, number);
         let row = &self.nodes[held.node];
@@ -154,6 +158,7 @@ impl Inventory {
         requires { IsSome (held_at self.old.rows p number) }
         ensures value { held_at self.old.rows p number ≡ Some result }
         ensures rows { self.new.rows ≡ with_dropped p number self.old.rows }
+        ensures rooms { LeavesRoom p 0 self.old.rooms self.new.rooms }
     {
         let held = container_in(&self.partitions, p, number);
         let row = &self.nodes[held.node];

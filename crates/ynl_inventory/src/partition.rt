@@ -39,6 +39,7 @@ impl Partition {
           room = self.new.containers.room;
         } }
         ensures ok { OnOk result (0 < self.new.containers.room) }
+        ensures room { self.old.containers.room ≤ self.new.containers.room }
     {
         self.containers.reserve_one()
     }
@@ -66,6 +67,7 @@ impl Partition {
         ensures of_app { IsAppChain self.new.containers of_app.new placed.now.app }
         ensures nodes { KeepsNodes placed.now.node self.old.containers self.new.containers }
         ensures apps { KeepsApps placed.now.app self.old.containers self.new.containers }
+        ensures room { self.old.containers.room ≤ self.new.containers.room + 1 }
     {
         self.clock += 1;
         let container = Container {
@@ -95,6 +97,7 @@ impl Partition {
         ensures of_app { IsAppChain self.new.containers of_app.new result.app }
         ensures nodes { KeepsNodes result.node self.old.containers self.new.containers }
         ensures apps { KeepsApps result.app self.old.containers self.new.containers }
+        ensures room { self.old.containers.room ≤ self.new.containers.room }
     {
         self.clock = risen(self.clock, self.limit);
         self.containers.remove(number, of_node, of_app)
@@ -121,6 +124,7 @@ impl Partition {
         ensures of_app { IsAppChain self.new.containers of_app.new result.app }
         ensures nodes { KeepsNodes result.node self.old.containers self.new.containers }
         ensures apps { KeepsApps result.app self.old.containers self.new.containers }
+        ensures room { self.old.containers.room ≤ self.new.containers.room }
     {
         self.containers.remove(number, of_node, of_app)
     }

@@ -1,12 +1,14 @@
 -- What is known where a container ends.
-use Rattle.std.proofs.Common.{◌≡◌, ◌<◌, ℕ, sym, ap, subst, ◌∙◌}
+use Rattle.std.proofs.Common.{◌≡◌, ◌<◌, ℕ, sym, ap, subst, ◌∙◌, map, arith}
 use Rattle.ynl_slots.specs.declared.chain.Chain.{Chain}
 use Rattle.ynl_container_table.specs.declared.container.Container.{Container}
 use Rattle.ynl_inventory.specs.declared.partition.Partition.{Partition}
 use Rattle.ynl_inventory.specs.Changes.{with_ended}
-use Rattle.ynl_inventory.specs.Parts.{Held, held_at}
+use Rattle.ynl_inventory.specs.Parts.{Held, LeavesRoom, held_at}
 use Rattle.ynl_inventory.proofs.EndingParts.{held-is, IsEnded, ended-rows, ended-rows-sound, out-linked}
 use Rattle.ynl_inventory.proofs.EndingCalls.{has, there-of, found-in, node-live, app-live, chain-there, small-there, live, of_node, of_app, same}
+use Rattle.std.specs.Prelude.{slice_set}
+use Rattle.ynl_inventory.proofs.RoomParts.{rooms-left}
 use Rattle.ynl_inventory.proofs.inventory.Inventory.end.Goals as goal
 
 pub index-row-requires : goal.index-row-requires
@@ -108,3 +110,8 @@ returns-clause-rows c =
     }))
     c.freed.new.nodes c.released.new.apps c.freed.ensures c.released.ensures
     ∙ ap (λ (h : Held). with_ended c.args.p c.args.number c.container_in-held.result.node h.rows) c.self.view_is
+
+pub returns-clause-rooms : goal.returns-clause-rooms
+returns-clause-rooms c =
+    subst (λ (h : Held). LeavesRoom c.args.p 0 h.rooms (map (λ (part : Partition). part.containers.room) (slice_set c.self.inside.partitions.items c.args.p c.end-held.new.self))) c.self.view_is
+    (rooms-left c.self.inside.partitions.items c.args.p c.index_mut-part.result.now c.end-held.new.self 0 (there-of c.self.inside c.args.self.now c.args.p c.args.number c.self.view_is c.requires c.deref.result.now c.deref.ensures.value c.container_in-held.result c.container_in-held.ensures c.index_mut-part.result.now c.index_mut-part.ensures.value) (omega (arith, c.end-held.ensures.room)))

@@ -1,5 +1,5 @@
 -- What is known where a container is placed.
-use Rattle.std.proofs.Common.{◌≡◌, ◌<◌, ◌+◌, true, IsTrue, IfSome, length, get_or, slice_get, Some, nat_eq, refl, sym, ap, subst, ◌∙◌}
+use Rattle.std.proofs.Common.{◌≡◌, ◌<◌, ◌+◌, true, IsTrue, IfSome, length, get_or, slice_get, Some, nat_eq, refl, sym, ap, subst, ◌∙◌, map, arith}
 use Rattle.std.specs.Map.{lookup}
 use Rattle.std.proofs.lemmas.Option.{slice_get_read}
 use Rattle.ynl_resource.specs.Amounts.{fits_in}
@@ -14,9 +14,11 @@ use Rattle.ynl_container_table.proofs.Removing.{at_live}
 use Rattle.ynl_inventory.specs.declared.partition.Placement.{Placement}
 use Rattle.ynl_inventory.specs.declared.partition.Partition.{Partition}
 use Rattle.ynl_inventory.specs.declared.inventory.Inventory.TheInside.{Inside}
-use Rattle.ynl_inventory.specs.Changes.{with_placed}
-use Rattle.ynl_inventory.specs.Parts.{Held, held_of, IsInventory, CanPlace}
-use Rattle.ynl_inventory.proofs.PlacingParts.{node-live, app-live, own-app, has-part, has-room, still-rises, is-above, node-chain, has-free, app-chain, has-place, all-rows, all-sound, all-linked}
+use Rattle.ynl_inventory.specs.Changes.{partition_of_node, with_placed}
+use Rattle.ynl_inventory.specs.Parts.{Held, LeavesRoom, held_of, IsInventory, CanPlace}
+use Rattle.ynl_inventory.proofs.PlacingParts.{stands, node-live, app-live, own-app, has-part, has-room, still-rises, is-above, node-chain, has-free, app-chain, has-place, all-rows, all-sound, all-linked}
+use Rattle.std.specs.Prelude.{slice_set}
+use Rattle.ynl_inventory.proofs.RoomParts.{rooms-left}
 use Rattle.ynl_inventory.proofs.inventory.Inventory.place.Goals as goal
 
 -- what is required, of the parts
@@ -146,8 +148,8 @@ invariant_of-self c = record {
       c.used.new.nodes c.taken.new.apps c.used.ensures c.taken.ensures;
 }
 
-pub returns : goal.returns
-returns c =
+pub returns-clause-rows : goal.returns-clause-rows
+returns-clause-rows c =
     all-rows c.self.inside c.self.invariant c.args.placed.now (can c.self.inside c.args.self.now c.args.placed.now c.self.view_is c.requires) c.index-row.result.now c.index-row.ensures c.index_mut-part.result.now
     (stood c.self.inside c.args.self.now c.args.placed.now c.self.view_is c.self.invariant c.requires c.index-row.result.now c.index-row.ensures c.index_mut-part.result.now c.index_mut-part.ensures.value)
     c.place-number.result c.place-number.new.self c.place-number.new.of_node c.place-number.new.of_app
@@ -164,3 +166,10 @@ returns c =
     })
     c.used.new.nodes c.taken.new.apps c.used.ensures c.taken.ensures
     ∙ ap (λ (h : Held). with_placed c.place-number.result c.args.placed.now.node c.args.placed.now.app c.args.placed.now.role c.args.placed.now.size h.rows) c.self.view_is
+
+pub returns-clause-rooms : goal.returns-clause-rooms
+returns-clause-rooms c =
+    subst (λ (h : Held). LeavesRoom (partition_of_node h.rows.nodes c.args.placed.now.node) 1 h.rooms (map (λ (part : Partition). part.containers.room) (slice_set c.self.inside.partitions.items c.index-row.result.now.partition c.place-number.new.self))) c.self.view_is
+    (subst (λ p. LeavesRoom p 1 (held_of c.self.inside).rooms (map (λ (part : Partition). part.containers.room) (slice_set c.self.inside.partitions.items c.index-row.result.now.partition c.place-number.new.self)))
+    (sym (stands c.self.inside c.self.invariant c.args.placed.now (can c.self.inside c.args.self.now c.args.placed.now c.self.view_is c.requires) c.index-row.result.now c.index-row.ensures))
+    (rooms-left c.self.inside.partitions.items c.index-row.result.now.partition c.index_mut-part.result.now c.place-number.new.self 1 (stood c.self.inside c.args.self.now c.args.placed.now c.self.view_is c.self.invariant c.requires c.index-row.result.now c.index-row.ensures c.index_mut-part.result.now c.index_mut-part.ensures.value) c.place-number.ensures.room))
