@@ -75,6 +75,18 @@ impl Containers {
         self.rows.reserve_one()
     }
 
+    /// Reserves room for so many more containers. It fails if memory is refused, past 2^32 - 1 containers, and past 2^64 - 1
+    /// placements.
+    pub fn reserve(&mut self, count: u32) -> Result<(), AllocError>
+        ensures table { self.new ≡ record self.old { room = self.new.room } }
+        ensures ok { OnOk result (count ≤ self.new.room) }
+        ensures had_room { count ≤ self.old.room → IsOk result }
+        ensures room { self.old.room ≤ self.new.room }
+    {
+        self.numbers.reserve(count as usize)?;
+        self.rows.reserve(count)
+    }
+
     /// A container comes last, also in the chains of its node and of its application. It returns the number.
     pub fn place(&mut self, container: Container, of_node: &mut Chain, of_app: &mut Chain) -> u32
         requires room { 0 < self.old.room }

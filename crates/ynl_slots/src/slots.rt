@@ -106,6 +106,25 @@ impl<T> Slots<T> {
         self.slots.reserve(1)
     }
 
+    /// Reserves room for so many more rows. It fails if memory is refused, past 2^32 - 1 rows, and past 2^64 - 1 pushes.
+    pub fn reserve(&mut self, count: u32) -> Result<(), AllocError>
+        ensures entries { self.new.entries ≡ self.old.entries }
+        ensures ok { OnOk result (count ≤ self.new.room) }
+        ensures had_room { count ≤ self.old.room → IsOk result }
+        ensures room { self.old.room ≤ self.new.room }
+    {
+        if count as usize > u32::MAX as usize - self.len
+            || u64::from(count) > u64::MAX - self.next
+        {
+            return Err(AllocError);
+        }
+        let spare = self.slots.len() - self.len;
+        if count as usize <= spare {
+            return Ok(());
+        }
+        self.slots.reserve(count as usize - spare)
+    }
+
     /// Adds a row as the last, in the slot that was freed last or else in a new one. It returns the slot's number.
     pub fn push(&mut self, row: T) -> u32
         requires { 0 < self.old.room }
