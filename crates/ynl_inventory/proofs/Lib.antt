@@ -34,3 +34,4 @@ pub mod Opening
 pub mod NodeParts
 pub mod EndingCalls
 pub mod DroppingParts
+pub mod AppParts

@@ -97,9 +97,12 @@ unnamed-all name (e ∷ es) h = go (same_name name e.1.name) refl h (unnamed-all
     go true is k rest = absurd (none-some e.0 (sym k))
     go false is k rest = (turned (same_name e.1.name name) refl is, rest k)
 
--- nor has the table of the nodes a number for it
+-- the table of the nodes has the numbers of the rows
+pub same-number : (name : Name) (nodes : List (ℕ × NodePart)) → node_number name (of_rows node_row nodes) ≡ number_of name nodes
+same-number name nodes = ap (lookup (same_name name)) (map-map (λ (e : ℕ × NodeRow). (e.1.name, e.0)) (λ (e : ℕ × NodePart). (e.0, node_row e.1)) nodes)
+
 pub unnumbered : (name : Name) (nodes : List (ℕ × NodePart)) → node_number name (of_rows node_row nodes) ≡ None → number_of name nodes ≡ None
-unnumbered name nodes none = sym (ap (lookup (same_name name)) (map-map (λ (e : ℕ × NodeRow). (e.1.name, e.0)) (λ (e : ℕ × NodePart). (e.0, node_row e.1)) nodes)) ∙ none
+unnumbered name nodes none = sym (same-number name nodes) ∙ none
 
 less-nothing : (a : Resource) → a ≡ less a nothing
 less-nothing a = λ i. record { memory = memory i; vcores = vcores i }

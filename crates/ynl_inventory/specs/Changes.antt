@@ -7,6 +7,7 @@ use Rattle.ynl_resource.specs.declared.names.Name.{Name}
 use Rattle.ynl_model.specs.Nodes.{rises}
 use Rattle.ynl_slots.specs.Slots.{without}
 use Rattle.ynl_app_table.specs.declared.asks.Ask.{Ask}
+use Rattle.ynl_app_table.specs.declared.app.Tickets.{Tickets}
 use Rattle.ynl_app_table.specs.Apps.{no_tickets, with_change}
 use Rattle.ynl_app_table.specs.Asks.{with_ask, with_one_taken}
 use Rattle.ynl_container_table.specs.declared.container.Container.{Container}
@@ -118,6 +119,10 @@ with_submitted number name tenant leaf user home master v = record v {
 -- an application asks
 abbrev pub with_asked : ℕ → Ask → Rows → Rows
 with_asked app ask v = with_app_changed app (λ row. record row { asks = with_ask ask row.asks }) v
+
+-- the tickets of a live application
+abbrev pub with_tickets : ℕ → Tickets → Rows → Rows
+with_tickets app tickets v = with_app_changed app (λ row. record row { tickets = tickets }) v
 
 -- an application that has no containers is live no more
 abbrev pub with_app_gone : ℕ → ℕ → ℕ → Rows → Rows

@@ -114,3 +114,7 @@ module _ (v : Rows) where
   -- no container stands on a node
   abbrev pub HasNoContainers : ℕ → Type 0
   HasNoContainers node = (p : ℕ) (row : PartitionRow) → slice_get v.partitions p ≡ Some row → AllByRecursion (λ e. e.1.node ≢ node) row.containers
+
+  -- no container is an application's
+  abbrev pub OwnsNoContainers : ℕ → Type 0
+  OwnsNoContainers app = (p : ℕ) (row : PartitionRow) → slice_get v.partitions p ≡ Some row → AllByRecursion (λ e. e.1.app ≢ app) row.containers

@@ -1,29 +1,32 @@
 //! What a cluster holds.
 
-ghost use Rattle.std.specs.Prelude.{◌≡◌, ◌<◌, nat_eq, length, slice_get, Some, None, IfOk, OnOk, OnErr, IfSome, IsSome, IsTrue};
+ghost use Rattle.std.specs.Prelude.{◌≡◌, ◌<◌, ◌≤◌, nat_eq, length, slice_get, Some, None, IfNone, nat_le, IfOk, OnOk, OnErr, IfSome, IsSome, IsTrue};
 ghost use Rattle.std.specs.Map.{lookup};
 ghost use Rattle.ynl_resource.specs.Amounts.{fits_in, less, plus, IsSmall};
 ghost use Rattle.ynl_slots.specs.Slots.{IsLive, IsUnused, with_row};
 ghost use Rattle.ynl_node_table.specs.Nodes.{with_change};
 ghost use Rattle.ynl_app_table.specs.Apps.{with_app};
 ghost use Rattle.ynl_app_table.specs.Chains.{chain_of};
-ghost use Rattle.ynl_inventory.specs.Changes.{partition_of_node, with_placed, with_ended, with_joined, with_dropped, with_node_gone};
+ghost use Rattle.ynl_inventory.specs.Changes.{partition_of_node, with_placed, with_ended, with_joined, with_dropped, with_node_gone, with_tickets, with_app_gone};
 ghost use Rattle.ynl_model.specs.Nodes.{rises};
-ghost use Rattle.ynl_inventory.specs.Meaning.{node_number};
+ghost use Rattle.ynl_container_table.specs.Table.{number_at};
+ghost use Rattle.ynl_submissions.specs.Submissions.{turn_of};
+ghost use Rattle.ynl_users.specs.Users.{IsNew};
+ghost use Rattle.ynl_inventory.specs.Meaning.{label_at, node_number, submitted_to};
 ghost use Rattle.ynl_inventory.specs.Opening.{opening_rows, IsOpening};
-ghost use Rattle.ynl_inventory.specs.Sound.{HasPartition, HasNoContainers, IsFor};
-ghost use Rattle.ynl_inventory.specs.Parts.{CanPlace, LeavesRoom, taken_part, held_at, released_part};
+ghost use Rattle.ynl_inventory.specs.Sound.{HasPartition, HasNoContainers, OwnsNoContainers, IsFor};
+ghost use Rattle.ynl_inventory.specs.Parts.{app_row, node_row, CanPlace, LeavesRoom, taken_part, held_at, released_part};
 
 use crate::partition::{Partition, Placement, risen};
 use crate::start::{no_submissions, partitions_of};
 use std::alloc::{AllocError, Global};
 use std::marker::Model;
-use ynl_app_table::Apps;
+use ynl_app_table::{AppRow, Apps, Tickets};
 use ynl_container_table::{Container, Role};
 use ynl_layout::Layout;
-use ynl_node_table::Nodes;
+use ynl_node_table::{NodeRow, Nodes};
 use ynl_queues::Config;
-use ynl_resource::{Name, Size};
+use ynl_resource::{Label, Name, Size};
 use ynl_slots::Chain;
 use ynl_submissions::Submissions;
 use ynl_users::Users;
@@ -92,17 +95,17 @@ impl Inventory {
         number
     }
 
-    /// Reserves room for one more container in a partition. It fails if memory is refused, and where `Containers::reserve_one`
-    /// does.
-    pub fn reserve(&mut self, p: u8) -> Result<(), AllocError>
+    /// Reserves room for so many more containers in a partition, as a heartbeat may place. It fails if memory is refused, and
+    /// where `Containers::reserve` does.
+    pub fn reserve_for(&mut self, p: u8, count: u32) -> Result<(), AllocError>
         requires { HasPartition self.old.rows p }
         ensures rows { self.new.rows ≡ self.old.rows }
-        ensures ok { OnOk result (IfSome (slice_get self.new.rooms p) (λ room. 0 < room)) }
+        ensures ok { OnOk result (IfSome (slice_get self.new.rooms p) (λ room. count ≤ room)) }
         ensures rooms { LeavesRoom p 0 self.old.rooms self.new.rooms }
         ensures chains { self.new.chains ≡ self.old.chains }
     {
         let part = &mut self.partitions[p as usize];
-        part.reserve()
+        part.reserve(count)
     }
 
     /// A node of a new name joins a partition, with all of it free. It returns the node's number. It fails where
@@ -170,6 +173,112 @@ impl Inventory {
         freed(&mut self.nodes, &held, of_node, stamp);
         released(&mut self.apps, &held, p, of_app);
         held
+    }
+
+    /// Sets an application's tickets.
+    pub fn set_tickets(&mut self, app: u32, tickets: Tickets)
+        requires { IsLive app self.old.rows.apps }
+        ensures { self.new ≡ record self.old { rows = with_tickets app tickets self.old.rows } }
+    {
+        self.apps.set_tickets(app, tickets);
+    }
+
+    /// An application without containers is live no more. Its name stays. It takes no memory.
+    pub fn finish(&mut self, app: u32)
+        requires live { IsLive app self.old.rows.apps }
+        requires empty { OwnsNoContainers self.old.rows app }
+        ensures rows { IfSome (lookup (nat_eq app) self.old.rows.apps)
+            (λ row. self.new.rows ≡ with_app_gone app row.tenant row.turn self.old.rows) }
+        ensures rooms { self.new.rooms ≡ self.old.rooms }
+    {
+        let row = self.apps.remove(app);
+        let submissions = &mut self.tenants[row.tenant as usize];
+        submissions.finish(row.turn);
+    }
+
+    /// The node under a number.
+    pub fn node(&self, number: u32) -> &NodeRow
+        requires { IsLive number self.now.rows.nodes }
+        ensures { lookup (nat_eq number) self.now.rows.nodes ≡ Some (node_row result.now) }
+    {
+        &self.nodes[number]
+    }
+
+    /// The number of the node of a name, if there is one.
+    pub fn find_node(&self, name: &Name) -> Option<u32>
+        ensures { result ≡ node_number name.now self.now.rows.nodes }
+    {
+        self.nodes.find(name)
+    }
+
+    /// The application under a number.
+    pub fn app(&self, number: u32) -> &AppRow
+        requires { IsLive number self.now.rows.apps }
+        ensures { lookup (nat_eq number) self.now.rows.apps ≡ Some (app_row result.now) }
+    {
+        &self.apps[number]
+    }
+
+    /// The container under a number in a partition.
+    pub fn container(&self, p: u8, number: u32) -> Container
+        requires { IsSome (held_at self.now.rows p number) }
+        ensures { held_at self.now.rows p number ≡ Some result }
+    {
+        container_in(&self.partitions, p, number)
+    }
+
+    /// The label of a partition.
+    pub fn label(&self, p: u8) -> &Label
+        requires { HasPartition self.now.rows p }
+        ensures { result.now ≡ label_at self.now.rows.partitions p }
+    {
+        let part = &self.partitions[p as usize];
+        &part.label
+    }
+
+    /// Whether the clock of a partition stands at its limit.
+    pub fn is_spent(&self, p: u8) -> bool
+        requires { HasPartition self.now.rows p }
+        ensures { IfSome (slice_get self.now.rows.partitions p)
+            (λ row. result ≡ nat_le row.limit row.clock) }
+    {
+        let part = &self.partitions[p as usize];
+        part.limit <= part.clock
+    }
+
+    /// The number of the container of a partition and a clock, if there is one.
+    pub fn find_container(&self, p: u8, clock: u64) -> Option<u32>
+        requires { HasPartition self.now.rows p }
+        ensures { IfSome (slice_get self.now.rows.partitions p)
+            (λ row. result ≡ number_at clock row.containers) }
+    {
+        let part = &self.partitions[p as usize];
+        part.containers.find(clock)
+    }
+
+    /// The turn of a tenant's application of a name, if one was submitted.
+    pub fn find_turn(&self, tenant: u32, name: &Name) -> Option<u32>
+        requires { tenant < length self.now.rows.tenants }
+        ensures { result ≡ turn_of name.now (submitted_to self.now.rows.tenants tenant) }
+    {
+        let submissions = &self.tenants[tenant as usize];
+        submissions.find(name)
+    }
+
+    /// The name of a user.
+    pub fn user_name(&self, user: u32) -> &Name
+        requires { user < length self.now.rows.users }
+        ensures { slice_get self.now.rows.users user ≡ Some result.now }
+    {
+        self.users.name(user)
+    }
+
+    /// The number of the user of a name, if there is one.
+    pub fn find_user(&self, name: &Name) -> Option<u32>
+        ensures own { IfSome result (λ n. slice_get self.now.rows.users n ≡ Some name.now) }
+        ensures none { IfNone result (IsNew name.now self.now.rows.users) }
+    {
+        self.users.find(name)
     }
 }
 

@@ -32,16 +32,16 @@ pub struct Placement {
 }
 
 impl Partition {
-    /// Reserves room for one more container.
-    pub(crate) fn reserve(&mut self) -> Result<(), AllocError>
+    /// Reserves room for so many more containers.
+    pub(crate) fn reserve(&mut self, count: u32) -> Result<(), AllocError>
         ensures partition { self.new ≡ record self.old { containers = self.new.containers } }
         ensures containers { self.new.containers ≡ record self.old.containers {
           room = self.new.containers.room;
         } }
-        ensures ok { OnOk result (0 < self.new.containers.room) }
+        ensures ok { OnOk result (count ≤ self.new.containers.room) }
         ensures room { self.old.containers.room ≤ self.new.containers.room }
     {
-        self.containers.reserve_one()
+        self.containers.reserve(count)
     }
 
     /// The clock rises, and a container with it comes last, also in the chains of its node and of its application. It

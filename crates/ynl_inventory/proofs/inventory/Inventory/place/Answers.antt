@@ -1,5 +1,5 @@
 -- What is known where a container is placed.
-use Rattle.std.proofs.Common.{◌≡◌, ◌<◌, ◌+◌, true, IsTrue, IfSome, length, get_or, slice_get, Some, nat_eq, refl, sym, ap, subst, ◌∙◌, map, arith}
+use Rattle.std.proofs.Common.{◌≡◌, ◌<◌, ◌+◌, true, IsTrue, IfSome, length, get_or, slice_get, Some, nat_eq, refl, sym, ap, subst, ◌∙◌, map}
 use Rattle.std.specs.Map.{lookup}
 use Rattle.std.proofs.lemmas.Option.{slice_get_read}
 use Rattle.ynl_resource.specs.Amounts.{fits_in}

@@ -1,5 +1,5 @@
 -- What is known where room is reserved.
-use Rattle.std.proofs.Common.{◌≡◌, ◌<◌, OnOk, IfSome, map, slice_get, Some, option_map, sym, ap, subst, ◌∙◌, arith}
+use Rattle.std.proofs.Common.{◌≡◌, ◌≤◌, OnOk, IfSome, map, slice_get, Some, option_map, sym, ap, subst, ◌∙◌, arith}
 use Rattle.std.proofs.lemmas.Option.{slice_get-map}
 use Rattle.std.specs.Prelude.{slice_set}
 use Rattle.ynl_inventory.specs.declared.partition.Partition.{Partition}
@@ -7,7 +7,7 @@ use Rattle.ynl_inventory.specs.Parts.{Held, LeavesRoom, held_of}
 use Rattle.ynl_inventory.specs.Sound.{IsSound}
 use Rattle.ynl_inventory.proofs.PartLists.{set-same}
 use Rattle.ynl_inventory.proofs.RoomParts.{part-read, room-rows, room-linked, rooms-left}
-use Rattle.ynl_inventory.proofs.inventory.Inventory.reserve.Goals as goal
+use Rattle.ynl_inventory.proofs.inventory.Inventory.reserve_for.Goals as goal
 
 pub invariant_of-self : goal.invariant_of-self
 invariant_of-self c =
@@ -42,7 +42,7 @@ returns-clause-ok c =
     slice_get-map (λ (part : Partition). part.containers.room) (slice_set c.self.inside.partitions.items c.args.p c.reserve.new.self) c.args.p
     ∙ ap (option_map (λ (part : Partition). part.containers.room)) (set-same c.self.inside.partitions.items c.args.p c.index_mut-part.result.now c.reserve.new.self at)
     in
-    subst (λ o. OnOk c.reserve.result (IfSome o (λ room. 0 < room))) (sym is) c.reserve.ensures.ok
+    subst (λ o. OnOk c.reserve.result (IfSome o (λ room. c.args.count ≤ room))) (sym is) c.reserve.ensures.ok
 
 pub returns-clause-rooms : goal.returns-clause-rooms
 returns-clause-rooms c =
