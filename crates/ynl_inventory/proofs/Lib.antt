@@ -35,3 +35,4 @@ pub mod NodeParts
 pub mod EndingCalls
 pub mod DroppingParts
 pub mod AppParts
+pub mod ChainsRead

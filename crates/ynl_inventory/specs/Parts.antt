@@ -100,6 +100,10 @@ abbrev pub released_part : Role → AppPart → AppPart
 released_part Master part = record part { master = None }
 released_part (Asked p priority) part = part
 
+-- the containers of a partition
+abbrev pub containers_of : Rows → ℕ → List (ℕ × Container)
+containers_of v p = option_map_or (λ row. row.containers) (slice_get v.partitions p) []
+
 -- the rows are sound, and the parts go together
 pub record IsInventory (a : Inside) : Type 0 where
   pub sound : IsSound (held_of a).rows

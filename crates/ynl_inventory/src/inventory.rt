@@ -9,13 +9,14 @@ ghost use Rattle.ynl_app_table.specs.Apps.{with_app};
 ghost use Rattle.ynl_app_table.specs.Chains.{chain_of};
 ghost use Rattle.ynl_inventory.specs.Changes.{partition_of_node, with_placed, with_ended, with_joined, with_dropped, with_node_gone, with_tickets, with_app_gone};
 ghost use Rattle.ynl_model.specs.Nodes.{rises};
+ghost use Rattle.ynl_container_table.specs.Chains.{IsFirst};
 ghost use Rattle.ynl_container_table.specs.Table.{number_at};
 ghost use Rattle.ynl_submissions.specs.Submissions.{turn_of};
 ghost use Rattle.ynl_users.specs.Users.{IsNew};
 ghost use Rattle.ynl_inventory.specs.Meaning.{label_at, node_number, submitted_to};
 ghost use Rattle.ynl_inventory.specs.Opening.{opening_rows, IsOpening};
 ghost use Rattle.ynl_inventory.specs.Sound.{HasPartition, HasNoContainers, OwnsNoContainers, IsFor};
-ghost use Rattle.ynl_inventory.specs.Parts.{app_row, node_row, CanPlace, LeavesRoom, taken_part, held_at, released_part};
+ghost use Rattle.ynl_inventory.specs.Parts.{app_row, node_row, CanPlace, LeavesRoom, taken_part, held_at, containers_of, released_part};
 
 use crate::partition::{Partition, Placement, risen};
 use crate::start::{no_submissions, partitions_of};
@@ -279,6 +280,28 @@ impl Inventory {
         ensures none { IfNone result (IsNew name.now self.now.rows.users) }
     {
         self.users.find(name)
+    }
+
+    /// The first container of a node, in the order of placement, if there is one.
+    pub fn first_of_node(&self, node: u32) -> Option<u32>
+        requires { IsLive node self.now.rows.nodes }
+        ensures { IsFirst (λ c. c.node) node
+            (containers_of self.now.rows (partition_of_node self.now.rows.nodes node)) result }
+    {
+        let row = &self.nodes[node];
+        let part = &self.partitions[row.partition as usize];
+        part.containers.first_of_node(&row.containers)
+    }
+
+    /// The first container of an application in a partition, in the order of placement, if there is one.
+    pub fn first_of_app(&self, app: u32, p: u8) -> Option<u32>
+        requires app { IsLive app self.now.rows.apps }
+        requires partition { HasPartition self.now.rows p }
+        ensures { IsFirst (λ c. c.app) app (containers_of self.now.rows p) result }
+    {
+        let chain = chain_in(&self.apps, app, p);
+        let part = &self.partitions[p as usize];
+        part.containers.first_of_app(&chain)
     }
 }
 
