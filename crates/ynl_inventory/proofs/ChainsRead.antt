@@ -23,7 +23,7 @@ use Rattle.ynl_inventory.specs.Parts.{Held, held_of, partition_row, node_row, co
 use Rattle.ynl_inventory.proofs.AppParts.{app-found}
 
 -- the containers of a part's partition
-containers-are : (a : Inside) (p : ℕ) (part : Partition) → slice_get a.partitions.items p ≡ Some part → containers_of (held_of a).rows p ≡ part.containers.entries
+pub containers-are : (a : Inside) (p : ℕ) (part : Partition) → slice_get a.partitions.items p ≡ Some part → containers_of (held_of a).rows p ≡ part.containers.entries
 containers-are a p part there =
     ap (λ o. option_map_or (λ (row : PartitionRow). row.containers) o []) (slice_get-map partition_row a.partitions.items p ∙ ap (option_map partition_row) there)
 

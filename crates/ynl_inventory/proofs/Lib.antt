@@ -36,3 +36,4 @@ pub mod EndingCalls
 pub mod DroppingParts
 pub mod AppParts
 pub mod ChainsRead
+pub mod ChainsFollowed

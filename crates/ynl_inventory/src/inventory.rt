@@ -9,7 +9,7 @@ ghost use Rattle.ynl_app_table.specs.Apps.{with_app};
 ghost use Rattle.ynl_app_table.specs.Chains.{chain_of};
 ghost use Rattle.ynl_inventory.specs.Changes.{partition_of_node, with_placed, with_ended, with_joined, with_dropped, with_node_gone, with_tickets, with_app_gone};
 ghost use Rattle.ynl_model.specs.Nodes.{rises};
-ghost use Rattle.ynl_container_table.specs.Chains.{IsFirst};
+ghost use Rattle.ynl_container_table.specs.Chains.{IsFirst, IsNext};
 ghost use Rattle.ynl_container_table.specs.Table.{number_at};
 ghost use Rattle.ynl_submissions.specs.Submissions.{turn_of};
 ghost use Rattle.ynl_users.specs.Users.{IsNew};
@@ -302,6 +302,26 @@ impl Inventory {
         let chain = chain_in(&self.apps, app, p);
         let part = &self.partitions[p as usize];
         part.containers.first_of_app(&chain)
+    }
+
+    /// The next container of the same node, in the order of placement, if there is one.
+    pub fn next_of_node(&self, p: u8, number: u32) -> Option<u32>
+        requires { IsSome (held_at self.now.rows p number) }
+        ensures { IfSome (held_at self.now.rows p number) (λ c.
+            IsNext (λ x. x.node) c.node (containers_of self.now.rows p) number result) }
+    {
+        let part = &self.partitions[p as usize];
+        part.containers.next_of_node(number)
+    }
+
+    /// The next container of the same application in the same partition, in the order of placement, if there is one.
+    pub fn next_of_app(&self, p: u8, number: u32) -> Option<u32>
+        requires { IsSome (held_at self.now.rows p number) }
+        ensures { IfSome (held_at self.now.rows p number) (λ c.
+            IsNext (λ x. x.app) c.app (containers_of self.now.rows p) number result) }
+    {
+        let part = &self.partitions[p as usize];
+        part.containers.next_of_app(number)
     }
 }
 
