@@ -26,6 +26,7 @@ use Rattle.ynl_inventory.proofs.AppChange.{LeavesOwner, app-sound}
 use Rattle.ynl_inventory.proofs.Gone.{gone-sound}
 use Rattle.ynl_inventory.proofs.Submitted.{tenant-there}
 use Rattle.ynl_inventory.proofs.PartLists.{unmapped, map-set, of_rows-changed, of_rows-kept}
+use Rattle.ynl_inventory.proofs.NodeParts.{found-without}
 
 -- an application that has a row is there
 pub app-found : (a : Inside) (app : ℕ) → IsLive app (held_of a).rows.apps → (part : AppPart) × (lookup (nat_eq app) a.apps.entries ≡ Some part) × (lookup (nat_eq app) (held_of a).rows.apps ≡ Some (app_row part))
@@ -81,14 +82,6 @@ module _ (a : Inside) (app : ℕ) (tickets : Tickets) (apps' : Numbered AppPart)
   }
 
 -- ---- an application that is live no more
-
--- what is found without a number was found
-found-without : (n m : ℕ) (row : AppPart) (es : List (ℕ × AppPart)) → lookup (nat_eq n) (without m es) ≡ Some row → lookup (nat_eq n) es ≡ Some row
-found-without n m row es found = go (nat_eq n m) (sym (lookup-without n m es) ∙ found)
-  where
-    go : (b : Bool) → cond b None (lookup (nat_eq n) es) ≡ Some row → lookup (nat_eq n) es ≡ Some row
-    go true h = absurd (none-some row h)
-    go false h = h
 
 module _ (a : Inside) (inv : IsInventory a) (app : ℕ) (part : AppPart) (found : lookup (nat_eq app) a.apps.entries ≡ Some part) where
   abbrev v : Rows

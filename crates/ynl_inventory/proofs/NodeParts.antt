@@ -44,7 +44,7 @@ use Rattle.ynl_inventory.proofs.RoomParts.{map-kept, room-linked}
 -- ---- leaving
 
 -- what is found without a number was found
-found-without : {X : Type 0} (n m : ℕ) (row : X) (es : List (ℕ × X)) → lookup (nat_eq n) (without m es) ≡ Some row → lookup (nat_eq n) es ≡ Some row
+pub found-without : {X : Type 0} (n m : ℕ) (row : X) (es : List (ℕ × X)) → lookup (nat_eq n) (without m es) ≡ Some row → lookup (nat_eq n) es ≡ Some row
 found-without n m row es found = go (nat_eq n m) (sym (lookup-without n m es) ∙ found)
   where
     go : (b : Bool) → cond b None (lookup (nat_eq n) es) ≡ Some row → lookup (nat_eq n) es ≡ Some row
