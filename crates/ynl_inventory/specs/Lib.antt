@@ -4,3 +4,4 @@ pub mod Changes
 pub mod Opening
 pub mod Sound
 pub mod Parts
+pub mod Apps
