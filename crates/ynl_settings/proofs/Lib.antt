@@ -1,1 +1,4 @@
 pub mod Cells
+pub mod StopsMean
+pub mod MaximaMean
+pub mod SharesMean
