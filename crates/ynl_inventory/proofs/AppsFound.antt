@@ -58,7 +58,7 @@ leaf-below : (paths : List Path) (q : ℕ) → has_none_below paths (path_at pat
 leaf-below paths zero leaf inside = absurd (true≢false (sym leaf))
 leaf-below paths (suc k) leaf inside = (k, refl, slice_get-get_or paths k root (omega (arith, inside)))
 
-leaf-among : (paths : List Path) (q : ℕ) → has_none_below paths (path_at paths q) ≡ true → HasNumber paths q → list_any (nat_eq q) (leaf_numbers paths) ≡ true
+pub leaf-among : (paths : List Path) (q : ℕ) → has_none_below paths (path_at paths q) ≡ true → HasNumber paths q → list_any (nat_eq q) (leaf_numbers paths) ≡ true
 leaf-among paths q leaf inside =
     let b = leaf-below paths q leaf inside in
     subst (λ (n : ℕ). list_any (nat_eq n) (leaves_from paths 1 paths) ≡ true) (sym b.1) (subst (λ (n : ℕ). list_any (nat_eq n) (leaves_from paths 1 paths) ≡ true) (omega arith) (has-leaf paths 1 b.0 (path_at paths q) paths b.2 leaf))

@@ -1,0 +1,4 @@
+pub mod Members
+pub mod Running
+pub mod Live
+pub mod Wanted

@@ -1,0 +1,18 @@
+//! What the rows say of requests is what the model says.
+
+ghost use Rattle.ynl_requests.specs.Laws.{AskedIsModel, RunsIsModel, WantedIsModel};
+
+/// An application runs in the model if its rows say so.
+pub fn runs_is_the_models()
+    ensures { RunsIsModel }
+{}
+
+/// The requests for a partition are the model's.
+pub fn wanted_is_the_models()
+    ensures { WantedIsModel }
+{}
+
+/// The asks for a partition are the model's.
+pub fn asked_is_the_models()
+    ensures { AskedIsModel }
+{}
