@@ -1,0 +1,3 @@
+pub mod Rooms
+pub mod Steps
+pub mod Tests

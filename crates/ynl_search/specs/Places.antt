@@ -1,0 +1,43 @@
+-- A queue on the way of a search, and what the model says of it.
+use Rattle.std.specs.Prelude.{◌≡◌, Bool, ◌&&◌, ◌∷◌}
+use Rattle.std.specs.List.{list_all}
+use Rattle.ynl_resource.specs.Amounts.{fits_in, plus}
+use Rattle.ynl_resource.specs.Names.{root, way_to}
+use Rattle.ynl_resource.specs.declared.amounts.Resource.{Resource}
+use Rattle.ynl_resource.specs.declared.labels.Label.{Label}
+use Rattle.ynl_resource.specs.declared.paths.Path.{Path}
+use Rattle.ynl_model.specs.Queues.{Config, capacity_on, maximum_on}
+use Rattle.ynl_model.specs.Cluster.{State, guaranteed, maximum, used}
+use Rattle.ynl_uses.specs.Tallies.{IsTotal}
+use Rattle.ynl_search.specs.declared.headroom.Headroom.{Headroom}
+use Rattle.ynl_search.specs.declared.place.Place.{Place}
+use Rattle.ynl_search.specs.declared.place.Cell.{Cell}
+
+-- whether there is headroom for so much
+abbrev pub allows : Headroom → Resource → Bool
+allows h size = h.is_open && fits_in size h.room
+
+-- whether a queue stays within its maximum with so much more
+abbrev pub keeps_maximum : State → Label → Resource → Path → Bool
+keeps_maximum s label size queue = fits_in (plus (used s queue label) size) (maximum s queue label)
+
+-- whether so much fits what is free, and the queue and those above it stay within their maxima
+abbrev pub can_take : State → Label → Resource → Path → Resource → Bool
+can_take s label free queue size = fits_in size free && list_all (keeps_maximum s label size) (root ∷ way_to queue)
+
+-- a place is that of a queue on a partition
+pub record IsPlace (c : Config) (s : State) (label : Label) (free : Resource) (queue : Path) (place : Place) : Type 0 where
+  pub headroom : (size : Resource) → allows place.headroom size ≡ can_take s label free queue size
+  pub guaranteed : place.guaranteed ≡ guaranteed c s queue label
+  pub most : place.most ≡ maximum s queue label
+
+-- its amounts are at most what the largest partition has
+pub record IsSmallPlace (place : Place) : Type 0 where
+  pub guaranteed : IsTotal place.guaranteed
+  pub most : IsTotal place.most
+
+-- a cell is that of a queue on a partition
+pub record IsCell (c : Config) (s : State) (label : Label) (queue : Path) (cell : Cell) : Type 0 where
+  pub capacity : cell.capacity ≡ capacity_on c queue label
+  pub maximum : cell.maximum ≡ maximum_on s.maxima queue label
+  pub used : cell.used ≡ used s queue label

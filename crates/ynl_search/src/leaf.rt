@@ -1,0 +1,91 @@
+//! What the requests of a leaf are tested against.
+
+ghost use Rattle.std.specs.Prelude.{◌≡◌};
+ghost use Rattle.ynl_resource.specs.Amounts.{scale_floor};
+ghost use Rattle.ynl_uses.specs.Tallies.{IsTotal};
+
+use crate::headroom::Headroom;
+use crate::place::Place;
+use ynl_limits::Limits;
+use ynl_model::{LeafSettings, Use};
+use ynl_queues::share_of;
+use ynl_resource::{Resource, Size};
+
+/// What the requests of a leaf on a partition are tested against.
+#[derive(Clone, Copy)]
+pub struct LeafTests {
+    headroom: Headroom,
+    limits: Limits,
+    masters: Resource,
+    master_limit: Resource,
+    has_master: bool,
+    ghost small: { IsTotal masters },
+}
+
+/// The most that one user may take of a guarantee, as a multiple of it in hundredths.
+fn cap_of(guaranteed: &Resource, factor: u16) -> Resource
+    requires { IsTotal guaranteed.now }
+    ensures { result ≡ scale_floor guaranteed.now factor 100 }
+{
+    let factor = u64::from(factor);
+    Resource {
+        memory: guaranteed.memory * factor / 100,
+        vcores: guaranteed.vcores * factor / 100,
+    }
+}
+
+impl LeafTests {
+    ghost use Rattle.std.specs.Prelude.{◌≤◌};
+    ghost use Rattle.ynl_resource.specs.declared.amounts.Resource.{Resource as Amount};
+    ghost use Rattle.ynl_resource.specs.declared.labels.Label.{Label};
+    ghost use Rattle.ynl_resource.specs.declared.paths.Path.{Path};
+    ghost use Rattle.ynl_model.specs.Queues.{Config};
+    ghost use Rattle.ynl_model.specs.Cluster.{State};
+    ghost use Rattle.ynl_uses.specs.Tallies.{IsSmallUse};
+    ghost use Rattle.ynl_search.specs.Leaves.{AreTests, IsLeafKept, passes_ask, passes_master};
+    ghost use Rattle.ynl_search.specs.Places.{IsPlace, IsSmallPlace};
+
+    /// Those of a leaf where it was reached, by its settings, what it uses, and how many users share it, which are 1 or
+    /// more.
+    pub fn new(place: &Place, settings: &LeafSettings, kept: &Use, users: u64) -> LeafTests
+        requires place { IsSmallPlace place.now }
+        requires kept { IsSmallUse kept.now }
+        requires users { 1 ≤ users }
+        ensures { (c : Config) (s : State) (label : Label) (free : Amount) (leaf : Path)
+            → IsPlace c s label free leaf place.now
+            → IsLeafKept c s label leaf settings.now kept.now users
+            → AreTests c s label free leaf result }
+    {
+        LeafTests {
+            headroom: place.headroom,
+            limits: Limits {
+                used: kept.used,
+                guaranteed: place.guaranteed,
+                users,
+                percent: settings.minimum_user_limit_percent.number(),
+                cap: cap_of(&place.guaranteed, settings.user_limit_factor),
+            },
+            masters: kept.masters,
+            master_limit: share_of(&place.most, &settings.maximum_am_resource_percent),
+            has_master: kept.master_count > 0,
+        }
+    }
+
+    /// Whether an ask of a user that uses so much may be placed.
+    pub fn allows_ask(&self, used: &Resource, size: &Size) -> bool
+        requires { IsTotal used.now }
+        ensures { result ≡ passes_ask self.now used.now size.now }
+    {
+        let size = size.amount();
+        self.headroom.allows(&size) && self.limits.keeps(&used.add(size), &size)
+    }
+
+    /// Whether a master of a user that uses so much may be placed.
+    pub fn allows_master(&self, used: &Resource, size: &Size) -> bool
+        requires { IsTotal used.now }
+        ensures { result ≡ passes_master self.now used.now size.now }
+    {
+        self.allows_ask(used, size)
+            && (!self.has_master || self.masters.add(size.amount()).fits_in(self.master_limit))
+    }
+}
