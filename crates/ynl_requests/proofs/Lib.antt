@@ -2,3 +2,4 @@ pub mod Members
 pub mod Running
 pub mod Live
 pub mod Wanted
+pub mod Order

@@ -1,6 +1,6 @@
 //! What the rows say of requests is what the model says.
 
-ghost use Rattle.ynl_requests.specs.Laws.{AskedIsModel, RunsIsModel, WantedIsModel};
+ghost use Rattle.ynl_requests.specs.Laws.{AskedIsModel, OrderIsModel, RunsIsModel, WantedIsModel};
 
 /// An application runs in the model if its rows say so.
 pub fn runs_is_the_models()
@@ -15,4 +15,9 @@ pub fn wanted_is_the_models()
 /// The asks for a partition are the model's.
 pub fn asked_is_the_models()
     ensures { AskedIsModel }
+{}
+
+/// Applications of a leaf stand in the model in the order of the rows.
+pub fn order_is_the_models()
+    ensures { OrderIsModel }
 {}
