@@ -3,3 +3,4 @@ pub mod Running
 pub mod Live
 pub mod Wanted
 pub mod Order
+pub mod First

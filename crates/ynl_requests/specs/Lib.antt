@@ -1,2 +1,3 @@
 pub mod Requests
 pub mod Laws
+pub mod First

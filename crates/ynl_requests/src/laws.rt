@@ -1,5 +1,6 @@
 //! What the rows say of requests is what the model says.
 
+ghost use Rattle.ynl_requests.specs.First.{FirstIsModel};
 ghost use Rattle.ynl_requests.specs.Laws.{AskedIsModel, OrderIsModel, RunsIsModel, WantedIsModel};
 
 /// An application runs in the model if its rows say so.
@@ -20,4 +21,10 @@ pub fn asked_is_the_models()
 /// Applications of a leaf stand in the model in the order of the rows.
 pub fn order_is_the_models()
     ensures { OrderIsModel }
+{}
+
+/// The first of a leaf's requests that pass a test, by the order of the rows and by their ranks, is the first in the model's
+/// order of service.
+pub fn first_is_the_models()
+    ensures { FirstIsModel }
 {}
