@@ -1,6 +1,6 @@
 //! What a cluster holds.
 
-ghost use Rattle.std.specs.Prelude.{◌≡◌, ◌<◌, ◌≤◌, nat_eq, length, slice_get, Some, None, IfNone, nat_le, IfOk, OnOk, OnErr, IfSome, IsSome, IsTrue};
+ghost use Rattle.std.specs.Prelude.{◌≡◌, ◌<◌, ◌≤◌, nat_eq, length, slice_get, option_map, Some, None, IfNone, nat_le, IfOk, OnOk, OnErr, IfSome, IsSome, IsTrue};
 ghost use Rattle.std.specs.Map.{lookup};
 ghost use Rattle.ynl_resource.specs.Amounts.{fits_in, less, plus, IsSmall};
 ghost use Rattle.ynl_slots.specs.Slots.{IsLive, IsUnused, with_row};
@@ -218,6 +218,13 @@ impl Inventory {
         ensures { lookup (nat_eq number) self.now.rows.apps ≡ Some (app_row result.now) }
     {
         &self.apps[number]
+    }
+
+    /// The live application under a number, if there is one.
+    pub fn live_app(&self, number: u32) -> Option<&AppRow>
+        ensures { option_map (λ row. app_row row.now) result ≡ lookup (nat_eq number) self.now.rows.apps }
+    {
+        self.apps.get(number)
     }
 
     /// The container under a number in a partition.

@@ -103,10 +103,23 @@ impl Lane {
     /// What the user of a seat uses of the partition, in MB and virtual cores.
     pub fn used(&self, ticket: u32) -> Resource
         requires { IsSeat ticket self.now.seats }
-        ensures { option_map (λ seat. seat.used) (lookup (nat_eq ticket) self.now.seats) ≡ Some result }
+        ensures value { option_map (λ seat. seat.used) (lookup (nat_eq ticket) self.now.seats) ≡ Some result }
+        ensures small { IsUse result }
     {
         let user = self.rows.seats[ticket].user;
         self.rows.users[user].used
+    }
+
+    /// What the user of a seat uses of the partition, in MB and virtual cores, if a seat has this ticket.
+    pub fn find_used(&self, ticket: u32) -> Option<Resource>
+        ensures value { result ≡ option_map (λ seat. seat.used) (lookup (nat_eq ticket) self.now.seats) }
+        ensures small { IfSome result IsUse }
+    {
+        if self.is_seat(ticket) {
+            Some(self.used(ticket))
+        } else {
+            None
+        }
     }
 
     /// A size, in MB and virtual cores, that no request of a kind that waits is below. It may be below all of them.

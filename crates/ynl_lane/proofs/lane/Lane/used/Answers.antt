@@ -17,8 +17,11 @@ index-requires c = live_shown c.self.inside.rows.users.entries c.args.ticket c.s
 pub index-requires-2 : goal.index-requires-2
 index-requires-2 c = user_live c.self.inside.rows c.self.invariant.kept.seated c.args.ticket c.index.result.now c.index.ensures
 
-pub returns : goal.returns
-returns c =
+pub returns-clause-small : goal.returns-clause-small
+returns-clause-small c = (c.self.invariant.kept.seated.users c.index.result.now.user c.index-2.result.now c.index-2.ensures).small
+
+pub returns-clause-value : goal.returns-clause-value
+returns-clause-value c =
     let users = c.self.inside.rows.users.entries in
     ap (λ (s : Seats). option_map (λ (seat : Seat). seat.used) (lookup (nat_eq c.args.ticket) s.seats)) (sym c.self.view_is)
     ∙ ap (option_map (λ (seat : Seat). seat.used)) (seat_found users c.args.ticket c.self.inside.rows.seats.entries ∙ ap (option_map (λ (row : SeatRow). (seat_of users (c.args.ticket, row)).1)) c.index.ensures)
