@@ -1,6 +1,5 @@
 -- The rows stay in bounds.
-use Rattle.std.proofs.Common.{◌≡◌, ◌≢◌, ℕ, ◌+◌, ◌<◌, ◌≤◌, Bool, true, false, cond, not, is_some, nat_eq, List, [], ◌∷◌, ◌++◌, filter, slice_get, Option, None, Some, option_map, refl, sym, ap, subst, ◌∙◌, arith, inl, inr}
-use Rattle.std.specs.List.{AllByRecursion}
+use Rattle.std.proofs.Common.{◌≡◌, ℕ, ◌<◌, ◌≤◌, Bool, true, false, cond, not, is_some, nat_eq, List, [], ◌∷◌, ◌++◌, filter, slice_get, Option, None, Some, option_map, refl, sym, ap, subst, ◌∙◌, arith, inl, inr}
 use Rattle.std.specs.Map.{lookup}
 use Rattle.std.specs.Option.{option_map_or}
 use Rattle.std.proofs.lemmas.Bool.{cases_eq}
@@ -9,10 +8,9 @@ use Rattle.std.proofs.lemmas.Option.{same_Some}
 use Rattle.ynl_resource.specs.Amounts.{fits_in, less, nothing, plus, total_of, IsSize}
 use Rattle.ynl_resource.specs.Ranges.{most_nodes}
 use Rattle.ynl_resource.specs.declared.amounts.Resource.{Resource}
-use Rattle.ynl_resource.specs.declared.names.Name.{Name}
 use Rattle.ynl_laws.proofs.Amounts.{fits-filter, fits-trans}
 use Rattle.ynl_laws.proofs.Lists.{filter-nothing, filter-swap, Each-append, Each-filter}
-use Rattle.ynl_slots.specs.Slots.{IsUnused, without}
+use Rattle.ynl_slots.specs.Slots.{without}
 use Rattle.ynl_slots.proofs.Entries.{other}
 use Rattle.ynl_slots.proofs.Lookups.{lookup-push}
 use Rattle.ynl_app_table.specs.Apps.{with_change}
@@ -21,7 +19,6 @@ use Rattle.ynl_container_table.specs.declared.container.Role.{Role}
 use Rattle.ynl_inventory.specs.Rows.{Rows, PartitionRow, NodeRow}
 use Rattle.ynl_inventory.specs.Changes.{next_clock_at, next_container, partition_of_node, ticked, with_at}
 use Rattle.ynl_inventory.specs.Parts.{containers_of, free_of, used_of}
-use Rattle.ynl_inventory.specs.Sound.{IsSound}
 use Rattle.ynl_inventory.proofs.Lookups.{at-other, at-same, live-apart, read-after, read-at, was-found}
 use Rattle.ynl_inventory.proofs.NodeParts.{found-without}
 use Rattle.ynl_inventory.proofs.PartLists.{unmapped}

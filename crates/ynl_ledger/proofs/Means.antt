@@ -2,13 +2,12 @@
 use Rattle.std.proofs.Common.{◌≡◌, ◌≢◌, ℕ, ◌+◌, ◌<◌, Bool, true, false, cond, not, ◌&&◌, nat_eq, nat_le, List, [], ◌∷◌, map, length, slice_get, Some, option_map, refl, sym, ap, subst, ◌∙◌, arith}
 use Rattle.std.specs.Prelude.{slice_index_or}
 use Rattle.std.specs.List.{AllByRecursion}
-use Rattle.std.specs.Map.{lookup}
 use Rattle.std.specs.Option.{option_map_or}
 use Rattle.std.proofs.lemmas.Bool.Decides.{nat_tests}
 use Rattle.std.proofs.lemmas.List.{length-map}
 use Rattle.std.proofs.lemmas.Option.{slice_get-get_or, slice_get-map, slice_get_within}
 use Rattle.ynl_resource.specs.Amounts.{plus, total_of}
-use Rattle.ynl_resource.specs.Names.{is_default, is_within, root, same_label, tenant_of}
+use Rattle.ynl_resource.specs.Names.{is_default, is_within, root, same_label}
 use Rattle.ynl_resource.specs.Ranges.{most_nodes}
 use Rattle.ynl_resource.specs.declared.amounts.Resource.{Resource}
 use Rattle.ynl_resource.specs.declared.labels.Label.{Label}
@@ -16,12 +15,11 @@ use Rattle.ynl_resource.specs.declared.labels.Label.TheVariants.{Unlabelled, Nam
 use Rattle.ynl_resource.specs.declared.names.Name.{Name}
 use Rattle.ynl_resource.specs.declared.paths.Path.{Path}
 use Rattle.ynl_model.specs.declared.nodes.Node.{Node}
-use Rattle.ynl_model.specs.declared.containers.Placed.{Placed}
 use Rattle.ynl_model.specs.declared.queues.StopRow.{StopRow}
 use Rattle.ynl_model.specs.declared.queues.MaximumRow.{MaximumRow}
 use Rattle.ynl_model.specs.declared.uses.Use.{Use}
-use Rattle.ynl_model.specs.Applications.{LeafApps, leaf_of}
-use Rattle.ynl_model.specs.Cluster.{containers_on, is_below as found_below, is_guest_on, is_master_what, total}
+use Rattle.ynl_model.specs.Applications.{leaf_of}
+use Rattle.ynl_model.specs.Cluster.{is_below as found_below, is_guest_on, is_master_what, total}
 use Rattle.ynl_model.specs.Nodes.{is_full, nodes_of, total as total_on}
 use Rattle.ynl_laws.specs.Uses.{raised as raised_by, raised_in, use_by as use_of_placed, use_of}
 use Rattle.ynl_laws.proofs.Amounts.{total-map}
@@ -36,7 +34,7 @@ use Rattle.ynl_uses.specs.Tallies.{raised, raised_as, IsInside}
 use Rattle.ynl_uses.specs.declared.tally.Counted.TheVariants.{Guest, Master, Asked}
 use Rattle.ynl_inventory.specs.Rows.{Rows, PartitionRow, NodeRow, AppRow}
 use Rattle.ynl_inventory.specs.Apps.{is_guest_role, is_master_role}
-use Rattle.ynl_inventory.specs.Meaning.{app_name, label_at, leaf_numbers, node_of, owner_of, placed_of, state_of, what_of}
+use Rattle.ynl_inventory.specs.Meaning.{app_name, label_at, leaf_numbers, node_of, placed_of, state_of, what_of}
 use Rattle.ynl_inventory.specs.Meaning.{leaf_of as leaf_row}
 use Rattle.ynl_inventory.specs.Parts.{containers_of}
 use Rattle.ynl_inventory.specs.Sound.{HasPartition, IsContainer, IsRole, IsSound}

@@ -1,14 +1,13 @@
 -- The ledger of the rows before any event.
-use Rattle.std.proofs.Common.{◌≡◌, ℕ, suc, ◌≤◌, List, [], ◌∷◌, map, length, slice_get, Some, replicate, refl, sym, ap, subst, ◌∙◌, arith}
+use Rattle.std.proofs.Common.{◌≡◌, ℕ, List, [], ◌∷◌, map, length, slice_get, Some, replicate, refl, sym, ap, subst, ◌∙◌, arith}
 use Rattle.std.specs.List.{AllByRecursion}
 use Rattle.std.proofs.lemmas.List.{length-map}
 use Rattle.std.proofs.lemmas.Option.{none-some, slice_get-map}
 use Rattle.ynl_resource.specs.Names.{root}
-use Rattle.ynl_model.specs.declared.uses.Use.{Use}
 use Rattle.ynl_model.specs.Nodes.{partition_labels}
 use Rattle.ynl_model.specs.Queues.{Config}
 use Rattle.ynl_layout.specs.Paths.{paths_of}
-use Rattle.ynl_uses.specs.Tallies.{no_use, IsTable}
+use Rattle.ynl_uses.specs.Tallies.{no_use}
 use Rattle.ynl_inventory.specs.Rows.{PartitionRow}
 use Rattle.ynl_inventory.specs.Opening.{opening_partition, opening_rows}
 use Rattle.ynl_inventory.proofs.PartLists.{unmapped}

@@ -1,5 +1,5 @@
 -- How totals change with the rows.
-use Rattle.std.proofs.Common.{◌≡◌, ◌≢◌, ℕ, ◌+◌, Bool, true, false, cond, nat_eq, List, [], ◌∷◌, ◌++◌, map, filter, length, slice_get, Some, refl, sym, ap, ◌∙◌}
+use Rattle.std.proofs.Common.{◌≡◌, ℕ, ◌+◌, Bool, true, false, cond, nat_eq, List, [], ◌∷◌, ◌++◌, map, filter, length, Some, refl, sym, ap, ◌∙◌}
 use Rattle.std.specs.Map.{lookup}
 use Rattle.std.proofs.lemmas.List.{length-map}
 use Rattle.ynl_resource.specs.Amounts.{plus, total_of}
@@ -18,7 +18,7 @@ use Rattle.ynl_inventory.proofs.Lookups.{map-changed}
 use Rattle.ynl_ledger.specs.declared.totals.Total.{Total}
 use Rattle.ynl_ledger.specs.Totals.{grown, shrunk}
 use Rattle.ynl_ledger.specs.Ledger.{nodes_on, total_in, total_of_nodes, totals_in}
-use Rattle.ynl_ledger.proofs.Places.{at-none, by_place-changed, by_place-same}
+use Rattle.ynl_ledger.proofs.Places.{at-none, by_place-changed}
 use Rattle.ynl_ledger.proofs.Raising.{less-plus, one_less}
 use Rattle.ynl_ledger.proofs.Uses.{inserted-last, inserted-number}
 

@@ -1,5 +1,5 @@
 -- How uses change with the rows.
-use Rattle.std.proofs.Common.{◌≡◌, ◌≢◌, ℕ, Bool, true, false, cond, not, nat_eq, List, [], ◌∷◌, ◌++◌, slice_get, Option, None, Some, refl, sym, ap, subst, ◌∙◌, arith}
+use Rattle.std.proofs.Common.{◌≡◌, ◌≢◌, ℕ, Bool, true, false, cond, not, nat_eq, List, [], ◌∷◌, ◌++◌, slice_get, Some, refl, sym, ap, subst, ◌∙◌, arith}
 use Rattle.std.specs.List.{AllByRecursion}
 use Rattle.std.specs.Map.{lookup}
 use Rattle.std.specs.Option.{option_and_then, option_map_or}
@@ -17,15 +17,11 @@ use Rattle.ynl_layout.specs.Paths.{is_above}
 use Rattle.ynl_slots.specs.Slots.{HasDistinctNumbers, IsLive, IsUnused, without}
 use Rattle.ynl_slots.proofs.Entries.{lookup-without-other, without-unused}
 use Rattle.ynl_app_table.specs.Apps.{with_change}
-use Rattle.ynl_app_table.specs.Asks.{with_ask}
-use Rattle.ynl_app_table.specs.declared.asks.Ask.{Ask}
-use Rattle.ynl_app_table.specs.declared.app.Tickets.{Tickets}
 use Rattle.ynl_container_table.specs.declared.container.Container.{Container}
 use Rattle.ynl_container_table.specs.declared.container.Role.{Role}
 use Rattle.ynl_uses.specs.Tallies.{raised, lowered, with_partition}
 use Rattle.ynl_inventory.specs.Rows.{Rows, PartitionRow, NodeRow, AppRow}
-use Rattle.ynl_inventory.specs.Changes.{new_app, next_clock_at, next_container, partition_of_node, ticked, with_app_gone, with_asked, with_at, with_dropped, with_ended, with_joined, with_placed, with_submitted, with_taken, with_tickets}
-use Rattle.ynl_inventory.specs.Meaning.{submitted_to}
+use Rattle.ynl_inventory.specs.Changes.{next_clock_at, next_container, partition_of_node, ticked, with_at, with_dropped, with_ended, with_joined, with_placed, with_taken}
 use Rattle.ynl_inventory.specs.Parts.{held_at}
 use Rattle.ynl_inventory.specs.Sound.{IsSound, OwnsNoContainers}
 use Rattle.ynl_inventory.proofs.Lookups.{pushed-live}

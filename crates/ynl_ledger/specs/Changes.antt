@@ -13,7 +13,6 @@ use Rattle.ynl_app_table.specs.declared.app.Tickets.{Tickets}
 use Rattle.ynl_container_table.specs.declared.container.Container.{Container}
 use Rattle.ynl_container_table.specs.declared.container.Role.{Role}
 use Rattle.ynl_uses.specs.Tallies.{lowered, raised, with_partition}
-use Rattle.ynl_uses.specs.declared.tally.Tally.{Tally}
 use Rattle.ynl_inventory.specs.Rows.{Rows, NodeRow}
 use Rattle.ynl_inventory.specs.Apps.{leaf_of_app}
 use Rattle.ynl_inventory.specs.Changes.{partition_of_node, with_app_gone, with_asked, with_at, with_dropped, with_ended, with_joined, with_node_gone, with_placed, with_submitted, with_tickets, with_user}
