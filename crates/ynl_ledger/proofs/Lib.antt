@@ -1,0 +1,10 @@
+pub mod Places
+pub mod Raising
+pub mod Below
+pub mod Uses
+pub mod Sums
+pub mod Ledger
+pub mod Means
+pub mod Small
+pub mod Bounded
+pub mod Opened

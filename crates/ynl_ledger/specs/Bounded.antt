@@ -1,0 +1,48 @@
+-- Which changes of the rows keep them in bounds, as statements over all rows.
+use Rattle.std.specs.Prelude.{◌≡◌, ℕ, ◌<◌, true, nat_eq, Some}
+use Rattle.std.specs.Map.{lookup}
+use Rattle.ynl_resource.specs.Amounts.{fits_in, IsSize}
+use Rattle.ynl_resource.specs.Ranges.{most_nodes}
+use Rattle.ynl_resource.specs.declared.amounts.Resource.{Resource}
+use Rattle.ynl_resource.specs.declared.names.Name.{Name}
+use Rattle.ynl_slots.specs.Slots.{IsUnused}
+use Rattle.ynl_app_table.specs.declared.asks.Ask.{Ask}
+use Rattle.ynl_app_table.specs.declared.app.Tickets.{Tickets}
+use Rattle.ynl_container_table.specs.declared.container.Role.{Role}
+use Rattle.ynl_inventory.specs.Rows.{Rows, NodeRow}
+use Rattle.ynl_inventory.specs.Changes.{with_app_gone, with_asked, with_dropped, with_ended, with_joined, with_node_gone, with_placed, with_submitted, with_tickets, with_user}
+use Rattle.ynl_inventory.specs.Parts.{free_of}
+use Rattle.ynl_inventory.specs.Sound.{IsSound}
+use Rattle.ynl_ledger.specs.Ledger.{total_in, IsBounded}
+
+-- a placement does, where what is placed fits in what is free of the node
+abbrev pub PlacingKeepsBounds : Type 0
+PlacingKeepsBounds = (v : Rows) → IsBounded v → (number node app : ℕ) (role : Role) (size : Resource) → IsSize size → fits_in size (free_of v node) ≡ true → IsBounded (with_placed number node app role size v)
+
+-- an end does
+abbrev pub EndingKeepsBounds : Type 0
+EndingKeepsBounds = (v : Rows) → IsBounded v → (p number node : ℕ) → IsBounded (with_ended p number node v)
+
+-- so does a container that goes with its node
+abbrev pub DroppingKeepsBounds : Type 0
+DroppingKeepsBounds = (v : Rows) → IsBounded v → (p number : ℕ) → IsBounded (with_dropped p number v)
+
+-- a node that joins does, where the partition has a place for it
+abbrev pub JoiningKeepsBounds : Type 0
+JoiningKeepsBounds = (v : Rows) → IsSound v → IsBounded v → (number : ℕ) (name : Name) (p : ℕ) (size : Resource) → IsUnused number v.nodes → IsSize size → (total_in v p).nodes < most_nodes
+    → IsBounded (with_joined number name p size v)
+
+-- one that leaves does
+abbrev pub LeavingKeepsBounds : Type 0
+LeavingKeepsBounds = (v : Rows) → IsSound v → IsBounded v → (node : ℕ) (row : NodeRow) → lookup (nat_eq node) v.nodes ≡ Some row → IsBounded (with_node_gone node v)
+
+-- changes of applications and users do
+pub record AppsKeepBounds (v : Rows) : Type 0 where
+  pub submitting : (number : ℕ) (name : Name) (tenant leaf user home : ℕ) (master : Resource) → IsBounded (with_submitted number name tenant leaf user home master v)
+  pub asking : (app : ℕ) (ask : Ask) → IsBounded (with_asked app ask v)
+  pub tickets : (app : ℕ) (tickets : Tickets) → IsBounded (with_tickets app tickets v)
+  pub finishing : (app tenant turn : ℕ) → IsBounded (with_app_gone app tenant turn v)
+  pub users : (name : Name) → IsBounded (with_user name v)
+
+abbrev pub AllAppsKeepBounds : Type 0
+AllAppsKeepBounds = (v : Rows) → IsBounded v → AppsKeepBounds v

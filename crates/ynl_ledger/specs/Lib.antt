@@ -1,0 +1,6 @@
+pub mod Totals
+pub mod Ledger
+pub mod Meaning
+pub mod Changes
+pub mod Bounded
+pub mod Opening
