@@ -1,5 +1,5 @@
 -- Applications of one leaf stand there in the order of the rows.
-use Rattle.std.proofs.Common.{◌≡◌, ◌≢◌, ◌⊎◌, ◌+◌, ℕ, Bool, true, false, not, cond, nat_eq, List, [], ◌∷◌, map, filter, Some, inl, inr, refl, sym, ap, subst, ◌∙◌, arith, true≢false}
+use Rattle.std.proofs.Common.{◌≡◌, ◌≢◌, ◌⊎◌, ◌+◌, ◌<◌, ℕ, Bool, true, false, not, cond, nat_eq, List, [], ◌∷◌, map, filter, Some, inl, inr, refl, sym, ap, subst, ◌∙◌, arith, true≢false}
 use Rattle.std.specs.List.{AllByRecursion, position_or_len}
 use Rattle.std.specs.Map.{lookup}
 use Rattle.std.specs.Ordering.{nat_cmp}
@@ -29,11 +29,11 @@ use Rattle.ynl_requests.proofs.Running.{owner-tells}
 -- ---- places in a part of a list
 
 -- the place of a number
-abbrev place : {X : Type 0} → ℕ → List (ℕ × X) → ℕ
+abbrev pub place : {X : Type 0} → ℕ → List (ℕ × X) → ℕ
 place n es = position_or_len (λ e. nat_eq e.0 n) es
 
 -- a number is in a list
-abbrev IsIn : {X : Type 0} → ℕ → List (ℕ × X) → Type 0
+abbrev pub IsIn : {X : Type 0} → ℕ → List (ℕ × X) → Type 0
 IsIn n [] = ⊥
 IsIn n (e ∷ es) = (e.0 ≡ n) ⊎ IsIn n es
 
@@ -47,7 +47,7 @@ in-kept {X = X} test n (e ∷ es) there = go (test e) there (in-kept test n es)
     go false there rest = inr (rest there)
 
 -- an unused number is not in the list
-not-in : {X : Type 0} (n : ℕ) (es : List (ℕ × X)) → IsUnused n es → IsIn n es → ⊥
+pub not-in : {X : Type 0} (n : ℕ) (es : List (ℕ × X)) → IsUnused n es → IsIn n es → ⊥
 not-in n [] unused there = there
 not-in n (e ∷ es) unused (inl is) = unused.0 is
 not-in n (e ∷ es) unused (inr there) = not-in n es unused.1 there
@@ -55,6 +55,38 @@ not-in n (e ∷ es) unused (inr there) = not-in n es unused.1 there
 -- one step further in both lists
 compared : (a b : ℕ) → nat_cmp (1 + a) (1 + b) ≡ nat_cmp a b
 compared a b = grind (arith, nat_tests)
+
+-- what stands behind another is one place further with it
+behind-one : {X : Type 0} (e : ℕ × X) (es : List (ℕ × X)) (n : ℕ) → IsUnused e.0 es → IsIn n es → place n (e ∷ es) ≡ 1 + place n es
+behind-one e es n unused there =
+    ap (λ b. cond (not b) (1 + place n es) 0)
+    (false_from_ne_true (nat_eq e.0 n) (λ same. not-in e.0 es unused (subst (λ k. IsIn k es) (sym (grind (arith, nat_tests, same))) there)))
+
+-- one number stands before another
+abbrev pub Precedes : {X : Type 0} → ℕ → ℕ → List (ℕ × X) → Type 0
+Precedes m n [] = ⊥
+Precedes m n (e ∷ es) = ((e.0 ≡ m) × IsIn n es) ⊎ Precedes m n es
+
+-- and so both are there
+both-in : {X : Type 0} (m n : ℕ) (es : List (ℕ × X)) → Precedes m n es → IsIn m es × IsIn n es
+both-in m n [] before = absurd before
+both-in m n (e ∷ es) (inl here) = (inl here.0, inr here.1)
+both-in m n (e ∷ es) (inr before) = let there = both-in m n es before in (inr there.0, inr there.1)
+
+-- its place is lower
+pub precedes-place : {X : Type 0} (m n : ℕ) (es : List (ℕ × X)) → HasDistinctNumbers es → Precedes m n es → place m es < place n es
+precedes-place m n [] distinct before = absurd before
+precedes-place m n (e ∷ es) distinct (inl here) =
+    let own : nat_eq e.0 m ≡ true = grind (arith, nat_tests, here.0) in
+    let first : place m (e ∷ es) ≡ 0 = ap (λ b. cond (not b) (1 + place m es) 0) own in
+    let second = behind-one e es n distinct.0 here.1 in
+    omega (arith, first, second)
+precedes-place m n (e ∷ es) distinct (inr before) =
+    let there = both-in m n es before in
+    let first = behind-one e es m distinct.0 there.0 in
+    let second = behind-one e es n distinct.0 there.1 in
+    let less = precedes-place m n es distinct.1 before in
+    omega (arith, first, second, less)
 
 module _ {X : Type 0} (test : ℕ × X → Bool) where
   -- numbers that are kept compare by their places as before
@@ -68,9 +100,7 @@ module _ {X : Type 0} (test : ℕ × X → Bool) where
       further n other (inr there) = there
 
       behind : (n : ℕ) → IsIn n (filter test es) → place n (e ∷ es) ≡ 1 + place n es
-      behind n there =
-          ap (λ b. cond (not b) (1 + place n es) 0)
-          (false_from_ne_true (nat_eq e.0 n) (λ same. not-in e.0 es distinct.0 (subst (λ k. IsIn k es) (sym (grind (arith, nat_tests, same))) (in-kept test n es there))))
+      behind n there = behind-one e es n distinct.0 (in-kept test n es there)
 
       ahead : (x y : Bool) → nat_eq e.0 a ≡ x → nat_eq e.0 b ≡ y → (IsIn a (filter test es) → IsIn b (filter test es) → nat_cmp (place a (filter test es)) (place b (filter test es)) ≡ nat_cmp (place a es) (place b es))
           → IsIn a (e ∷ filter test es) → IsIn b (e ∷ filter test es)

@@ -1,20 +1,21 @@
 -- The first seat of some entries that is given something.
-use Rattle.std.proofs.Common.{◌≡◌, ◌≢◌, ◌⊎◌, ℕ, Bool, true, false, cond, List, [], ◌∷◌, map, filter, Option, None, Some, IsSome, is_some, nat_eq, option_map, inl, inr, refl, sym, ap, ◌∙◌, arith, true≢false}
+use Rattle.std.proofs.Common.{◌≡◌, ◌≢◌, ◌⊎◌, ℕ, Bool, true, false, cond, List, [], ◌∷◌, map, filter, Option, None, Some, IsSome, is_some, nat_eq, option_map, inl, inr, refl, sym, ap, subst, ◌∙◌, arith, true≢false}
 use Rattle.std.specs.List.{AllByRecursion}
 use Rattle.std.specs.Option.{option_or}
+use Rattle.std.proofs.lemmas.Bool.{false_from_ne_true}
 use Rattle.std.proofs.lemmas.Bool.Decides.{nat_tests}
 use Rattle.std.proofs.lemmas.Option.{none-some, same_Some}
 use Rattle.ynl_slots.specs.Slots.{HasDistinctNumbers, IsUnused}
 use Rattle.ynl_lane.specs.Seats.{Seat, first_given, given_or, seats_before, seats_up_to}
 use Rattle.ynl_requests.proofs.Members.{Among}
-use Rattle.ynl_requests.proofs.Order.{IsIn, Precedes}
+use Rattle.ynl_requests.proofs.Order.{IsIn, Precedes, not-in}
 
 -- ---- over entries
 
 -- an entry's number is among theirs
 pub entry-in : {X : Type 0} (e : ℕ × X) (es : List (ℕ × X)) → Among e es → IsIn e.0 es
 entry-in e [] there = there
-entry-in e (other ∷ es) (inl is) = inl (ap (λ (o : ℕ × X). o.0) is)
+entry-in {X = X} e (other ∷ es) (inl is) = inl (ap (λ (o : ℕ × X). o.0) is)
 entry-in e (other ∷ es) (inr there) = inr (entry-in e es there)
 
 module _ {X F : Type 0} (keep : ℕ × X → Bool) (seat : ℕ × X → ℕ × Seat) (gives : Seat → Option F) where
@@ -99,17 +100,17 @@ module _ {X F : Type 0} (keep : ℕ × X → Bool) (seat : ℕ × X → ℕ × S
 -- ---- of two kinds
 
 module _ {F : Type 0} (first second : Seat → Option F) where
-  abbrev either : Seat → Option F
+  abbrev pub either : Seat → Option F
   either s = option_or (second s) (first s)
 
   -- whose first is given something is given nothing of the second kind
   abbrev pub AreExclusive : List (ℕ × Seat) → Type 0
   AreExclusive seats = AllByRecursion (λ e. IsSome (first e.1) → second e.1 ≡ None) seats
 
-  found_of : Option (ℕ × F) → Option F
+  abbrev pub found_of : Option (ℕ × F) → Option F
   found_of o = option_map (λ (e : ℕ × F). e.1) o
 
-  ticket_of : Option (ℕ × F) → Option ℕ
+  abbrev pub ticket_of : Option (ℕ × F) → Option ℕ
   ticket_of o = option_map (λ (e : ℕ × F). e.0) o
 
   is-there : (seats : List (ℕ × Seat)) (found : ℕ × F) → first_given first seats ≡ Some found → IsIn found.0 seats
@@ -119,3 +120,36 @@ module _ {F : Type 0} (first second : Seat → Option F) where
       go : (o : Option F) → given_or e.0 o (first_given first seats) ≡ Some found → (first_given first seats ≡ Some found → IsIn found.0 seats) → (e.0 ≡ found.0) ⊎ IsIn found.0 seats
       go None is rest = inr (rest is)
       go (Some x) is rest = inl (ap (λ (o : ℕ × F). o.0) (same_Some (e.0, x) found is))
+
+  -- none before the first is a seat of another ticket
+  up-to : (e : ℕ × Seat) (seats : List (ℕ × Seat)) (o : Option (ℕ × F)) → IsUnused e.0 seats → first_given first seats ≡ o → seats_up_to (ticket_of o) (e ∷ seats) ≡ e ∷ seats_up_to (ticket_of o) seats
+  up-to e seats None unused is = refl
+  up-to e seats (Some found) unused is =
+      ap (λ b. cond b [] (e ∷ seats_before found.0 seats))
+      (false_from_ne_true (nat_eq found.0 e.0) (λ same. not-in e.0 seats unused (subst (λ n. IsIn n seats) (grind (arith, nat_tests, same)) (is-there seats found is))))
+
+  -- the first of the second kind before the first of the first kind, or else that, is the first of either
+  pub first-either : (seats : List (ℕ × Seat)) → HasDistinctNumbers seats → AreExclusive seats
+      → option_or (found_of (first_given second (seats_up_to (ticket_of (first_given first seats)) seats))) (found_of (first_given first seats)) ≡ found_of (first_given either seats)
+  first-either [] distinct apart = refl
+  first-either (e ∷ seats) distinct apart = go (first e.1) refl (second e.1) refl (first-either seats distinct.1 apart.1)
+    where
+      go : (x : Option F) → first e.1 ≡ x → (y : Option F) → second e.1 ≡ y
+          → option_or (found_of (first_given second (seats_up_to (ticket_of (first_given first seats)) seats))) (found_of (first_given first seats)) ≡ found_of (first_given either seats)
+          → option_or (found_of (first_given second (seats_up_to (ticket_of (given_or e.0 x (first_given first seats))) (e ∷ seats)))) (found_of (given_or e.0 x (first_given first seats)))
+          ≡ found_of (given_or e.0 (option_or y x) (first_given either seats))
+      go (Some x) p (Some y) q rest = absurd (none-some y (sym (apart.0 (ap is_some p)) ∙ q))
+      go (Some x) p None q rest =
+          ap (λ b. option_or (found_of (first_given second (cond b [] (e ∷ seats_before e.0 seats)))) (Some x)) (itself e.0)
+        where
+          itself : (n : ℕ) → nat_eq n n ≡ true
+          itself n = grind (arith, nat_tests)
+      go None p y q rest =
+          ap (λ ss. option_or (found_of (first_given second ss)) (found_of (first_given first seats))) (up-to e seats (first_given first seats) distinct.0 refl)
+          ∙ ap (λ o. option_or (found_of (given_or e.0 o (first_given second (seats_up_to (ticket_of (first_given first seats)) seats)))) (found_of (first_given first seats))) q
+          ∙ at y
+        where
+          at : (y : Option F) → option_or (found_of (given_or e.0 y (first_given second (seats_up_to (ticket_of (first_given first seats)) seats)))) (found_of (first_given first seats))
+              ≡ found_of (given_or e.0 (option_or y None) (first_given either seats))
+          at (Some y) = refl
+          at None = rest

@@ -1,3 +1,5 @@
 pub mod Rooms
 pub mod Steps
 pub mod Tests
+pub mod LowestAsk
+pub mod FirstOver

@@ -2,6 +2,7 @@
 
 ghost use Rattle.std.specs.Prelude.{◌≡◌};
 ghost use Rattle.ynl_resource.specs.Amounts.{scale_floor};
+ghost use Rattle.ynl_lane.specs.Rows.{IsUse};
 ghost use Rattle.ynl_uses.specs.Tallies.{IsTotal};
 
 use crate::headroom::Headroom;
@@ -21,6 +22,9 @@ pub struct LeafTests {
     has_master: bool,
     ghost small: { IsTotal masters },
 }
+
+/// No request is larger than this in memory or virtual cores.
+const LARGEST: u64 = 0xffff_ffff;
 
 /// The most that one user may take of a guarantee, as a multiple of it in hundredths.
 fn cap_of(guaranteed: &Resource, factor: u16) -> Resource
@@ -42,7 +46,7 @@ impl LeafTests {
     ghost use Rattle.ynl_model.specs.Queues.{Config};
     ghost use Rattle.ynl_model.specs.Cluster.{State};
     ghost use Rattle.ynl_uses.specs.Tallies.{IsSmallUse};
-    ghost use Rattle.ynl_search.specs.Leaves.{AreTests, IsLeafKept, passes_ask, passes_master};
+    ghost use Rattle.ynl_search.specs.Leaves.{AreTests, IsLeafKept, most_of, passes_ask, passes_master, room_of};
     ghost use Rattle.ynl_search.specs.Places.{IsPlace, IsSmallPlace};
 
     /// Those of a leaf where it was reached, by its settings, what it uses, and how many users share it, which are 1 or
@@ -71,9 +75,31 @@ impl LeafTests {
         }
     }
 
+    /// How large a request may be for which there is headroom, if there is any.
+    pub fn room(&self) -> Option<Resource>
+        ensures { result ≡ room_of self.now }
+    {
+        if self.headroom.is_open {
+            Some(self.headroom.room)
+        } else {
+            None
+        }
+    }
+
+    /// The most that a user may use with any request for which there is headroom.
+    pub fn most(&self) -> Resource
+        ensures { result ≡ most_of self.now }
+    {
+        let room = self.headroom.room;
+        self.limits.limit(&Resource {
+            memory: room.memory.min(LARGEST),
+            vcores: room.vcores.min(LARGEST),
+        })
+    }
+
     /// Whether an ask of a user that uses so much may be placed.
     pub fn allows_ask(&self, used: &Resource, size: &Size) -> bool
-        requires { IsTotal used.now }
+        requires { IsUse used.now }
         ensures { result ≡ passes_ask self.now used.now size.now }
     {
         let size = size.amount();
@@ -82,7 +108,7 @@ impl LeafTests {
 
     /// Whether a master of a user that uses so much may be placed.
     pub fn allows_master(&self, used: &Resource, size: &Size) -> bool
-        requires { IsTotal used.now }
+        requires { IsUse used.now }
         ensures { result ≡ passes_master self.now used.now size.now }
     {
         self.allows_ask(used, size)

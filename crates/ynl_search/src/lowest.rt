@@ -2,7 +2,7 @@
 
 ghost use Rattle.std.specs.Prelude.{◌≡◌, ◌&&◌, nat_eq, Bool};
 ghost use Rattle.ynl_resource.specs.declared.amounts.Resource.{Resource as Amount};
-ghost use Rattle.ynl_search.specs.InLeaf.{lower_of, lowest};
+ghost use Rattle.ynl_search.specs.Lowest.{lower_of, lowest};
 
 use ynl_app_table::Ask;
 use ynl_resource::Size;

@@ -5,7 +5,7 @@ use Rattle.std.proofs.lemmas.Bool.Decides.{nat_tests}
 use Rattle.std.proofs.lemmas.Option.{none-some, same_Some}
 use Rattle.ynl_app_table.specs.declared.asks.Ask.{Ask}
 use Rattle.ynl_requests.proofs.Members.{Among}
-use Rattle.ynl_search.specs.InLeaf.{lower_of, lowest, with_one}
+use Rattle.ynl_search.specs.Lowest.{lower_of, lowest, with_one}
 
 module _ (test : Ask → Bool) where
   -- each that passes has no lower number
