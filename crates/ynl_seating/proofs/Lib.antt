@@ -6,3 +6,10 @@ pub mod Carrying
 pub mod Coming
 pub mod Entering
 pub mod Entered
+pub mod Newcomer
+pub mod Adding
+pub mod Removing
+pub mod Following
+pub mod Turns
+pub mod Sharing
+pub mod UserUse

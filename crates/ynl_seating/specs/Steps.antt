@@ -2,16 +2,18 @@
 use Rattle.std.specs.Prelude.{◌≡◌, ◌≢◌, ℕ, false, true, ◌&&◌, ◌||◌, nat_eq, List, [], ◌∷◌, ◌++◌, length, Some}
 use Rattle.std.specs.Map.{lookup}
 use Rattle.ynl_resource.specs.declared.amounts.Resource.{Resource}
-use Rattle.ynl_slots.specs.Slots.{IsUnused}
+use Rattle.ynl_slots.specs.Slots.{HasDistinctNumbers, IsUnused, without}
 use Rattle.ynl_container_table.specs.declared.container.Container.{Container}
+use Rattle.ynl_container_table.specs.declared.container.Role.{Role}
 use Rattle.ynl_layout.specs.Paths.{HasNumber}
 use Rattle.ynl_lane.specs.declared.kinds.Both.{Both}
 use Rattle.ynl_lane.specs.Seats.{Seats}
 use Rattle.ynl_lane_table.specs.Lanes.{lane_at}
 use Rattle.ynl_inventory.specs.Rows.{Rows, AppRow}
 use Rattle.ynl_inventory.specs.Parts.{containers_of}
-use Rattle.ynl_inventory.specs.Sound.{HasPartition}
-use Rattle.ynl_seating.specs.Seating.{Figures, AreSeated, AreSeatedWith, is_of, shares, user_use, waits_of}
+use Rattle.ynl_inventory.specs.Changes.{next_container, partition_of_node, with_placed}
+use Rattle.ynl_inventory.specs.Sound.{HasPartition, IsPlaceable}
+use Rattle.ynl_seating.specs.Seating.{Figures, AreSeated, AreSeatedWith, is_of, is_shared, shares, user_use, waits_of}
 
 -- but for what waits of an application
 pub record AreSeatedBut (app : ℕ) (v : Rows) (lanes : List (List Seats)) : Type 0 where
@@ -60,3 +62,22 @@ pub record ChangesContainers (p : ℕ) (change : List (ℕ × Container) → Lis
   pub many : length w.partitions ≡ length v.partitions
   pub own : containers_of w p ≡ change (containers_of v p)
   pub others : (q : ℕ) → q ≢ p → containers_of w q ≡ containers_of v q
+
+-- the lanes are those of the rows before a container was placed on a node
+pub record IsPlaced (node app : ℕ) (role : Role) (size : Resource) (v : Rows) (lanes : List (List Seats)) : Type 0 where
+  pub before : Rows
+  pub number : ℕ
+  pub rows : v ≡ with_placed number node app role size before
+  pub can : IsPlaceable before node app role
+  pub shared : is_shared before.apps (partition_of_node before.nodes node) (number, next_container before node app role size) ≡ true
+  pub seated : AreSeated before lanes
+
+-- those before a container went from a partition
+pub record IsLost (p : ℕ) (c : Container) (v : Rows) (lanes : List (List Seats)) : Type 0 where
+  pub before : Rows
+  pub number : ℕ
+  pub changes : ChangesContainers p (without number) before v
+  pub apps : v.apps ≡ before.apps
+  pub numbers : HasDistinctNumbers (containers_of before p)
+  pub held : lookup (nat_eq number) (containers_of before p) ≡ Some c
+  pub seated : AreSeated before lanes
