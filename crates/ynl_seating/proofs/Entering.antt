@@ -1,6 +1,6 @@
 -- One seat shows something else: the lanes are then those of other figures.
 use Rattle.std.proofs.Common.{◌≡◌, ◌≢◌, ℕ, Bool, true, false, cond, ◌&&◌, ◌||◌, List, Some, is_some, nat_eq, refl, sym, ap, subst, ◌∙◌, inl, inr}
-use Rattle.std.specs.Prelude.{IfSome}
+use Rattle.std.specs.Prelude.{IfSome, IsSome}
 use Rattle.std.specs.Map.{lookup}
 use Rattle.std.specs.Option.{option_map_or}
 use Rattle.std.proofs.lemmas.Bool.{and_parts, and_from, cases_eq, eqb-true, or_cases}
@@ -41,6 +41,13 @@ module _ (f : Figures) (v : Rows) (lanes : List (List Seats)) (seated : AreSeate
   pub lane : IsSeated f v.apps p row.leaf lanes
   lane = seated.seats p row.leaf partition-there leaf-there
 
+  pub lane-there : IsLaneAt p row.leaf lanes
+  lane-there = lane.there
+
+  -- the application has a ticket there
+  pub own-ticket : IsSome (ticket_on p row)
+  own-ticket = (seated.apps app row found).tickets p sat
+
   abbrev pub ticket : ℕ
   ticket = (seat_of f p row.leaf (app, row)).0
 
@@ -71,13 +78,13 @@ module _ (f : Figures) (v : Rows) (lanes : List (List Seats)) (seated : AreSeate
   entered waits = record f { waits = λ r n. cond (nat_eq r p && nat_eq n app) waits (f.waits r n) }
 
   module _ (waits : Both Resource) (new : List (List Seats)) (changes : Changes p row.leaf (Enters ticket waits) lanes new) where
-    own-waits : (entered waits).waits p app ≡ waits
+    pub own-waits : (entered waits).waits p app ≡ waits
     own-waits = ap (λ b. cond b waits (f.waits p app)) (and_from _ _ (itself p) (itself app))
 
-    other-waits : (r n : ℕ) → n ≢ app → (entered waits).waits r n ≡ f.waits r n
+    pub other-waits : (r n : ℕ) → n ≢ app → (entered waits).waits r n ≡ f.waits r n
     other-waits r n apart = ap (λ b. cond b waits (f.waits r n)) (ap (λ b. nat_eq r p && b) (other n app apart) ∙ and-false (nat_eq r p))
 
-    elsewhere : (r n : ℕ) → r ≢ p → (entered waits).waits r n ≡ f.waits r n
+    pub elsewhere : (r n : ℕ) → r ≢ p → (entered waits).waits r n ≡ f.waits r n
     elsewhere r n apart = ap (λ b. cond (b && nat_eq n app) waits (f.waits r n)) (other r p apart)
 
     pub seated-entered : AreSeatedWith (entered waits) v new
@@ -137,13 +144,13 @@ used-but app p Stand v lanes new start changes = record {
       (seated-used f v lanes start.seated app row start.found p start.shared own new changes);
 }
   where
-    abbrev f : Figures
+    f : Figures
     f = start.figures
 
-    abbrev row : AppRow
+    row : AppRow
     row = start.row
 
-    abbrev own : Resource
+    own : Resource
     own = user_use v p row.leaf row.user
 
     same : (r q u : ℕ) (b : Bool) → (nat_eq r p && is_of q u row) ≡ b → cond b own (f.use r q u) ≡ user_use v r q u

@@ -37,7 +37,7 @@ changes-at v w p change f means has paths is = record {
   others = λ q apart. ap conts (ap (λ ps. slice_get ps q) is ∙ at-other q p change v.partitions apart);
 }
   where
-    abbrev conts : Option PartitionRow → List (ℕ × Container)
+    conts : Option PartitionRow → List (ℕ × Container)
     conts o = option_map_or (λ row. row.containers) o []
 
     there : (row : PartitionRow) × (slice_get v.partitions p ≡ Some row)
@@ -120,10 +120,10 @@ asked-but v app ask lanes seated = record {
       (carried v w app touch keeps refl refl refl (figures_of v) lanes (shared-after v w app touch keeps refl 0 (λ es. es) (changes-nothing v w refl refl) seated.shared (seated.shared 0)) seated);
 }
   where
-    abbrev w : Rows
+    w : Rows
     w = with_asked app ask v
 
-    abbrev touch : AppRow → AppRow
+    touch : AppRow → AppRow
     touch row = record row { asks = with_ask ask row.asks }
 
     keeps : KeepsSeats touch

@@ -13,3 +13,5 @@ pub mod Following
 pub mod Turns
 pub mod Sharing
 pub mod UserUse
+pub mod Calls
+pub mod Using

@@ -39,7 +39,7 @@ changed-pushed {X} n f x (e ∷ es) unused = λ i. one i ∷ changed-pushed n f 
     one = ap (λ b. cond b (e.0, f e.1) e) (other n e.0 (λ same. unused.0 (sym same)))
 
 -- no test passes where each fails
-none-any : {X : Type 0} (test : X → Bool) (xs : List X) → AllByRecursion (λ x. test x ≡ false) xs → list_any test xs ≡ false
+pub none-any : {X : Type 0} (test : X → Bool) (xs : List X) → AllByRecursion (λ x. test x ≡ false) xs → list_any test xs ≡ false
 none-any test [] h = refl
 none-any test (x ∷ xs) h = ap (λ b. b || list_any test xs) h.0 ∙ none-any test xs h.1
 

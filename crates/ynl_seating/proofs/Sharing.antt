@@ -52,22 +52,19 @@ leaf-at all n zero path (p ∷ ps) test at leaf hit only =
   where
     same : n ≡ n + 0
     same = omega arith
-leaf-at all n (suc k) path (p ∷ ps) test at leaf hit only = front (has_none_below all p)
+leaf-at all n (suc k) path (p ∷ ps) test at leaf hit only =
+    front (has_none_below all p)
+    (leaf-at all (n + 1) k path ps test at leaf (ap test next ∙ hit) (λ m below h. only m (omega (arith, below)) h ∙ sym next) ∙ ap (λ (m : ℕ). Some m) next)
   where
     next : n + 1 + k ≡ n + suc k
     next = omega arith
 
-    rest : find test (leaves_from all (n + 1) ps) ≡ Some (n + suc k)
-    rest =
-        leaf-at all (n + 1) k path ps test at leaf (ap test next ∙ hit) (λ m below h. only m (omega (arith, below)) h ∙ sym next)
-        ∙ ap (λ (m : ℕ). Some m) next
-
     none : test n ≡ false
     none = not-true (test n) (λ h. let is : n ≡ n + suc k = only n (omega arith) h in absurd (omega (arith, is)))
 
-    front : (b : Bool) → find test (cond b (n ∷ []) [] ++ leaves_from all (n + 1) ps) ≡ Some (n + suc k)
-    front true = ap (λ b. cond b (Some n) (find test (leaves_from all (n + 1) ps))) none ∙ rest
-    front false = rest
+    front : (b : Bool) → find test (leaves_from all (n + 1) ps) ≡ Some (n + suc k) → find test (cond b (n ∷ []) [] ++ leaves_from all (n + 1) ps) ≡ Some (n + suc k)
+    front true rest = ap (λ b. cond b (Some n) (find test (leaves_from all (n + 1) ps))) none ∙ rest
+    front false rest = rest
 
 module _ (v : Rows) (sound : IsSound v) where
   -- DEFAULT is the partition of number 0

@@ -106,26 +106,37 @@ module _ (v : Rows) (q : ℕ) where
           ∙ ap (λ b. filter_map (live_of v) (cond b (entry a ∷ filter (λ e. nat_eq e.1.leaf q) es) (filter (λ e. nat_eq e.1.leaf q) es))) (itself q)
           ∙ ap (λ o. cons_option (option_map (application_of v (entry a).0) o) (taken es)) at.live
 
-  walk : (es : List Entry) (k : ℕ) (apps : List (ℕ × AppRow)) → AllByRecursion (IsAt k es) apps → AreRising apps → Covers k es apps → taken es ≡ map (app_of v) apps
-  walk [] k [] at rising covers = refl
-  walk [] k (a ∷ apps) at rising covers = absurd (none-some (entry a) at.0.there)
-  walk (e ∷ es) k [] at rising covers = skipped k e es [] covers tt ∙ walk es (k + 1) [] tt tt (covers-later k e es [] covers)
-  walk (e ∷ es) k (a ∷ apps) at rising covers = go (cases_eq a.1.turn k)
+  abbrev Walks : List Entry → ℕ → Type 0
+  Walks es k = (apps : List (ℕ × AppRow)) → AllByRecursion (IsAt k es) apps → AreRising apps → Covers k es apps → taken es ≡ map (app_of v) apps
+
+  step : (k : ℕ) (e : Entry) (es : List Entry) (a : ℕ × AppRow) (apps : List (ℕ × AppRow)) → AllByRecursion (IsAt k (e ∷ es)) (a ∷ apps) → AreRising (a ∷ apps)
+      → Covers k (e ∷ es) (a ∷ apps) → Walks es (k + 1) → taken (e ∷ es) ≡ app_of v a ∷ map (app_of v) apps
+  step k e es a apps at rising covers walks = go (cases_eq a.1.turn k)
     where
       go : (a.1.turn ≡ k) ⊎ (a.1.turn ≢ k) → taken (e ∷ es) ≡ app_of v a ∷ map (app_of v) apps
-      go (inl same) =
-          let past = Each-weaker (λ (b : ℕ × AppRow). a.1.turn < b.1.turn) (λ b. k < b.1.turn) (λ b h. omega (arith, h, same)) apps rising.0 in
-          met k e es a at.0 same ∙ ap (λ ys. app_of v a ∷ ys) (walk es (k + 1) apps (later k e es apps at.1 past) rising.1 rest)
+      go (inl same) = met k e es a at.0 same ∙ ap (λ ys. app_of v a ∷ ys) (walks apps (later k e es apps at.1 past) rising.1 rest)
         where
+          past : AllByRecursion (λ b. k < b.1.turn) apps
+          past = Each-weaker (λ (b : ℕ × AppRow). a.1.turn < b.1.turn) (λ b. k < b.1.turn) (λ b h. omega (arith, h, same)) apps rising.0
+
           rest : Covers (k + 1) es apps
           rest i f there leaf live =
               let far : a.1.turn ≢ k + 1 + i = λ is. absurd (omega (arith, is, same)) in
               sym (ap (λ b. b || has_turn (k + 1 + i) apps) (other a.1.turn (k + 1 + i) far)) ∙ covers-later k e es (a ∷ apps) covers i f there leaf live
       go (inr apart) =
-          let first : k < a.1.turn = omega (arith, at.0.turn, apart) in
-          let past = Each-weaker (λ (b : ℕ × AppRow). a.1.turn < b.1.turn) (λ b. k < b.1.turn) (λ b h. omega (arith, h, first)) apps rising.0 in
-          skipped k e es (a ∷ apps) covers (first, past)
-          ∙ walk es (k + 1) (a ∷ apps) (later k e es (a ∷ apps) at (first, past)) rising (covers-later k e es (a ∷ apps) covers)
+          skipped k e es (a ∷ apps) covers past ∙ walks (a ∷ apps) (later k e es (a ∷ apps) at past) rising (covers-later k e es (a ∷ apps) covers)
+        where
+          first : k < a.1.turn
+          first = let turn : a.1.turn ≡ k + at.0.place = at.0.turn in omega (arith, turn, apart)
+
+          past : AllByRecursion (λ b. k < b.1.turn) (a ∷ apps)
+          past = (first, Each-weaker (λ (b : ℕ × AppRow). a.1.turn < b.1.turn) (λ b. k < b.1.turn) (λ b h. omega (arith, h, first)) apps rising.0)
+
+  walk : (es : List Entry) (k : ℕ) (apps : List (ℕ × AppRow)) → AllByRecursion (IsAt k es) apps → AreRising apps → Covers k es apps → taken es ≡ map (app_of v) apps
+  walk [] k [] at rising covers = refl
+  walk [] k (a ∷ apps) at rising covers = absurd (none-some (entry a) at.0.there)
+  walk (e ∷ es) k [] at rising covers = skipped k e es [] covers tt ∙ walk es (k + 1) [] tt tt (covers-later k e es [] covers)
+  walk (e ∷ es) k (a ∷ apps) at rising covers = step k e es a apps at rising covers (walk es (k + 1))
 
   -- ---- in sound rows
 

@@ -116,10 +116,10 @@ module _ (v : Rows) (sound : IsSound v) (q : ℕ) (leaf : IsLeaf v q) where
         app : (r : AppRow) × (lookup (nat_eq c.app) v.apps ≡ Some r)
         app = live-found c.app v.apps is.app
 
-        abbrev own_name : Name
+        own_name : Name
         own_name = app_name v.tenants app.0.tenant app.0.turn
 
-        abbrev own : Submission
+        own : Submission
         own = record { leaf = app.0.leaf; app = Some c.app }
 
         at : slice_get (submitted_to v.tenants app.0.tenant) app.0.turn ≡ Some (own_name, own)
