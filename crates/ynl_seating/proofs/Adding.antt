@@ -41,6 +41,9 @@ module _ (app : ℕ) (w : Rows) (lanes : List (List Seats)) (start : IsUnseated 
     seat-added : Adds app ticket row.user old.seats next.seats
     seat-added = subst (λ o. IfSome o (λ user. Adds app ticket user old.seats next.seats)) ready adds.0
 
+    abbrev fresh : Seat
+    fresh = record { app = app; user = row.user; used = used_at row.user old.seats; waits = nothing_waits }
+
     used-is : used_at row.user old.seats ≡ F.use p row.leaf row.user
     used-is =
         ap (used_at row.user) lane
@@ -52,7 +55,7 @@ module _ (app : ℕ) (w : Rows) (lanes : List (List Seats)) (start : IsUnseated 
         seat-added.seats ∙ (λ i. (lane ∙ sym (old-seats app w lanes start t p row.leaf)) i ++ seat i ∷ [])
         ∙ sym (ap (seats_of F p row.leaf) (apps-are app w lanes start t) ∙ seats-pushed p row.leaf F v.apps app row (and_from _ _ (itself row.leaf) sat))
       where
-        seat : ◌≡◌ {A = ℕ × Seat} (ticket, record { app = app; user = row.user; used = used_at row.user old.seats; waits = nothing_waits }) (seat_of F p row.leaf (app, row))
+        seat : ◌≡◌ {A = ℕ × Seat} (ticket, fresh) (seat_of F p row.leaf (app, row))
         seat = λ i. (
           sym (ap (λ o. unwrap_or o 0) is) i,
           record { app = app; user = row.user; used = used-is i; waits = sym (ap (λ b. cond b nothing_waits (waits_of after p app)) (itself app)) i },
@@ -62,7 +65,7 @@ module _ (app : ℕ) (w : Rows) (lanes : List (List Seats)) (start : IsUnseated 
     own-distinct =
         subst HasDistinctNumbers own-seats
         (subst HasDistinctNumbers (sym seat-added.seats)
-        (distinct_push ticket (record { app = app; user = row.user; used = used_at row.user old.seats; waits = nothing_waits }) old.seats seat-added.unused
+        (distinct_push ticket fresh old.seats seat-added.unused
         (subst HasDistinctNumbers (sym lane) distinct)))
 
   -- ---- both

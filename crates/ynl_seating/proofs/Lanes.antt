@@ -56,7 +56,7 @@ module _ (p q : ℕ) (next : Seats) (lanes : List (List Seats)) (is : IsLaneAt p
   }
 
 -- a lane is that of a partition and a queue, or another
-same-or : (p q r s : ℕ) → ((r ≡ p) × (s ≡ q)) ⊎ (r ≡ p → s ≢ q)
+pub same-or : (p q r s : ℕ) → ((r ≡ p) × (s ≡ q)) ⊎ (r ≡ p → s ≢ q)
 same-or p q r s =
     elim (cases_eq r p) [
       | inl one ↦ elim (cases_eq s q) [ inl two ↦ inl (one, two) | inr far ↦ inr (λ _. far) ]

@@ -15,3 +15,5 @@ pub mod Sharing
 pub mod UserUse
 pub mod Calls
 pub mod Using
+pub mod Reserving
+pub mod Leasts

@@ -55,7 +55,7 @@ module _ (app : ℕ) (w : Rows) (lanes : List (List Seats)) (start : IsUnseated 
 
   pub apps-are : u.apps ≡ v.apps ++ (app, newcomer) ∷ []
   apps-are =
-      ap (with_change app (λ row. record row { tickets = t })) start.apps ∙ changed-pushed app (λ (row : AppRow). record row { tickets = t }) start.row v.apps start.unused
+      ap (with_change app (λ (row : AppRow). record row { tickets = t })) start.apps ∙ changed-pushed app (λ (row : AppRow). record row { tickets = t }) start.row v.apps start.unused
 
   pub own-found : lookup (nat_eq app) u.apps ≡ Some newcomer
   own-found =

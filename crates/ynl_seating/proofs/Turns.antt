@@ -162,9 +162,12 @@ module _ (v : Rows) (q : ℕ) where
           turn = omega arith;
           there =
               ap (λ m. slice_get (submitted_to v.tenants m) row.turn) (sym (tenant-is n row found leaf)) ∙ app-submitted v sound n row found
-              ∙ ap (λ m. Some (app_name v.tenants row.tenant row.turn, record { leaf = m; app = Some n })) (eqb-true row.leaf q leaf);
+              ∙ ap of_leaf (eqb-true row.leaf q leaf);
           live = found;
         }
+          where
+            of_leaf : ℕ → Option Entry
+            of_leaf m = Some (app_name v.tenants row.tenant row.turn, record { leaf = m; app = Some n })
 
     rises : (apps : List (ℕ × AppRow)) → AreInTurn apps → AllByRecursion (λ e. own e ≡ true → e.1.tenant ≡ t) apps → AreRising (filter own apps)
     rises [] turn same = tt

@@ -11,12 +11,13 @@ use Rattle.ynl_model.specs.Limits.{sharing, users}
 use Rattle.ynl_slots.specs.Slots.{without}
 use Rattle.ynl_app_table.specs.declared.asks.Ask.{Ask}
 use Rattle.ynl_layout.specs.Paths.{HasNumber, path_at}
+use Rattle.ynl_lanes.specs.Lows.{IsBelow}
 use Rattle.ynl_lane.specs.Seats.{Seats, each_once}
 use Rattle.ynl_inventory.specs.Rows.{Rows, AppRow}
 use Rattle.ynl_inventory.specs.Meaning.{app_name, application_of, has_none_below, label_at, state_of}
 use Rattle.ynl_inventory.specs.Changes.{with_asked, with_dropped, with_ended, with_joined, with_node_gone, with_user}
 use Rattle.ynl_inventory.specs.Sound.{HasPartition, IsSound}
-use Rattle.ynl_seating.specs.Seating.{AreSeated, sitting, user_use}
+use Rattle.ynl_seating.specs.Seating.{AreSeated, least_asked, sitting, user_use}
 use Rattle.ynl_seating.specs.Steps.{AreSeatedBut, ChangesContainers}
 
 -- ---- changes of the rows
@@ -35,6 +36,12 @@ IsAskedBut = (v : Rows) (app : ℕ) (ask : Ask) (lanes : List (List Seats)) → 
 pub record AreLost : Type 0 where
   pub ended : (v : Rows) (p number node : ℕ) → HasPartition v p → ChangesContainers p (without number) v (with_ended p number node v)
   pub dropped : (v : Rows) (p number : ℕ) → HasPartition v p → ChangesContainers p (without number) v (with_dropped p number v)
+
+-- ---- what waits
+
+-- the least that is asked for on a partition is below each size that is asked for there
+abbrev pub AreLeasts : Type 0
+AreLeasts = (p : ℕ) (asks : List Ask) → AllByRecursion (λ ask. ask.partition ≡ p → IsBelow (least_asked p asks) ask.size) asks
 
 -- ---- the model
 
