@@ -18,7 +18,7 @@ use Rattle.ynl_seating.specs.Steps.{AreSeatedBut, IsUnseated}
 use Rattle.ynl_seating.proofs.Entered.{default-shared, home-shared}
 use Rattle.ynl_seating.proofs.Lanes.{lifted, other-ready}
 use Rattle.ynl_seating.proofs.Newcomer.{added, added-others, apps-are, newcomer, none-used, old-found, old-seats, other-leaf, other-partition, own-found, seats-same, shared-still, u, use-same}
-use Rattle.ynl_seating.proofs.Seats.{seats-pushed, used-first}
+use Rattle.ynl_seating.proofs.SeatLists.{seats-pushed, used-first}
 
 module _ (app : ℕ) (w : Rows) (lanes : List (List Seats)) (start : IsUnseated app w lanes) (t : Tickets) where
   abbrev v : Rows
@@ -44,7 +44,7 @@ module _ (app : ℕ) (w : Rows) (lanes : List (List Seats)) (start : IsUnseated 
     abbrev fresh : Seat
     fresh = record { app = app; user = row.user; used = used_at row.user old.seats; waits = nothing_waits }
 
-    used-is : used_at row.user old.seats ≡ F.use p row.leaf row.user
+    used-is : used_at row.user old.seats ≡ F.used p row.leaf row.user
     used-is =
         ap (used_at row.user) lane
         ∙ used-first p row.leaf (figures_of v) row.user (sitting p row.leaf v.apps) (none-used app w lanes start t p row.leaf row.user)
@@ -70,10 +70,10 @@ module _ (app : ℕ) (w : Rows) (lanes : List (List Seats)) (start : IsUnseated 
 
   -- ---- both
 
-  lanes-before : AreLanes (figures_of v) (λ p. v.apps) after lanes
+  pub lanes-before : AreLanes (figures_of v) (λ p. v.apps) after lanes
   lanes-before p q has number = start.seated.seats p q (subst (λ ps. p < length ps) start.partitions has) (subst (λ ps. HasNumber ps q) start.paths number)
 
-  default-there : HasPartition after 0
+  pub default-there : HasPartition after 0
   default-there = subst (λ ps. 0 < length ps) (sym start.partitions) start.seated.default
 
   -- once the seat at home is added
@@ -87,7 +87,7 @@ module _ (app : ℕ) (w : Rows) (lanes : List (List Seats)) (start : IsUnseated 
     half-home : half row.home ≡ after.apps
     half-home = ap (λ b. cond b after.apps v.apps) (itself row.home)
 
-    lanes-half : AreLanes F half after mid
+    pub lanes-half : AreLanes F half after mid
     lanes-half =
         lifted (figures_of v) F (λ p. v.apps) half after row.home row.leaf (AddsOne app ticket) lanes mid first start.home start.leaf lanes-before
         (own-seats row.home (home-shared row) ticket home-ticket (lane_at row.home row.leaf lanes) first.next at.seats at.distinct (start.room row.home (home-shared row)) first.changes
@@ -119,6 +119,11 @@ module _ (app : ℕ) (w : Rows) (lanes : List (List Seats)) (start : IsUnseated 
         whole : IsSeated F (half p) p q mid → IsSeated F after.apps p q mid
         whole at = record { there = at.there; seats = at.seats ∙ sym same; distinct = subst HasDistinctNumbers (sym same) at.distinct }
 
+    -- the lane of DEFAULT is as it was, where home is another
+    pub still-default : row.home ≢ 0 → lane_at 0 row.leaf mid ≡ lane_at 0 row.leaf lanes
+    still-default apart =
+        other-ready (figures_of v) F (λ p. v.apps) half after row.home row.leaf (AddsOne app ticket) lanes mid first start.home start.leaf lanes-before 0 row.leaf (λ is. absurd (apart (sym is)))
+
     -- and else the seat on DEFAULT is added too
     pub lanes-twice : row.home ≢ 0 → (second : ℕ) → t.default ≡ Some second → (new : List (List Seats)) → Changes 0 row.leaf (AddsOne app second) mid new → AreLanes F (λ p. after.apps) after new
     lanes-twice apart second is-second new changes =
@@ -133,14 +138,11 @@ module _ (app : ℕ) (w : Rows) (lanes : List (List Seats)) (start : IsUnseated 
         at : IsSeated (figures_of v) v.apps 0 row.leaf lanes
         at = lanes-before 0 row.leaf default-there start.leaf
 
-        same : lane_at 0 row.leaf mid ≡ lane_at 0 row.leaf lanes
-        same = other-ready (figures_of v) F (λ p. v.apps) half after row.home row.leaf (AddsOne app ticket) lanes mid first start.home start.leaf lanes-before 0 row.leaf (λ is. absurd (apart (sym is)))
-
         seats : (lane_at 0 row.leaf mid).seats ≡ seats_of (figures_of v) 0 row.leaf v.apps
-        seats = ap (λ (l : Seats). l.seats) same ∙ at.seats
+        seats = ap (λ (l : Seats). l.seats) (still-default apart) ∙ at.seats
 
         ready : (lane_at 0 row.leaf mid).ready ≡ Some row.user
-        ready = ap (λ (l : Seats). l.ready) same ∙ start.room 0 (default-shared row)
+        ready = ap (λ (l : Seats). l.ready) (still-default apart) ∙ start.room 0 (default-shared row)
 
         off : (p q : ℕ) → (p ≡ 0 → q ≢ row.leaf) → p ≢ row.home → sits p q row ≡ false
         off p q far away =

@@ -17,7 +17,7 @@ use Rattle.ynl_inventory.specs.Sound.{HasPartition}
 use Rattle.ynl_inventory.proofs.Lookups.{live-found, read-changed}
 use Rattle.ynl_seating.specs.Steps.{AreSeatedBut, AreUsedBut, IsLost, IsPlaced}
 use Rattle.ynl_seating.proofs.Coming.{guest-came, guest-went, home-came, home-went}
-use Rattle.ynl_seating.proofs.Following.{itself-keeps, placed-changes, same-rows, taken-keeps}
+use Rattle.ynl_seating.proofs.RowChanges.{itself-keeps, placed-changes, same-rows, taken-keeps}
 
 module _ (node app : ℕ) (r : Role) (size : Resource) (v : Rows) (lanes : List (List Seats)) (start : IsPlaced node app r size v lanes) where
   abbrev before : Rows

@@ -19,7 +19,7 @@ use Rattle.ynl_inventory.specs.Sound.{HasPartition}
 use Rattle.ynl_inventory.proofs.Lookups.{changed-distinct, changed-other, changed-same, read-changed, was-found}
 use Rattle.ynl_seating.specs.Seating.{Figures, HasSeats, AreShared, AreSeatedWith, IsSeated, counts, is_of, is_shared, seats_of, shares, ticket_on, user_use, waits_at, waits_if, waits_of}
 use Rattle.ynl_seating.specs.Steps.{ChangesContainers, KeepsSeats}
-use Rattle.ynl_seating.proofs.Seats.{seats-touched}
+use Rattle.ynl_seating.proofs.SeatLists.{seats-touched}
 use Rattle.ynl_seating.proofs.Sums.{sum}
 
 -- whether a container is the master of an application

@@ -54,7 +54,7 @@ module _ (v w : Rows) (c : Container) (touch : AppRow → AppRow) (keeps : Keeps
       waits = waits_of v;
       others = waits-stay v w c.app touch keeps apps p change changes any;
       seated =
-          subst (λ use. AreSeatedWith (record { use = use; waits = waits_of v }) w lanes)
+          subst (λ amounts. AreSeatedWith (record { used = amounts; waits = waits_of v }) w lanes)
           (λ i r q user. use-stays r q user (λ is. ap (λ b. not b && is_of q user row) guest) i)
           (carried v w c.app touch keeps apps changes.paths changes.many (figures_of v) lanes shared seated);
     }

@@ -8,14 +8,14 @@ use Rattle.ynl_resource.specs.declared.amounts.Resource.{Resource}
 use Rattle.ynl_slots.specs.Slots.{HasDistinctNumbers}
 use Rattle.ynl_slots.proofs.Entries.{itself}
 use Rattle.ynl_lane.specs.declared.kinds.Both.{Both}
-use Rattle.ynl_lane.specs.Seats.{Seats, nothing_waits}
-use Rattle.ynl_lane_table.specs.Lanes.{Changes, Enters}
+use Rattle.ynl_lane.specs.Seats.{IsSeat, Seats, nothing_waits}
+use Rattle.ynl_lane_table.specs.Lanes.{Changes, Enters, lane_at}
 use Rattle.ynl_inventory.specs.Rows.{Rows, AppRow}
 use Rattle.ynl_inventory.specs.Apps.{runs_at}
 use Rattle.ynl_seating.specs.Seating.{AreSeated, AreSeatedWith, Figures, figures_of, IsSeated, seats_of, shares, sits, user_use, waits_at, waits_if, waits_of}
 use Rattle.ynl_seating.specs.Steps.{AreSeatedBut}
-use Rattle.ynl_seating.proofs.Seats.{seats-stay}
-use Rattle.ynl_seating.proofs.Entering.{elsewhere, entered, other-waits, own-waits, seated-entered, ticket}
+use Rattle.ynl_seating.proofs.SeatLists.{seats-stay}
+use Rattle.ynl_seating.proofs.OneSeat.{elsewhere, entered, other-waits, own-seat, own-waits, seated-entered, ticket}
 
 -- an application shares its home, and DEFAULT
 pub home-shared : (row : AppRow) → shares row.home row ≡ true
@@ -39,11 +39,11 @@ refigured f g v lanes same seated = record {
 
 module _ (app : ℕ) (v : Rows) (row : AppRow) (found : lookup (nat_eq app) v.apps ≡ Some row) where
   -- where all waits are those of the rows, the lanes are
-  pub all-entered : (waits : ℕ → ℕ → Both Resource) (lanes : List (List Seats)) → AreSeatedWith (record { use = user_use v; waits = waits }) v lanes
+  pub all-entered : (waits : ℕ → ℕ → Both Resource) (lanes : List (List Seats)) → AreSeatedWith (record { used = user_use v; waits = waits }) v lanes
       → ((r n : ℕ) → n ≢ app → waits r n ≡ waits_of v r n) → ((r : ℕ) → shares r row ≡ true → waits r app ≡ waits_of v r app) → AreSeated v lanes
   all-entered waits lanes seated others own =
-      refigured (record { use = user_use v; waits = waits }) (figures_of v) v lanes
-      (λ r s. seats-stay r s (record { use = user_use v; waits = waits }) (figures_of v) v.apps seated.numbers (λ n r' at sat. (refl, same r s n r' at sat))) seated
+      refigured (record { used = user_use v; waits = waits }) (figures_of v) v lanes
+      (λ r s. seats-stay r s (record { used = user_use v; waits = waits }) (figures_of v) v.apps seated.numbers (λ n r' at sat. (refl, same r s n r' at sat))) seated
     where
       same : (r s n : ℕ) (r' : AppRow) → lookup (nat_eq n) v.apps ≡ Some r' → sits r s r' ≡ true → waits_of v r n ≡ waits r n
       same r s n r' at sat =
@@ -59,12 +59,12 @@ module _ (app : ℕ) (v : Rows) (row : AppRow) (found : lookup (nat_eq app) v.ap
     own-is p = ap (λ b. waits_if b p row) is ∙ sym (ap (λ o. option_map_or (waits_at v p app) o nothing_waits) found)
 
     abbrev f : Figures
-    f = record { use = user_use v; waits = start.waits }
+    f = record { used = user_use v; waits = start.waits }
 
     abbrev home : Both Resource
     home = waits_if runs row.home row
 
-    abbrev once : Figures
+    abbrev pub once : Figures
     once = entered f v lanes start.seated app row found row.home (home-shared row) home
 
     module _ (mid : List (List Seats)) (first : Changes row.home row.leaf (Enters (ticket f v lanes start.seated app row found row.home (home-shared row)) home) lanes mid) where
@@ -86,6 +86,10 @@ module _ (app : ℕ) (v : Rows) (row : AppRow) (found : lookup (nat_eq app) v.ap
           own r sat =
               let at : r ≡ row.home = elim (or_cases (nat_eq r 0) (nat_eq row.home r) sat) [ inl default ↦ eqb-true r 0 default ∙ sym zero | inr home ↦ sym (eqb-true row.home r home) ] in
               ap (λ k. once.waits k app) at ∙ own-once ∙ ap (λ k. waits_of v k app) (sym at)
+
+      -- the seat on DEFAULT is still there
+      pub second-seat : IsSeat (ticket once v mid seated-once app row found 0 (default-shared row)) (lane_at 0 row.leaf mid).seats
+      second-seat = own-seat once v mid seated-once app row found 0 (default-shared row)
 
       -- and else what waits on DEFAULT is entered too
       abbrev default : Both Resource

@@ -1,15 +1,15 @@
 pub mod Tickets
-pub mod Seats
+pub mod SeatLists
 pub mod Lanes
 pub mod Sums
 pub mod Carrying
 pub mod Coming
-pub mod Entering
+pub mod OneSeat
 pub mod Entered
 pub mod Newcomer
 pub mod Adding
 pub mod Removing
-pub mod Following
+pub mod RowChanges
 pub mod Turns
 pub mod Sharing
 pub mod UserUse
@@ -17,3 +17,4 @@ pub mod Calls
 pub mod Using
 pub mod Reserving
 pub mod Leasts
+pub mod SeatCalls

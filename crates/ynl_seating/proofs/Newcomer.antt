@@ -27,7 +27,7 @@ use Rattle.ynl_inventory.proofs.Updates.{at-number}
 use Rattle.ynl_seating.specs.Seating.{AreShared, Figures, counts, figures_of, is_of, is_shared, seats_of, shares, sits, sitting, user_use, waits_at, waits_if, waits_of}
 use Rattle.ynl_seating.specs.Steps.{IsUnseated}
 use Rattle.ynl_seating.proofs.Carrying.{is_master_of}
-use Rattle.ynl_seating.proofs.Seats.{seats-passed, seats-stay, sitting-found}
+use Rattle.ynl_seating.proofs.SeatLists.{seats-passed, seats-stay, sitting-found}
 use Rattle.ynl_seating.proofs.Sums.{size_of, sum}
 
 -- the row that came last changes
@@ -145,7 +145,7 @@ module _ (app : ℕ) (w : Rows) (lanes : List (List Seats)) (start : IsUnseated 
 
   -- the figures once the seats are added: nothing waits yet at those of the new application
   abbrev pub added : Figures
-  added = record { use = user_use u; waits = λ p n. cond (nat_eq n app) nothing_waits (waits_of u p n) }
+  added = record { used = user_use u; waits = λ p n. cond (nat_eq n app) nothing_waits (waits_of u p n) }
 
   pub added-others : (p n : ℕ) → n ≢ app → added.waits p n ≡ waits_of u p n
   added-others p n apart = ap (λ b. cond b nothing_waits (waits_of u p n)) (other n app apart)

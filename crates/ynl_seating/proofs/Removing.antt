@@ -22,9 +22,9 @@ use Rattle.ynl_inventory.specs.Apps.{is_guest_role}
 use Rattle.ynl_inventory.specs.Sound.{OwnsNoContainers}
 use Rattle.ynl_seating.specs.Seating.{AreLanes, AreSeated, Figures, HasSeats, IsSeated, counts, figures_of, is_of, is_shared, seats_of, shares, sits, ticket_on, user_use, waits_at, waits_of}
 use Rattle.ynl_seating.proofs.Entered.{default-shared, home-shared}
-use Rattle.ynl_seating.proofs.Entering.{leaf-there, partition-there}
+use Rattle.ynl_seating.proofs.OneSeat.{leaf-there, partition-there}
 use Rattle.ynl_seating.proofs.Lanes.{lifted, other-ready}
-use Rattle.ynl_seating.proofs.Seats.{seats-left, seats-stay, seats-without}
+use Rattle.ynl_seating.proofs.SeatLists.{seats-left, seats-stay, seats-without}
 use Rattle.ynl_seating.proofs.Sums.{size_of, sum}
 
 module _ (app : ℕ) (v : Rows) (row : AppRow) (found : lookup (nat_eq app) v.apps ≡ Some row) (none : OwnsNoContainers v app) (lanes : List (List Seats)) (seated : AreSeated v lanes) where

@@ -29,7 +29,7 @@ use Rattle.ynl_inventory.proofs.Finding.{not-true}
 use Rattle.ynl_inventory.proofs.Updates.{differ-places, each-number}
 use Rattle.ynl_seating.specs.Laws.{AreInTurn, AreSharing, AreUsers, IsLeaf, app_of}
 use Rattle.ynl_seating.specs.Seating.{shares, sits, sitting}
-use Rattle.ynl_seating.proofs.Seats.{sitting-each}
+use Rattle.ynl_seating.proofs.SeatLists.{sitting-each}
 use Rattle.ynl_seating.proofs.Turns.{in-order}
 
 -- two filters are one
@@ -93,7 +93,7 @@ module _ (v : Rows) (sound : IsSound v) where
             leaf-at v.paths 1 k (path_at v.paths q) v.paths (λ m. same_path (path_at v.paths m) (path_at v.paths q))
             (slice_get-get_or v.paths k root inside ∙ ap (λ m. Some (path_at v.paths m)) (sym is)) leaf.none_below
             (ap (λ m. same_path (path_at v.paths m) (path_at v.paths q)) one ∙ path-self (path_at v.paths q))
-            (λ m below h. sound.tree.apart m q below leaf.there (same-path (path_at v.paths m) (path_at v.paths q) h) ∙ sym one)
+            (λ m below h. sound.tree.apart m q (omega (arith, below)) leaf.there (same-path (path_at v.paths m) (path_at v.paths q) h) ∙ sym one)
             ∙ ap (λ (m : ℕ). Some m) one
 
     -- the row of the leaf is found by its path

@@ -12,7 +12,7 @@ use Rattle.ynl_lane_table.specs.Lanes.{Changes, IsLaneAt, SetsUsed, lane_at}
 use Rattle.ynl_inventory.specs.Rows.{Rows, AppRow}
 use Rattle.ynl_seating.specs.Seating.{Figures, ticket_on, user_use}
 use Rattle.ynl_seating.specs.Steps.{AreSeatedBut, AreUsedBut}
-use Rattle.ynl_seating.proofs.Entering.{lane-there, own-found, own-seat, own-ticket, used-but}
+use Rattle.ynl_seating.proofs.OneSeat.{lane-there, own-found, own-seat, own-ticket, used-but}
 
 module _ (app p : ℕ) (Stand : Resource → Resource → Type 0) (v : Rows) (lanes : List (List Seats)) (start : AreUsedBut app p Stand v lanes)
     (row : AppRow) (found : lookup (nat_eq app) v.apps ≡ Some row) where
@@ -37,7 +37,7 @@ module _ (app p : ℕ) (Stand : Resource → Resource → Type 0) (v : Rows) (la
       subst (λ (r : AppRow). option_map (λ (seat : Seat). seat.used) (lookup (nat_eq (unwrap_or (ticket_on p r) 0)) (lane_at p r.leaf lanes).seats) ≡ Some used → Stand used (user_use v p r.leaf r.user)) is
       (λ read.
       let shown = ap (option_map (λ (seat : Seat). seat.used)) (own-found start.figures v lanes start.seated app start.row start.found p start.shared) in
-      subst (λ u. Stand u (user_use v p start.row.leaf start.row.user)) (same_Some (start.figures.use p start.row.leaf start.row.user) used (sym shown ∙ read)) start.stand)
+      subst (λ u. Stand u (user_use v p start.row.leaf start.row.user)) (same_Some (start.figures.used p start.row.leaf start.row.user) used (sym shown ∙ read)) start.stand)
 
   -- once it is set, only what waits of the application may differ
   pub use-set : (used : Resource) → used ≡ user_use v p row.leaf row.user → (new : List (List Seats)) → Changes p row.leaf (SetsUsed (unwrap_or (ticket_on p row) 0) used) lanes new → AreSeatedBut app v new

@@ -74,18 +74,18 @@ waits_of v p n = option_map_or (waits_at v p n) (lookup (nat_eq n) v.apps) nothi
 
 -- what seats show: by partition, leaf and user what the user uses; by partition and application what waits
 pub record Figures : Type 0 where
-  pub use : ℕ → ℕ → ℕ → Resource
+  pub used : ℕ → ℕ → ℕ → Resource
   pub waits : ℕ → ℕ → Both Resource
 
 -- the figures of the rows
 abbrev pub figures_of : Rows → Figures
-figures_of v = record { use = user_use v; waits = waits_of v }
+figures_of v = record { used = user_use v; waits = waits_of v }
 
 -- ---- the seats
 
 -- the seat of an application in the lane of a leaf on a partition, under its ticket
 abbrev pub seat_of : Figures → ℕ → ℕ → ℕ × AppRow → ℕ × Seat
-seat_of f p q e = (unwrap_or (ticket_on p e.1) 0, record { app = e.0; user = e.1.user; used = f.use p q e.1.user; waits = f.waits p e.0 })
+seat_of f p q e = (unwrap_or (ticket_on p e.1) 0, record { app = e.0; user = e.1.user; used = f.used p q e.1.user; waits = f.waits p e.0 })
 
 -- the seats of that lane
 abbrev pub seats_of : Figures → ℕ → ℕ → List (ℕ × AppRow) → List (ℕ × Seat)

@@ -19,7 +19,7 @@ use Rattle.ynl_seating.specs.Seating.{Figures, AreSeated, AreSeatedWith, is_of, 
 pub record AreSeatedBut (app : ℕ) (v : Rows) (lanes : List (List Seats)) : Type 0 where
   pub waits : ℕ → ℕ → Both Resource
   pub others : (p n : ℕ) → n ≢ app → waits p n ≡ waits_of v p n
-  pub seated : AreSeatedWith (record { use = user_use v; waits = waits }) v lanes
+  pub seated : AreSeatedWith (record { used = user_use v; waits = waits }) v lanes
 
 -- also but for what its user uses of a partition in its leaf: the amounts there and in the rows stand so to one another
 pub record AreUsedBut (app p : ℕ) (Stand : Resource → Resource → Type 0) (v : Rows) (lanes : List (List Seats)) : Type 0 where
@@ -27,8 +27,8 @@ pub record AreUsedBut (app p : ℕ) (Stand : Resource → Resource → Type 0) (
   pub found : lookup (nat_eq app) v.apps ≡ Some row
   pub shared : shares p row ≡ true
   pub figures : Figures
-  pub stand : Stand (figures.use p row.leaf row.user) (user_use v p row.leaf row.user)
-  pub uses : (r q user : ℕ) → (nat_eq r p && is_of q user row) ≡ false → figures.use r q user ≡ user_use v r q user
+  pub stand : Stand (figures.used p row.leaf row.user) (user_use v p row.leaf row.user)
+  pub uses : (r q user : ℕ) → (nat_eq r p && is_of q user row) ≡ false → figures.used r q user ≡ user_use v r q user
   pub waits : (r n : ℕ) → n ≢ app → figures.waits r n ≡ waits_of v r n
   pub seated : AreSeatedWith figures v lanes
 

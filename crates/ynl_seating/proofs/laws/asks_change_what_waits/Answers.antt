@@ -1,4 +1,4 @@
-use Rattle.ynl_seating.proofs.Following.{asked-but}
+use Rattle.ynl_seating.proofs.RowChanges.{asked-but}
 use Rattle.ynl_seating.proofs.laws.asks_change_what_waits.Goals as goal
 
 pub returns : goal.returns

@@ -1,4 +1,4 @@
-use Rattle.ynl_seating.proofs.Following.{dropped-changes, ended-changes}
+use Rattle.ynl_seating.proofs.RowChanges.{dropped-changes, ended-changes}
 use Rattle.ynl_seating.proofs.laws.containers_go.Goals as goal
 
 pub returns : goal.returns

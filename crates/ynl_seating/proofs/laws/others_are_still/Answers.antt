@@ -1,4 +1,4 @@
-use Rattle.ynl_seating.proofs.Following.{joined-seated, left-seated, user-seated}
+use Rattle.ynl_seating.proofs.RowChanges.{joined-seated, left-seated, user-seated}
 use Rattle.ynl_seating.proofs.laws.others_are_still.Goals as goal
 
 pub returns : goal.returns

@@ -47,12 +47,12 @@ module _ (p q : ℕ) where
   tickets-apart f g apps d = distinct_alike (seats_of g p q apps) (seats_of f p q apps) (tickets-stay f g apps) d
 
   -- a seat shows what the figures have of its user and its application
-  pub seat-shows : (f g : Figures) (n : ℕ) (row : AppRow) → g.use p q row.user ≡ f.use p q row.user → g.waits p n ≡ f.waits p n → seat_of g p q (n, row) ≡ seat_of f p q (n, row)
-  seat-shows f g n row use waits = λ i. (unwrap_or (ticket_on p row) 0, record { app = n; user = row.user; used = use i; waits = waits i })
+  pub seat-shows : (f g : Figures) (n : ℕ) (row : AppRow) → g.used p q row.user ≡ f.used p q row.user → g.waits p n ≡ f.waits p n → seat_of g p q (n, row) ≡ seat_of f p q (n, row)
+  seat-shows f g n row amounts waits = λ i. (unwrap_or (ticket_on p row) 0, record { app = n; user = row.user; used = amounts i; waits = waits i })
 
   -- seats stay where the figures of those who sit there do
   pub seats-stay : (f g : Figures) (apps : List (ℕ × AppRow)) → HasDistinctNumbers apps
-      → ((n : ℕ) (row : AppRow) → lookup (nat_eq n) apps ≡ Some row → sits p q row ≡ true → (g.use p q row.user ≡ f.use p q row.user) × (g.waits p n ≡ f.waits p n))
+      → ((n : ℕ) (row : AppRow) → lookup (nat_eq n) apps ≡ Some row → sits p q row ≡ true → (g.used p q row.user ≡ f.used p q row.user) × (g.waits p n ≡ f.waits p n))
       → seats_of g p q apps ≡ seats_of f p q apps
   seats-stay f g apps d same =
       map_as (seat_of g p q) (seat_of f p q) (sitting p q apps)
@@ -60,20 +60,20 @@ module _ (p q : ℕ) where
 
   -- a user uses another amount
   pub seats-used : (f g : Figures) (user : ℕ) (used : Resource) (apps : List (ℕ × AppRow)) → ((n : ℕ) → g.waits p n ≡ f.waits p n)
-      → ((u : ℕ) → g.use p q u ≡ cond (nat_eq user u) used (f.use p q u)) → seats_of g p q apps ≡ with_used user used (seats_of f p q apps)
-  seats-used f g user used apps waits use =
+      → ((u : ℕ) → g.used p q u ≡ cond (nat_eq user u) used (f.used p q u)) → seats_of g p q apps ≡ with_used user used (seats_of f p q apps)
+  seats-used f g user used apps waits amounts =
       map_any (seat_of g p q) (λ e. change (seat_of f p q e)) one (sitting p q apps) ∙ sym (map-map change (seat_of f p q) (sitting p q apps))
     where
       change : ℕ × Seat → ℕ × Seat
       change e = cond (nat_eq user e.1.user) (e.0, record e.1 { used = used }) e
 
-      by : (b : Bool) (e : ℕ × AppRow) → ◌≡◌ {A = ℕ × Seat} (unwrap_or (ticket_on p e.1) 0, record { app = e.0; user = e.1.user; used = cond b used (f.use p q e.1.user); waits = f.waits p e.0 })
+      by : (b : Bool) (e : ℕ × AppRow) → ◌≡◌ {A = ℕ × Seat} (unwrap_or (ticket_on p e.1) 0, record { app = e.0; user = e.1.user; used = cond b used (f.used p q e.1.user); waits = f.waits p e.0 })
           (cond b ((seat_of f p q e).0, record (seat_of f p q e).1 { used = used }) (seat_of f p q e))
       by true e = refl
       by false e = refl
 
       one : (e : ℕ × AppRow) → seat_of g p q e ≡ cond (nat_eq user e.1.user) ((seat_of f p q e).0, record (seat_of f p q e).1 { used = used }) (seat_of f p q e)
-      one e = (λ i. (unwrap_or (ticket_on p e.1) 0, record { app = e.0; user = e.1.user; used = use e.1.user i; waits = waits e.0 i })) ∙ by (nat_eq user e.1.user) e
+      one e = (λ i. (unwrap_or (ticket_on p e.1) 0, record { app = e.0; user = e.1.user; used = amounts e.1.user i; waits = waits e.0 i })) ∙ by (nat_eq user e.1.user) e
 
   -- ---- one application that sits there
 
@@ -87,9 +87,9 @@ module _ (p q : ℕ) where
     seat-found = found-mapped (seat_of f p q) n row (sitting p q apps) t (sitting-found apps n row found sat)
 
     -- something else waits at its seat
-    pub seats-entered : (g : Figures) → ((u : ℕ) → g.use p q u ≡ f.use p q u) → ((m : ℕ) → m ≢ n → g.waits p m ≡ f.waits p m)
+    pub seats-entered : (g : Figures) → ((u : ℕ) → g.used p q u ≡ f.used p q u) → ((m : ℕ) → m ≢ n → g.waits p m ≡ f.waits p m)
         → seats_of g p q apps ≡ with_waits (seat_of f p q (n, row)).0 (g.waits p n) (seats_of f p q apps)
-    seats-entered g use others =
+    seats-entered g amounts others =
         map_as (seat_of g p q) (λ e. change (seat_of f p q e)) (sitting p q apps) (Each-weaker (Tells (seat_of f p q) n row) (λ e. seat_of g p q e ≡ change (seat_of f p q e)) one (sitting p q apps) told)
         ∙ sym (map-map change (seat_of f p q) (sitting p q apps))
       where
@@ -104,8 +104,8 @@ module _ (p q : ℕ) where
           where
             by : (b : Bool) → nat_eq n e.0 ≡ b → seat_of g p q e ≡ put e b
             by true is_n =
-                λ i. (unwrap_or (ticket_on p e.1) 0, record { app = e.0; user = e.1.user; used = use e.1.user i; waits = g.waits p ((is.1 is_n i).0) })
-            by false off = seat-shows f g e.0 e.1 (use e.1.user) (others e.0 (λ same. true≢false (sym (ap (nat_eq n) same ∙ itself n) ∙ off)))
+                λ i. (unwrap_or (ticket_on p e.1) 0, record { app = e.0; user = e.1.user; used = amounts e.1.user i; waits = g.waits p ((is.1 is_n i).0) })
+            by false off = seat-shows f g e.0 e.1 (amounts e.1.user) (others e.0 (λ same. true≢false (sym (ap (nat_eq n) same ∙ itself n) ∙ off)))
 
     -- its seat goes
     pub seats-without : seats_of f p q (without n apps) ≡ without (seat_of f p q (n, row)).0 (seats_of f p q apps)
@@ -139,14 +139,14 @@ module _ (p q : ℕ) where
       (filter-append test apps ((n, row) ∷ []) ∙ ap (λ b. sitting p q apps ++ cond b ((n, row) ∷ []) []) off ∙ append-nil (sitting p q apps))
 
   -- what the user's first seat has is what the figures have
-  pub used-first : (f : Figures) (user : ℕ) (es : List (ℕ × AppRow)) → (AllByRecursion (λ e. nat_eq user e.1.user ≡ false) es → f.use p q user ≡ nothing)
-      → used_at user (map (seat_of f p q) es) ≡ f.use p q user
+  pub used-first : (f : Figures) (user : ℕ) (es : List (ℕ × AppRow)) → (AllByRecursion (λ e. nat_eq user e.1.user ≡ false) es → f.used p q user ≡ nothing)
+      → used_at user (map (seat_of f p q) es) ≡ f.used p q user
   used-first f user [] none = sym (none tt)
   used-first f user (e ∷ es) none = go (nat_eq user e.1.user) refl (λ h. used-first f user es h)
     where
-      go : (b : Bool) → nat_eq user e.1.user ≡ b → ((AllByRecursion (λ e. nat_eq user e.1.user ≡ false) es → f.use p q user ≡ nothing) → used_at user (map (seat_of f p q) es) ≡ f.use p q user)
-          → cond b (f.use p q e.1.user) (used_at user (map (seat_of f p q) es)) ≡ f.use p q user
-      go true is rest = ap (f.use p q) (sym (eqb-true user e.1.user is))
+      go : (b : Bool) → nat_eq user e.1.user ≡ b → ((AllByRecursion (λ e. nat_eq user e.1.user ≡ false) es → f.used p q user ≡ nothing) → used_at user (map (seat_of f p q) es) ≡ f.used p q user)
+          → cond b (f.used p q e.1.user) (used_at user (map (seat_of f p q) es)) ≡ f.used p q user
+      go true is rest = ap (f.used p q) (sym (eqb-true user e.1.user is))
       go false off rest = rest (λ h. none (off, h))
 
   -- a change that leaves an application's seats leaves all
@@ -164,7 +164,7 @@ module _ (p q : ℕ) where
       same-seat : (b : Bool) → seat_of f p q (one b) ≡ seat_of f p q e
       same-seat true = λ i. (
         unwrap_or (cond (nat_eq (keeps.home e.1 i) p) (keeps.tickets e.1 i).home (keeps.tickets e.1 i).default) 0,
-        record { app = e.0; user = keeps.user e.1 i; used = f.use p q (keeps.user e.1 i); waits = f.waits p e.0 },
+        record { app = e.0; user = keeps.user e.1 i; used = f.used p q (keeps.user e.1 i); waits = f.waits p e.0 },
       )
       same-seat false = refl
 

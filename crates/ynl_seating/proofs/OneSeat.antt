@@ -17,7 +17,7 @@ use Rattle.ynl_inventory.specs.Rows.{Rows, AppRow}
 use Rattle.ynl_inventory.specs.Sound.{HasPartition}
 use Rattle.ynl_seating.specs.Seating.{AreLanes, AreSeated, AreSeatedWith, Figures, IsSeated, figures_of, is_of, seat_of, seats_of, shares, sits, ticket_on, user_use, waits_of}
 use Rattle.ynl_seating.specs.Steps.{AreSeatedBut, AreUsedBut}
-use Rattle.ynl_seating.proofs.Seats.{seat-found, seats-entered, seats-stay, seats-used, tickets-apart}
+use Rattle.ynl_seating.proofs.SeatLists.{seat-found, seats-entered, seats-stay, seats-used, tickets-apart}
 use Rattle.ynl_seating.proofs.Lanes.{lifted}
 
 -- the lanes of a partition that an application shares
@@ -110,11 +110,11 @@ module _ (f : Figures) (v : Rows) (lanes : List (List Seats)) (seated : AreSeate
   -- ---- its user uses another amount
 
   abbrev pub with_use : Resource → Figures
-  with_use used = record f { use = λ r q u. cond (nat_eq r p && is_of q u row) used (f.use r q u) }
+  with_use used = record f { used = λ r q u. cond (nat_eq r p && is_of q u row) used (f.used r q u) }
 
   module _ (used : Resource) (new : List (List Seats)) (changes : Changes p row.leaf (SetsUsed ticket used) lanes new) where
-    own-use : (u : ℕ) → (with_use used).use p row.leaf u ≡ cond (nat_eq row.user u) used (f.use p row.leaf u)
-    own-use u = λ i. cond (itself p i && (itself row.leaf i && nat_eq row.user u)) used (f.use p row.leaf u)
+    own-use : (u : ℕ) → (with_use used).used p row.leaf u ≡ cond (nat_eq row.user u) used (f.used p row.leaf u)
+    own-use u = λ i. cond (itself p i && (itself row.leaf i && nat_eq row.user u)) used (f.used p row.leaf u)
 
     pub seated-used : AreSeatedWith (with_use used) v new
     seated-used =
@@ -123,13 +123,13 @@ module _ (f : Figures) (v : Rows) (lanes : List (List Seats)) (seated : AreSeate
         ∙ ap (with_used row.user used) lane.seats ∙ sym (seats-used p row.leaf f (with_use used) row.user used v.apps (λ n. refl) own-use))
         (λ r s apart. seats-stay r s f (with_use used) v.apps seated.numbers (λ n r' at sat'. (stays r s apart r'.user, refl)))
       where
-        stays : (r s : ℕ) → (r ≡ p → s ≢ row.leaf) → (u : ℕ) → (with_use used).use r s u ≡ f.use r s u
+        stays : (r s : ℕ) → (r ≡ p → s ≢ row.leaf) → (u : ℕ) → (with_use used).used r s u ≡ f.used r s u
         stays r s apart u =
             elim (cases_eq r p) [
               | inl is ↦
-                  ap (λ b. cond (nat_eq r p && (b && nat_eq row.user u)) used (f.use r s u)) (other row.leaf s (λ same. apart is (sym same)))
-                  ∙ ap (λ b. cond b used (f.use r s u)) (and-false (nat_eq r p))
-              | inr far ↦ ap (λ b. cond (b && is_of s u row) used (f.use r s u)) (other r p far)
+                  ap (λ b. cond (nat_eq r p && (b && nat_eq row.user u)) used (f.used r s u)) (other row.leaf s (λ same. apart is (sym same)))
+                  ∙ ap (λ b. cond b used (f.used r s u)) (and-false (nat_eq r p))
+              | inr far ↦ ap (λ b. cond (b && is_of s u row) used (f.used r s u)) (other r p far)
             ]
 
 -- ---- the functions' starts and ends
@@ -140,7 +140,7 @@ pub used-but : (app p : ℕ) (Stand : Resource → Resource → Type 0) (v : Row
 used-but app p Stand v lanes new start changes = record {
   waits = f.waits;
   others = start.waits;
-  seated = subst (λ use. AreSeatedWith (record { use = use; waits = f.waits }) v new) (λ i r q u. same r q u (nat_eq r p && is_of q u row) refl i)
+  seated = subst (λ amounts. AreSeatedWith (record { used = amounts; waits = f.waits }) v new) (λ i r q u. same r q u (nat_eq r p && is_of q u row) refl i)
       (seated-used f v lanes start.seated app row start.found p start.shared own new changes);
 }
   where
@@ -153,7 +153,7 @@ used-but app p Stand v lanes new start changes = record {
     own : Resource
     own = user_use v p row.leaf row.user
 
-    same : (r q u : ℕ) (b : Bool) → (nat_eq r p && is_of q u row) ≡ b → cond b own (f.use r q u) ≡ user_use v r q u
+    same : (r q u : ℕ) (b : Bool) → (nat_eq r p && is_of q u row) ≡ b → cond b own (f.used r q u) ≡ user_use v r q u
     same r q u true is =
         let parts = and_parts _ _ is in
         let of = and_parts (nat_eq row.leaf q) (nat_eq row.user u) parts.1 in

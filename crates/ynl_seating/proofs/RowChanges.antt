@@ -87,13 +87,13 @@ still-seated v w apps p changes lanes seated =
 
     figures : figures_of w ≡ figures_of v
     figures = λ i. record {
-      use = λ r q u. total_of size_of (filter (λ e. not (is_guest_role r e.1.role) && option_map_or (is_of q u) (lookup (nat_eq e.1.app) (apps i)) false) (same r i));
+      used = λ r q u. total_of size_of (filter (λ e. not (is_guest_role r e.1.role) && option_map_or (is_of q u) (lookup (nat_eq e.1.app) (apps i)) false) (same r i));
       waits = λ r n. option_map_or (λ row. waits_if (list_any (is_master_of n) (same row.home i)) r row) (lookup (nat_eq n) (apps i)) nothing_waits;
     }
 
     shared : (r : ℕ) → AllByRecursion (λ e. is_shared w.apps r e ≡ true) (containers_of w r)
     shared r =
-        subst (λ as. AllByRecursion (λ e. is_shared as r e ≡ true) (containers_of w r)) (sym apps)
+        subst (λ apps_now. AllByRecursion (λ e. is_shared apps_now r e ≡ true) (containers_of w r)) (sym apps)
         (subst (AllByRecursion (λ e. is_shared v.apps r e ≡ true)) (sym (same r)) (seated.shared r))
 
 -- a node joins
@@ -116,7 +116,7 @@ asked-but v app ask lanes seated = record {
   waits = waits_of v;
   others = waits-stay v w app touch keeps refl 0 (λ es. es) (changes-nothing v w refl refl) (λ n apart. refl);
   seated =
-      subst (λ use. AreSeatedWith (record { use = use; waits = waits_of v }) w lanes) (λ i r q u. sym (use-of v w app touch keeps refl r q u) i)
+      subst (λ amounts. AreSeatedWith (record { used = amounts; waits = waits_of v }) w lanes) (λ i r q u. sym (use-of v w app touch keeps refl r q u) i)
       (carried v w app touch keeps refl refl refl (figures_of v) lanes (shared-after v w app touch keeps refl 0 (λ es. es) (changes-nothing v w refl refl) seated.shared (seated.shared 0)) seated);
 }
   where
