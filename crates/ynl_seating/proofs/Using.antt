@@ -1,6 +1,6 @@
 -- What the calls find that let a user use more or less.
 use Rattle.std.proofs.Common.{◌≡◌, ℕ, ◌+◌, ◌-◌, ◌≤◌, List, Some, option_map, nat_eq, refl, sym, ap, subst, ◌∙◌, arith}
-use Rattle.std.specs.Prelude.{IsSome, IsTrue, unwrap_or}
+use Rattle.std.specs.Prelude.{IfSome, IsSome, IsTrue, unwrap_or}
 use Rattle.std.specs.Map.{lookup}
 use Rattle.std.proofs.lemmas.Option.{same_Some}
 use Rattle.ynl_resource.specs.Amounts.{fits_in, IsSmall, less, plus}
@@ -46,21 +46,62 @@ module _ (app p : ℕ) (Stand : Resource → Resource → Type 0) (v : Rows) (la
       (used-but app p Stand v lanes new start)
       (subst (λ u. Changes p row.leaf (SetsUsed (unwrap_or (ticket_on p row) 0) u) lanes new) same changes)
 
--- ---- amounts
+-- what holds of the application that is found
+known : (P : AppRow → Type 0) (app : ℕ) (v : Rows) (row : AppRow) → lookup (nat_eq app) v.apps ≡ Some row → IfSome (lookup (nat_eq app) v.apps) P → P row
+known P app v row found h = subst (λ o. IfSome o P) found h
 
--- what may be used is small
-pub small-use : (a : Resource) → IsUse a → IsSmall a
-small-use a h = (omega (arith, h.memory), omega (arith, h.vcores))
+-- what the seat shows
+abbrev Reads : ℕ → List (List Seats) → AppRow → Resource → Type 0
+Reads p lanes row used = option_map (λ (seat : Seat). seat.used) (lookup (nat_eq (unwrap_or (ticket_on p row) 0)) (lane_at p row.leaf lanes).seats) ≡ Some used
 
--- what one more container used may be taken from what is used with it
-pub fits-back : (used after size : Resource) → used ≡ plus after size → IsTrue (fits_in size used)
-fits-back used after size is = ap (fits_in size) is ∙ fits-more after size
+abbrev IsSmallFor : ℕ → ℕ → Rows → Type 0
+IsSmallFor app p v = IfSome (lookup (nat_eq app) v.apps) (λ row. IsUse (user_use v p row.leaf row.user))
 
-pub less-back : (used after size : Resource) → used ≡ plus after size → less used size ≡ after
-less-back used after size is = ap (λ u. less u size) is ∙ (λ i. record { memory = memory i; vcores = vcores i })
-  where
-    memory : after.memory + size.memory - size.memory ≡ after.memory
-    memory = omega arith
+-- ---- more is used
 
-    vcores : after.vcores + size.vcores - size.vcores ≡ after.vcores
-    vcores = omega arith
+module _ (app p : ℕ) (size : Resource) (v : Rows) (lanes : List (List Seats)) (start : AreUsedBut app p (λ before after. after ≡ plus before size) v lanes)
+    (row : AppRow) (found : lookup (nat_eq app) v.apps ≡ Some row) (small : IsSmallFor app p v) (used : Resource) (read : Reads p lanes row used) (amount : Resource) (is : amount ≡ size) where
+  more-is : user_use v p row.leaf row.user ≡ plus used amount
+  more-is = use-read app p (λ before after. after ≡ plus before size) v lanes start row found used read ∙ ap (plus used) (sym is)
+
+  more-known : IsUse (plus used amount)
+  more-known = subst IsUse more-is (known (λ row. IsUse (user_use v p row.leaf row.user)) app v row found small)
+
+  pub more-small : IsSmall (plus used amount)
+  more-small = (omega (arith, more-known.memory), omega (arith, more-known.vcores))
+
+  module _ (sum : Resource) (sum-is : sum ≡ plus used amount) where
+    pub more-use : IsUse sum
+    more-use = subst IsUse (sym sum-is) more-known
+
+    pub more-set : (new : List (List Seats)) → Changes p row.leaf (SetsUsed (unwrap_or (ticket_on p row) 0) sum) lanes new → AreSeatedBut app v new
+    more-set = use-set app p (λ before after. after ≡ plus before size) v lanes start row found sum (sum-is ∙ sym more-is)
+
+-- ---- less is used
+
+module _ (app p : ℕ) (size : Resource) (v : Rows) (lanes : List (List Seats)) (start : AreUsedBut app p (λ before after. before ≡ plus after size) v lanes)
+    (row : AppRow) (found : lookup (nat_eq app) v.apps ≡ Some row) (small : IsSmallFor app p v) (used : Resource) (read : Reads p lanes row used) (amount : Resource) (is : amount ≡ size) where
+  abbrev left : Resource
+  left = user_use v p row.leaf row.user
+
+  less-is : used ≡ plus left amount
+  less-is = use-read app p (λ before after. before ≡ plus after size) v lanes start row found used read ∙ ap (plus left) (sym is)
+
+  pub less-fits : IsTrue (fits_in amount used)
+  less-fits = ap (fits_in amount) less-is ∙ fits-more left amount
+
+  back : less used amount ≡ left
+  back = ap (λ u. less u amount) less-is ∙ (λ i. record { memory = memory i; vcores = vcores i })
+    where
+      memory : left.memory + amount.memory - amount.memory ≡ left.memory
+      memory = omega arith
+
+      vcores : left.vcores + amount.vcores - amount.vcores ≡ left.vcores
+      vcores = omega arith
+
+  module _ (rest : Resource) (rest-is : rest ≡ less used amount) where
+    pub less-use : IsUse rest
+    less-use = subst IsUse (sym (rest-is ∙ back)) (known (λ row. IsUse (user_use v p row.leaf row.user)) app v row found small)
+
+    pub less-set : (new : List (List Seats)) → Changes p row.leaf (SetsUsed (unwrap_or (ticket_on p row) 0) rest) lanes new → AreSeatedBut app v new
+    less-set = use-set app p (λ before after. before ≡ plus after size) v lanes start row found rest (rest-is ∙ back)
