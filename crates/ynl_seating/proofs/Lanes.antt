@@ -1,5 +1,5 @@
 -- One lane changes, and the others stay.
-use Rattle.std.proofs.Common.{◌≡◌, ◌≢◌, ℕ, ◌<◌, List, [], length, refl, sym, ap, subst, ◌∙◌, arith, inl, inr}
+use Rattle.std.proofs.Common.{◌≡◌, ◌≢◌, ℕ, ◌<◌, List, [], length, sym, ap, subst, ◌∙◌, inl, inr}
 use Rattle.std.specs.Prelude.{slice_index_or, slice_set}
 use Rattle.std.proofs.lemmas.Bool.{cases_eq}
 use Rattle.std.proofs.lemmas.List.{get_or-set_same, get_or-set_other, length-set}
@@ -82,10 +82,10 @@ module _ (f g : Figures) (apps after : ℕ → List (ℕ × AppRow)) (v : Rows) 
       elim (same-or p q r s) [
         | inl same ↦ subst (λ m. IsSeated g (after m) m s new) (sym same.0) (subst (λ m. IsSeated g (after p) p m new) (sym same.1) here)
         | inr apart ↦ record {
-            there = subst (IsLaneAt r s) (sym changes.lanes) (still-there p q changes.next old at r s (lanes r s has number).there);
-            seats = ap (λ (l : Seats). l.seats) (other-ready r s apart) ∙ (lanes r s has number).seats ∙ sym (others r s apart has number);
-            distinct = subst HasDistinctNumbers (sym (others r s apart has number)) (lanes r s has number).distinct;
-          }
+          there = subst (IsLaneAt r s) (sym changes.lanes) (still-there p q changes.next old at r s (lanes r s has number).there);
+          seats = ap (λ (l : Seats). l.seats) (other-ready r s apart) ∙ (lanes r s has number).seats ∙ sym (others r s apart has number);
+          distinct = subst HasDistinctNumbers (sym (others r s apart has number)) (lanes r s has number).distinct;
+        }
       ]
     where
       here : IsSeated g (after p) p q new

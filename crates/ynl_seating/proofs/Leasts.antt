@@ -1,5 +1,5 @@
 -- The least of what is asked for on a partition is below each size that is asked for there.
-use Rattle.std.proofs.Common.{◌≡◌, ℕ, Bool, true, false, cond, List, [], ◌∷◌, fold, min, nat_eq, refl, sym, ap, subst, ◌∙◌, arith}
+use Rattle.std.proofs.Common.{◌≡◌, ℕ, Bool, true, false, cond, List, [], ◌∷◌, fold, nat_eq, sym, ap, subst, ◌∙◌, arith}
 use Rattle.std.specs.List.{AllByRecursion}
 use Rattle.std.proofs.lemmas.Bool.Decides.{nat_tests}
 use Rattle.ynl_resource.specs.Amounts.{smaller_of}
@@ -9,7 +9,7 @@ use Rattle.ynl_app_table.specs.declared.asks.Ask.{Ask}
 use Rattle.ynl_lanes.specs.Lows.{IsBelow, no_size}
 use Rattle.ynl_lanes.specs.Order.{below-refl, below-trans}
 use Rattle.ynl_seating.specs.Laws.{AreLeasts}
-use Rattle.ynl_seating.specs.Seating.{least_asked, with_least}
+use Rattle.ynl_seating.specs.Seating.{with_least}
 
 first-below : (a b : Resource) → IsBelow (smaller_of a b) a
 first-below a b = grind (arith, nat_tests)

@@ -1,13 +1,11 @@
 -- One seat shows something else: the lanes are then those of other figures.
-use Rattle.std.proofs.Common.{◌≡◌, ◌≢◌, ℕ, Bool, true, false, cond, ◌&&◌, ◌||◌, List, Some, is_some, nat_eq, refl, sym, ap, subst, ◌∙◌, inl, inr}
+use Rattle.std.proofs.Common.{◌≡◌, ◌≢◌, ℕ, Bool, true, false, cond, ◌&&◌, List, Some, is_some, nat_eq, refl, sym, ap, subst, ◌∙◌, inl, inr}
 use Rattle.std.specs.Prelude.{IfSome, IsSome}
 use Rattle.std.specs.Map.{lookup}
-use Rattle.std.specs.Option.{option_map_or}
 use Rattle.std.proofs.lemmas.Bool.{and_parts, and_from, cases_eq, eqb-true, or_cases}
 use Rattle.std.proofs.lemmas.Option.{same_Some}
 use Rattle.ynl_resource.specs.declared.amounts.Resource.{Resource}
 use Rattle.ynl_laws.proofs.Logic.{and-false}
-use Rattle.ynl_slots.specs.Slots.{HasDistinctNumbers}
 use Rattle.ynl_slots.proofs.Entries.{itself, other}
 use Rattle.ynl_layout.specs.Paths.{HasNumber}
 use Rattle.ynl_lane.specs.declared.kinds.Both.{Both}
@@ -15,7 +13,7 @@ use Rattle.ynl_lane.specs.Seats.{IsSeat, Seat, Seats, with_used, with_waits}
 use Rattle.ynl_lane_table.specs.Lanes.{Changes, Enters, IsLaneAt, SetsUsed, lane_at}
 use Rattle.ynl_inventory.specs.Rows.{Rows, AppRow}
 use Rattle.ynl_inventory.specs.Sound.{HasPartition}
-use Rattle.ynl_seating.specs.Seating.{AreLanes, AreSeated, AreSeatedWith, Figures, IsSeated, figures_of, is_of, seat_of, seats_of, shares, sits, ticket_on, user_use, waits_of}
+use Rattle.ynl_seating.specs.Seating.{AreSeatedWith, Figures, IsSeated, is_of, seat_of, seats_of, shares, sits, ticket_on, user_use}
 use Rattle.ynl_seating.specs.Steps.{AreSeatedBut, AreUsedBut}
 use Rattle.ynl_seating.proofs.SeatLists.{seat-found, seats-entered, seats-stay, seats-used, tickets-apart}
 use Rattle.ynl_seating.proofs.Lanes.{lifted}

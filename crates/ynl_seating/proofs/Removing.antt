@@ -25,7 +25,7 @@ use Rattle.ynl_seating.proofs.Entered.{default-shared, home-shared}
 use Rattle.ynl_seating.proofs.OneSeat.{leaf-there, partition-there}
 use Rattle.ynl_seating.proofs.Lanes.{lifted, other-ready}
 use Rattle.ynl_seating.proofs.SeatLists.{seats-left, seats-stay, seats-without}
-use Rattle.ynl_seating.proofs.Sums.{size_of, sum}
+use Rattle.ynl_seating.proofs.Sums.{size_of}
 
 module _ (app : ℕ) (v : Rows) (row : AppRow) (found : lookup (nat_eq app) v.apps ≡ Some row) (none : OwnsNoContainers v app) (lanes : List (List Seats)) (seated : AreSeated v lanes) where
   abbrev after : Rows

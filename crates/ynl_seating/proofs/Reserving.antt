@@ -1,11 +1,11 @@
 -- Room for a seat is reserved: the seats stay.
-use Rattle.std.proofs.Common.{◌≡◌, ◌≢◌, ℕ, ◌||◌, List, Some, Ok, Err, Result, nat_eq, refl, sym, ap, subst, ◌∙◌, inl, inr}
+use Rattle.std.proofs.Common.{◌≡◌, ◌≢◌, ℕ, List, Some, Ok, Err, Result, nat_eq, sym, ap, subst, ◌∙◌, inl, inr}
 use Rattle.std.specs.Prelude.{OnOk}
 use Rattle.std.proofs.lemmas.Bool.{eqb-true, or_cases}
 use Rattle.ynl_lane.specs.Seats.{Seats}
 use Rattle.ynl_lane_table.specs.Lanes.{Changes, IsLaneAt, Reserves, lane_at}
-use Rattle.ynl_inventory.specs.Rows.{Rows, AppRow}
-use Rattle.ynl_seating.specs.Seating.{AreSeated, Figures, IsSeated, figures_of}
+use Rattle.ynl_inventory.specs.Rows.{Rows}
+use Rattle.ynl_seating.specs.Seating.{AreSeated, IsSeated, figures_of}
 use Rattle.ynl_seating.specs.Steps.{IsReserved}
 use Rattle.ynl_seating.proofs.Lanes.{other-lane, own-lane, same-or, still-there}
 

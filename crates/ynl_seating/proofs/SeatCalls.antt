@@ -1,5 +1,5 @@
 -- What the calls find that add the seats of a new application.
-use Rattle.std.proofs.Common.{◌≡◌, ◌≢◌, ℕ, Bool, true, false, cond, ◌||◌, List, Some, None, is_some, nat_eq, refl, sym, ap, subst, ◌∙◌, inl, inr}
+use Rattle.std.proofs.Common.{◌≡◌, ◌≢◌, ℕ, Bool, true, false, cond, List, Some, None, is_some, nat_eq, refl, sym, ap, subst, ◌∙◌, inl, inr}
 use Rattle.std.specs.Prelude.{IfSome, IsSome}
 use Rattle.std.specs.Map.{lookup}
 use Rattle.std.proofs.lemmas.Bool.{eqb-true, or_cases}
@@ -82,7 +82,7 @@ module _ (app : ℕ) (w : Rows) (lanes : List (List Seats)) (start : IsUnseated 
           → (default : ℕ) (new : List (List Seats)) → Changes 0 row.leaf (AddsOne app default) mid new → AreSeatedBut app (with_tickets app (with_both home default) w) new
       seated-twice =
           subst (λ (r : AppRow). Changes r.home r.leaf (AddsOne app home) lanes mid → r.home ≢ 0
-              → (default : ℕ) (new : List (List Seats)) → Changes 0 r.leaf (AddsOne app default) mid new → AreSeatedBut app (with_tickets app (with_both home default) w) new) is
+          → (default : ℕ) (new : List (List Seats)) → Changes 0 r.leaf (AddsOne app default) mid new → AreSeatedBut app (with_tickets app (with_both home default) w) new) is
           (λ first apart default new second.
           seated-but app w lanes start (with_both home default) new (lanes-twice app w lanes start (with_both home default) home refl mid first apart default refl new second)
           (λ p sat. two-tickets home default p))

@@ -1,7 +1,6 @@
 -- Those who sit in a lane are the model's applications that share.
-use Rattle.std.proofs.Common.{◌≡◌, ◌<◌, ℕ, zero, suc, ◌+◌, Bool, true, false, cond, ◌&&◌, ◌||◌, List, [], ◌∷◌, ◌++◌, length, map, filter, find, max, slice_get, Option, Some, None, option_map, nat_eq, refl, sym, ap, ◌∙◌, arith, true≢false}
+use Rattle.std.proofs.Common.{◌≡◌, ◌<◌, ℕ, zero, suc, ◌+◌, Bool, true, false, cond, ◌&&◌, ◌||◌, List, [], ◌∷◌, ◌++◌, length, map, filter, find, max, slice_get, Some, option_map, nat_eq, refl, sym, ap, ◌∙◌, arith, true≢false}
 use Rattle.std.specs.Prelude.{slice_index_or}
-use Rattle.std.specs.List.{AllByRecursion}
 use Rattle.std.specs.Map.{lookup}
 use Rattle.std.specs.Option.{option_map_or}
 use Rattle.std.proofs.lemmas.Option.{none-some, same_Some, slice_get-get_or}
@@ -12,11 +11,11 @@ use Rattle.ynl_resource.specs.declared.names.Name.{Name}
 use Rattle.ynl_resource.specs.declared.paths.Path.{Path}
 use Rattle.ynl_model.specs.declared.queues.StopRow.{StopRow}
 use Rattle.ynl_model.specs.declared.queues.MaximumRow.{MaximumRow}
-use Rattle.ynl_model.specs.Applications.{Application, LeafApps, apps_of}
+use Rattle.ynl_model.specs.Applications.{Application, LeafApps}
 use Rattle.ynl_model.specs.Limits.{distinct, sharing, users}
 use Rattle.ynl_laws.proofs.Lists.{Each-map, filter-agree, filter-map, find-map, map-map}
 use Rattle.ynl_laws.proofs.Names.{same-path}
-use Rattle.ynl_layout.specs.Paths.{HasNumber, path_at}
+use Rattle.ynl_layout.specs.Paths.{path_at}
 use Rattle.ynl_lane.specs.Seats.{each_once}
 use Rattle.ynl_lane.proofs.Distinct.{counts_names}
 use Rattle.ynl_inventory.specs.Rows.{Rows, AppRow}
@@ -28,7 +27,7 @@ use Rattle.ynl_inventory.proofs.Filters.{filter-distinct, filter-lookup}
 use Rattle.ynl_inventory.proofs.Finding.{not-true}
 use Rattle.ynl_inventory.proofs.Updates.{differ-places, each-number}
 use Rattle.ynl_seating.specs.Laws.{AreInTurn, AreSharing, AreUsers, IsLeaf, app_of}
-use Rattle.ynl_seating.specs.Seating.{shares, sits, sitting}
+use Rattle.ynl_seating.specs.Seating.{shares, sitting}
 use Rattle.ynl_seating.proofs.SeatLists.{sitting-each}
 use Rattle.ynl_seating.proofs.Turns.{in-order}
 

@@ -1,10 +1,10 @@
 -- What a user uses of a partition in a leaf is what the model says.
-use Rattle.std.proofs.Common.{◌≡◌, ◌≢◌, ◌<◌, ℕ, zero, suc, Bool, true, false, not, ◌&&◌, ◌||◌, List, [], ◌∷◌, length, map, filter, slice_get, Option, Some, None, option_map, nat_eq, refl, sym, ap, ◌∙◌, arith, true≢false}
+use Rattle.std.proofs.Common.{◌≡◌, ◌<◌, ℕ, zero, suc, Bool, true, false, not, ◌&&◌, ◌||◌, List, [], ◌∷◌, length, map, filter, slice_get, Some, option_map, nat_eq, refl, sym, ap, ◌∙◌, arith, true≢false}
 use Rattle.std.specs.Prelude.{slice_index_or}
-use Rattle.std.specs.List.{AllByRecursion, list_any}
+use Rattle.std.specs.List.{list_any}
 use Rattle.std.specs.Map.{lookup}
 use Rattle.std.specs.Option.{option_map_or}
-use Rattle.std.proofs.lemmas.Bool.{and_from, and_parts, eqb-true}
+use Rattle.std.proofs.lemmas.Bool.{and_parts, eqb-true}
 use Rattle.std.proofs.lemmas.Option.{none-some, same_Some, slice_get-get_or}
 use Rattle.ynl_resource.specs.Amounts.{total_of}
 use Rattle.ynl_resource.specs.Names.{is_default, is_within, root, same_name, same_path, tenant_of}
@@ -14,7 +14,7 @@ use Rattle.ynl_model.specs.declared.containers.Placed.{Placed}
 use Rattle.ynl_model.specs.declared.queues.StopRow.{StopRow}
 use Rattle.ynl_model.specs.declared.queues.MaximumRow.{MaximumRow}
 use Rattle.ynl_model.specs.Applications.{Application, find_app, leaf_of as leaf_named}
-use Rattle.ynl_model.specs.Cluster.{containers_on, counted, is_below, is_guest, is_guest_on, of_app_that, sizes, user_used}
+use Rattle.ynl_model.specs.Cluster.{counted, is_below, is_guest, is_guest_on, of_app_that, sizes, user_used}
 use Rattle.ynl_laws.proofs.Amounts.{total-map}
 use Rattle.ynl_laws.proofs.Lists.{any-later, filter-agree, filter-map}
 use Rattle.ynl_laws.proofs.Logic.{not-false, not-true as not-true_is}
@@ -23,10 +23,9 @@ use Rattle.ynl_slots.proofs.Entries.{itself}
 use Rattle.ynl_container_table.specs.declared.container.Container.{Container}
 use Rattle.ynl_container_table.specs.declared.container.Role.{Role}
 use Rattle.ynl_container_table.specs.declared.container.Role.TheVariants.{Master, Ask as Asked}
-use Rattle.ynl_layout.specs.Paths.{HasNumber, path_at}
+use Rattle.ynl_layout.specs.Paths.{path_at}
 use Rattle.ynl_inventory.specs.Rows.{Rows, PartitionRow, AppRow}
-use Rattle.ynl_inventory.specs.Meaning.{app_name, application_of, has_none_below, label_at, live_of, owner_of, placed_of, state_of, submitted_to, what_of}
-use Rattle.ynl_inventory.specs.Parts.{containers_of}
+use Rattle.ynl_inventory.specs.Meaning.{app_name, application_of, has_none_below, label_at, owner_of, placed_of, state_of, submitted_to, what_of}
 use Rattle.ynl_inventory.specs.Apps.{is_guest_role}
 use Rattle.ynl_inventory.specs.Sound.{HasPartition, IsContainer, IsRole, IsSound}
 use Rattle.ynl_inventory.proofs.AppsFound.{app-found, leaf-found, leaves}

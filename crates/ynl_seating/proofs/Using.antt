@@ -1,5 +1,5 @@
 -- What the calls find that let a user use more or less.
-use Rattle.std.proofs.Common.{◌≡◌, ℕ, ◌+◌, ◌-◌, ◌≤◌, List, Some, option_map, nat_eq, refl, sym, ap, subst, ◌∙◌, arith}
+use Rattle.std.proofs.Common.{◌≡◌, ℕ, ◌+◌, ◌-◌, List, Some, option_map, nat_eq, sym, ap, subst, ◌∙◌, arith}
 use Rattle.std.specs.Prelude.{IfSome, IsSome, IsTrue, unwrap_or}
 use Rattle.std.specs.Map.{lookup}
 use Rattle.std.proofs.lemmas.Option.{same_Some}
@@ -10,7 +10,7 @@ use Rattle.ynl_lane.specs.Rows.{IsUse}
 use Rattle.ynl_lane.specs.Seats.{IsSeat, Seat, Seats}
 use Rattle.ynl_lane_table.specs.Lanes.{Changes, IsLaneAt, SetsUsed, lane_at}
 use Rattle.ynl_inventory.specs.Rows.{Rows, AppRow}
-use Rattle.ynl_seating.specs.Seating.{Figures, ticket_on, user_use}
+use Rattle.ynl_seating.specs.Seating.{ticket_on, user_use}
 use Rattle.ynl_seating.specs.Steps.{AreSeatedBut, AreUsedBut}
 use Rattle.ynl_seating.proofs.OneSeat.{lane-there, own-found, own-seat, own-ticket, used-but}
 
