@@ -1,0 +1,45 @@
+-- The least of what is asked for on a partition is below each size that is asked for there.
+use Rattle.std.proofs.Common.{◌≡◌, ℕ, Bool, true, false, cond, List, [], ◌∷◌, fold, nat_eq, sym, ap, subst, ◌∙◌, arith}
+use Rattle.std.specs.List.{AllByRecursion}
+use Rattle.std.proofs.lemmas.Bool.Decides.{nat_tests}
+use Rattle.ynl_resource.specs.Amounts.{smaller_of}
+use Rattle.ynl_resource.specs.declared.amounts.Resource.{Resource}
+use Rattle.ynl_slots.proofs.Entries.{itself}
+use Rattle.ynl_app_table.specs.declared.asks.Ask.{Ask}
+use Rattle.ynl_lanes.specs.Lows.{IsBelow, no_size}
+use Rattle.ynl_lanes.specs.Order.{below-refl, below-trans}
+use Rattle.ynl_seating.specs.Laws.{AreLeasts}
+use Rattle.ynl_seating.specs.Seating.{with_least}
+
+first-below : (a b : Resource) → IsBelow (smaller_of a b) a
+first-below a b = grind (arith, nat_tests)
+
+second-below : (a b : Resource) → IsBelow (smaller_of a b) b
+second-below a b = grind (arith, nat_tests)
+
+module _ (p : ℕ) where
+  step-below : (low : Resource) (ask : Ask) → IsBelow (with_least p low ask) low
+  step-below low ask = go (nat_eq ask.partition p)
+    where
+      go : (b : Bool) → IsBelow (cond b (smaller_of low ask.size) low) low
+      go true = first-below low ask.size
+      go false = below-refl low
+
+  -- one more ask makes it no greater
+  fold-below : (low : Resource) (asks : List Ask) → IsBelow (fold (with_least p) low asks) low
+  fold-below low [] = below-refl low
+  fold-below low (ask ∷ asks) =
+      below-trans (fold (with_least p) (with_least p low ask) asks) (with_least p low ask) low (fold-below (with_least p low ask) asks) (step-below low ask)
+
+  own-below : (low : Resource) (ask : Ask) → ask.partition ≡ p → IsBelow (with_least p low ask) ask.size
+  own-below low ask is = subst (λ b. IsBelow (cond b (smaller_of low ask.size) low) ask.size) (sym (ap (λ m. nat_eq m p) is ∙ itself p)) (second-below low ask.size)
+
+  each-below : (low : Resource) (asks : List Ask) → AllByRecursion (λ ask. ask.partition ≡ p → IsBelow (fold (with_least p) low asks) ask.size) asks
+  each-below low [] = tt
+  each-below low (ask ∷ asks) = (
+    λ is. below-trans (fold (with_least p) (with_least p low ask) asks) (with_least p low ask) ask.size (fold-below (with_least p low ask) asks) (own-below low ask is),
+    each-below (with_least p low ask) asks,
+  )
+
+pub are-leasts : AreLeasts
+are-leasts p asks = each-below p no_size asks

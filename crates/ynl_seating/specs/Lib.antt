@@ -1,0 +1,3 @@
+pub mod Seating
+pub mod Steps
+pub mod Laws

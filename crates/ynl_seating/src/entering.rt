@@ -1,0 +1,47 @@
+//! What waits of an application is entered anew.
+
+ghost use Rattle.std.specs.Prelude.{◌≡◌, IfSome, IsSome, nat_eq, unwrap_or};
+ghost use Rattle.std.specs.Map.{lookup};
+ghost use Rattle.ynl_slots.specs.Slots.{IsLive};
+ghost use Rattle.ynl_lane.specs.Seats.{IsSeat};
+ghost use Rattle.ynl_lane_table.specs.Lanes.{Changes, Enters, IsLaneAt, lane_at};
+ghost use Rattle.ynl_inventory.specs.Apps.{runs_at};
+ghost use Rattle.ynl_inventory.specs.Parts.{app_row};
+ghost use Rattle.ynl_seating.specs.Seating.{AreSeated, ticket_on, waits_if};
+ghost use Rattle.ynl_seating.specs.Steps.{AreSeatedBut};
+
+use crate::waits::{ticket_on, waits_on};
+use ynl_app_table::AppRow;
+use ynl_inventory::Inventory;
+use ynl_lane_table::Lanes;
+
+/// What waits at an application's seat on a partition is entered anew.
+fn enter_at(lanes: &mut Lanes, row: &AppRow, p: u8, runs: bool)
+    requires ticket { IsSome (ticket_on p (app_row row.now)) }
+    requires lane { IsLaneAt p row.now.leaf lanes.old }
+    requires seat { IsSeat (unwrap_or (ticket_on p (app_row row.now)) 0)
+        (lane_at p row.now.leaf lanes.old).seats }
+    ensures { Changes p row.now.leaf (Enters (unwrap_or (ticket_on p (app_row row.now)) 0)
+        (waits_if runs p (app_row row.now))) lanes.old lanes.new }
+{
+    let ticket = ticket_on(p, row);
+    let waits = waits_on(runs, p, row);
+    lanes.enter(p as usize, row.leaf as usize, ticket, &waits);
+}
+
+/// What waits at the seats of an application is entered anew, where the lanes are those of the rows but for that. `runs` says
+/// whether the application runs.
+pub fn enter(inventory: &Inventory, lanes: &mut Lanes, app: u32, runs: bool)
+    requires live { IsLive app inventory.now.rows.apps }
+    requires runs { IfSome (lookup (nat_eq app) inventory.now.rows.apps)
+        (λ row. runs ≡ runs_at inventory.now.rows app row) }
+    requires start { AreSeatedBut app inventory.now.rows lanes.old }
+    ensures { AreSeated inventory.now.rows lanes.new }
+{
+    let row = inventory.app(app);
+    enter_at(lanes, row, row.home, runs);
+    if row.home == 0 {
+        return;
+    }
+    enter_at(lanes, row, 0, runs);
+}

@@ -1,0 +1,93 @@
+//! Containers come and go, and the lanes follow.
+
+ghost use Rattle.std.specs.Prelude.{◌≡◌, false, true, IfSome, nat_eq};
+ghost use Rattle.std.specs.Map.{lookup};
+ghost use Rattle.ynl_resource.specs.Amounts.{plus};
+ghost use Rattle.ynl_slots.specs.Slots.{IsLive};
+ghost use Rattle.ynl_lane.specs.Rows.{IsUse};
+ghost use Rattle.ynl_inventory.specs.Apps.{is_guest_role, runs_at};
+ghost use Rattle.ynl_inventory.specs.Changes.{partition_of_node};
+ghost use Rattle.ynl_seating.specs.Seating.{AreSeated, user_use};
+ghost use Rattle.ynl_seating.specs.Steps.{AreSeatedBut, AreUsedBut, IsLost, IsPlaced};
+
+use crate::entering::enter;
+use crate::uses::{use_less, use_more};
+use ynl_container_table::{Container, Role};
+use ynl_inventory::{Inventory, Placement};
+use ynl_lane_table::Lanes;
+
+/// Whether a container that stands on a partition is a guest there.
+fn is_guest(p: u8, role: Role) -> bool
+    ensures { result ≡ is_guest_role p role }
+{
+    match role {
+        Role::Master => false,
+        Role::Ask { partition, .. } => partition == 0 && p != 0,
+    }
+}
+
+/// The user of a container that was placed uses more, unless that is a guest.
+fn count_more(inventory: &Inventory, lanes: &mut Lanes, p: u8, placed: &Placement)
+    requires live { IsLive placed.now.app inventory.now.rows.apps }
+    requires guest { is_guest_role p placed.now.role ≡ true
+        → AreSeatedBut placed.now.app inventory.now.rows lanes.old }
+    requires home { is_guest_role p placed.now.role ≡ false
+        → AreUsedBut placed.now.app p (λ before after. after ≡ plus before placed.now.size)
+        inventory.now.rows lanes.old }
+    requires small { IfSome (lookup (nat_eq placed.now.app) inventory.now.rows.apps)
+        (λ row. IsUse (user_use inventory.now.rows p row.leaf row.user)) }
+    ensures { AreSeatedBut placed.now.app inventory.now.rows lanes.new }
+{
+    if is_guest(p, placed.role) {
+        return;
+    }
+    use_more(inventory, lanes, placed.app, p, placed.size);
+}
+
+/// A container was placed on a partition. `runs` says whether its application runs now.
+pub fn placed(inventory: &Inventory, lanes: &mut Lanes, p: u8, placed: &Placement, runs: bool)
+    requires live { IsLive placed.now.app inventory.now.rows.apps }
+    requires start { IsPlaced placed.now.node placed.now.app placed.now.role placed.now.size
+        inventory.now.rows lanes.old }
+    requires partition { p ≡ partition_of_node inventory.now.rows.nodes placed.now.node }
+    requires runs { IfSome (lookup (nat_eq placed.now.app) inventory.now.rows.apps)
+        (λ row. runs ≡ runs_at inventory.now.rows placed.now.app row) }
+    requires small { IfSome (lookup (nat_eq placed.now.app) inventory.now.rows.apps)
+        (λ row. IsUse (user_use inventory.now.rows p row.leaf row.user)) }
+    ensures { AreSeated inventory.now.rows lanes.new }
+{
+    count_more(inventory, lanes, p, placed);
+    enter(inventory, lanes, placed.app, runs);
+}
+
+/// The user of a container that went uses less, unless that was a guest.
+fn count_less(inventory: &Inventory, lanes: &mut Lanes, p: u8, gone: &Container)
+    requires live { IsLive gone.now.app inventory.now.rows.apps }
+    requires guest { is_guest_role p gone.now.role ≡ true
+        → AreSeatedBut gone.now.app inventory.now.rows lanes.old }
+    requires home { is_guest_role p gone.now.role ≡ false
+        → AreUsedBut gone.now.app p (λ before after. before ≡ plus after gone.now.size)
+        inventory.now.rows lanes.old }
+    requires small { IfSome (lookup (nat_eq gone.now.app) inventory.now.rows.apps)
+        (λ row. IsUse (user_use inventory.now.rows p row.leaf row.user)) }
+    ensures { AreSeatedBut gone.now.app inventory.now.rows lanes.new }
+{
+    if is_guest(p, gone.role) {
+        return;
+    }
+    use_less(inventory, lanes, gone.app, p, gone.size);
+}
+
+/// A container went from a partition. `runs` says whether its application still runs.
+pub fn lost(inventory: &Inventory, lanes: &mut Lanes, p: u8, gone: &Container, runs: bool)
+    requires live { IsLive gone.now.app inventory.now.rows.apps }
+    requires start { IsLost p gone.now inventory.now.rows lanes.old }
+    requires runs { IfSome (lookup (nat_eq gone.now.app) inventory.now.rows.apps)
+        (λ row. runs ≡ runs_at inventory.now.rows gone.now.app row) }
+    requires small { IfSome (lookup (nat_eq gone.now.app) inventory.now.rows.apps)
+        (λ row. IsUse (user_use inventory.now.rows p row.leaf row.user)) }
+    ensures { AreSeated inventory.now.rows lanes.new }
+{
+    count_less(inventory, lanes, p, gone);
+    enter(inventory, lanes, gone.app, runs);
+}
