@@ -1,5 +1,5 @@
 -- A live application asks: the rows stay sound, and mean what the model's ask gives.
-use Rattle.std.proofs.Common.{◌≡◌, ℕ, Bool, true, false, cond, not, ◌==◌, List, Some, nat_eq, refl, arith}
+use Rattle.std.proofs.Common.{◌≡◌, ℕ, Bool, true, false, cond, ◌==◌, List, Some, nat_eq, refl, arith}
 use Rattle.std.specs.Prelude.{All}
 use Rattle.std.specs.List.{AllByRecursion}
 use Rattle.std.specs.Map.{lookup}
@@ -12,12 +12,13 @@ use Rattle.ynl_layout.specs.Paths.{path_at}
 use Rattle.ynl_app_table.specs.declared.asks.Ask.{Ask}
 use Rattle.ynl_app_table.specs.Asks.{AreAsks, is_ask_of, with_ask}
 use Rattle.ynl_app_table.proofs.Asking.{asks_dropped, asks_put}
-use Rattle.ynl_laws.proofs.Lists.{Each-filter, Each-put, all-of}
+use Rattle.ynl_laws.proofs.Lists.{all-of}
 use Rattle.ynl_slots.proofs.Lists.{all_from}
 use Rattle.ynl_inventory.specs.Rows.{Rows, AppRow}
 use Rattle.ynl_inventory.specs.Meaning.{app_name, ask_of, state_of}
 use Rattle.ynl_inventory.specs.Changes.{with_asked}
-use Rattle.ynl_inventory.specs.Sound.{HasPartition, IsSound}
+use Rattle.ynl_inventory.specs.Sound.{HasPartition, IsAskedOn, IsApp, IsSound}
+use Rattle.ynl_inventory.proofs.Asked.{on-there, asked-there, one-asked}
 use Rattle.ynl_inventory.proofs.AppChange.{LeavesOwner, app-sound, app-means}
 use Rattle.ynl_inventory.proofs.Asking.{app-asked}
 
@@ -27,29 +28,28 @@ asks ask row = record row { asks = with_ask ask row.asks }
 leaves : (ask : Ask) → LeavesOwner (asks ask)
 leaves ask = record { tenant = λ row. refl; turn = λ row. refl; leaf = λ row. refl; user = λ row. refl; home = λ row. refl }
 
-module _ (v : Rows) (sound : IsSound v) (app : ℕ) (arow : AppRow) (found : lookup (nat_eq app) v.apps ≡ Some arow) (ask : Ask) (there : HasPartition v ask.partition) where
+module _ (v : Rows) (sound : IsSound v) (app : ℕ) (arow : AppRow) (found : lookup (nat_eq app) v.apps ≡ Some arow) (ask : Ask) (on : IsAskedOn arow.home ask.partition) where
+  its : IsApp v app arow
+  its = sound.apps app arow found
+
   asked-before : AllByRecursion (λ other. HasPartition v other.partition) arow.asks
-  asked-before = all_from (λ other. HasPartition v other.partition) arow.asks (sound.apps app arow found).asked
+  asked-before = all_from (λ other. HasPartition v other.partition) arow.asks (asked-there v sound arow.home its.home arow.asks its.asked)
 
   still-asks : AreAsks (with_ask ask arow.asks)
   still-asks = go (ask.count == 0) refl
     where
       before : AreAsks arow.asks
-      before = (sound.apps app arow found).asks
+      before = its.asks
 
       go : (b : Bool) → (ask.count == 0) ≡ b
           → AreAsks (cond b (without (is_ask_of ask.partition ask.priority) arow.asks) (put (is_ask_of ask.partition ask.priority) ask arow.asks))
       go true is = asks_dropped (is_ask_of ask.partition ask.priority) arow.asks before
       go false is = asks_put ask arow.asks (grind (arith, nat_tests)) before
 
-  still-asked : All (λ other. HasPartition v other.partition) (with_ask ask arow.asks)
-  still-asked = all-of (λ other. HasPartition v other.partition) (with_ask ask arow.asks) (go (ask.count == 0))
-    where
-      go : (b : Bool)
-          → AllByRecursion (λ (other : Ask). HasPartition v other.partition)
-          (cond b (without (is_ask_of ask.partition ask.priority) arow.asks) (put (is_ask_of ask.partition ask.priority) ask arow.asks))
-      go true = Each-filter (λ other. HasPartition v other.partition) (λ other. not (is_ask_of ask.partition ask.priority other)) arow.asks asked-before
-      go false = Each-put (λ other. HasPartition v other.partition) (is_ask_of ask.partition ask.priority) ask there arow.asks asked-before
+  still-asked : All (λ other. IsAskedOn arow.home other.partition) (with_ask ask arow.asks)
+  still-asked =
+      all-of (λ other. IsAskedOn arow.home other.partition) (with_ask ask arow.asks)
+      (one-asked (IsAskedOn arow.home) ask (λ some. on) arow.asks (all_from (λ other. IsAskedOn arow.home other.partition) arow.asks its.asked))
 
   -- the rows stay sound
   pub asked-sound : IsSound (with_asked app ask v)
@@ -63,4 +63,4 @@ module _ (v : Rows) (sound : IsSound v) (app : ℕ) (arow : AppRow) (found : loo
       }
   asked-means stops maxima =
       app-means v app (asks ask) (leaves ask) sound arow found (set_ask (ask_of v.partitions ask))
-      (app-asked v sound ask there (app_name v.tenants arow.tenant arow.turn) arow asked-before) stops maxima
+      (app-asked v sound ask (on-there v sound arow.home its.home ask.partition on) (app_name v.tenants arow.tenant arow.turn) arow asked-before) stops maxima

@@ -12,6 +12,8 @@ use Rattle.ynl_resource.specs.Tables.{update}
 use Rattle.ynl_resource.specs.declared.names.Name.{Name}
 use Rattle.ynl_resource.specs.declared.labels.Label.{Label}
 use Rattle.ynl_resource.specs.declared.paths.Path.{Path}
+use Rattle.ynl_laws.specs.Working.{Pairs}
+use Rattle.ynl_laws.proofs.Lists.{Pairs-map}
 use Rattle.ynl_laws.proofs.Names.{same-name_self, same-path}
 use Rattle.ynl_model.specs.declared.queues.StopRow.{StopRow}
 use Rattle.ynl_model.specs.declared.queues.MaximumRow.{MaximumRow}
@@ -23,8 +25,9 @@ use Rattle.ynl_submissions.specs.declared.submissions.Submission.{Submission}
 use Rattle.ynl_inventory.specs.Rows.{Rows, PartitionRow, AppRow}
 use Rattle.ynl_inventory.specs.Meaning.{app_name, submitted_to, submitted_in, tenant_at, placed_of, partition_of, application_of, live_of, leaf_of, leaf_numbers, state_of}
 use Rattle.ynl_inventory.specs.Changes.{with_app_changed}
-use Rattle.ynl_inventory.specs.Sound.{HasPartition, IsPartition, IsApp, IsSubmission, IsTenant, IsSound}
-use Rattle.ynl_inventory.proofs.Lookups.{was-found, read-after, changed-live, changed-other, changed-same, changed-distinct}
+use Rattle.ynl_inventory.specs.Apps.{IsBefore}
+use Rattle.ynl_inventory.specs.Sound.{HasPartition, IsAskedOn, IsPartition, IsApp, IsSubmission, IsTenant, IsSound}
+use Rattle.ynl_inventory.proofs.Lookups.{row_after, still-found, was-found, read-after, changed-live, changed-other, changed-same, changed-distinct}
 use Rattle.ynl_inventory.proofs.Naming.{owner-changed, placed-same, live-same}
 use Rattle.ynl_inventory.proofs.Kept.{kept-container}
 use Rattle.ynl_inventory.proofs.Submitted.{app-submitted, app-submission, submission, one-turn, each-submitted, each-leaf}
@@ -60,6 +63,10 @@ module _ (v : Rows) (app : ℕ) (change : AppRow → AppRow) (leaves : LeavesOwn
   abbrev after : Rows
   after = with_app_changed app change v
 
+  -- an application after the change
+  abbrev next : ℕ × AppRow → ℕ × AppRow
+  next e = cond (nat_eq app e.0) (e.0, change e.1) e
+
   -- all containers are called as before
   pub containers-stay : (label : Label) (c : Container) → placed_of after label c ≡ placed_of v label c
   containers-stay label c = placed-same v after (λ p. refl) label c refl (owner-changed app change leaves.tenant leaves.turn v c.app)
@@ -73,8 +80,10 @@ module _ (v : Rows) (app : ℕ) (change : AppRow → AppRow) (leaves : LeavesOwn
       numbers = is.numbers;
       rising = is.rising;
       clock = is.clock;
+      masters = is.masters;
       each = λ n c at.
-          kept-container v after refl p row.clock row.clock c (is.each n c at) (omega arith) (changed-live c.app app change v.apps (is.each n c at).app)
+          kept-container v after refl p row.clock row.clock c (is.each n c at) (omega arith)
+          (λ r there. (row_after c.app app change r, still-found c.app app change v.apps r there, read-after (λ (r : AppRow). r.home) c.app app change r (leaves.home r)))
           (λ node there. (node, there, refl));
     }
 
@@ -103,7 +112,22 @@ module _ (v : Rows) (app : ℕ) (change : AppRow → AppRow) (leaves : LeavesOwn
     tenant-kept : (t : ℕ) (entries : List (Name × Submission)) → IsTenant v t entries → IsTenant after t entries
     tenant-kept t entries is = record { names = is.names; each = λ turn name s at. submission-kept t turn s (is.each turn name s at) }
 
-    module _ (asks : AreAsks (change arow).asks) (asked : All (λ ask. HasPartition v ask.partition) (change arow).asks) where
+    -- applications stand in the order of their turns
+    order-kept : Pairs IsBefore after.apps
+    order-kept = Pairs-map IsBefore next keeps v.apps sound.order
+      where
+        tenant : (e : ℕ × AppRow) → (next e).1.tenant ≡ e.1.tenant
+        tenant e = elim (nat_eq app e.0) as (λ b. (cond b (e.0, change e.1) e).1.tenant ≡ e.1.tenant) [ true ↦ leaves.tenant e.1 | false ↦ refl ]
+
+        turn : (e : ℕ × AppRow) → (next e).1.turn ≡ e.1.turn
+        turn e = elim (nat_eq app e.0) as (λ b. (cond b (e.0, change e.1) e).1.turn ≡ e.1.turn) [ true ↦ leaves.turn e.1 | false ↦ refl ]
+
+        keeps : (e f : ℕ × AppRow) → IsBefore e f → IsBefore (next e) (next f)
+        keeps e f before same =
+            let lower : e.1.turn < f.1.turn = before (sym (tenant e) ∙ same ∙ tenant f) in
+            subst (λ n. n < (next f).1.turn) (sym (turn e)) (subst (λ n. e.1.turn < n) (sym (turn f)) lower)
+
+    module _ (asks : AreAsks (change arow).asks) (asked : All (λ ask. IsAskedOn arow.home ask.partition) (change arow).asks) where
       own-kept : IsApp v app arow → IsApp after app (change arow)
       own-kept is = record {
         name = is.name;
@@ -113,7 +137,7 @@ module _ (v : Rows) (app : ℕ) (change : AppRow → AppRow) (leaves : LeavesOwn
         user = subst (λ u. u < length v.users) (sym (leaves.user arow)) is.user;
         home = subst (HasPartition v) (sym (leaves.home arow)) is.home;
         asks = asks;
-        asked = asked;
+        asked = subst (λ home. All (λ ask. IsAskedOn home ask.partition) (change arow).asks) (sym (leaves.home arow)) asked;
       }
 
       other-kept : (n : ℕ) (row : AppRow) → IsApp v n row → IsApp after n row
@@ -144,6 +168,7 @@ module _ (v : Rows) (app : ℕ) (change : AppRow → AppRow) (leaves : LeavesOwn
         nodes = λ n row at. sound.nodes n row at;
         app_numbers = changed-distinct app change v.apps sound.app_numbers;
         apps = app-kept;
+        order = order-kept;
         many = sound.many;
         tenants = λ t entries at. tenant-kept t entries (sound.tenants t entries at);
         users = sound.users;

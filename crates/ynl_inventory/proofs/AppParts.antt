@@ -1,16 +1,13 @@
 -- An application's tickets are set, or it is live no more: how the parts mean it, and go together after.
-use Rattle.std.proofs.Common.{◌≡◌, ◌≢◌, ◌<◌, ℕ, Bool, true, false, cond, is_some, IfSome, List, map, length, slice_get, Some, None, option_map, nat_eq, refl, sym, ap, subst, ◌∙◌}
+use Rattle.std.proofs.Common.{◌≡◌, ◌≢◌, ◌<◌, ℕ, is_some, IfSome, map, length, slice_get, Some, option_map, nat_eq, refl, sym, ap, subst, ◌∙◌}
 use Rattle.std.specs.Prelude.{slice_set}
 use Rattle.std.specs.Map.{lookup}
-use Rattle.std.proofs.lemmas.Option.{none-some, same_Some, slice_get-map, slice_get_within}
+use Rattle.std.proofs.lemmas.Option.{same_Some, slice_get-map, slice_get_within}
 use Rattle.ynl_slots.specs.Slots.{Numbered, IsLive, without}
-use Rattle.ynl_slots.proofs.Lookups.{lookup-without}
 use Rattle.ynl_app_table.specs.declared.app.AppRow.{AppRow as AppPart}
 use Rattle.ynl_app_table.specs.declared.app.Tickets.{Tickets}
 use Rattle.ynl_app_table.specs.Apps.{with_app}
-use Rattle.ynl_app_table.specs.Chains.{chain_of}
 use Rattle.ynl_container_table.specs.declared.container.Container.{Container}
-use Rattle.ynl_container_table.specs.Chains.{IsAppChain}
 use Rattle.ynl_container_table.specs.Fields.{of_rows}
 use Rattle.ynl_container_table.proofs.Rows.{lookup-of_rows, of_rows-without}
 use Rattle.ynl_submissions.specs.Submissions.{Listing, with_finished}
@@ -20,12 +17,13 @@ use Rattle.ynl_inventory.specs.Meaning.{submitted_to}
 use Rattle.ynl_inventory.specs.Changes.{with_tickets, with_app_gone}
 use Rattle.ynl_inventory.specs.Sound.{OwnsNoContainers, IsApp, IsSound}
 use Rattle.ynl_inventory.specs.Parts.{Held, held_of, app_row, AreLinked, IsInventory}
-use Rattle.ynl_inventory.proofs.Lookups.{live-found, read-after, was-found}
+use Rattle.ynl_inventory.proofs.Lookups.{live-found}
 use Rattle.ynl_inventory.proofs.Updates.{at-number}
 use Rattle.ynl_inventory.proofs.AppChange.{LeavesOwner, app-sound}
 use Rattle.ynl_inventory.proofs.Gone.{gone-sound}
 use Rattle.ynl_inventory.proofs.Submitted.{tenant-there}
-use Rattle.ynl_inventory.proofs.PartLists.{unmapped, map-set, of_rows-changed, of_rows-kept}
+use Rattle.ynl_inventory.proofs.PartLists.{unmapped, map-set, of_rows-changed}
+use Rattle.ynl_inventory.proofs.PartsChange.{kept-linked, more-places}
 use Rattle.ynl_inventory.proofs.NodeParts.{found-without}
 
 -- an application that has a row is there
@@ -56,7 +54,6 @@ module _ (a : Inside) (app : ℕ) (tickets : Tickets) (apps' : Numbered AppPart)
     rows = record (held_of a).rows {
       apps = (ap (λ (apps : Numbered AppPart). of_rows app_row apps.entries) is ∙ of_rows-changed app_row set_part set_row app a.apps.entries (λ r. refl)) i;
     };
-    chains = (ap (λ (apps : Numbered AppPart). of_rows (λ (r : AppPart). r.chains) apps.entries) is ∙ of_rows-kept (λ (r : AppPart). r.chains) set_part app a.apps.entries (λ r. refl)) i;
   }
 
   -- and their invariant holds
@@ -68,17 +65,8 @@ module _ (a : Inside) (app : ℕ) (tickets : Tickets) (apps' : Numbered AppPart)
         subst IsSound (sym (ap (λ (h : Held). h.rows) tickets-held)) (app-sound (held_of a).rows app set_row leaves inv.sound (app_row own.0) own.2 its.asks its.asked);
     linked =
         subst (λ (apps : Numbered AppPart). AreLinked a.partitions.items a.nodes apps.entries) (sym is)
-        (record {
-          node = inv.linked.node;
-          app = λ n r p part found at.
-              let old = was-found n app set_part a.apps.entries r found in
-              subst (λ chains. IsAppChain part.containers (chain_of p chains) n)
-              (sym (ap (λ (r : AppPart). r.chains) old.2 ∙ read-after (λ (r : AppPart). r.chains) n app set_part old.0 refl))
-              (inv.linked.app n old.0 p part old.1 at);
-          free = inv.linked.free;
-          fits = inv.linked.fits;
-          small = inv.linked.small;
-        });
+        (kept-linked a.partitions.items a.nodes a.apps.entries inv.linked app set_part (record { home = λ r. refl; master = λ r. refl; chains = λ r p. refl })
+        (λ r at. more-places a.partitions.items r (set_part r) refl (λ q live. live) (λ P each. each) (inv.linked.places app r at)));
   }
 
 -- ---- an application that is live no more
@@ -152,4 +140,6 @@ module _ (a : Inside) (inv : IsInventory a) (app : ℕ) (part : AppPart) (found 
             free = inv.linked.free;
             fits = inv.linked.fits;
             small = inv.linked.small;
+            master = λ n r x at here. inv.linked.master n r x (found-without n app r a.apps.entries at) here;
+            places = λ n r at. inv.linked.places n r (found-without n app r a.apps.entries at);
           })

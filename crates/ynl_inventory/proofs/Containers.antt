@@ -21,6 +21,7 @@ use Rattle.ynl_container_table.specs.Table.{IsRising}
 use Rattle.ynl_inventory.specs.Rows.{Rows, PartitionRow, NodeRow}
 use Rattle.ynl_inventory.specs.Meaning.{label_at, placed_of, partition_of, node_of, leaf_numbers, state_of}
 use Rattle.ynl_inventory.specs.Changes.{ticked, next_clock as next_of_row, next_clock_at, with_changed}
+use Rattle.ynl_inventory.specs.Apps.{HasOneMasterEach}
 use Rattle.ynl_inventory.specs.Sound.{IsFor, HasPartition, IsContainer, IsPartition, IsNode, IsSound}
 use Rattle.ynl_inventory.proofs.Lookups.{row_after, still-found, was-found, read-after, changed-distinct, map-changed}
 use Rattle.ynl_inventory.proofs.Naming.{node_name-changed, placed-same, node-same}
@@ -73,16 +74,18 @@ module _ (v : Rows) (p node : ℕ) (change : List (ℕ × Container) → List (�
     pub record AreContainers : Type 0 where
       pub numbers : HasDistinctNumbers (change row.containers)
       pub rising : IsRising (change row.containers)
+      pub masters : HasOneMasterEach (change row.containers)
       pub each : (n : ℕ) (c : Container) → lookup (nat_eq n) (change row.containers) ≡ Some c → IsContainer v p (next_of_row row) c
 
     kept : (q shown later : ℕ) (c : Container) → IsContainer v q shown c → shown ≤ later → IsContainer after q later c
-    kept q shown later c is more = kept-container v after many q shown later c is more is.app (nodes c.node)
+    kept q shown later c is more = kept-container v after many q shown later c is more (λ app found. (app, found, refl)) (nodes c.node)
 
     own-partition : AreContainers → IsPartition after p (ticked change row)
     own-partition are = record {
       numbers = are.numbers;
       rising = are.rising;
       clock = rises-within row.limit row.clock (sound.partitions p row there).clock;
+      masters = are.masters;
       each = λ n c found. kept p (next_of_row row) (next_of_row row) c (are.each n c found) (omega arith);
     }
 
@@ -91,6 +94,7 @@ module _ (v : Rows) (p node : ℕ) (change : List (ℕ × Container) → List (�
       numbers = is.numbers;
       rising = is.rising;
       clock = is.clock;
+      masters = is.masters;
       each = λ n c found. kept q other.clock other.clock c (is.each n c found) (omega arith);
     }
 
@@ -105,7 +109,7 @@ module _ (v : Rows) (p node : ℕ) (change : List (ℕ × Container) → List (�
 
     -- and are still those of the configuration
     pub changed-for : (c : Config) → IsFor c v → IsFor c after
-    changed-for c is = moved-for v p (ticked change) (λ row. refl) after.nodes c (λ row. refl) is
+    changed-for c is = moved-for v p (ticked change) (λ row. refl) after.nodes c (λ row. refl) (λ row. refl) is
 
     module _ (c : Config) (is : IsFor c v) where
       module _ (stops : List StopRow) (maxima : List MaximumRow) where

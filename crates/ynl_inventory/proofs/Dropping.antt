@@ -14,7 +14,7 @@ use Rattle.ynl_inventory.specs.Rows.{Rows, PartitionRow, NodeRow}
 use Rattle.ynl_inventory.specs.Changes.{with_at, partition_of_node, with_left, with_dropped, with_node_gone}
 use Rattle.ynl_inventory.specs.Sound.{IsFor, IsPartition, IsSound}
 use Rattle.ynl_inventory.proofs.Updates.{each-number}
-use Rattle.ynl_inventory.proofs.Filters.{filter-distinct, filter-lookup, filter-rising}
+use Rattle.ynl_inventory.proofs.Filters.{filter-distinct, filter-lookup, filter-masters, filter-rising}
 use Rattle.ynl_inventory.proofs.Kept.{kept-container}
 use Rattle.ynl_inventory.proofs.PartitionChange.{many, each-partition, moved-sound, moved-for}
 use Rattle.ynl_inventory.proofs.Leaving.{left-sound}
@@ -53,9 +53,10 @@ module _ (v : Rows) (sound : IsSound v) (p : ℕ) (row : PartitionRow) (there : 
     numbers = filter-distinct test other.containers is.numbers;
     rising = filter-rising test other.containers is.rising;
     clock = is.clock;
+    masters = filter-masters test other.containers is.numbers is.masters;
     each = λ n c at.
         let was = is.each n c (filter-lookup test n c other.containers is.numbers at).0 in
-        kept-container v after (many v p drop (λ row. refl) v.nodes) q other.clock other.clock c was (omega arith) was.app (λ node found. (node, found, refl));
+        kept-container v after (many v p drop (λ row. refl) v.nodes) q other.clock other.clock c was (omega arith) (λ app found. (app, found, refl)) (λ node found. (node, found, refl));
   }
 
   whole : (q : ℕ) (other : PartitionRow) → IsPartition v q other → IsPartition after q other
@@ -63,9 +64,10 @@ module _ (v : Rows) (sound : IsSound v) (p : ℕ) (row : PartitionRow) (there : 
     numbers = is.numbers;
     rising = is.rising;
     clock = is.clock;
+    masters = is.masters;
     each = λ n c at.
         let was = is.each n c at in
-        kept-container v after (many v p drop (λ row. refl) v.nodes) q other.clock other.clock c was (omega arith) was.app (λ node found. (node, found, refl));
+        kept-container v after (many v p drop (λ row. refl) v.nodes) q other.clock other.clock c was (omega arith) (λ app found. (app, found, refl)) (λ node found. (node, found, refl));
   }
 
   -- the rows stay sound
@@ -77,7 +79,7 @@ module _ (v : Rows) (sound : IsSound v) (p : ℕ) (row : PartitionRow) (there : 
 
   -- and are still those of the configuration
   pub dropped-for : (c : Config) → IsFor c v → IsFor c after
-  dropped-for c is = moved-for v p drop (λ row. refl) v.nodes c (λ row. refl) is
+  dropped-for c is = moved-for v p drop (λ row. refl) v.nodes c (λ row. refl) (λ row. refl) is
 
   -- a container that went before its node went with it
   pub dropped-left : (node : ℕ) (nrow : NodeRow) → lookup (nat_eq node) v.nodes ≡ Some nrow → (gone : Container) → lookup (nat_eq number) row.containers ≡ Some gone → gone.node ≡ node

@@ -67,7 +67,7 @@ module _ (a : Inside) (inv : IsInventory a) (p number : ℕ) (part : Partition) 
       partitions : map partition_row (slice_set a.partitions.items p new) ≡ (with_dropped p number before).partitions
       partitions =
           map-set partition_row (λ row. record row { containers = without number row.containers }) a.partitions.items p part new there
-          (λ i. record { label = is.label i; limit = is.limit i; clock = is.clock i; containers = is.out.entries i })
+          (λ i. record { label = is.label i; guests = is.out.guests i; limit = is.limit i; clock = is.clock i; containers = is.out.entries i })
 
       row-at : lookup (nat_eq held.node) before.nodes ≡ Some (node_row row)
       row-at = lookup-of_rows node_row held.node a.nodes ∙ ap (option_map node_row) at

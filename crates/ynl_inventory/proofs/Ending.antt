@@ -1,5 +1,5 @@
 -- A container ends: the rows stay sound, and mean what the model's end of it gives.
-use Rattle.std.proofs.Common.{◌≡◌, ◌≢◌, ◌==◌, ◌&&◌, ℕ, Bool, true, false, cond, List, [], map, slice_get, Some, None, nat_eq, refl, sym, ap, ◌∙◌, arith}
+use Rattle.std.proofs.Common.{◌≡◌, ◌≢◌, ◌==◌, ◌&&◌, ℕ, Bool, true, false, not, cond, List, [], map, slice_get, Some, None, nat_eq, refl, sym, ap, ◌∙◌, arith}
 use Rattle.std.specs.Map.{lookup}
 use Rattle.std.specs.Option.{option_map_or}
 use Rattle.std.proofs.lemmas.Bool.{and_from, and_parts}
@@ -25,6 +25,7 @@ use Rattle.ynl_inventory.specs.Sound.{IsFor, IsContainer, IsPartition, IsSound}
 use Rattle.ynl_inventory.proofs.Clocks.{rising-numbers}
 use Rattle.ynl_inventory.proofs.Updates.{each-number, without-number}
 use Rattle.ynl_inventory.proofs.Finding.{not-true}
+use Rattle.ynl_inventory.proofs.Filters.{filter-masters}
 use Rattle.ynl_inventory.proofs.Kept.{kept-container}
 use Rattle.ynl_inventory.proofs.Containers.{AreContainers, rises-more, changed-sound, changed-for, changed-means}
 
@@ -39,12 +40,13 @@ module _ (v : Rows) (sound : IsSound v) (p : ℕ) (row : PartitionRow) (there : 
       go : (b : Bool) → cond b None (lookup (nat_eq n) row.containers) ≡ Some c → IsContainer v p (next_of_row row) c
       go true e = absurd (none-some c e)
       go false e =
-          kept-container v v refl p row.clock (next_of_row row) c (old-partition.each n c e) (rises-more row.limit row.clock) (old-partition.each n c e).app (λ other at. (other, at, refl))
+          kept-container v v refl p row.clock (next_of_row row) c (old-partition.each n c e) (rises-more row.limit row.clock) (λ app at. (app, at, refl)) (λ other at. (other, at, refl))
 
   containers : AreContainers v p gone.node (without number) sound row there
   containers = record {
     numbers = distinct_without number row.containers old-partition.numbers;
     rising = rising_without number row.containers old-partition.rising;
+    masters = filter-masters (λ e. not (nat_eq number e.0)) row.containers old-partition.numbers old-partition.masters;
     each = each-left;
   }
 

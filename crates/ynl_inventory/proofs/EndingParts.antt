@@ -1,12 +1,13 @@
 -- A container ends: what the parts give before, and how they go together after.
 use Rattle.std.proofs.Common.{◌≡◌, ◌≢◌, ℕ, true, false, cond, is_some, IsSome, List, [], ◌∷◌, map, slice_get, Option, Some, None, option_map, nat_eq, refl, sym, ap, subst, ◌∙◌}
 use Rattle.std.specs.Prelude.{slice_set, unwrap_or}
+use Rattle.std.specs.List.{AllByRecursion}
 use Rattle.std.specs.Map.{lookup}
 use Rattle.std.specs.Option.{option_map_or, option_and_then}
 use Rattle.std.proofs.lemmas.Option.{none-some, same_Some, slice_get-map}
 use Rattle.ynl_resource.specs.Amounts.{nothing, plus, less, fits_in, IsSmall}
 use Rattle.ynl_model.specs.Nodes.{rises}
-use Rattle.ynl_slots.specs.Slots.{Numbered, IsLive, with_row, without}
+use Rattle.ynl_slots.specs.Slots.{Numbered, HasDistinctNumbers, IsLive, with_row, without}
 use Rattle.ynl_slots.specs.declared.chain.Chain.{Chain}
 use Rattle.ynl_slots.specs.Chain.{first_or}
 use Rattle.ynl_slots.proofs.Entries.{itself, other}
@@ -20,19 +21,22 @@ use Rattle.ynl_container_table.specs.declared.container.Role.TheVariants.{Master
 use Rattle.ynl_container_table.specs.Chains.{numbers_of, IsNodeChain, IsAppChain, KeepsNodes, KeepsApps}
 use Rattle.ynl_container_table.specs.Fields.{of_rows}
 use Rattle.ynl_container_table.proofs.Numbers.{none_from_numbers}
+use Rattle.ynl_container_table.proofs.Removing.{at_live}
 use Rattle.ynl_container_table.proofs.Rows.{lookup-of_rows}
 use Rattle.ynl_inventory.specs.declared.partition.Partition.{Partition}
 use Rattle.ynl_inventory.specs.declared.inventory.Inventory.TheInside.{Inside}
-use Rattle.ynl_inventory.specs.Rows.{Rows, PartitionRow, NodeRow}
+use Rattle.ynl_inventory.specs.Rows.{Rows, PartitionRow, NodeRow, AppRow}
 use Rattle.ynl_inventory.specs.Changes.{with_at, ticked, next_clock, next_clock_at, with_ended}
-use Rattle.ynl_inventory.specs.Sound.{IsSound, IsPartition, IsContainer}
+use Rattle.ynl_inventory.specs.Apps.{is_master_role, master_in}
+use Rattle.ynl_inventory.specs.Sound.{IsRole, IsSound, IsPartition, IsContainer}
 use Rattle.ynl_inventory.specs.Parts.{held_of, partition_row, node_row, app_row, released_part, held_at, used_of, AreLinked, IsInventory}
 use Rattle.ynl_inventory.proofs.Lookups.{live-found}
 use Rattle.ynl_inventory.proofs.Updates.{at-number}
+use Rattle.ynl_inventory.proofs.Masters.{not-own, no-master, master-left, master-goes}
 use Rattle.ynl_inventory.proofs.Ending.{ended-sound}
 use Rattle.ynl_inventory.proofs.Used.{used-without, nothing-plus, given-back, fits-less, small-back}
-use Rattle.ynl_inventory.proofs.PartLists.{unmapped, map-set, of_rows-changed, of_rows-kept, chain-same, chain-other}
-use Rattle.ynl_inventory.proofs.PartsChange.{IsRight, IsTouched, still-linked}
+use Rattle.ynl_inventory.proofs.PartLists.{unmapped, map-set, of_rows-changed, of_rows-kept, chain-same, chain-other, live-row}
+use Rattle.ynl_inventory.proofs.PartsChange.{IsRight, IsTouched, more-places, still-linked}
 
 -- an application that has a container has a place for its chain
 chain-place : (a : Inside) (app p : ℕ) (entries : List (ℕ × Container)) (chains : List (ℕ × Chain)) (number : ℕ) (held : Container) → lookup (nat_eq number) entries ≡ Some held → held.app ≡ app
@@ -136,6 +140,7 @@ held-is a p number part held there found =
 
 -- a container is out of its partition
 pub record IsOut (number : ℕ) (held : Container) (old new : Partition) (of_node of_app : Chain) : Type 0 where
+  pub guests : new.guests ≡ old.guests
   pub entries : new.containers.entries ≡ without number old.containers.entries
   pub node_chain : IsNodeChain new.containers of_node held.node
   pub app_chain : IsAppChain new.containers of_app held.app
@@ -153,6 +158,14 @@ pub record IsEnded (number : ℕ) (held : Container) (old new : Partition) (of_n
 released-row : (r : Role) (chains : List (ℕ × Chain) → List (ℕ × Chain)) (part : AppPart) → app_row (released_part r (record part { chains = chains part.chains })) ≡ app_row part
 released-row Master chains part = refl
 released-row (Asked p priority) chains part = refl
+
+released-asks : (P : ℕ → Type 0) (r : Role) (part : AppPart) → AllByRecursion (λ ask. P ask.partition) part.asks → AllByRecursion (λ ask. P ask.partition) (released_part r part).asks
+released-asks P Master part each = each
+released-asks P (Asked p priority) part each = each
+
+released-home : (r : Role) (part : AppPart) → (released_part r part).home ≡ part.home
+released-home Master part = refl
+released-home (Asked p priority) part = refl
 
 released-chains : (r : Role) (part : AppPart) → (released_part r part).chains ≡ part.chains
 released-chains Master part = refl
@@ -199,6 +212,37 @@ module _ (a : Inside) (inv : IsInventory a) (p number : ℕ) (part : Partition) 
       ∙ ap (λ b. plus (used_of (without number part.containers.entries) n) (cond b held.size nothing)) (other held.node n (λ same. apart (sym same)))
       ∙ nothing-plus (used_of (without number part.containers.entries) n))
 
+  distinct : HasDistinctNumbers part.containers.entries
+  distinct = (is-partition a inv p number part there held found).numbers
+
+  -- the masters of other applications stay
+  masters : (n : ℕ) → n ≢ held.app → master_in n new.containers.entries ≡ master_in n part.containers.entries
+  masters n apart = ap (master_in n) is.entries ∙ master-left number held part.containers.entries distinct found n (not-own n number held (λ same. apart (sym same)))
+
+  -- its own goes, if it was the container
+  own-master : (r : AppPart) → lookup (nat_eq held.app) a.apps.entries ≡ Some r → r.home ≡ p → (released_one r).master ≡ master_in held.app new.containers.entries
+  own-master r its home = go held.role refl
+    where
+      go : (s : Role) → held.role ≡ s → (released_part s (record r { chains = with_row p of_app r.chains })).master ≡ master_in held.app new.containers.entries
+      go Master role =
+          sym
+          (ap (master_in held.app) is.entries
+          ∙ master-goes number held part.containers.entries distinct found (ap is_master_role role) (is-partition a inv p number part there held found).masters)
+      go (Asked q priority) role =
+          inv.linked.master held.app r part its (ap (slice_get a.partitions.items) home ∙ there)
+          ∙ sym (ap (master_in held.app) is.entries ∙ master-left number held part.containers.entries distinct found held.app (no-master held.app number held (ap is_master_role role)))
+
+  away : (r : AppPart) → lookup (nat_eq held.app) a.apps.entries ≡ Some r → r.home ≢ p → (released_one r).master ≡ r.master
+  away r its apart = go held.role (on a inv p number part there held found).role
+    where
+      go : (s : Role) → IsRole (held_of a).rows p held.app s → (released_part s (record r { chains = with_row p of_app r.chains })).master ≡ r.master
+      go Master home =
+          absurd
+          (apart
+          (at_live (λ (row : AppRow). row.home ≡ p) (lookup (nat_eq held.app) (held_of a).rows.apps) (app_row r) home
+          (lookup-of_rows app_row held.app a.apps.entries ∙ ap (option_map app_row) its)))
+      go (Asked q priority) home = refl
+
   touched : (r : AppPart) → lookup (nat_eq held.app) a.apps.entries ≡ Some r → IsTouched p held.app new released_one r
   touched r its = record {
     chain =
@@ -206,6 +250,13 @@ module _ (a : Inside) (inv : IsInventory a) (p number : ℕ) (part : Partition) 
         (sym (ap (chain_of p) (released-chains held.role (record r { chains = with_row p of_app r.chains })) ∙ chain-same p of_app r.chains (place a inv p number part there held found r its)))
         is.app_chain;
     others = λ q apart. ap (chain_of q) (released-chains held.role (record r { chains = with_row p of_app r.chains })) ∙ chain-other p q of_app r.chains apart;
+    home = released-home held.role (record r { chains = with_row p of_app r.chains });
+    master = own-master r its;
+    away = away r its;
+    places = λ partitions.
+        more-places partitions r (released_one r) (released-home held.role (record r { chains = with_row p of_app r.chains }))
+        (λ q live. subst (IsLive q) (sym (released-chains held.role (record r { chains = with_row p of_app r.chains }))) (live-row q p of_app r.chains live))
+        (λ P each. released-asks P held.role (record r { chains = with_row p of_app r.chains }) each);
   }
 
   -- and the parts go together
@@ -213,8 +264,8 @@ module _ (a : Inside) (inv : IsInventory a) (p number : ℕ) (part : Partition) 
   out-linked =
       subst (λ (apps : Numbered AppPart). AreLinked (slice_set a.partitions.items p new) nodes' apps.entries) (sym apps-are)
       (subst (λ nodes. AreLinked (slice_set a.partitions.items p new) nodes (with_change held.app released_one a.apps.entries)) (sym nodes-are)
-      (still-linked a.partitions.items a.nodes a.apps.entries inv.linked p part new there held.node row at (stands a inv p number part there held found row at) freed_one (λ r. refl) (λ r. refl)
-      own-right others-use held.app released_one touched is.nodes is.apps))
+      (still-linked a.partitions.items a.nodes a.apps.entries inv.linked p part new there is.guests held.node row at (stands a inv p number part there held found row at) freed_one (λ r. refl) (λ r. refl)
+      own-right others-use held.app released_one touched masters is.nodes is.apps))
 
 module _ (a : Inside) (inv : IsInventory a) (p number : ℕ) (part : Partition) (there : slice_get a.partitions.items p ≡ Some part) (held : Container) (found : lookup (nat_eq number) part.containers.entries ≡ Some held)
     (row : NodePart) (at : lookup (nat_eq held.node) a.nodes ≡ Some row) (new : Partition) (of_node of_app : Chain) (is : IsEnded number held part new of_node of_app)
@@ -228,7 +279,7 @@ module _ (a : Inside) (inv : IsInventory a) (p number : ℕ) (part : Partition) 
   clock-is = is.clock ∙ sym (ap (λ o. option_map_or next_clock o 0) (row-there a inv p number part there held found))
 
   part-is : partition_row new ≡ ticked (without number) (partition_row part)
-  part-is = λ i. record { label = is.label i; limit = is.limit i; clock = is.clock i; containers = is.out.entries i }
+  part-is = λ i. record { label = is.label i; guests = is.out.guests i; limit = is.limit i; clock = is.clock i; containers = is.out.entries i }
 
   abbrev rows_after : Rows
   rows_after = record {

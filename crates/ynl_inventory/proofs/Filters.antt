@@ -12,6 +12,7 @@ use Rattle.ynl_resource.specs.Names.{same_name}
 use Rattle.ynl_slots.specs.Slots.{HasDistinctNumbers}
 use Rattle.ynl_container_table.specs.declared.container.Container.{Container}
 use Rattle.ynl_container_table.specs.Table.{IsRising}
+use Rattle.ynl_inventory.specs.Apps.{HasOneMasterEach}
 use Rattle.ynl_inventory.proofs.Updates.{later-found, unused-apart}
 
 module _ {X : Type 0} (test : ℕ × X → Bool) where
@@ -56,6 +57,10 @@ module _ {X : Type 0} (test : ℕ × X → Bool) where
         rest,
       )
       go false rest = rest
+
+-- no two are masters of one application
+pub filter-masters : (test : ℕ × Container → Bool) (es : List (ℕ × Container)) → HasDistinctNumbers es → HasOneMasterEach es → HasOneMasterEach (filter test es)
+filter-masters test es distinct one n m c d at there = one n m c d (filter-lookup test n c es distinct at).0 (filter-lookup test m d es distinct there).0
 
 -- clocks still rise
 pub filter-rising : (test : ℕ × Container → Bool) (es : List (ℕ × Container)) → IsRising es → IsRising (filter test es)

@@ -14,6 +14,7 @@ use Rattle.ynl_model.specs.declared.queues.StopRow.{StopRow}
 use Rattle.ynl_model.specs.declared.queues.MaximumRow.{MaximumRow}
 use Rattle.ynl_model.specs.Applications.{Application, in_leaf, finished}
 use Rattle.ynl_laws.specs.Numbers.{Differ}
+use Rattle.ynl_laws.proofs.Lists.{Pairs-filter}
 use Rattle.ynl_laws.proofs.Names.{same-name_self}
 use Rattle.ynl_layout.specs.Paths.{path_at}
 use Rattle.ynl_slots.specs.Slots.{IsLive, without}
@@ -25,6 +26,7 @@ use Rattle.ynl_submissions.specs.Submissions.{with_finished}
 use Rattle.ynl_inventory.specs.Rows.{Rows, PartitionRow, AppRow}
 use Rattle.ynl_inventory.specs.Meaning.{app_name, application_of, leaf_of, live_of, owner_of, partition_of, placed_of, state_of, submitted_in, submitted_to, tenant_at}
 use Rattle.ynl_inventory.specs.Changes.{with_app_gone}
+use Rattle.ynl_inventory.specs.Apps.{IsBefore}
 use Rattle.ynl_inventory.specs.Sound.{IsApp, IsPartition, IsSound, IsSubmission, IsTenant}
 use Rattle.ynl_inventory.proofs.Lookups.{each-place, length-at, place-there}
 use Rattle.ynl_inventory.proofs.Updates.{each-number}
@@ -271,7 +273,9 @@ module _ (v : Rows) (app : ℕ) (arow : AppRow) (sound : IsSound v) (found : loo
       numbers = is.numbers;
       rising = is.rising;
       clock = is.clock;
-      each = λ n c at. kept-container v after refl p r.clock r.clock c (is.each n c at) (omega arith) (other-live c.app (none p r there n c at) (is.each n c at).app) (λ node there. (node, there, refl));
+      masters = is.masters;
+      each = λ n c at.
+          kept-container v after refl p r.clock r.clock c (is.each n c at) (omega arith) (λ row was. (row, other-found c.app (none p r there n c at) ∙ was, refl)) (λ node there. (node, there, refl));
     }
 
     -- the rows stay sound
@@ -287,6 +291,7 @@ module _ (v : Rows) (app : ℕ) (arow : AppRow) (sound : IsSound v) (found : loo
       nodes = λ n r at. sound.nodes n r at;
       app_numbers = distinct_without app v.apps sound.app_numbers;
       apps = each-app;
+      order = Pairs-filter IsBefore (λ e. not (nat_eq app e.0)) v.apps sound.order;
       many = length-at arow.tenant (with_finished arow.turn) v.tenants ∙ sound.many;
       tenants = each-tenant;
       users = sound.users;

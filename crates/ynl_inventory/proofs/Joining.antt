@@ -45,7 +45,7 @@ module _ (v : Rows) (sound : IsSound v) (number : ℕ) (name : Name) (p : ℕ) (
   -- a container that is there stays there
   kept : (q shown later : ℕ) (c : Container) → IsContainer v q shown c → shown ≤ later → IsContainer after q later c
   kept q shown later c is more =
-      kept-container v after (many v p (ticked same) (λ row. refl) after.nodes) q shown later c is more is.app
+      kept-container v after (many v p (ticked same) (λ row. refl) after.nodes) q shown later c is more (λ app found. (app, found, refl))
       (λ row found. (row, pushed-live c.node number new v.nodes (found-live c.node row v.nodes found) ∙ found, refl))
 
   partition-kept : (q shown : ℕ) (other : PartitionRow) → IsPartition v q other → other.clock ≤ shown → shown ≤ other.limit → IsPartition after q (record other { clock = shown })
@@ -53,6 +53,7 @@ module _ (v : Rows) (sound : IsSound v) (number : ℕ) (name : Name) (p : ℕ) (
     numbers = is.numbers;
     rising = is.rising;
     clock = within;
+    masters = is.masters;
     each = λ n c found. kept q other.clock shown c (is.each n c found) more;
   }
 
@@ -79,7 +80,7 @@ module _ (v : Rows) (sound : IsSound v) (number : ℕ) (name : Name) (p : ℕ) (
 
   -- and are still those of the configuration
   pub joined-for : (c : Config) → IsFor c v → IsFor c after
-  joined-for c is = moved-for v p (ticked same) (λ row. refl) after.nodes c (λ row. refl) is
+  joined-for c is = moved-for v p (ticked same) (λ row. refl) after.nodes c (λ row. refl) (λ row. refl) is
 
   labels-stay : (q : ℕ) → label_at after.partitions q ≡ label_at v.partitions q
   labels-stay = labels v p (ticked same) (λ row. refl) after.nodes

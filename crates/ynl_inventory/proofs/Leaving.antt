@@ -26,7 +26,7 @@ use Rattle.ynl_inventory.specs.Sound.{IsFor, IsContainer, IsPartition, IsNode, I
 use Rattle.ynl_inventory.proofs.Lookups.{place-there}
 use Rattle.ynl_inventory.proofs.Naming.{node_name-without, placed-same, node-same, partition-same}
 use Rattle.ynl_inventory.proofs.Updates.{update-place, without-number, each-number}
-use Rattle.ynl_inventory.proofs.Filters.{filter-distinct, filter-lookup, filter-differ, filter-rising, filter-means}
+use Rattle.ynl_inventory.proofs.Filters.{filter-distinct, filter-lookup, filter-differ, filter-masters, filter-rising, filter-means}
 use Rattle.ynl_inventory.proofs.Finding.{own-label, other-label, other-name}
 use Rattle.ynl_inventory.proofs.Kept.{kept-container}
 use Rattle.ynl_inventory.proofs.PartitionChange.{many, labels, leaf-stays, each-partition, moved-sound, moved-for}
@@ -61,7 +61,7 @@ module _ (v : Rows) (sound : IsSound v) (node : ℕ) (nrow : NodeRow) (found : l
   -- a container on another node stays
   kept : (q shown : ℕ) (c : Container) → c.node ≢ node → IsContainer v q shown c → IsContainer after q shown c
   kept q shown c apart is =
-      kept-container v after left-many q shown shown c is (omega arith) is.app
+      kept-container v after left-many q shown shown c is (omega arith) (λ app at. (app, at, refl))
       (λ row at. (row, lookup-without-other c.node node v.nodes apart ∙ at, refl))
 
   own-kept : IsPartition v p own.0 → IsPartition after p (emptied own.0)
@@ -69,6 +69,7 @@ module _ (v : Rows) (sound : IsSound v) (node : ℕ) (nrow : NodeRow) (found : l
     numbers = filter-distinct (λ e. not (nat_eq e.1.node node)) own.0.containers is.numbers;
     rising = filter-rising (λ e. not (nat_eq e.1.node node)) own.0.containers is.rising;
     clock = is.clock;
+    masters = filter-masters (λ e. not (nat_eq e.1.node node)) own.0.containers is.numbers is.masters;
     each = λ n c at.
         let was = filter-lookup (λ e. not (nat_eq e.1.node node)) n c own.0.containers is.numbers at in
         kept p own.0.clock c (grind (arith, nat_tests, was.1)) (is.each n c was.0);
@@ -85,6 +86,7 @@ module _ (v : Rows) (sound : IsSound v) (node : ℕ) (nrow : NodeRow) (found : l
     numbers = is.numbers;
     rising = is.rising;
     clock = is.clock;
+    masters = is.masters;
     each = λ n c at. kept q row.clock c (elsewhere q apart row.clock c (is.each n c at)) (is.each n c at);
   }
 
@@ -106,7 +108,7 @@ module _ (v : Rows) (sound : IsSound v) (node : ℕ) (nrow : NodeRow) (found : l
 
   -- and are still those of the configuration
   pub left-for : (c : Config) → IsFor c v → IsFor c after
-  left-for c is = moved-for v p emptied (λ row. refl) after.nodes c (λ row. refl) is
+  left-for c is = moved-for v p emptied (λ row. refl) after.nodes c (λ row. refl) (λ row. refl) is
 
   -- ---- what they mean
 

@@ -2,6 +2,8 @@ pub mod Lookups
 pub mod Naming
 pub mod Updates
 pub mod Finding
+pub mod Asked
+pub mod Masters
 pub mod Kept
 pub mod PartitionChange
 pub mod Containers
@@ -37,3 +39,11 @@ pub mod DroppingParts
 pub mod AppParts
 pub mod ChainsRead
 pub mod ChainsFollowed
+pub mod MastersRead
+pub mod ChainPlaces
+pub mod AskParts
+pub mod SubmitParts
+pub mod KnownUsers
+pub mod NamesRead
+pub mod PlacedRead
+pub mod Results

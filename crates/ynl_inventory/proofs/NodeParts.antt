@@ -64,6 +64,8 @@ module _ (a : Inside) (node : ℕ) (nodes' : List (ℕ × NodePart)) (is : nodes
     free = λ n row part found at. linked.free n row part (found-without n node row a.nodes found) at;
     fits = λ n row part found at. linked.fits n row part (found-without n node row a.nodes found) at;
     small = λ n row found. linked.small n row (found-without n node row a.nodes found);
+    master = linked.master;
+    places = linked.places;
   })
 
   -- and their invariant holds
@@ -207,7 +209,7 @@ module _ (a : Inside) (inv : IsInventory a) (p : ℕ) (part : Partition) (there 
       (λ n c found. let on = is.each n c found in live-apart c.node number v.nodes (found-live c.node on.node v.nodes on.node_found) unused)
 
   linked-before : AreLinked (slice_set a.partitions.items p new) a.nodes a.apps.entries
-  linked-before = room-linked a.partitions.items p part new there refl a.nodes a.apps.entries inv.linked
+  linked-before = room-linked a.partitions.items p part new there refl refl a.nodes a.apps.entries inv.linked
 
   cases : (n : ℕ) (r : NodePart) → lookup (nat_eq n) (a.nodes ++ (number, row) ∷ []) ≡ Some r → ((n ≡ number) × (r ≡ row)) ⊎ (lookup (nat_eq n) a.nodes ≡ Some r)
   cases n r found =
@@ -244,4 +246,6 @@ module _ (a : Inside) (inv : IsInventory a) (p : ℕ) (part : Partition) (there 
               | inl own ↦ subst (λ (s : NodePart). IsSmall s.size) (sym own.1) (size-small size is-size)
               | inr was ↦ linked-before.small n r was
             ];
+        master = linked-before.master;
+        places = linked-before.places;
       })

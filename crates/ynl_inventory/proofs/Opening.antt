@@ -13,6 +13,7 @@ use Rattle.ynl_model.specs.declared.labels.LabelRow.{LabelRow}
 use Rattle.ynl_model.specs.Accepted.{all_differ}
 use Rattle.ynl_model.specs.Applications.{LeafApps}
 use Rattle.ynl_model.specs.Nodes.{Labels, clock_limit, partition_labels}
+use Rattle.ynl_model.specs.Service.{takes_guests}
 use Rattle.ynl_model.specs.Queues.{Config, QueueRow, is_leaf}
 use Rattle.ynl_laws.specs.Working.{Pairs}
 use Rattle.ynl_laws.proofs.Lists.{Each-map, Each-all, all-of, map-map}
@@ -107,6 +108,10 @@ module _ (c : Config) where
         all-of (λ (row : PartitionRow). row.limit ≡ clock_limit c.labels row.label) v.partitions
         (Each-map (λ (label : Label). ⊤) (λ (row : PartitionRow). row.limit ≡ clock_limit c.labels row.label) (opening_partition c.labels) (λ label _. refl) (partition_labels c.labels)
         (Each-all (λ (label : Label). ⊤) (λ label. tt) (partition_labels c.labels)));
+    guests =
+        all-of (λ (row : PartitionRow). row.guests ≡ takes_guests c row.label) v.partitions
+        (Each-map (λ (label : Label). ⊤) (λ (row : PartitionRow). row.guests ≡ takes_guests c row.label) (opening_partition c.labels) (λ label _. refl) (partition_labels c.labels)
+        (Each-all (λ (label : Label). ⊤) (λ label. tt) (partition_labels c.labels)));
     paths = refl;
   }
 
@@ -116,7 +121,7 @@ module _ (c : Config) where
       subst (IsPartition v p) label.2 (empty label.0)
     where
       empty : (label : Label) → IsPartition v p (opening_partition c.labels label)
-      empty label = record { numbers = tt; rising = tt; clock = omega arith; each = λ n held found. absurd (none-some held found) }
+      empty label = record { numbers = tt; rising = tt; clock = omega arith; masters = λ n m c d found. absurd (none-some c found); each = λ n held found. absurd (none-some held found) }
 
   is-tenant : (t : ℕ) (entries : List (Name × Submission)) → slice_get v.tenants t ≡ Some entries → IsTenant v t entries
   is-tenant t entries at =
@@ -136,6 +141,7 @@ module _ (c : Config) where
     nodes = λ n row found. absurd (none-some row found);
     app_numbers = tt;
     apps = λ n row found. absurd (none-some row found);
+    order = tt;
     many = length-replicate (length (root ∷ paths_of c)) [];
     tenants = is-tenant;
     users = tt;

@@ -1,5 +1,5 @@
 -- Lists of parts: what is set in a place or changed under a number, and what it means.
-use Rattle.std.proofs.Common.{◌≡◌, ◌≢◌, ℕ, zero, suc, Bool, true, false, cond, List, [], ◌∷◌, map, slice_get, Option, Some, None, option_map, nat_eq, refl, sym, ap, ◌∙◌, inl, inr}
+use Rattle.std.proofs.Common.{◌≡◌, ◌≢◌, ℕ, zero, suc, Bool, true, false, cond, List, [], ◌∷◌, map, slice_get, Option, Some, None, is_some, option_map, nat_eq, refl, sym, ap, ◌∙◌, inl, inr}
 use Rattle.std.specs.Prelude.{slice_set, unwrap_or}
 use Rattle.std.specs.Map.{lookup}
 use Rattle.std.proofs.lemmas.Bool.{cases_eq}
@@ -68,6 +68,15 @@ chain-same p chain chains live =
 pub chain-other : (p q : ℕ) (chain : Chain) (chains : List (ℕ × Chain)) → q ≢ p → chain_of q (with_row p chain chains) ≡ chain_of q chains
 chain-other p q chain chains apart =
     ap (λ o. unwrap_or o no_chain) (lookup-with_row q p chain chains ∙ ap (λ b. cond b (option_map (λ _. chain) (lookup (nat_eq q) chains)) (lookup (nat_eq q) chains)) (other q p apart))
+
+-- a chain that is set leaves the places
+pub live-row : (q p : ℕ) (chain : Chain) (chains : List (ℕ × Chain)) → IsLive q chains → IsLive q (with_row p chain chains)
+live-row q p chain chains live = ap is_some (lookup-with_row q p chain chains) ∙ go (nat_eq q p) (lookup (nat_eq q) chains) ∙ live
+  where
+    go : (b : Bool) (o : Option Chain) → is_some (cond b (option_map (λ _. chain) o) o) ≡ is_some o
+    go true None = refl
+    go true (Some old) = refl
+    go false o = refl
 
 -- a change that leaves what rows mean
 pub of_rows-kept : {X Y : Type 0} (f : X → Y) (g : X → X) (n : ℕ) (es : List (ℕ × X)) → ((x : X) → f (g x) ≡ f x) → of_rows f (with_change n g es) ≡ of_rows f es

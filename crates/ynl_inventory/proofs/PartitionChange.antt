@@ -11,6 +11,7 @@ use Rattle.ynl_slots.proofs.Lists.{all_from}
 use Rattle.ynl_slots.specs.Slots.{HasDistinctNumbers}
 use Rattle.ynl_model.specs.Nodes.{clock_limit}
 use Rattle.ynl_model.specs.Queues.{Config}
+use Rattle.ynl_model.specs.Service.{takes_guests}
 use Rattle.ynl_submissions.specs.declared.submissions.Submission.{Submission}
 use Rattle.ynl_inventory.specs.Rows.{Rows, PartitionRow, NodeRow, AppRow}
 use Rattle.ynl_inventory.specs.Meaning.{label_at, live_of, leaf_of, submitted_in}
@@ -18,7 +19,7 @@ use Rattle.ynl_inventory.specs.Changes.{with_at}
 use Rattle.ynl_inventory.specs.Sound.{IsFor, IsPartition, IsNode, IsApp, IsSubmission, IsTenant, IsSound}
 use Rattle.ynl_inventory.proofs.Lookups.{at-same, at-other, length-at, map-at, each-at}
 use Rattle.ynl_inventory.proofs.Naming.{label-at, live-same}
-use Rattle.ynl_inventory.proofs.Kept.{kept-partition, kept-asked}
+use Rattle.ynl_inventory.proofs.Kept.{kept-partition}
 
 module _ (v : Rows) (p : ℕ) (change : PartitionRow → PartitionRow) (keeps : (row : PartitionRow) → (change row).label ≡ row.label) (nodes : List (ℕ × NodeRow)) where
   abbrev after : Rows
@@ -47,7 +48,7 @@ module _ (v : Rows) (p : ℕ) (change : PartitionRow → PartitionRow) (keeps : 
     user = is.user;
     home = kept-partition v after many row.home is.home;
     asks = is.asks;
-    asked = kept-asked v after many row.asks is.asked;
+    asked = is.asked;
   }
 
   submission-kept : (t turn : ℕ) (s : Submission) → IsSubmission v t turn s → IsSubmission after t turn s
@@ -84,16 +85,18 @@ module _ (v : Rows) (p : ℕ) (change : PartitionRow → PartitionRow) (keeps : 
     nodes = λ n row found. kept-partition v after many row.partition (each n row found);
     app_numbers = sound.app_numbers;
     apps = λ n row found. app-kept n row (sound.apps n row found);
+    order = sound.order;
     many = sound.many;
     tenants = λ t entries at. tenant-kept t entries (sound.tenants t entries at);
     users = sound.users;
   }
 
   -- they are still those of the configuration
-  pub moved-for : (c : Config) → ((row : PartitionRow) → (change row).limit ≡ row.limit) → IsFor c v → IsFor c after
-  moved-for c limit is = record {
+  pub moved-for : (c : Config) → ((row : PartitionRow) → (change row).limit ≡ row.limit) → ((row : PartitionRow) → (change row).guests ≡ row.guests) → IsFor c v → IsFor c after
+  moved-for c limit guests is = record {
     labels = map-at (λ row. row.label) p change keeps v.partitions ∙ is.labels;
     limits = all-of IsLimit after.partitions (each-at IsLimit p change still v.partitions (all_from IsLimit v.partitions is.limits));
+    guests = all-of TakesGuests after.partitions (each-at TakesGuests p change still-takes v.partitions (all_from TakesGuests v.partitions is.guests));
     paths = is.paths;
   }
     where
@@ -102,3 +105,9 @@ module _ (v : Rows) (p : ℕ) (change : PartitionRow → PartitionRow) (keeps : 
 
       still : (row : PartitionRow) → IsLimit row → IsLimit (change row)
       still row h = limit row ∙ h ∙ ap (clock_limit c.labels) (sym (keeps row))
+
+      TakesGuests : PartitionRow → Type 0
+      TakesGuests = λ row. row.guests ≡ takes_guests c row.label
+
+      still-takes : (row : PartitionRow) → TakesGuests row → TakesGuests (change row)
+      still-takes row h = guests row ∙ h ∙ ap (takes_guests c) (sym (keeps row))

@@ -1,8 +1,9 @@
 -- A container is placed: the rows stay sound, and mean what the model's placement gives.
-use Rattle.std.proofs.Common.{◌≡◌, is_some, not, ◌<◌, ◌+◌, ℕ, Bool, true, false, cond, nat_lt, List, [], ◌∷◌, ◌++◌, map, slice_get, Some, nat_eq, refl, sym, ap, subst, ◌∙◌, arith}
-use Rattle.std.specs.List.{All}
+use Rattle.std.proofs.Common.{◌≡◌, is_some, IfSome, find, ◌<◌, ◌+◌, ℕ, Bool, true, false, cond, nat_lt, List, [], ◌∷◌, ◌++◌, map, slice_get, Some, None, nat_eq, refl, sym, ap, subst, ◌∙◌, arith, true≢false}
+use Rattle.std.specs.List.{All, AllByRecursion, list_any}
 use Rattle.std.specs.Map.{lookup}
 use Rattle.std.specs.Option.{option_map_or}
+use Rattle.std.proofs.lemmas.Bool.{and_from}
 use Rattle.std.proofs.lemmas.Bool.Decides.{nat_tests}
 use Rattle.std.proofs.lemmas.List.{map-append}
 use Rattle.std.proofs.lemmas.Option.{same_Some}
@@ -19,26 +20,28 @@ use Rattle.ynl_model.specs.Cluster.{State, next_clock}
 use Rattle.ynl_model.specs.Changes.{changed_at, container_of, place, taken}
 use Rattle.ynl_layout.specs.Paths.{path_at}
 use Rattle.ynl_slots.specs.Slots.{IsUnused}
-use Rattle.ynl_slots.proofs.Entries.{distinct_push}
+use Rattle.ynl_slots.proofs.Entries.{distinct_push, itself}
 use Rattle.ynl_slots.proofs.Lookups.{lookup-push}
 use Rattle.ynl_container_table.specs.declared.container.Container.{Container}
 use Rattle.ynl_container_table.specs.declared.container.Role.{Role}
 use Rattle.ynl_container_table.specs.declared.container.Role.TheVariants.{Master, Ask as Asked}
-use Rattle.ynl_resource.specs.Tables.{update}
-use Rattle.ynl_laws.proofs.Lists.{Each-filter, Each-update, all-of}
+use Rattle.ynl_laws.proofs.Lists.{all-of, none-found}
 use Rattle.ynl_slots.proofs.Lists.{all_from}
-use Rattle.ynl_app_table.specs.Asks.{AreAsks, is_ask_of, is_spent, lowered, with_one_taken}
+use Rattle.ynl_app_table.specs.Asks.{AreAsks}
 use Rattle.ynl_app_table.proofs.Asking.{asks_taken}
 use Rattle.ynl_container_table.specs.Table.{IsAbove}
 use Rattle.ynl_container_table.proofs.Clocks.{rising_push}
-use Rattle.ynl_inventory.specs.Rows.{Rows, NodeRow, AppRow}
+use Rattle.ynl_inventory.specs.Rows.{Rows, PartitionRow, NodeRow, AppRow}
 use Rattle.ynl_inventory.specs.Meaning.{node_name, owner_of, app_name, what_of, placed_of, application_of, node_of, item_of, state_of}
 use Rattle.ynl_inventory.specs.Changes.{next_clock as next_of_row, partition_of_node, next_container, with_changed, with_taken, with_placed}
-use Rattle.ynl_inventory.specs.Sound.{IsFor, HasPartition, IsRole, IsContainer, IsPartition, IsPlaceable, IsSound}
+use Rattle.ynl_inventory.specs.Apps.{HasOneMasterEach, containers_of, is_master_role, is_master_of}
+use Rattle.ynl_inventory.specs.Sound.{IsFor, HasPartition, IsAskedOn, IsRole, CanTake, IsContainer, IsPartition, IsApp, IsPlaceable, IsSound}
 use Rattle.ynl_inventory.proofs.Naming.{taken-tenant, taken-turn, taken-leaf, taken-user, taken-home, what-same}
-use Rattle.ynl_inventory.proofs.Updates.{each-number}
+use Rattle.ynl_inventory.proofs.Updates.{each-number, at-number}
 use Rattle.ynl_inventory.proofs.Finding.{own-label, next-at}
-use Rattle.ynl_inventory.proofs.Kept.{kept-container, kept-role, kept-asked}
+use Rattle.ynl_inventory.proofs.Asked.{asked-there, ask-there, one-taken}
+use Rattle.ynl_inventory.proofs.Masters.{none-passes}
+use Rattle.ynl_inventory.proofs.Kept.{kept-partition, kept-container, kept-role}
 use Rattle.ynl_inventory.proofs.Containers.{AreContainers, rises-more, labels, many, changed-sound, changed-for, changed-means}
 use Rattle.ynl_inventory.proofs.AppChange.{LeavesOwner, app-sound, app-means}
 use Rattle.ynl_inventory.proofs.Tenants.{owner-named}
@@ -47,23 +50,20 @@ use Rattle.ynl_inventory.proofs.Asking.{app-taken}
 -- ---- one less is asked for
 
 -- as in the model
-taken-means : (v : Rows) → IsSound v → (r : Role) (name : Name) (row : AppRow) → IsRole v r → All (λ ask. HasPartition v ask.partition) row.asks
+taken-means : (v : Rows) → IsSound v → (p app : ℕ) (r : Role) (name : Name) (row : AppRow) → IsRole v p app r → All (λ ask. HasPartition v ask.partition) row.asks
     → application_of v name (with_taken r row) ≡ taken (what_of v.partitions r) (application_of v name row)
-taken-means v sound Master name row is asked = refl
-taken-means v sound (Asked p priority) name row is asked = app-taken v sound p priority is name row (all_from (λ ask. HasPartition v ask.partition) row.asks asked)
+taken-means v sound p app Master name row is asked = refl
+taken-means v sound p app (Asked asked-on priority) name row is asked = app-taken v sound asked-on priority is name row (all_from (λ ask. HasPartition v ask.partition) row.asks asked)
 
 -- what is still asked for is sound
 taken-asks : (r : Role) (row : AppRow) → AreAsks row.asks → AreAsks (with_taken r row).asks
 taken-asks Master row is = is
 taken-asks (Asked p priority) row is = asks_taken p priority row.asks is
 
--- and for partitions that are there
-taken-asked : (v : Rows) (r : Role) (row : AppRow) → All (λ ask. HasPartition v ask.partition) row.asks → All (λ ask. HasPartition v ask.partition) (with_taken r row).asks
-taken-asked v Master row is = is
-taken-asked v (Asked p priority) row is =
-    all-of (λ ask. HasPartition v ask.partition) (with_one_taken p priority row.asks)
-    (Each-filter (λ ask. HasPartition v ask.partition) (λ ask. not (is_spent p priority ask)) (update (is_ask_of p priority) lowered row.asks)
-    (Each-update (λ ask. HasPartition v ask.partition) (is_ask_of p priority) lowered (λ ask h. h) row.asks (all_from (λ ask. HasPartition v ask.partition) row.asks is)))
+-- and where it was
+pub taken-asked : (P : ℕ → Type 0) (r : Role) (row : AppRow) → AllByRecursion (λ ask. P ask.partition) row.asks → AllByRecursion (λ ask. P ask.partition) (with_taken r row).asks
+taken-asked P Master row is = is
+taken-asked P (Asked p priority) row is = one-taken P p priority row.asks is
 
 -- the taking of an ask leaves all else of an application
 pub taken-leaves : (r : Role) → LeavesOwner (with_taken r)
@@ -105,20 +105,33 @@ module _ (v : Rows) (sound : IsSound v) (number node app : ℕ) (r : Role) (size
       each-number (λ n c. c.clock < new.clock) can.partition.containers old-partition.numbers
       (λ n c found. omega (arith, (old-partition.each n c found).clock, clock, rose))
 
+  its : IsApp v app can.app_row
+  its = sound.apps app can.app_row can.app_found
+
+  has-asked : All (λ ask. HasPartition v ask.partition) can.app_row.asks
+  has-asked = asked-there v sound can.app_row.home its.home can.app_row.asks its.asked
+
+  is-role : IsRole v p app r
+  is-role = go r can.role
+    where
+      go : (s : Role) → CanTake v app can.node_row.partition can.partition.guests can.app_row s → IsRole v p app s
+      go Master takes = subst (λ o. IfSome o (λ (row : AppRow). row.home ≡ p)) (sym can.app_found) (takes.0 ∙ stands)
+      go (Asked asked priority) takes = ask-there (HasPartition v) asked priority can.app_row.asks (all_from (λ ask. HasPartition v ask.partition) can.app_row.asks has-asked) takes.0
+
   is-new : IsContainer v p (next_of_row can.partition) new
   is-new = record {
     app = ap is_some can.app_found;
     node = can.node_row;
     node_found = can.node_found;
     node_there = stands;
-    role = can.role;
+    role = is-role;
     clock = omega (arith, clock);
   }
 
   is-old : (n : ℕ) (c : Container) → lookup (nat_eq n) can.partition.containers ≡ Some c → IsContainer v p (next_of_row can.partition) c
   is-old n c found =
       kept-container v v refl p can.partition.clock (next_of_row can.partition) c (old-partition.each n c found) (rises-more can.partition.limit can.partition.clock)
-      (old-partition.each n c found).app (λ row at. (row, at, refl))
+      (λ row at. (row, at, refl)) (λ row at. (row, at, refl))
 
   each-new : (n : ℕ) (c : Container) → lookup (nat_eq n) (can.partition.containers ++ (number, new) ∷ []) ≡ Some c → IsContainer v p (next_of_row can.partition) c
   each-new n c found = go (nat_eq n number) (sym (lookup-push n number new can.partition.containers unused) ∙ found)
@@ -127,10 +140,48 @@ module _ (v : Rows) (sound : IsSound v) (number node app : ℕ) (r : Role) (size
       go true e = subst (IsContainer v p (next_of_row can.partition)) (same_Some new c e) is-new
       go false e = is-old n c e
 
+  -- a master is placed only where its application has none
+  pub none-yet : is_master_role r ≡ true → find (is_master_of app) can.partition.containers ≡ None
+  none-yet master = go r can.role master
+    where
+      go : (s : Role) → CanTake v app can.node_row.partition can.partition.guests can.app_row s → is_master_role s ≡ true → find (is_master_of app) can.partition.containers ≡ None
+      go Master takes is =
+          let here : containers_of v can.app_row.home ≡ can.partition.containers =
+          ap (containers_of v) (takes.0 ∙ stands) ∙ ap (λ o. option_map_or (λ (row : PartitionRow). row.containers) o []) there
+          in
+          none-passes (is_master_of app) can.partition.containers (sym (ap (list_any (is_master_of app)) here) ∙ takes.1)
+      go (Asked asked priority) takes is = absurd (true≢false (sym is))
+
+  alone : (m : ℕ) (d : Container) → lookup (nat_eq m) can.partition.containers ≡ Some d → is_master_role r ≡ true → is_master_role d.role ≡ true → d.app ≡ app → ⊥
+  alone m d at master other same =
+      let none = none-found (is_master_of app) can.partition.containers (none-yet master) in
+      let fails : is_master_of app (m, d) ≡ false = at-number (λ m d. is_master_of app (m, d) ≡ false) can.partition.containers m d none at in
+      true≢false (sym (and_from (is_master_role d.role) (nat_eq d.app app) other (ap (λ n. nat_eq n app) same ∙ itself app)) ∙ fails)
+
+  masters : HasOneMasterEach (push can.partition.containers)
+  masters n m c d at there-m own other same =
+      go (nat_eq n number) refl (sym (lookup-push n number new can.partition.containers unused) ∙ at)
+      (nat_eq m number) refl (sym (lookup-push m number new can.partition.containers unused) ∙ there-m)
+    where
+      is-number : (k : ℕ) → nat_eq k number ≡ true → k ≡ number
+      is-number k q = grind (arith, nat_tests, q)
+
+      go : (a : Bool) → nat_eq n number ≡ a → cond a (Some new) (lookup (nat_eq n) can.partition.containers) ≡ Some c
+          → (b : Bool) → nat_eq m number ≡ b → cond b (Some new) (lookup (nat_eq m) can.partition.containers) ≡ Some d → n ≡ m
+      go true p e true q f = is-number n p ∙ sym (is-number m q)
+      go true p e false q f =
+          let is : new ≡ c = same_Some new c e in
+          absurd (alone m d f (ap (λ (c : Container). is_master_role c.role) is ∙ own) other (sym same ∙ ap (λ (c : Container). c.app) (sym is)))
+      go false p e true q f =
+          let is : new ≡ d = same_Some new d f in
+          absurd (alone n c e (ap (λ (c : Container). is_master_role c.role) is ∙ other) own (same ∙ ap (λ (c : Container). c.app) (sym is)))
+      go false p e false q f = old-partition.masters n m c d e f own other same
+
   containers : AreContainers v p node push sound can.partition there
   containers = record {
     numbers = distinct_push number new can.partition.containers unused old-partition.numbers;
     rising = rising_push number new can.partition.containers old-partition.rising above;
+    masters = masters;
     each = each-new;
   }
 
@@ -141,14 +192,15 @@ module _ (v : Rows) (sound : IsSound v) (number node app : ℕ) (r : Role) (size
   pub placed-sound : IsSound (with_placed number node app r size v)
   placed-sound =
       app-sound changed app (with_taken r) (taken-leaves r) changed-kept can.app_row can.app_found
-      (taken-asks r can.app_row (sound.apps app can.app_row can.app_found).asks)
-      (kept-asked v changed (many v p node push) (with_taken r can.app_row).asks (taken-asked v r can.app_row (sound.apps app can.app_row can.app_found).asked))
+      (taken-asks r can.app_row its.asks)
+      (all-of (λ ask. IsAskedOn can.app_row.home ask.partition) (with_taken r can.app_row).asks
+      (taken-asked (IsAskedOn can.app_row.home) r can.app_row (all_from (λ ask. IsAskedOn can.app_row.home ask.partition) can.app_row.asks its.asked)))
 
   -- and are still those of the configuration
   pub placed-for : (c : Config) → IsFor c v → IsFor c (with_placed number node app r size v)
   placed-for c is =
       let kept = changed-for v p node push sound can.partition there c is in
-      record { labels = kept.labels; limits = kept.limits; paths = kept.paths }
+      record { labels = kept.labels; limits = kept.limits; guests = kept.guests; paths = kept.paths }
 
   module _ (c : Config) (is : IsFor c v) (stops : List StopRow) (maxima : List MaximumRow) where
     abbrev s : State
@@ -196,8 +248,9 @@ module _ (v : Rows) (sound : IsSound v) (number node app : ℕ) (r : Role) (size
     taken-is : application_of changed (app_name v.tenants can.app_row.tenant can.app_row.turn) (with_taken r can.app_row)
         ≡ taken (what_of v.partitions r) (application_of changed (app_name v.tenants can.app_row.tenant can.app_row.turn) can.app_row)
     taken-is =
-        taken-means changed changed-kept r (app_name v.tenants can.app_row.tenant can.app_row.turn) can.app_row (kept-role v changed (many v p node push) r can.role)
-        (kept-asked v changed (many v p node push) can.app_row.asks (sound.apps app can.app_row can.app_found).asked)
+        taken-means changed changed-kept p app r (app_name v.tenants can.app_row.tenant can.app_row.turn) can.app_row
+        (kept-role v changed (many v p node push) app (ap is_some can.app_found) (λ row at. (row, at, refl)) p r is-role)
+        (asked-there changed changed-kept can.app_row.home (kept-partition v changed (many v p node push) can.app_row.home its.home) can.app_row.asks its.asked)
         ∙ ap (λ w. taken w (application_of changed (app_name v.tenants can.app_row.tenant can.app_row.turn) can.app_row)) (what-same v changed (labels v p node push) r)
 
     -- the application's leaf changes

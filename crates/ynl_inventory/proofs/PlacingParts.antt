@@ -1,6 +1,8 @@
 -- A container is placed: what the parts give before, and how they go together after.
-use Rattle.std.proofs.Common.{◌≡◌, ◌≢◌, ◌<◌, ◌+◌, ℕ, true, cond, nat_lt, is_some, List, [], ◌∷◌, ◌++◌, map, length, slice_get, Some, option_map, nat_eq, refl, sym, ap, subst, ◌∙◌, arith}
+use Rattle.std.proofs.Common.{◌≡◌, ◌≢◌, ◌<◌, ◌+◌, ◌^◌, ℕ, true, cond, find, nat_lt, is_some, IfSome, List, [], ◌∷◌, ◌++◌, map, length, slice_get, Some, None, option_map, nat_eq, refl, sym, ap, subst, ◌∙◌, arith, inl, inr}
+use mathlib.Core.Logic.{◌⊎◌}
 use Rattle.std.specs.Prelude.{slice_set}
+use Rattle.std.specs.List.{AllByRecursion}
 use Rattle.std.specs.Map.{lookup}
 use Rattle.std.specs.Option.{option_map_or}
 use Rattle.std.proofs.lemmas.Bool.Decides.{nat_tests}
@@ -9,6 +11,7 @@ use Rattle.ynl_resource.specs.Amounts.{nothing, plus, less, fits_in}
 use Rattle.ynl_slots.specs.Slots.{Numbered, IsLive, IsUnused, with_row}
 use Rattle.ynl_slots.specs.declared.chain.Chain.{Chain}
 use Rattle.ynl_slots.proofs.Entries.{itself, other}
+use Rattle.ynl_slots.proofs.Lists.{all_from}
 use Rattle.ynl_node_table.specs.declared.nodes.NodeRow.{NodeRow as NodePart}
 use Rattle.ynl_app_table.specs.declared.app.AppRow.{AppRow as AppPart}
 use Rattle.ynl_app_table.specs.Apps.{with_change, with_app}
@@ -24,14 +27,17 @@ use Rattle.ynl_container_table.proofs.Removing.{at_live}
 use Rattle.ynl_inventory.specs.declared.partition.Placement.{Placement}
 use Rattle.ynl_inventory.specs.declared.partition.Partition.{Partition}
 use Rattle.ynl_inventory.specs.declared.inventory.Inventory.TheInside.{Inside}
-use Rattle.ynl_inventory.specs.Rows.{Rows, PartitionRow, NodeRow}
+use Rattle.ynl_inventory.specs.Rows.{Rows, PartitionRow, NodeRow, AppRow}
 use Rattle.ynl_inventory.specs.Changes.{with_at, ticked, next_clock, next_clock_at, next_container, partition_of_node, with_taken, with_placed}
-use Rattle.ynl_inventory.specs.Sound.{IsSound, IsPartition}
-use Rattle.ynl_inventory.specs.Parts.{held_of, partition_row, node_row, app_row, placed_on, taken_part, used_of, free_of, AreLinked, IsInventory, CanPlace}
-use Rattle.ynl_inventory.proofs.Placing.{placed-sound}
+use Rattle.ynl_inventory.specs.Apps.{is_master_role, is_master_of, master_in}
+use Rattle.ynl_inventory.specs.Sound.{CanTake, IsAskedOn, IsApp, IsSound, IsPartition}
+use Rattle.ynl_inventory.specs.Parts.{held_of, partition_row, node_row, app_row, placed_on, taken_part, used_of, free_of, HasGuestPlaces, HasPlaces, AreLinked, IsInventory, CanPlace}
+use Rattle.ynl_inventory.proofs.Asked.{ask-there, one-taken}
+use Rattle.ynl_inventory.proofs.Masters.{not-own, no-master, master-stays, master-comes}
+use Rattle.ynl_inventory.proofs.Placing.{none-yet, placed-sound}
 use Rattle.ynl_inventory.proofs.Used.{fits-left, less-twice, used-push, nothing-plus}
-use Rattle.ynl_inventory.proofs.PartLists.{unmapped, map-set, of_rows-changed, chain-same, chain-other}
-use Rattle.ynl_inventory.proofs.PartsChange.{IsRight, IsTouched, still-linked}
+use Rattle.ynl_inventory.proofs.PartLists.{unmapped, map-set, of_rows-changed, chain-same, chain-other, live-row}
+use Rattle.ynl_inventory.proofs.PartsChange.{IsRight, IsTouched, more-places, still-linked}
 use Rattle.ynl_inventory.proofs.Updates.{each-number}
 
 -- ---- before
@@ -113,11 +119,39 @@ module _ (a : Inside) (inv : IsInventory a) (placed : Placement) (can : CanPlace
       pub app-chain : IsAppChain part.containers (chain_of row.partition arow.chains) placed.app
       app-chain = inv.linked.app placed.app arow row.partition part app-at there
 
-      pub has-place : IsLive row.partition arow.chains
-      has-place =
-          subst (λ p. IsLive p arow.chains) stands
-          (at_live (λ chains. IsLive (partition_of_node v.nodes placed.node) chains) (lookup (nat_eq placed.app) (held_of a).chains) arow.chains can.chain
-          (lookup-of_rows (λ (r : AppPart). r.chains) placed.app a.apps.entries ∙ ap (option_map (λ (r : AppPart). r.chains)) app-at))
+      app-row-at : lookup (nat_eq placed.app) v.apps ≡ Some (app_row arow)
+      app-row-at = lookup-of_rows app_row placed.app a.apps.entries ∙ ap (option_map app_row) app-at
+
+      its : IsApp v placed.app (app_row arow)
+      its = inv.sound.apps placed.app (app_row arow) app-row-at
+
+      places : HasPlaces a.partitions.items arow
+      places = inv.linked.places placed.app arow app-at
+
+      takes : CanTake v placed.app row.partition part.guests (app_row arow) placed.role
+      takes =
+          subst (λ (r : AppRow). CanTake v placed.app row.partition part.guests r placed.role) (sym (same_Some (app_row arow) can.placeable.app_row (sym app-row-at ∙ can.placeable.app_found)))
+          (subst (λ (r : PartitionRow). CanTake v placed.app row.partition r.guests can.placeable.app_row placed.role) (sym is-part)
+          (subst (λ (r : NodeRow). CanTake v placed.app r.partition can.placeable.partition.guests can.placeable.app_row placed.role) (sym is-row) can.placeable.role))
+
+      -- the application has a place for the chain: at home, where it asks, or where it comes as a guest
+      pub has-place : row.partition < 2 ^ 8 → IsLive row.partition arow.chains
+      has-place small = go placed.role takes
+        where
+          at-own : (p : ℕ) → IsAskedOn arow.home p → IsLive p arow.chains
+          at-own p (inl home) = subst (λ p. IsLive p arow.chains) (sym home) places.home
+          at-own p (inr default) = subst (λ p. IsLive p arow.chains) (sym default) places.default
+
+          go : (s : Role) → CanTake v placed.app row.partition part.guests (app_row arow) s → IsLive row.partition arow.chains
+          go Master can = subst (λ p. IsLive p arow.chains) can.0 places.home
+          go (Asked asked priority) can = on can.1
+            where
+              on : (asked ≡ row.partition) ⊎ ((asked ≡ 0) × (part.guests ≡ true)) → IsLive row.partition arow.chains
+              on (inl same) =
+                  subst (λ p. IsLive p arow.chains) same
+                  (at-own asked (ask-there (IsAskedOn arow.home) asked priority arow.asks (all_from (λ ask. IsAskedOn arow.home ask.partition) arow.asks its.asked) can.0))
+              on (inr guest) =
+                  ask-there (λ p. p ≡ 0 → HasGuestPlaces a.partitions.items arow.chains) asked priority arow.asks places.guests can.0 guest.0 row.partition part small there guest.1
 
 -- ---- after
 
@@ -127,15 +161,26 @@ taken-row : (r : Role) (number : ℕ) (chains : List (ℕ × Chain) → List (�
 taken-row Master number chains part = refl
 taken-row (Asked p priority) number chains part = refl
 
--- and keeps its chains
+-- and keeps its home
+taken-home : (r : Role) (number : ℕ) (part : AppPart) → (taken_part r number part).home ≡ part.home
+taken-home Master number part = refl
+taken-home (Asked p priority) number part = refl
+
+-- and its chains
 taken-chains : (r : Role) (number : ℕ) (part : AppPart) → (taken_part r number part).chains ≡ part.chains
 taken-chains Master number part = refl
 taken-chains (Asked p priority) number part = refl
+
+-- and asks on no more partitions
+taken-asks : (P : ℕ → Type 0) (r : Role) (number : ℕ) (part : AppPart) → AllByRecursion (λ ask. P ask.partition) part.asks → AllByRecursion (λ ask. P ask.partition) (taken_part r number part).asks
+taken-asks P Master number part each = each
+taken-asks P (Asked p priority) number part each = one-taken P p priority part.asks each
 
 -- what `Partition::place` leaves
 pub record IsPlaced (placed : Placement) (number : ℕ) (old new : Partition) (of_node of_app : Chain) : Type 0 where
   pub label : new.label ≡ old.label
   pub limit : new.limit ≡ old.limit
+  pub guests : new.guests ≡ old.guests
   pub clock : new.clock ≡ old.clock + 1
   pub entries : new.containers.entries ≡ old.containers.entries ++ (number, placed_on placed (old.clock + 1)) ∷ []
   pub unused : IsUnused number old.containers.entries
@@ -146,7 +191,8 @@ pub record IsPlaced (placed : Placement) (number : ℕ) (old new : Partition) (o
 
 module _ (a : Inside) (inv : IsInventory a) (placed : Placement) (can : CanPlace (held_of a) placed) (row : NodePart) (at : lookup (nat_eq placed.node) a.nodes ≡ Some row)
     (part : Partition) (there : slice_get a.partitions.items row.partition ≡ Some part)
-    (number : ℕ) (new : Partition) (of_node of_app : Chain) (is : IsPlaced placed number part new of_node of_app) where
+    (number : ℕ) (new : Partition) (of_node of_app : Chain) (is : IsPlaced placed number part new of_node of_app)
+    (place : IfSome (lookup (nat_eq placed.app) a.apps.entries) (λ r. IsLive row.partition r.chains)) where
   abbrev used_one : NodePart → NodePart
   used_one r = record r { containers = of_node; stamp = new.clock; free = less r.free placed.size }
 
@@ -175,7 +221,7 @@ module _ (a : Inside) (inv : IsInventory a) (placed : Placement) (can : CanPlace
   push = λ containers. containers ++ (number, next_container before placed.node placed.app placed.role placed.size) ∷ []
 
   part-is : partition_row new ≡ ticked push (partition_row part)
-  part-is = λ i. record { label = is.label i; limit = is.limit i; clock = ticks i; containers = (is.entries ∙ (λ j. part.containers.entries ++ (number, next-is j) ∷ [])) i }
+  part-is = λ i. record { label = is.label i; guests = is.guests i; limit = is.limit i; clock = ticks i; containers = (is.entries ∙ (λ j. part.containers.entries ++ (number, next-is j) ∷ [])) i }
     where
       ticks : new.clock ≡ next_clock (partition_row part)
       ticks = is.clock ∙ sym clock-is ∙ ap (λ o. option_map_or next_clock o 0) (ap (slice_get before.partitions) p-is ∙ row-there a inv placed can row at part there)
@@ -234,23 +280,70 @@ module _ (a : Inside) (inv : IsInventory a) (placed : Placement) (can : CanPlace
       used-is n ∙ ap (λ b. plus (used_of part.containers.entries n) (cond b placed.size nothing)) (other placed.node n (λ same. apart (sym same)))
       ∙ nothing-plus (used_of part.containers.entries n)
 
+  abbrev container : Container
+  container = placed_on placed (part.clock + 1)
+
+  -- the masters of other applications stay
+  masters : (n : ℕ) → n ≢ placed.app → master_in n new.containers.entries ≡ master_in n part.containers.entries
+  masters n apart =
+      ap (master_in n) is.entries ∙ master-stays number container part.containers.entries n (not-own n number container (λ same. apart (sym same)))
+
+  app-is : (r : AppPart) → lookup (nat_eq placed.app) a.apps.entries ≡ Some r → app_row r ≡ can.placeable.app_row
+  app-is r found = let its = own-app a inv placed can row at in ap app_row (same_Some r its.0 (sym found ∙ its.1)) ∙ its.2
+
+  none-there : is_master_role placed.role ≡ true → find (is_master_of placed.app) part.containers.entries ≡ None
+  none-there master =
+      let own = is-part a inv placed can row at part there in
+      ap (λ (r : PartitionRow). find (is_master_of placed.app) r.containers) own
+      ∙ none-yet before inv.sound number placed.node placed.app placed.role placed.size can.placeable (subst (λ (r : PartitionRow). IsUnused number r.containers) own is.unused) master
+
+  -- its own is the container, or stays
+  own-master : (r : AppPart) → lookup (nat_eq placed.app) a.apps.entries ≡ Some r → r.home ≡ row.partition → (taken_one r).master ≡ master_in placed.app new.containers.entries
+  own-master r found home = go placed.role refl
+    where
+      go : (s : Role) → placed.role ≡ s → (taken_part s number (record r { chains = with_row row.partition of_app r.chains })).master ≡ master_in placed.app new.containers.entries
+      go Master role =
+          let master : is_master_role placed.role ≡ true = ap is_master_role role in
+          sym (ap (master_in placed.app) is.entries ∙ master-comes number container part.containers.entries master (none-there master))
+      go (Asked q priority) role =
+          inv.linked.master placed.app r part found (ap (slice_get a.partitions.items) home ∙ there)
+          ∙ sym (ap (master_in placed.app) is.entries ∙ master-stays number container part.containers.entries placed.app (no-master placed.app number container (ap is_master_role role)))
+
+  away : (r : AppPart) → lookup (nat_eq placed.app) a.apps.entries ≡ Some r → r.home ≢ row.partition → (taken_one r).master ≡ r.master
+  away r found apart = go placed.role can.placeable.role
+    where
+      go : (s : Role) → CanTake before placed.app can.placeable.node_row.partition can.placeable.partition.guests can.placeable.app_row s
+          → (taken_part s number (record r { chains = with_row row.partition of_app r.chains })).master ≡ r.master
+      go Master able =
+          absurd (apart (ap (λ (r : AppRow). r.home) (app-is r found) ∙ able.0 ∙ ap (λ (r : NodeRow). r.partition) (sym (is-row a inv placed can row at))))
+      go (Asked q priority) able = refl
+
   touched : (r : AppPart) → lookup (nat_eq placed.app) a.apps.entries ≡ Some r → IsTouched row.partition placed.app new taken_one r
   touched r found = record {
     chain =
         subst (λ chain. IsAppChain new.containers chain placed.app)
         (sym
         (ap (chain_of row.partition) (taken-chains placed.role number (record r { chains = with_row row.partition of_app r.chains }))
-        ∙ chain-same row.partition of_app r.chains (has-place a inv placed can row at part there r found)))
+        ∙ chain-same row.partition of_app r.chains (at_live (λ (r : AppPart). IsLive row.partition r.chains) (lookup (nat_eq placed.app) a.apps.entries) r place found)))
         is.app_chain;
     others = λ q apart.
         ap (chain_of q) (taken-chains placed.role number (record r { chains = with_row row.partition of_app r.chains })) ∙ chain-other row.partition q of_app r.chains apart;
+    home = taken-home placed.role number (record r { chains = with_row row.partition of_app r.chains });
+    master = own-master r found;
+    away = away r found;
+    places = λ partitions.
+        more-places partitions r (taken_one r) (taken-home placed.role number (record r { chains = with_row row.partition of_app r.chains }))
+        (λ q live.
+        subst (IsLive q) (sym (taken-chains placed.role number (record r { chains = with_row row.partition of_app r.chains })))
+        (live-row q row.partition of_app r.chains live))
+        (λ P each. taken-asks P placed.role number (record r { chains = with_row row.partition of_app r.chains }) each);
   }
 
   -- the parts go together
   pub parts-linked : AreLinked (slice_set a.partitions.items row.partition new) (with_change placed.node used_one a.nodes) (with_change placed.app taken_one a.apps.entries)
   parts-linked =
-      still-linked a.partitions.items a.nodes a.apps.entries inv.linked row.partition part new there placed.node row at refl used_one (λ r. refl) (λ r. refl) own-right others-use placed.app
-      taken_one touched is.nodes is.apps
+      still-linked a.partitions.items a.nodes a.apps.entries inv.linked row.partition part new there is.guests placed.node row at refl used_one (λ r. refl) (λ r. refl) own-right others-use placed.app
+      taken_one touched masters is.nodes is.apps
 
   -- and the rows are sound
   pub rows-sound : IsSound (with_placed number placed.node placed.app placed.role placed.size before)

@@ -12,7 +12,9 @@ use Rattle.ynl_app_table.specs.Chains.{chain_of}
 use Rattle.ynl_container_table.specs.Table.{Table}
 use Rattle.ynl_container_table.specs.Chains.{IsNodeChain, IsAppChain}
 use Rattle.ynl_inventory.specs.declared.partition.Partition.{Partition}
+use Rattle.ynl_inventory.specs.Apps.{master_in}
 use Rattle.ynl_inventory.specs.Parts.{Held, LeavesRoom, held_of, partition_row, used_of, AreLinked}
+use Rattle.ynl_inventory.proofs.PartsChange.{same-places}
 use Rattle.ynl_inventory.proofs.PartLists.{set-cases, set-same, set-other}
 
 -- a part that is set and means the same leaves what all mean
@@ -25,11 +27,11 @@ module _ (items : List Partition) (p : ℕ) (part new : Partition) (there : slic
     (same : new.containers ≡ record part.containers { room = new.containers.room }) where
   -- the rows stay
   pub room-rows : new ≡ record part { containers = new.containers } → map partition_row (slice_set items p new) ≡ map partition_row items
-  room-rows own = map-kept partition_row items p part new there (ap partition_row own ∙ (λ i. record { label = part.label; limit = part.limit; clock = part.clock; containers = (same i).entries }))
+  room-rows own = map-kept partition_row items p part new there (ap partition_row own ∙ (λ i. record { label = part.label; guests = part.guests; limit = part.limit; clock = part.clock; containers = (same i).entries }))
 
   -- and the parts still go together
-  pub room-linked : (nodes : List (ℕ × NodePart)) (apps : List (ℕ × AppPart)) → AreLinked items nodes apps → AreLinked (slice_set items p new) nodes apps
-  room-linked nodes apps linked = record {
+  pub room-linked : new.guests ≡ part.guests → (nodes : List (ℕ × NodePart)) (apps : List (ℕ × AppPart)) → AreLinked items nodes apps → AreLinked (slice_set items p new) nodes apps
+  room-linked guests nodes apps linked = record {
     node = λ n r x found here.
         elim (set-cases items p r.partition part new x there here) [
           | inl is ↦
@@ -59,6 +61,14 @@ module _ (items : List Partition) (p : ℕ) (part new : Partition) (there : slic
           | inr elsewhere ↦ linked.fits n r x found elsewhere.1
         ];
     small = linked.small;
+    master = λ n r x found here.
+        elim (set-cases items p r.home part new x there here) [
+          | inl is ↦
+              linked.master n r part found (ap (slice_get items) is.0 ∙ there)
+              ∙ sym (ap (λ (y : Partition). master_in n y.containers.entries) is.1 ∙ ap (λ (t : Table). master_in n t.entries) same)
+          | inr elsewhere ↦ linked.master n r x found elsewhere.1
+        ];
+    places = λ n r found. same-places items p part new there guests r (linked.places n r found);
   }
 
 -- a partition that is there has a part, which is the one that was read

@@ -25,6 +25,7 @@ use Rattle.ynl_submissions.specs.declared.submissions.Submission.{Submission}
 use Rattle.ynl_inventory.specs.Rows.{Rows, PartitionRow, AppRow}
 use Rattle.ynl_inventory.specs.Meaning.{app_name, application_of, has_none_below, label_at, leaf_of, live_of, owner_of, partition_of, placed_of, state_of, submitted_in, submitted_to, tenant_at}
 use Rattle.ynl_inventory.specs.Changes.{new_app, with_at, with_submitted}
+use Rattle.ynl_inventory.specs.Apps.{IsBefore}
 use Rattle.ynl_inventory.specs.Sound.{HasPartition, IsApp, IsPartition, IsSound, IsSubmission, IsTenant}
 use Rattle.ynl_inventory.proofs.Lookups.{each-place, length-at, place-push, place-there, pushed-live}
 use Rattle.ynl_inventory.proofs.Naming.{app_name-push, live-same, owner-same, placed-same}
@@ -228,8 +229,15 @@ module _ (v : Rows) (number : ℕ) (name : Name) (tenant leaf user home : ℕ) (
       numbers = is.numbers;
       rising = is.rising;
       clock = is.clock;
-      each = λ n c at. kept-container v after refl p r.clock r.clock c (is.each n c at) (omega arith) (live-old c.app (is.each n c at).app) (λ node there. (node, there, refl));
+      masters = is.masters;
+      each = λ n c at.
+          kept-container v after refl p r.clock r.clock c (is.each n c at) (omega arith) (λ app there. (app, found-old c.app (is.each n c at).app ∙ there, refl)) (λ node there. (node, there, refl));
     }
+
+    -- the tenant's other applications have lower turns
+    came-before : (n : ℕ) (r : AppRow) → lookup (nat_eq n) v.apps ≡ Some r → r.tenant ≡ tenant → r.turn < length entries
+    came-before n r at same =
+        slice_get_within entries r.turn _ (ap (λ (k : ℕ). slice_get (submitted_to v.tenants k) r.turn) (sym same) ∙ (sound.apps n r at).submitted)
 
     -- the rows stay sound
     pub submitted-sound : IsSound after
@@ -244,6 +252,7 @@ module _ (v : Rows) (number : ℕ) (name : Name) (tenant leaf user home : ℕ) (
       nodes = λ n r at. sound.nodes n r at;
       app_numbers = distinct_push number row v.apps new.unused sound.app_numbers;
       apps = each-app;
+      order = Pairs-last IsBefore v.apps (number, row) sound.order (each-number (λ n r. IsBefore (n, r) (number, row)) v.apps sound.app_numbers came-before);
       many = length-at tenant (λ es. es ++ entry ∷ []) v.tenants ∙ sound.many;
       tenants = each-tenant;
       users = sound.users;

@@ -1,9 +1,11 @@
 -- How the rows change.
-use Rattle.std.specs.Prelude.{ℕ, zero, suc, not, nat_eq, List, [], ◌∷◌, ◌++◌, filter, length, slice_get, slice_index_or, Some}
+use Rattle.std.specs.Prelude.{ℕ, zero, suc, not, nat_eq, List, [], ◌∷◌, ◌++◌, filter, length, slice_get, slice_index_or, Some, if◌then◌else◌}
+use Rattle.std.specs.List.{list_any}
 use Rattle.std.specs.Map.{lookup}
 use Rattle.std.specs.Option.{option_map_or}
 use Rattle.ynl_resource.specs.declared.amounts.Resource.{Resource}
 use Rattle.ynl_resource.specs.declared.names.Name.{Name}
+use Rattle.ynl_resource.specs.Names.{same_name}
 use Rattle.ynl_model.specs.Nodes.{rises}
 use Rattle.ynl_slots.specs.Slots.{without}
 use Rattle.ynl_app_table.specs.declared.asks.Ask.{Ask}
@@ -134,3 +136,7 @@ with_app_gone app tenant turn v = record v {
 -- a user has a number
 abbrev pub with_user : Name → Rows → Rows
 with_user name v = record v { users = v.users ++ name ∷ [] }
+
+-- so has it if it has none yet
+abbrev pub with_user_known : Name → Rows → Rows
+with_user_known name v = if list_any (λ other. same_name other name) v.users then v else with_user name v

@@ -26,6 +26,7 @@ use Rattle.ynl_container_table.specs.declared.container.Role.{Role}
 use Rattle.ynl_container_table.specs.declared.container.Role.TheVariants as role
 use Rattle.ynl_container_table.specs.Table.{number_at}
 use Rattle.ynl_submissions.specs.declared.submissions.Submission.{Submission}
+use Rattle.ynl_submissions.specs.Submissions.{turn_of}
 use Rattle.ynl_inventory.specs.Rows.{Rows, PartitionRow, NodeRow, AppRow}
 
 -- ---- names of numbers
@@ -45,6 +46,10 @@ submitted_to tenants t = slice_index_or tenants t []
 -- the name of the application of a tenant and a turn
 abbrev pub app_name : List (List (Name × Submission)) → ℕ → ℕ → Name
 app_name tenants t turn = option_map_or (λ e. e.0) (slice_get (submitted_to tenants t) turn) []
+
+-- the number of the live application of a name, of those that were submitted to a tenant
+abbrev pub app_number : Name → List (Name × Submission) → Option ℕ
+app_number name entries = option_and_then (λ e. e.1.app) (option_and_then (slice_get entries) (turn_of name entries))
 
 -- the name of a tenant
 abbrev pub tenant_name : List Path → ℕ → Name

@@ -1,8 +1,8 @@
 -- The rows of a configuration before any event.
-use Rattle.std.specs.Prelude.{◌≡◌, List, [], ◌∷◌, map, length, replicate}
-use Rattle.ynl_resource.specs.Names.{root}
+use Rattle.std.specs.Prelude.{◌≡◌, not, ◌&&◌, List, [], ◌∷◌, map, length, replicate}
+use Rattle.ynl_resource.specs.Names.{is_default, root}
 use Rattle.ynl_resource.specs.declared.labels.Label.{Label}
-use Rattle.ynl_model.specs.Nodes.{Labels, clock_limit, partition_labels}
+use Rattle.ynl_model.specs.Nodes.{Labels, is_exclusive, clock_limit, partition_labels}
 use Rattle.ynl_model.specs.declared.queues.StopRow.{StopRow}
 use Rattle.ynl_model.specs.declared.queues.MaximumRow.{MaximumRow}
 use Rattle.ynl_model.specs.Cluster.{opening}
@@ -13,7 +13,7 @@ use Rattle.ynl_inventory.specs.Meaning.{state_of}
 
 -- a partition without containers, whose clock shows 0
 abbrev pub opening_partition : Labels → Label → PartitionRow
-opening_partition labels label = record { label = label; limit = clock_limit labels label; clock = 0; containers = [] }
+opening_partition labels label = record { label = label; guests = not (is_default label) && not (is_exclusive labels label); limit = clock_limit labels label; clock = 0; containers = [] }
 
 -- no nodes, applications or containers, and nothing was submitted to any queue
 abbrev pub opening_rows : Config → Rows

@@ -1,5 +1,5 @@
 -- What a cluster holds, as a contract sees it: rows under numbers. A partition's number is its place, DEFAULT first; root's number is 0, and those of the other queues follow in the order of the configuration; a tenant's number is that of its top-level queue.
-use Rattle.std.specs.Prelude.{ℕ, List}
+use Rattle.std.specs.Prelude.{ℕ, Bool, List}
 use Rattle.ynl_resource.specs.declared.amounts.Resource.{Resource}
 use Rattle.ynl_resource.specs.declared.names.Name.{Name}
 use Rattle.ynl_resource.specs.declared.labels.Label.{Label}
@@ -9,9 +9,10 @@ use Rattle.ynl_app_table.specs.declared.app.Tickets.{Tickets}
 use Rattle.ynl_container_table.specs.declared.container.Container.{Container}
 use Rattle.ynl_submissions.specs.declared.submissions.Submission.{Submission}
 
--- a partition: its label, how far its clock goes, what that shows, and the containers there in the order of placement
+-- a partition: its label, whether it takes guests, how far its clock goes, what that shows, and the containers there in the order of placement
 pub record PartitionRow : Type 0 where
   pub label : Label
+  pub guests : Bool
   pub limit : ℕ
   pub clock : ℕ
   pub containers : List (ℕ × Container)

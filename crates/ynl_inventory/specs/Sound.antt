@@ -1,5 +1,5 @@
 -- Which rows are sound: each number names a row, and names are told apart.
-use Rattle.std.specs.Prelude.{◌≡◌, ◌≢◌, ℕ, ◌<◌, ◌≤◌, true, false, nat_eq, List, ◌∷◌, length, map, slice_get, Some, IfSome}
+use Rattle.std.specs.Prelude.{◌≡◌, ◌≢◌, ◌⊎◌, ℕ, ◌<◌, ◌≤◌, Bool, true, false, nat_eq, List, ◌∷◌, length, map, slice_get, Some, None, IsSome, IfSome}
 use Rattle.std.specs.List.{All, AllByRecursion}
 use Rattle.std.specs.Map.{lookup}
 use Rattle.ynl_resource.specs.Names.{same_name, root}
@@ -7,33 +7,49 @@ use Rattle.ynl_resource.specs.declared.names.Name.{Name}
 use Rattle.ynl_resource.specs.declared.labels.Label.TheVariants.{Unlabelled}
 use Rattle.ynl_model.specs.Nodes.{partition_labels, clock_limit}
 use Rattle.ynl_model.specs.Queues.{Config}
+use Rattle.ynl_model.specs.Service.{takes_guests}
 use Rattle.ynl_laws.specs.Numbers.{Differ}
+use Rattle.ynl_laws.specs.Working.{Pairs}
 use Rattle.ynl_layout.specs.Paths.{IsTree, HasNumber, path_at, paths_of}
 use Rattle.ynl_slots.specs.Slots.{HasDistinctNumbers, IsLive, IsUnused}
-use Rattle.ynl_app_table.specs.Asks.{AreAsks}
+use Rattle.ynl_app_table.specs.declared.asks.Ask.{Ask}
+use Rattle.ynl_app_table.specs.Asks.{find_ask, AreAsks}
 use Rattle.ynl_container_table.specs.declared.container.Container.{Container}
 use Rattle.ynl_container_table.specs.declared.container.Role.{Role}
 use Rattle.ynl_container_table.specs.declared.container.Role.TheVariants.{Master, Ask as Asked}
 use Rattle.ynl_container_table.specs.Table.{IsRising}
 use Rattle.ynl_submissions.specs.declared.submissions.Submission.{Submission}
+use Rattle.ynl_submissions.specs.Submissions.{turn_of}
+use Rattle.ynl_inventory.specs.declared.submission.NewSubmission.{NewSubmission}
 use Rattle.ynl_inventory.specs.Rows.{Rows, PartitionRow, NodeRow, AppRow}
 use Rattle.ynl_inventory.specs.Meaning.{has_none_below, label_at, submitted_to, tenant_at}
+use Rattle.ynl_inventory.specs.Apps.{HasOneMasterEach, IsBefore, runs_at}
 
 -- the partitions are those of a configuration, and so are the queues
 pub record IsFor (c : Config) (v : Rows) : Type 0 where
   pub labels : map (λ row. row.label) v.partitions ≡ partition_labels c.labels
   pub limits : All (λ row. row.limit ≡ clock_limit c.labels row.label) v.partitions
+  pub guests : All (λ row. row.guests ≡ takes_guests c row.label) v.partitions
   pub paths : v.paths ≡ paths_of c
+
+-- an application asks on its home partition and on DEFAULT
+abbrev pub IsAskedOn : ℕ → ℕ → Type 0
+IsAskedOn home p = (p ≡ home) ⊎ (p ≡ 0)
 
 module _ (v : Rows) where
   -- there is a partition of this number
   abbrev pub HasPartition : ℕ → Type 0
   HasPartition p = p < length v.partitions
 
-  -- what is asked for is asked for on a partition
-  abbrev pub IsRole : Role → Type 0
-  IsRole Master = Unit {0}
-  IsRole (Asked p priority) = HasPartition p
+  -- on this partition an application's master stands at home, and what was asked for was asked for on a partition
+  abbrev pub IsRole : ℕ → ℕ → Role → Type 0
+  IsRole p app Master = IfSome (lookup (nat_eq app) v.apps) (λ row. row.home ≡ p)
+  IsRole p app (Asked asked priority) = HasPartition asked
+
+  -- what was asked for was asked for on a partition
+  abbrev pub IsAskedThere : Role → Type 0
+  IsAskedThere Master = Unit {0}
+  IsAskedThere (Asked asked priority) = HasPartition asked
 
   -- a node stands in a partition
   abbrev pub IsNode : NodeRow → Type 0
@@ -45,24 +61,25 @@ module _ (v : Rows) where
     pub node : NodeRow
     pub node_found : lookup (nat_eq c.node) v.nodes ≡ Some node
     pub node_there : node.partition ≡ p
-    pub role : IsRole c.role
+    pub role : IsRole p c.app c.role
     pub clock : c.clock ≤ shown
 
-  -- the containers of a partition have numbers of their own, and clocks that rise
+  -- the containers of a partition have numbers of their own, and clocks that rise, and no two are masters of one application
   pub record IsPartition (p : ℕ) (row : PartitionRow) : Type 0 where
     pub numbers : HasDistinctNumbers row.containers
     pub rising : IsRising row.containers
     pub clock : row.clock ≤ row.limit
+    pub masters : HasOneMasterEach row.containers
     pub each : (n : ℕ) (c : Container) → lookup (nat_eq n) row.containers ≡ Some c → IsContainer p row.clock c
 
-  -- an application is that of its submission, and its numbers name rows
+  -- an application is that of its submission, its numbers name rows, and it asks on its home partition and on DEFAULT
   pub record IsApp (n : ℕ) (row : AppRow) : Type 0 where
     pub name : Name
     pub submitted : slice_get (submitted_to v.tenants row.tenant) row.turn ≡ Some (name, record { leaf = row.leaf; app = Some n })
     pub user : row.user < length v.users
     pub home : HasPartition row.home
     pub asks : AreAsks row.asks
-    pub asked : All (λ ask. HasPartition ask.partition) row.asks
+    pub asked : All (λ ask. IsAskedOn row.home ask.partition) row.asks
 
   -- a submission is to a leaf of the tenant; while it is live its row is that of this turn
   pub record IsSubmission (t turn : ℕ) (s : Submission) : Type 0 where
@@ -89,11 +106,18 @@ module _ (v : Rows) where
     pub nodes : (n : ℕ) (row : NodeRow) → lookup (nat_eq n) v.nodes ≡ Some row → IsNode row
     pub app_numbers : HasDistinctNumbers v.apps
     pub apps : (n : ℕ) (row : AppRow) → lookup (nat_eq n) v.apps ≡ Some row → IsApp n row
+    pub order : Pairs IsBefore v.apps
     pub many : length v.tenants ≡ length (root ∷ v.paths)
     pub tenants : (t : ℕ) (entries : List (Name × Submission)) → slice_get v.tenants t ≡ Some entries → IsTenant t entries
     pub users : Differ v.users
 
-  -- a container may be placed on a node: the node and the application are there, and the clock of the node's partition still rises
+  -- an application may have a container of this role placed on a partition: its master at home, while it does not run; and what it asks for
+  -- where it asks for it, or as a guest
+  abbrev pub CanTake : ℕ → ℕ → Bool → AppRow → Role → Type 0
+  CanTake app p guests row Master = (row.home ≡ p) × (runs_at v app row ≡ false)
+  CanTake app p guests row (Asked asked priority) = IsSome (find_ask asked priority row.asks) × ((asked ≡ p) ⊎ ((asked ≡ 0) × (guests ≡ true)))
+
+  -- a container may be placed on a node: the node and the application are there, that may have it there, and the clock of the node's partition still rises
   pub record IsPlaceable (node app : ℕ) (r : Role) : Type 0 where
     pub node_row : NodeRow
     pub node_found : lookup (nat_eq node) v.nodes ≡ Some node_row
@@ -102,7 +126,21 @@ module _ (v : Rows) where
     pub rises : partition.clock < partition.limit
     pub app_row : AppRow
     pub app_found : lookup (nat_eq app) v.apps ≡ Some app_row
-    pub role : IsRole r
+    pub role : CanTake app node_row.partition partition.guests app_row r
+
+  -- an application of this name may be submitted: its tenant has none of that name, its leaf is one of that tenant, and its user and its home
+  -- partition are there
+  pub record CanSubmit (name : Name) (new : NewSubmission) : Type 0 where
+    pub unnamed : turn_of name (submitted_to v.tenants new.tenant) ≡ None
+    pub there : HasNumber v.paths new.leaf
+    pub leaf : has_none_below v.paths (path_at v.paths new.leaf) ≡ true
+    pub tenant : tenant_at v.paths new.leaf ≡ new.tenant
+    pub user : new.user < length v.users
+    pub home : HasPartition new.home
+
+  -- a live application may ask: on its home partition, or on DEFAULT
+  abbrev pub CanAsk : ℕ → Ask → Type 0
+  CanAsk app ask = IsLive app v.apps × IfSome (lookup (nat_eq app) v.apps) (λ row. IsAskedOn row.home ask.partition)
 
   -- a node of this name may join a partition under this number: neither is in use, and the partition is there
   pub record IsJoinable (number : ℕ) (name : Name) (p : ℕ) : Type 0 where

@@ -1,28 +1,32 @@
 //! What a cluster holds.
 
-ghost use Rattle.std.specs.Prelude.{◌≡◌, ◌<◌, ◌≤◌, nat_eq, length, slice_get, option_map, Some, None, IfNone, nat_le, IfOk, OnOk, OnErr, IfSome, IsSome, IsTrue};
+ghost use Rattle.std.specs.Prelude.{◌≡◌, ◌<◌, ◌≤◌, nat_eq, length, slice_get, option_map, Some, None, IfNone, nat_le, IfOk, IsOk, OnOk, OnErr, IfSome, IsSome, IsTrue};
 ghost use Rattle.std.specs.Map.{lookup};
 ghost use Rattle.ynl_resource.specs.Amounts.{fits_in, less, plus, IsSmall};
 ghost use Rattle.ynl_slots.specs.Slots.{IsLive, IsUnused, with_row};
 ghost use Rattle.ynl_node_table.specs.Nodes.{with_change};
 ghost use Rattle.ynl_app_table.specs.Apps.{with_app};
 ghost use Rattle.ynl_app_table.specs.Chains.{chain_of};
-ghost use Rattle.ynl_inventory.specs.Changes.{partition_of_node, with_placed, with_ended, with_joined, with_dropped, with_node_gone, with_tickets, with_app_gone};
+ghost use Rattle.ynl_inventory.specs.Changes.{partition_of_node, with_placed, with_ended, with_joined, with_dropped, with_node_gone, with_submitted, with_asked, with_tickets, with_app_gone, with_user_known};
 ghost use Rattle.ynl_model.specs.Nodes.{rises};
 ghost use Rattle.ynl_container_table.specs.Chains.{IsFirst, IsNext};
 ghost use Rattle.ynl_container_table.specs.Table.{number_at};
 ghost use Rattle.ynl_submissions.specs.Submissions.{turn_of};
 ghost use Rattle.ynl_users.specs.Users.{IsNew};
-ghost use Rattle.ynl_inventory.specs.Meaning.{label_at, node_number, submitted_to};
+ghost use Rattle.ynl_inventory.specs.Meaning.{app_name, app_number, label_at, node_number, submitted_to, tenant_name};
+ghost use Rattle.ynl_layout.specs.Paths.{HasNumber};
 ghost use Rattle.ynl_inventory.specs.Opening.{opening_rows, IsOpening};
-ghost use Rattle.ynl_inventory.specs.Sound.{HasPartition, HasNoContainers, OwnsNoContainers, IsFor};
+ghost use Rattle.ynl_inventory.specs.Apps.{runs_at, master_of};
+ghost use Rattle.ynl_inventory.specs.Sound.{CanAsk, CanSubmit, HasPartition, HasNoContainers, OwnsNoContainers, IsFor, IsSound};
 ghost use Rattle.ynl_inventory.specs.Parts.{app_row, node_row, CanPlace, LeavesRoom, taken_part, held_at, containers_of, released_part};
 
 use crate::partition::{Partition, Placement, risen};
+use crate::places::reserve_for_ask;
 use crate::start::{no_submissions, partitions_of};
+use crate::submission::{NewSubmission, new_row};
 use std::alloc::{AllocError, Global};
 use std::marker::Model;
-use ynl_app_table::{AppRow, Apps, Tickets};
+use ynl_app_table::{AppRow, Apps, Ask, Tickets};
 use ynl_container_table::{Container, Role};
 use ynl_layout::Layout;
 use ynl_node_table::{NodeRow, Nodes};
@@ -103,7 +107,6 @@ impl Inventory {
         ensures rows { self.new.rows ≡ self.old.rows }
         ensures ok { OnOk result (IfSome (slice_get self.new.rooms p) (λ room. count ≤ room)) }
         ensures rooms { LeavesRoom p 0 self.old.rooms self.new.rooms }
-        ensures chains { self.new.chains ≡ self.old.chains }
     {
         let part = &mut self.partitions[p as usize];
         part.reserve(count)
@@ -176,6 +179,56 @@ impl Inventory {
         held
     }
 
+    /// The number of the user of a name, a new one if there is none. It fails where `Users::add` does.
+    pub fn user(&mut self, name: &Name) -> Result<u32, AllocError>
+        ensures ok { OnOk result (self.new ≡ record self.old {
+          rows = with_user_known name.now self.old.rows;
+        }) }
+        ensures own { IfOk result (λ user. slice_get self.new.rows.users user ≡ Some name.now) }
+        ensures err { OnErr result (self.new ≡ self.old) }
+    {
+        if let Some(user) = self.users.find(name) {
+            return Ok(user);
+        }
+        let user = self.users.add(name)?;
+        Ok(user)
+    }
+
+    /// An application is submitted. It returns the application's number. All memory is taken first: it fails if that is
+    /// refused, and where `Apps::reserve_one` and `Submissions::reserve_one` do.
+    pub fn submit(&mut self, name: &Name, new: &NewSubmission) -> Result<u32, AllocError>
+        requires { CanSubmit self.old.rows name.now new.now }
+        ensures rows { IfOk result (λ app. self.new.rows ≡ with_submitted app name.now
+            new.now.tenant new.now.leaf new.now.user new.now.home new.now.master_size self.old.rows) }
+        ensures unused { IfOk result (λ app. IsUnused app self.old.rows.apps) }
+        ensures rooms { self.new.rooms ≡ self.old.rooms }
+        ensures err { OnErr result (self.new.rows ≡ self.old.rows) }
+    {
+        let alloc = *self.tenants.allocator();
+        let turn = next_turn(&self.tenants, new.tenant);
+        let row = new_row(alloc, new, turn)?;
+        self.apps.reserve_one()?;
+        let submissions = &mut self.tenants[new.tenant as usize];
+        submissions.reserve_one()?;
+        let app = self.apps.add(row);
+        let _turn = submissions.submit(name, new.leaf, app);
+        Ok(app)
+    }
+
+    /// An application asks: an ask takes the place of the one of its partition and priority, or comes last; with count 0 that
+    /// one goes. It fails if memory is refused, and takes none for count 0.
+    pub fn ask(&mut self, app: u32, ask: Ask) -> Result<(), AllocError>
+        requires { CanAsk self.old.rows app ask }
+        ensures ok { OnOk result (self.new.rows ≡ with_asked app ask self.old.rows) }
+        ensures err { OnErr result (self.new.rows ≡ self.old.rows) }
+        ensures rooms { self.new.rooms ≡ self.old.rooms }
+        ensures no_count { ask.count ≡ 0 → IsOk result }
+    {
+        reserve_for_ask(&mut self.apps, &self.partitions, app, &ask)?;
+        self.apps.set_ask(app, ask)?;
+        Ok(())
+    }
+
     /// Sets an application's tickets.
     pub fn set_tickets(&mut self, app: u32, tickets: Tickets)
         requires { IsLive app self.old.rows.apps }
@@ -227,10 +280,31 @@ impl Inventory {
         self.apps.get(number)
     }
 
+    /// Whether a live application runs: its master is placed.
+    pub fn runs(&self, app: u32) -> bool
+        requires { IsLive app self.now.rows.apps }
+        ensures { IfSome (lookup (nat_eq app) self.now.rows.apps)
+            (λ row. result ≡ runs_at self.now.rows app row) }
+    {
+        let row = &self.apps[app];
+        row.master.is_some()
+    }
+
+    /// The number of a live application's master in its home partition, if it runs.
+    pub fn master(&self, app: u32) -> Option<u32>
+        requires { IsLive app self.now.rows.apps }
+        ensures { IfSome (lookup (nat_eq app) self.now.rows.apps)
+            (λ row. result ≡ master_of self.now.rows app row) }
+    {
+        let row = &self.apps[app];
+        row.master
+    }
+
     /// The container under a number in a partition.
     pub fn container(&self, p: u8, number: u32) -> Container
         requires { IsSome (held_at self.now.rows p number) }
-        ensures { held_at self.now.rows p number ≡ Some result }
+        ensures value { held_at self.now.rows p number ≡ Some result }
+        ensures sound { IsSound self.now.rows }
     {
         container_in(&self.partitions, p, number)
     }
@@ -271,6 +345,36 @@ impl Inventory {
     {
         let submissions = &self.tenants[tenant as usize];
         submissions.find(name)
+    }
+
+    /// The name of a tenant.
+    pub fn tenant_name(&self, tenant: u32) -> Name
+        requires below_root { 0 < tenant }
+        requires there { HasNumber self.now.rows.paths tenant }
+        ensures { result ≡ tenant_name self.now.rows.paths tenant }
+    {
+        self.layout.name(tenant as usize)
+    }
+
+    /// The number of the live application of a tenant and a name, if there is one.
+    pub fn find_app(&self, tenant: u32, name: &Name) -> Option<u32>
+        requires { tenant < length self.now.rows.tenants }
+        ensures { result ≡ app_number name.now (submitted_to self.now.rows.tenants tenant) }
+    {
+        let submissions = &self.tenants[tenant as usize];
+        let turn = submissions.find(name)?;
+        submissions[turn].app
+    }
+
+    /// The name of a live application.
+    pub fn app_name(&self, app: u32) -> &Name
+        requires { IsLive app self.now.rows.apps }
+        ensures { IfSome (lookup (nat_eq app) self.now.rows.apps)
+            (λ row. result.now ≡ app_name self.now.rows.tenants row.tenant row.turn) }
+    {
+        let row = &self.apps[app];
+        let submissions = &self.tenants[row.tenant as usize];
+        submissions.name(row.turn)
     }
 
     /// The name of a user.
@@ -330,6 +434,16 @@ impl Inventory {
         let part = &self.partitions[p as usize];
         part.containers.next_of_app(number)
     }
+}
+
+/// The turn of the next application of a tenant.
+fn next_turn(tenants: &[Submissions], tenant: u32) -> u32
+    requires { tenant < length tenants.now }
+    ensures { IfSome (slice_get tenants.now tenant)
+        (λ listing. result ≡ length listing.entries) }
+{
+    let submissions = &tenants[tenant as usize];
+    submissions.next_turn()
 }
 
 /// What the clock of a partition shows after one more change.
@@ -412,9 +526,11 @@ fn taken(apps: &mut Apps, placed: &Placement, p: u8, chain: Chain, number: u32)
     requires live { IsLive placed.now.app apps.old.entries }
     requires place { IfSome (lookup (nat_eq placed.now.app) apps.old.entries)
         (λ row. IsLive p row.chains) }
-    ensures { apps.new ≡ with_app placed.now.app (λ row.
+    ensures apps { apps.new ≡ with_app placed.now.app (λ row.
         taken_part placed.now.role number
         (record row { chains = with_row p chain row.chains })) apps.old }
+    ensures place { IfSome (lookup (nat_eq placed.now.app) apps.old.entries)
+        (λ row. IsLive p row.chains) }
 {
     let app = placed.app;
     apps.set_chain(app, p, chain);

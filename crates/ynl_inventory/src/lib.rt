@@ -3,7 +3,11 @@
 
 pub use inventory::Inventory;
 pub use partition::Placement;
+pub use submission::NewSubmission;
 
 mod inventory;
 mod partition;
+mod placed;
+mod places;
 mod start;
+mod submission;

@@ -13,10 +13,11 @@ use ynl_container_table::{Container, Containers, Role};
 use ynl_resource::{Label, Size};
 use ynl_slots::Chain;
 
-/// A partition: its clock and how far that goes, and the containers there.
+/// A partition: whether it takes guests, its clock and how far that goes, and the containers there.
 #[derive(Drop)]
 pub(crate) struct Partition {
     pub(crate) label: Label,
+    pub(crate) guests: bool,
     pub(crate) limit: u64,
     pub(crate) clock: u64,
     pub(crate) containers: Containers,
@@ -59,6 +60,7 @@ impl Partition {
         requires of_app { IsAppChain self.old.containers of_app.old placed.now.app }
         ensures label { self.new.label ≡ self.old.label }
         ensures limit { self.new.limit ≡ self.old.limit }
+        ensures guests { self.new.guests ≡ self.old.guests }
         ensures clock { self.new.clock ≡ self.old.clock + 1 }
         ensures entries { self.new.containers.entries ≡ self.old.containers.entries
             ++ (result, placed_on placed.now (self.old.clock + 1)) ∷ [] }
@@ -90,6 +92,7 @@ impl Partition {
             (λ c. IsAppChain self.old.containers of_app.old c.app) }
         ensures label { self.new.label ≡ self.old.label }
         ensures limit { self.new.limit ≡ self.old.limit }
+        ensures guests { self.new.guests ≡ self.old.guests }
         ensures clock { self.new.clock ≡ rises self.old.limit self.old.clock }
         ensures value { lookup (nat_eq number) self.old.containers.entries ≡ Some result }
         ensures entries { self.new.containers.entries ≡ without number self.old.containers.entries }
@@ -117,6 +120,7 @@ impl Partition {
             (λ c. IsAppChain self.old.containers of_app.old c.app) }
         ensures label { self.new.label ≡ self.old.label }
         ensures limit { self.new.limit ≡ self.old.limit }
+        ensures guests { self.new.guests ≡ self.old.guests }
         ensures clock { self.new.clock ≡ self.old.clock }
         ensures value { lookup (nat_eq number) self.old.containers.entries ≡ Some result }
         ensures entries { self.new.containers.entries ≡ without number self.old.containers.entries }

@@ -16,9 +16,11 @@ use ynl_submissions::Submissions;
 fn partition_of(alloc: Global, labels: &Labels, label: Label) -> Partition
     ensures { partition_row result ≡ opening_partition labels.now label }
 {
+    let guests = !labels.exclusive(&label);
     let limit = labels.limit(&label);
     Partition {
         label,
+        guests,
         limit,
         clock: 0,
         containers: Containers::new(alloc),

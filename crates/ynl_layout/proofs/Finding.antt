@@ -14,7 +14,7 @@ use Rattle.ynl_laws.specs.Decided.{below}
 use Rattle.ynl_laws.proofs.Lists.{Each-find, none-found, all-of, each-contained}
 use Rattle.ynl_laws.proofs.Names.{same-name_self, same-name_sym}
 use Rattle.ynl_layout.specs.Paths.{AreChildren, HasNoChild, HasNoNumber, HasNumber, HasParent, IsChild, IsChildOf, IsTree, path_at}
-use Rattle.ynl_layout.specs.Building.{is_named}
+use Rattle.ynl_layout.specs.Building.{is_named, name_in}
 use Rattle.ynl_layout.proofs.Children.{named}
 
 -- a name put at the end of a path is its last
@@ -43,6 +43,12 @@ module _ (paths : List Path) (tree : IsTree paths) (queue : ℕ) (has : HasNumbe
       let own : IsChild paths queue child = record { there = there; path = path ∙ ap (below (path_at paths queue)) (sym (ap last_name path ∙ last-of (path_at paths queue) name)) } in
       let fails = All-contains (λ n. is_named paths name n ≡ false) numbers child (all-of (λ n. is_named paths name n ≡ false) numbers (none-found (is_named paths name) numbers (sym is))) (are.all child own) in
       true≢false (sym (asked child own ∙ ap (same_name name) (ap last_name path ∙ last-of (path_at paths queue) name) ∙ same-name_self name) ∙ fails)
+
+-- a queue below root has its last name
+pub named-below : (paths : List Path) → IsTree paths → (n : ℕ) → 0 < n → HasNumber paths n → name_in paths n ≡ Some (last_name (path_at paths n))
+named-below paths tree n below there =
+    let up : HasParent paths n = tree.parents n below there in
+    named paths tree up.parent up.there n (record { there = there; path = up.above })
 
 -- ---- along the way to a queue
 

@@ -53,7 +53,7 @@ fn is_just_below(line: &[usize], queue: usize) -> bool
 }
 
 /// The last name of a queue's path. What is given for root does not matter, since it is below no queue.
-fn name_of(paths: &[Path], queue: usize) -> Option<Name>
+pub(crate) fn name_of(paths: &[Path], queue: usize) -> Option<Name>
     ensures { result ≡ name_in paths.now queue }
 {
     paths.get(queue.saturating_sub(1))?.names().last().copied()

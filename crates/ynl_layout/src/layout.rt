@@ -6,7 +6,7 @@ ghost use Rattle.ynl_model.specs.Service.{last_name};
 ghost use Rattle.ynl_laws.specs.Ways.{IsWay};
 ghost use Rattle.ynl_layout.specs.Paths.{AreChildren, CoverBelow, is_above, HasNoChild, HasNoNumber, HasNumber, IsChildOf, IsLine, IsNumberOf, IsTree, path_at, paths_of};
 
-use crate::building::{all_children, all_lines, child_of, paths_of};
+use crate::building::{all_children, all_lines, child_of, name_of, paths_of};
 use std::alloc::{AllocError, Global};
 use std::marker::Model;
 use ynl_queues::Config;
@@ -53,6 +53,18 @@ impl Layout {
         ensures tree { IsTree self.now }
     {
         self.lines.len()
+    }
+
+    /// The last name of a queue below root.
+    pub fn name(&self, queue: usize) -> Name
+        requires below_root { 0 < queue }
+        requires there { HasNumber self.now queue }
+        ensures { result ≡ last_name (path_at self.now queue) }
+    {
+        match name_of(&self.paths, queue) {
+            Some(name) => name,
+            None => unreachable!(),
+        }
     }
 
     /// The numbers of the queues on the way from root to a queue, both among them.

@@ -58,6 +58,13 @@ impl Submissions {
         self.by_name.len()
     }
 
+    /// The turn of the next submission.
+    pub fn next_turn(&self) -> u32
+        ensures { result ≡ length self.now.entries }
+    {
+        self.by_name.len() as u32
+    }
+
     /// Reserves room for one more submission. It fails if memory is refused, and after 2^32 - 1 submissions.
     pub fn reserve_one(&mut self) -> Result<(), AllocError>
         ensures listing { self.new ≡ record self.old { room = self.new.room } }

@@ -24,14 +24,14 @@ take_one-requires c =
     live-after {X = AppRow} c.args.placed.now.app c.args.placed.now.app (λ row. record row { chains = with_row c.args.p c.args.chain row.chains }) c.args.apps.now.entries c.set_chain.new.self.entries
     (ap (λ (apps : Numbered AppRow). apps.entries) c.set_chain.ensures) c.requires.live
 
-pub returns-in-Master : goal.returns-in-Master
-returns-in-Master c =
+pub returns-in-Master-clause-apps : goal.returns-in-Master-clause-apps
+returns-in-Master-clause-apps c =
     app-twice c.args.placed.now.app (λ row. record row { master = Some c.args.number }) (λ row. record row { chains = with_row c.args.p c.args.chain row.chains }) c.args.apps.now c.set_chain.new.self
     c.set_master.new.self c.set_master.ensures c.set_chain.ensures
     ∙ ap (λ (r : Role). with_app c.args.placed.now.app (λ row. taken_part r c.args.number (record row { chains = with_row c.args.p c.args.chain row.chains })) c.args.apps.now) (sym c.in-Master.is)
 
-pub returns-in-Ask : goal.returns-in-Ask
-returns-in-Ask c =
+pub returns-in-Ask-clause-apps : goal.returns-in-Ask-clause-apps
+returns-in-Ask-clause-apps c =
     app-twice c.args.placed.now.app (λ row. record row { asks = with_one_taken c.in-Ask.partition c.in-Ask.priority row.asks }) (λ row. record row { chains = with_row c.args.p c.args.chain row.chains })
     c.args.apps.now c.set_chain.new.self c.take_one.new.self c.take_one.ensures c.set_chain.ensures
     ∙ ap (λ (r : Role). with_app c.args.placed.now.app (λ row. taken_part r c.args.number (record row { chains = with_row c.args.p c.args.chain row.chains })) c.args.apps.now) (sym c.in-Ask.is)

@@ -1,7 +1,6 @@
 -- What is known where a container goes with its node.
-use Rattle.std.proofs.Common.{◌≡◌, ◌<◌, ℕ, sym, ap, subst, ◌∙◌, map, arith}
-use Rattle.ynl_slots.specs.declared.chain.Chain.{Chain}
-use Rattle.ynl_container_table.specs.declared.container.Container.{Container}
+use Rattle.std.proofs.Common.{◌≡◌, ◌<◌, map, slice_get, Some, nat_eq, sym, ap, subst, ◌∙◌, arith}
+use Rattle.std.specs.Map.{lookup}
 use Rattle.ynl_inventory.specs.declared.partition.Partition.{Partition}
 use Rattle.ynl_inventory.specs.Changes.{with_dropped}
 use Rattle.ynl_inventory.specs.Parts.{Held, LeavesRoom, held_at}
@@ -52,39 +51,46 @@ pub released-requires-clause-place : goal.released-requires-clause-place
 released-requires-clause-place c =
     chain-there c.self.inside c.args.self.now c.args.p c.args.number c.self.view_is c.requires c.deref.result.now c.deref.ensures.value c.container_in-held.result c.container_in-held.ensures c.self.invariant
 
--- what the call left, of what was held
-dropped-of : (number : ℕ) (held ended : Container) (old new : Partition) (of_node of_app : Chain) → ended ≡ held → IsDropped number ended old new of_node of_app → IsDropped number held old new of_node of_app
-dropped-of number held ended old new of_node of_app same is = subst (λ h. IsDropped number h old new of_node of_app) same is
+-- the partition that was read, the container there, and what the call left of it
+there : (c : goal.After-released) → slice_get c.self.inside.partitions.items c.args.p ≡ Some c.index_mut-part.result.now
+there c = there-of c.self.inside c.args.self.now c.args.p c.args.number c.self.view_is c.requires c.deref.result.now c.deref.ensures.value c.container_in-held.result c.container_in-held.ensures c.index_mut-part.result.now c.index_mut-part.ensures.value
+
+found : (c : goal.After-released) → lookup (nat_eq c.args.number) c.index_mut-part.result.now.containers.entries ≡ Some c.container_in-held.result
+found c = found-in c.self.inside c.args.self.now c.args.p c.args.number c.self.view_is c.requires c.deref.result.now c.deref.ensures.value c.container_in-held.result c.container_in-held.ensures c.index_mut-part.result.now (there c)
+
+left : (c : goal.After-released) → IsDropped c.args.number c.container_in-held.result c.index_mut-part.result.now c.discard-held.new.self c.discard-held.new.of_node c.discard-held.new.of_app
+left c =
+    subst (λ h. IsDropped c.args.number h c.index_mut-part.result.now c.discard-held.new.self c.discard-held.new.of_node c.discard-held.new.of_app)
+    (same c.self.inside c.args.self.now c.args.p c.args.number c.self.view_is c.requires c.deref.result.now c.deref.ensures.value c.container_in-held.result c.container_in-held.ensures c.self.invariant c.index-row.result.now c.index-row.ensures c.index_mut-part.result.now c.index_mut-part.ensures.value c.discard-held.result c.discard-held.ensures.value)
+    (record {
+      label = c.discard-held.ensures.label;
+      limit = c.discard-held.ensures.limit;
+      clock = c.discard-held.ensures.clock;
+      out = record {
+        guests = c.discard-held.ensures.guests;
+        entries = c.discard-held.ensures.entries;
+        node_chain = c.discard-held.ensures.of_node;
+        app_chain = c.discard-held.ensures.of_app;
+        nodes = c.discard-held.ensures.nodes;
+        apps = c.discard-held.ensures.apps;
+      };
+    })
 
 pub invariant_of-self : goal.invariant_of-self
 invariant_of-self c = record {
   sound =
       dropped-rows-sound c.self.inside c.self.invariant c.args.p c.args.number c.index_mut-part.result.now
-      (there-of c.self.inside c.args.self.now c.args.p c.args.number c.self.view_is c.requires c.deref.result.now c.deref.ensures.value c.container_in-held.result c.container_in-held.ensures c.index_mut-part.result.now c.index_mut-part.ensures.value)
-      c.container_in-held.result (found-in c.self.inside c.args.self.now c.args.p c.args.number c.self.view_is c.requires c.deref.result.now c.deref.ensures.value c.container_in-held.result c.container_in-held.ensures c.index_mut-part.result.now (there-of c.self.inside c.args.self.now c.args.p c.args.number c.self.view_is c.requires c.deref.result.now c.deref.ensures.value c.container_in-held.result c.container_in-held.ensures c.index_mut-part.result.now c.index_mut-part.ensures.value))
+      (there c)
+      c.container_in-held.result (found c)
       c.index-row.result.now c.index-row.ensures c.discard-held.new.self c.discard-held.new.of_node c.discard-held.new.of_app
-      (dropped-of c.args.number c.container_in-held.result c.discard-held.result c.index_mut-part.result.now c.discard-held.new.self c.discard-held.new.of_node c.discard-held.new.of_app
-      (same c.self.inside c.args.self.now c.args.p c.args.number c.self.view_is c.requires c.deref.result.now c.deref.ensures.value c.container_in-held.result c.container_in-held.ensures c.self.invariant c.index-row.result.now c.index-row.ensures c.index_mut-part.result.now c.index_mut-part.ensures.value c.discard-held.result c.discard-held.ensures.value)
-      (record {
-        label = c.discard-held.ensures.label;
-        limit = c.discard-held.ensures.limit;
-        clock = c.discard-held.ensures.clock;
-        out = record { entries = c.discard-held.ensures.entries; node_chain = c.discard-held.ensures.of_node; app_chain = c.discard-held.ensures.of_app; nodes = c.discard-held.ensures.nodes; apps = c.discard-held.ensures.apps };
-      }))
+      (left c)
       c.freed.new.nodes c.released.new.apps c.freed.ensures c.released.ensures;
   linked =
       out-linked c.self.inside c.self.invariant c.args.p c.args.number c.index_mut-part.result.now
-      (there-of c.self.inside c.args.self.now c.args.p c.args.number c.self.view_is c.requires c.deref.result.now c.deref.ensures.value c.container_in-held.result c.container_in-held.ensures c.index_mut-part.result.now c.index_mut-part.ensures.value)
-      c.container_in-held.result (found-in c.self.inside c.args.self.now c.args.p c.args.number c.self.view_is c.requires c.deref.result.now c.deref.ensures.value c.container_in-held.result c.container_in-held.ensures c.index_mut-part.result.now (there-of c.self.inside c.args.self.now c.args.p c.args.number c.self.view_is c.requires c.deref.result.now c.deref.ensures.value c.container_in-held.result c.container_in-held.ensures c.index_mut-part.result.now c.index_mut-part.ensures.value))
+      (there c)
+      c.container_in-held.result (found c)
       c.index-row.result.now c.index-row.ensures c.discard-held.new.self c.discard-held.new.of_node c.discard-held.new.of_app
-      (dropped-of c.args.number c.container_in-held.result c.discard-held.result c.index_mut-part.result.now c.discard-held.new.self c.discard-held.new.of_node c.discard-held.new.of_app
-      (same c.self.inside c.args.self.now c.args.p c.args.number c.self.view_is c.requires c.deref.result.now c.deref.ensures.value c.container_in-held.result c.container_in-held.ensures c.self.invariant c.index-row.result.now c.index-row.ensures c.index_mut-part.result.now c.index_mut-part.ensures.value c.discard-held.result c.discard-held.ensures.value)
-      (record {
-        label = c.discard-held.ensures.label;
-        limit = c.discard-held.ensures.limit;
-        clock = c.discard-held.ensures.clock;
-        out = record { entries = c.discard-held.ensures.entries; node_chain = c.discard-held.ensures.of_node; app_chain = c.discard-held.ensures.of_app; nodes = c.discard-held.ensures.nodes; apps = c.discard-held.ensures.apps };
-      })).out c.index-row.result.now.stamp
+      (left c).out c.index-row.result.now.stamp
       c.freed.new.nodes c.released.new.apps c.freed.ensures c.released.ensures;
 }
 
@@ -92,27 +98,20 @@ pub returns-clause-value : goal.returns-clause-value
 returns-clause-value c =
     ap (λ (h : Held). held_at h.rows c.args.p c.args.number) (sym c.self.view_is)
     ∙ held-is c.self.inside c.args.p c.args.number c.index_mut-part.result.now c.container_in-held.result
-    (there-of c.self.inside c.args.self.now c.args.p c.args.number c.self.view_is c.requires c.deref.result.now c.deref.ensures.value c.container_in-held.result c.container_in-held.ensures c.index_mut-part.result.now c.index_mut-part.ensures.value)
-    (found-in c.self.inside c.args.self.now c.args.p c.args.number c.self.view_is c.requires c.deref.result.now c.deref.ensures.value c.container_in-held.result c.container_in-held.ensures c.index_mut-part.result.now (there-of c.self.inside c.args.self.now c.args.p c.args.number c.self.view_is c.requires c.deref.result.now c.deref.ensures.value c.container_in-held.result c.container_in-held.ensures c.index_mut-part.result.now c.index_mut-part.ensures.value))
+    (there c)
+    (found c)
 
 pub returns-clause-rows : goal.returns-clause-rows
 returns-clause-rows c =
     dropped-rows c.self.inside c.self.invariant c.args.p c.args.number c.index_mut-part.result.now
-    (there-of c.self.inside c.args.self.now c.args.p c.args.number c.self.view_is c.requires c.deref.result.now c.deref.ensures.value c.container_in-held.result c.container_in-held.ensures c.index_mut-part.result.now c.index_mut-part.ensures.value)
-    c.container_in-held.result (found-in c.self.inside c.args.self.now c.args.p c.args.number c.self.view_is c.requires c.deref.result.now c.deref.ensures.value c.container_in-held.result c.container_in-held.ensures c.index_mut-part.result.now (there-of c.self.inside c.args.self.now c.args.p c.args.number c.self.view_is c.requires c.deref.result.now c.deref.ensures.value c.container_in-held.result c.container_in-held.ensures c.index_mut-part.result.now c.index_mut-part.ensures.value))
+    (there c)
+    c.container_in-held.result (found c)
     c.index-row.result.now c.index-row.ensures c.discard-held.new.self c.discard-held.new.of_node c.discard-held.new.of_app
-    (dropped-of c.args.number c.container_in-held.result c.discard-held.result c.index_mut-part.result.now c.discard-held.new.self c.discard-held.new.of_node c.discard-held.new.of_app
-    (same c.self.inside c.args.self.now c.args.p c.args.number c.self.view_is c.requires c.deref.result.now c.deref.ensures.value c.container_in-held.result c.container_in-held.ensures c.self.invariant c.index-row.result.now c.index-row.ensures c.index_mut-part.result.now c.index_mut-part.ensures.value c.discard-held.result c.discard-held.ensures.value)
-    (record {
-      label = c.discard-held.ensures.label;
-      limit = c.discard-held.ensures.limit;
-      clock = c.discard-held.ensures.clock;
-      out = record { entries = c.discard-held.ensures.entries; node_chain = c.discard-held.ensures.of_node; app_chain = c.discard-held.ensures.of_app; nodes = c.discard-held.ensures.nodes; apps = c.discard-held.ensures.apps };
-    }))
+    (left c)
     c.freed.new.nodes c.released.new.apps c.freed.ensures c.released.ensures
     ∙ ap (λ (h : Held). with_dropped c.args.p c.args.number h.rows) c.self.view_is
 
 pub returns-clause-rooms : goal.returns-clause-rooms
 returns-clause-rooms c =
     subst (λ (h : Held). LeavesRoom c.args.p 0 h.rooms (map (λ (part : Partition). part.containers.room) (slice_set c.self.inside.partitions.items c.args.p c.discard-held.new.self))) c.self.view_is
-    (rooms-left c.self.inside.partitions.items c.args.p c.index_mut-part.result.now c.discard-held.new.self 0 (there-of c.self.inside c.args.self.now c.args.p c.args.number c.self.view_is c.requires c.deref.result.now c.deref.ensures.value c.container_in-held.result c.container_in-held.ensures c.index_mut-part.result.now c.index_mut-part.ensures.value) (omega (arith, c.discard-held.ensures.room)))
+    (rooms-left c.self.inside.partitions.items c.args.p c.index_mut-part.result.now c.discard-held.new.self 0 (there c) (omega (arith, c.discard-held.ensures.room)))

@@ -1,7 +1,6 @@
 -- What is known where a container ends.
-use Rattle.std.proofs.Common.{◌≡◌, ◌<◌, ℕ, sym, ap, subst, ◌∙◌, map, arith}
-use Rattle.ynl_slots.specs.declared.chain.Chain.{Chain}
-use Rattle.ynl_container_table.specs.declared.container.Container.{Container}
+use Rattle.std.proofs.Common.{◌≡◌, ◌<◌, map, slice_get, Some, nat_eq, sym, ap, subst, ◌∙◌, arith}
+use Rattle.std.specs.Map.{lookup}
 use Rattle.ynl_inventory.specs.declared.partition.Partition.{Partition}
 use Rattle.ynl_inventory.specs.Changes.{with_ended}
 use Rattle.ynl_inventory.specs.Parts.{Held, LeavesRoom, held_at}
@@ -51,39 +50,46 @@ pub released-requires-clause-place : goal.released-requires-clause-place
 released-requires-clause-place c =
     chain-there c.self.inside c.args.self.now c.args.p c.args.number c.self.view_is c.requires c.deref.result.now c.deref.ensures.value c.container_in-held.result c.container_in-held.ensures c.self.invariant
 
--- what the call left, of what was held
-ended-of : (number : ℕ) (held ended : Container) (old new : Partition) (of_node of_app : Chain) → ended ≡ held → IsEnded number ended old new of_node of_app → IsEnded number held old new of_node of_app
-ended-of number held ended old new of_node of_app same is = subst (λ h. IsEnded number h old new of_node of_app) same is
+-- the partition that was read, the container there, and what the call left of it
+there : (c : goal.After-released) → slice_get c.self.inside.partitions.items c.args.p ≡ Some c.index_mut-part.result.now
+there c = there-of c.self.inside c.args.self.now c.args.p c.args.number c.self.view_is c.requires c.deref.result.now c.deref.ensures.value c.container_in-held.result c.container_in-held.ensures c.index_mut-part.result.now c.index_mut-part.ensures.value
+
+found : (c : goal.After-released) → lookup (nat_eq c.args.number) c.index_mut-part.result.now.containers.entries ≡ Some c.container_in-held.result
+found c = found-in c.self.inside c.args.self.now c.args.p c.args.number c.self.view_is c.requires c.deref.result.now c.deref.ensures.value c.container_in-held.result c.container_in-held.ensures c.index_mut-part.result.now (there c)
+
+left : (c : goal.After-released) → IsEnded c.args.number c.container_in-held.result c.index_mut-part.result.now c.end-held.new.self c.end-held.new.of_node c.end-held.new.of_app
+left c =
+    subst (λ h. IsEnded c.args.number h c.index_mut-part.result.now c.end-held.new.self c.end-held.new.of_node c.end-held.new.of_app)
+    (same c.self.inside c.args.self.now c.args.p c.args.number c.self.view_is c.requires c.deref.result.now c.deref.ensures.value c.container_in-held.result c.container_in-held.ensures c.self.invariant c.index-row.result.now c.index-row.ensures c.index_mut-part.result.now c.index_mut-part.ensures.value c.end-held.result c.end-held.ensures.value)
+    (record {
+      label = c.end-held.ensures.label;
+      limit = c.end-held.ensures.limit;
+      clock = c.end-held.ensures.clock;
+      out = record {
+        guests = c.end-held.ensures.guests;
+        entries = c.end-held.ensures.entries;
+        node_chain = c.end-held.ensures.of_node;
+        app_chain = c.end-held.ensures.of_app;
+        nodes = c.end-held.ensures.nodes;
+        apps = c.end-held.ensures.apps;
+      };
+    })
 
 pub invariant_of-self : goal.invariant_of-self
 invariant_of-self c = record {
   sound =
       ended-rows-sound c.self.inside c.self.invariant c.args.p c.args.number c.index_mut-part.result.now
-      (there-of c.self.inside c.args.self.now c.args.p c.args.number c.self.view_is c.requires c.deref.result.now c.deref.ensures.value c.container_in-held.result c.container_in-held.ensures c.index_mut-part.result.now c.index_mut-part.ensures.value)
-      c.container_in-held.result (found-in c.self.inside c.args.self.now c.args.p c.args.number c.self.view_is c.requires c.deref.result.now c.deref.ensures.value c.container_in-held.result c.container_in-held.ensures c.index_mut-part.result.now (there-of c.self.inside c.args.self.now c.args.p c.args.number c.self.view_is c.requires c.deref.result.now c.deref.ensures.value c.container_in-held.result c.container_in-held.ensures c.index_mut-part.result.now c.index_mut-part.ensures.value))
+      (there c)
+      c.container_in-held.result (found c)
       c.index-row.result.now c.index-row.ensures c.end-held.new.self c.end-held.new.of_node c.end-held.new.of_app
-      (ended-of c.args.number c.container_in-held.result c.end-held.result c.index_mut-part.result.now c.end-held.new.self c.end-held.new.of_node c.end-held.new.of_app
-      (same c.self.inside c.args.self.now c.args.p c.args.number c.self.view_is c.requires c.deref.result.now c.deref.ensures.value c.container_in-held.result c.container_in-held.ensures c.self.invariant c.index-row.result.now c.index-row.ensures c.index_mut-part.result.now c.index_mut-part.ensures.value c.end-held.result c.end-held.ensures.value)
-      (record {
-        label = c.end-held.ensures.label;
-        limit = c.end-held.ensures.limit;
-        clock = c.end-held.ensures.clock;
-        out = record { entries = c.end-held.ensures.entries; node_chain = c.end-held.ensures.of_node; app_chain = c.end-held.ensures.of_app; nodes = c.end-held.ensures.nodes; apps = c.end-held.ensures.apps };
-      }))
+      (left c)
       c.freed.new.nodes c.released.new.apps c.freed.ensures c.released.ensures;
   linked =
       out-linked c.self.inside c.self.invariant c.args.p c.args.number c.index_mut-part.result.now
-      (there-of c.self.inside c.args.self.now c.args.p c.args.number c.self.view_is c.requires c.deref.result.now c.deref.ensures.value c.container_in-held.result c.container_in-held.ensures c.index_mut-part.result.now c.index_mut-part.ensures.value)
-      c.container_in-held.result (found-in c.self.inside c.args.self.now c.args.p c.args.number c.self.view_is c.requires c.deref.result.now c.deref.ensures.value c.container_in-held.result c.container_in-held.ensures c.index_mut-part.result.now (there-of c.self.inside c.args.self.now c.args.p c.args.number c.self.view_is c.requires c.deref.result.now c.deref.ensures.value c.container_in-held.result c.container_in-held.ensures c.index_mut-part.result.now c.index_mut-part.ensures.value))
+      (there c)
+      c.container_in-held.result (found c)
       c.index-row.result.now c.index-row.ensures c.end-held.new.self c.end-held.new.of_node c.end-held.new.of_app
-      (ended-of c.args.number c.container_in-held.result c.end-held.result c.index_mut-part.result.now c.end-held.new.self c.end-held.new.of_node c.end-held.new.of_app
-      (same c.self.inside c.args.self.now c.args.p c.args.number c.self.view_is c.requires c.deref.result.now c.deref.ensures.value c.container_in-held.result c.container_in-held.ensures c.self.invariant c.index-row.result.now c.index-row.ensures c.index_mut-part.result.now c.index_mut-part.ensures.value c.end-held.result c.end-held.ensures.value)
-      (record {
-        label = c.end-held.ensures.label;
-        limit = c.end-held.ensures.limit;
-        clock = c.end-held.ensures.clock;
-        out = record { entries = c.end-held.ensures.entries; node_chain = c.end-held.ensures.of_node; app_chain = c.end-held.ensures.of_app; nodes = c.end-held.ensures.nodes; apps = c.end-held.ensures.apps };
-      })).out c.end-held.new.self.clock
+      (left c).out c.end-held.new.self.clock
       c.freed.new.nodes c.released.new.apps c.freed.ensures c.released.ensures;
 }
 
@@ -91,27 +97,20 @@ pub returns-clause-value : goal.returns-clause-value
 returns-clause-value c =
     ap (λ (h : Held). held_at h.rows c.args.p c.args.number) (sym c.self.view_is)
     ∙ held-is c.self.inside c.args.p c.args.number c.index_mut-part.result.now c.container_in-held.result
-    (there-of c.self.inside c.args.self.now c.args.p c.args.number c.self.view_is c.requires c.deref.result.now c.deref.ensures.value c.container_in-held.result c.container_in-held.ensures c.index_mut-part.result.now c.index_mut-part.ensures.value)
-    (found-in c.self.inside c.args.self.now c.args.p c.args.number c.self.view_is c.requires c.deref.result.now c.deref.ensures.value c.container_in-held.result c.container_in-held.ensures c.index_mut-part.result.now (there-of c.self.inside c.args.self.now c.args.p c.args.number c.self.view_is c.requires c.deref.result.now c.deref.ensures.value c.container_in-held.result c.container_in-held.ensures c.index_mut-part.result.now c.index_mut-part.ensures.value))
+    (there c)
+    (found c)
 
 pub returns-clause-rows : goal.returns-clause-rows
 returns-clause-rows c =
     ended-rows c.self.inside c.self.invariant c.args.p c.args.number c.index_mut-part.result.now
-    (there-of c.self.inside c.args.self.now c.args.p c.args.number c.self.view_is c.requires c.deref.result.now c.deref.ensures.value c.container_in-held.result c.container_in-held.ensures c.index_mut-part.result.now c.index_mut-part.ensures.value)
-    c.container_in-held.result (found-in c.self.inside c.args.self.now c.args.p c.args.number c.self.view_is c.requires c.deref.result.now c.deref.ensures.value c.container_in-held.result c.container_in-held.ensures c.index_mut-part.result.now (there-of c.self.inside c.args.self.now c.args.p c.args.number c.self.view_is c.requires c.deref.result.now c.deref.ensures.value c.container_in-held.result c.container_in-held.ensures c.index_mut-part.result.now c.index_mut-part.ensures.value))
+    (there c)
+    c.container_in-held.result (found c)
     c.index-row.result.now c.index-row.ensures c.end-held.new.self c.end-held.new.of_node c.end-held.new.of_app
-    (ended-of c.args.number c.container_in-held.result c.end-held.result c.index_mut-part.result.now c.end-held.new.self c.end-held.new.of_node c.end-held.new.of_app
-    (same c.self.inside c.args.self.now c.args.p c.args.number c.self.view_is c.requires c.deref.result.now c.deref.ensures.value c.container_in-held.result c.container_in-held.ensures c.self.invariant c.index-row.result.now c.index-row.ensures c.index_mut-part.result.now c.index_mut-part.ensures.value c.end-held.result c.end-held.ensures.value)
-    (record {
-      label = c.end-held.ensures.label;
-      limit = c.end-held.ensures.limit;
-      clock = c.end-held.ensures.clock;
-      out = record { entries = c.end-held.ensures.entries; node_chain = c.end-held.ensures.of_node; app_chain = c.end-held.ensures.of_app; nodes = c.end-held.ensures.nodes; apps = c.end-held.ensures.apps };
-    }))
+    (left c)
     c.freed.new.nodes c.released.new.apps c.freed.ensures c.released.ensures
     ∙ ap (λ (h : Held). with_ended c.args.p c.args.number c.container_in-held.result.node h.rows) c.self.view_is
 
 pub returns-clause-rooms : goal.returns-clause-rooms
 returns-clause-rooms c =
     subst (λ (h : Held). LeavesRoom c.args.p 0 h.rooms (map (λ (part : Partition). part.containers.room) (slice_set c.self.inside.partitions.items c.args.p c.end-held.new.self))) c.self.view_is
-    (rooms-left c.self.inside.partitions.items c.args.p c.index_mut-part.result.now c.end-held.new.self 0 (there-of c.self.inside c.args.self.now c.args.p c.args.number c.self.view_is c.requires c.deref.result.now c.deref.ensures.value c.container_in-held.result c.container_in-held.ensures c.index_mut-part.result.now c.index_mut-part.ensures.value) (omega (arith, c.end-held.ensures.room)))
+    (rooms-left c.self.inside.partitions.items c.args.p c.index_mut-part.result.now c.end-held.new.self 0 (there c) (omega (arith, c.end-held.ensures.room)))

@@ -24,6 +24,8 @@ none-linked a nodes apps = record {
   free = λ n row part found at. absurd (none-some row (sym (ap (lookup (nat_eq n)) nodes) ∙ found));
   fits = λ n row part found at. absurd (none-some row (sym (ap (lookup (nat_eq n)) nodes) ∙ found));
   small = λ n row found. absurd (none-some row (sym (ap (lookup (nat_eq n)) nodes) ∙ found));
+  places = λ n row found. absurd (none-some row (sym (ap (lookup (nat_eq n)) apps) ∙ found));
+  master = λ n row part found at. absurd (none-some row (sym (ap (lookup (nat_eq n)) apps) ∙ found));
 }
 
 -- the rows are those before any event

@@ -1,5 +1,5 @@
 -- What is known where a container is placed.
-use Rattle.std.proofs.Common.{◌≡◌, ◌<◌, ◌+◌, true, IsTrue, IfSome, length, get_or, slice_get, Some, nat_eq, refl, sym, ap, subst, ◌∙◌, map}
+use Rattle.std.proofs.Common.{◌≡◌, ◌<◌, ◌+◌, ◌^◌, true, IsTrue, IfSome, length, get_or, slice_get, Some, nat_eq, refl, sym, ap, subst, ◌∙◌, map}
 use Rattle.std.specs.Map.{lookup}
 use Rattle.std.proofs.lemmas.Option.{slice_get_read}
 use Rattle.ynl_resource.specs.Amounts.{fits_in}
@@ -74,8 +74,8 @@ module _ (a : Inside) (h : Held) (placed : Placement) (view : held_of a ≡ h) (
       (sym (at_live (λ (r : AppPart). chain ≡ chain_of row.partition r.chains) (lookup (nat_eq placed.app) a.apps.entries) own.0 is own.1))
       (app-chain a inv placed able row at part stood own.0 own.1)
 
-  place-there : IfSome (lookup (nat_eq placed.app) a.apps.entries) (λ r. IsLive row.partition r.chains)
-  place-there = subst (λ o. IfSome o (λ (r : AppPart). IsLive row.partition r.chains)) (sym own.1) (has-place a inv placed able row at part stood own.0 own.1)
+  place-there : row.partition < 2 ^ 8 → IfSome (lookup (nat_eq placed.app) a.apps.entries) (λ r. IsLive row.partition r.chains)
+  place-there small = subst (λ o. IfSome o (λ (r : AppPart). IsLive row.partition r.chains)) (sym own.1) (has-place a inv placed able row at part stood own.0 own.1 small)
 
   free-there : IfSome (lookup (nat_eq placed.node) a.nodes) (λ r. IsTrue (fits_in placed.size r.free))
   free-there = subst (λ o. IfSome o (λ (r : NodePart). IsTrue (fits_in placed.size r.free))) (sym at) free
@@ -111,6 +111,7 @@ taken-requires-clause-live c = app-live c.self.inside c.args.placed.now (can c.s
 pub taken-requires-clause-place : goal.taken-requires-clause-place
 taken-requires-clause-place c =
     place-there c.self.inside c.args.self.now c.args.placed.now c.self.view_is c.self.invariant c.requires c.index-row.result.now c.index-row.ensures c.index_mut-part.result.now c.index_mut-part.ensures.value
+    c.type_inv.p.fits
 
 pub invariant_of-self : goal.invariant_of-self
 invariant_of-self c = record {
@@ -121,6 +122,7 @@ invariant_of-self c = record {
       (record {
         label = c.place-number.ensures.label;
         limit = c.place-number.ensures.limit;
+        guests = c.place-number.ensures.guests;
         clock = c.place-number.ensures.clock;
         entries = c.place-number.ensures.entries;
         unused = c.place-number.ensures.unused;
@@ -129,7 +131,7 @@ invariant_of-self c = record {
         nodes = c.place-number.ensures.nodes;
         apps = c.place-number.ensures.apps;
       })
-      c.used.new.nodes c.taken.new.apps c.used.ensures c.taken.ensures;
+      c.taken.ensures.place c.used.new.nodes c.taken.new.apps c.used.ensures c.taken.ensures.apps;
   linked =
       all-linked c.self.inside c.self.invariant c.args.placed.now (can c.self.inside c.args.self.now c.args.placed.now c.self.view_is c.requires) c.index-row.result.now c.index-row.ensures c.index_mut-part.result.now
       (stood c.self.inside c.args.self.now c.args.placed.now c.self.view_is c.self.invariant c.requires c.index-row.result.now c.index-row.ensures c.index_mut-part.result.now c.index_mut-part.ensures.value)
@@ -137,6 +139,7 @@ invariant_of-self c = record {
       (record {
         label = c.place-number.ensures.label;
         limit = c.place-number.ensures.limit;
+        guests = c.place-number.ensures.guests;
         clock = c.place-number.ensures.clock;
         entries = c.place-number.ensures.entries;
         unused = c.place-number.ensures.unused;
@@ -145,7 +148,7 @@ invariant_of-self c = record {
         nodes = c.place-number.ensures.nodes;
         apps = c.place-number.ensures.apps;
       })
-      c.used.new.nodes c.taken.new.apps c.used.ensures c.taken.ensures;
+      c.taken.ensures.place c.used.new.nodes c.taken.new.apps c.used.ensures c.taken.ensures.apps;
 }
 
 pub returns-clause-rows : goal.returns-clause-rows
@@ -156,6 +159,7 @@ returns-clause-rows c =
     (record {
       label = c.place-number.ensures.label;
       limit = c.place-number.ensures.limit;
+      guests = c.place-number.ensures.guests;
       clock = c.place-number.ensures.clock;
       entries = c.place-number.ensures.entries;
       unused = c.place-number.ensures.unused;
@@ -164,7 +168,7 @@ returns-clause-rows c =
       nodes = c.place-number.ensures.nodes;
       apps = c.place-number.ensures.apps;
     })
-    c.used.new.nodes c.taken.new.apps c.used.ensures c.taken.ensures
+    c.taken.ensures.place c.used.new.nodes c.taken.new.apps c.used.ensures c.taken.ensures.apps
     ∙ ap (λ (h : Held). with_placed c.place-number.result c.args.placed.now.node c.args.placed.now.app c.args.placed.now.role c.args.placed.now.size h.rows) c.self.view_is
 
 pub returns-clause-rooms : goal.returns-clause-rooms
