@@ -3,3 +3,5 @@ pub mod Steps
 pub mod Tests
 pub mod LowestAsk
 pub mod FirstOver
+pub mod SeatGiven
+pub mod FirstIn

@@ -1,3 +1,4 @@
 pub mod Places
 pub mod Leaves
 pub mod Lowest
+pub mod InLeaf

@@ -10,4 +10,5 @@ mod found;
 mod headroom;
 mod leaf;
 mod lowest;
+mod own;
 mod place;

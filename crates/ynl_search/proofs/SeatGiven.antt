@@ -1,0 +1,202 @@
+-- What a seat of a leaf's lane is given.
+use Rattle.std.proofs.Common.{◌≡◌, ◌<◌, ◌≤◌, ◌⊎◌, ℕ, min, Bool, true, false, not, ◌&&◌, cond, nat_eq, nat_le, List, [], ◌∷◌, map, filter, Option, None, Some, IsSome, is_some, unwrap_or, option_map, inl, inr, refl, sym, ap, subst, ◌∙◌, arith, true≢false}
+use Rattle.std.specs.List.{AllByRecursion}
+use Rattle.std.specs.Map.{lookup}
+use Rattle.std.specs.Option.{option_and_then, option_map_or}
+use Rattle.std.proofs.lemmas.Bool.{and_from, and_parts, and_right}
+use Rattle.std.proofs.lemmas.Bool.Decides.{nat_tests}
+use Rattle.std.proofs.lemmas.Option.{none-some, same_Some}
+use Rattle.ynl_resource.specs.Amounts.{IsSize, amount, fits_in, plus, smaller_of}
+use Rattle.ynl_resource.specs.declared.amounts.Resource.{Resource}
+use Rattle.ynl_laws.proofs.Amounts.{fits-plus, fits-refl, fits-trans}
+use Rattle.ynl_slots.specs.Slots.{HasDistinctNumbers, IsUnused}
+use Rattle.ynl_app_table.specs.declared.asks.Ask.{Ask}
+use Rattle.ynl_lanes.specs.Lows.{no_size}
+use Rattle.ynl_limits.specs.Limits.{limit_of}
+use Rattle.ynl_limits.proofs.UserLimit.{limit-grows}
+use Rattle.ynl_lane.specs.declared.kinds.Kind.{Kind}
+use Rattle.ynl_lane.specs.declared.kinds.Kind.TheVariants as kind
+use Rattle.ynl_lane.specs.Kinds.{of_kind}
+use Rattle.ynl_lane.specs.Seats.{Seat, given, may_have, nothing_waits}
+use Rattle.ynl_inventory.specs.Rows.{Rows, AppRow}
+use Rattle.ynl_inventory.specs.Apps.{runs_at}
+use Rattle.ynl_seating.specs.Seating.{figures_of, least_asked, seat_of, seats_of, shares, sits, ticket_on, user_use, waits_at, waits_of}
+use Rattle.ynl_seating.proofs.Leasts.{are-leasts}
+use Rattle.ynl_requests.proofs.Members.{Among, each-among, filter-among, map-among}
+use Rattle.ynl_search.specs.declared.found.Found.{Found}
+use Rattle.ynl_search.specs.declared.leaf.LeafTests.{LeafTests}
+use Rattle.ynl_search.specs.InLeaf.{found_ask, found_master, gives_ask, gives_master, is_open_to, used_on}
+use Rattle.ynl_search.specs.Leaves.{most_of, passes_ask, passes_master, room_of}
+use Rattle.ynl_search.specs.Lowest.{lowest}
+use Rattle.ynl_search.specs.Places.{allows}
+use Rattle.ynl_search.proofs.LowestAsk.{IsLowest, lowest-is}
+
+-- ---- entries that are found
+
+pub among-found : {X : Type 0} (n : ℕ) (row : X) (es : List (ℕ × X)) → lookup (nat_eq n) es ≡ Some row → Among (n, row) es
+among-found n row [] found = absurd (none-some row found)
+among-found {X = X} n row (e ∷ es) found = go (nat_eq n e.0) refl found (among-found n row es)
+  where
+    go : (b : Bool) → nat_eq n e.0 ≡ b → cond b (Some e.1) (lookup (nat_eq n) es) ≡ Some row → (lookup (nat_eq n) es ≡ Some row → Among (n, row) es) → (e ≡ (n, row)) ⊎ Among (n, row) es
+    go true same found rest = inl (λ i. ((let is : e.0 ≡ n = grind (arith, nat_tests, same) in is) i, same_Some e.1 row found i))
+    go false same found rest = inr (rest found)
+
+unused-other : {X : Type 0} (n : ℕ) (x : ℕ × X) (es : List (ℕ × X)) → IsUnused n es → Among x es → nat_eq x.0 n ≡ false
+unused-other n x [] unused there = absurd there
+unused-other n x (e ∷ es) unused (inl is) = let apart = unused.0 in let same = ap (λ (o : ℕ × _). o.0) is in grind (arith, nat_tests, apart, same)
+unused-other n x (e ∷ es) unused (inr there) = unused-other n x es unused.1 there
+
+pub found-among : {X : Type 0} (x : ℕ × X) (es : List (ℕ × X)) → HasDistinctNumbers es → Among x es → lookup (nat_eq x.0) es ≡ Some x.1
+found-among x [] distinct there = absurd there
+found-among {X = X} x (e ∷ es) distinct (inl is) =
+    subst (λ (y : ℕ × X). cond (nat_eq y.0 e.0) (Some e.1) (lookup (nat_eq y.0) es) ≡ Some y.1) is (ap (λ b. cond b (Some e.1) (lookup (nat_eq e.0) es)) (itself e.0))
+  where
+    itself : (n : ℕ) → nat_eq n n ≡ true
+    itself n = grind (arith, nat_tests)
+found-among x (e ∷ es) distinct (inr there) =
+    ap (λ b. cond b (Some e.1) (lookup (nat_eq x.0) es)) (unused-other e.0 x es distinct.0 there) ∙ found-among x es distinct.1 there
+
+-- ---- what can be placed may wait
+
+-- a row's requests have the sizes that requests may have
+pub record IsSizedRow (row : AppRow) : Type 0 where
+  pub master : IsSize row.master
+  pub asks : AllByRecursion (λ ask. IsSize ask.size) row.asks
+
+-- a size that requests may have is below no size
+small-size : (low size : Resource) → IsSize size → fits_in low size ≡ true → not (fits_in no_size low) ≡ true
+small-size low size is below =
+    let parts = and_parts (nat_le low.memory size.memory) (nat_le low.vcores size.vcores) below in
+    let vcores = is.vcores in
+    let under : low.vcores ≤ size.vcores = grind (arith, nat_tests, parts.1) in
+    let above : nat_le 0xffff_ffff low.vcores ≡ false = grind (arith, nat_tests, vcores, under) in
+    ap not (and_right (nat_le 0xffff_ffff low.memory) (nat_le 0xffff_ffff low.vcores) above)
+
+within-largest : (room size : Resource) → IsSize size → fits_in size room ≡ true → fits_in size (smaller_of room (amount 0xffff_ffff 0xffff_ffff)) ≡ true
+within-largest room size is fits =
+    let parts = and_parts (nat_le size.memory room.memory) (nat_le size.vcores room.vcores) fits in
+    let memory = is.memory in
+    let vcores = is.vcores in
+    and_from (nat_le size.memory (min room.memory 0xffff_ffff)) (nat_le size.vcores (min room.vcores 0xffff_ffff))
+    (grind (arith, nat_tests, parts.0, memory)) (grind (arith, nat_tests, parts.1, vcores))
+
+module _ (tests : LeafTests) (room : Resource) (open_to : room_of tests ≡ Some room) where
+  is-room : (b : Bool) → cond b (Some tests.headroom.room) None ≡ Some room → (b ≡ true) × (tests.headroom.room ≡ room)
+  is-room true is = (refl, same_Some tests.headroom.room room is)
+  is-room false is = absurd (none-some room is)
+
+  -- what passes fits in the room, and keeps its user within the bound
+  bounds : (used size : Resource) → IsSize size → passes_ask tests used size ≡ true → (fits_in size room ≡ true) × (fits_in (plus used size) (most_of tests) ≡ true)
+  bounds used size is passes =
+      let parts = and_parts (allows tests.headroom size) (fits_in (plus used size) (limit_of tests.limits size)) passes in
+      let fits = (and_parts tests.headroom.is_open (fits_in size tests.headroom.room) parts.0).1 in
+      (
+        ap (fits_in size) (sym (is-room tests.headroom.is_open open_to).1) ∙ fits,
+        fits-trans (plus used size) (limit_of tests.limits size) (most_of tests) parts.1
+            (limit-grows tests.limits size (smaller_of tests.headroom.room (amount 0xffff_ffff 0xffff_ffff)) (within-largest tests.headroom.room size is fits)),
+      )
+
+  -- so a seat at which something waits that is no greater may have it
+  may : (k : Kind) (seat : Seat) (size : Resource) → IsSize size → fits_in (of_kind k seat.waits) size ≡ true → passes_ask tests seat.used size ≡ true → may_have k room (most_of tests) seat ≡ true
+  may k seat size is below passes =
+      let low : Resource = of_kind k seat.waits in
+      let bound = bounds seat.used size is passes in
+      and_from (not (fits_in no_size low) && fits_in low room) (fits_in (plus seat.used low) (most_of tests))
+      (and_from (not (fits_in no_size low)) (fits_in low room) (small-size low size is below) (fits-trans low size room below bound.0))
+      (fits-trans (plus seat.used low) (plus seat.used size) (most_of tests) (fits-plus seat.used low size below) bound.1)
+
+-- where nothing waits nothing may be had
+none-waits : (k : Kind) (room most : Resource) (seat : Seat) → of_kind k seat.waits ≡ no_size → may_have k room most seat ≡ false
+none-waits k room most seat is = ap (λ low. not (fits_in no_size low) && fits_in low room && fits_in (plus seat.used low) most) is
+
+-- ---- the seat of an application
+
+module _ (v : Rows) (p q : ℕ) (seats : List (ℕ × Seat)) (are : seats ≡ seats_of (figures_of v) p q v.apps) (distinct : HasDistinctNumbers seats) (tests : LeafTests)
+    (n : ℕ) (row : AppRow) (found : lookup (nat_eq n) v.apps ≡ Some row) (sitting : sits p q row ≡ true) (ticket : IsSome (ticket_on p row)) (sized : IsSizedRow row) where
+  -- what the user uses
+  abbrev pub used : Resource
+  used = user_use v p q row.user
+
+  abbrev pub its : ℕ × Seat
+  its = seat_of (figures_of v) p q (n, row)
+
+  there : Among its seats
+  there = subst (Among its) (sym are) (map-among (seat_of (figures_of v) p q) (n, row) (filter (λ (e : ℕ × AppRow). sits p q e.1) v.apps) (filter-among (λ (e : ℕ × AppRow). sits p q e.1) (n, row) v.apps sitting (among-found n row v.apps found)))
+
+  ticket-is : ticket_on p row ≡ Some its.0
+  ticket-is = go (ticket_on p row) ticket
+    where
+      go : (o : Option ℕ) → IsSome o → o ≡ Some (unwrap_or o 0)
+      go None some = absurd (true≢false (sym some))
+      go (Some t) some = refl
+
+  used-is : used_on seats p row ≡ Some used
+  used-is =
+      ap (option_and_then (λ ticket. option_map (λ (seat : Seat). seat.used) (lookup (nat_eq ticket) seats))) ticket-is
+      ∙ ap (option_map (λ (seat : Seat). seat.used)) (found-among its seats distinct there)
+
+  waits-are : its.1.waits ≡ waits_at v p n row
+  waits-are = ap (λ o. option_map_or (waits_at v p n) o nothing_waits) found
+
+  pub master-is : gives_master v seats p tests n ≡ cond (passes_master tests used row.master) (Some (found_master n row)) None
+  master-is =
+      ap (option_and_then (λ r. option_and_then (λ used. cond (passes_master tests used r.master) (Some (found_master n r)) None) (used_on seats p r))) found
+      ∙ ap (option_and_then (λ used. cond (passes_master tests used row.master) (Some (found_master n row)) None)) used-is
+
+  pub ask-is : gives_ask v seats p tests n ≡ option_map (found_ask n) (lowest (is_open_to v seats p tests used) row.asks)
+  ask-is =
+      ap (option_and_then (λ r. option_and_then (λ used. option_map (found_ask n) (lowest (is_open_to v seats p tests used) r.asks)) (used_on seats p r))) found
+      ∙ ap (option_and_then (λ used. option_map (found_ask n) (lowest (is_open_to v seats p tests used) row.asks))) used-is
+
+  module _ (room : Resource) (open_to : room_of tests ≡ Some room) where
+    -- its seat is given the master just where that waits
+    pub master-given : given kind.Master room (most_of tests) (gives_master v seats p tests) its.1 ≡ cond (not (runs_at v n row) && nat_eq row.home p) (gives_master v seats p tests n) None
+    master-given = go (not (runs_at v n row) && nat_eq row.home p) refl (passes_master tests used row.master) refl
+      where
+        go : (waits : Bool) → (not (runs_at v n row) && nat_eq row.home p) ≡ waits → (passes : Bool) → passes_master tests used row.master ≡ passes
+            → cond (may_have kind.Master room (most_of tests) its.1) (gives_master v seats p tests n) None ≡ cond waits (gives_master v seats p tests n) None
+        go false w passes e =
+            ap (λ b. cond b (gives_master v seats p tests n) None)
+            (none-waits kind.Master room (most_of tests) its.1 (ap (of_kind kind.Master) waits-are ∙ ap (λ b. cond b row.master no_size) w))
+        go true w true e =
+            ap (λ b. cond b (gives_master v seats p tests n) None)
+            (may tests room open_to kind.Master its.1 row.master sized.master
+            (ap (λ low. fits_in low row.master) (ap (of_kind kind.Master) waits-are ∙ ap (λ b. cond b row.master no_size) w) ∙ fits-refl row.master)
+            (and_parts (passes_ask tests used row.master) _ e).0)
+        go true w false e =
+            ap (cond (may_have kind.Master room (most_of tests) its.1) (gives_master v seats p tests n)) (sym nothing) ∙ same (may_have kind.Master room (most_of tests) its.1) (gives_master v seats p tests n)
+          where
+            nothing : gives_master v seats p tests n ≡ None
+            nothing = master-is ∙ ap (λ b. cond b (Some (found_master n row)) None) e
+
+            same : (b : Bool) (o : Option Found) → cond b o o ≡ o
+            same true o = refl
+            same false o = refl
+
+    -- and the first ask that passes just where it runs
+    pub ask-given : given kind.Ask room (most_of tests) (gives_ask v seats p tests) its.1 ≡ cond (runs_at v n row) (gives_ask v seats p tests n) None
+    ask-given = go (runs_at v n row) refl (lowest (is_open_to v seats p tests used) row.asks) refl
+      where
+        go : (runs : Bool) → runs_at v n row ≡ runs → (o : Option Ask) → lowest (is_open_to v seats p tests used) row.asks ≡ o
+            → cond (may_have kind.Ask room (most_of tests) its.1) (gives_ask v seats p tests n) None ≡ cond runs (gives_ask v seats p tests n) None
+        go false r o e =
+            ap (λ b. cond b (gives_ask v seats p tests n) None)
+            (none-waits kind.Ask room (most_of tests) its.1 (ap (of_kind kind.Ask) waits-are ∙ ap (λ b. cond b (least_asked p row.asks) no_size) r))
+        go true r (Some best) e =
+            let is : IsLowest (is_open_to v seats p tests used) row.asks best = lowest-is (is_open_to v seats p tests used) row.asks best e in
+            let parts = and_parts (nat_eq best.partition p) (passes_ask tests used best.size) is.passes in
+            let for_p : best.partition ≡ p = grind (arith, nat_tests, parts.0) in
+            ap (λ b. cond b (gives_ask v seats p tests n) None)
+            (may tests room open_to kind.Ask its.1 best.size (each-among (λ ask. IsSize ask.size) best row.asks sized.asks is.there)
+            (ap (λ low. fits_in low best.size) (ap (of_kind kind.Ask) waits-are ∙ ap (λ b. cond b (least_asked p row.asks) no_size) r)
+            ∙ each-among (λ ask. ask.partition ≡ p → fits_in (least_asked p row.asks) ask.size ≡ true) best row.asks (are-leasts p row.asks) is.there for_p)
+            parts.1)
+        go true r None e =
+            ap (cond (may_have kind.Ask room (most_of tests) its.1) (gives_ask v seats p tests n)) (sym nothing) ∙ same (may_have kind.Ask room (most_of tests) its.1) (gives_ask v seats p tests n)
+          where
+            nothing : gives_ask v seats p tests n ≡ None
+            nothing = ask-is ∙ ap (option_map (found_ask n)) e
+
+            same : (b : Bool) (o : Option Found) → cond b o o ≡ o
+            same true o = refl
+            same false o = refl

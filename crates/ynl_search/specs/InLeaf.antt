@@ -1,0 +1,61 @@
+-- What the applications of a leaf are given, by their seats in its lane.
+use Rattle.std.specs.Prelude.{ℕ, Bool, ◌&&◌, nat_eq, List, Option, Some, None, option_map, if◌then◌else◌}
+use Rattle.std.specs.Map.{lookup}
+use Rattle.std.specs.Option.{option_and_then, option_or}
+use Rattle.ynl_resource.specs.Amounts.{fits_in}
+use Rattle.ynl_resource.specs.declared.amounts.Resource.{Resource}
+use Rattle.ynl_app_table.specs.declared.asks.Ask.{Ask}
+use Rattle.ynl_container_table.specs.declared.container.Role.TheVariants.{Master, Ask as Asked}
+use Rattle.ynl_lane.specs.declared.kinds.Kind.{Kind}
+use Rattle.ynl_lane.specs.declared.kinds.Kind.TheVariants as kind
+use Rattle.ynl_lane.specs.Seats.{Seat, first_given, given, seats_up_to}
+use Rattle.ynl_inventory.specs.Rows.{Rows, AppRow}
+use Rattle.ynl_seating.specs.Seating.{ticket_on}
+use Rattle.ynl_search.specs.declared.found.Found.{Found}
+use Rattle.ynl_search.specs.declared.leaf.LeafTests.{LeafTests}
+use Rattle.ynl_search.specs.Lowest.{lowest}
+use Rattle.ynl_search.specs.Leaves.{most_of, passes_ask, passes_master, room_of}
+
+-- what the user of an application uses, as the application's seat shows it
+abbrev pub used_on : List (ℕ × Seat) → ℕ → AppRow → Option Resource
+used_on seats p row = option_and_then (λ ticket. option_map (λ seat. seat.used) (lookup (nat_eq ticket) seats)) (ticket_on p row)
+
+-- an application's master, and one of its asks, as what is found
+abbrev pub found_master : ℕ → AppRow → Found
+found_master n row = record { app = n; role = Master; size = row.master }
+
+abbrev pub found_ask : ℕ → Ask → Found
+found_ask n ask = record { app = n; role = Asked ask.partition ask.priority; size = ask.size }
+
+module _ (v : Rows) (seats : List (ℕ × Seat)) (p : ℕ) (tests : LeafTests) where
+  -- whether an ask is for the partition, and may be placed where its user uses so much
+  abbrev pub is_open_to : Resource → Ask → Bool
+  is_open_to used ask = nat_eq ask.partition p && passes_ask tests used ask.size
+
+  -- an application is given its master, if that may be placed
+  abbrev pub gives_master : ℕ → Option Found
+  gives_master n =
+      option_and_then (λ row. option_and_then (λ used. if passes_master tests used row.master then Some (found_master n row) else None) (used_on seats p row))
+      (lookup (nat_eq n) v.apps)
+
+  -- and the ask of the lowest priority number that may be
+  abbrev pub gives_ask : ℕ → Option Found
+  gives_ask n =
+      option_and_then (λ row. option_and_then (λ used. option_map (found_ask n) (lowest (is_open_to used) row.asks)) (used_on seats p row))
+      (lookup (nat_eq n) v.apps)
+
+  -- the first seat whose application is given its master, within a room
+  abbrev pub first_master : Resource → Option (ℕ × Found)
+  first_master room = first_given (given kind.Master room (most_of tests) gives_master) seats
+
+  -- the first before another whose application is given an ask
+  abbrev pub first_ask : Resource → Option ℕ → Option (ℕ × Found)
+  first_ask room before = first_given (given kind.Ask room (most_of tests) gives_ask) (seats_up_to before seats)
+
+  -- what stands first of these
+  abbrev pub first_within : Resource → Option Found
+  first_within room = option_or (option_map (λ e. e.1) (first_ask room (option_map (λ e. e.0) (first_master room)))) (option_map (λ e. e.1) (first_master room))
+
+  -- what is found in the leaf
+  abbrev pub first_own : Option Found
+  first_own = option_and_then first_within (room_of tests)
