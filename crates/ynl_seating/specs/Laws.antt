@@ -14,7 +14,7 @@ use Rattle.ynl_model.specs.Cluster.{State, runs, user_used, waits}
 use Rattle.ynl_model.specs.Limits.{sharing, users}
 use Rattle.ynl_model.specs.Queues.{Config}
 use Rattle.ynl_model.specs.Service.{Item, asks_of}
-use Rattle.ynl_slots.specs.Slots.{IsUnused, without}
+use Rattle.ynl_slots.specs.Slots.{IsUnused}
 use Rattle.ynl_app_table.specs.declared.asks.Ask.{Ask}
 use Rattle.ynl_layout.specs.Paths.{HasNumber, path_at}
 use Rattle.ynl_lanes.specs.Lows.{IsBelow, no_size}
@@ -24,12 +24,12 @@ use Rattle.ynl_lane_table.specs.Lanes.{lane_at, no_seats}
 use Rattle.ynl_inventory.specs.Rows.{Rows, AppRow}
 use Rattle.ynl_inventory.specs.Apps.{runs_at}
 use Rattle.ynl_inventory.specs.Meaning.{app_name, application_of, has_none_below, label_at, state_of}
-use Rattle.ynl_inventory.specs.Changes.{with_asked, with_dropped, with_ended, with_joined, with_node_gone, with_submitted, with_user}
+use Rattle.ynl_inventory.specs.Changes.{with_asked, with_joined, with_node_gone, with_submitted, with_user}
 use Rattle.ynl_inventory.specs.Opening.{opening_rows}
 use Rattle.ynl_inventory.specs.Parts.{containers_of}
 use Rattle.ynl_inventory.specs.Sound.{HasPartition, IsSound}
 use Rattle.ynl_seating.specs.Seating.{AreSeated, least_asked, shares, sitting, ticket_on, user_use, waits_at}
-use Rattle.ynl_seating.specs.Steps.{AreSeatedBut, ChangesContainers, IsReserved, IsUnseated}
+use Rattle.ynl_seating.specs.Steps.{AreSeatedBut, IsReserved, IsUnseated}
 
 -- ---- the lanes of rows
 
@@ -62,11 +62,6 @@ pub record AreStill : Type 0 where
 -- where an application asks, only what waits of it changes
 abbrev pub IsAskedBut : Type 0
 IsAskedBut = (v : Rows) (app : ℕ) (ask : Ask) (lanes : List (List Seats)) → AreSeated v lanes → AreSeatedBut app (with_asked app ask v) lanes
-
--- where a container ends, or goes with its node, it goes from the containers of its partition
-pub record AreLost : Type 0 where
-  pub ended : (v : Rows) (p number node : ℕ) → HasPartition v p → ChangesContainers p (without number) v (with_ended p number node v)
-  pub dropped : (v : Rows) (p number : ℕ) → HasPartition v p → ChangesContainers p (without number) v (with_dropped p number v)
 
 -- ---- what waits
 

@@ -1,6 +1,6 @@
 //! What the seats are in the model, and which changes of the rows leave them.
 
-ghost use Rattle.ynl_seating.specs.Laws.{AreFound, AreLeasts, AreLost, AreRequests, AreSharing};
+ghost use Rattle.ynl_seating.specs.Laws.{AreFound, AreLeasts, AreRequests, AreSharing};
 ghost use Rattle.ynl_seating.specs.Laws.{AreStill, AreUsers, IsAskedBut, IsRunning, IsSeatedFirst};
 ghost use Rattle.ynl_seating.specs.Laws.{IsSubmittedLast, IsUserUse, IsUseWithin};
 
@@ -27,11 +27,6 @@ pub fn others_are_still()
 /// Where an application asks, only what waits of it changes.
 pub fn asks_change_what_waits()
     ensures { IsAskedBut }
-{}
-
-/// Where a container ends or goes with its node, it goes from the containers of its partition.
-pub fn containers_go()
-    ensures { AreLost }
 {}
 
 /// The least that is asked for on a partition is below each size that is asked for there, so that it waits; and nothing waits
