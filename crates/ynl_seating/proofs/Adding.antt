@@ -16,9 +16,9 @@ use Rattle.ynl_inventory.specs.Sound.{HasPartition}
 use Rattle.ynl_seating.specs.Seating.{AreLanes, Figures, HasSeats, IsSeated, figures_of, seat_of, seats_of, shares, sits, sitting, ticket_on, waits_of}
 use Rattle.ynl_seating.specs.Steps.{AreSeatedBut, IsUnseated}
 use Rattle.ynl_seating.proofs.Entered.{default-shared, home-shared}
-use Rattle.ynl_seating.proofs.Lanes.{lifted, other-ready}
-use Rattle.ynl_seating.proofs.Newcomer.{added, added-others, apps-are, newcomer, none-used, old-found, old-seats, other-leaf, other-partition, own-found, seats-same, shared-still, u, use-same}
-use Rattle.ynl_seating.proofs.SeatLists.{seats-pushed, used-first}
+use Rattle.ynl_seating.proofs.Lanes.{lifted, other-ready, seated-as}
+use Rattle.ynl_seating.proofs.Newcomer.{added, added-others, apps-are, newcomer, none-used, old-found, old-seats, own-found, seats-same, shared-still, u, use-same}
+use Rattle.ynl_seating.proofs.SeatLists.{other-leaf, other-partition, seats-pushed, used-first}
 
 module _ (app : ℕ) (w : Rows) (lanes : List (List Seats)) (start : IsUnseated app w lanes) (t : Tickets) where
   abbrev v : Rows
@@ -101,7 +101,7 @@ module _ (app : ℕ) (w : Rows) (lanes : List (List Seats)) (start : IsUnseated 
 
         others : (p q : ℕ) → (p ≡ row.home → q ≢ row.leaf) → (b : Bool) → nat_eq p row.home ≡ b → seats_of F p q (cond b after.apps v.apps) ≡ seats_of (figures_of v) p q v.apps
         others p q apart true same =
-            seats-same app w lanes start t p q (other-leaf app w lanes start t p q (apart (eqb-true p row.home same))) ∙ old-seats app w lanes start t p q
+            seats-same app w lanes start t p q (other-leaf p q row (apart (eqb-true p row.home same))) ∙ old-seats app w lanes start t p q
         others p q apart false far = old-seats app w lanes start t p q
 
     -- where the new application has all seats that it should
@@ -111,13 +111,10 @@ module _ (app : ℕ) (w : Rows) (lanes : List (List Seats)) (start : IsUnseated 
 
     -- that is all where home is DEFAULT
     pub lanes-once : row.home ≡ 0 → AreLanes F (λ p. after.apps) after mid
-    lanes-once zero p q has number = whole (lanes-half p q has number)
+    lanes-once zero p q has number = seated-as F F (half p) after.apps p q mid same (lanes-half p q has number)
       where
         same : seats_of F p q after.apps ≡ seats_of F p q (half p)
-        same = filled p q (λ apart. other-partition app w lanes start t p q (λ is. apart (is ∙ sym zero)) apart) (nat_eq p row.home) refl
-
-        whole : IsSeated F (half p) p q mid → IsSeated F after.apps p q mid
-        whole at = record { there = at.there; seats = at.seats ∙ sym same; distinct = subst HasDistinctNumbers (sym same) at.distinct }
+        same = filled p q (λ apart. other-partition p q row (λ is. apart (is ∙ sym zero)) apart) (nat_eq p row.home) refl
 
     -- the lane of DEFAULT is as it was, where home is another
     pub still-default : row.home ≢ 0 → lane_at 0 row.leaf mid ≡ lane_at 0 row.leaf lanes
@@ -147,8 +144,8 @@ module _ (app : ℕ) (w : Rows) (lanes : List (List Seats)) (start : IsUnseated 
         off : (p q : ℕ) → (p ≡ 0 → q ≢ row.leaf) → p ≢ row.home → sits p q row ≡ false
         off p q far away =
             elim (cases_eq p 0) [
-              | inl is ↦ other-leaf app w lanes start t p q (far is)
-              | inr other ↦ other-partition app w lanes start t p q other away
+              | inl is ↦ other-leaf p q row (far is)
+              | inr other ↦ other-partition p q row other away
             ]
 
   -- the lanes are those of the rows, but for what waits of the new application

@@ -1,23 +1,30 @@
 -- What the calls find: the lanes against the rows after a container was placed, or went.
-use Rattle.std.proofs.Common.{◌≡◌, ℕ, true, false, List, Some, nat_eq, refl, sym, ap, subst, ◌∙◌}
+use Rattle.std.proofs.Common.{◌≡◌, ℕ, Bool, true, false, not, ◌&&◌, ◌||◌, List, [], slice_get, Option, Some, None, nat_eq, refl, sym, ap, subst, ◌∙◌, inl, inr}
+use mathlib.Core.Logic.{◌⊎◌}
 use Rattle.std.specs.Map.{lookup}
-use Rattle.std.specs.Option.{option_map_or}
-use Rattle.std.proofs.lemmas.Option.{slice_get_within}
+use Rattle.std.specs.Option.{option_and_then, option_map_or}
+use Rattle.std.proofs.lemmas.Bool.{and_from, or_left, or_right}
+use Rattle.std.proofs.lemmas.Option.{none-some, slice_get_within}
 use Rattle.ynl_resource.specs.Amounts.{plus}
 use Rattle.ynl_resource.specs.declared.amounts.Resource.{Resource}
-use Rattle.ynl_slots.specs.Slots.{IsLive}
+use Rattle.ynl_slots.specs.Slots.{IsLive, without}
 use Rattle.ynl_app_table.specs.Apps.{with_change}
 use Rattle.ynl_container_table.specs.declared.container.Container.{Container}
 use Rattle.ynl_container_table.specs.declared.container.Role.{Role}
+use Rattle.ynl_container_table.specs.declared.container.Role.TheVariants.{Master, Ask as Asked}
 use Rattle.ynl_lane.specs.Seats.{Seats}
-use Rattle.ynl_inventory.specs.Rows.{Rows, NodeRow, AppRow}
+use Rattle.ynl_inventory.specs.Rows.{Rows, PartitionRow, NodeRow, AppRow}
 use Rattle.ynl_inventory.specs.Apps.{is_guest_role}
-use Rattle.ynl_inventory.specs.Changes.{next_clock_at, next_container, partition_of_node, with_placed, with_taken}
+use Rattle.ynl_inventory.specs.Changes.{next_clock_at, next_container, partition_of_node, with_dropped, with_ended, with_placed, with_taken}
+use Rattle.ynl_inventory.specs.Parts.{containers_of}
 use Rattle.ynl_inventory.specs.Sound.{HasPartition}
 use Rattle.ynl_inventory.proofs.Lookups.{live-found, read-changed}
-use Rattle.ynl_seating.specs.Steps.{AreSeatedBut, AreUsedBut, IsLost, IsPlaced}
+use Rattle.ynl_seating.specs.Seating.{is_shared, shares}
+use Rattle.ynl_seating.specs.Steps.{AreSeatedBut, AreUsedBut, IsEnded, IsPlaced, MayStand}
+use Rattle.ynl_seating.proofs.Carrying.{ChangesContainers}
 use Rattle.ynl_seating.proofs.Coming.{guest-came, guest-went, home-came, home-went}
-use Rattle.ynl_seating.proofs.RowChanges.{itself-keeps, placed-changes, same-rows, taken-keeps}
+use Rattle.ynl_seating.proofs.Entered.{home-shared}
+use Rattle.ynl_seating.proofs.RowChanges.{dropped-changes, ended-changes, itself-keeps, placed-changes, same-rows, taken-keeps}
 
 module _ (node app : ℕ) (r : Role) (size : Resource) (v : Rows) (lanes : List (List Seats)) (start : IsPlaced node app r size v lanes) where
   abbrev before : Rows
@@ -34,6 +41,20 @@ module _ (node app : ℕ) (r : Role) (size : Resource) (v : Rows) (lanes : List 
       let stands : start.can.node_row.partition ≡ place = sym (ap (λ o. option_map_or (λ (row : NodeRow). row.partition) o 0) start.can.node_found) in
       subst (HasPartition before) stands (slice_get_within before.partitions start.can.node_row.partition start.can.partition start.can.partition_found)
 
+  -- its application shares the partition, unless it is a guest there
+  shared : is_shared before.apps place (start.number, next_container before node app r size) ≡ true
+  shared =
+      ap (λ o. is_guest_role place r || option_map_or (shares place) o false) start.can.app_found ∙ by r start.stands
+    where
+      by : (role : Role) → MayStand place start.can.app_row role → (is_guest_role place role || shares place start.can.app_row) ≡ true
+      by Master home = ap (λ m. shares m start.can.app_row) home ∙ home-shared start.can.app_row
+      by (Asked asked priority) (own, inl same) = or_right (is_guest_role place (Asked asked priority)) (shares place start.can.app_row) (ap (λ m. shares m start.can.app_row) same ∙ own)
+      by (Asked asked priority) (own, inr default) = go (nat_eq place 0)
+        where
+          go : (b : Bool) → ((nat_eq asked 0 && not b) || (b || nat_eq start.can.app_row.home place)) ≡ true
+          go true = or_right (nat_eq asked 0 && false) true refl
+          go false = or_left (nat_eq asked 0 && true) (nat_eq start.can.app_row.home place) (and_from (nat_eq asked 0) true (ap (λ m. nat_eq m 0) default) refl)
+
   -- the node is still in its partition
   place-of : partition_of_node v.nodes node ≡ place
   place-of =
@@ -48,26 +69,45 @@ module _ (node app : ℕ) (r : Role) (size : Resource) (v : Rows) (lanes : List 
     placed-guest guest =
         subst (λ w. AreSeatedBut app w lanes) (sym start.rows)
         (guest-came before after (next_container before node app r size) (with_taken r) (taken-keeps r) refl start.can.app_row start.can.app_found place start.number lanes start.seated
-        (placed-changes before start.number node app r size has) start.shared (ap (λ m. is_guest_role m r) is ∙ guest))
+        (placed-changes before start.number node app r size has) shared (ap (λ m. is_guest_role m r) is ∙ guest))
 
     pub placed-home : is_guest_role p r ≡ false → AreUsedBut app p (λ less more. more ≡ plus less size) v lanes
     placed-home home =
         subst (λ w. AreUsedBut app p (λ less more. more ≡ plus less size) w lanes) (sym start.rows)
         (subst (λ m. AreUsedBut app m (λ less more. more ≡ plus less size) after lanes) is
         (home-came before after (next_container before node app r size) (with_taken r) (taken-keeps r) refl start.can.app_row start.can.app_found place start.number lanes start.seated
-        (placed-changes before start.number node app r size has) start.shared (ap (λ m. is_guest_role m r) is ∙ home)))
+        (placed-changes before start.number node app r size has) shared (ap (λ m. is_guest_role m r) is ∙ home)))
 
-module _ (p : ℕ) (c : Container) (v : Rows) (lanes : List (List Seats)) (live : IsLive c.app v.apps) (start : IsLost p c v lanes) where
+module _ (p : ℕ) (c : Container) (v : Rows) (lanes : List (List Seats)) (live : IsLive c.app v.apps) (start : IsEnded p c v lanes) where
+  -- the container stood there
+  held : (lookup (nat_eq start.number) (containers_of start.before p) ≡ Some c) × HasPartition start.before p
+  held = go (slice_get start.before.partitions p) refl start.held
+    where
+      go : (o : Option PartitionRow) → slice_get start.before.partitions p ≡ o → option_and_then (λ (row : PartitionRow). lookup (nat_eq start.number) row.containers) o ≡ Some c
+          → (lookup (nat_eq start.number) (option_map_or (λ (row : PartitionRow). row.containers) o []) ≡ Some c) × HasPartition start.before p
+      go None none at = absurd (none-some c at)
+      go (Some row) there at = (at, slice_get_within start.before.partitions p row there)
+
+  -- it goes from the containers there, and no application changes
+  changes : ChangesContainers p (without start.number) start.before v × (v.apps ≡ start.before.apps)
+  changes = go start.rows
+    where
+      go : ((v ≡ with_ended p start.number c.node start.before) ⊎ (v ≡ with_dropped p start.number start.before)) → ChangesContainers p (without start.number) start.before v × (v.apps ≡ start.before.apps)
+      go (inl is) =
+          (subst (ChangesContainers p (without start.number) start.before) (sym is) (ended-changes start.before p start.number c.node held.1), ap (λ (w : Rows). w.apps) is)
+      go (inr is) =
+          (subst (ChangesContainers p (without start.number) start.before) (sym is) (dropped-changes start.before p start.number held.1), ap (λ (w : Rows). w.apps) is)
+
   found : (row : AppRow) × (lookup (nat_eq c.app) start.before.apps ≡ Some row)
-  found = let own = live-found c.app v.apps live in (own.0, ap (lookup (nat_eq c.app)) (sym start.apps) ∙ own.1)
+  found = let own = live-found c.app v.apps live in (own.0, ap (lookup (nat_eq c.app)) (sym changes.1) ∙ own.1)
 
   apps-are : v.apps ≡ with_change c.app (λ row. row) start.before.apps
-  apps-are = start.apps ∙ sym (same-rows c.app start.before.apps)
+  apps-are = changes.1 ∙ sym (same-rows c.app start.before.apps)
 
-  pub lost-guest : is_guest_role p c.role ≡ true → AreSeatedBut c.app v lanes
-  lost-guest guest =
-      guest-went start.before v c (λ row. row) itself-keeps apps-are found.0 found.1 p start.number lanes start.seated start.changes start.numbers start.held guest
+  pub ended-guest : is_guest_role p c.role ≡ true → AreSeatedBut c.app v lanes
+  ended-guest guest =
+      guest-went start.before v c (λ row. row) itself-keeps apps-are found.0 found.1 p start.number lanes start.seated changes.0 start.numbers held.0 guest
 
-  pub lost-home : is_guest_role p c.role ≡ false → AreUsedBut c.app p (λ more less. more ≡ plus less c.size) v lanes
-  lost-home home =
-      home-went start.before v c (λ row. row) itself-keeps apps-are found.0 found.1 p start.number lanes start.seated start.changes start.numbers start.held home
+  pub ended-home : is_guest_role p c.role ≡ false → AreUsedBut c.app p (λ more less. more ≡ plus less c.size) v lanes
+  ended-home home =
+      home-went start.before v c (λ row. row) itself-keeps apps-are found.0 found.1 p start.number lanes start.seated changes.0 start.numbers held.0 home

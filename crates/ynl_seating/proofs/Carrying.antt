@@ -18,9 +18,16 @@ use Rattle.ynl_inventory.specs.Apps.{is_guest_role, is_master_role}
 use Rattle.ynl_inventory.specs.Sound.{HasPartition}
 use Rattle.ynl_inventory.proofs.Lookups.{changed-distinct, changed-other, changed-same, read-changed, was-found}
 use Rattle.ynl_seating.specs.Seating.{Figures, HasSeats, AreShared, AreSeatedWith, IsSeated, counts, is_of, is_shared, seats_of, shares, ticket_on, user_use, waits_at, waits_if, waits_of}
-use Rattle.ynl_seating.specs.Steps.{ChangesContainers, KeepsSeats}
-use Rattle.ynl_seating.proofs.SeatLists.{seats-touched}
+use Rattle.ynl_seating.proofs.Lanes.{seated-as}
+use Rattle.ynl_seating.proofs.SeatLists.{KeepsSeats, seats-touched}
 use Rattle.ynl_seating.proofs.Sums.{sum}
+
+-- the containers of a partition change, and those of the others stay
+pub record ChangesContainers (p : ℕ) (change : List (ℕ × Container) → List (ℕ × Container)) (v w : Rows) : Type 0 where
+  pub paths : w.paths ≡ v.paths
+  pub many : length w.partitions ≡ length v.partitions
+  pub own : containers_of w p ≡ change (containers_of v p)
+  pub others : (q : ℕ) → q ≢ p → containers_of w q ≡ containers_of v q
 
 -- whether a container is the master of an application
 abbrev pub is_master_of : ℕ → ℕ × Container → Bool
@@ -79,13 +86,10 @@ module _ (v w : Rows) (app : ℕ) (touch : AppRow → AppRow) (keeps : KeepsSeat
       apps = λ n row found.
           let was = was-found n app touch v.apps row (ap (lookup (nat_eq n)) (sym apps) ∙ found) in
           subst (HasSeats w) (sym was.2) (has-seats was.0 (seated.apps n was.0 was.1) (nat_eq n app));
-      seats = λ p q has number. lane p q (seated.seats p q (subst (λ n. p < n) many has) (subst (λ ps. HasNumber ps q) paths number));
+      seats = λ p q has number.
+          seated-as f f v.apps w.apps p q lanes (ap (seats_of f p q) apps ∙ seats-touched p q f app touch keeps v.apps)
+          (seated.seats p q (subst (λ n. p < n) many has) (subst (λ ps. HasNumber ps q) paths number));
     }
-      where
-        lane : (p q : ℕ) → IsSeated f v.apps p q lanes → IsSeated f w.apps p q lanes
-        lane p q is =
-            let same : seats_of f p q w.apps ≡ seats_of f p q v.apps = ap (seats_of f p q) apps ∙ seats-touched p q f app touch keeps v.apps in
-            record { there = is.there; seats = is.seats ∙ sym same; distinct = subst HasDistinctNumbers (sym same) is.distinct }
 
   -- ---- containers change on one partition
 

@@ -19,9 +19,10 @@ use Rattle.ynl_inventory.specs.Apps.{is_guest_role, is_master_role}
 use Rattle.ynl_inventory.proofs.Updates.{at-number}
 use Rattle.ynl_inventory.proofs.Used.{nothing-plus}
 use Rattle.ynl_seating.specs.Seating.{AreShared, AreSeated, AreSeatedWith, counts, figures_of, is_of, is_shared, shares, user_use, waits_of}
-use Rattle.ynl_seating.specs.Steps.{AreSeatedBut, AreUsedBut, ChangesContainers, KeepsSeats}
+use Rattle.ynl_seating.specs.Steps.{AreSeatedBut, AreUsedBut}
+use Rattle.ynl_seating.proofs.SeatLists.{KeepsSeats}
 use Rattle.ynl_seating.proofs.Sums.{any-gone, sum, sum-gone, sum-push}
-use Rattle.ynl_seating.proofs.Carrying.{carried, found-after, is_master_of, shared-after, shares-same, use-elsewhere, use-of, waits-stay}
+use Rattle.ynl_seating.proofs.Carrying.{ChangesContainers, carried, found-after, is_master_of, shared-after, shares-same, use-elsewhere, use-of, waits-stay}
 
 module _ (v w : Rows) (c : Container) (touch : AppRow → AppRow) (keeps : KeepsSeats touch) (apps : w.apps ≡ with_change c.app touch v.apps)
     (row : AppRow) (found : lookup (nat_eq c.app) v.apps ≡ Some row) (p number : ℕ) (lanes : List (List Seats)) (seated : AreSeated v lanes) where

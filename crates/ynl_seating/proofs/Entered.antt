@@ -15,6 +15,7 @@ use Rattle.ynl_inventory.specs.Apps.{runs_at}
 use Rattle.ynl_seating.specs.Seating.{AreSeated, AreSeatedWith, Figures, figures_of, IsSeated, seats_of, shares, sits, user_use, waits_at, waits_if, waits_of}
 use Rattle.ynl_seating.specs.Steps.{AreSeatedBut}
 use Rattle.ynl_seating.proofs.SeatLists.{seats-stay}
+use Rattle.ynl_seating.proofs.Lanes.{seated-as, with-lanes}
 use Rattle.ynl_seating.proofs.OneSeat.{elsewhere, entered, other-waits, own-seat, own-waits, seated-entered, ticket}
 
 -- an application shares its home, and DEFAULT
@@ -26,16 +27,8 @@ default-shared row = or_left true (nat_eq row.home 0) refl
 
 -- lanes with figures that say the same of each seat
 pub refigured : (f g : Figures) (v : Rows) (lanes : List (List Seats)) → ((r s : ℕ) → seats_of g r s v.apps ≡ seats_of f r s v.apps) → AreSeatedWith f v lanes → AreSeatedWith g v lanes
-refigured f g v lanes same seated = record {
-  numbers = seated.numbers;
-  default = seated.default;
-  shared = seated.shared;
-  apps = seated.apps;
-  seats = λ r s has number. lane r s (seated.seats r s has number);
-}
-  where
-    lane : (r s : ℕ) → IsSeated f v.apps r s lanes → IsSeated g v.apps r s lanes
-    lane r s is = record { there = is.there; seats = is.seats ∙ sym (same r s); distinct = subst HasDistinctNumbers (sym (same r s)) is.distinct }
+refigured f g v lanes same seated =
+    with-lanes f g v lanes lanes seated (λ r s has number. seated-as f g v.apps v.apps r s lanes (same r s) (seated.seats r s has number))
 
 module _ (app : ℕ) (v : Rows) (row : AppRow) (found : lookup (nat_eq app) v.apps ≡ Some row) where
   -- where all waits are those of the rows, the lanes are

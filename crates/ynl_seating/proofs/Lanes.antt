@@ -10,7 +10,7 @@ use Rattle.ynl_lane.specs.Seats.{Seats}
 use Rattle.ynl_lane_table.specs.Lanes.{Changes, IsLaneAt, lane_at, no_seats, with_lane}
 use Rattle.ynl_inventory.specs.Rows.{Rows, AppRow}
 use Rattle.ynl_inventory.specs.Sound.{HasPartition}
-use Rattle.ynl_seating.specs.Seating.{AreLanes, Figures, IsSeated, seats_of}
+use Rattle.ynl_seating.specs.Seating.{AreLanes, AreSeatedWith, Figures, IsSeated, seats_of}
 
 module _ (p q : ℕ) (next : Seats) (lanes : List (List Seats)) (is : IsLaneAt p q lanes) where
   abbrev pub written : List (List Seats)
@@ -62,6 +62,14 @@ same-or p q r s =
       | inl one ↦ elim (cases_eq s q) [ inl two ↦ inl (one, two) | inr far ↦ inr (λ _. far) ]
       | inr far ↦ inr (λ same. absurd (far same))
     ]
+
+-- a lane with the same seats for other figures or applications
+pub seated-as : (f g : Figures) (apps after : List (ℕ × AppRow)) (p q : ℕ) (lanes : List (List Seats)) → seats_of g p q after ≡ seats_of f p q apps → IsSeated f apps p q lanes → IsSeated g after p q lanes
+seated-as f g apps after p q lanes same is = record { there = is.there; seats = is.seats ∙ sym same; distinct = subst HasDistinctNumbers (sym same) is.distinct }
+
+-- other lanes for the same rows
+pub with-lanes : (f g : Figures) (v : Rows) (lanes new : List (List Seats)) → AreSeatedWith f v lanes → AreLanes g (λ p. v.apps) v new → AreSeatedWith g v new
+with-lanes f g v lanes new seated seats = record { numbers = seated.numbers; default = seated.default; shared = seated.shared; apps = seated.apps; seats = seats }
 
 -- the lanes have the seats of other applications or with other figures, if the lane that changes does, and the seats of the others are the same
 module _ (f g : Figures) (apps after : ℕ → List (ℕ × AppRow)) (v : Rows) (p q : ℕ) (change : Seats → Seats → Type 0) (old new : List (List Seats))

@@ -1,15 +1,21 @@
 -- The least of what is asked for on a partition is below each size that is asked for there.
-use Rattle.std.proofs.Common.{◌≡◌, ℕ, Bool, true, false, cond, List, [], ◌∷◌, fold, nat_eq, sym, ap, subst, ◌∙◌, arith}
+use Rattle.std.proofs.Common.{◌≡◌, ◌≢◌, ℕ, Bool, true, false, cond, List, [], ◌∷◌, fold, nat_eq, sym, ap, subst, ◌∙◌, arith, refl}
 use Rattle.std.specs.List.{AllByRecursion}
 use Rattle.std.proofs.lemmas.Bool.Decides.{nat_tests}
-use Rattle.ynl_resource.specs.Amounts.{smaller_of}
+use Rattle.ynl_resource.specs.Amounts.{IsSize, smaller_of}
 use Rattle.ynl_resource.specs.declared.amounts.Resource.{Resource}
-use Rattle.ynl_slots.proofs.Entries.{itself}
+use Rattle.ynl_laws.proofs.Amounts.{fits-filter}
+use Rattle.ynl_laws.proofs.Lists.{Each-weaker}
+use Rattle.ynl_slots.proofs.Entries.{itself, other}
 use Rattle.ynl_app_table.specs.declared.asks.Ask.{Ask}
 use Rattle.ynl_lanes.specs.Lows.{IsBelow, no_size}
 use Rattle.ynl_lanes.specs.Order.{below-refl, below-trans}
-use Rattle.ynl_seating.specs.Laws.{AreLeasts}
-use Rattle.ynl_seating.specs.Seating.{with_least}
+use Rattle.ynl_lane.specs.Waiting.{IsWaiting, waiting-below}
+use Rattle.ynl_inventory.specs.Parts.{containers_of}
+use Rattle.ynl_inventory.proofs.Used.{fits-parts}
+use Rattle.ynl_seating.specs.Laws.{AreLeasts, IsUseWithin}
+use Rattle.ynl_seating.specs.Seating.{counts, least_asked, with_least}
+use Rattle.ynl_seating.proofs.Sums.{size_of}
 
 first-below : (a b : Resource) → IsBelow (smaller_of a b) a
 first-below a b = grind (arith, nat_tests)
@@ -41,5 +47,25 @@ module _ (p : ℕ) where
     each-below (with_least p low ask) asks,
   )
 
+  -- where nothing is asked for
+  fold-none : (low : Resource) (asks : List Ask) → AllByRecursion (λ ask. ask.partition ≢ p) asks → fold (with_least p) low asks ≡ low
+  fold-none low [] h = refl
+  fold-none low (ask ∷ asks) h =
+      ap (λ b. fold (with_least p) (cond b (smaller_of low ask.size) low) asks) (other ask.partition p h.0) ∙ fold-none low asks h.1
+
+-- a size is not the greatest
+size-waits : (size : Resource) → IsSize size → IsWaiting size
+size-waits size is all = let parts = fits-parts no_size size all in absurd (omega (arith, parts.1, is.vcores))
+
 pub are-leasts : AreLeasts
-are-leasts p asks = each-below p no_size asks
+are-leasts = record {
+  below = λ p asks. each-below p no_size asks;
+  waiting = λ p asks.
+      Each-weaker (λ ask. ask.partition ≡ p → IsBelow (least_asked p asks) ask.size) (λ ask. ask.partition ≡ p → IsSize ask.size → IsWaiting (least_asked p asks))
+      (λ ask below is size. waiting-below (least_asked p asks) ask.size (below is) (size-waits ask.size size)) asks (each-below p no_size asks);
+  none = λ p asks h. fold-none p no_size asks h;
+}
+
+-- what some containers use fits in what all use
+pub is-use_within : IsUseWithin
+is-use_within v p q user = fits-filter size_of (counts v p q user) (containers_of v p)

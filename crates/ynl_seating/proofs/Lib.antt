@@ -18,3 +18,5 @@ pub mod Using
 pub mod Reserving
 pub mod Leasts
 pub mod SeatCalls
+pub mod Starting
+pub mod Requests

@@ -159,13 +159,6 @@ module _ (app : ℕ) (w : Rows) (lanes : List (List Seats)) (start : IsUnseated 
   pub seats-same : (p q : ℕ) → sits p q newcomer ≡ false → seats_of added p q u.apps ≡ seats_of added p q v.apps
   seats-same p q off = ap (seats_of added p q) apps-are ∙ seats-passed p q added v.apps app newcomer off
 
-  pub other-leaf : (p q : ℕ) → q ≢ start.row.leaf → sits p q newcomer ≡ false
-  other-leaf p q apart = ap (λ b. b && shares p newcomer) (other start.row.leaf q (λ same. apart (sym same)))
-
-  pub other-partition : (p q : ℕ) → p ≢ 0 → p ≢ start.row.home → sits p q newcomer ≡ false
-  other-partition p q far away =
-      (λ i. nat_eq start.row.leaf q && (other p 0 far i || other start.row.home p (λ same. away (sym same)) i)) ∙ and-false (nat_eq start.row.leaf q)
-
   -- a user who has no seat uses nothing
   pub none-used : (p q user : ℕ) → AllByRecursion (λ e. nat_eq user e.1.user ≡ false) (sitting p q v.apps) → user_use v p q user ≡ nothing
   none-used p q user absent =

@@ -16,7 +16,7 @@ use Rattle.ynl_inventory.specs.Sound.{HasPartition}
 use Rattle.ynl_seating.specs.Seating.{AreSeatedWith, Figures, IsSeated, is_of, seat_of, seats_of, shares, sits, ticket_on, user_use}
 use Rattle.ynl_seating.specs.Steps.{AreSeatedBut, AreUsedBut}
 use Rattle.ynl_seating.proofs.SeatLists.{seat-found, seats-entered, seats-stay, seats-used, tickets-apart}
-use Rattle.ynl_seating.proofs.Lanes.{lifted}
+use Rattle.ynl_seating.proofs.Lanes.{lifted, with-lanes}
 
 -- the lanes of a partition that an application shares
 module _ (f : Figures) (v : Rows) (lanes : List (List Seats)) (seated : AreSeatedWith f v lanes) (app : ℕ) (row : AppRow) (found : lookup (nat_eq app) v.apps ≡ Some row)
@@ -60,15 +60,10 @@ module _ (f : Figures) (v : Rows) (lanes : List (List Seats)) (seated : AreSeate
   module _ (g : Figures) (change : Seats → Seats → Type 0) (new : List (List Seats)) (changes : Changes p row.leaf change lanes new)
       (own : changes.next.seats ≡ seats_of g p row.leaf v.apps) (others : (r s : ℕ) → (r ≡ p → s ≢ row.leaf) → seats_of g r s v.apps ≡ seats_of f r s v.apps) where
     pub seated-anew : AreSeatedWith g v new
-    seated-anew = record {
-      numbers = seated.numbers;
-      default = seated.default;
-      shared = seated.shared;
-      apps = seated.apps;
-      seats =
-          lifted f g (λ r. v.apps) (λ r. v.apps) v p row.leaf change lanes new changes partition-there leaf-there seated.seats own
-          (tickets-apart p row.leaf f g v.apps lane.distinct) (λ r s apart has number. others r s apart);
-    }
+    seated-anew =
+        with-lanes f g v lanes new seated
+        (lifted f g (λ r. v.apps) (λ r. v.apps) v p row.leaf change lanes new changes partition-there leaf-there seated.seats own
+        (tickets-apart p row.leaf f g v.apps lane.distinct) (λ r s apart has number. others r s apart))
 
   -- ---- what waits of the application is entered anew
 

@@ -23,8 +23,8 @@ use Rattle.ynl_inventory.specs.Sound.{OwnsNoContainers}
 use Rattle.ynl_seating.specs.Seating.{AreLanes, AreSeated, Figures, HasSeats, IsSeated, counts, figures_of, is_of, is_shared, seats_of, shares, sits, ticket_on, user_use, waits_at, waits_of}
 use Rattle.ynl_seating.proofs.Entered.{default-shared, home-shared}
 use Rattle.ynl_seating.proofs.OneSeat.{leaf-there, partition-there}
-use Rattle.ynl_seating.proofs.Lanes.{lifted, other-ready}
-use Rattle.ynl_seating.proofs.SeatLists.{seats-left, seats-stay, seats-without}
+use Rattle.ynl_seating.proofs.Lanes.{lifted, other-ready, seated-as}
+use Rattle.ynl_seating.proofs.SeatLists.{other-leaf, other-partition, seats-left, seats-stay, seats-without}
 use Rattle.ynl_seating.proofs.Sums.{size_of}
 
 module _ (app : ℕ) (v : Rows) (row : AppRow) (found : lookup (nat_eq app) v.apps ≡ Some row) (none : OwnsNoContainers v app) (lanes : List (List Seats)) (seated : AreSeated v lanes) where
@@ -89,13 +89,6 @@ module _ (app : ℕ) (v : Rows) (row : AppRow) (found : lookup (nat_eq app) v.ap
   left : (p q : ℕ) → sits p q row ≡ false → seats_of f p q after.apps ≡ seats_of f p q v.apps
   left p q off = seats-left p q f v.apps seated.numbers app row found off
 
-  other-leaf : (p q : ℕ) → q ≢ row.leaf → sits p q row ≡ false
-  other-leaf p q apart = ap (λ b. b && shares p row) (other row.leaf q (λ same. apart (sym same)))
-
-  other-partition : (p q : ℕ) → p ≢ 0 → p ≢ row.home → sits p q row ≡ false
-  other-partition p q far away =
-      (λ i. nat_eq row.leaf q && (other p 0 far i || other row.home p (λ same. away (sym same)) i)) ∙ and-false (nat_eq row.leaf q)
-
   -- once the seat at home is gone
   abbrev half : ℕ → List (ℕ × AppRow)
   half p = cond (nat_eq p row.home) after.apps v.apps
@@ -115,7 +108,7 @@ module _ (app : ℕ) (v : Rows) (row : AppRow) (found : lookup (nat_eq app) v.ap
         (λ p q apart has number. others p q apart (nat_eq p row.home) refl)
       where
         others : (p q : ℕ) → (p ≡ row.home → q ≢ row.leaf) → (b : Bool) → nat_eq p row.home ≡ b → seats_of f p q (cond b after.apps v.apps) ≡ seats_of f p q v.apps
-        others p q apart true same = left p q (other-leaf p q (apart (eqb-true p row.home same)))
+        others p q apart true same = left p q (other-leaf p q row (apart (eqb-true p row.home same)))
         others p q apart false far = refl
 
     emptied : (p q : ℕ) → (p ≢ row.home → sits p q row ≡ false) → (b : Bool) → nat_eq p row.home ≡ b → seats_of f p q after.apps ≡ seats_of f p q (cond b after.apps v.apps)
@@ -123,13 +116,10 @@ module _ (app : ℕ) (v : Rows) (row : AppRow) (found : lookup (nat_eq app) v.ap
     emptied p q off false far = left p q (off (λ same. true≢false (sym (ap (λ k. nat_eq k row.home) same ∙ itself row.home) ∙ far)))
 
     lanes-once : row.home ≡ 0 → AreLanes f (λ p. after.apps) v mid
-    lanes-once zero p q has number = whole (lanes-half p q has number)
+    lanes-once zero p q has number = seated-as f f (half p) after.apps p q mid same (lanes-half p q has number)
       where
         same : seats_of f p q after.apps ≡ seats_of f p q (half p)
-        same = emptied p q (λ apart. other-partition p q (λ is. apart (is ∙ sym zero)) apart) (nat_eq p row.home) refl
-
-        whole : IsSeated f (half p) p q mid → IsSeated f after.apps p q mid
-        whole at = record { there = at.there; seats = at.seats ∙ sym same; distinct = subst HasDistinctNumbers (sym same) at.distinct }
+        same = emptied p q (λ apart. other-partition p q row (λ is. apart (is ∙ sym zero)) apart) (nat_eq p row.home) refl
 
     -- the lane of DEFAULT is as it was, where home is another
     pub still-default : row.home ≢ 0 → lane_at 0 row.leaf mid ≡ lane_at 0 row.leaf lanes
@@ -152,8 +142,8 @@ module _ (app : ℕ) (v : Rows) (row : AppRow) (found : lookup (nat_eq app) v.ap
         off : (p q : ℕ) → (p ≡ 0 → q ≢ row.leaf) → p ≢ row.home → sits p q row ≡ false
         off p q far away =
             elim (cases_eq p 0) [
-              | inl is ↦ other-leaf p q (far is)
-              | inr past ↦ other-partition p q past away
+              | inl is ↦ other-leaf p q row (far is)
+              | inr past ↦ other-partition p q row past away
             ]
 
   -- the lanes are then those of the rows
@@ -163,18 +153,11 @@ module _ (app : ℕ) (v : Rows) (row : AppRow) (found : lookup (nat_eq app) v.ap
     default = seated.default;
     shared = shared-still;
     apps = λ n r at. was (seated.apps n r (sym (found-same n (not-gone n r at)) ∙ at));
-    seats = λ p q has number. whole p q (seats p q has number);
+    seats = λ p q has number. seated-as f (figures_of after) after.apps after.apps p q new (same-figures p q) (seats p q has number);
   }
     where
       was : {r : AppRow} → HasSeats v r → HasSeats after r
       was is = record { home = is.home; leaf = is.leaf; tickets = is.tickets }
-
-      whole : (p q : ℕ) → IsSeated f after.apps p q new → IsSeated (figures_of after) after.apps p q new
-      whole p q at = record {
-        there = at.there;
-        seats = at.seats ∙ sym (same-figures p q);
-        distinct = subst HasDistinctNumbers (sym (same-figures p q)) at.distinct;
-      }
 
   abbrev Gone : List (List Seats) → Type 0
   Gone new = IfSome (lookup (nat_eq app) v.apps) (λ r. AreSeated (with_app_gone app r.tenant r.turn v) new)

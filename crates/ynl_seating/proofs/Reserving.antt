@@ -7,7 +7,7 @@ use Rattle.ynl_lane_table.specs.Lanes.{Changes, IsLaneAt, Reserves, lane_at}
 use Rattle.ynl_inventory.specs.Rows.{Rows}
 use Rattle.ynl_seating.specs.Seating.{AreSeated, IsSeated, figures_of}
 use Rattle.ynl_seating.specs.Steps.{IsReserved}
-use Rattle.ynl_seating.proofs.Lanes.{other-lane, own-lane, same-or, still-there}
+use Rattle.ynl_seating.proofs.Lanes.{other-lane, own-lane, same-or, still-there, with-lanes}
 
 -- what holds if something was returned
 pub on-ok : {T E : Type 0} (r : Result T E) (P Q : Type 0) → (P → Q) → OnOk r P → OnOk r Q
@@ -39,13 +39,7 @@ module _ {T E : Type 0} (p q user : ℕ) (result : Result T E) (old new : List (
 
   -- the lanes are still those of the rows
   pub kept-seated : (v : Rows) → AreSeated v old → AreSeated v new
-  kept-seated v seated = record {
-    numbers = seated.numbers;
-    default = seated.default;
-    shared = seated.shared;
-    apps = seated.apps;
-    seats = λ r s has number. lane r s (seated.seats r s has number);
-  }
+  kept-seated v seated = with-lanes (figures_of v) (figures_of v) v old new seated (λ r s has number. lane r s (seated.seats r s has number))
     where
       lane : (r s : ℕ) → IsSeated (figures_of v) v.apps r s old → IsSeated (figures_of v) v.apps r s new
       lane r s is = record { there = lane-kept r s is.there; seats = seats-kept r s ∙ is.seats; distinct = is.distinct }

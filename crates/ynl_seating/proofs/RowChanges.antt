@@ -23,8 +23,9 @@ use Rattle.ynl_inventory.specs.Sound.{HasPartition}
 use Rattle.ynl_inventory.proofs.Lookups.{at-other, at-same, length-at, place-there}
 use Rattle.ynl_inventory.proofs.Naming.{taken-home, taken-leaf, taken-user}
 use Rattle.ynl_seating.specs.Seating.{AreSeated, AreSeatedWith, figures_of, is_of, is_shared, waits_if, waits_of}
-use Rattle.ynl_seating.specs.Steps.{AreSeatedBut, ChangesContainers, KeepsSeats}
-use Rattle.ynl_seating.proofs.Carrying.{carried, is_master_of, shared-after, use-of, waits-stay}
+use Rattle.ynl_seating.specs.Steps.{AreSeatedBut}
+use Rattle.ynl_seating.proofs.Carrying.{ChangesContainers, carried, is_master_of, shared-after, use-of, waits-stay}
+use Rattle.ynl_seating.proofs.SeatLists.{KeepsSeats}
 use Rattle.ynl_seating.proofs.Sums.{size_of}
 
 -- the containers of the partition that changes change, and no others

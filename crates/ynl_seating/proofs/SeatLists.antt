@@ -10,17 +10,24 @@ use Rattle.std.proofs.lemmas.Option.{same_Some}
 use Rattle.ynl_resource.specs.Amounts.{nothing}
 use Rattle.ynl_resource.specs.declared.amounts.Resource.{Resource}
 use Rattle.ynl_laws.proofs.Lists.{Each-weaker, filter-swap, map-map}
+use Rattle.ynl_laws.proofs.Logic.{and-false}
 use Rattle.ynl_slots.specs.Slots.{HasDistinctNumbers, without}
-use Rattle.ynl_slots.proofs.Entries.{distinct_alike, itself, without-unused}
+use Rattle.ynl_slots.proofs.Entries.{distinct_alike, itself, other, without-unused}
 use Rattle.ynl_app_table.specs.Apps.{with_change}
 use Rattle.ynl_lane.specs.Seats.{Seat, with_used, with_waits, used_at}
 use Rattle.ynl_lane.proofs.Showing.{map_as, map_any}
 use Rattle.ynl_inventory.specs.Rows.{AppRow}
 use Rattle.ynl_inventory.proofs.Updates.{each-number}
 use Rattle.ynl_inventory.proofs.Filters.{filter-distinct, filter-lookup}
-use Rattle.ynl_seating.specs.Seating.{Figures, sits, sitting, ticket_on, seat_of, seats_of}
-use Rattle.ynl_seating.specs.Steps.{KeepsSeats}
+use Rattle.ynl_seating.specs.Seating.{Figures, shares, sits, sitting, ticket_on, seat_of, seats_of}
 use Rattle.ynl_seating.proofs.Tickets.{kept-found, found-mapped, tells, Tells, without-mapped}
+
+-- a change of an application that leaves its seats
+pub record KeepsSeats (change : AppRow → AppRow) : Type 0 where
+  pub leaf : (row : AppRow) → (change row).leaf ≡ row.leaf
+  pub user : (row : AppRow) → (change row).user ≡ row.user
+  pub home : (row : AppRow) → (change row).home ≡ row.home
+  pub tickets : (row : AppRow) → (change row).tickets ≡ row.tickets
 
 -- ---- who sits
 
@@ -113,6 +120,15 @@ module _ (p q : ℕ) where
         ap (map (seat_of f p q)) (filter-swap (λ (e : ℕ × AppRow). not (nat_eq n e.0)) test apps) ∙ without-mapped (seat_of f p q) n row (sitting p q apps) told
 
   -- ---- applications come and go
+
+  -- none sits in a lane of another leaf
+  pub other-leaf : (row : AppRow) → q ≢ row.leaf → sits p q row ≡ false
+  other-leaf row apart = ap (λ b. b && shares p row) (other row.leaf q (λ same. apart (sym same)))
+
+  -- nor on a partition that it does not share
+  pub other-partition : (row : AppRow) → p ≢ 0 → p ≢ row.home → sits p q row ≡ false
+  other-partition row far away =
+      (λ i. nat_eq row.leaf q && (other p 0 far i || other row.home p (λ same. away (sym same)) i)) ∙ and-false (nat_eq row.leaf q)
 
   -- one that does not sit there goes
   pub seats-left : (f : Figures) (apps : List (ℕ × AppRow)) → HasDistinctNumbers apps → (n : ℕ) (row : AppRow) → lookup (nat_eq n) apps ≡ Some row → sits p q row ≡ false

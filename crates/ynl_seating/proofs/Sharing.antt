@@ -16,7 +16,7 @@ use Rattle.ynl_model.specs.Limits.{distinct, sharing, users}
 use Rattle.ynl_laws.proofs.Lists.{Each-map, filter-agree, filter-map, find-map, map-map}
 use Rattle.ynl_laws.proofs.Names.{same-path}
 use Rattle.ynl_layout.specs.Paths.{path_at}
-use Rattle.ynl_lane.specs.Seats.{each_once}
+use Rattle.ynl_lane.specs.Seats.{Seat, each_once}
 use Rattle.ynl_lane.proofs.Distinct.{counts_names}
 use Rattle.ynl_inventory.specs.Rows.{Rows, AppRow}
 use Rattle.ynl_inventory.specs.Meaning.{has_none_below, label_at, leaf_numbers, leaf_of, leaves_from, state_of}
@@ -27,7 +27,7 @@ use Rattle.ynl_inventory.proofs.Filters.{filter-distinct, filter-lookup}
 use Rattle.ynl_inventory.proofs.Finding.{not-true}
 use Rattle.ynl_inventory.proofs.Updates.{differ-places, each-number}
 use Rattle.ynl_seating.specs.Laws.{AreInTurn, AreSharing, AreUsers, IsLeaf, app_of}
-use Rattle.ynl_seating.specs.Seating.{shares, sitting}
+use Rattle.ynl_seating.specs.Seating.{figures_of, seat_of, shares, sitting}
 use Rattle.ynl_seating.proofs.SeatLists.{sitting-each}
 use Rattle.ynl_seating.proofs.Turns.{in-order}
 
@@ -142,4 +142,7 @@ pub are-sharing : AreSharing
 are-sharing v sound turns p q has leaf stops maxima = sharing-are v sound q leaf turns p has stops maxima
 
 pub are-users : AreUsers
-are-users v sound turns p q has leaf stops maxima = users-are v sound q leaf turns p has stops maxima
+are-users v sound turns lanes seated p q has leaf stops maxima =
+    users-are v sound q leaf turns p has stops maxima
+    ∙ ap (λ us. max 1 (length (each_once us)))
+    (sym (ap (map (λ (e : ℕ × Seat). e.1.user)) (seated.seats p q has leaf.there).seats ∙ map-map (λ (e : ℕ × Seat). e.1.user) (seat_of (figures_of v) p q) (sitting p q v.apps)))

@@ -1,26 +1,57 @@
 -- What the seats are in the model, and which changes of the rows leave them.
-use Rattle.std.specs.Prelude.{◌≡◌, ℕ, ◌<◌, max, ⊤, true, List, [], ◌∷◌, map, length, slice_index_or}
+use Rattle.std.specs.Prelude.{◌≡◌, ◌≢◌, ℕ, ◌<◌, max, ⊤, true, ◌&&◌, nat_eq, List, [], ◌∷◌, fold, map, length, replicate, slice_index_or, Some, unwrap_or, if◌then◌else◌}
 use Rattle.std.specs.List.{AllByRecursion}
+use Rattle.std.specs.Map.{lookup}
+use Rattle.ynl_resource.specs.Amounts.{fits_in, IsSize, smaller_of, total_of}
+use Rattle.ynl_resource.specs.Names.{root, same_label}
 use Rattle.ynl_resource.specs.declared.amounts.Resource.{Resource}
+use Rattle.ynl_resource.specs.declared.labels.Label.{Label}
 use Rattle.ynl_resource.specs.declared.names.Name.{Name}
 use Rattle.ynl_model.specs.declared.queues.StopRow.{StopRow}
 use Rattle.ynl_model.specs.declared.queues.MaximumRow.{MaximumRow}
 use Rattle.ynl_model.specs.Applications.{Application}
-use Rattle.ynl_model.specs.Cluster.{user_used}
+use Rattle.ynl_model.specs.Cluster.{State, runs, user_used, waits}
 use Rattle.ynl_model.specs.Limits.{sharing, users}
-use Rattle.ynl_slots.specs.Slots.{without}
+use Rattle.ynl_model.specs.Queues.{Config}
+use Rattle.ynl_model.specs.Service.{Item, asks_of}
+use Rattle.ynl_slots.specs.Slots.{IsUnused}
 use Rattle.ynl_app_table.specs.declared.asks.Ask.{Ask}
 use Rattle.ynl_layout.specs.Paths.{HasNumber, path_at}
-use Rattle.ynl_lanes.specs.Lows.{IsBelow}
+use Rattle.ynl_lanes.specs.Lows.{IsBelow, no_size}
 use Rattle.ynl_lane.specs.Seats.{Seats, each_once}
+use Rattle.ynl_lane.specs.Waiting.{IsWaiting}
+use Rattle.ynl_lane_table.specs.Lanes.{lane_at, no_seats}
 use Rattle.ynl_inventory.specs.Rows.{Rows, AppRow}
+use Rattle.ynl_inventory.specs.Apps.{runs_at}
 use Rattle.ynl_inventory.specs.Meaning.{app_name, application_of, has_none_below, label_at, state_of}
-use Rattle.ynl_inventory.specs.Changes.{with_asked, with_dropped, with_ended, with_joined, with_node_gone, with_user}
+use Rattle.ynl_inventory.specs.Changes.{with_asked, with_joined, with_node_gone, with_submitted, with_user}
+use Rattle.ynl_inventory.specs.Opening.{opening_rows}
+use Rattle.ynl_inventory.specs.Parts.{containers_of}
 use Rattle.ynl_inventory.specs.Sound.{HasPartition, IsSound}
-use Rattle.ynl_seating.specs.Seating.{AreSeated, least_asked, sitting, user_use}
-use Rattle.ynl_seating.specs.Steps.{AreSeatedBut, ChangesContainers}
+use Rattle.ynl_seating.specs.Seating.{AreSeated, least_asked, shares, sitting, ticket_on, user_use, waits_at}
+use Rattle.ynl_seating.specs.Steps.{AreSeatedBut, IsReserved, IsUnseated}
+
+-- ---- the lanes of rows
+
+-- before any event no lane has a seat
+abbrev pub IsSeatedFirst : Type 0
+IsSeatedFirst =
+    (c : Config) → AreSeated (opening_rows c) (replicate (length (opening_rows c).partitions) (replicate (length (root ∷ (opening_rows c).paths)) no_seats))
+
+-- the seat of an application on a partition that it shares stands under its ticket
+abbrev pub AreFound : Type 0
+AreFound =
+    (v : Rows) (lanes : List (List Seats)) → AreSeated v lanes → (n : ℕ) (row : AppRow) → lookup (nat_eq n) v.apps ≡ Some row → (p : ℕ) → shares p row ≡ true
+    → lookup (nat_eq (unwrap_or (ticket_on p row) 0)) (lane_at p row.leaf lanes).seats
+    ≡ Some (record { app = n; user = row.user; used = user_use v p row.leaf row.user; waits = waits_at v p n row })
 
 -- ---- changes of the rows
+
+-- a new application comes last and has no seats yet, if there is room for them
+abbrev pub IsSubmittedLast : Type 0
+IsSubmittedLast =
+    (v : Rows) (number : ℕ) (name : Name) (tenant leaf user home : ℕ) (master : Resource) (lanes : List (List Seats)) → AreSeated v lanes → IsUnused number v.apps
+    → HasPartition v home → HasNumber v.paths leaf → IsReserved home leaf user lanes → IsUnseated number (with_submitted number name tenant leaf user home master v) lanes
 
 -- no seat changes where a node joins, where one without containers leaves, and where a user gets a number
 pub record AreStill : Type 0 where
@@ -32,16 +63,17 @@ pub record AreStill : Type 0 where
 abbrev pub IsAskedBut : Type 0
 IsAskedBut = (v : Rows) (app : ℕ) (ask : Ask) (lanes : List (List Seats)) → AreSeated v lanes → AreSeatedBut app (with_asked app ask v) lanes
 
--- where a container ends, or goes with its node, it goes from the containers of its partition
-pub record AreLost : Type 0 where
-  pub ended : (v : Rows) (p number node : ℕ) → HasPartition v p → ChangesContainers p (without number) v (with_ended p number node v)
-  pub dropped : (v : Rows) (p number : ℕ) → HasPartition v p → ChangesContainers p (without number) v (with_dropped p number v)
-
 -- ---- what waits
 
--- the least that is asked for on a partition is below each size that is asked for there
-abbrev pub AreLeasts : Type 0
-AreLeasts = (p : ℕ) (asks : List Ask) → AllByRecursion (λ ask. ask.partition ≡ p → IsBelow (least_asked p asks) ask.size) asks
+-- the least that is asked for on a partition is below each size that is asked for there, so that it waits; and nothing waits where nothing is asked for
+pub record AreLeasts : Type 0 where
+  pub below : (p : ℕ) (asks : List Ask) → AllByRecursion (λ ask. ask.partition ≡ p → IsBelow (least_asked p asks) ask.size) asks
+  pub waiting : (p : ℕ) (asks : List Ask) → AllByRecursion (λ ask. ask.partition ≡ p → IsSize ask.size → IsWaiting (least_asked p asks)) asks
+  pub none : (p : ℕ) (asks : List Ask) → AllByRecursion (λ ask. ask.partition ≢ p) asks → least_asked p asks ≡ no_size
+
+-- what a user uses fits in what the containers of the partition use together
+abbrev pub IsUseWithin : Type 0
+IsUseWithin = (v : Rows) (p q user : ℕ) → fits_in (user_use v p q user) (total_of (λ e. e.1.size) (containers_of v p)) ≡ true
 
 -- ---- the model
 
@@ -65,14 +97,35 @@ AreSharing =
     (v : Rows) → IsSound v → AreInTurn v.apps → (p q : ℕ) → HasPartition v p → IsLeaf v q → (stops : List StopRow) (maxima : List MaximumRow)
     → sharing (state_of v stops maxima) (path_at v.paths q) (label_at v.partitions p) ≡ map (app_of v) (sitting p q v.apps)
 
--- their users, each once, are as many as the model counts
+-- the users of the seats, each once, are as many as the model counts
 abbrev pub AreUsers : Type 0
 AreUsers =
-    (v : Rows) → IsSound v → AreInTurn v.apps → (p q : ℕ) → HasPartition v p → IsLeaf v q → (stops : List StopRow) (maxima : List MaximumRow)
-    → users (state_of v stops maxima) (path_at v.paths q) (label_at v.partitions p) ≡ max 1 (length (each_once (map (λ e. e.1.user) (sitting p q v.apps))))
+    (v : Rows) → IsSound v → AreInTurn v.apps → (lanes : List (List Seats)) → AreSeated v lanes → (p q : ℕ) → HasPartition v p → IsLeaf v q
+    → (stops : List StopRow) (maxima : List MaximumRow)
+    → users (state_of v stops maxima) (path_at v.paths q) (label_at v.partitions p) ≡ max 1 (length (each_once (map (λ e. e.1.user) (lane_at p q lanes).seats)))
 
 -- what a user uses is what the model says
 abbrev pub IsUserUse : Type 0
 IsUserUse =
     (v : Rows) → IsSound v → (p q user : ℕ) → HasPartition v p → IsLeaf v q → user < length v.users → (stops : List StopRow) (maxima : List MaximumRow)
     → user_used (state_of v stops maxima) (path_at v.paths q) (slice_index_or v.users user []) (label_at v.partitions p) ≡ user_use v p q user
+
+-- an application runs where the model says so
+abbrev pub IsRunning : Type 0
+IsRunning =
+    (v : Rows) → IsSound v → (n : ℕ) (row : AppRow) → lookup (nat_eq n) v.apps ≡ Some row → (stops : List StopRow) (maxima : List MaximumRow)
+    → runs (state_of v stops maxima) (app_of v (n, row)) ≡ runs_at v n row
+
+-- the least of some requests
+abbrev pub least_item : List Item → Resource
+least_item items = fold (λ low item. smaller_of low item.size) no_size items
+
+-- what waits of an application on a partition is its master, if the model wants that there, and the least of the model's asks of it for the partition
+pub record Waits (v : Rows) (n : ℕ) (row : AppRow) (p : ℕ) (s : State) (label : Label) (app : Application) : Type 0 where
+  pub master : (waits_at v p n row).master ≡ (if waits s app && same_label app.home label then app.master else no_size)
+  pub ask : (waits_at v p n row).ask ≡ (if runs s app then least_item (asks_of label app) else no_size)
+
+abbrev pub AreRequests : Type 0
+AreRequests =
+    (v : Rows) → IsSound v → (n : ℕ) (row : AppRow) → lookup (nat_eq n) v.apps ≡ Some row → (p : ℕ) → HasPartition v p → (stops : List StopRow) (maxima : List MaximumRow)
+    → Waits v n row p (state_of v stops maxima) (label_at v.partitions p) (app_of v (n, row))

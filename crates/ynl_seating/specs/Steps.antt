@@ -1,19 +1,20 @@
 -- What the functions start from: lanes that are those of the rows but for one thing.
-use Rattle.std.specs.Prelude.{◌≡◌, ◌≢◌, ℕ, false, true, ◌&&◌, ◌||◌, nat_eq, List, [], ◌∷◌, ◌++◌, length, Some}
+use Rattle.std.specs.Prelude.{◌≡◌, ◌≢◌, ℕ, false, true, ◌&&◌, ◌||◌, nat_eq, List, [], ◌∷◌, ◌++◌, Some, ◌⊎◌}
 use Rattle.std.specs.Map.{lookup}
 use Rattle.ynl_resource.specs.declared.amounts.Resource.{Resource}
-use Rattle.ynl_slots.specs.Slots.{HasDistinctNumbers, IsUnused, without}
+use Rattle.ynl_slots.specs.Slots.{HasDistinctNumbers, IsUnused}
 use Rattle.ynl_container_table.specs.declared.container.Container.{Container}
 use Rattle.ynl_container_table.specs.declared.container.Role.{Role}
+use Rattle.ynl_container_table.specs.declared.container.Role.TheVariants.{Master, Ask as Asked}
 use Rattle.ynl_layout.specs.Paths.{HasNumber}
 use Rattle.ynl_lane.specs.declared.kinds.Both.{Both}
 use Rattle.ynl_lane.specs.Seats.{Seats}
 use Rattle.ynl_lane_table.specs.Lanes.{lane_at}
 use Rattle.ynl_inventory.specs.Rows.{Rows, AppRow}
-use Rattle.ynl_inventory.specs.Parts.{containers_of}
-use Rattle.ynl_inventory.specs.Changes.{next_container, partition_of_node, with_placed}
+use Rattle.ynl_inventory.specs.Parts.{containers_of, held_at}
+use Rattle.ynl_inventory.specs.Changes.{partition_of_node, with_dropped, with_ended, with_placed}
 use Rattle.ynl_inventory.specs.Sound.{HasPartition, IsPlaceable}
-use Rattle.ynl_seating.specs.Seating.{Figures, AreSeated, AreSeatedWith, is_of, is_shared, shares, user_use, waits_of}
+use Rattle.ynl_seating.specs.Seating.{Figures, AreSeated, AreSeatedWith, is_of, shares, user_use, waits_of}
 
 -- but for what waits of an application
 pub record AreSeatedBut (app : ℕ) (v : Rows) (lanes : List (List Seats)) : Type 0 where
@@ -49,19 +50,10 @@ pub record IsUnseated (app : ℕ) (v : Rows) (lanes : List (List Seats)) : Type 
   pub seated : AreSeated before lanes
   pub room : IsReserved row.home row.leaf row.user lanes
 
--- a change of an application that leaves its seats
-pub record KeepsSeats (change : AppRow → AppRow) : Type 0 where
-  pub leaf : (row : AppRow) → (change row).leaf ≡ row.leaf
-  pub user : (row : AppRow) → (change row).user ≡ row.user
-  pub home : (row : AppRow) → (change row).home ≡ row.home
-  pub tickets : (row : AppRow) → (change row).tickets ≡ row.tickets
-
--- the containers of a partition change, and those of the others stay
-pub record ChangesContainers (p : ℕ) (change : List (ℕ × Container) → List (ℕ × Container)) (v w : Rows) : Type 0 where
-  pub paths : w.paths ≡ v.paths
-  pub many : length w.partitions ≡ length v.partitions
-  pub own : containers_of w p ≡ change (containers_of v p)
-  pub others : (q : ℕ) → q ≢ p → containers_of w q ≡ containers_of v q
+-- where a container of an application may stand: its master at home; and what was asked for where the application shares, there or as a guest of DEFAULT
+abbrev pub MayStand : ℕ → AppRow → Role → Type 0
+MayStand p row Master = p ≡ row.home
+MayStand p row (Asked asked priority) = (shares asked row ≡ true) × ((p ≡ asked) ⊎ (asked ≡ 0))
 
 -- the lanes are those of the rows before a container was placed on a node
 pub record IsPlaced (node app : ℕ) (role : Role) (size : Resource) (v : Rows) (lanes : List (List Seats)) : Type 0 where
@@ -69,15 +61,14 @@ pub record IsPlaced (node app : ℕ) (role : Role) (size : Resource) (v : Rows) 
   pub number : ℕ
   pub rows : v ≡ with_placed number node app role size before
   pub can : IsPlaceable before node app role
-  pub shared : is_shared before.apps (partition_of_node before.nodes node) (number, next_container before node app role size) ≡ true
+  pub stands : MayStand (partition_of_node before.nodes node) can.app_row role
   pub seated : AreSeated before lanes
 
--- those before a container went from a partition
-pub record IsLost (p : ℕ) (c : Container) (v : Rows) (lanes : List (List Seats)) : Type 0 where
+-- those before a container ended on a partition, or went with its node
+pub record IsEnded (p : ℕ) (c : Container) (v : Rows) (lanes : List (List Seats)) : Type 0 where
   pub before : Rows
   pub number : ℕ
-  pub changes : ChangesContainers p (without number) before v
-  pub apps : v.apps ≡ before.apps
+  pub rows : (v ≡ with_ended p number c.node before) ⊎ (v ≡ with_dropped p number before)
+  pub held : held_at before p number ≡ Some c
   pub numbers : HasDistinctNumbers (containers_of before p)
-  pub held : lookup (nat_eq number) (containers_of before p) ≡ Some c
   pub seated : AreSeated before lanes

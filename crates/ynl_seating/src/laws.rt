@@ -1,6 +1,23 @@
 //! What the seats are in the model, and which changes of the rows leave them.
 
-ghost use Rattle.ynl_seating.specs.Laws.{AreLeasts, AreLost, AreSharing, AreStill, AreUsers, IsAskedBut, IsUserUse};
+ghost use Rattle.ynl_seating.specs.Laws.{AreFound, AreLeasts, AreRequests, AreSharing};
+ghost use Rattle.ynl_seating.specs.Laws.{AreStill, AreUsers, IsAskedBut, IsRunning, IsSeatedFirst};
+ghost use Rattle.ynl_seating.specs.Laws.{IsSubmittedLast, IsUserUse, IsUseWithin};
+
+/// Before any event no lane has a seat.
+pub fn no_seats_at_first()
+    ensures { IsSeatedFirst }
+{}
+
+/// The seat of an application on a partition that it shares stands under its ticket.
+pub fn seats_are_found()
+    ensures { AreFound }
+{}
+
+/// A new application comes last and has no seats yet, if there is room for them.
+pub fn new_applications_come_last()
+    ensures { IsSubmittedLast }
+{}
 
 /// No seat changes where a node joins, where one without containers leaves, and where a user gets a number.
 pub fn others_are_still()
@@ -12,12 +29,8 @@ pub fn asks_change_what_waits()
     ensures { IsAskedBut }
 {}
 
-/// Where a container ends or goes with its node, it goes from the containers of its partition.
-pub fn containers_go()
-    ensures { AreLost }
-{}
-
-/// The least that is asked for on a partition is below each size that is asked for there.
+/// The least that is asked for on a partition is below each size that is asked for there, so that it waits; and nothing waits
+/// where nothing is asked for.
 pub fn leasts_are_below()
     ensures { AreLeasts }
 {}
@@ -35,4 +48,19 @@ pub fn users_are_counted()
 /// What a user uses is what the model says.
 pub fn use_is_counted()
     ensures { IsUserUse }
+{}
+
+/// What a user uses fits in what the containers of the partition use together.
+pub fn use_is_within()
+    ensures { IsUseWithin }
+{}
+
+/// An application runs where the model says so.
+pub fn running_is_known()
+    ensures { IsRunning }
+{}
+
+/// What waits of an application on a partition is what the model would place of it there.
+pub fn requests_wait()
+    ensures { AreRequests }
 {}

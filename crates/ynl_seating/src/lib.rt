@@ -1,13 +1,13 @@
 //! Which seats the lanes have, and how they follow the rows of an inventory.
 #![tactic(auto)]
 
-pub use entering::enter;
-pub use following::{lost, placed};
+pub use containers::{follow_end, follow_placement};
+pub use entries::enter;
 pub use seats::{reserve, seat, unseat};
 pub use uses::{use_less, use_more};
 
-mod entering;
-mod following;
+mod containers;
+mod entries;
 pub mod laws;
 mod seats;
 mod uses;

@@ -13,7 +13,7 @@ ghost use Rattle.ynl_inventory.specs.Parts.{app_row};
 ghost use Rattle.ynl_seating.specs.Seating.{AreSeated, ticket_on};
 ghost use Rattle.ynl_seating.specs.Steps.{AreSeatedBut, IsReserved, IsUnseated};
 
-use crate::entering::enter;
+use crate::entries::enter;
 use crate::waits::ticket_on;
 use std::alloc::AllocError;
 use ynl_app_table::{AppRow, Tickets};

@@ -1,6 +1,6 @@
 -- The lanes against the rows, once the container is placed.
 use Rattle.ynl_seating.proofs.Calls.{placed-guest, placed-home}
-use Rattle.ynl_seating.proofs.following.placed.Goals as goal
+use Rattle.ynl_seating.proofs.containers.follow_placement.Goals as goal
 
 pub count_more-requires-clause-guest : goal.count_more-requires-clause-guest
 count_more-requires-clause-guest c =

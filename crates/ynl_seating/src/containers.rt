@@ -8,9 +8,9 @@ ghost use Rattle.ynl_lane.specs.Rows.{IsUse};
 ghost use Rattle.ynl_inventory.specs.Apps.{is_guest_role, runs_at};
 ghost use Rattle.ynl_inventory.specs.Changes.{partition_of_node};
 ghost use Rattle.ynl_seating.specs.Seating.{AreSeated, user_use};
-ghost use Rattle.ynl_seating.specs.Steps.{AreSeatedBut, AreUsedBut, IsLost, IsPlaced};
+ghost use Rattle.ynl_seating.specs.Steps.{AreSeatedBut, AreUsedBut, IsEnded, IsPlaced};
 
-use crate::entering::enter;
+use crate::entries::enter;
 use crate::uses::{use_less, use_more};
 use ynl_container_table::{Container, Role};
 use ynl_inventory::{Inventory, Placement};
@@ -44,8 +44,14 @@ fn count_more(inventory: &Inventory, lanes: &mut Lanes, p: u8, placed: &Placemen
     use_more(inventory, lanes, placed.app, p, placed.size);
 }
 
-/// A container was placed on a partition. `runs` says whether its application runs now.
-pub fn placed(inventory: &Inventory, lanes: &mut Lanes, p: u8, placed: &Placement, runs: bool)
+/// The lanes follow a container that was placed on a partition. `runs` says whether its application runs now.
+pub fn follow_placement(
+    inventory: &Inventory,
+    lanes: &mut Lanes,
+    p: u8,
+    placed: &Placement,
+    runs: bool,
+)
     requires live { IsLive placed.now.app inventory.now.rows.apps }
     requires start { IsPlaced placed.now.node placed.now.app placed.now.role placed.now.size
         inventory.now.rows lanes.old }
@@ -60,34 +66,34 @@ pub fn placed(inventory: &Inventory, lanes: &mut Lanes, p: u8, placed: &Placemen
     enter(inventory, lanes, placed.app, runs);
 }
 
-/// The user of a container that went uses less, unless that was a guest.
-fn count_less(inventory: &Inventory, lanes: &mut Lanes, p: u8, gone: &Container)
-    requires live { IsLive gone.now.app inventory.now.rows.apps }
-    requires guest { is_guest_role p gone.now.role ≡ true
-        → AreSeatedBut gone.now.app inventory.now.rows lanes.old }
-    requires home { is_guest_role p gone.now.role ≡ false
-        → AreUsedBut gone.now.app p (λ before after. before ≡ plus after gone.now.size)
+/// The user of a container that ended uses less, unless that was a guest.
+fn count_less(inventory: &Inventory, lanes: &mut Lanes, p: u8, ended: &Container)
+    requires live { IsLive ended.now.app inventory.now.rows.apps }
+    requires guest { is_guest_role p ended.now.role ≡ true
+        → AreSeatedBut ended.now.app inventory.now.rows lanes.old }
+    requires home { is_guest_role p ended.now.role ≡ false
+        → AreUsedBut ended.now.app p (λ before after. before ≡ plus after ended.now.size)
         inventory.now.rows lanes.old }
-    requires small { IfSome (lookup (nat_eq gone.now.app) inventory.now.rows.apps)
+    requires small { IfSome (lookup (nat_eq ended.now.app) inventory.now.rows.apps)
         (λ row. IsUse (user_use inventory.now.rows p row.leaf row.user)) }
-    ensures { AreSeatedBut gone.now.app inventory.now.rows lanes.new }
+    ensures { AreSeatedBut ended.now.app inventory.now.rows lanes.new }
 {
-    if is_guest(p, gone.role) {
+    if is_guest(p, ended.role) {
         return;
     }
-    use_less(inventory, lanes, gone.app, p, gone.size);
+    use_less(inventory, lanes, ended.app, p, ended.size);
 }
 
-/// A container went from a partition. `runs` says whether its application still runs.
-pub fn lost(inventory: &Inventory, lanes: &mut Lanes, p: u8, gone: &Container, runs: bool)
-    requires live { IsLive gone.now.app inventory.now.rows.apps }
-    requires start { IsLost p gone.now inventory.now.rows lanes.old }
-    requires runs { IfSome (lookup (nat_eq gone.now.app) inventory.now.rows.apps)
-        (λ row. runs ≡ runs_at inventory.now.rows gone.now.app row) }
-    requires small { IfSome (lookup (nat_eq gone.now.app) inventory.now.rows.apps)
+/// The lanes follow a container that ended on a partition, or went with its node. `runs` says whether its application still runs.
+pub fn follow_end(inventory: &Inventory, lanes: &mut Lanes, p: u8, ended: &Container, runs: bool)
+    requires live { IsLive ended.now.app inventory.now.rows.apps }
+    requires start { IsEnded p ended.now inventory.now.rows lanes.old }
+    requires runs { IfSome (lookup (nat_eq ended.now.app) inventory.now.rows.apps)
+        (λ row. runs ≡ runs_at inventory.now.rows ended.now.app row) }
+    requires small { IfSome (lookup (nat_eq ended.now.app) inventory.now.rows.apps)
         (λ row. IsUse (user_use inventory.now.rows p row.leaf row.user)) }
     ensures { AreSeated inventory.now.rows lanes.new }
 {
-    count_less(inventory, lanes, p, gone);
-    enter(inventory, lanes, gone.app, runs);
+    count_less(inventory, lanes, p, ended);
+    enter(inventory, lanes, ended.app, runs);
 }

@@ -6,7 +6,7 @@ use Rattle.ynl_inventory.specs.Parts.{app_row}
 use Rattle.ynl_seating.specs.Seating.{user_use}
 use Rattle.ynl_seating.proofs.OneSeat.{lane-there, own-seat}
 use Rattle.ynl_seating.proofs.Entered.{entered-once, entered-twice, home-shared, second-seat}
-use Rattle.ynl_seating.proofs.entering.enter.Goals as goal
+use Rattle.ynl_seating.proofs.entries.enter.Goals as goal
 
 pub enter_at-requires-clause-lane : goal.enter_at-requires-clause-lane
 enter_at-requires-clause-lane c =

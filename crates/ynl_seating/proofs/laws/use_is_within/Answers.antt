@@ -1,0 +1,5 @@
+use Rattle.ynl_seating.proofs.Leasts.{is-use_within}
+use Rattle.ynl_seating.proofs.laws.use_is_within.Goals as goal
+
+pub returns : goal.returns
+returns c = is-use_within
