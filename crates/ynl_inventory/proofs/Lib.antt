@@ -47,3 +47,4 @@ pub mod KnownUsers
 pub mod NamesRead
 pub mod PlacedRead
 pub mod Results
+pub mod FreeRead
