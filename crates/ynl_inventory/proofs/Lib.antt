@@ -48,3 +48,4 @@ pub mod NamesRead
 pub mod PlacedRead
 pub mod Results
 pub mod FreeRead
+pub mod MastersTell
