@@ -47,3 +47,5 @@ pub mod KnownUsers
 pub mod NamesRead
 pub mod PlacedRead
 pub mod Results
+pub mod FreeRead
+pub mod MastersTell

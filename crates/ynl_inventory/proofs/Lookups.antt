@@ -1,12 +1,14 @@
 -- Rows in places and under numbers: what a change leaves of the others.
-use Rattle.std.proofs.Common.{◌≡◌, ◌≢◌, ◌<◌, ℕ, zero, suc, Bool, true, false, cond, List, [], ◌∷◌, ◌++◌, map, length, slice_get, get_or, Option, Some, None, option_map, is_some, nat_eq, refl, sym, ap, subst, ◌∙◌, arith}
+use Rattle.std.proofs.Common.{◌≡◌, ◌≢◌, ◌<◌, ℕ, zero, suc, Bool, true, false, cond, List, [], ◌∷◌, ◌++◌, map, length, slice_get, get_or, Option, Some, None, option_map, is_some, nat_eq, refl, sym, ap, subst, ◌∙◌, arith, inl, inr}
 use Rattle.std.specs.Prelude.{IfSome}
 use Rattle.std.specs.List.{AllByRecursion}
 use Rattle.std.specs.Map.{lookup}
 use Rattle.std.specs.Option.{option_map_or}
+use Rattle.std.proofs.lemmas.Bool.{cases_eq}
 use Rattle.std.proofs.lemmas.Option.{none-some, same_Some}
+use mathlib.Core.Logic.{◌⊎◌}
 use Rattle.ynl_slots.specs.Slots.{IsLive, IsUnused, HasDistinctNumbers}
-use Rattle.ynl_slots.proofs.Lookups.{lookup-unused}
+use Rattle.ynl_slots.proofs.Lookups.{lookup-push, lookup-unused}
 use Rattle.ynl_slots.proofs.Entries.{itself, other, distinct_alike}
 use Rattle.ynl_app_table.specs.Apps.{with_change}
 use Rattle.ynl_app_table.proofs.Rows.{lookup-with_change}
@@ -179,6 +181,15 @@ module _ {X : Type 0} where
           → cond b (Some e.1) (lookup (nat_eq m) (es ++ (n, row) ∷ [])) ≡ cond b (Some e.1) (lookup (nat_eq m) es)
       go true k rest = refl
       go false k rest = rest k
+
+  -- where one more row comes under an unused number, it is found there, and each other as before
+  pub pushed-cases : (m n : ℕ) (row : X) (es : List (ℕ × X)) → IsUnused n es → (new : X) → lookup (nat_eq m) (es ++ (n, row) ∷ []) ≡ Some new → ((m ≡ n) × (new ≡ row)) ⊎ (lookup (nat_eq m) es ≡ Some new)
+  pushed-cases m n row es unused new found =
+      elim (cases_eq m n) [
+        | inl same ↦
+            inl (same, same_Some new row (sym found ∙ lookup-push m n row es unused ∙ ap (λ b. cond b (Some row) (lookup (nat_eq m) es)) (ap (λ k. nat_eq k n) same ∙ itself n)))
+        | inr apart ↦ inr (sym (lookup-push m n row es unused ∙ ap (λ b. cond b (Some row) (lookup (nat_eq m) es)) (other m n apart)) ∙ found)
+      ]
 
   -- a number that is live is another than one that is not
   pub live-apart : (m n : ℕ) (es : List (ℕ × X)) → IsLive m es → IsUnused n es → m ≢ n

@@ -4,20 +4,17 @@ use Rattle.std.specs.Prelude.{slice_set}
 use Rattle.std.specs.List.{AllByRecursion}
 use Rattle.std.specs.Map.{lookup}
 use Rattle.std.specs.Option.{option_map_or}
-use Rattle.std.proofs.lemmas.Bool.{cases_eq}
 use Rattle.std.proofs.lemmas.Option.{none-some, same_Some, slice_get-map}
-use mathlib.Core.Logic.{◌⊎◌}
 use Rattle.ynl_resource.specs.Amounts.{nothing, less, fits_in, total_of, IsSize, IsSmall}
 use Rattle.ynl_resource.specs.Names.{same_name}
 use Rattle.ynl_resource.specs.declared.amounts.Resource.{Resource}
 use Rattle.ynl_resource.specs.declared.names.Name.{Name}
 use Rattle.ynl_model.specs.Nodes.{rises}
-use Rattle.ynl_laws.proofs.Lists.{filter-nothing, map-map}
-use Rattle.ynl_laws.proofs.Names.{same-name_sym, same-name_self}
+use Rattle.ynl_laws.proofs.Lists.{Each-unmap, filter-nothing, map-map}
 use Rattle.ynl_slots.specs.Slots.{IsLive, IsUnused, without}
 use Rattle.ynl_slots.specs.Chain.{IsChain}
-use Rattle.ynl_slots.proofs.Entries.{itself, other}
-use Rattle.ynl_slots.proofs.Lookups.{lookup-push, lookup-without}
+use Rattle.ynl_slots.proofs.Entries.{other}
+use Rattle.ynl_slots.proofs.Lookups.{lookup-without}
 use Rattle.ynl_node_table.specs.declared.nodes.NodeRow.{NodeRow as NodePart}
 use Rattle.ynl_node_table.specs.Nodes.{Joins, no_chain, number_of}
 use Rattle.ynl_container_table.specs.declared.container.Container.{Container}
@@ -32,8 +29,8 @@ use Rattle.ynl_inventory.specs.Meaning.{node_number}
 use Rattle.ynl_inventory.specs.Changes.{with_at, ticked, next_clock, next_clock_at, with_joined, with_node_gone}
 use Rattle.ynl_inventory.specs.Sound.{HasNoContainers, IsJoinable, IsPartition, IsSound}
 use Rattle.ynl_inventory.specs.Parts.{Held, held_of, partition_row, node_row, used_of, AreLinked, IsInventory}
-use Rattle.ynl_inventory.proofs.Lookups.{found-live, live-apart, live-found}
-use Rattle.ynl_inventory.proofs.Updates.{each-number}
+use Rattle.ynl_inventory.proofs.Lookups.{found-live, live-apart, live-found, pushed-cases}
+use Rattle.ynl_inventory.proofs.Updates.{each-number, unnamed}
 use Rattle.ynl_inventory.proofs.Dropping.{gone-sound}
 use Rattle.ynl_inventory.proofs.Joining.{joined-sound}
 use Rattle.ynl_inventory.proofs.Used.{parts-fit}
@@ -87,17 +84,8 @@ node-live a node live =
 
 -- a name that has no number is no node's
 unnamed-all : (name : Name) (es : List (ℕ × NodeRow)) → node_number name es ≡ None → AllByRecursion (λ e. same_name e.1.name name ≡ false) es
-unnamed-all name [] h = tt
-unnamed-all name (e ∷ es) h = go (same_name name e.1.name) refl h (unnamed-all name es)
-  where
-    turned : (b : Bool) → same_name e.1.name name ≡ b → same_name name e.1.name ≡ false → b ≡ false
-    turned false is apart = refl
-    turned true is apart = sym (subst (λ (n : Name). same_name name n ≡ true) (sym (same-name_sym e.1.name name is)) (same-name_self name)) ∙ apart
-
-    go : (b : Bool) → same_name name e.1.name ≡ b → cond b (Some e.0) (node_number name es) ≡ None → (node_number name es ≡ None → AllByRecursion (λ e. same_name e.1.name name ≡ false) es)
-        → AllByRecursion (λ e. same_name e.1.name name ≡ false) (e ∷ es)
-    go true is k rest = absurd (none-some e.0 (sym k))
-    go false is k rest = (turned (same_name e.1.name name) refl is, rest k)
+unnamed-all name es none =
+    Each-unmap (λ (e : ℕ × NodeRow). (e.1.name, e.0)) (λ (f : Name × ℕ). same_name f.0 name ≡ false) es (unnamed name (map (λ (e : ℕ × NodeRow). (e.1.name, e.0)) es) none)
 
 -- the table of the nodes has the numbers of the rows
 pub same-number : (name : Name) (nodes : List (ℕ × NodePart)) → node_number name (of_rows node_row nodes) ≡ number_of name nodes
@@ -211,20 +199,9 @@ module _ (a : Inside) (inv : IsInventory a) (p : ℕ) (part : Partition) (there 
   linked-before : AreLinked (slice_set a.partitions.items p new) a.nodes a.apps.entries
   linked-before = room-linked a.partitions.items p part new there refl refl a.nodes a.apps.entries inv.linked
 
-  cases : (n : ℕ) (r : NodePart) → lookup (nat_eq n) (a.nodes ++ (number, row) ∷ []) ≡ Some r → ((n ≡ number) × (r ≡ row)) ⊎ (lookup (nat_eq n) a.nodes ≡ Some r)
-  cases n r found =
-      elim (cases_eq n number) [
-        | inl same ↦
-            inl
-            (same, same_Some r row (sym found ∙ lookup-push n number row a.nodes joins.unused ∙ ap (λ b. cond b (Some row) (lookup (nat_eq n) a.nodes)) (ap (λ m. nat_eq m number) same ∙ itself number)))
-        | inr apart ↦
-            inr
-            (sym (lookup-push n number row a.nodes joins.unused ∙ ap (λ b. cond b (Some row) (lookup (nat_eq n) a.nodes)) (other n number apart)) ∙ found)
-      ]
-
   right : (n : ℕ) (r : NodePart) (x : Partition) → lookup (nat_eq n) (a.nodes ++ (number, row) ∷ []) ≡ Some r → slice_get (slice_set a.partitions.items p new) r.partition ≡ Some x → IsRight n r x
   right n r x found at =
-      elim (cases n r found) [
+      elim (pushed-cases n number row a.nodes joins.unused r found) [
         | inl own ↦
             let place : r.partition ≡ p = ap (λ (r : NodePart). r.partition) own.1 in
             let its : x ≡ new = same_Some x new (sym at ∙ ap (slice_get (slice_set a.partitions.items p new)) place ∙ set-same a.partitions.items p part new there) in
@@ -242,7 +219,7 @@ module _ (a : Inside) (inv : IsInventory a) (p : ℕ) (part : Partition) (there 
         free = λ n r x found at. (right n r x found at).free;
         fits = λ n r x found at. (right n r x found at).fits;
         small = λ n r found.
-            elim (cases n r found) [
+            elim (pushed-cases n number row a.nodes joins.unused r found) [
               | inl own ↦ subst (λ (s : NodePart). IsSmall s.size) (sym own.1) (size-small size is-size)
               | inr was ↦ linked-before.small n r was
             ];

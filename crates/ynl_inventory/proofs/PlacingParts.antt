@@ -31,7 +31,8 @@ use Rattle.ynl_inventory.specs.Rows.{Rows, PartitionRow, NodeRow, AppRow}
 use Rattle.ynl_inventory.specs.Changes.{with_at, ticked, next_clock, next_clock_at, next_container, partition_of_node, with_taken, with_placed}
 use Rattle.ynl_inventory.specs.Apps.{is_master_role, is_master_of, master_in}
 use Rattle.ynl_inventory.specs.Sound.{CanTake, IsAskedOn, IsApp, IsSound, IsPartition}
-use Rattle.ynl_inventory.specs.Parts.{held_of, partition_row, node_row, app_row, placed_on, taken_part, used_of, free_of, HasGuestPlaces, HasPlaces, AreLinked, IsInventory, CanPlace}
+use Rattle.ynl_inventory.specs.Parts.{held_of, partition_row, node_row, app_row, placed_on, taken_part, used_of, HasGuestPlaces, HasPlaces, AreLinked, IsInventory, CanPlace}
+use Rattle.ynl_inventory.proofs.FreeRead.{free-is}
 use Rattle.ynl_inventory.proofs.Asked.{ask-there, one-taken}
 use Rattle.ynl_inventory.proofs.Masters.{not-own, no-master, master-stays, master-comes}
 use Rattle.ynl_inventory.proofs.Placing.{none-yet, placed-sound}
@@ -108,12 +109,7 @@ module _ (a : Inside) (inv : IsInventory a) (placed : Placement) (can : CanPlace
 
     -- the node has room for the container
     pub has-free : fits_in placed.size row.free ≡ true
-    has-free = ap (fits_in placed.size) (inv.linked.free placed.node row part at there ∙ sym free-is) ∙ can.fits
-      where
-        free-is : free_of v placed.node ≡ less row.size (used_of part.containers.entries placed.node)
-        free-is =
-            ap (λ o. option_map_or (λ (r : NodeRow). less r.size (used_of (option_map_or (λ (p : PartitionRow). p.containers) (slice_get v.partitions r.partition) []) placed.node)) o nothing) row-at
-            ∙ ap (λ o. less row.size (used_of (option_map_or (λ (p : PartitionRow). p.containers) o []) placed.node)) row-there
+    has-free = ap (fits_in placed.size) (free-is a inv placed.node row at) ∙ can.fits
 
     module _ (arow : AppPart) (app-at : lookup (nat_eq placed.app) a.apps.entries ≡ Some arow) where
       pub app-chain : IsAppChain part.containers (chain_of row.partition arow.chains) placed.app

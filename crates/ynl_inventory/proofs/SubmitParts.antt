@@ -1,23 +1,18 @@
 -- An application is submitted: how the parts mean it, and go together after.
-use Rattle.std.proofs.Common.{◌≡◌, ◌≢◌, ◌<◌, ◌+◌, ℕ, true, false, Bool, cond, List, [], ◌∷◌, ◌++◌, map, length, slice_get, Option, Some, None, option_map, nat_eq, refl, sym, ap, subst, ◌∙◌, arith, inl, inr}
-use mathlib.Core.Logic.{◌⊎◌}
+use Rattle.std.proofs.Common.{◌≡◌, ◌≢◌, ◌<◌, ◌+◌, ℕ, List, [], ◌∷◌, ◌++◌, map, length, slice_get, Option, Some, None, option_map, nat_eq, refl, sym, ap, subst, ◌∙◌, arith, inl, inr}
 use Rattle.std.specs.Prelude.{position, slice_set}
 use Rattle.std.specs.List.{AllByRecursion}
 use Rattle.std.specs.Map.{lookup}
 use Rattle.std.specs.Option.{option_map_or}
-use Rattle.std.proofs.lemmas.Bool.{cases_eq}
 use Rattle.std.proofs.lemmas.List.{length-map}
 use Rattle.std.proofs.lemmas.List.Quantifiers.{position-Some}
-use Rattle.std.proofs.lemmas.Option.{get_or_from_slice_get, none-some, same_Some, slice_get-map, slice_get_within}
-use Rattle.ynl_resource.specs.Names.{root, same_name, same_path, tenant_of, top_level}
+use Rattle.std.proofs.lemmas.Option.{get_or_from_slice_get, slice_get-map}
+use Rattle.ynl_resource.specs.Names.{root, same_path, tenant_of, top_level}
 use Rattle.ynl_resource.specs.declared.names.Name.{Name}
 use Rattle.ynl_resource.specs.declared.paths.Path.{Path}
-use Rattle.ynl_laws.proofs.Names.{same-name_self, same-name_sym}
 use Rattle.ynl_layout.specs.Paths.{path_at}
 use Rattle.ynl_slots.specs.Slots.{Numbered, IsLive, IsUnused}
 use Rattle.ynl_slots.specs.Chain.{IsChain}
-use Rattle.ynl_slots.proofs.Entries.{itself, other}
-use Rattle.ynl_slots.proofs.Lookups.{lookup-push}
 use Rattle.ynl_app_table.specs.declared.app.AppRow.{AppRow as AppPart}
 use Rattle.ynl_app_table.specs.declared.asks.Ask.{Ask}
 use Rattle.ynl_app_table.specs.Chains.{chain_of, no_chain}
@@ -38,11 +33,11 @@ use Rattle.ynl_inventory.specs.Changes.{new_app, with_submitted}
 use Rattle.ynl_inventory.specs.Apps.{master_in}
 use Rattle.ynl_inventory.specs.Sound.{CanSubmit, IsPartition, IsSound}
 use Rattle.ynl_inventory.specs.Parts.{held_of, partition_row, app_row, HasGuestPlaces, HasPlaces, IsNewRow, AreLinked, IsInventory}
-use Rattle.ynl_inventory.proofs.Lookups.{live-apart}
-use Rattle.ynl_inventory.proofs.Updates.{each-number}
+use Rattle.ynl_inventory.proofs.Lookups.{live-apart, pushed-cases}
+use Rattle.ynl_inventory.proofs.Updates.{each-number, unnamed}
 use Rattle.ynl_inventory.proofs.Masters.{none-master}
 use Rattle.ynl_inventory.proofs.PartLists.{map-set}
-use Rattle.ynl_inventory.proofs.Submitting.{submitted-sound}
+use Rattle.ynl_inventory.proofs.Submitting.{IsNew, submitted-sound}
 
 -- ---- before
 
@@ -54,22 +49,19 @@ tenant-below paths q = go (position (same_path (top_level (tenant_of (path_at pa
     go None is = omega arith
     go (Some n) is = let inside = (position-Some (same_path (top_level (tenant_of (path_at paths q)))) paths n root is).0 in omega (arith, inside)
 
--- a name that has no turn is no submission's
-unnamed-all : (name : Name) (es : List (Name × Submission)) → turn_of name es ≡ None → AllByRecursion (λ e. same_name e.0 name ≡ false) es
-unnamed-all name es none = all es (unused_get es name none)
-  where
-    turned : (other : Name) (b : Bool) → same_name other name ≡ b → same_name name other ≡ false → b ≡ false
-    turned other false is apart = refl
-    turned other true is apart = sym (subst (λ (n : Name). same_name name n ≡ true) (sym (same-name_sym other name is)) (same-name_self name)) ∙ apart
-
-    all : (es : List (Name × Submission)) → lookup (same_name name) es ≡ None → AllByRecursion (λ e. same_name e.0 name ≡ false) es
-    all [] h = tt
-    all (e ∷ es) h = go (same_name name e.0) refl h (all es)
-      where
-        go : (b : Bool) → same_name name e.0 ≡ b → cond b (Some e.1) (lookup (same_name name) es) ≡ None → (lookup (same_name name) es ≡ None → AllByRecursion (λ e. same_name e.0 name ≡ false) es)
-            → AllByRecursion (λ e. same_name e.0 name ≡ false) (e ∷ es)
-        go true is k rest = absurd (none-some e.1 (sym k))
-        go false is k rest = (turned e.0 (same_name e.0 name) refl is, rest k)
+-- what may be submitted is new under a number that is not in use
+pub may-submit : (v : Rows) → IsSound v → (name : Name) (new : NewSubmission) → CanSubmit v name new → (number : ℕ) → IsUnused number v.apps
+    → IsNew v number name new.tenant new.leaf new.user new.home new.master_size
+may-submit v sound name new can number unused = record {
+  unused = unused;
+  other_name = unnamed name (submitted_to v.tenants new.tenant) (unused_get (submitted_to v.tenants new.tenant) name can.unnamed);
+  there = can.there;
+  none_below = can.leaf;
+  own_tenant = can.tenant;
+  inside = subst (λ n. new.tenant < n) (sym sound.many) (subst (λ t. t < length (root ∷ v.paths)) can.tenant (tenant-below v.paths new.leaf));
+  own_user = can.user;
+  own_home = can.home;
+}
 
 module _ (a : Inside) (inv : IsInventory a) (name : Name) (new : NewSubmission) (can : CanSubmit (held_of a).rows name new) where
   abbrev v : Rows
@@ -127,34 +119,13 @@ module _ (a : Inside) (inv : IsInventory a) (name : Name) (new : NewSubmission) 
       submitted-rows-sound =
           subst IsSound (sym submitted-rows)
           (submitted-sound v number name new.tenant new.leaf new.user new.home new.master_size inv.sound
-          (record {
-            unused = unused-row;
-            other_name = unnamed-all name (submitted_to v.tenants new.tenant) can.unnamed;
-            there = can.there;
-            none_below = can.leaf;
-            own_tenant = can.tenant;
-            inside = slice_get_within v.tenants new.tenant listing.entries row-there;
-            own_user = can.user;
-            own_home = can.home;
-          }))
+          (may-submit v inv.sound name new can number unused-row))
 
       -- no container is its own yet
       none-own : (p : ℕ) (part : Partition) → slice_get a.partitions.items p ≡ Some part → AllByRecursion (λ e. e.1.app ≢ number) part.containers.entries
       none-own p part at =
           let is : IsPartition v p (partition_row part) = inv.sound.partitions p (partition_row part) (slice_get-map partition_row a.partitions.items p ∙ ap (option_map partition_row) at) in
           each-number (λ n c. c.app ≢ number) part.containers.entries is.numbers (λ n c found. live-apart c.app number v.apps (is.each n c found).app unused-row)
-
-      cases : (n : ℕ) (r : AppPart) → lookup (nat_eq n) (a.apps.entries ++ (number, row) ∷ []) ≡ Some r → ((n ≡ number) × (r ≡ row)) ⊎ (lookup (nat_eq n) a.apps.entries ≡ Some r)
-      cases n r found =
-          elim (cases_eq n number) [
-            | inl same ↦
-                inl (
-                  same,
-                  same_Some r row (sym found ∙ lookup-push n number row a.apps.entries unused ∙ ap (λ b. cond b (Some row) (lookup (nat_eq n) a.apps.entries)) (ap (λ m. nat_eq m number) same ∙ itself number)),
-                )
-            | inr apart ↦
-                inr (sym (lookup-push n number row a.apps.entries unused ∙ ap (λ b. cond b (Some row) (lookup (nat_eq n) a.apps.entries)) (other n number apart)) ∙ found)
-          ]
 
       own-chain : (p : ℕ) (part : Partition) → slice_get a.partitions.items p ≡ Some part → IsAppChain part.containers (chain_of p row.chains) number
       own-chain p part at =
@@ -179,7 +150,7 @@ module _ (a : Inside) (inv : IsInventory a) (name : Name) (new : NewSubmission) 
           (record {
             node = inv.linked.node;
             app = λ n r p part found at.
-                elim (cases n r found) [
+                elim (pushed-cases n number row a.apps.entries unused r found) [
                   | inl own ↦
                       subst (λ m. IsAppChain part.containers (chain_of p r.chains) m) (sym own.0)
                       (subst (λ (s : AppPart). IsAppChain part.containers (chain_of p s.chains) number) (sym own.1) (own-chain p part at))
@@ -189,14 +160,14 @@ module _ (a : Inside) (inv : IsInventory a) (name : Name) (new : NewSubmission) 
             fits = inv.linked.fits;
             small = inv.linked.small;
             master = λ n r part found at.
-                elim (cases n r found) [
+                elim (pushed-cases n number row a.apps.entries unused r found) [
                   | inl own ↦
                       ap (λ (s : AppPart). s.master) own.1 ∙ is-new.master
                       ∙ sym (ap (λ m. master_in m part.containers.entries) own.0 ∙ none-master number part.containers.entries (none-own r.home part at))
                   | inr was ↦ inv.linked.master n r part was at
                 ];
             places = λ n r found.
-                elim (cases n r found) [
+                elim (pushed-cases n number row a.apps.entries unused r found) [
                   | inl own ↦ subst (HasPlaces a.partitions.items) (sym own.1) own-places
                   | inr was ↦ inv.linked.places n r was
                 ];

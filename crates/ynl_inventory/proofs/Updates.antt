@@ -1,5 +1,5 @@
 -- Rows that change in a place or under a number, and what they mean as rows that are found by a test.
-use Rattle.std.proofs.Common.{◌≡◌, ◌≢◌, ℕ, zero, suc, Bool, true, false, cond, not, List, [], ◌∷◌, map, find, slice_get, Some, option_map, nat_eq, refl, sym, ap, subst, ◌∙◌, arith, true≢false}
+use Rattle.std.proofs.Common.{◌≡◌, ◌≢◌, ℕ, zero, suc, Bool, true, false, cond, not, List, [], ◌∷◌, map, find, slice_get, Some, None, option_map, nat_eq, refl, sym, ap, subst, ◌∙◌, arith, true≢false}
 use Rattle.std.specs.List.{AllByRecursion}
 use Rattle.std.specs.Map.{lookup}
 use Rattle.std.proofs.lemmas.Bool.Decides.{nat_tests}
@@ -131,6 +131,20 @@ module _ {X : Type 0} where
           ap (λ b. cond b (Some (f e.1)) (find test (map (λ e. f e.1) es))) (only.0 (λ (same : e.0 ≡ n). true≢false (sym (itself n) ∙ ap (nat_eq n) (sym same) ∙ q))) ∙ rest k
 
 -- ---- names that differ
+
+-- a name that is not found is none of these
+pub unnamed : {Y : Type 0} (name : Name) (es : List (Name × Y)) → lookup (same_name name) es ≡ None → AllByRecursion (λ e. same_name e.0 name ≡ false) es
+unnamed name [] h = tt
+unnamed name (e ∷ es) h = go (same_name name e.0) refl h (unnamed name es)
+  where
+    turned : (b : Bool) → same_name e.0 name ≡ b → same_name name e.0 ≡ false → b ≡ false
+    turned false is apart = refl
+    turned true is apart = sym (subst (λ (n : Name). same_name name n ≡ true) (sym (same-name_sym e.0 name is)) (same-name_self name)) ∙ apart
+
+    go : (b : Bool) → same_name name e.0 ≡ b → cond b (Some e.1) (lookup (same_name name) es) ≡ None → (lookup (same_name name) es ≡ None → AllByRecursion (λ e. same_name e.0 name ≡ false) es)
+        → AllByRecursion (λ e. same_name e.0 name ≡ false) (e ∷ es)
+    go true is k rest = absurd (none-some e.1 (sym k))
+    go false is k rest = (turned (same_name e.0 name) refl is, rest k)
 
 -- a name has one place
 pub differ-places : (names : List Name) (i j : ℕ) (a b : Name) → Differ names → slice_get names i ≡ Some a → slice_get names j ≡ Some b → same_name a b ≡ true → i ≡ j

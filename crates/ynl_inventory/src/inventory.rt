@@ -18,7 +18,7 @@ ghost use Rattle.ynl_layout.specs.Paths.{HasNumber};
 ghost use Rattle.ynl_inventory.specs.Opening.{opening_rows, IsOpening};
 ghost use Rattle.ynl_inventory.specs.Apps.{runs_at, master_of};
 ghost use Rattle.ynl_inventory.specs.Sound.{CanAsk, CanSubmit, HasPartition, HasNoContainers, OwnsNoContainers, IsFor, IsSound};
-ghost use Rattle.ynl_inventory.specs.Parts.{app_row, node_row, CanPlace, LeavesRoom, taken_part, held_at, containers_of, released_part};
+ghost use Rattle.ynl_inventory.specs.Parts.{app_row, node_row, CanPlace, LeavesRoom, free_of, taken_part, held_at, containers_of, released_part};
 
 use crate::partition::{Partition, Placement, risen};
 use crate::places::reserve_for_ask;
@@ -31,7 +31,7 @@ use ynl_container_table::{Container, Role};
 use ynl_layout::Layout;
 use ynl_node_table::{NodeRow, Nodes};
 use ynl_queues::Config;
-use ynl_resource::{Label, Name, Size};
+use ynl_resource::{Label, Name, Resource, Size};
 use ynl_slots::Chain;
 use ynl_submissions::Submissions;
 use ynl_users::Users;
@@ -85,6 +85,8 @@ impl Inventory {
         requires { CanPlace self.old placed.now }
         ensures rows { self.new.rows ≡ with_placed result
             placed.now.node placed.now.app placed.now.role placed.now.size self.old.rows }
+        ensures unused { IsUnused result (containers_of self.old.rows
+            (partition_of_node self.old.rows.nodes placed.now.node)) }
         ensures rooms { LeavesRoom (partition_of_node self.old.rows.nodes placed.now.node) 1
             self.old.rooms self.new.rooms }
     {
@@ -258,6 +260,15 @@ impl Inventory {
         &self.nodes[number]
     }
 
+    /// What is free of a node: what its containers leave.
+    pub fn free(&self, node: u32) -> Resource
+        requires { IsLive node self.now.rows.nodes }
+        ensures { result ≡ free_of self.now.rows node }
+    {
+        let row = &self.nodes[node];
+        row.free
+    }
+
     /// The number of the node of a name, if there is one.
     pub fn find_node(&self, name: &Name) -> Option<u32>
         ensures { result ≡ node_number name.now self.now.rows.nodes }
@@ -303,10 +314,17 @@ impl Inventory {
     /// The container under a number in a partition.
     pub fn container(&self, p: u8, number: u32) -> Container
         requires { IsSome (held_at self.now.rows p number) }
-        ensures value { held_at self.now.rows p number ≡ Some result }
-        ensures sound { IsSound self.now.rows }
+        ensures { held_at self.now.rows p number ≡ Some result }
     {
         container_in(&self.partitions, p, number)
+    }
+
+    /// How many partitions there are, DEFAULT among them.
+    pub fn partition_count(&self) -> usize
+        ensures count { result ≡ length self.now.rows.partitions }
+        ensures sound { IsSound self.now.rows }
+    {
+        self.partitions.len()
     }
 
     /// The label of a partition.

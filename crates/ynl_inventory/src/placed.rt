@@ -17,6 +17,8 @@ impl Inventory {
         ensures { IfSome (held_at self.now.rows p number) (λ c.
             result ≡ placed_of self.now.rows (label_at self.now.rows.partitions p) c) }
     {
+        // Opens the rows, which are sound.
+        let _ = self.partition_count();
         let held = self.container(p, number);
         let node = self.node(held.node);
         let app = self.app(held.app);

@@ -3,7 +3,7 @@ use Rattle.std.proofs.Common.{◌≡◌, ◌<◌, ◌+◌, ◌^◌, true, IsTrue
 use Rattle.std.specs.Map.{lookup}
 use Rattle.std.proofs.lemmas.Option.{slice_get_read}
 use Rattle.ynl_resource.specs.Amounts.{fits_in}
-use Rattle.ynl_slots.specs.Slots.{IsLive}
+use Rattle.ynl_slots.specs.Slots.{IsLive, IsUnused}
 use Rattle.ynl_slots.specs.declared.chain.Chain.{Chain}
 use Rattle.ynl_app_table.specs.declared.app.AppRow.{AppRow as AppPart}
 use Rattle.ynl_app_table.specs.Chains.{chain_of}
@@ -15,9 +15,11 @@ use Rattle.ynl_inventory.specs.declared.partition.Placement.{Placement}
 use Rattle.ynl_inventory.specs.declared.partition.Partition.{Partition}
 use Rattle.ynl_inventory.specs.declared.inventory.Inventory.TheInside.{Inside}
 use Rattle.ynl_inventory.specs.Changes.{partition_of_node, with_placed}
+use Rattle.ynl_inventory.specs.Apps.{containers_of}
 use Rattle.ynl_inventory.specs.Parts.{Held, LeavesRoom, held_of, IsInventory, CanPlace}
 use Rattle.ynl_inventory.proofs.PlacingParts.{stands, node-live, app-live, own-app, has-part, has-room, still-rises, is-above, node-chain, has-free, app-chain, has-place, all-rows, all-sound, all-linked}
 use Rattle.std.specs.Prelude.{slice_set}
+use Rattle.ynl_inventory.proofs.ChainsRead.{containers-are}
 use Rattle.ynl_inventory.proofs.RoomParts.{rooms-left}
 use Rattle.ynl_inventory.proofs.inventory.Inventory.place.Goals as goal
 
@@ -170,6 +172,17 @@ returns-clause-rows c =
     })
     c.taken.ensures.place c.used.new.nodes c.taken.new.apps c.used.ensures c.taken.ensures.apps
     ∙ ap (λ (h : Held). with_placed c.place-number.result c.args.placed.now.node c.args.placed.now.app c.args.placed.now.role c.args.placed.now.size h.rows) c.self.view_is
+
+pub returns-clause-unused : goal.returns-clause-unused
+returns-clause-unused c =
+    let able = can c.self.inside c.args.self.now c.args.placed.now c.self.view_is c.requires in
+    subst (λ (h : Held). IsUnused c.place-number.result (containers_of h.rows (partition_of_node h.rows.nodes c.args.placed.now.node))) c.self.view_is
+    (subst (λ es. IsUnused c.place-number.result es)
+    (sym
+    (ap (containers_of (held_of c.self.inside).rows) (stands c.self.inside c.self.invariant c.args.placed.now able c.index-row.result.now c.index-row.ensures)
+    ∙ containers-are c.self.inside c.index-row.result.now.partition c.index_mut-part.result.now
+    (stood c.self.inside c.args.self.now c.args.placed.now c.self.view_is c.self.invariant c.requires c.index-row.result.now c.index-row.ensures c.index_mut-part.result.now c.index_mut-part.ensures.value)))
+    c.place-number.ensures.unused)
 
 pub returns-clause-rooms : goal.returns-clause-rooms
 returns-clause-rooms c =

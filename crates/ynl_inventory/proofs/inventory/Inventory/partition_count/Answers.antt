@@ -1,0 +1,12 @@
+-- Each part has its row, and the rows are sound.
+use Rattle.std.proofs.Common.{length, sym, ap, subst, ◌∙◌}
+use Rattle.std.proofs.lemmas.List.{length-map}
+use Rattle.ynl_inventory.specs.Parts.{Held, partition_row}
+use Rattle.ynl_inventory.specs.Sound.{IsSound}
+use Rattle.ynl_inventory.proofs.inventory.Inventory.partition_count.Goals as goal
+
+pub returns-clause-count : goal.returns-clause-count
+returns-clause-count c = c.len.ensures ∙ c.self.inside.partitions.ok.0 ∙ sym (length-map c.self.inside.partitions.items partition_row) ∙ ap (λ (h : Held). length h.rows.partitions) c.self.view_is
+
+pub returns-clause-sound : goal.returns-clause-sound
+returns-clause-sound c = subst (λ (h : Held). IsSound h.rows) c.self.view_is c.self.invariant.sound
