@@ -16,9 +16,10 @@ use Rattle.ynl_slots.proofs.Lists.{all_from}
 use Rattle.ynl_app_table.specs.declared.asks.Ask.{Ask}
 use Rattle.ynl_inventory.specs.Rows.{Rows, AppRow}
 use Rattle.ynl_inventory.specs.Meaning.{app_name, application_of, ask_of, label_at, state_of}
-use Rattle.ynl_inventory.specs.Sound.{HasPartition, IsApp, IsAskedOn, IsSound}
+use Rattle.ynl_inventory.specs.Sound.{HasPartition, IsApp, IsSound}
 use Rattle.ynl_inventory.specs.Apps.{runs_at}
 use Rattle.ynl_inventory.proofs.AppsFound.{leaves}
+use Rattle.ynl_inventory.proofs.Asked.{asked-there}
 use Rattle.ynl_requests.specs.Requests.{Request, Wants, ask_request, asked, item_for, master_request, master_wanted, wanted}
 use Rattle.ynl_requests.proofs.Live.{IsOfRow, among-live, live-among}
 use Rattle.ynl_requests.proofs.Members.{Among, among-contained, among-either, among-filter, among-flat, among-map, contained-among, each-among, filter-among, flat-among, left-among, map-among, right-among}
@@ -61,13 +62,9 @@ module _ (v : Rows) (sound : IsSound v) (stops : List StopRow) (maxima : List Ma
     is_wanted ask = same_label ask.label label && nat_lt 0 ask.count
 
     for-label : AllByRecursion (λ ask. is_wanted (ask_of v.partitions ask) ≡ is_for ask) row.asks
-    for-label = each row.asks (all_from (λ ask. IsAskedOn row.home ask.partition) row.asks its.asked) its.asks.counted
+    for-label = each row.asks (all_from (λ ask. HasPartition v ask.partition) row.asks (asked-there v sound row.home its.home row.asks its.asked)) its.asks.counted
       where
-        there_is : (asked : ℕ) → IsAskedOn row.home asked → HasPartition v asked
-        there_is asked (inl e) = subst (HasPartition v) (sym e) its.home
-        there_is asked (inr e) = subst (HasPartition v) (sym e) sound.some
-
-        each : (asks : List Ask) → AllByRecursion (λ ask. IsAskedOn row.home ask.partition) asks → AllByRecursion (λ ask. 0 < ask.count) asks → AllByRecursion (λ ask. is_wanted (ask_of v.partitions ask) ≡ is_for ask) asks
+        each : (asks : List Ask) → AllByRecursion (λ ask. HasPartition v ask.partition) asks → AllByRecursion (λ ask. 0 < ask.count) asks → AllByRecursion (λ ask. is_wanted (ask_of v.partitions ask) ≡ is_for ask) asks
         each [] there counted = tt
         each (ask ∷ asks) there counted = (one, each asks there.1 counted.1)
           where
@@ -76,7 +73,7 @@ module _ (v : Rows) (sound : IsSound v) (stops : List StopRow) (maxima : List Ma
             both false = refl
 
             one : is_wanted (ask_of v.partitions ask) ≡ is_for ask
-            one = both (same_label (label_at v.partitions ask.partition) label) ∙ label-tells v sound ask.partition p (there_is ask.partition there.0) has
+            one = both (same_label (label_at v.partitions ask.partition) label) ∙ label-tells v sound ask.partition p there.0 has
 
     -- an ask of the application is one of the model's
     ask-among : (ask : Ask) → Among ask (filter is_for row.asks) → Among (item_for v row (ask_request ask)) (asks_of label (app_at row))

@@ -33,6 +33,7 @@ use Rattle.ynl_inventory.specs.Rows.{Rows, PartitionRow, AppRow}
 use Rattle.ynl_inventory.specs.Apps.{is_master_role, runs_at}
 use Rattle.ynl_inventory.specs.Meaning.{app_name, ask_of, label_at, owner_of, placed_of, state_of, submitted_to, what_of}
 use Rattle.ynl_inventory.specs.Sound.{HasPartition, IsSound}
+use Rattle.ynl_inventory.proofs.Asked.{asked-there}
 use Rattle.ynl_inventory.proofs.Asking.{same-label}
 use Rattle.ynl_inventory.proofs.Finding.{containers-at, not-true, own-label}
 use Rattle.ynl_inventory.proofs.Lookups.{live-found, place-there}
@@ -170,7 +171,7 @@ module _ (v : Rows) (sound : IsSound v) (n : ℕ) (row : AppRow) (found : lookup
 
       least-is : least_item (asks_of label app) ≡ least_asked p row.asks
       least-is =
-          least-from row.asks (all_from (λ ask. HasPartition v ask.partition) row.asks (sound.apps n row found).asked) (sound.apps n row found).asks.counted no_size
+          least-from row.asks (all_from (λ ask. HasPartition v ask.partition) row.asks (asked-there v sound row.home (sound.apps n row found).home row.asks (sound.apps n row found).asked)) (sound.apps n row found).asks.counted no_size
 
       pub master-waits : cond (not (runs_at v n row) && nat_eq row.home p) row.master no_size ≡ cond (waits s app && same_label app.home label) app.master no_size
       master-waits = λ i. cond (not (sym running i) && sym (same-label v sound row.home p (sound.apps n row found).home has) i) row.master no_size
