@@ -45,6 +45,7 @@ use Rattle.ynl_inventory.proofs.Submitted.{app-submitted}
 use Rattle.ynl_inventory.proofs.Tenants.{owner-named}
 use Rattle.ynl_inventory.proofs.Updates.{each-number}
 use Rattle.ynl_ledger.specs.Ledger.{is_below, nodes_on, tally_of, total_in, totals_in, use_by, uses_by, uses_in}
+use Rattle.ynl_ledger.specs.Changes.{IsLineOf}
 use Rattle.ynl_ledger.specs.Meaning.{IsListed, IsTotalOf}
 use Rattle.ynl_ledger.specs.Totals.{no_total, total_at}
 use Rattle.ynl_ledger.proofs.Places.{by_place-or, length-by_place}
@@ -174,7 +175,7 @@ module _ (v : Rows) where
       by_place-or (λ n row. uses_by v n row.containers) v.partitions p [] its.0 its.1
       ∙ sym (ap (λ o. uses_by v p (option_map_or (λ (row : PartitionRow). row.containers) o [])) its.1)
 
-  pub many-queues : (p : ℕ) → HasPartition v p → length (slice_index_or (uses_in v) p []) ≡ length (root ∷ v.paths)
+  many-queues : (p : ℕ) → HasPartition v p → length (slice_index_or (uses_in v) p []) ≡ length (root ∷ v.paths)
   many-queues p has = ap length (uses-at p has) ∙ length-map (root ∷ v.paths) (λ queue. use_by v p queue (containers_of v p))
 
   use-at : (p q : ℕ) → HasPartition v p → HasNumber v.paths q → slice_get (slice_index_or (uses_in v) p []) q ≡ Some (use_by v p (path_at v.paths q) (containers_of v p))
@@ -185,16 +186,17 @@ module _ (v : Rows) where
   total-at : (p : ℕ) → HasPartition v p → total_at (totals_in v) p ≡ total_in v p
   total-at p has = let its = place-there v.partitions p has in by_place-or (λ q row. total_in v q) v.partitions p no_total its.0 its.1
 
+  -- a line's numbers are those of queues that the uses have
+  line-inside : (p app : ℕ) (line : List ℕ) → HasPartition v p → IsLineOf v app line → IsInside (uses_in v) p line
+  line-inside p app line has way = subst (λ m. AllByRecursion (λ n. n < m) line) (sym (many-queues p has)) way.inside
+
   -- the ledger has each partition and each queue
   pub listed : IsListed v
   listed = record {
     partitions = length-by_place (λ p row. uses_by v p row.containers) v.partitions;
     queues = many-queues;
     uses = use-at;
+    lines = line-inside;
     many = length-by_place (λ p row. total_in v p) v.partitions;
     totals = total-at;
   }
-
-  -- a line's numbers are those of queues that the uses have
-  pub line-inside : (p : ℕ) (line : List ℕ) → HasPartition v p → AllByRecursion (λ n. n < length (root ∷ v.paths)) line → IsInside (uses_in v) p line
-  line-inside p line has inside = subst (λ m. AllByRecursion (λ n. n < m) line) (sym (many-queues p has)) inside
