@@ -2,7 +2,7 @@
 
 ghost use Rattle.ynl_ledger.specs.Bounded.{PlacingKeepsBounds, EndingKeepsBounds};
 ghost use Rattle.ynl_ledger.specs.Bounded.{DroppingKeepsBounds, JoiningKeepsBounds};
-ghost use Rattle.ynl_ledger.specs.Bounded.{LeavingKeepsBounds, AllAppsKeepBounds};
+ghost use Rattle.ynl_ledger.specs.Bounded.{LeavingKeepsBounds, OthersKeepBounds};
 
 /// A placement keeps the rows in bounds, if what is placed has a size that a request may have, and
 /// fits in what is free of the node.
@@ -30,7 +30,7 @@ pub fn leaving_keeps_bounds()
     ensures { LeavingKeepsBounds }
 {}
 
-/// Changes of applications and users keep them.
-pub fn apps_keep_bounds()
-    ensures { AllAppsKeepBounds }
+/// Changes that leave partitions and nodes keep them.
+pub fn others_keep_bounds()
+    ensures { OthersKeepBounds }
 {}
