@@ -37,7 +37,7 @@ use Rattle.ynl_inventory.specs.Apps.{is_guest_role, is_master_role}
 use Rattle.ynl_inventory.specs.Meaning.{app_name, label_at, leaf_numbers, node_of, placed_of, state_of, what_of}
 use Rattle.ynl_inventory.specs.Meaning.{leaf_of as leaf_row}
 use Rattle.ynl_inventory.specs.Parts.{containers_of}
-use Rattle.ynl_inventory.specs.Sound.{HasPartition, IsContainer, IsRole, IsSound}
+use Rattle.ynl_inventory.specs.Sound.{HasPartition, IsContainer, IsSound}
 use Rattle.ynl_inventory.proofs.AppsFound.{leaf-found}
 use Rattle.ynl_inventory.proofs.Finding.{containers-at, not-true, own-label}
 use Rattle.ynl_inventory.proofs.Lookups.{live-found, place-there}
@@ -118,11 +118,12 @@ counts-as false true size u = refl
 counts-as false false size u = refl
 
 module _ (v : Rows) (sound : IsSound v) (p : ℕ) (row : PartitionRow) (there : slice_get v.partitions p ≡ Some row) where
-  guest-is : (r : Role) → IsRole v r → is_guest_on row.label (what_of v.partitions r) ≡ is_guest_role p r
-  guest-is role.Master is = refl
-  guest-is (role.Ask asked priority) is =
+  guest-is : (clock node app : ℕ) (r : Role) (size : Resource) → IsContainer v p row.clock (record { clock = clock; node = node; app = app; role = r; size = size })
+      → is_guest_on row.label (what_of v.partitions r) ≡ is_guest_role p r
+  guest-is clock node app role.Master size is = refl
+  guest-is clock node app (role.Ask asked priority) size is =
       let own : is_default row.label ≡ nat_eq p 0 = ap is_default (sym (own-label v sound p row there)) ∙ default-tells v sound p (slice_get_within v.partitions p row there) in
-      λ i. default-tells v sound asked is i && not (own i)
+      λ i. default-tells v sound asked is.role i && not (own i)
 
   master-is : (r : Role) → is_master_what (what_of v.partitions r) ≡ is_master_role r
   master-is role.Master = refl
@@ -139,7 +140,7 @@ module _ (v : Rows) (sound : IsSound v) (p : ℕ) (row : PartitionRow) (there : 
 
     raises : (c : Container) → IsContainer v p row.clock c → (u : Use) → raised_by (placed_of v row.label c) u ≡ raised (tally_of p c.role c.size) u
     raises c is u =
-        (λ i. cond (guest-is c.role is.role i) (record u { guests = plus u.guests c.size })
+        (λ i. cond (guest-is c.clock c.node c.app c.role c.size is i) (record u { guests = plus u.guests c.size })
         (cond (master-is c.role i) (record u { used = plus u.used c.size; masters = plus u.masters c.size; master_count = u.master_count + 1 }) (record u { used = plus u.used c.size })))
         ∙ counts-as (is_guest_role p c.role) (is_master_role c.role) c.size u
 
