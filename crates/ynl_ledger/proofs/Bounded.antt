@@ -17,7 +17,7 @@ use Rattle.ynl_app_table.specs.Apps.{with_change}
 use Rattle.ynl_container_table.specs.declared.container.Container.{Container}
 use Rattle.ynl_container_table.specs.declared.container.Role.{Role}
 use Rattle.ynl_inventory.specs.Rows.{Rows, PartitionRow, NodeRow}
-use Rattle.ynl_inventory.specs.Changes.{next_clock_at, next_container, partition_of_node, ticked, with_at}
+use Rattle.ynl_inventory.specs.Changes.{next_clock_at, next_container, partition_of_node, ticked, with_at, with_changed, with_placed}
 use Rattle.ynl_inventory.specs.Parts.{containers_of, free_of, used_of}
 use Rattle.ynl_inventory.proofs.Lookups.{at-other, at-same, live-apart, read-after, read-at, was-found}
 use Rattle.ynl_inventory.proofs.NodeParts.{found-without}
@@ -25,12 +25,18 @@ use Rattle.ynl_inventory.proofs.PartLists.{unmapped}
 use Rattle.ynl_inventory.proofs.Updates.{each-number}
 use Rattle.ynl_inventory.proofs.Used.{fits-left, nothing-plus, used-push}
 use Rattle.ynl_ledger.specs.declared.totals.Total.{Total}
-use Rattle.ynl_ledger.specs.Bounded.{AllAppsKeepBounds, DroppingKeepsBounds, EndingKeepsBounds, JoiningKeepsBounds, LeavingKeepsBounds, PlacingKeepsBounds}
+use Rattle.ynl_ledger.specs.Bounded.{DroppingKeepsBounds, EndingKeepsBounds, JoiningKeepsBounds, LeavingKeepsBounds, OthersKeepBounds, PlacingKeepsBounds}
 use Rattle.ynl_ledger.specs.Totals.{grown}
 use Rattle.ynl_ledger.specs.Ledger.{nodes_on, total_in, total_of_nodes, AreSized, IsBounded}
 use Rattle.ynl_ledger.proofs.Small.{nothing-fits}
 use Rattle.ynl_ledger.proofs.Sums.{total-left, total-more, total-stamped}
 use Rattle.ynl_ledger.proofs.Uses.{inserted-last}
+
+-- partitions and nodes tell all of it
+pub others : OthersKeepBounds
+others v bounded w partitions nodes =
+    subst IsBounded (λ i. record w { partitions = sym partitions i; nodes = sym nodes i })
+    (let same : IsBounded (record w { partitions = v.partitions; nodes = v.nodes }) = record { nodes = bounded.nodes; containers = bounded.containers; fits = bounded.fits; many = bounded.many } in same)
 
 -- ---- one partition changes
 
@@ -146,16 +152,20 @@ less-sized v bounded p number part at = Each-filter (λ (e : ℕ × Container). 
 
 pub placing : PlacingKeepsBounds
 placing v bounded number node app role size ranged room =
-    record { nodes = still.nodes; containers = still.containers; fits = still.fits; many = still.many }
+    others changed
+    (changed-bounded v bounded p (ticked push) (with_change node (λ row. record row { stamp = next_clock_at v.partitions p }) v.nodes) (stamped-was v node (next_clock_at v.partitions p))
+    (λ q. total-stamped q node (next_clock_at v.partitions p) v.nodes) (placed-fits v bounded number node app role size room)
+    (λ part at. Each-append (λ (e : ℕ × Container). IsSize e.1.size) part.containers ((number, next_container v node app role size) ∷ []) (bounded.containers p part at) (ranged, tt)))
+    (with_placed number node app role size v) refl refl
   where
     p : ℕ
     p = partition_of_node v.nodes node
 
-    still : IsBounded (record v { partitions = with_at p (ticked (λ es. es ++ (number, next_container v node app role size) ∷ [])) v.partitions; nodes = with_change node (λ row. record row { stamp = next_clock_at v.partitions p }) v.nodes })
-    still =
-        changed-bounded v bounded p (ticked (λ es. es ++ (number, next_container v node app role size) ∷ [])) (with_change node (λ row. record row { stamp = next_clock_at v.partitions p }) v.nodes)
-        (stamped-was v node (next_clock_at v.partitions p)) (λ q. total-stamped q node (next_clock_at v.partitions p) v.nodes) (placed-fits v bounded number node app role size room)
-        (λ part at. Each-append (λ (e : ℕ × Container). IsSize e.1.size) part.containers ((number, next_container v node app role size) ∷ []) (bounded.containers p part at) (ranged, tt))
+    push : List (ℕ × Container) → List (ℕ × Container)
+    push = λ es. es ++ (number, next_container v node app role size) ∷ []
+
+    changed : Rows
+    changed = with_changed p node push v
 
 pub ending : EndingKeepsBounds
 ending v bounded p number node =
@@ -234,14 +244,3 @@ leaving v sound bounded node row found = record {
         → (total_of_nodes (nodes_on q (without node v.nodes))).nodes ≤ most_nodes
     go q true count = let most : (total_in v q).nodes ≤ most_nodes = bounded.many q in omega (arith, count, most)
     go q false count = subst (λ n. n ≤ most_nodes) count (bounded.many q)
-
--- ---- applications and users
-
-pub apps : AllAppsKeepBounds
-apps v bounded = record {
-  submitting = λ number name tenant leaf user home master. record { nodes = bounded.nodes; containers = bounded.containers; fits = bounded.fits; many = bounded.many };
-  asking = λ app ask. record { nodes = bounded.nodes; containers = bounded.containers; fits = bounded.fits; many = bounded.many };
-  tickets = λ app tickets. record { nodes = bounded.nodes; containers = bounded.containers; fits = bounded.fits; many = bounded.many };
-  finishing = λ app tenant turn. record { nodes = bounded.nodes; containers = bounded.containers; fits = bounded.fits; many = bounded.many };
-  users = λ name. record { nodes = bounded.nodes; containers = bounded.containers; fits = bounded.fits; many = bounded.many };
-}

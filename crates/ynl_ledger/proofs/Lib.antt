@@ -8,3 +8,4 @@ pub mod Means
 pub mod Small
 pub mod Bounded
 pub mod Opened
+pub mod Calls

@@ -37,7 +37,7 @@ use Rattle.ynl_inventory.specs.Apps.{is_guest_role, is_master_role}
 use Rattle.ynl_inventory.specs.Meaning.{app_name, label_at, leaf_numbers, node_of, placed_of, state_of, what_of}
 use Rattle.ynl_inventory.specs.Meaning.{leaf_of as leaf_row}
 use Rattle.ynl_inventory.specs.Parts.{containers_of}
-use Rattle.ynl_inventory.specs.Sound.{HasPartition, IsContainer, IsRole, IsSound}
+use Rattle.ynl_inventory.specs.Sound.{HasPartition, IsContainer, IsSound}
 use Rattle.ynl_inventory.proofs.AppsFound.{leaf-found}
 use Rattle.ynl_inventory.proofs.Finding.{containers-at, not-true, own-label}
 use Rattle.ynl_inventory.proofs.Lookups.{live-found, place-there}
@@ -45,6 +45,7 @@ use Rattle.ynl_inventory.proofs.Submitted.{app-submitted}
 use Rattle.ynl_inventory.proofs.Tenants.{owner-named}
 use Rattle.ynl_inventory.proofs.Updates.{each-number}
 use Rattle.ynl_ledger.specs.Ledger.{is_below, nodes_on, tally_of, total_in, totals_in, use_by, uses_by, uses_in}
+use Rattle.ynl_ledger.specs.Changes.{IsLineOf}
 use Rattle.ynl_ledger.specs.Meaning.{IsListed, IsTotalOf}
 use Rattle.ynl_ledger.specs.Totals.{no_total, total_at}
 use Rattle.ynl_ledger.proofs.Places.{by_place-or, length-by_place}
@@ -117,11 +118,12 @@ counts-as false true size u = refl
 counts-as false false size u = refl
 
 module _ (v : Rows) (sound : IsSound v) (p : ℕ) (row : PartitionRow) (there : slice_get v.partitions p ≡ Some row) where
-  guest-is : (r : Role) → IsRole v r → is_guest_on row.label (what_of v.partitions r) ≡ is_guest_role p r
-  guest-is role.Master is = refl
-  guest-is (role.Ask asked priority) is =
+  guest-is : (clock node app : ℕ) (r : Role) (size : Resource) → IsContainer v p row.clock (record { clock = clock; node = node; app = app; role = r; size = size })
+      → is_guest_on row.label (what_of v.partitions r) ≡ is_guest_role p r
+  guest-is clock node app role.Master size is = refl
+  guest-is clock node app (role.Ask asked priority) size is =
       let own : is_default row.label ≡ nat_eq p 0 = ap is_default (sym (own-label v sound p row there)) ∙ default-tells v sound p (slice_get_within v.partitions p row there) in
-      λ i. default-tells v sound asked is i && not (own i)
+      λ i. default-tells v sound asked is.role i && not (own i)
 
   master-is : (r : Role) → is_master_what (what_of v.partitions r) ≡ is_master_role r
   master-is role.Master = refl
@@ -138,7 +140,7 @@ module _ (v : Rows) (sound : IsSound v) (p : ℕ) (row : PartitionRow) (there : 
 
     raises : (c : Container) → IsContainer v p row.clock c → (u : Use) → raised_by (placed_of v row.label c) u ≡ raised (tally_of p c.role c.size) u
     raises c is u =
-        (λ i. cond (guest-is c.role is.role i) (record u { guests = plus u.guests c.size })
+        (λ i. cond (guest-is c.clock c.node c.app c.role c.size is i) (record u { guests = plus u.guests c.size })
         (cond (master-is c.role i) (record u { used = plus u.used c.size; masters = plus u.masters c.size; master_count = u.master_count + 1 }) (record u { used = plus u.used c.size })))
         ∙ counts-as (is_guest_role p c.role) (is_master_role c.role) c.size u
 
@@ -174,7 +176,7 @@ module _ (v : Rows) where
       by_place-or (λ n row. uses_by v n row.containers) v.partitions p [] its.0 its.1
       ∙ sym (ap (λ o. uses_by v p (option_map_or (λ (row : PartitionRow). row.containers) o [])) its.1)
 
-  pub many-queues : (p : ℕ) → HasPartition v p → length (slice_index_or (uses_in v) p []) ≡ length (root ∷ v.paths)
+  many-queues : (p : ℕ) → HasPartition v p → length (slice_index_or (uses_in v) p []) ≡ length (root ∷ v.paths)
   many-queues p has = ap length (uses-at p has) ∙ length-map (root ∷ v.paths) (λ queue. use_by v p queue (containers_of v p))
 
   use-at : (p q : ℕ) → HasPartition v p → HasNumber v.paths q → slice_get (slice_index_or (uses_in v) p []) q ≡ Some (use_by v p (path_at v.paths q) (containers_of v p))
@@ -185,16 +187,17 @@ module _ (v : Rows) where
   total-at : (p : ℕ) → HasPartition v p → total_at (totals_in v) p ≡ total_in v p
   total-at p has = let its = place-there v.partitions p has in by_place-or (λ q row. total_in v q) v.partitions p no_total its.0 its.1
 
+  -- a line's numbers are those of queues that the uses have
+  line-inside : (p app : ℕ) (line : List ℕ) → HasPartition v p → IsLineOf v app line → IsInside (uses_in v) p line
+  line-inside p app line has way = subst (λ m. AllByRecursion (λ n. n < m) line) (sym (many-queues p has)) way.inside
+
   -- the ledger has each partition and each queue
   pub listed : IsListed v
   listed = record {
     partitions = length-by_place (λ p row. uses_by v p row.containers) v.partitions;
     queues = many-queues;
     uses = use-at;
+    lines = line-inside;
     many = length-by_place (λ p row. total_in v p) v.partitions;
     totals = total-at;
   }
-
-  -- a line's numbers are those of queues that the uses have
-  pub line-inside : (p : ℕ) (line : List ℕ) → HasPartition v p → AllByRecursion (λ n. n < length (root ∷ v.paths)) line → IsInside (uses_in v) p line
-  line-inside p line has inside = subst (λ m. AllByRecursion (λ n. n < m) line) (sym (many-queues p has)) inside

@@ -21,10 +21,12 @@ use Rattle.ynl_uses.specs.declared.tally.Counted.{Counted}
 use Rattle.ynl_uses.specs.declared.tally.Counted.TheVariants.{Guest, Master, Asked}
 use Rattle.ynl_inventory.specs.Rows.{Rows, PartitionRow, NodeRow}
 use Rattle.ynl_inventory.specs.Parts.{containers_of, used_of}
-use Rattle.ynl_inventory.specs.Sound.{IsPartition, IsSound}
+use Rattle.ynl_inventory.specs.Sound.{HasPartition, IsPartition, IsSound}
+use Rattle.ynl_inventory.proofs.Lookups.{place-there}
 use Rattle.ynl_inventory.proofs.Updates.{each-number}
 use Rattle.ynl_inventory.proofs.Used.{fits-parts}
 use Rattle.ynl_ledger.specs.Ledger.{counted_as, is_below, nodes_on, tally_of, total_in, use_by, use_where, uses_by, uses_in, AreSized, IsBounded}
+use Rattle.ynl_ledger.specs.Small.{IsWithin}
 use Rattle.ynl_ledger.specs.Totals.{IsSmallTotal}
 use Rattle.ynl_ledger.proofs.Places.{by_place-none, by_place-or}
 
@@ -120,46 +122,40 @@ on-all nodes (e ∷ es) h =
 
 -- ---- the use of one queue
 
--- what is used is within an amount, and there are no more masters than they have megabytes
-record IsWithin (u : Use) (amount : Resource) : Type 0 where
-  used : fits_in u.used amount ≡ true
-  masters : fits_in u.masters amount ≡ true
-  guests : fits_in u.guests amount ≡ true
-  master_count : u.master_count ≤ u.masters.memory
-
 wider : (a amount size : Resource) → fits_in a amount ≡ true → fits_in a (plus size amount) ≡ true
 wider a amount size h = fits-trans a amount (plus size amount) h (fits-more size amount)
 
 both-more : (a amount size : Resource) → fits_in a amount ≡ true → fits_in (plus a size) (plus size amount) ≡ true
 both-more a amount size h = grind (arith, nat_tests)
 
+both-grow : (a amount size : Resource) → fits_in a amount ≡ true → fits_in (plus a size) (plus amount size) ≡ true
+both-grow a amount size h = grind (arith, nat_tests)
+
+wider-behind : (a amount size : Resource) → fits_in a amount ≡ true → fits_in a (plus amount size) ≡ true
+wider-behind a amount size h = grind (arith, nat_tests)
+
 raised-within : (counted : Counted) (size : Resource) (u : Use) (amount : Resource) → IsSize size → IsWithin u amount → IsWithin (raised_as counted size u) (plus size amount)
 raised-within Guest size u amount sized h = record {
   used = wider u.used amount size h.used;
-  masters = wider u.masters amount size h.masters;
-  guests = both-more u.guests amount size h.guests;
+  masters = h.masters;
   master_count = h.master_count;
+  guests = both-more u.guests amount size h.guests;
 }
 raised-within Master size u amount sized h = record {
   used = both-more u.used amount size h.used;
-  masters = both-more u.masters amount size h.masters;
-  guests = wider u.guests amount size h.guests;
+  masters = both-grow u.masters u.used size h.masters;
   master_count = omega (arith, h.master_count, sized.some_memory);
+  guests = wider u.guests amount size h.guests;
 }
 raised-within Asked size u amount sized h = record {
   used = both-more u.used amount size h.used;
-  masters = wider u.masters amount size h.masters;
-  guests = wider u.guests amount size h.guests;
+  masters = wider-behind u.masters u.used size h.masters;
   master_count = h.master_count;
+  guests = wider u.guests amount size h.guests;
 }
 
 kept-within : (size : Resource) (u : Use) (amount : Resource) → IsWithin u amount → IsWithin u (plus size amount)
-kept-within size u amount h = record {
-  used = wider u.used amount size h.used;
-  masters = wider u.masters amount size h.masters;
-  guests = wider u.guests amount size h.guests;
-  master_count = h.master_count;
-}
+kept-within size u amount h = record { used = wider u.used amount size h.used; masters = h.masters; master_count = h.master_count; guests = wider u.guests amount size h.guests }
 
 -- what some containers use is within what all come to
 use-within : (test : Container → Bool) (p : ℕ) (es : List (ℕ × Container)) → AreSized es → IsWithin (use_where test p es) (total_of (λ e. e.1.size) es)
@@ -181,8 +177,9 @@ small-in a b fits small =
 
 small-use : (u : Use) (amount : Resource) → IsWithin u amount → IsTotal amount → IsSmallUse u
 small-use u amount h small =
-    let masters : IsTotal u.masters = small-in u.masters amount h.masters small in
-    record { used = small-in u.used amount h.used small; masters = masters; master_count = omega (arith, h.master_count, masters.0); guests = small-in u.guests amount h.guests small }
+    let used : IsTotal u.used = small-in u.used amount h.used small in
+    let masters : IsTotal u.masters = small-in u.masters u.used h.masters used in
+    record { used = used; masters = masters; master_count = omega (arith, h.master_count, masters.0); guests = small-in u.guests amount h.guests small }
 
 -- ---- the uses of a partition
 
@@ -208,23 +205,23 @@ module _ (v : Rows) (sound : IsSound v) (bounded : IsBounded v) (p : ℕ) (row :
           let its : containers_of v r.partition ≡ row.containers = ap (containers_of v) same ∙ ap (λ o. option_map_or (λ (row : PartitionRow). row.containers) o []) there in
           ap (λ es. fits_in (used_of es n) r.size) (sym its) ∙ bounded.fits n r found
 
-  -- the use of each queue is small enough for one container more
-  each-small : (queue : Path) → IsSmallUse (use_by v p queue row.containers)
-  each-small queue = small-use (use_by v p queue row.containers) (total_in v p).amount within (total-small v sound bounded p).amount
+  -- what each queue uses is within the total
+  pub each-within : (queue : Path) → IsWithin (use_by v p queue row.containers) (total_in v p).amount
+  each-within queue =
+      record { used = fit u.used inner.used; masters = inner.masters; master_count = inner.master_count; guests = fit u.guests inner.guests }
     where
-      inner : IsWithin (use_by v p queue row.containers) (total_of (λ (e : ℕ × Container). e.1.size) row.containers)
+      u : Use
+      u = use_by v p queue row.containers
+
+      inner : IsWithin u (total_of (λ (e : ℕ × Container). e.1.size) row.containers)
       inner = use-within (λ c. is_below v queue c) p row.containers (bounded.containers p row there)
 
       fit : (a : Resource) → fits_in a (total_of (λ (e : ℕ × Container). e.1.size) row.containers) ≡ true → fits_in a (total_in v p).amount ≡ true
       fit a h = fits-trans a (total_of (λ (e : ℕ × Container). e.1.size) row.containers) (total_in v p).amount h on-fits
 
-      within : IsWithin (use_by v p queue row.containers) (total_in v p).amount
-      within = record {
-        used = fit (use_by v p queue row.containers).used inner.used;
-        masters = fit (use_by v p queue row.containers).masters inner.masters;
-        guests = fit (use_by v p queue row.containers).guests inner.guests;
-        master_count = inner.master_count;
-      }
+  -- so it is small enough for one container more
+  each-small : (queue : Path) → IsSmallUse (use_by v p queue row.containers)
+  each-small queue = small-use (use_by v p queue row.containers) (total_in v p).amount (each-within queue) (total-small v sound bounded p).amount
 
   pub all-small : AreSmall (uses_by v p row.containers)
   all-small =
@@ -237,3 +234,9 @@ uses-small v sound bounded p = go (slice_get v.partitions p) refl
     go : (o : Option PartitionRow) → slice_get v.partitions p ≡ o → AreSmall (slice_index_or (uses_in v) p [])
     go None is = subst AreSmall (sym (by_place-none (λ n row. uses_by v n row.containers) v.partitions p [] is)) tt
     go (Some row) is = subst AreSmall (sym (by_place-or (λ n row. uses_by v n row.containers) v.partitions p [] row is)) (all-small v sound bounded p row is)
+
+-- what a queue uses of a partition is within the total
+pub uses-within : (v : Rows) → IsSound v → IsBounded v → (p : ℕ) → HasPartition v p → (queue : Path) → IsWithin (use_by v p queue (containers_of v p)) (total_in v p).amount
+uses-within v sound bounded p has queue =
+    let its = place-there v.partitions p has in
+    subst (λ o. IsWithin (use_by v p queue (option_map_or (λ (row : PartitionRow). row.containers) o [])) (total_in v p).amount) (sym its.1) (each-within v sound bounded p its.0 its.1 queue)

@@ -6,11 +6,9 @@ use Rattle.ynl_resource.specs.Ranges.{most_nodes}
 use Rattle.ynl_resource.specs.declared.amounts.Resource.{Resource}
 use Rattle.ynl_resource.specs.declared.names.Name.{Name}
 use Rattle.ynl_slots.specs.Slots.{IsUnused}
-use Rattle.ynl_app_table.specs.declared.asks.Ask.{Ask}
-use Rattle.ynl_app_table.specs.declared.app.Tickets.{Tickets}
 use Rattle.ynl_container_table.specs.declared.container.Role.{Role}
 use Rattle.ynl_inventory.specs.Rows.{Rows, NodeRow}
-use Rattle.ynl_inventory.specs.Changes.{with_app_gone, with_asked, with_dropped, with_ended, with_joined, with_node_gone, with_placed, with_submitted, with_tickets, with_user}
+use Rattle.ynl_inventory.specs.Changes.{with_dropped, with_ended, with_joined, with_node_gone, with_placed}
 use Rattle.ynl_inventory.specs.Parts.{free_of}
 use Rattle.ynl_inventory.specs.Sound.{IsSound}
 use Rattle.ynl_ledger.specs.Ledger.{total_in, IsBounded}
@@ -36,13 +34,6 @@ JoiningKeepsBounds = (v : Rows) → IsSound v → IsBounded v → (number : ℕ)
 abbrev pub LeavingKeepsBounds : Type 0
 LeavingKeepsBounds = (v : Rows) → IsSound v → IsBounded v → (node : ℕ) (row : NodeRow) → lookup (nat_eq node) v.nodes ≡ Some row → IsBounded (with_node_gone node v)
 
--- changes of applications and users do
-pub record AppsKeepBounds (v : Rows) : Type 0 where
-  pub submitting : (number : ℕ) (name : Name) (tenant leaf user home : ℕ) (master : Resource) → IsBounded (with_submitted number name tenant leaf user home master v)
-  pub asking : (app : ℕ) (ask : Ask) → IsBounded (with_asked app ask v)
-  pub tickets : (app : ℕ) (tickets : Tickets) → IsBounded (with_tickets app tickets v)
-  pub finishing : (app tenant turn : ℕ) → IsBounded (with_app_gone app tenant turn v)
-  pub users : (name : Name) → IsBounded (with_user name v)
-
-abbrev pub AllAppsKeepBounds : Type 0
-AllAppsKeepBounds = (v : Rows) → IsBounded v → AppsKeepBounds v
+-- so does each change that leaves partitions and nodes: those of applications and users
+abbrev pub OthersKeepBounds : Type 0
+OthersKeepBounds = (v : Rows) → IsBounded v → (w : Rows) → w.partitions ≡ v.partitions → w.nodes ≡ v.nodes → IsBounded w

@@ -10,14 +10,15 @@ use Rattle.ynl_model.specs.Nodes.{is_full, nodes_of}
 use Rattle.ynl_model.specs.Cluster.{State, total}
 use Rattle.ynl_laws.specs.Uses.{use_of}
 use Rattle.ynl_layout.specs.Paths.{HasNumber, path_at}
-use Rattle.ynl_uses.specs.Tallies.{AreSmall}
+use Rattle.ynl_uses.specs.Tallies.{IsInside}
 use Rattle.ynl_inventory.specs.Rows.{Rows}
 use Rattle.ynl_inventory.specs.Meaning.{label_at, state_of}
 use Rattle.ynl_inventory.specs.Parts.{containers_of}
 use Rattle.ynl_inventory.specs.Sound.{HasPartition, IsSound}
 use Rattle.ynl_ledger.specs.declared.totals.Total.{Total}
-use Rattle.ynl_ledger.specs.Totals.{IsSmallTotal, total_at}
-use Rattle.ynl_ledger.specs.Ledger.{IsBounded, total_in, totals_in, use_by, uses_in}
+use Rattle.ynl_ledger.specs.Changes.{IsLineOf}
+use Rattle.ynl_ledger.specs.Totals.{total_at}
+use Rattle.ynl_ledger.specs.Ledger.{total_in, totals_in, use_by, uses_in}
 
 -- a total is that of a partition of a state
 pub record IsTotalOf (s : State) (label : Label) (t : Total) : Type 0 where
@@ -39,16 +40,9 @@ pub record IsListed (v : Rows) : Type 0 where
   pub partitions : length (uses_in v) ≡ length v.partitions
   pub queues : (p : ℕ) → HasPartition v p → length (slice_index_or (uses_in v) p []) ≡ length (root ∷ v.paths)
   pub uses : (p q : ℕ) → HasPartition v p → HasNumber v.paths q → slice_get (slice_index_or (uses_in v) p []) q ≡ Some (use_by v p (path_at v.paths q) (containers_of v p))
+  pub lines : (p app : ℕ) (line : List ℕ) → HasPartition v p → IsLineOf v app line → IsInside (uses_in v) p line
   pub many : length (totals_in v) ≡ length v.partitions
   pub totals : (p : ℕ) → HasPartition v p → total_at (totals_in v) p ≡ total_in v p
 
 abbrev pub AreAllListed : Type 0
 AreAllListed = (v : Rows) → IsListed v
-
--- no total is too large for one node more, where there are fewer nodes than may be
-abbrev pub AreTotalsSmall : Type 0
-AreTotalsSmall = (v : Rows) → IsSound v → IsBounded v → (p : ℕ) → IsSmallTotal (total_in v p)
-
--- no use is too large for one container more
-abbrev pub AreUsesSmall : Type 0
-AreUsesSmall = (v : Rows) → IsSound v → IsBounded v → (p : ℕ) → AreSmall (slice_index_or (uses_in v) p [])

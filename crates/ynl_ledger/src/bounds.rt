@@ -1,9 +1,11 @@
 //! Which changes of the rows keep them in bounds: each law the contract of a public function.
 
-ghost use Rattle.ynl_ledger.specs.Bounded.{PlacingKeepsBounds, EndingKeepsBounds, DroppingKeepsBounds, JoiningKeepsBounds, LeavingKeepsBounds, AllAppsKeepBounds};
+ghost use Rattle.ynl_ledger.specs.Bounded.{PlacingKeepsBounds, EndingKeepsBounds};
+ghost use Rattle.ynl_ledger.specs.Bounded.{DroppingKeepsBounds, JoiningKeepsBounds};
+ghost use Rattle.ynl_ledger.specs.Bounded.{LeavingKeepsBounds, OthersKeepBounds};
 
-/// A placement keeps the rows in bounds, if what is placed has a size that a request may have, and fits in what is free of the
-/// node.
+/// A placement keeps the rows in bounds, if what is placed has a size that a request may have, and
+/// fits in what is free of the node.
 pub fn placing_keeps_bounds()
     ensures { PlacingKeepsBounds }
 {}
@@ -28,7 +30,7 @@ pub fn leaving_keeps_bounds()
     ensures { LeavingKeepsBounds }
 {}
 
-/// Changes of applications and users keep them.
-pub fn apps_keep_bounds()
-    ensures { AllAppsKeepBounds }
+/// Changes that leave partitions and nodes keep them.
+pub fn others_keep_bounds()
+    ensures { OthersKeepBounds }
 {}

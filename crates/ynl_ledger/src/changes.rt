@@ -1,6 +1,8 @@
 //! How the ledger changes with the rows: each law the contract of a public function.
 
-ghost use Rattle.ynl_ledger.specs.Changes.{PlacingRaises, EndingLowers, DroppingLowers, JoiningAdds, LeavingTakes, SubmittingStays, AskingStays, TicketsStay, FinishingStays, UsersStay};
+ghost use Rattle.ynl_ledger.specs.Changes.{PlacingRaises, EndingLowers, DroppingLowers};
+ghost use Rattle.ynl_ledger.specs.Changes.{JoiningAdds, LeavingTakes, SubmittingStays};
+ghost use Rattle.ynl_ledger.specs.Changes.{AskingStays, TicketsStay, FinishingStays, UsersStay};
 
 /// A container that is placed raises what the queues on the way to its leaf use.
 pub fn placing_raises()

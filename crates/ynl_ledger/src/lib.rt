@@ -1,4 +1,5 @@
-//! What the queues use of the partitions, and how much there is of each: what the rows tell, and how that changes with them.
+//! What the queues use of the partitions, and how much there is of each: what the rows tell, and how
+//! that changes with them.
 #![tactic(auto)]
 
 pub use tallies::tally_of;

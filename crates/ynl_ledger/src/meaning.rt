@@ -1,6 +1,8 @@
-//! What the ledger of the rows says of the state that they mean: each law the contract of a public function.
+//! What the ledger of the rows says of the state that they mean: each law the contract of a public
+//! function.
 
-ghost use Rattle.ynl_ledger.specs.Meaning.{AreTotalsTold, AreUsesTold, AreAllListed, AreTotalsSmall, AreUsesSmall};
+ghost use Rattle.ynl_ledger.specs.Meaning.{AreTotalsTold, AreUsesTold, AreAllListed};
+ghost use Rattle.ynl_ledger.specs.Small.{AreTotalsSmall, AreUsesSmall, AreUsesWithin};
 
 /// There is as much of each partition of the state, and as many nodes, as the rows tell.
 pub fn totals_are_told()
@@ -25,4 +27,9 @@ pub fn totals_are_small()
 /// Uses are small, while what stands on each node fits there.
 pub fn uses_are_small()
     ensures { AreUsesSmall }
+{}
+
+/// Uses are within their partition's total, while what stands on each node fits there.
+pub fn uses_are_within()
+    ensures { AreUsesWithin }
 {}
