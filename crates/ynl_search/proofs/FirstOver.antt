@@ -1,12 +1,13 @@
 -- The first seat of some entries that is given something.
-use Rattle.std.proofs.Common.{◌≡◌, ◌≢◌, ◌⊎◌, ℕ, Bool, true, false, cond, List, [], ◌∷◌, map, filter, Option, None, Some, IsSome, is_some, nat_eq, option_map, inl, inr, refl, sym, ap, subst, ◌∙◌, arith, true≢false}
+use Rattle.std.proofs.Common.{◌≡◌, ◌≢◌, ◌⊎◌, ℕ, Bool, true, false, cond, List, [], ◌∷◌, map, filter, Option, None, Some, IsSome, IfSome, is_some, nat_eq, option_map, inl, inr, refl, sym, ap, subst, ◌∙◌, arith, true≢false}
 use Rattle.std.specs.List.{AllByRecursion}
+use Rattle.std.specs.Map.{lookup}
 use Rattle.std.specs.Option.{option_or}
 use Rattle.std.proofs.lemmas.Bool.{false_from_ne_true}
 use Rattle.std.proofs.lemmas.Bool.Decides.{nat_tests}
 use Rattle.std.proofs.lemmas.Option.{none-some, same_Some}
 use Rattle.ynl_slots.specs.Slots.{HasDistinctNumbers, IsUnused}
-use Rattle.ynl_lane.specs.Seats.{Seat, first_given, given_or, seats_before, seats_up_to}
+use Rattle.ynl_lane.specs.Seats.{IsSeat, Seat, first_given, given_or, seats_before, seats_up_to}
 use Rattle.ynl_requests.proofs.Members.{Among}
 use Rattle.ynl_requests.proofs.Order.{IsIn, Precedes, not-in}
 
@@ -153,3 +154,18 @@ module _ {F : Type 0} (first second : Seat → Option F) where
               ≡ found_of (given_or e.0 (option_or y None) (first_given either seats))
           at (Some y) = refl
           at None = rest
+
+-- a number that is in a list is found there
+in-live : {X : Type 0} (n : ℕ) (es : List (ℕ × X)) → IsIn n es → IsSome (lookup (nat_eq n) es)
+in-live n [] there = absurd there
+in-live {X = X} n (e ∷ es) there = go (nat_eq n e.0) refl there (in-live n es)
+  where
+    go : (b : Bool) → nat_eq n e.0 ≡ b → (e.0 ≡ n) ⊎ IsIn n es → (IsIn n es → IsSome (lookup (nat_eq n) es)) → IsSome (cond b (Some e.1) (lookup (nat_eq n) es))
+    go true e there rest = refl
+    go false q (inl is) rest = absurd ((λ (ne : n ≢ e.0). ne (sym is)) (grind (arith, nat_tests, q)))
+    go false q (inr there) rest = rest there
+
+-- what is found has the ticket of a seat
+pub seat-found : {F : Type 0} (gives : Seat → Option F) (seats : List (ℕ × Seat)) (o : Option (ℕ × F)) → first_given gives seats ≡ o → IfSome (option_map (λ (e : ℕ × F). e.0) o) (λ ticket. IsSeat ticket seats)
+seat-found gives seats None is = tt
+seat-found gives seats (Some found) is = in-live found.0 seats (is-there gives gives seats found is)

@@ -21,6 +21,7 @@ use Rattle.ynl_lane.specs.Seats.{Seat, given, may_have, nothing_waits}
 use Rattle.ynl_inventory.specs.Rows.{Rows, AppRow}
 use Rattle.ynl_inventory.specs.Apps.{runs_at}
 use Rattle.ynl_seating.specs.Seating.{figures_of, least_asked, seat_of, seats_of, shares, sits, ticket_on, user_use, waits_at, waits_of}
+use Rattle.ynl_seating.specs.Laws.{AreLeasts}
 use Rattle.ynl_seating.proofs.Leasts.{are-leasts}
 use Rattle.ynl_requests.proofs.Members.{Among, each-among, filter-among, map-among}
 use Rattle.ynl_search.specs.declared.found.Found.{Found}
@@ -189,7 +190,7 @@ module _ (v : Rows) (p q : ℕ) (seats : List (ℕ × Seat)) (are : seats ≡ se
             ap (λ b. cond b (gives_ask v seats p tests n) None)
             (may tests room open_to kind.Ask its.1 best.size (each-among (λ ask. IsSize ask.size) best row.asks sized.asks is.there)
             (ap (λ low. fits_in low best.size) (ap (of_kind kind.Ask) waits-are ∙ ap (λ b. cond b (least_asked p row.asks) no_size) r)
-            ∙ each-among (λ ask. ask.partition ≡ p → fits_in (least_asked p row.asks) ask.size ≡ true) best row.asks (are-leasts p row.asks) is.there for_p)
+            ∙ each-among (λ ask. ask.partition ≡ p → fits_in (least_asked p row.asks) ask.size ≡ true) best row.asks (are-leasts.below p row.asks) is.there for_p)
             parts.1)
         go true r None e =
             ap (cond (may_have kind.Ask room (most_of tests) its.1) (gives_ask v seats p tests n)) (sym nothing) ∙ same (may_have kind.Ask room (most_of tests) its.1) (gives_ask v seats p tests n)

@@ -1,10 +1,11 @@
 //! The first request of a leaf that may be placed.
 
-ghost use Rattle.std.specs.Prelude.{◌≡◌, nat_eq};
+ghost use Rattle.std.specs.Prelude.{◌≡◌, IfSome, option_map};
 ghost use Rattle.ynl_lane.specs.Rows.{IsUse};
 ghost use Rattle.ynl_inventory.specs.Parts.{app_row};
 ghost use Rattle.ynl_seating.specs.Seating.{ticket_on};
-ghost use Rattle.ynl_search.specs.InLeaf.{first_own, gives_ask, gives_master};
+ghost use Rattle.ynl_lane.specs.Seats.{IsSeat};
+ghost use Rattle.ynl_search.specs.InLeaf.{first_ask, first_master, first_own, gives_ask, gives_master};
 ghost use Rattle.ynl_search.specs.Leaves.{passes_ask};
 
 use crate::found::Found;
@@ -28,6 +29,7 @@ fn ticket_of(row: &AppRow, p: u8) -> Option<u32>
 }
 
 /// Whether an ask of a user that uses so much may be placed.
+#[derive(Drop)]
 struct OwnTest<'a> {
     tests: &'a LeafTests,
     used: Resource,
@@ -43,6 +45,7 @@ impl SizeTest for OwnTest<'_> {
 }
 
 /// The masters of a leaf on a partition.
+#[derive(Drop)]
 struct Masters<'a> {
     inventory: &'a Inventory,
     lane: &'a Lane,
@@ -70,6 +73,7 @@ impl Request<Found> for Masters<'_> {
 }
 
 /// The asks of a leaf for a partition.
+#[derive(Drop)]
 struct Asks<'a> {
     inventory: &'a Inventory,
     lane: &'a Lane,
@@ -100,6 +104,56 @@ impl Request<Found> for Asks<'_> {
     }
 }
 
+/// The first seat of a lane whose application is given its master, within a room.
+fn first_master<'a>(
+    inventory: &'a Inventory,
+    lane: &'a Lane,
+    partition: u8,
+    tests: &'a LeafTests,
+    room: Resource,
+) -> Option<(u32, Found)>
+    ensures { result ≡ first_master inventory.now.rows lane.now.seats partition tests.now room }
+{
+    let masters = Masters {
+        inventory,
+        lane,
+        partition,
+        tests,
+    };
+    lane.first(Kind::Master, room, tests.most(), &masters, None)
+}
+
+/// The first seat of a lane, before another if there is one, whose application is given an ask, within a room.
+fn first_ask<'a>(
+    inventory: &'a Inventory,
+    lane: &'a Lane,
+    partition: u8,
+    tests: &'a LeafTests,
+    room: Resource,
+    before: Option<u32>,
+) -> Option<(u32, Found)>
+    requires { IfSome before (λ ticket. IsSeat ticket lane.now.seats) }
+    ensures { result ≡ first_ask inventory.now.rows lane.now.seats partition tests.now room before }
+{
+    let asks = Asks {
+        inventory,
+        lane,
+        partition,
+        tests,
+    };
+    lane.first(Kind::Ask, room, tests.most(), &asks, before)
+}
+
+/// The ticket of what was found.
+fn ticket(found: &Option<(u32, Found)>) -> Option<u32>
+    ensures { result ≡ option_map (λ e. e.0) found.now }
+{
+    match found {
+        Some(found) => Some(found.0),
+        None => None,
+    }
+}
+
 /// The first request of a leaf that may be placed: of the first application in its lane of which one may. An application
 /// waits for its master or for what it asks, and never for both.
 pub(crate) fn first_own(
@@ -111,23 +165,11 @@ pub(crate) fn first_own(
     ensures { result ≡ first_own inventory.now.rows lane.now.seats partition tests.now }
 {
     let room = tests.room()?;
-    let most = tests.most();
-    let masters = Masters {
-        inventory,
-        lane,
-        partition,
-        tests,
-    };
-    let asks = Asks {
-        inventory,
-        lane,
-        partition,
-        tests,
-    };
-    let master = lane.first(Kind::Master, room, most, &masters, None);
-    let before = master.map(|found| found.0);
-    match lane.first(Kind::Ask, room, most, &asks, before) {
-        Some((_, ask)) => Some(ask),
-        None => master.map(|found| found.1),
+    let master = first_master(inventory, lane, partition, tests, room);
+    let before = ticket(&master);
+    if let Some((_, ask)) = first_ask(inventory, lane, partition, tests, room, before) {
+        return Some(ask);
     }
+    let (_, found) = master?;
+    Some(found)
 }
