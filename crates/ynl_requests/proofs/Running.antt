@@ -97,7 +97,7 @@ module _ (v : Rows) (sound : IsSound v) (m : ℕ) (other : AppRow) (at : lookup 
 
 -- ---- runs
 
-what-master : (v : Rows) (r : Role) → is_master_what (what_of v.partitions r) ≡ is_master_role r
+pub what-master : (v : Rows) (r : Role) → is_master_what (what_of v.partitions r) ≡ is_master_role r
 what-master v Master = refl
 what-master v (Asked p priority) = refl
 

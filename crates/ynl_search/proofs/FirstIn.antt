@@ -27,13 +27,13 @@ use Rattle.ynl_requests.proofs.Members.{Among, among-contained, among-either, am
 use Rattle.ynl_requests.proofs.Order.{Precedes, precedes-place}
 use Rattle.ynl_search.specs.declared.found.Found.{Found}
 use Rattle.ynl_search.specs.declared.leaf.LeafTests.{LeafTests}
-use Rattle.ynl_search.specs.InLeaf.{first_own, first_within, found_ask, found_master, gives_ask, gives_master, is_open_to}
+use Rattle.ynl_search.specs.InLeaf.{IsLaneOf, IsSizedRow, first_own, first_within, found_ask, found_master, gives_ask, gives_master, is_open_to}
 use Rattle.ynl_search.specs.Leaves.{most_of, passes_ask, passes_master, room_of}
 use Rattle.ynl_search.specs.Lowest.{lowest}
 use Rattle.ynl_search.specs.Places.{allows}
 use Rattle.ynl_search.proofs.FirstOver.{AreExclusive, IsFirstAt, either, first-either, first-none, first-some, found_of}
 use Rattle.ynl_search.proofs.LowestAsk.{IsLowest, lowest-is, lowest-none}
-use Rattle.ynl_search.proofs.SeatGiven.{IsSizedRow, ask-given, ask-is, found-among, among-found, master-given, master-is}
+use Rattle.ynl_search.proofs.SeatGiven.{ask-given, ask-is, found-among, among-found, master-given, master-is}
 
 -- what is found of an asker
 abbrev pub found_by : Asker → Found
@@ -43,15 +43,6 @@ found_by a = record { app = a.number; role = a.request.role; size = a.request.si
 conditional : {X : Type 0} (x : X) (b : Bool) (xs : List X) → Among x (cond b xs []) → (b ≡ true) × Among x xs
 conditional x true xs there = (refl, there)
 conditional x false xs there = absurd there
-
--- a leaf's lane on a partition has its applications' seats, and they have tickets and sizes
-pub record IsLaneOf (v : Rows) (p q : ℕ) (seats : List (ℕ × Seat)) : Type 0 where
-  pub numbers : HasDistinctNumbers v.apps
-  pub seats_are : seats ≡ seats_of (figures_of v) p q v.apps
-  pub distinct : HasDistinctNumbers seats
-  pub tickets : (n : ℕ) (row : AppRow) → lookup (nat_eq n) v.apps ≡ Some row → shares p row ≡ true → IsSome (ticket_on p row)
-  pub sized : (n : ℕ) (row : AppRow) → lookup (nat_eq n) v.apps ≡ Some row → IsSizedRow row
-  pub sharing : (n : ℕ) (row : AppRow) → lookup (nat_eq n) v.apps ≡ Some row → AllByRecursion (λ ask. ask.partition ≡ p → shares p row ≡ true) row.asks
 
 module _ (v : Rows) (p q : ℕ) (seats : List (ℕ × Seat)) (is : IsLaneOf v p q seats) (tests : LeafTests) (test : Item → Bool)
     (tell : (n : ℕ) (row : AppRow) → lookup (nat_eq n) v.apps ≡ Some row → row.leaf ≡ q → (r : Request)

@@ -5,3 +5,4 @@ pub mod LowestAsk
 pub mod FirstOver
 pub mod SeatGiven
 pub mod FirstIn
+pub mod LeafFirst

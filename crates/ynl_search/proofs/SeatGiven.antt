@@ -26,7 +26,7 @@ use Rattle.ynl_seating.proofs.Leasts.{are-leasts}
 use Rattle.ynl_requests.proofs.Members.{Among, each-among, filter-among, map-among}
 use Rattle.ynl_search.specs.declared.found.Found.{Found}
 use Rattle.ynl_search.specs.declared.leaf.LeafTests.{LeafTests}
-use Rattle.ynl_search.specs.InLeaf.{found_ask, found_master, gives_ask, gives_master, is_open_to, used_on}
+use Rattle.ynl_search.specs.InLeaf.{IsSizedRow, found_ask, found_master, gives_ask, gives_master, is_open_to, used_on}
 use Rattle.ynl_search.specs.Leaves.{most_of, passes_ask, passes_master, room_of}
 use Rattle.ynl_search.specs.Lowest.{lowest}
 use Rattle.ynl_search.specs.Places.{allows}
@@ -58,11 +58,6 @@ found-among x (e ∷ es) distinct (inr there) =
     ap (λ b. cond b (Some e.1) (lookup (nat_eq x.0) es)) (unused-other e.0 x es distinct.0 there) ∙ found-among x es distinct.1 there
 
 -- ---- what can be placed may wait
-
--- a row's requests have the sizes that requests may have
-pub record IsSizedRow (row : AppRow) : Type 0 where
-  pub master : IsSize row.master
-  pub asks : AllByRecursion (λ ask. IsSize ask.size) row.asks
 
 -- a size that requests may have is below no size
 small-size : (low size : Resource) → IsSize size → fits_in low size ≡ true → not (fits_in no_size low) ≡ true

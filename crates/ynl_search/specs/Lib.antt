@@ -2,3 +2,4 @@ pub mod Places
 pub mod Leaves
 pub mod Lowest
 pub mod InLeaf
+pub mod Laws

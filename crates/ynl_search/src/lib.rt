@@ -8,6 +8,7 @@ pub use place::{Cell, Place};
 
 mod found;
 mod headroom;
+pub mod laws;
 mod leaf;
 mod lowest;
 mod own;

@@ -1,0 +1,99 @@
+-- What is found in a leaf is the model's first eligible request there.
+use Rattle.std.proofs.Common.{◌≡◌, ◌<◌, ℕ, Bool, true, false, ◌&&◌, ◌||◌, cond, nat_eq, List, [], ◌∷◌, map, filter, Option, None, Some, option_map, refl, sym, ap, subst, ◌∙◌, arith}
+use Rattle.std.specs.Map.{lookup}
+use Rattle.std.specs.Option.{option_and_then}
+use Rattle.ynl_resource.specs.Names.{is_default, same_label}
+use Rattle.ynl_resource.specs.declared.amounts.Resource.{Resource}
+use Rattle.ynl_resource.specs.declared.labels.Label.{Label}
+use Rattle.ynl_resource.specs.declared.labels.Label.TheVariants.{Unlabelled}
+use Rattle.ynl_model.specs.declared.nodes.Node.{Node}
+use Rattle.ynl_model.specs.declared.queues.StopRow.{StopRow}
+use Rattle.ynl_model.specs.declared.queues.MaximumRow.{MaximumRow}
+use Rattle.ynl_model.specs.Applications.{Application, apps_of}
+use Rattle.ynl_model.specs.Cluster.{State, free, is_master_what, user_used}
+use Rattle.ynl_model.specs.Limits.{sharing}
+use Rattle.ynl_model.specs.Queues.{Config}
+use Rattle.ynl_model.specs.Service.{Item, is_eligible, items_for, key}
+use Rattle.ynl_laws.specs.Descent.{IsBelow}
+use Rattle.ynl_laws.specs.First.{IsFirst, is_later}
+use Rattle.ynl_layout.specs.Paths.{path_at}
+use Rattle.ynl_lane.specs.Seats.{Seat}
+use Rattle.ynl_inventory.specs.Rows.{Rows, AppRow}
+use Rattle.ynl_inventory.specs.Meaning.{item_of, label_at, state_of, what_of}
+use Rattle.ynl_inventory.specs.Sound.{HasPartition, IsSound}
+use Rattle.ynl_inventory.specs.Apps.{is_master_role}
+use Rattle.ynl_seating.specs.Laws.{AreInTurn}
+use Rattle.ynl_seating.specs.Laws as seated
+use Rattle.ynl_seating.specs.Seating.{shares, sits, sitting, user_use}
+use Rattle.ynl_seating.proofs.Sharing.{are-sharing}
+use Rattle.ynl_seating.proofs.UserUse.{is-user_use}
+use Rattle.ynl_requests.specs.First.{Asker, IsFirstPassing, IsLeaf, item_by}
+use Rattle.ynl_requests.specs.Laws.{AreListed, app_of, in_leaf}
+use Rattle.ynl_requests.specs.Requests.{Request, item_for, wanted}
+use Rattle.ynl_requests.proofs.First.{first-means}
+use Rattle.ynl_requests.proofs.Running.{what-master}
+use Rattle.ynl_requests.proofs.Wanted.{wanted-means}
+use Rattle.ynl_search.specs.declared.found.Found.{Found}
+use Rattle.ynl_search.specs.declared.leaf.LeafTests.{LeafTests}
+use Rattle.ynl_search.specs.InLeaf.{IsLaneOf, first_own}
+use Rattle.ynl_search.specs.Laws.{FirstOwnIsModel, item_found}
+use Rattle.ynl_search.specs.Leaves.{AreTests, passes_ask, passes_master}
+use Rattle.ynl_search.proofs.FirstIn.{first-in, found_by}
+use Rattle.ynl_search.proofs.Tests.{tests-tell}
+
+-- ---- the model lists the applications of a leaf in the order of the rows
+
+all-kept : {X : Type 0} (p : X → Bool) (xs : List X) → ((x : X) → p x ≡ true) → filter p xs ≡ xs
+all-kept p [] all = refl
+all-kept p (x ∷ xs) all = (λ i. cond (all x i) (x ∷ filter p xs) (filter p xs)) ∙ ap (λ ys. x ∷ ys) (all-kept p xs all)
+
+all-alike : {X : Type 0} (p q : X → Bool) (xs : List X) → ((x : X) → p x ≡ q x) → filter p xs ≡ filter q xs
+all-alike p q [] all = refl
+all-alike p q (x ∷ xs) all = λ i. cond (all x i) (x ∷ all-alike p q xs all i) (all-alike p q xs all i)
+
+module _ (v : Rows) (sound : IsSound v) (in_turn : AreInTurn v.apps) (stops : List StopRow) (maxima : List MaximumRow) (q : ℕ) (leaf : IsLeaf v q) where
+  abbrev s : State
+  s = state_of v stops maxima
+
+  leaf-seated : seated.IsLeaf v q
+  leaf-seated = record { there = leaf.there; none_below = leaf.none_below }
+
+  listed : AreListed v stops maxima q
+  listed =
+      sym (all-kept (λ (app : Application). is_default (label_at v.partitions 0) || same_label app.home (label_at v.partitions 0)) (apps_of s.leaves (path_at v.paths q))
+      (λ app. ap (λ l. is_default l || same_label app.home l) sound.default))
+      ∙ are-sharing v sound in_turn 0 q sound.some leaf-seated stops maxima
+      ∙ ap (map (app_of v)) (all-alike (λ (e : ℕ × AppRow). sits 0 q e.1) (λ (e : ℕ × AppRow). nat_eq e.1.leaf q) v.apps (λ e. all-share (nat_eq e.1.leaf q)))
+    where
+      all-share : (b : Bool) → (b && true) ≡ b
+      all-share true = refl
+      all-share false = refl
+
+  module _ (p : ℕ) (has : HasPartition v p) (seats : List (ℕ × Seat)) (lane : IsLaneOf v p q seats) (c : Config) (node : Node) (there : node.label ≡ label_at v.partitions p) (tests : LeafTests)
+      (are : AreTests c s (label_at v.partitions p) (free s node) (path_at v.paths q) tests) where
+    -- the tests tell of each request of the leaf whether it is eligible
+    tell : (n : ℕ) (row : AppRow) → lookup (nat_eq n) v.apps ≡ Some row → row.leaf ≡ q → (r : Request)
+        → is_eligible c s node (item_for v row r) ≡ cond (is_master_role r.role) (passes_master tests (user_use v p q row.user) r.size) (passes_ask tests (user_use v p q row.user) r.size)
+    tell n row found own r =
+        sym (tests-tell c s (label_at v.partitions p) (path_at v.paths q) tests node (item_for v row r) are there (ap (path_at v.paths) own))
+        ∙ (λ i. cond (what-master v r.role i) (passes_master tests (used i) r.size) (passes_ask tests (used i) r.size))
+      where
+        used : user_used s (path_at v.paths q) (item_for v row r).user (label_at v.partitions p) ≡ user_use v p q row.user
+        used = is-user_use v sound p q row.user has leaf-seated (sound.apps n row found).user stops maxima
+
+    -- what was found is the request of the asker
+    item-is : (a : Option Asker) → IsFirstPassing v (wanted v p) (is_eligible c s node) q a → option_and_then (item_found v) (option_map found_by a) ≡ option_map (item_by v) a
+    item-is None first = refl
+    item-is (Some a) first = ap (option_map (λ (row : AppRow). item_of v row a.request.role a.request.size)) first.0.found
+
+    found-first : IsFirst (is_later (key c s node.label)) (IsBelow (filter (is_eligible c s node) (items_for s node.label)) (path_at v.paths q)) (option_and_then (item_found v) (first_own v seats p tests))
+    found-first =
+        let found = first-in v p q seats lane tests (is_eligible c s node) tell in
+        subst (λ (label : Label). IsFirst (is_later (key c s node.label)) (IsBelow (filter (is_eligible c s node) (items_for s label)) (path_at v.paths q)) (option_and_then (item_found v) (first_own v seats p tests))) (sym there)
+        (subst (IsFirst (is_later (key c s node.label)) (IsBelow (filter (is_eligible c s node) (items_for s (label_at v.partitions p))) (path_at v.paths q)))
+        (sym (item-is found.0 found.1) ∙ ap (option_and_then (item_found v)) found.2)
+        (first-means v sound stops maxima q leaf listed (wanted v p) (items_for s (label_at v.partitions p)) (λ item. (wanted-means v sound stops maxima p has item).0) (λ item. (wanted-means v sound stops maxima p has item).1)
+        (is_eligible c s node) found.0 found.1 c node.label))
+
+pub leaf-first : FirstOwnIsModel
+leaf-first v sound in_turn stops maxima p q has leaf seats lane c node there tests are = found-first v sound in_turn stops maxima q leaf p has seats lane c node there tests are

@@ -1,0 +1,14 @@
+//! What is found in a leaf is the model's first request there.
+
+ghost use Rattle.ynl_search.specs.Laws.{FirstOwnIsModel};
+ghost use Rattle.ynl_search.specs.Leaves.{TestsTell};
+
+/// The tests of a leaf tell of each of its requests whether it is eligible on a node.
+pub fn tests_tell_eligible_requests()
+    ensures { TestsTell }
+{}
+
+/// What is found in the lane of a leaf is the first of the leaf's requests that are eligible on the node.
+pub fn first_own_is_the_models()
+    ensures { FirstOwnIsModel }
+{}
