@@ -1,5 +1,5 @@
 -- What the seats are in the model, and which changes of the rows leave them.
-use Rattle.std.specs.Prelude.{◌≡◌, ◌≢◌, ℕ, ◌<◌, max, ⊤, false, true, ◌&&◌, nat_eq, List, [], ◌∷◌, fold, map, length, replicate, slice_index_or, Some, unwrap_or, if◌then◌else◌}
+use Rattle.std.specs.Prelude.{◌≡◌, ◌≢◌, ℕ, ◌<◌, max, false, true, ◌&&◌, nat_eq, List, [], ◌∷◌, fold, map, length, replicate, slice_index_or, Some, unwrap_or, if◌then◌else◌}
 use Rattle.std.specs.List.{AllByRecursion}
 use Rattle.std.specs.Map.{lookup}
 use Rattle.ynl_resource.specs.Amounts.{fits_in, IsSize, plus, smaller_of, total_of}
@@ -14,6 +14,7 @@ use Rattle.ynl_model.specs.Cluster.{State, runs, user_used, waits}
 use Rattle.ynl_model.specs.Limits.{sharing, users}
 use Rattle.ynl_model.specs.Queues.{Config}
 use Rattle.ynl_model.specs.Service.{Item, asks_of}
+use Rattle.ynl_laws.specs.Working.{Pairs}
 use Rattle.ynl_slots.specs.Slots.{IsUnused}
 use Rattle.ynl_app_table.specs.declared.asks.Ask.{Ask}
 use Rattle.ynl_layout.specs.Paths.{HasNumber, path_at}
@@ -88,8 +89,7 @@ IsUseWithin = (v : Rows) (p q user : ℕ) → fits_in (user_use v p q user) (tot
 
 -- the live applications of one tenant stand in the order of their submission
 abbrev pub AreInTurn : List (ℕ × AppRow) → Type 0
-AreInTurn [] = ⊤
-AreInTurn (e ∷ apps) = AllByRecursion (λ other. other.1.tenant ≡ e.1.tenant → e.1.turn < other.1.turn) apps × AreInTurn apps
+AreInTurn apps = Pairs (λ e other. e.1.tenant ≡ other.1.tenant → e.1.turn < other.1.turn) apps
 
 -- a live application in the model
 abbrev pub app_of : Rows → ℕ × AppRow → Application
