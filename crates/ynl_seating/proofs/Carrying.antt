@@ -17,7 +17,7 @@ use Rattle.ynl_inventory.specs.Parts.{containers_of}
 use Rattle.ynl_inventory.specs.Apps.{is_guest_role, is_master_role}
 use Rattle.ynl_inventory.specs.Sound.{HasPartition}
 use Rattle.ynl_inventory.proofs.Lookups.{changed-distinct, changed-other, changed-same, read-changed, was-found}
-use Rattle.ynl_seating.specs.Seating.{Figures, HasSeats, AreShared, AreSeatedWith, IsSeated, counts, is_of, is_shared, seats_of, shares, ticket_on, user_use, waits_at, waits_if, waits_of}
+use Rattle.ynl_seating.specs.Seating.{Figures, HasSeats, AreShared, AreSeatedWith, counts, is_of, is_shared, seats_of, shares, ticket_on, user_use, waits_at, waits_if, waits_of}
 use Rattle.ynl_seating.proofs.Lanes.{seated-as}
 use Rattle.ynl_seating.proofs.SeatLists.{KeepsSeats, seats-touched}
 use Rattle.ynl_seating.proofs.Sums.{sum}

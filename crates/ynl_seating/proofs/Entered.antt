@@ -1,18 +1,17 @@
 -- All that waits of an application is entered: the lanes are those of the rows.
-use Rattle.std.proofs.Common.{◌≡◌, ◌≢◌, ℕ, Bool, true, List, Some, nat_eq, refl, sym, ap, subst, ◌∙◌, inl, inr}
+use Rattle.std.proofs.Common.{◌≡◌, ◌≢◌, ℕ, Bool, true, List, Some, nat_eq, refl, sym, ap, ◌∙◌, inl, inr}
 use Rattle.std.specs.Map.{lookup}
 use Rattle.std.specs.Option.{option_map_or}
 use Rattle.std.proofs.lemmas.Bool.{and_parts, cases_eq, eqb-true, or_cases, or_left, or_right}
 use Rattle.std.proofs.lemmas.Option.{same_Some}
 use Rattle.ynl_resource.specs.declared.amounts.Resource.{Resource}
-use Rattle.ynl_slots.specs.Slots.{HasDistinctNumbers}
 use Rattle.ynl_slots.proofs.Entries.{itself}
 use Rattle.ynl_lane.specs.declared.kinds.Both.{Both}
 use Rattle.ynl_lane.specs.Seats.{IsSeat, Seats, nothing_waits}
 use Rattle.ynl_lane_table.specs.Lanes.{Changes, Enters, lane_at}
 use Rattle.ynl_inventory.specs.Rows.{Rows, AppRow}
 use Rattle.ynl_inventory.specs.Apps.{runs_at}
-use Rattle.ynl_seating.specs.Seating.{AreSeated, AreSeatedWith, Figures, figures_of, IsSeated, seats_of, shares, sits, user_use, waits_at, waits_if, waits_of}
+use Rattle.ynl_seating.specs.Seating.{AreSeated, AreSeatedWith, Figures, figures_of, seats_of, shares, sits, user_use, waits_at, waits_if, waits_of}
 use Rattle.ynl_seating.specs.Steps.{AreSeatedBut}
 use Rattle.ynl_seating.proofs.SeatLists.{seats-stay}
 use Rattle.ynl_seating.proofs.Lanes.{seated-as, with-lanes}

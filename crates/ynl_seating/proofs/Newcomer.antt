@@ -7,7 +7,6 @@ use Rattle.std.proofs.lemmas.Bool.{and_from, and_parts, eqb-true}
 use Rattle.std.proofs.lemmas.Option.{none-some}
 use Rattle.ynl_resource.specs.Amounts.{nothing, total_of}
 use Rattle.ynl_laws.proofs.Lists.{Each-weaker, filter-agree, filter-nothing}
-use Rattle.ynl_laws.proofs.Logic.{and-false}
 use Rattle.ynl_slots.specs.Slots.{IsLive, IsUnused}
 use Rattle.ynl_slots.proofs.Entries.{itself, lookup-push-other, other}
 use Rattle.ynl_slots.proofs.Lookups.{lookup-push, lookup-unused}

@@ -8,9 +8,8 @@ use Rattle.std.proofs.lemmas.Bool.{and_from, cases_eq, eqb-true}
 use Rattle.std.proofs.lemmas.Option.{none-some}
 use Rattle.ynl_resource.specs.Amounts.{total_of}
 use Rattle.ynl_laws.proofs.Lists.{Each-with, filter-agree}
-use Rattle.ynl_laws.proofs.Logic.{and-false}
 use Rattle.ynl_slots.specs.Slots.{HasDistinctNumbers, without}
-use Rattle.ynl_slots.proofs.Entries.{distinct_without, itself, lookup-without-other, other}
+use Rattle.ynl_slots.proofs.Entries.{distinct_without, itself, lookup-without-other}
 use Rattle.ynl_slots.proofs.Lookups.{lookup-without}
 use Rattle.ynl_container_table.specs.declared.container.Container.{Container}
 use Rattle.ynl_lane.specs.Seats.{Seats, nothing_waits}

@@ -1,5 +1,5 @@
 -- An application runs where the model says so, and what waits of it is what the model would place.
-use Rattle.std.proofs.Common.{◌≡◌, ◌≢◌, ◌<◌, ℕ, Bool, true, false, cond, not, nat_lt, ◌+◌, ◌&&◌, ◌||◌, List, [], ◌∷◌, fold, map, filter, slice_get, Some, nat_eq, refl, sym, ap, ◌∙◌, arith, true≢false}
+use Rattle.std.proofs.Common.{◌≡◌, ◌<◌, ℕ, Bool, true, false, cond, not, nat_lt, ◌+◌, ◌&&◌, ◌||◌, List, [], ◌∷◌, fold, map, filter, slice_get, Some, nat_eq, refl, sym, ap, ◌∙◌, arith, true≢false}
 use Rattle.std.specs.Prelude.{position}
 use Rattle.std.specs.List.{AllByRecursion, list_any}
 use Rattle.std.specs.Map.{lookup}
@@ -31,7 +31,7 @@ use Rattle.ynl_lanes.specs.Lows.{no_size}
 use Rattle.ynl_submissions.specs.declared.submissions.Submission.{Submission}
 use Rattle.ynl_inventory.specs.Rows.{Rows, PartitionRow, AppRow}
 use Rattle.ynl_inventory.specs.Apps.{is_master_role, runs_at}
-use Rattle.ynl_inventory.specs.Meaning.{app_name, ask_of, label_at, owner_of, placed_of, state_of, submitted_to, what_of}
+use Rattle.ynl_inventory.specs.Meaning.{app_name, ask_of, label_at, placed_of, state_of, submitted_to, what_of}
 use Rattle.ynl_inventory.specs.Sound.{HasPartition, IsSound}
 use Rattle.ynl_inventory.proofs.Asked.{asked-there}
 use Rattle.ynl_inventory.proofs.Asking.{same-label}

@@ -1,8 +1,7 @@
 -- The lanes before any event, the seats under their tickets, and an application that is submitted.
-use Rattle.std.proofs.Common.{◌≡◌, ◌<◌, ℕ, zero, suc, true, List, [], ◌∷◌, length, map, slice_get, Option, Some, None, nat_eq, refl, sym, ap, subst, ◌∙◌, arith}
+use Rattle.std.proofs.Common.{◌≡◌, ◌<◌, ℕ, zero, suc, true, List, [], ◌∷◌, length, map, slice_get, Option, Some, refl, sym, ap, subst, ◌∙◌, arith}
 use Rattle.std.specs.Prelude.{replicate, slice_index_or}
 use Rattle.std.specs.List.{AllByRecursion}
-use Rattle.std.specs.Map.{lookup}
 use Rattle.std.specs.Option.{option_map_or}
 use Rattle.std.proofs.lemmas.List.{get_or-replicate, length-replicate}
 use Rattle.std.proofs.lemmas.Option.{none-some}
@@ -10,17 +9,15 @@ use Rattle.ynl_resource.specs.Names.{root}
 use Rattle.ynl_resource.specs.declared.labels.Label.{Label}
 use Rattle.ynl_resource.specs.declared.amounts.Resource.{Resource}
 use Rattle.ynl_model.specs.Nodes.{Labels, partition_labels}
-use Rattle.ynl_model.specs.Queues.{Config}
 use Rattle.ynl_lane.specs.declared.kinds.Both.{Both}
 use Rattle.ynl_lane.specs.Seats.{Seat, Seats, nothing_waits}
-use Rattle.ynl_lane_table.specs.Lanes.{IsLaneAt, lane_at, no_seats}
-use Rattle.ynl_inventory.specs.Rows.{Rows, PartitionRow, AppRow}
+use Rattle.ynl_lane_table.specs.Lanes.{no_seats}
+use Rattle.ynl_inventory.specs.Rows.{PartitionRow}
 use Rattle.ynl_inventory.specs.Changes.{new_app}
 use Rattle.ynl_inventory.specs.Meaning.{submitted_to}
 use Rattle.ynl_inventory.specs.Opening.{opening_partition, opening_rows}
-use Rattle.ynl_inventory.specs.Parts.{containers_of}
 use Rattle.ynl_seating.specs.Laws.{AreFound, IsSeatedFirst, IsSubmittedLast}
-use Rattle.ynl_seating.specs.Seating.{AreSeated, figures_of, is_shared, user_use, waits_at}
+use Rattle.ynl_seating.specs.Seating.{figures_of, is_shared, user_use, waits_at}
 use Rattle.ynl_seating.proofs.OneSeat.{own-found}
 
 -- no partition has containers
@@ -44,7 +41,7 @@ is-seated_first c = record {
         };
         seats =
             ap (λ (l : Seats). l.seats)
-                (ap (λ row. slice_index_or row q no_seats) row-is ∙ get_or-replicate (length (root ∷ (opening_rows c).paths)) q no_seats no_seats number);
+            (ap (λ row. slice_index_or row q no_seats) row-is ∙ get_or-replicate (length (root ∷ (opening_rows c).paths)) q no_seats no_seats number);
         distinct = tt;
       };
 }

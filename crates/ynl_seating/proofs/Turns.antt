@@ -176,9 +176,9 @@ module _ (v : Rows) (q : ℕ) where
         go : (b : Bool) → own e ≡ b → AreRising (filter own apps) → AreRising (cond b (e ∷ filter own apps) (filter own apps))
         go true is rest = (
           Each-kept (λ b. e.1.turn < b.1.turn) own apps
-              (Each-weaker (λ b. (b.1.tenant ≡ e.1.tenant → e.1.turn < b.1.turn) × (own b ≡ true → b.1.tenant ≡ t)) (λ b. own b ≡ true → e.1.turn < b.1.turn)
-              (λ b both mine. both.0 (both.1 mine ∙ sym (same.0 is))) apps
-              (Each-both (λ b. b.1.tenant ≡ e.1.tenant → e.1.turn < b.1.turn) (λ b. own b ≡ true → b.1.tenant ≡ t) apps turn.0 same.1)),
+              (Each-weaker (λ b. (e.1.tenant ≡ b.1.tenant → e.1.turn < b.1.turn) × (own b ≡ true → b.1.tenant ≡ t)) (λ b. own b ≡ true → e.1.turn < b.1.turn)
+              (λ b both mine. both.0 (same.0 is ∙ sym (both.1 mine))) apps
+              (Each-both (λ b. e.1.tenant ≡ b.1.tenant → e.1.turn < b.1.turn) (λ b. own b ≡ true → b.1.tenant ≡ t) apps turn.0 same.1)),
           rest,
         )
         go false off rest = rest

@@ -1,8 +1,8 @@
 -- What the seats are in the model, and which changes of the rows leave them.
-use Rattle.std.specs.Prelude.{◌≡◌, ◌≢◌, ℕ, ◌<◌, max, ⊤, true, ◌&&◌, nat_eq, List, [], ◌∷◌, fold, map, length, replicate, slice_index_or, Some, unwrap_or, if◌then◌else◌}
+use Rattle.std.specs.Prelude.{◌≡◌, ◌≢◌, ℕ, ◌<◌, max, false, true, ◌&&◌, nat_eq, List, [], ◌∷◌, fold, map, length, replicate, slice_index_or, Some, unwrap_or, if◌then◌else◌}
 use Rattle.std.specs.List.{AllByRecursion}
 use Rattle.std.specs.Map.{lookup}
-use Rattle.ynl_resource.specs.Amounts.{fits_in, IsSize, smaller_of, total_of}
+use Rattle.ynl_resource.specs.Amounts.{fits_in, IsSize, plus, smaller_of, total_of}
 use Rattle.ynl_resource.specs.Names.{root, same_label}
 use Rattle.ynl_resource.specs.declared.amounts.Resource.{Resource}
 use Rattle.ynl_resource.specs.declared.labels.Label.{Label}
@@ -14,11 +14,13 @@ use Rattle.ynl_model.specs.Cluster.{State, runs, user_used, waits}
 use Rattle.ynl_model.specs.Limits.{sharing, users}
 use Rattle.ynl_model.specs.Queues.{Config}
 use Rattle.ynl_model.specs.Service.{Item, asks_of}
+use Rattle.ynl_laws.specs.Working.{Pairs}
 use Rattle.ynl_slots.specs.Slots.{IsUnused}
 use Rattle.ynl_app_table.specs.declared.asks.Ask.{Ask}
 use Rattle.ynl_layout.specs.Paths.{HasNumber, path_at}
 use Rattle.ynl_lanes.specs.Lows.{IsBelow, no_size}
-use Rattle.ynl_lane.specs.Seats.{Seats, each_once}
+use Rattle.ynl_lane.specs.declared.kinds.Kind.TheVariants as kind
+use Rattle.ynl_lane.specs.Seats.{Seats, each_once, may_have}
 use Rattle.ynl_lane.specs.Waiting.{IsWaiting}
 use Rattle.ynl_lane_table.specs.Lanes.{lane_at, no_seats}
 use Rattle.ynl_inventory.specs.Rows.{Rows, AppRow}
@@ -71,6 +73,14 @@ pub record AreLeasts : Type 0 where
   pub waiting : (p : ℕ) (asks : List Ask) → AllByRecursion (λ ask. ask.partition ≡ p → IsSize ask.size → IsWaiting (least_asked p asks)) asks
   pub none : (p : ℕ) (asks : List Ask) → AllByRecursion (λ ask. ask.partition ≢ p) asks → least_asked p asks ≡ no_size
 
+-- a seat passes the test of a room and a limit where a request of its application does: an ask of one that runs, or its master
+pub record AreMet : Type 0 where
+  pub ask : (v : Rows) (n : ℕ) (row : AppRow) (p : ℕ) → runs_at v n row ≡ true → (used room most : Resource)
+      → AllByRecursion (λ ask. ask.partition ≡ p → IsSize ask.size → fits_in ask.size room ≡ true → fits_in (plus used ask.size) most ≡ true
+      → may_have kind.Ask room most (record { app = n; user = row.user; used = used; waits = waits_at v p n row }) ≡ true) row.asks
+  pub master : (v : Rows) (n : ℕ) (row : AppRow) → runs_at v n row ≡ false → (used room most : Resource) → IsSize row.master → fits_in row.master room ≡ true
+      → fits_in (plus used row.master) most ≡ true → may_have kind.Master room most (record { app = n; user = row.user; used = used; waits = waits_at v row.home n row }) ≡ true
+
 -- what a user uses fits in what the containers of the partition use together
 abbrev pub IsUseWithin : Type 0
 IsUseWithin = (v : Rows) (p q user : ℕ) → fits_in (user_use v p q user) (total_of (λ e. e.1.size) (containers_of v p)) ≡ true
@@ -79,8 +89,7 @@ IsUseWithin = (v : Rows) (p q user : ℕ) → fits_in (user_use v p q user) (tot
 
 -- the live applications of one tenant stand in the order of their submission
 abbrev pub AreInTurn : List (ℕ × AppRow) → Type 0
-AreInTurn [] = ⊤
-AreInTurn (e ∷ apps) = AllByRecursion (λ other. other.1.tenant ≡ e.1.tenant → e.1.turn < other.1.turn) apps × AreInTurn apps
+AreInTurn apps = Pairs (λ e other. e.1.tenant ≡ other.1.tenant → e.1.turn < other.1.turn) apps
 
 -- a live application in the model
 abbrev pub app_of : Rows → ℕ × AppRow → Application

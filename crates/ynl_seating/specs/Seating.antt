@@ -65,10 +65,11 @@ waits_if runs p row = record {
   ask = if runs then least_asked p row.asks else no_size;
 }
 
--- the same of the live application of a number
+-- the same in some rows, of an application under its number
 abbrev pub waits_at : Rows → ℕ → ℕ → AppRow → Both Resource
 waits_at v p n row = waits_if (runs_at v n row) p row
 
+-- the same of the live application of a number
 abbrev pub waits_of : Rows → ℕ → ℕ → Both Resource
 waits_of v p n = option_map_or (waits_at v p n) (lookup (nat_eq n) v.apps) nothing_waits
 

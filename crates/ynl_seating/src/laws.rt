@@ -1,6 +1,6 @@
 //! What the seats are in the model, and which changes of the rows leave them.
 
-ghost use Rattle.ynl_seating.specs.Laws.{AreFound, AreLeasts, AreRequests, AreSharing};
+ghost use Rattle.ynl_seating.specs.Laws.{AreFound, AreLeasts, AreMet, AreRequests, AreSharing};
 ghost use Rattle.ynl_seating.specs.Laws.{AreStill, AreUsers, IsAskedBut, IsRunning, IsSeatedFirst};
 ghost use Rattle.ynl_seating.specs.Laws.{IsSubmittedLast, IsUserUse, IsUseWithin};
 
@@ -48,6 +48,12 @@ pub fn users_are_counted()
 /// What a user uses is what the model says.
 pub fn use_is_counted()
     ensures { IsUserUse }
+{}
+
+/// A seat passes the test of a room and a limit where a request of its application does: an ask of one that runs, or its
+/// master.
+pub fn requests_are_met()
+    ensures { AreMet }
 {}
 
 /// What a user uses fits in what the containers of the partition use together.
