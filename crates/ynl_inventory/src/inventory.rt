@@ -15,7 +15,7 @@ ghost use Rattle.ynl_layout.specs.Paths.{HasNumber};
 ghost use Rattle.ynl_inventory.specs.Opening.{opening_rows, IsOpening};
 ghost use Rattle.ynl_inventory.specs.Apps.{runs_at, master_of};
 ghost use Rattle.ynl_inventory.specs.Sound.{CanAsk, CanSubmit, HasPartition, HasNoContainers, OwnsNoContainers, IsFor, IsSound};
-ghost use Rattle.ynl_inventory.specs.Parts.{app_row, node_row, CanPlace, LeavesRoom, free_of, held_at, containers_of};
+ghost use Rattle.ynl_inventory.specs.Parts.{app_row, node_row, CanPlace, IsFitting, LeavesRoom, free_of, held_at, containers_of};
 
 use crate::changes::{freed, released, taken, used};
 use crate::partition::{Partition, Placement, risen};
@@ -318,6 +318,7 @@ impl Inventory {
     pub fn partition_count(&self) -> usize
         ensures count { result ≡ length self.now.rows.partitions }
         ensures sound { IsSound self.now.rows }
+        ensures fitting { IsFitting self.now.rows }
     {
         self.partitions.len()
     }
