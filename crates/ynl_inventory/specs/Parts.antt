@@ -91,7 +91,7 @@ pub record IsFitting (v : Rows) : Type 0 where
   pub fits : (n : ℕ) (row : NodeRow) → lookup (nat_eq n) v.nodes ≡ Some row → fits_in (used_of (containers_of v row.partition) n) row.size ≡ true
   pub small : (n : ℕ) (row : NodeRow) → lookup (nat_eq n) v.nodes ≡ Some row → IsSmall row.size
 
--- there are places for the chains of all partitions that take guests
+-- there are places for the chains of all partitions that take guests; their numbers have 8 bits
 abbrev pub HasGuestPlaces : List Partition → List (ℕ × Chain) → Type 0
 HasGuestPlaces partitions chains = (p : ℕ) (part : Partition) → p < 2 ^ 8 → slice_get partitions p ≡ Some part → part.guests ≡ true → IsLive p chains
 
