@@ -9,10 +9,14 @@ use Rattle.ynl_slots.specs.Slots.{IsLive, with_row}
 use Rattle.ynl_slots.specs.declared.chain.Chain.{Chain}
 use Rattle.ynl_slots.proofs.Entries.{itself, other}
 use Rattle.ynl_slots.proofs.Lookups.{lookup-with_row}
+use Rattle.ynl_app_table.specs.declared.app.AppRow.{AppRow as AppPart}
 use Rattle.ynl_app_table.specs.Apps.{with_change}
 use Rattle.ynl_app_table.specs.Chains.{chain_of, no_chain}
+use Rattle.ynl_container_table.specs.declared.container.Role.{Role}
+use Rattle.ynl_container_table.specs.declared.container.Role.TheVariants.{Master, Ask as Asked}
 use Rattle.ynl_container_table.specs.Fields.{of_rows}
 use Rattle.ynl_inventory.specs.Changes.{with_at}
+use Rattle.ynl_inventory.specs.Parts.{taken_part}
 use Rattle.ynl_inventory.proofs.Lookups.{live-found}
 
 module _ {X Y : Type 0} (f : X → Y) where
@@ -86,3 +90,8 @@ of_rows-kept {Y = Y} f g n (e ∷ es) is = λ i. one (nat_eq n e.0) i ∷ of_row
     one : (b : Bool) → ◌≡◌ {A = ℕ × Y} ((cond b (e.0, g e.1) e).0, f (cond b (e.0, g e.1) e).1) (e.0, f e.1)
     one true = λ i. (e.0, is e.1 i)
     one false = refl
+
+-- an application that has one more container keeps its chains
+pub taken-chains : (r : Role) (number : ℕ) (part : AppPart) → (taken_part r number part).chains ≡ part.chains
+taken-chains Master number part = refl
+taken-chains (Asked p priority) number part = refl

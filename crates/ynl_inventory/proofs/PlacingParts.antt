@@ -37,8 +37,9 @@ use Rattle.ynl_inventory.proofs.Asked.{ask-there, one-taken}
 use Rattle.ynl_inventory.proofs.Masters.{not-own, no-master, master-stays, master-comes}
 use Rattle.ynl_inventory.proofs.Placing.{none-yet, placed-sound}
 use Rattle.ynl_inventory.proofs.Used.{fits-left, less-twice, used-push, nothing-plus}
-use Rattle.ynl_inventory.proofs.PartLists.{unmapped, map-set, of_rows-changed, chain-same, chain-other, live-row}
+use Rattle.ynl_inventory.proofs.PartLists.{unmapped, map-set, of_rows-changed, chain-other, live-row, taken-chains}
 use Rattle.ynl_inventory.proofs.PartsChange.{IsRight, IsTouched, more-places, still-linked}
+use Rattle.ynl_inventory.proofs.Lookups.{changed-same}
 use Rattle.ynl_inventory.proofs.Updates.{each-number}
 
 -- ---- before
@@ -162,11 +163,6 @@ taken-home : (r : Role) (number : ℕ) (part : AppPart) → (taken_part r number
 taken-home Master number part = refl
 taken-home (Asked p priority) number part = refl
 
--- and its chains
-taken-chains : (r : Role) (number : ℕ) (part : AppPart) → (taken_part r number part).chains ≡ part.chains
-taken-chains Master number part = refl
-taken-chains (Asked p priority) number part = refl
-
 -- and asks on no more partitions
 taken-asks : (P : ℕ → Type 0) (r : Role) (number : ℕ) (part : AppPart) → AllByRecursion (λ ask. P ask.partition) part.asks → AllByRecursion (λ ask. P ask.partition) (taken_part r number part).asks
 taken-asks P Master number part each = each
@@ -188,7 +184,7 @@ pub record IsPlaced (placed : Placement) (number : ℕ) (old new : Partition) (o
 module _ (a : Inside) (inv : IsInventory a) (placed : Placement) (can : CanPlace (held_of a) placed) (row : NodePart) (at : lookup (nat_eq placed.node) a.nodes ≡ Some row)
     (part : Partition) (there : slice_get a.partitions.items row.partition ≡ Some part)
     (number : ℕ) (new : Partition) (of_node of_app : Chain) (is : IsPlaced placed number part new of_node of_app)
-    (place : IfSome (lookup (nat_eq placed.app) a.apps.entries) (λ r. IsLive row.partition r.chains)) where
+    (chained : IfSome (lookup (nat_eq placed.app) (with_change placed.app (λ r. taken_part placed.role number (record r { chains = with_row row.partition of_app r.chains })) a.apps.entries)) (λ r. chain_of row.partition r.chains ≡ of_app)) where
   abbrev used_one : NodePart → NodePart
   used_one r = record r { containers = of_node; stamp = new.clock; free = less r.free placed.size }
 
@@ -319,8 +315,8 @@ module _ (a : Inside) (inv : IsInventory a) (placed : Placement) (can : CanPlace
     chain =
         subst (λ chain. IsAppChain new.containers chain placed.app)
         (sym
-        (ap (chain_of row.partition) (taken-chains placed.role number (record r { chains = with_row row.partition of_app r.chains }))
-        ∙ chain-same row.partition of_app r.chains (at_live (λ (r : AppPart). IsLive row.partition r.chains) (lookup (nat_eq placed.app) a.apps.entries) r place found)))
+        (at_live (λ (r : AppPart). chain_of row.partition r.chains ≡ of_app) (lookup (nat_eq placed.app) (with_change placed.app taken_one a.apps.entries)) (taken_one r) chained
+        (changed-same placed.app taken_one a.apps.entries ∙ ap (option_map taken_one) found)))
         is.app_chain;
     others = λ q apart.
         ap (chain_of q) (taken-chains placed.role number (record r { chains = with_row row.partition of_app r.chains })) ∙ chain-other row.partition q of_app r.chains apart;

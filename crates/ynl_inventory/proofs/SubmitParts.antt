@@ -49,6 +49,10 @@ tenant-below paths q = go (position (same_path (top_level (tenant_of (path_at pa
     go None is = omega arith
     go (Some n) is = let inside = (position-Some (same_path (top_level (tenant_of (path_at paths q)))) paths n root is).0 in omega (arith, inside)
 
+-- so has the tenant of what may be submitted
+tenant-listed : (v : Rows) → IsSound v → (name : Name) (new : NewSubmission) → CanSubmit v name new → new.tenant < length v.tenants
+tenant-listed v sound name new can = subst (λ n. new.tenant < n) (sym sound.many) (subst (λ t. t < length (root ∷ v.paths)) can.tenant (tenant-below v.paths new.leaf))
+
 -- what may be submitted is new under a number that is not in use
 pub may-submit : (v : Rows) → IsSound v → (name : Name) (new : NewSubmission) → CanSubmit v name new → (number : ℕ) → IsUnused number v.apps
     → IsNew v number name new.tenant new.leaf new.user new.home new.master_size
@@ -58,7 +62,7 @@ may-submit v sound name new can number unused = record {
   there = can.there;
   none_below = can.leaf;
   own_tenant = can.tenant;
-  inside = subst (λ n. new.tenant < n) (sym sound.many) (subst (λ t. t < length (root ∷ v.paths)) can.tenant (tenant-below v.paths new.leaf));
+  inside = tenant-listed v sound name new can;
   own_user = can.user;
   own_home = can.home;
 }
@@ -70,8 +74,7 @@ module _ (a : Inside) (inv : IsInventory a) (name : Name) (new : NewSubmission) 
   -- the tenant has its list
   pub tenant-inside : new.tenant < length a.tenants.items
   tenant-inside =
-      let below : new.tenant < length (root ∷ a.layout) = subst (λ t. t < length (root ∷ a.layout)) can.tenant (tenant-below a.layout new.leaf) in
-      subst (λ n. new.tenant < n) (sym inv.sound.many ∙ length-map a.tenants.items (λ (listing : Listing). listing.entries)) below
+      subst (λ n. new.tenant < n) (length-map a.tenants.items (λ (listing : Listing). listing.entries)) (tenant-listed (held_of a).rows inv.sound name new can)
 
   module _ (listing : Listing) (there : slice_get a.tenants.items new.tenant ≡ Some listing) where
     row-there : slice_get v.tenants new.tenant ≡ Some listing.entries

@@ -86,7 +86,12 @@ free_of v node = option_map_or
     (λ row. less row.size (used_of (option_map_or (λ p. p.containers) (slice_get v.partitions row.partition) []) node))
     (lookup (nat_eq node) v.nodes) nothing
 
--- there are places for the chains of all partitions that take guests
+-- what containers use of each node fits on it, and its size is small
+pub record IsFitting (v : Rows) : Type 0 where
+  pub fits : (n : ℕ) (row : NodeRow) → lookup (nat_eq n) v.nodes ≡ Some row → fits_in (used_of (containers_of v row.partition) n) row.size ≡ true
+  pub small : (n : ℕ) (row : NodeRow) → lookup (nat_eq n) v.nodes ≡ Some row → IsSmall row.size
+
+-- there are places for the chains of all partitions that take guests; their numbers have 8 bits
 abbrev pub HasGuestPlaces : List Partition → List (ℕ × Chain) → Type 0
 HasGuestPlaces partitions chains = (p : ℕ) (part : Partition) → p < 2 ^ 8 → slice_get partitions p ≡ Some part → part.guests ≡ true → IsLive p chains
 

@@ -1,11 +1,8 @@
 //! What a cluster holds.
 
-ghost use Rattle.std.specs.Prelude.{◌≡◌, ◌<◌, ◌≤◌, nat_eq, length, slice_get, option_map, Some, None, IfNone, nat_le, IfOk, IsOk, OnOk, OnErr, IfSome, IsSome, IsTrue};
+ghost use Rattle.std.specs.Prelude.{◌≡◌, ◌<◌, ◌≤◌, nat_eq, length, slice_get, option_map, Some, None, IfNone, nat_le, IfOk, IsOk, OnOk, OnErr, IfSome, IsSome};
 ghost use Rattle.std.specs.Map.{lookup};
-ghost use Rattle.ynl_resource.specs.Amounts.{fits_in, less, plus, IsSmall};
-ghost use Rattle.ynl_slots.specs.Slots.{IsLive, IsUnused, with_row};
-ghost use Rattle.ynl_node_table.specs.Nodes.{with_change};
-ghost use Rattle.ynl_app_table.specs.Apps.{with_app};
+ghost use Rattle.ynl_slots.specs.Slots.{IsLive, IsUnused};
 ghost use Rattle.ynl_app_table.specs.Chains.{chain_of};
 ghost use Rattle.ynl_inventory.specs.Changes.{partition_of_node, with_placed, with_ended, with_joined, with_dropped, with_node_gone, with_submitted, with_asked, with_tickets, with_app_gone, with_user_known};
 ghost use Rattle.ynl_model.specs.Nodes.{rises};
@@ -18,8 +15,9 @@ ghost use Rattle.ynl_layout.specs.Paths.{HasNumber};
 ghost use Rattle.ynl_inventory.specs.Opening.{opening_rows, IsOpening};
 ghost use Rattle.ynl_inventory.specs.Apps.{runs_at, master_of};
 ghost use Rattle.ynl_inventory.specs.Sound.{CanAsk, CanSubmit, HasPartition, HasNoContainers, OwnsNoContainers, IsFor, IsSound};
-ghost use Rattle.ynl_inventory.specs.Parts.{app_row, node_row, CanPlace, LeavesRoom, free_of, taken_part, held_at, containers_of, released_part};
+ghost use Rattle.ynl_inventory.specs.Parts.{app_row, node_row, CanPlace, IsFitting, LeavesRoom, free_of, held_at, containers_of};
 
+use crate::changes::{freed, released, taken, used};
 use crate::partition::{Partition, Placement, risen};
 use crate::places::reserve_for_ask;
 use crate::start::{no_submissions, partitions_of};
@@ -27,7 +25,7 @@ use crate::submission::{NewSubmission, new_row};
 use std::alloc::{AllocError, Global};
 use std::marker::Model;
 use ynl_app_table::{AppRow, Apps, Ask, Tickets};
-use ynl_container_table::{Container, Role};
+use ynl_container_table::Container;
 use ynl_layout::Layout;
 use ynl_node_table::{NodeRow, Nodes};
 use ynl_queues::Config;
@@ -181,7 +179,8 @@ impl Inventory {
         held
     }
 
-    /// The number of the user of a name, a new one if there is none. It fails where `Users::add` does.
+    /// The number of the user of a name, a new one if there is none. It fails where `Users::add`
+    /// does.
     pub fn user(&mut self, name: &Name) -> Result<u32, AllocError>
         ensures ok { OnOk result (self.new ≡ record self.old {
           rows = with_user_known name.now self.old.rows;
@@ -196,12 +195,14 @@ impl Inventory {
         Ok(user)
     }
 
-    /// An application is submitted. It returns the application's number. All memory is taken first: it fails if that is
-    /// refused, and where `Apps::reserve_one` and `Submissions::reserve_one` do.
+    /// An application is submitted. It returns the application's number. All memory is taken
+    /// first: it fails if that is refused, and where `Apps::reserve_one` and
+    /// `Submissions::reserve_one` do.
     pub fn submit(&mut self, name: &Name, new: &NewSubmission) -> Result<u32, AllocError>
         requires { CanSubmit self.old.rows name.now new.now }
         ensures rows { IfOk result (λ app. self.new.rows ≡ with_submitted app name.now
-            new.now.tenant new.now.leaf new.now.user new.now.home new.now.master_size self.old.rows) }
+            new.now.tenant new.now.leaf new.now.user new.now.home new.now.master_size
+            self.old.rows) }
         ensures unused { IfOk result (λ app. IsUnused app self.old.rows.apps) }
         ensures rooms { self.new.rooms ≡ self.old.rooms }
         ensures err { OnErr result (self.new.rows ≡ self.old.rows) }
@@ -217,8 +218,9 @@ impl Inventory {
         Ok(app)
     }
 
-    /// An application asks: an ask takes the place of the one of its partition and priority, or comes last; with count 0 that
-    /// one goes. It fails if memory is refused, and takes none for count 0.
+    /// An application asks: an ask takes the place of the one of its partition and priority, or
+    /// comes last; with count 0 that one goes. It fails if memory is refused, and takes none for
+    /// count 0.
     pub fn ask(&mut self, app: u32, ask: Ask) -> Result<(), AllocError>
         requires { CanAsk self.old.rows app ask }
         ensures ok { OnOk result (self.new.rows ≡ with_asked app ask self.old.rows) }
@@ -323,6 +325,7 @@ impl Inventory {
     pub fn partition_count(&self) -> usize
         ensures count { result ≡ length self.now.rows.partitions }
         ensures sound { IsSound self.now.rows }
+        ensures fitting { IsFitting self.now.rows }
     {
         self.partitions.len()
     }
@@ -485,37 +488,6 @@ fn container_in(partitions: &[Partition], p: u8, number: u32) -> Container
     part.containers[number]
 }
 
-/// A node has one container less: its chain, the clock that is its stamp, and what is free of it.
-fn freed(nodes: &mut Nodes, ended: &Container, chain: Chain, clock: u64)
-    requires live { IsLive ended.now.node nodes.old }
-    requires small { IfSome (lookup (nat_eq ended.now.node) nodes.old)
-        (λ row. IsSmall (plus row.free ended.now.size)) }
-    ensures { nodes.new ≡ with_change ended.now.node (λ row.
-        record row { containers = chain; stamp = clock; free = plus row.free ended.now.size })
-        nodes.old }
-{
-    nodes.set_containers(ended.node, chain);
-    nodes.set_stamp(ended.node, clock);
-    nodes.give(ended.node, ended.size);
-}
-
-/// An application has one container less: its chain in the partition, and its master.
-fn released(apps: &mut Apps, ended: &Container, p: u8, chain: Chain)
-    requires live { IsLive ended.now.app apps.old.entries }
-    requires place { IfSome (lookup (nat_eq ended.now.app) apps.old.entries)
-        (λ row. IsLive p row.chains) }
-    ensures { apps.new ≡ with_app ended.now.app (λ row.
-        released_part ended.now.role (record row { chains = with_row p chain row.chains }))
-        apps.old }
-{
-    let app = ended.app;
-    apps.set_chain(app, p, chain);
-    match ended.role {
-        Role::Master => apps.set_master(app, None),
-        Role::Ask { .. } => {}
-    }
-}
-
 /// The chain of an application's containers in a partition.
 fn chain_in(apps: &Apps, app: u32, p: u8) -> Chain
     requires { IsLive app apps.now.entries }
@@ -524,39 +496,4 @@ fn chain_in(apps: &Apps, app: u32, p: u8) -> Chain
 {
     let row = &apps[app];
     row.chains.get(p)
-}
-
-/// A node has one more container of this size: its chain, the clock that is its stamp, and what is free of it.
-fn used(nodes: &mut Nodes, node: u32, chain: Chain, clock: u64, size: Size)
-    requires live { IsLive node nodes.old }
-    requires room { IfSome (lookup (nat_eq node) nodes.old)
-        (λ row. IsTrue (fits_in size row.free)) }
-    ensures { nodes.new ≡ with_change node (λ row.
-        record row { containers = chain; stamp = clock; free = less row.free size }) nodes.old }
-{
-    nodes.set_containers(node, chain);
-    nodes.set_stamp(node, clock);
-    nodes.take(node, size);
-}
-
-/// An application has one more container: its chain in the partition, and its master or one less that is asked for.
-fn taken(apps: &mut Apps, placed: &Placement, p: u8, chain: Chain, number: u32)
-    requires live { IsLive placed.now.app apps.old.entries }
-    requires place { IfSome (lookup (nat_eq placed.now.app) apps.old.entries)
-        (λ row. IsLive p row.chains) }
-    ensures apps { apps.new ≡ with_app placed.now.app (λ row.
-        taken_part placed.now.role number
-        (record row { chains = with_row p chain row.chains })) apps.old }
-    ensures place { IfSome (lookup (nat_eq placed.now.app) apps.old.entries)
-        (λ row. IsLive p row.chains) }
-{
-    let app = placed.app;
-    apps.set_chain(app, p, chain);
-    match placed.role {
-        Role::Master => apps.set_master(app, Some(number)),
-        Role::Ask {
-            partition,
-            priority,
-        } => apps.take_one(app, partition, priority),
-    }
 }

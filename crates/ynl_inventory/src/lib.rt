@@ -5,6 +5,7 @@ pub use inventory::Inventory;
 pub use partition::Placement;
 pub use submission::NewSubmission;
 
+mod changes;
 mod inventory;
 mod partition;
 mod placed;

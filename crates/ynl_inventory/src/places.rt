@@ -40,8 +40,8 @@ fn reserve_guests(apps: &mut Apps, partitions: &[Partition], app: u32) -> Result
     Ok(())
 }
 
-/// Makes the places that an application needs to ask: for containers on DEFAULT, which may stand elsewhere as guests. It
-/// fails if memory is refused.
+/// Makes the places that an application needs to ask: for containers on DEFAULT, which may stand
+/// elsewhere as guests. It fails if memory is refused.
 pub(crate) fn reserve_for_ask(
     apps: &mut Apps,
     partitions: &[Partition],

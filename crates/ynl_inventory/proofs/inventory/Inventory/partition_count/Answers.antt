@@ -1,8 +1,9 @@
--- Each part has its row, and the rows are sound.
+-- Each part has its row, the rows are sound, and the containers of nodes fit.
 use Rattle.std.proofs.Common.{length, sym, ap, subst, ◌∙◌}
 use Rattle.std.proofs.lemmas.List.{length-map}
-use Rattle.ynl_inventory.specs.Parts.{Held, partition_row}
+use Rattle.ynl_inventory.specs.Parts.{Held, IsFitting, partition_row}
 use Rattle.ynl_inventory.specs.Sound.{IsSound}
+use Rattle.ynl_inventory.proofs.FreeRead.{fitting}
 use Rattle.ynl_inventory.proofs.inventory.Inventory.partition_count.Goals as goal
 
 pub returns-clause-count : goal.returns-clause-count
@@ -10,3 +11,6 @@ returns-clause-count c = c.len.ensures ∙ c.self.inside.partitions.ok.0 ∙ sym
 
 pub returns-clause-sound : goal.returns-clause-sound
 returns-clause-sound c = subst (λ (h : Held). IsSound h.rows) c.self.view_is c.self.invariant.sound
+
+pub returns-clause-fitting : goal.returns-clause-fitting
+returns-clause-fitting c = subst (λ (h : Held). IsFitting h.rows) c.self.view_is (fitting c.self.inside c.self.invariant)

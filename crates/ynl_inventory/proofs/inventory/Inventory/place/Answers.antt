@@ -3,7 +3,7 @@ use Rattle.std.proofs.Common.{◌≡◌, ◌<◌, ◌+◌, ◌^◌, true, IsTrue
 use Rattle.std.specs.Map.{lookup}
 use Rattle.std.proofs.lemmas.Option.{slice_get_read}
 use Rattle.ynl_resource.specs.Amounts.{fits_in}
-use Rattle.ynl_slots.specs.Slots.{IsLive, IsUnused}
+use Rattle.ynl_slots.specs.Slots.{Numbered, IsLive, IsUnused}
 use Rattle.ynl_slots.specs.declared.chain.Chain.{Chain}
 use Rattle.ynl_app_table.specs.declared.app.AppRow.{AppRow as AppPart}
 use Rattle.ynl_app_table.specs.Chains.{chain_of}
@@ -133,7 +133,7 @@ invariant_of-self c = record {
         nodes = c.place-number.ensures.nodes;
         apps = c.place-number.ensures.apps;
       })
-      c.taken.ensures.place c.used.new.nodes c.taken.new.apps c.used.ensures c.taken.ensures.apps;
+      (subst (λ (apps : Numbered AppPart). IfSome (lookup (nat_eq c.args.placed.now.app) apps.entries) (λ r. chain_of c.index-row.result.now.partition r.chains ≡ c.place-number.new.of_app)) c.taken.ensures.apps c.taken.ensures.chain) c.used.new.nodes c.taken.new.apps c.used.ensures c.taken.ensures.apps;
   linked =
       all-linked c.self.inside c.self.invariant c.args.placed.now (can c.self.inside c.args.self.now c.args.placed.now c.self.view_is c.requires) c.index-row.result.now c.index-row.ensures c.index_mut-part.result.now
       (stood c.self.inside c.args.self.now c.args.placed.now c.self.view_is c.self.invariant c.requires c.index-row.result.now c.index-row.ensures c.index_mut-part.result.now c.index_mut-part.ensures.value)
@@ -150,7 +150,7 @@ invariant_of-self c = record {
         nodes = c.place-number.ensures.nodes;
         apps = c.place-number.ensures.apps;
       })
-      c.taken.ensures.place c.used.new.nodes c.taken.new.apps c.used.ensures c.taken.ensures.apps;
+      (subst (λ (apps : Numbered AppPart). IfSome (lookup (nat_eq c.args.placed.now.app) apps.entries) (λ r. chain_of c.index-row.result.now.partition r.chains ≡ c.place-number.new.of_app)) c.taken.ensures.apps c.taken.ensures.chain) c.used.new.nodes c.taken.new.apps c.used.ensures c.taken.ensures.apps;
 }
 
 pub returns-clause-rows : goal.returns-clause-rows
@@ -170,7 +170,7 @@ returns-clause-rows c =
       nodes = c.place-number.ensures.nodes;
       apps = c.place-number.ensures.apps;
     })
-    c.taken.ensures.place c.used.new.nodes c.taken.new.apps c.used.ensures c.taken.ensures.apps
+    (subst (λ (apps : Numbered AppPart). IfSome (lookup (nat_eq c.args.placed.now.app) apps.entries) (λ r. chain_of c.index-row.result.now.partition r.chains ≡ c.place-number.new.of_app)) c.taken.ensures.apps c.taken.ensures.chain) c.used.new.nodes c.taken.new.apps c.used.ensures c.taken.ensures.apps
     ∙ ap (λ (h : Held). with_placed c.place-number.result c.args.placed.now.node c.args.placed.now.app c.args.placed.now.role c.args.placed.now.size h.rows) c.self.view_is
 
 pub returns-clause-unused : goal.returns-clause-unused

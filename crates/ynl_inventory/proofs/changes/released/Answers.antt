@@ -7,7 +7,7 @@ use Rattle.ynl_container_table.specs.declared.container.Role.{Role}
 use Rattle.std.proofs.Common.{None}
 use Rattle.ynl_inventory.specs.Parts.{released_part}
 use Rattle.ynl_inventory.proofs.Lookups.{live-after, changed-twice}
-use Rattle.ynl_inventory.proofs.inventory.released.Goals as goal
+use Rattle.ynl_inventory.proofs.changes.released.Goals as goal
 
 -- one change after another of an application
 app-twice : (n : ℕ) (f g : AppRow → AppRow) (old mid new : Numbered AppRow) → new ≡ with_app n f mid → mid ≡ with_app n g old → new ≡ with_app n (λ row. f (g row)) old

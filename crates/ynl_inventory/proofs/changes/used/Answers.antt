@@ -4,7 +4,7 @@ use Rattle.ynl_resource.specs.Amounts.{fits_in, less}
 use Rattle.ynl_node_table.specs.declared.nodes.NodeRow.{NodeRow}
 use Rattle.ynl_node_table.specs.Nodes.{with_change}
 use Rattle.ynl_inventory.proofs.Lookups.{live-after, some-after, changed-twice}
-use Rattle.ynl_inventory.proofs.inventory.used.Goals as goal
+use Rattle.ynl_inventory.proofs.changes.used.Goals as goal
 
 pub set_stamp-requires : goal.set_stamp-requires
 set_stamp-requires c =

@@ -1,0 +1,83 @@
+//! What a container that comes or goes changes of its node and of its application.
+
+ghost use Rattle.std.specs.Prelude.{◌≡◌, nat_eq, IfSome, IsTrue};
+ghost use Rattle.std.specs.Map.{lookup};
+ghost use Rattle.ynl_resource.specs.Amounts.{fits_in, less, plus, IsSmall};
+ghost use Rattle.ynl_slots.specs.Slots.{IsLive, with_row};
+ghost use Rattle.ynl_node_table.specs.Nodes.{with_change};
+ghost use Rattle.ynl_app_table.specs.Apps.{with_app};
+ghost use Rattle.ynl_app_table.specs.Chains.{chain_of};
+ghost use Rattle.ynl_inventory.specs.Parts.{released_part, taken_part};
+
+use crate::partition::Placement;
+use ynl_app_table::Apps;
+use ynl_container_table::{Container, Role};
+use ynl_node_table::Nodes;
+use ynl_resource::Size;
+use ynl_slots::Chain;
+
+/// A node has one more container of this size: its chain, the clock that is its stamp, and what is free of it.
+pub(crate) fn used(nodes: &mut Nodes, node: u32, chain: Chain, clock: u64, size: Size)
+    requires live { IsLive node nodes.old }
+    requires room { IfSome (lookup (nat_eq node) nodes.old)
+        (λ row. IsTrue (fits_in size row.free)) }
+    ensures { nodes.new ≡ with_change node (λ row.
+        record row { containers = chain; stamp = clock; free = less row.free size }) nodes.old }
+{
+    nodes.set_containers(node, chain);
+    nodes.set_stamp(node, clock);
+    nodes.take(node, size);
+}
+
+/// An application has one more container: its chain in the partition, and its master or one less that is asked for.
+pub(crate) fn taken(apps: &mut Apps, placed: &Placement, p: u8, chain: Chain, number: u32)
+    requires live { IsLive placed.now.app apps.old.entries }
+    requires place { IfSome (lookup (nat_eq placed.now.app) apps.old.entries)
+        (λ row. IsLive p row.chains) }
+    ensures apps { apps.new ≡ with_app placed.now.app (λ row.
+        taken_part placed.now.role number
+        (record row { chains = with_row p chain row.chains })) apps.old }
+    ensures chain { IfSome (lookup (nat_eq placed.now.app) apps.new.entries)
+        (λ row. chain_of p row.chains ≡ chain) }
+{
+    let app = placed.app;
+    apps.set_chain(app, p, chain);
+    match placed.role {
+        Role::Master => apps.set_master(app, Some(number)),
+        Role::Ask {
+            partition,
+            priority,
+        } => apps.take_one(app, partition, priority),
+    }
+}
+
+/// A node has one container less: its chain, the clock that is its stamp, and what is free of it.
+pub(crate) fn freed(nodes: &mut Nodes, ended: &Container, chain: Chain, clock: u64)
+    requires live { IsLive ended.now.node nodes.old }
+    requires small { IfSome (lookup (nat_eq ended.now.node) nodes.old)
+        (λ row. IsSmall (plus row.free ended.now.size)) }
+    ensures { nodes.new ≡ with_change ended.now.node (λ row.
+        record row { containers = chain; stamp = clock; free = plus row.free ended.now.size })
+        nodes.old }
+{
+    nodes.set_containers(ended.node, chain);
+    nodes.set_stamp(ended.node, clock);
+    nodes.give(ended.node, ended.size);
+}
+
+/// An application has one container less: its chain in the partition, and its master.
+pub(crate) fn released(apps: &mut Apps, ended: &Container, p: u8, chain: Chain)
+    requires live { IsLive ended.now.app apps.old.entries }
+    requires place { IfSome (lookup (nat_eq ended.now.app) apps.old.entries)
+        (λ row. IsLive p row.chains) }
+    ensures { apps.new ≡ with_app ended.now.app (λ row.
+        released_part ended.now.role (record row { chains = with_row p chain row.chains }))
+        apps.old }
+{
+    let app = ended.app;
+    apps.set_chain(app, p, chain);
+    match ended.role {
+        Role::Master => apps.set_master(app, None),
+        Role::Ask { .. } => {}
+    }
+}
