@@ -111,6 +111,10 @@ application_of v name row = record {
   asks = map (ask_of v.partitions) row.asks;
 }
 
+-- the live application of a number and a row, by its own name
+abbrev pub app_of : Rows → ℕ × AppRow → Application
+app_of v e = application_of v (app_name v.tenants e.1.tenant e.1.turn) e.1
+
 -- what a live application asks to be placed: for what, and how large
 abbrev pub item_of : Rows → AppRow → Role → Resource → Item
 item_of v row r size = item (application_of v (app_name v.tenants row.tenant row.turn) row) (what_of v.partitions r) size

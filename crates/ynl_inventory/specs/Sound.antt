@@ -81,6 +81,11 @@ module _ (v : Rows) where
     pub asks : AreAsks row.asks
     pub asked : All (λ ask. IsAskedOn row.home ask.partition) row.asks
 
+  -- a number is a leaf's
+  pub record IsLeaf (q : ℕ) : Type 0 where
+    pub there : HasNumber v.paths q
+    pub none_below : has_none_below v.paths (path_at v.paths q) ≡ true
+
   -- a submission is to a leaf of the tenant; while it is live its row is that of this turn
   pub record IsSubmission (t turn : ℕ) (s : Submission) : Type 0 where
     pub there : HasNumber v.paths s.leaf

@@ -26,9 +26,9 @@ use Rattle.ynl_container_table.specs.declared.container.Role.{Role}
 use Rattle.ynl_container_table.specs.declared.container.Role.TheVariants.{Master, Ask as Asked}
 use Rattle.ynl_inventory.specs.Rows.{Rows, AppRow}
 use Rattle.ynl_inventory.specs.Meaning.{has_none_below, state_of, what_of}
-use Rattle.ynl_inventory.specs.Sound.{IsSound}
+use Rattle.ynl_inventory.specs.Sound.{IsLeaf, IsSound}
 use Rattle.ynl_inventory.proofs.Submitted.{app-submission}
-use Rattle.ynl_requests.specs.First.{Asker, FirstIsModel, IsFirstPassing, IsLeaf, IsNotAfter, IsPassing, item_by, rank_of, ranks_after}
+use Rattle.ynl_requests.specs.First.{Asker, FirstIsModel, IsFirstPassing, IsNotAfter, IsPassing, item_by, rank_of, ranks_after}
 use Rattle.ynl_requests.specs.Laws.{AreListed, place_of}
 use Rattle.ynl_requests.specs.Requests.{Request, Wants, item_for}
 use Rattle.ynl_requests.proofs.Members.{among-contained, among-filter, contained-among, filter-among}

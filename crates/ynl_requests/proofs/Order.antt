@@ -19,11 +19,11 @@ use Rattle.ynl_laws.proofs.Names.{same-name_self}
 use Rattle.ynl_layout.specs.Paths.{path_at}
 use Rattle.ynl_slots.specs.Slots.{HasDistinctNumbers, IsUnused}
 use Rattle.ynl_inventory.specs.Rows.{Rows, AppRow}
-use Rattle.ynl_inventory.specs.Meaning.{app_name, application_of, owner_of, state_of}
+use Rattle.ynl_inventory.specs.Meaning.{app_name, app_of, application_of, owner_of, state_of}
 use Rattle.ynl_inventory.specs.Sound.{IsSound}
 use Rattle.ynl_inventory.proofs.Tenants.{owner-named}
 use Rattle.ynl_inventory.proofs.Updates.{each-number}
-use Rattle.ynl_requests.specs.Laws.{AreListed, app_of, in_leaf, place_of}
+use Rattle.ynl_requests.specs.Laws.{AreListed, in_leaf, place_of}
 use Rattle.ynl_requests.proofs.Running.{owner-tells}
 
 -- ---- places in a part of a list

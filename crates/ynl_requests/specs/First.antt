@@ -16,7 +16,7 @@ use Rattle.ynl_container_table.specs.declared.container.Role.{Role}
 use Rattle.ynl_container_table.specs.declared.container.Role.TheVariants.{Master, Ask as Asked}
 use Rattle.ynl_inventory.specs.Rows.{Rows, AppRow}
 use Rattle.ynl_inventory.specs.Meaning.{has_none_below, state_of}
-use Rattle.ynl_inventory.specs.Sound.{IsSound}
+use Rattle.ynl_inventory.specs.Sound.{IsLeaf, IsSound}
 use Rattle.ynl_requests.specs.Laws.{AreListed, place_of}
 use Rattle.ynl_requests.specs.Requests.{Request, Wants, item_for}
 
@@ -51,11 +51,6 @@ module _ (v : Rows) (among : ℕ → AppRow → List Request) (test : Item → B
   abbrev pub IsFirstPassing : Option Asker → Type 0
   IsFirstPassing None = (other : Asker) → IsPassing other → ⊥
   IsFirstPassing (Some a) = IsPassing a × ((other : Asker) → IsPassing other → IsNotAfter a other)
-
--- a number is a leaf's
-pub record IsLeaf (v : Rows) (q : ℕ) : Type 0 where
-  pub there : HasNumber v.paths q
-  pub none_below : has_none_below v.paths (path_at v.paths q) ≡ true
 
 -- what the model has of it
 abbrev pub item_by : Rows → Asker → Item

@@ -10,7 +10,7 @@ use Rattle.ynl_model.specs.Cluster.{runs}
 use Rattle.ynl_model.specs.Service.{Item, asks_for, items_for, place_in_leaf}
 use Rattle.ynl_layout.specs.Paths.{path_at}
 use Rattle.ynl_inventory.specs.Rows.{Rows, AppRow}
-use Rattle.ynl_inventory.specs.Meaning.{app_name, application_of, label_at, state_of}
+use Rattle.ynl_inventory.specs.Meaning.{app_of, label_at, state_of}
 use Rattle.ynl_inventory.specs.Sound.{HasPartition, IsSound}
 use Rattle.ynl_inventory.specs.Apps.{runs_at}
 use Rattle.ynl_requests.specs.Requests.{Wants, asked, wanted}
@@ -19,7 +19,7 @@ use Rattle.ynl_requests.specs.Requests.{Wants, asked, wanted}
 abbrev pub RunsIsModel : Type 0
 RunsIsModel =
     (v : Rows) → IsSound v → (stops : List StopRow) (maxima : List MaximumRow) (n : ℕ) (row : AppRow) → lookup (nat_eq n) v.apps ≡ Some row
-    → runs (state_of v stops maxima) (application_of v (app_name v.tenants row.tenant row.turn) row) ≡ runs_at v n row
+    → runs (state_of v stops maxima) (app_of v (n, row)) ≡ runs_at v n row
 
 -- the model's requests for a partition are what live applications want there
 abbrev pub WantedIsModel : Type 0
@@ -32,10 +32,6 @@ abbrev pub AskedIsModel : Type 0
 AskedIsModel =
     (v : Rows) → IsSound v → (stops : List StopRow) (maxima : List MaximumRow) (p : ℕ) → HasPartition v p → (item : Item)
     → Contains (asks_for (state_of v stops maxima) (label_at v.partitions p)) item ↔ Wants v (asked v p) item
-
--- a live application in the model
-abbrev pub app_of : Rows → ℕ × AppRow → Application
-app_of v e = application_of v (app_name v.tenants e.1.tenant e.1.turn) e.1
 
 -- the live applications of a leaf
 abbrev pub in_leaf : ℕ → List (ℕ × AppRow) → List (ℕ × AppRow)

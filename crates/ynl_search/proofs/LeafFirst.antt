@@ -19,16 +19,14 @@ use Rattle.ynl_laws.specs.First.{IsFirst, is_later}
 use Rattle.ynl_layout.specs.Paths.{path_at}
 use Rattle.ynl_lane.specs.Seats.{Seat}
 use Rattle.ynl_inventory.specs.Rows.{Rows, AppRow}
-use Rattle.ynl_inventory.specs.Meaning.{item_of, label_at, state_of, what_of}
-use Rattle.ynl_inventory.specs.Sound.{HasPartition, IsSound}
+use Rattle.ynl_inventory.specs.Meaning.{app_of, item_of, label_at, state_of, what_of}
+use Rattle.ynl_inventory.specs.Sound.{HasPartition, IsLeaf, IsSound}
 use Rattle.ynl_inventory.specs.Apps.{is_master_role}
-use Rattle.ynl_seating.specs.Laws.{AreInTurn}
-use Rattle.ynl_seating.specs.Laws as seated
 use Rattle.ynl_seating.specs.Seating.{shares, sits, sitting, user_use}
 use Rattle.ynl_seating.proofs.Sharing.{are-sharing}
 use Rattle.ynl_seating.proofs.UserUse.{is-user_use}
-use Rattle.ynl_requests.specs.First.{Asker, IsFirstPassing, IsLeaf, item_by}
-use Rattle.ynl_requests.specs.Laws.{AreListed, app_of, in_leaf}
+use Rattle.ynl_requests.specs.First.{Asker, IsFirstPassing, item_by}
+use Rattle.ynl_requests.specs.Laws.{AreListed, in_leaf}
 use Rattle.ynl_requests.specs.Requests.{Request, item_for, wanted}
 use Rattle.ynl_requests.proofs.First.{first-means}
 use Rattle.ynl_requests.proofs.Running.{what-master}
@@ -51,18 +49,15 @@ all-alike : {X : Type 0} (p q : X → Bool) (xs : List X) → ((x : X) → p x �
 all-alike p q [] all = refl
 all-alike p q (x ∷ xs) all = λ i. cond (all x i) (x ∷ all-alike p q xs all i) (all-alike p q xs all i)
 
-module _ (v : Rows) (sound : IsSound v) (in_turn : AreInTurn v.apps) (stops : List StopRow) (maxima : List MaximumRow) (q : ℕ) (leaf : IsLeaf v q) where
+module _ (v : Rows) (sound : IsSound v) (stops : List StopRow) (maxima : List MaximumRow) (q : ℕ) (leaf : IsLeaf v q) where
   abbrev s : State
   s = state_of v stops maxima
-
-  leaf-seated : seated.IsLeaf v q
-  leaf-seated = record { there = leaf.there; none_below = leaf.none_below }
 
   listed : AreListed v stops maxima q
   listed =
       sym (all-kept (λ (app : Application). is_default (label_at v.partitions 0) || same_label app.home (label_at v.partitions 0)) (apps_of s.leaves (path_at v.paths q))
       (λ app. ap (λ l. is_default l || same_label app.home l) sound.default))
-      ∙ are-sharing v sound in_turn 0 q sound.some leaf-seated stops maxima
+      ∙ are-sharing v sound 0 q sound.some leaf stops maxima
       ∙ ap (map (app_of v)) (all-alike (λ (e : ℕ × AppRow). sits 0 q e.1) (λ (e : ℕ × AppRow). nat_eq e.1.leaf q) v.apps (λ e. all-share (nat_eq e.1.leaf q)))
     where
       all-share : (b : Bool) → (b && true) ≡ b
@@ -79,7 +74,7 @@ module _ (v : Rows) (sound : IsSound v) (in_turn : AreInTurn v.apps) (stops : Li
         ∙ (λ i. cond (what-master v r.role i) (passes_master tests (used i) r.size) (passes_ask tests (used i) r.size))
       where
         used : user_used s (path_at v.paths q) (item_for v row r).user (label_at v.partitions p) ≡ user_use v p q row.user
-        used = is-user_use v sound p q row.user has leaf-seated (sound.apps n row found).user stops maxima
+        used = is-user_use v sound p q row.user has leaf (sound.apps n row found).user stops maxima
 
     -- what was found is the request of the asker
     item-is : (a : Option Asker) → IsFirstPassing v (wanted v p) (is_eligible c s node) q a → option_and_then (item_found v) (option_map found_by a) ≡ option_map (item_by v) a
@@ -96,4 +91,4 @@ module _ (v : Rows) (sound : IsSound v) (in_turn : AreInTurn v.apps) (stops : Li
         (is_eligible c s node) found.0 found.1 c node.label))
 
 pub leaf-first : FirstOwnIsModel
-leaf-first v sound in_turn stops maxima p q has leaf seats lane c node there tests are = found-first v sound in_turn stops maxima q leaf p has seats lane c node there tests are
+leaf-first v sound stops maxima p q has leaf seats lane c node there tests are = found-first v sound stops maxima q leaf p has seats lane c node there tests are

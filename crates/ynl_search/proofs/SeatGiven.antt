@@ -3,12 +3,12 @@ use Rattle.std.proofs.Common.{◌≡◌, ◌<◌, ◌≤◌, ◌⊎◌, ℕ, min
 use Rattle.std.specs.List.{AllByRecursion}
 use Rattle.std.specs.Map.{lookup}
 use Rattle.std.specs.Option.{option_and_then, option_map_or}
-use Rattle.std.proofs.lemmas.Bool.{and_from, and_parts, and_right}
+use Rattle.std.proofs.lemmas.Bool.{and_from, and_parts, not-true}
 use Rattle.std.proofs.lemmas.Bool.Decides.{nat_tests}
 use Rattle.std.proofs.lemmas.Option.{none-some, same_Some}
 use Rattle.ynl_resource.specs.Amounts.{IsSize, amount, fits_in, plus, smaller_of}
 use Rattle.ynl_resource.specs.declared.amounts.Resource.{Resource}
-use Rattle.ynl_laws.proofs.Amounts.{fits-plus, fits-refl, fits-trans}
+use Rattle.ynl_laws.proofs.Amounts.{fits-trans}
 use Rattle.ynl_slots.specs.Slots.{HasDistinctNumbers, IsUnused}
 use Rattle.ynl_app_table.specs.declared.asks.Ask.{Ask}
 use Rattle.ynl_lanes.specs.Lows.{no_size}
@@ -21,8 +21,8 @@ use Rattle.ynl_lane.specs.Seats.{Seat, given, may_have, nothing_waits}
 use Rattle.ynl_inventory.specs.Rows.{Rows, AppRow}
 use Rattle.ynl_inventory.specs.Apps.{runs_at}
 use Rattle.ynl_seating.specs.Seating.{figures_of, least_asked, seat_of, seats_of, shares, sits, ticket_on, user_use, waits_at, waits_of}
-use Rattle.ynl_seating.specs.Laws.{AreLeasts}
-use Rattle.ynl_seating.proofs.Leasts.{are-leasts}
+use Rattle.ynl_seating.specs.Laws.{AreMet}
+use Rattle.ynl_seating.proofs.Leasts.{are-met}
 use Rattle.ynl_requests.proofs.Members.{Among, each-among, filter-among, map-among}
 use Rattle.ynl_search.specs.declared.found.Found.{Found}
 use Rattle.ynl_search.specs.declared.leaf.LeafTests.{LeafTests}
@@ -59,15 +59,7 @@ found-among x (e ∷ es) distinct (inr there) =
 
 -- ---- what can be placed may wait
 
--- a size that requests may have is below no size
-small-size : (low size : Resource) → IsSize size → fits_in low size ≡ true → not (fits_in no_size low) ≡ true
-small-size low size is below =
-    let parts = and_parts (nat_le low.memory size.memory) (nat_le low.vcores size.vcores) below in
-    let vcores = is.vcores in
-    let under : low.vcores ≤ size.vcores = grind (arith, nat_tests, parts.1) in
-    let above : nat_le 0xffff_ffff low.vcores ≡ false = grind (arith, nat_tests, vcores, under) in
-    ap not (and_right (nat_le 0xffff_ffff low.memory) (nat_le 0xffff_ffff low.vcores) above)
-
+-- a size that fits in a room fits in what of it a request may ask for
 within-largest : (room size : Resource) → IsSize size → fits_in size room ≡ true → fits_in size (smaller_of room (amount 0xffff_ffff 0xffff_ffff)) ≡ true
 within-largest room size is fits =
     let parts = and_parts (nat_le size.memory room.memory) (nat_le size.vcores room.vcores) fits in
@@ -91,15 +83,6 @@ module _ (tests : LeafTests) (room : Resource) (open_to : room_of tests ≡ Some
         fits-trans (plus used size) (limit_of tests.limits size) (most_of tests) parts.1
             (limit-grows tests.limits size (smaller_of tests.headroom.room (amount 0xffff_ffff 0xffff_ffff)) (within-largest tests.headroom.room size is fits)),
       )
-
-  -- so a seat at which something waits that is no greater may have it
-  may : (k : Kind) (seat : Seat) (size : Resource) → IsSize size → fits_in (of_kind k seat.waits) size ≡ true → passes_ask tests seat.used size ≡ true → may_have k room (most_of tests) seat ≡ true
-  may k seat size is below passes =
-      let low : Resource = of_kind k seat.waits in
-      let bound = bounds seat.used size is passes in
-      and_from (not (fits_in no_size low) && fits_in low room) (fits_in (plus seat.used low) (most_of tests))
-      (and_from (not (fits_in no_size low)) (fits_in low room) (small-size low size is below) (fits-trans low size room below bound.0))
-      (fits-trans (plus seat.used low) (plus seat.used size) (most_of tests) (fits-plus seat.used low size below) bound.1)
 
 -- where nothing waits nothing may be had
 none-waits : (k : Kind) (room most : Resource) (seat : Seat) → of_kind k seat.waits ≡ no_size → may_have k room most seat ≡ false
@@ -155,10 +138,12 @@ module _ (v : Rows) (p q : ℕ) (seats : List (ℕ × Seat)) (are : seats ≡ se
             ap (λ b. cond b (gives_master v seats p tests n) None)
             (none-waits kind.Master room (most_of tests) its.1 (ap (of_kind kind.Master) waits-are ∙ ap (λ b. cond b row.master no_size) w))
         go true w true e =
+            let bound = bounds tests room open_to used row.master sized.master (and_parts (passes_ask tests used row.master) _ e).0 in
+            let both = and_parts (not (runs_at v n row)) (nat_eq row.home p) w in
+            let home : p ≡ row.home = grind (arith, nat_tests, both.1) in
             ap (λ b. cond b (gives_master v seats p tests n) None)
-            (may tests room open_to kind.Master its.1 row.master sized.master
-            (ap (λ low. fits_in low row.master) (ap (of_kind kind.Master) waits-are ∙ ap (λ b. cond b row.master no_size) w) ∙ fits-refl row.master)
-            (and_parts (passes_ask tests used row.master) _ e).0)
+            (ap (λ waits. may_have kind.Master room (most_of tests) (record its.1 { waits = waits })) (waits-are ∙ ap (λ home. waits_at v home n row) home)
+            ∙ are-met.master v n row (not-true (runs_at v n row) both.0) used room (most_of tests) sized.master bound.0 bound.1)
         go true w false e =
             ap (cond (may_have kind.Master room (most_of tests) its.1) (gives_master v seats p tests n)) (sym nothing) ∙ same (may_have kind.Master room (most_of tests) its.1) (gives_master v seats p tests n)
           where
@@ -182,11 +167,14 @@ module _ (v : Rows) (p q : ℕ) (seats : List (ℕ × Seat)) (are : seats ≡ se
             let is : IsLowest (is_open_to v seats p tests used) row.asks best = lowest-is (is_open_to v seats p tests used) row.asks best e in
             let parts = and_parts (nat_eq best.partition p) (passes_ask tests used best.size) is.passes in
             let for_p : best.partition ≡ p = grind (arith, nat_tests, parts.0) in
+            let sized_ask = each-among (λ ask. IsSize ask.size) best row.asks sized.asks is.there in
+            let bound = bounds tests room open_to used best.size sized_ask parts.1 in
             ap (λ b. cond b (gives_ask v seats p tests n) None)
-            (may tests room open_to kind.Ask its.1 best.size (each-among (λ ask. IsSize ask.size) best row.asks sized.asks is.there)
-            (ap (λ low. fits_in low best.size) (ap (of_kind kind.Ask) waits-are ∙ ap (λ b. cond b (least_asked p row.asks) no_size) r)
-            ∙ each-among (λ ask. ask.partition ≡ p → fits_in (least_asked p row.asks) ask.size ≡ true) best row.asks (are-leasts.below p row.asks) is.there for_p)
-            parts.1)
+            (ap (λ waits. may_have kind.Ask room (most_of tests) (record its.1 { waits = waits })) waits-are
+            ∙ each-among
+            (λ ask. ask.partition ≡ p → IsSize ask.size → fits_in ask.size room ≡ true → fits_in (plus used ask.size) (most_of tests) ≡ true
+              → may_have kind.Ask room (most_of tests) (record { app = n; user = row.user; used = used; waits = waits_at v p n row }) ≡ true)
+            best row.asks (are-met.ask v n row p r used room (most_of tests)) is.there for_p sized_ask bound.0 bound.1)
         go true r None e =
             ap (cond (may_have kind.Ask room (most_of tests) its.1) (gives_ask v seats p tests n)) (sym nothing) ∙ same (may_have kind.Ask room (most_of tests) its.1) (gives_ask v seats p tests n)
           where

@@ -19,4 +19,3 @@ pub mod Reserving
 pub mod Leasts
 pub mod SeatCalls
 pub mod Starting
-pub mod Requests

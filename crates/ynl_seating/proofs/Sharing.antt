@@ -19,14 +19,14 @@ use Rattle.ynl_layout.specs.Paths.{path_at}
 use Rattle.ynl_lane.specs.Seats.{Seat, each_once}
 use Rattle.ynl_lane.proofs.Distinct.{counts_names}
 use Rattle.ynl_inventory.specs.Rows.{Rows, AppRow}
-use Rattle.ynl_inventory.specs.Meaning.{has_none_below, label_at, leaf_numbers, leaf_of, leaves_from, state_of}
-use Rattle.ynl_inventory.specs.Sound.{HasPartition, IsSound}
+use Rattle.ynl_inventory.specs.Meaning.{app_of, has_none_below, label_at, leaf_numbers, leaf_of, leaves_from, state_of}
+use Rattle.ynl_inventory.specs.Sound.{HasPartition, IsLeaf, IsSound}
 use Rattle.ynl_inventory.proofs.AppChange.{path-self}
 use Rattle.ynl_inventory.proofs.Asking.{same-label}
 use Rattle.ynl_inventory.proofs.Filters.{filter-distinct, filter-lookup}
 use Rattle.ynl_inventory.proofs.Finding.{not-true}
 use Rattle.ynl_inventory.proofs.Updates.{differ-places, each-number}
-use Rattle.ynl_seating.specs.Laws.{AreInTurn, AreSharing, AreUsers, IsLeaf, app_of}
+use Rattle.ynl_seating.specs.Laws.{AreSharing, AreUsers}
 use Rattle.ynl_seating.specs.Seating.{figures_of, seat_of, shares, sitting}
 use Rattle.ynl_seating.proofs.SeatLists.{sitting-each}
 use Rattle.ynl_seating.proofs.Turns.{in-order}
@@ -100,7 +100,7 @@ module _ (v : Rows) (sound : IsSound v) where
     leaf-row =
         find-map (leaf_of v) (λ row. same_path row.leaf (path_at v.paths q)) (leaf_numbers v.paths) ∙ ap (option_map (leaf_of v)) leaf-number
 
-    module _ (turns : AreInTurn v.apps) (p : ℕ) (has : HasPartition v p) (stops : List StopRow) (maxima : List MaximumRow) where
+    module _ (p : ℕ) (has : HasPartition v p) (stops : List StopRow) (maxima : List MaximumRow) where
       abbrev label : Label
       label = label_at v.partitions p
 
@@ -116,7 +116,7 @@ module _ (v : Rows) (sound : IsSound v) where
       -- the model's applications that share are those that sit
       pub sharing-are : sharing (state_of v stops maxima) (path_at v.paths q) label ≡ map (app_of v) (sitting p q v.apps)
       sharing-are =
-          ap (filter test) (ap (λ o. option_map_or (λ (row : LeafApps). row.apps) o []) leaf-row ∙ in-order v q sound turns)
+          ap (filter test) (ap (λ o. option_map_or (λ (row : LeafApps). row.apps) o []) leaf-row ∙ in-order v q sound)
           ∙ filter-map (app_of v) test (filter own v.apps)
           ∙ ap (map (app_of v))
           (filter-agree (λ e. test (app_of v e) ≡ shares p e.1) (λ e. test (app_of v e)) (λ e. shares p e.1) (λ e is. is) (filter own v.apps)
@@ -139,10 +139,10 @@ module _ (v : Rows) (sound : IsSound v) where
           (sitting-each p q (λ n row. row.user < length v.users) v.apps sound.app_numbers (λ n row found sat. (sound.apps n row found).user)))))
 
 pub are-sharing : AreSharing
-are-sharing v sound turns p q has leaf stops maxima = sharing-are v sound q leaf turns p has stops maxima
+are-sharing v sound p q has leaf stops maxima = sharing-are v sound q leaf p has stops maxima
 
 pub are-users : AreUsers
-are-users v sound turns lanes seated p q has leaf stops maxima =
-    users-are v sound q leaf turns p has stops maxima
+are-users v sound lanes seated p q has leaf stops maxima =
+    users-are v sound q leaf p has stops maxima
     ∙ ap (λ us. max 1 (length (each_once us)))
     (sym (ap (map (λ (e : ℕ × Seat). e.1.user)) (seated.seats p q has leaf.there).seats ∙ map-map (λ (e : ℕ × Seat). e.1.user) (seat_of (figures_of v) p q) (sitting p q v.apps)))

@@ -1,4 +1,4 @@
--- What was submitted to a leaf and is live stands in the order of the applications, if those of a tenant stand in the order of their turns.
+-- What was submitted to a leaf and is live stands in the order of the applications.
 use Rattle.std.proofs.Common.{◌≡◌, ◌≢◌, ◌<◌, ℕ, zero, suc, ◌+◌, Bool, true, false, cond, ◌||◌, List, [], ◌∷◌, map, filter, slice_get, Option, Some, None, option_map, is_some, nat_eq, refl, sym, ap, subst, ◌∙◌, arith, inl, inr, true≢false}
 use mathlib.Core.Logic.{◌⊎◌}
 use Rattle.std.specs.List.{AllByRecursion, cons_option, filter_map, list_any}
@@ -11,14 +11,15 @@ use Rattle.ynl_laws.proofs.Logic.{none-is}
 use Rattle.ynl_model.specs.Applications.{Application}
 use Rattle.ynl_slots.proofs.Entries.{itself, other}
 use Rattle.ynl_inventory.specs.Rows.{Rows, AppRow}
-use Rattle.ynl_inventory.specs.Meaning.{app_name, application_of, live_of, submitted_in, submitted_to, tenant_at}
+use Rattle.ynl_inventory.specs.Apps.{IsBefore}
+use Rattle.ynl_laws.specs.Working.{Pairs}
+use Rattle.ynl_inventory.specs.Meaning.{app_name, app_of, application_of, live_of, submitted_in, submitted_to, tenant_at}
 use Rattle.ynl_inventory.specs.Sound.{IsSound}
 use Rattle.ynl_inventory.proofs.Apps.{Entry}
 use Rattle.ynl_inventory.proofs.Filters.{filter-distinct, filter-lookup}
 use Rattle.ynl_inventory.proofs.Finding.{not-true}
 use Rattle.ynl_inventory.proofs.Submitted.{app-submission, app-submitted, submission}
 use Rattle.ynl_inventory.proofs.Updates.{each-number}
-use Rattle.ynl_seating.specs.Laws.{AreInTurn, app_of}
 use Rattle.ynl_seating.proofs.Newcomer.{none-any}
 use Rattle.ynl_seating.proofs.Tickets.{kept-found}
 
@@ -140,7 +141,7 @@ module _ (v : Rows) (q : ℕ) where
 
   -- ---- in sound rows
 
-  module _ (sound : IsSound v) (turns : AreInTurn v.apps) where
+  module _ (sound : IsSound v) where
     abbrev t : ℕ
     t = tenant_at v.paths q
 
@@ -169,7 +170,7 @@ module _ (v : Rows) (q : ℕ) where
             of_leaf : ℕ → Option Entry
             of_leaf m = Some (app_name v.tenants row.tenant row.turn, record { leaf = m; app = Some n })
 
-    rises : (apps : List (ℕ × AppRow)) → AreInTurn apps → AllByRecursion (λ e. own e ≡ true → e.1.tenant ≡ t) apps → AreRising (filter own apps)
+    rises : (apps : List (ℕ × AppRow)) → Pairs IsBefore apps → AllByRecursion (λ e. own e ≡ true → e.1.tenant ≡ t) apps → AreRising (filter own apps)
     rises [] turn same = tt
     rises (e ∷ apps) turn same = go (own e) refl (rises apps turn.1 same.1)
       where
@@ -202,4 +203,4 @@ module _ (v : Rows) (q : ℕ) where
     pub in-order : filter_map (live_of v) (submitted_in v q) ≡ map (app_of v) (filter own v.apps)
     in-order =
         walk (submitted_to v.tenants t) 0 (filter own v.apps) stands
-        (rises v.apps turns (each-number (λ n row. nat_eq row.leaf q ≡ true → row.tenant ≡ t) v.apps sound.app_numbers tenant-is)) covered
+        (rises v.apps sound.order (each-number (λ n row. nat_eq row.leaf q ≡ true → row.tenant ≡ t) v.apps sound.app_numbers tenant-is)) covered

@@ -27,7 +27,7 @@ use Rattle.ynl_layout.specs.Paths.{path_at}
 use Rattle.ynl_inventory.specs.Rows.{Rows, PartitionRow, AppRow}
 use Rattle.ynl_inventory.specs.Meaning.{app_name, application_of, has_none_below, label_at, owner_of, placed_of, state_of, submitted_to, what_of}
 use Rattle.ynl_inventory.specs.Apps.{is_guest_role}
-use Rattle.ynl_inventory.specs.Sound.{HasPartition, IsContainer, IsRole, IsSound}
+use Rattle.ynl_inventory.specs.Sound.{HasPartition, IsContainer, IsLeaf, IsRole, IsSound}
 use Rattle.ynl_inventory.proofs.AppsFound.{app-found, leaf-found, leaves}
 use Rattle.ynl_inventory.proofs.Finding.{containers-at, not-true, own-label}
 use Rattle.ynl_inventory.proofs.Lookups.{live-found, place-there}
@@ -35,7 +35,7 @@ use Rattle.ynl_inventory.proofs.Submitted.{app-submission, app-submitted}
 use Rattle.ynl_inventory.proofs.Tenants.{owner-named}
 use Rattle.ynl_inventory.proofs.Updates.{each-number}
 use Rattle.ynl_submissions.specs.declared.submissions.Submission.{Submission}
-use Rattle.ynl_seating.specs.Laws.{IsLeaf, IsUserUse}
+use Rattle.ynl_seating.specs.Laws.{IsUserUse}
 use Rattle.ynl_seating.specs.Seating.{counts, is_of, user_use}
 use Rattle.ynl_seating.proofs.Sharing.{default-is, filter-and, user-apart}
 use Rattle.ynl_seating.proofs.Sums.{size_of, sum}

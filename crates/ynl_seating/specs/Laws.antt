@@ -25,11 +25,11 @@ use Rattle.ynl_lane.specs.Waiting.{IsWaiting}
 use Rattle.ynl_lane_table.specs.Lanes.{lane_at, no_seats}
 use Rattle.ynl_inventory.specs.Rows.{Rows, AppRow}
 use Rattle.ynl_inventory.specs.Apps.{runs_at}
-use Rattle.ynl_inventory.specs.Meaning.{app_name, application_of, has_none_below, label_at, state_of}
+use Rattle.ynl_inventory.specs.Meaning.{app_of, label_at, state_of}
 use Rattle.ynl_inventory.specs.Changes.{with_asked, with_joined, with_node_gone, with_submitted, with_user}
 use Rattle.ynl_inventory.specs.Opening.{opening_rows}
 use Rattle.ynl_inventory.specs.Parts.{containers_of}
-use Rattle.ynl_inventory.specs.Sound.{HasPartition, IsSound}
+use Rattle.ynl_inventory.specs.Sound.{HasPartition, IsLeaf, IsSound}
 use Rattle.ynl_seating.specs.Seating.{AreSeated, least_asked, shares, sitting, ticket_on, user_use, waits_at}
 use Rattle.ynl_seating.specs.Steps.{AreSeatedBut, IsReserved, IsUnseated}
 
@@ -87,29 +87,16 @@ IsUseWithin = (v : Rows) (p q user : ℕ) → fits_in (user_use v p q user) (tot
 
 -- ---- the model
 
--- the live applications of one tenant stand in the order of their submission
-abbrev pub AreInTurn : List (ℕ × AppRow) → Type 0
-AreInTurn apps = Pairs (λ e other. e.1.tenant ≡ other.1.tenant → e.1.turn < other.1.turn) apps
-
--- a live application in the model
-abbrev pub app_of : Rows → ℕ × AppRow → Application
-app_of v e = application_of v (app_name v.tenants e.1.tenant e.1.turn) e.1
-
--- a number is a leaf's
-pub record IsLeaf (v : Rows) (q : ℕ) : Type 0 where
-  pub there : HasNumber v.paths q
-  pub none_below : has_none_below v.paths (path_at v.paths q) ≡ true
-
 -- those who sit in a lane are the model's applications that share the leaf's part of the partition, in this order
 abbrev pub AreSharing : Type 0
 AreSharing =
-    (v : Rows) → IsSound v → AreInTurn v.apps → (p q : ℕ) → HasPartition v p → IsLeaf v q → (stops : List StopRow) (maxima : List MaximumRow)
+    (v : Rows) → IsSound v → (p q : ℕ) → HasPartition v p → IsLeaf v q → (stops : List StopRow) (maxima : List MaximumRow)
     → sharing (state_of v stops maxima) (path_at v.paths q) (label_at v.partitions p) ≡ map (app_of v) (sitting p q v.apps)
 
 -- the users of the seats, each once, are as many as the model counts
 abbrev pub AreUsers : Type 0
 AreUsers =
-    (v : Rows) → IsSound v → AreInTurn v.apps → (lanes : List (List Seats)) → AreSeated v lanes → (p q : ℕ) → HasPartition v p → IsLeaf v q
+    (v : Rows) → IsSound v → (lanes : List (List Seats)) → AreSeated v lanes → (p q : ℕ) → HasPartition v p → IsLeaf v q
     → (stops : List StopRow) (maxima : List MaximumRow)
     → users (state_of v stops maxima) (path_at v.paths q) (label_at v.partitions p) ≡ max 1 (length (each_once (map (λ e. e.1.user) (lane_at p q lanes).seats)))
 
@@ -118,23 +105,3 @@ abbrev pub IsUserUse : Type 0
 IsUserUse =
     (v : Rows) → IsSound v → (p q user : ℕ) → HasPartition v p → IsLeaf v q → user < length v.users → (stops : List StopRow) (maxima : List MaximumRow)
     → user_used (state_of v stops maxima) (path_at v.paths q) (slice_index_or v.users user []) (label_at v.partitions p) ≡ user_use v p q user
-
--- an application runs where the model says so
-abbrev pub IsRunning : Type 0
-IsRunning =
-    (v : Rows) → IsSound v → (n : ℕ) (row : AppRow) → lookup (nat_eq n) v.apps ≡ Some row → (stops : List StopRow) (maxima : List MaximumRow)
-    → runs (state_of v stops maxima) (app_of v (n, row)) ≡ runs_at v n row
-
--- the least of some requests
-abbrev pub least_item : List Item → Resource
-least_item items = fold (λ low item. smaller_of low item.size) no_size items
-
--- what waits of an application on a partition is its master, if the model wants that there, and the least of the model's asks of it for the partition
-pub record Waits (v : Rows) (n : ℕ) (row : AppRow) (p : ℕ) (s : State) (label : Label) (app : Application) : Type 0 where
-  pub master : (waits_at v p n row).master ≡ (if waits s app && same_label app.home label then app.master else no_size)
-  pub ask : (waits_at v p n row).ask ≡ (if runs s app then least_item (asks_of label app) else no_size)
-
-abbrev pub AreRequests : Type 0
-AreRequests =
-    (v : Rows) → IsSound v → (n : ℕ) (row : AppRow) → lookup (nat_eq n) v.apps ≡ Some row → (p : ℕ) → HasPartition v p → (stops : List StopRow) (maxima : List MaximumRow)
-    → Waits v n row p (state_of v stops maxima) (label_at v.partitions p) (app_of v (n, row))

@@ -1,7 +1,7 @@
 //! What the seats are in the model, and which changes of the rows leave them.
 
-ghost use Rattle.ynl_seating.specs.Laws.{AreFound, AreLeasts, AreMet, AreRequests, AreSharing};
-ghost use Rattle.ynl_seating.specs.Laws.{AreStill, AreUsers, IsAskedBut, IsRunning, IsSeatedFirst};
+ghost use Rattle.ynl_seating.specs.Laws.{AreFound, AreLeasts, AreMet, AreSharing};
+ghost use Rattle.ynl_seating.specs.Laws.{AreStill, AreUsers, IsAskedBut, IsSeatedFirst};
 ghost use Rattle.ynl_seating.specs.Laws.{IsSubmittedLast, IsUserUse, IsUseWithin};
 
 /// Before any event no lane has a seat.
@@ -59,14 +59,4 @@ pub fn requests_are_met()
 /// What a user uses fits in what the containers of the partition use together.
 pub fn use_is_within()
     ensures { IsUseWithin }
-{}
-
-/// An application runs where the model says so.
-pub fn running_is_known()
-    ensures { IsRunning }
-{}
-
-/// What waits of an application on a partition is what the model would place of it there.
-pub fn requests_wait()
-    ensures { AreRequests }
 {}
