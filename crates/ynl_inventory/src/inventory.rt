@@ -321,6 +321,13 @@ impl Inventory {
         container_in(&self.partitions, p, number)
     }
 
+    /// The queues under numbers.
+    pub fn layout(&self) -> &Layout
+        ensures { result.now ≡ self.now.rows.paths }
+    {
+        &self.layout
+    }
+
     /// How many partitions there are, DEFAULT among them.
     pub fn partition_count(&self) -> usize
         ensures count { result ≡ length self.now.rows.partitions }

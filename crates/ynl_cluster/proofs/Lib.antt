@@ -1,0 +1,4 @@
+pub mod Lines
+pub mod Opening
+pub mod Reading
+pub mod Setting

@@ -1,0 +1,7 @@
+//! A cluster under numbers: what it holds, what its queues use, what is set of them, and who waits in its lanes.
+#![tactic(auto)]
+
+pub use cluster::Cluster;
+
+mod cluster;
+mod ways;
