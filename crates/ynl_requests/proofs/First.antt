@@ -1,10 +1,8 @@
 -- The first of a leaf's requests in the rows is the model's first below the leaf.
-use Rattle.std.proofs.Common.{◌≡◌, ◌<◌, ◌⊎◌, ℕ, zero, suc, Bool, true, false, not, ◌&&◌, nat_eq, List, [], filter, Option, Some, None, option_map, Contains, get_or, length, inl, inr, refl, sym, ap, subst, ◌∙◌, arith, true≢false}
+use Rattle.std.proofs.Common.{◌≡◌, ◌<◌, ◌⊎◌, ℕ, zero, suc, Bool, true, false, not, ◌&&◌, List, filter, Option, Some, None, option_map, Contains, inl, inr, refl, sym, ap, ◌∙◌, arith, true≢false}
 use Rattle.std.specs.Cmp.Lexicographic.{slice_cmp}
 use Rattle.std.specs.List.{list_any}
-use Rattle.std.specs.Map.{lookup}
 use Rattle.std.specs.Ordering.{is_gt, nat_cmp, ordering_then}
-use Rattle.std.specs.declared.cmp.Ordering.{Ordering}
 use Rattle.std.specs.declared.cmp.Ordering.TheVariants.{Less, Equal}
 use Rattle.std.proofs.lemmas.Bool.{and_from, and_parts, not-true}
 use Rattle.std.proofs.lemmas.Bool.Decides.{nat_tests}
@@ -21,16 +19,16 @@ use Rattle.ynl_laws.specs.Descent.{IsBelow}
 use Rattle.ynl_laws.specs.First.{IsFirst, is_later}
 use Rattle.ynl_laws.proofs.Names.{same-path, within-self}
 use Rattle.ynl_laws.proofs.Service.Decided.{does_submission_decide}
-use Rattle.ynl_layout.specs.Paths.{HasNumber, path_at}
+use Rattle.ynl_layout.specs.Paths.{path_at}
 use Rattle.ynl_container_table.specs.declared.container.Role.{Role}
 use Rattle.ynl_container_table.specs.declared.container.Role.TheVariants.{Master, Ask as Asked}
 use Rattle.ynl_inventory.specs.Rows.{Rows, AppRow}
-use Rattle.ynl_inventory.specs.Meaning.{has_none_below, state_of, what_of}
+use Rattle.ynl_inventory.specs.Meaning.{state_of, what_of}
 use Rattle.ynl_inventory.specs.Sound.{IsLeaf, IsSound}
 use Rattle.ynl_inventory.proofs.Submitted.{app-submission}
 use Rattle.ynl_requests.specs.First.{Asker, FirstIsModel, IsFirstPassing, IsNotAfter, IsPassing, item_by, rank_of, ranks_after}
 use Rattle.ynl_requests.specs.Laws.{AreListed, place_of}
-use Rattle.ynl_requests.specs.Requests.{Request, Wants, item_for}
+use Rattle.ynl_requests.specs.Requests.{Request, Wants}
 use Rattle.ynl_requests.proofs.Members.{among-contained, among-filter, contained-among, filter-among}
 use Rattle.ynl_requests.proofs.Order.{order-means}
 
@@ -47,7 +45,7 @@ leaf-alone v sound q leaf (suc k) other within = go (same_path (path_at v.paths 
     go true same = sound.tree.apart (suc k) q other.there leaf.there (sym (same-path (path_at v.paths q) (path_at v.paths (suc k)) same))
     go false apart =
         let there : list_any below v.paths ≡ true =
-              list_any_at below v.paths k root (omega (arith, other.there)) (and_from (is_within (path_at v.paths q) (path_at v.paths (suc k))) (not (same_path (path_at v.paths q) (path_at v.paths (suc k)))) within (ap not apart)) in
+        list_any_at below v.paths k root (omega (arith, other.there)) (and_from (is_within (path_at v.paths q) (path_at v.paths (suc k))) (not (same_path (path_at v.paths q) (path_at v.paths (suc k)))) within (ap not apart)) in
         absurd (true≢false (sym there ∙ not-true (list_any below v.paths) (and_parts (not (same_path (path_at v.paths q) root)) (not (list_any below v.paths)) leaf.none_below).1))
 
 -- the rank of a request is the model's
@@ -79,8 +77,7 @@ module _ (v : Rows) (sound : IsSound v) (stops : List StopRow) (maxima : List Ma
   below-passing item is =
       let there = among-filter test item items (among-contained item (filter test items) is.among) in
       let wants : Wants v among item = from item (contained-among item items there.0) in
-      let its = app-submission v sound wants.number wants.row wants.found in
-      (
+      let its = app-submission v sound wants.number wants.row wants.found in (
         record { number = wants.number; row = wants.row; request = wants.request },
         record {
           found = wants.found;

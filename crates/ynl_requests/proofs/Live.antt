@@ -1,5 +1,5 @@
 -- The model's live applications are those of the rows.
-use Rattle.std.proofs.Common.{◌≡◌, ℕ, Bool, true, false, nat_eq, List, [], map, slice_get, Option, None, Some, option_map, refl, sym, ap, subst, ◌∙◌, arith}
+use Rattle.std.proofs.Common.{◌≡◌, ℕ, true, nat_eq, List, [], slice_get, Option, None, Some, option_map, refl, sym, ap, subst, ◌∙◌, arith}
 use Rattle.std.specs.Prelude.{option_and_then}
 use Rattle.std.specs.List.{list_any}
 use Rattle.std.specs.Map.{lookup}
@@ -9,7 +9,6 @@ use Rattle.std.proofs.lemmas.Option.{none-some, same_Some}
 use Rattle.ynl_resource.specs.declared.names.Name.{Name}
 use Rattle.ynl_resource.specs.declared.paths.Path.{Path}
 use Rattle.ynl_model.specs.Applications.{Application, LeafApps, all_apps}
-use Rattle.ynl_layout.specs.Paths.{path_at}
 use Rattle.ynl_submissions.specs.declared.submissions.Submission.{Submission}
 use Rattle.ynl_inventory.specs.Rows.{Rows, AppRow}
 use Rattle.ynl_inventory.specs.Meaning.{app_name, application_of, leaf_numbers, leaf_of, live_of, submitted_in, submitted_to, tenant_at}
@@ -64,7 +63,7 @@ module _ (v : Rows) (sound : IsSound v) where
       go n is (Some row) found live =
           let its = (submission v sound t turn (name, s) at).row n row is found in
           let named : app_name v.tenants row.tenant row.turn ≡ name =
-                (λ i. app_name v.tenants (its.0 i) (its.1.0 i)) ∙ ap (λ o. option_map_or (λ (e : Name × Submission). e.0) o []) at in
+          (λ i. app_name v.tenants (its.0 i) (its.1.0 i)) ∙ ap (λ o. option_map_or (λ (e : Name × Submission). e.0) o []) at in
           record {
             number = n;
             row = row;

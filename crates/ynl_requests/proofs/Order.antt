@@ -1,5 +1,5 @@
 -- Applications of one leaf stand there in the order of the rows.
-use Rattle.std.proofs.Common.{◌≡◌, ◌≢◌, ◌⊎◌, ◌+◌, ◌<◌, ℕ, Bool, true, false, not, cond, nat_eq, List, [], ◌∷◌, map, filter, Some, inl, inr, refl, sym, ap, subst, ◌∙◌, arith, true≢false}
+use Rattle.std.proofs.Common.{◌≡◌, ◌≢◌, ◌⊎◌, ◌+◌, ◌<◌, ℕ, Bool, true, false, not, cond, nat_eq, List, [], ◌∷◌, map, filter, Some, inl, inr, refl, sym, ap, subst, ◌∙◌, arith}
 use Rattle.std.specs.List.{AllByRecursion, position_or_len}
 use Rattle.std.specs.Map.{lookup}
 use Rattle.std.specs.Ordering.{nat_cmp}
@@ -9,7 +9,6 @@ use Rattle.std.proofs.lemmas.Option.{none-some, same_Some}
 use Rattle.std.specs.Prelude.{◌&&◌}
 use Rattle.ynl_resource.specs.Names.{same_name, tenant_of}
 use Rattle.ynl_resource.specs.declared.names.Name.{Name}
-use Rattle.ynl_model.specs.Applications.{Application, apps_of}
 use Rattle.ynl_model.specs.Service.{place_in_leaf}
 use Rattle.ynl_model.specs.declared.queues.StopRow.{StopRow}
 use Rattle.ynl_model.specs.declared.queues.MaximumRow.{MaximumRow}
@@ -19,7 +18,7 @@ use Rattle.ynl_laws.proofs.Names.{same-name_self}
 use Rattle.ynl_layout.specs.Paths.{path_at}
 use Rattle.ynl_slots.specs.Slots.{HasDistinctNumbers, IsUnused}
 use Rattle.ynl_inventory.specs.Rows.{Rows, AppRow}
-use Rattle.ynl_inventory.specs.Meaning.{app_name, app_of, application_of, owner_of, state_of}
+use Rattle.ynl_inventory.specs.Meaning.{app_of, owner_of, state_of}
 use Rattle.ynl_inventory.specs.Sound.{IsSound}
 use Rattle.ynl_inventory.proofs.Tenants.{owner-named}
 use Rattle.ynl_inventory.proofs.Updates.{each-number}
@@ -159,9 +158,9 @@ module _ (v : Rows) (sound : IsSound v) (stops : List StopRow) (maxima : List Ma
             let here : other.leaf ≡ row.leaf = grind (arith, nat_tests, there) ∙ sym own in
             let owner = owner-named v sound m other at in
             let tenant : same_name (owner_of v m).0 (tenant_of (path_at v.paths row.leaf)) ≡ true =
-                  ap (λ (o : Name × Name). same_name o.0 (tenant_of (path_at v.paths row.leaf))) owner
-                  ∙ ap (λ l. same_name (tenant_of (path_at v.paths l)) (tenant_of (path_at v.paths row.leaf))) here
-                  ∙ same-name_self (tenant_of (path_at v.paths row.leaf)) in
+            ap (λ (o : Name × Name). same_name o.0 (tenant_of (path_at v.paths row.leaf))) owner
+            ∙ ap (λ l. same_name (tenant_of (path_at v.paths l)) (tenant_of (path_at v.paths row.leaf))) here
+            ∙ same-name_self (tenant_of (path_at v.paths row.leaf)) in
             ap (λ (o : Name × Name). same_name o.1 (app_of v (n, row)).name) (sym owner)
             ∙ ap (λ b. b && same_name (owner_of v m).1 (app_of v (n, row)).name) (sym tenant)
             ∙ owner-tells v sound m other at n row found

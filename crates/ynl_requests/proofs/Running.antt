@@ -1,13 +1,12 @@
 -- An application runs in the model where its rows say so.
-use Rattle.std.proofs.Common.{◌≡◌, ◌≢◌, ℕ, Bool, true, false, ◌&&◌, nat_eq, List, [], map, slice_get, Option, Some, refl, sym, ap, subst, ◌∙◌, arith, true≢false}
-use Rattle.std.specs.List.{AllByRecursion, list_any}
+use Rattle.std.proofs.Common.{◌≡◌, ◌≢◌, ℕ, Bool, true, false, ◌&&◌, nat_eq, List, [], map, slice_get, Some, refl, sym, ap, subst, ◌∙◌, arith}
+use Rattle.std.specs.List.{list_any}
 use Rattle.std.specs.Map.{lookup}
 use Rattle.std.specs.Option.{option_map_or}
 use Rattle.std.proofs.lemmas.Bool.{and_from, and_parts}
 use Rattle.std.proofs.lemmas.Bool.Decides.{nat_tests}
 use Rattle.std.proofs.lemmas.Option.{same_Some}
 use Rattle.ynl_resource.specs.Names.{same_label, same_name, tenant_of, top_level}
-use Rattle.ynl_resource.specs.declared.labels.Label.{Label}
 use Rattle.ynl_resource.specs.declared.names.Name.{Name}
 use Rattle.ynl_model.specs.declared.containers.Placed.{Placed}
 use Rattle.ynl_model.specs.declared.queues.StopRow.{StopRow}
@@ -21,13 +20,13 @@ use Rattle.ynl_container_table.specs.declared.container.Role.{Role}
 use Rattle.ynl_container_table.specs.declared.container.Role.TheVariants.{Master, Ask as Asked}
 use Rattle.ynl_inventory.specs.Rows.{Rows, PartitionRow, AppRow}
 use Rattle.ynl_inventory.specs.Meaning.{app_name, application_of, label_at, owner_of, placed_of, state_of, submitted_to, what_of}
-use Rattle.ynl_inventory.specs.Sound.{HasPartition, IsContainer, IsSound}
+use Rattle.ynl_inventory.specs.Sound.{HasPartition, IsSound}
 use Rattle.ynl_inventory.specs.Parts.{containers_of}
 use Rattle.ynl_inventory.specs.Apps.{is_master_role, runs_at}
 use Rattle.ynl_inventory.proofs.Finding.{containers-at, not-true, own-label}
 use Rattle.ynl_inventory.proofs.Lookups.{live-found, place-there}
 use Rattle.ynl_inventory.proofs.Submitted.{app-submission, app-submitted, one-turn}
-use Rattle.ynl_inventory.proofs.Tenants.{owner-named, tenant-named, tenant-number, tenant-tells, tenant-top}
+use Rattle.ynl_inventory.proofs.Tenants.{owner-named, tenant-number, tenant-tells, tenant-top}
 use Rattle.ynl_inventory.proofs.Updates.{each-number}
 use Rattle.ynl_requests.proofs.Members.{any-agree, any-map}
 
@@ -85,11 +84,11 @@ module _ (v : Rows) (sound : IsSound v) (m : ℕ) (other : AppRow) (at : lookup 
               let parts = and_parts (same_name (owner_of v m).0 tenant) (same_name (owner_of v m).1 name) both in
               let same : other.tenant ≡ row.tenant = grind (arith, nat_tests, sym tenants ∙ parts.0) in
               let there : slice_get (submitted_to v.tenants row.tenant) other.turn ≡ Some (app_name v.tenants other.tenant other.turn, record { leaf = other.leaf; app = Some m }) =
-                    subst (λ t. slice_get (submitted_to v.tenants t) other.turn ≡ Some (app_name v.tenants other.tenant other.turn, record { leaf = other.leaf; app = Some m })) same (app-submitted v sound m other at) in
+              subst (λ t. slice_get (submitted_to v.tenants t) other.turn ≡ Some (app_name v.tenants other.tenant other.turn, record { leaf = other.leaf; app = Some m })) same (app-submitted v sound m other at) in
               let turn : other.turn ≡ row.turn =
-                    one-turn v sound row.tenant other.turn (app_name v.tenants other.tenant other.turn, record { leaf = other.leaf; app = Some m }) there row.turn
-                    (name, record { leaf = row.leaf; app = Some n }) (app-submitted v sound n row found)
-                    (ap (λ own. same_name own name) (sym names) ∙ parts.1) in
+              one-turn v sound row.tenant other.turn (app_name v.tenants other.tenant other.turn, record { leaf = other.leaf; app = Some m }) there row.turn
+              (name, record { leaf = row.leaf; app = Some n }) (app-submitted v sound n row found)
+              (ap (λ own. same_name own name) (sym names) ∙ parts.1) in
               same_Some m n
               (ap (λ (e : Name × Submission). e.1.app)
               (same_Some (app_name v.tenants other.tenant other.turn, record { leaf = other.leaf; app = Some m }) (name, record { leaf = row.leaf; app = Some n })

@@ -1,8 +1,8 @@
 -- The model's requests for a partition are what live applications want there.
-use Rattle.std.proofs.Common.{◌≡◌, ◌⊎◌, ◌↔◌, ℕ, ◌<◌, Bool, true, false, not, ◌&&◌, cond, nat_eq, nat_lt, List, [], ◌∷◌, ◌++◌, map, filter, Some, Contains, inl, inr, refl, sym, ap, subst, ◌∙◌, arith, true≢false}
+use Rattle.std.proofs.Common.{◌≡◌, ◌⊎◌, ◌↔◌, ℕ, ◌<◌, Bool, true, false, not, ◌&&◌, cond, nat_eq, nat_lt, List, [], ◌∷◌, map, filter, Some, Contains, inl, inr, refl, sym, ap, subst, ◌∙◌, arith}
 use Rattle.std.specs.List.{AllByRecursion}
 use Rattle.std.specs.Map.{lookup}
-use Rattle.std.proofs.lemmas.Bool.{and_from, and_parts, cond-true}
+use Rattle.std.proofs.lemmas.Bool.{cond-true}
 use Rattle.std.proofs.lemmas.Bool.Decides.{nat_tests}
 use Rattle.ynl_resource.specs.Names.{same_label}
 use Rattle.ynl_resource.specs.declared.labels.Label.{Label}
@@ -88,8 +88,7 @@ module _ (v : Rows) (sound : IsSound v) (stops : List StopRow) (maxima : List Ma
     among-ask item there =
         let mapped = among-map (ask_item (app_at row)) item (filter is_wanted (map (ask_of v.partitions) row.asks)) there in
         let kept = among-filter is_wanted mapped.0 (map (ask_of v.partitions) row.asks) mapped.1 in
-        let own = among-map (ask_of v.partitions) mapped.0 row.asks kept.0 in
-        (
+        let own = among-map (ask_of v.partitions) mapped.0 row.asks kept.0 in (
           own.0,
           filter-among is_for own.0 row.asks (sym (each-among (λ ask. is_wanted (ask_of v.partitions ask) ≡ is_for ask) own.0 row.asks for-label own.1) ∙ ap is_wanted own.2 ∙ kept.1) own.1,
           sym mapped.2 ∙ ap (ask_item (app_at row)) (sym own.2),
@@ -144,8 +143,8 @@ module _ (v : Rows) (sound : IsSound v) (stops : List StopRow) (maxima : List Ma
       let kept = among-filter (λ app. waits s app && same_label app.home label) of_app.0 (all_apps (leaves v sound)) of_app.1 in
       let live : IsOfRow v of_app.0 = among-live v sound of_app.0 kept.0 in
       let holds : (not (runs_at v live.number live.row) && nat_eq live.row.home p) ≡ true =
-            (λ i. sym (waiting live.number live.row live.found) i && sym (at-home live.number live.row live.found) i)
-            ∙ ap (λ app. waits s app && same_label app.home label) (sym live.is) ∙ kept.1 in
+      (λ i. sym (waiting live.number live.row live.found) i && sym (at-home live.number live.row live.found) i)
+      ∙ ap (λ app. waits s app && same_label app.home label) (sym live.is) ∙ kept.1 in
       record {
         number = live.number;
         row = live.row;

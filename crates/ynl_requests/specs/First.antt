@@ -11,11 +11,11 @@ use Rattle.ynl_model.specs.declared.queues.StopRow.{StopRow}
 use Rattle.ynl_model.specs.declared.queues.MaximumRow.{MaximumRow}
 use Rattle.ynl_laws.specs.Descent.{IsBelow}
 use Rattle.ynl_laws.specs.First.{IsFirst, is_later}
-use Rattle.ynl_layout.specs.Paths.{HasNumber, path_at}
+use Rattle.ynl_layout.specs.Paths.{path_at}
 use Rattle.ynl_container_table.specs.declared.container.Role.{Role}
 use Rattle.ynl_container_table.specs.declared.container.Role.TheVariants.{Master, Ask as Asked}
 use Rattle.ynl_inventory.specs.Rows.{Rows, AppRow}
-use Rattle.ynl_inventory.specs.Meaning.{has_none_below, state_of}
+use Rattle.ynl_inventory.specs.Meaning.{state_of}
 use Rattle.ynl_inventory.specs.Sound.{IsLeaf, IsSound}
 use Rattle.ynl_requests.specs.Laws.{AreListed, place_of}
 use Rattle.ynl_requests.specs.Requests.{Request, Wants, item_for}

@@ -5,7 +5,7 @@ use Rattle.std.specs.Map.{lookup}
 use Rattle.std.specs.Ordering.{nat_cmp}
 use Rattle.ynl_model.specs.declared.queues.StopRow.{StopRow}
 use Rattle.ynl_model.specs.declared.queues.MaximumRow.{MaximumRow}
-use Rattle.ynl_model.specs.Applications.{Application, apps_of}
+use Rattle.ynl_model.specs.Applications.{apps_of}
 use Rattle.ynl_model.specs.Cluster.{runs}
 use Rattle.ynl_model.specs.Service.{Item, asks_for, items_for, place_in_leaf}
 use Rattle.ynl_layout.specs.Paths.{path_at}

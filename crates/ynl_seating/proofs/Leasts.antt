@@ -5,7 +5,7 @@ use Rattle.std.proofs.lemmas.Bool.{and_from}
 use Rattle.std.proofs.lemmas.Bool.Decides.{nat_tests}
 use Rattle.ynl_resource.specs.Amounts.{fits_in, IsSize, plus, smaller_of}
 use Rattle.ynl_resource.specs.declared.amounts.Resource.{Resource}
-use Rattle.ynl_laws.proofs.Amounts.{fits-filter, fits-plus, fits-trans}
+use Rattle.ynl_laws.proofs.Amounts.{fits-plus, fits-trans}
 use Rattle.ynl_laws.proofs.Lists.{Each-weaker}
 use Rattle.ynl_slots.proofs.Entries.{itself, other}
 use Rattle.ynl_app_table.specs.declared.asks.Ask.{Ask}
@@ -16,12 +16,10 @@ use Rattle.ynl_lane.specs.declared.kinds.Kind.TheVariants as kind
 use Rattle.ynl_lane.specs.Kinds.{of_kind}
 use Rattle.ynl_lane.specs.Seats.{Seat, may_have}
 use Rattle.ynl_lane.specs.Waiting.{IsWaiting, waiting-below}
-use Rattle.ynl_inventory.specs.Parts.{containers_of}
 use Rattle.ynl_inventory.proofs.Finding.{not-true}
 use Rattle.ynl_inventory.proofs.Used.{fits-parts}
-use Rattle.ynl_seating.specs.Laws.{AreLeasts, AreMet, IsUseWithin}
-use Rattle.ynl_seating.specs.Seating.{counts, least_asked, waits_at, with_least}
-use Rattle.ynl_seating.proofs.Sums.{size_of}
+use Rattle.ynl_seating.specs.Laws.{AreLeasts, AreMet}
+use Rattle.ynl_seating.specs.Seating.{least_asked, waits_at, with_least}
 
 first-below : (a b : Resource) → IsBelow (smaller_of a b) a
 first-below a b = grind (arith, nat_tests)
@@ -71,10 +69,6 @@ are-leasts = record {
       (λ ask below is size. waiting-below (least_asked p asks) ask.size (below is) (size-waits ask.size size)) asks (each-below p no_size asks);
   none = λ p asks h. fold-none p no_size asks h;
 }
-
--- what some containers use fits in what all use
-pub is-use_within : IsUseWithin
-is-use_within v p q user = fits-filter size_of (counts v p q user) (containers_of v p)
 
 -- ---- what a search tests
 

@@ -1,21 +1,22 @@
 -- What a user uses of a partition in a leaf is what the model says.
-use Rattle.std.proofs.Common.{◌≡◌, ◌<◌, ℕ, zero, suc, Bool, true, false, not, ◌&&◌, ◌||◌, List, [], ◌∷◌, length, map, filter, slice_get, Some, option_map, nat_eq, refl, sym, ap, ◌∙◌, arith, true≢false}
+use Rattle.std.proofs.Common.{◌≡◌, ◌<◌, ℕ, zero, suc, Bool, true, false, not, ◌&&◌, ◌||◌, List, [], ◌∷◌, length, map, filter, slice_get, Some, option_map, nat_eq, refl, sym, ap, subst, ◌∙◌, arith, true≢false}
 use Rattle.std.specs.Prelude.{slice_index_or}
 use Rattle.std.specs.List.{list_any}
 use Rattle.std.specs.Map.{lookup}
 use Rattle.std.specs.Option.{option_map_or}
 use Rattle.std.proofs.lemmas.Bool.{and_parts, eqb-true}
 use Rattle.std.proofs.lemmas.Option.{none-some, same_Some, slice_get-get_or}
-use Rattle.ynl_resource.specs.Amounts.{total_of}
+use Rattle.ynl_resource.specs.Amounts.{fits_in, total_of}
 use Rattle.ynl_resource.specs.Names.{is_default, is_within, root, same_name, same_path, tenant_of}
+use Rattle.ynl_resource.specs.declared.labels.Label.{Label}
 use Rattle.ynl_resource.specs.declared.names.Name.{Name}
 use Rattle.ynl_resource.specs.declared.paths.Path.{Path}
 use Rattle.ynl_model.specs.declared.containers.Placed.{Placed}
 use Rattle.ynl_model.specs.declared.queues.StopRow.{StopRow}
 use Rattle.ynl_model.specs.declared.queues.MaximumRow.{MaximumRow}
 use Rattle.ynl_model.specs.Applications.{Application, find_app, leaf_of as leaf_named}
-use Rattle.ynl_model.specs.Cluster.{counted, is_below, is_guest, is_guest_on, of_app_that, sizes, user_used}
-use Rattle.ynl_laws.proofs.Amounts.{total-map}
+use Rattle.ynl_model.specs.Cluster.{counted, is_below, is_guest, is_guest_on, of_app_that, sizes, user_used, State, used}
+use Rattle.ynl_laws.proofs.Amounts.{fits-filter, total-map}
 use Rattle.ynl_laws.proofs.Lists.{any-later, filter-agree, filter-map}
 use Rattle.ynl_laws.proofs.Logic.{not-false, not-true as not-true_is}
 use Rattle.ynl_laws.proofs.Names.{same-name_self, same-path, within-self}
@@ -27,6 +28,7 @@ use Rattle.ynl_layout.specs.Paths.{path_at}
 use Rattle.ynl_inventory.specs.Rows.{Rows, PartitionRow, AppRow}
 use Rattle.ynl_inventory.specs.Meaning.{app_name, application_of, has_none_below, label_at, owner_of, placed_of, state_of, submitted_to, what_of}
 use Rattle.ynl_inventory.specs.Apps.{is_guest_role}
+use Rattle.ynl_inventory.specs.Parts.{containers_of}
 use Rattle.ynl_inventory.specs.Sound.{HasPartition, IsContainer, IsLeaf, IsRole, IsSound}
 use Rattle.ynl_inventory.proofs.AppsFound.{app-found, leaf-found, leaves}
 use Rattle.ynl_inventory.proofs.Finding.{containers-at, not-true, own-label}
@@ -35,7 +37,7 @@ use Rattle.ynl_inventory.proofs.Submitted.{app-submission, app-submitted}
 use Rattle.ynl_inventory.proofs.Tenants.{owner-named}
 use Rattle.ynl_inventory.proofs.Updates.{each-number}
 use Rattle.ynl_submissions.specs.declared.submissions.Submission.{Submission}
-use Rattle.ynl_seating.specs.Laws.{IsUserUse}
+use Rattle.ynl_seating.specs.Laws.{IsUserUse, IsUseWithin}
 use Rattle.ynl_seating.specs.Seating.{counts, is_of, user_use}
 use Rattle.ynl_seating.proofs.Sharing.{default-is, filter-and, user-apart}
 use Rattle.ynl_seating.proofs.Sums.{size_of, sum}
@@ -164,3 +166,16 @@ module _ (v : Rows) (sound : IsSound v) (q : ℕ) (leaf : IsLeaf v q) where
 pub is-user_use : IsUserUse
 is-user_use v sound p q user has leaf named stops maxima =
     let at = place-there v.partitions p has in use-is v sound q leaf p at.0 at.1 has user named stops maxima
+
+-- what a user uses in a queue fits in what the queue uses
+user-within : (s : State) (queue : Path) (user : Name) (label : Label) → fits_in (user_used s queue user label) (used s queue label) ≡ true
+unfolding user_used used
+user-within s queue user label = fits-filter (λ (c : Placed). c.size) (of_app_that (λ app. same_name app.user user) s.leaves) (counted s queue label)
+
+pub is-use_within : IsUseWithin
+is-use_within = record {
+  containers = λ v p q user. fits-filter size_of (counts v p q user) (containers_of v p);
+  leaf = λ v sound p q user has leaf named stops maxima.
+      subst (λ u. fits_in u (used (state_of v stops maxima) (path_at v.paths q) (label_at v.partitions p)) ≡ true) (is-user_use v sound p q user has leaf named stops maxima)
+      (user-within (state_of v stops maxima) (path_at v.paths q) (slice_index_or v.users user []) (label_at v.partitions p));
+}

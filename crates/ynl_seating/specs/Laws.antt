@@ -10,7 +10,7 @@ use Rattle.ynl_resource.specs.declared.names.Name.{Name}
 use Rattle.ynl_model.specs.declared.queues.StopRow.{StopRow}
 use Rattle.ynl_model.specs.declared.queues.MaximumRow.{MaximumRow}
 use Rattle.ynl_model.specs.Applications.{Application}
-use Rattle.ynl_model.specs.Cluster.{State, runs, user_used, waits}
+use Rattle.ynl_model.specs.Cluster.{State, runs, used, user_used, waits}
 use Rattle.ynl_model.specs.Limits.{sharing, users}
 use Rattle.ynl_model.specs.Queues.{Config}
 use Rattle.ynl_model.specs.Service.{Item, asks_of}
@@ -81,10 +81,6 @@ pub record AreMet : Type 0 where
   pub master : (v : Rows) (n : ℕ) (row : AppRow) → runs_at v n row ≡ false → (used room most : Resource) → IsSize row.master → fits_in row.master room ≡ true
       → fits_in (plus used row.master) most ≡ true → may_have kind.Master room most (record { app = n; user = row.user; used = used; waits = waits_at v row.home n row }) ≡ true
 
--- what a user uses fits in what the containers of the partition use together
-abbrev pub IsUseWithin : Type 0
-IsUseWithin = (v : Rows) (p q user : ℕ) → fits_in (user_use v p q user) (total_of (λ e. e.1.size) (containers_of v p)) ≡ true
-
 -- ---- the model
 
 -- those who sit in a lane are the model's applications that share the leaf's part of the partition, in this order
@@ -105,3 +101,9 @@ abbrev pub IsUserUse : Type 0
 IsUserUse =
     (v : Rows) → IsSound v → (p q user : ℕ) → HasPartition v p → IsLeaf v q → user < length v.users → (stops : List StopRow) (maxima : List MaximumRow)
     → user_used (state_of v stops maxima) (path_at v.paths q) (slice_index_or v.users user []) (label_at v.partitions p) ≡ user_use v p q user
+
+-- which fits in what the containers of the partition use together, and in what the leaf uses
+pub record IsUseWithin : Type 0 where
+  pub containers : (v : Rows) (p q user : ℕ) → fits_in (user_use v p q user) (total_of (λ e. e.1.size) (containers_of v p)) ≡ true
+  pub leaf : (v : Rows) → IsSound v → (p q user : ℕ) → HasPartition v p → IsLeaf v q → user < length v.users → (stops : List StopRow) (maxima : List MaximumRow)
+      → fits_in (user_use v p q user) (used (state_of v stops maxima) (path_at v.paths q) (label_at v.partitions p)) ≡ true

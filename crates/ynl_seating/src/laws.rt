@@ -56,7 +56,7 @@ pub fn requests_are_met()
     ensures { AreMet }
 {}
 
-/// What a user uses fits in what the containers of the partition use together.
+/// What a user uses fits in what the containers of the partition use together, and in what the leaf uses.
 pub fn use_is_within()
     ensures { IsUseWithin }
 {}

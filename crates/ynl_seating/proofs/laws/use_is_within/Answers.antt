@@ -1,4 +1,4 @@
-use Rattle.ynl_seating.proofs.Leasts.{is-use_within}
+use Rattle.ynl_seating.proofs.UserUse.{is-use_within}
 use Rattle.ynl_seating.proofs.laws.use_is_within.Goals as goal
 
 pub returns : goal.returns
