@@ -1,12 +1,17 @@
 -- What the calls find: the lanes against the rows after a container was placed, or went.
-use Rattle.std.proofs.Common.{◌≡◌, ℕ, Bool, true, false, not, ◌&&◌, ◌||◌, List, [], slice_get, Option, Some, None, nat_eq, refl, sym, ap, subst, ◌∙◌, inl, inr}
+use Rattle.std.proofs.Common.{◌≡◌, ℕ, Bool, true, false, not, ◌&&◌, ◌||◌, List, [], slice_get, Option, Some, None, find, is_some, nat_eq, ◌==◌, true≢false, refl, sym, ap, subst, ◌∙◌, inl, inr}
 use mathlib.Core.Logic.{◌⊎◌}
 use Rattle.std.specs.Map.{lookup}
 use Rattle.std.specs.Option.{option_and_then, option_map_or}
-use Rattle.std.proofs.lemmas.Bool.{and_from, or_left, or_right}
+use Rattle.std.proofs.lemmas.Bool.{and_from, and_parts, eqb-true, or_left, or_right}
 use Rattle.std.proofs.lemmas.Option.{none-some, slice_get_within}
 use Rattle.ynl_resource.specs.Amounts.{plus}
 use Rattle.ynl_resource.specs.declared.amounts.Resource.{Resource}
+use Rattle.ynl_laws.proofs.Lists.{Each-find}
+use Rattle.ynl_slots.proofs.Entries.{itself}
+use Rattle.ynl_slots.proofs.Lists.{all_from}
+use Rattle.ynl_app_table.specs.Asks.{is_ask_of}
+use Rattle.ynl_app_table.specs.declared.asks.Ask.{Ask}
 use Rattle.ynl_slots.specs.Slots.{IsLive, without}
 use Rattle.ynl_app_table.specs.Apps.{with_change}
 use Rattle.ynl_container_table.specs.declared.container.Container.{Container}
@@ -17,14 +22,40 @@ use Rattle.ynl_inventory.specs.Rows.{Rows, PartitionRow, NodeRow, AppRow}
 use Rattle.ynl_inventory.specs.Apps.{is_guest_role}
 use Rattle.ynl_inventory.specs.Changes.{next_clock_at, next_container, partition_of_node, with_dropped, with_ended, with_placed, with_taken}
 use Rattle.ynl_inventory.specs.Parts.{containers_of}
-use Rattle.ynl_inventory.specs.Sound.{HasPartition}
+use Rattle.ynl_inventory.specs.Sound.{CanTake, HasPartition, IsAskedOn, IsSound}
 use Rattle.ynl_inventory.proofs.Lookups.{live-found, read-changed}
 use Rattle.ynl_seating.specs.Seating.{is_shared, shares}
-use Rattle.ynl_seating.specs.Steps.{AreSeatedBut, AreUsedBut, IsEnded, IsPlaced, MayStand}
+use Rattle.ynl_seating.specs.Steps.{AreSeatedBut, AreUsedBut, IsEnded, IsPlaced}
 use Rattle.ynl_seating.proofs.Carrying.{ChangesContainers}
 use Rattle.ynl_seating.proofs.Coming.{guest-came, guest-went, home-came, home-went}
 use Rattle.ynl_seating.proofs.Entered.{home-shared}
 use Rattle.ynl_seating.proofs.RowChanges.{dropped-changes, ended-changes, itself-keeps, placed-changes, same-rows, taken-keeps}
+
+-- where a container of an application may stand: its master at home; and what was asked for where the application shares, there or as a guest of DEFAULT
+abbrev MayStand : ℕ → AppRow → Role → Type 0
+MayStand p row Master = p ≡ row.home
+MayStand p row (Asked asked priority) = (shares asked row ≡ true) × ((p ≡ asked) ⊎ (asked ≡ 0))
+
+-- what is placed may stand there
+may-stand : (v : Rows) → IsSound v → (app : ℕ) (row : AppRow) → lookup (nat_eq app) v.apps ≡ Some row → (p : ℕ) (guests : Bool) (r : Role) → CanTake v app p guests row r → MayStand p row r
+may-stand v sound app row found p guests Master can = sym can.0
+may-stand v sound app row found p guests (Asked asked priority) can = (go (find (is_ask_of asked priority) row.asks) refl can.0, there can.1)
+  where
+    there : (asked ≡ p) ⊎ ((asked ≡ 0) × (guests ≡ true)) → (p ≡ asked) ⊎ (asked ≡ 0)
+    there (inl is) = inl (sym is)
+    there (inr is) = inr is.0
+
+    on : (ask : Ask) → IsAskedOn row.home ask.partition → shares ask.partition row ≡ true
+    on ask (inl is) = or_right (nat_eq ask.partition 0) (nat_eq row.home ask.partition) (ap (nat_eq row.home) is ∙ itself row.home)
+    on ask (inr is) = or_left (nat_eq ask.partition 0) (nat_eq row.home ask.partition) (ap (λ m. nat_eq m 0) is)
+
+    go : (o : Option Ask) → find (is_ask_of asked priority) row.asks ≡ o → is_some o ≡ true → shares asked row ≡ true
+    go None is some = absurd (true≢false (sym some))
+    go (Some ask) is some =
+        let its = Each-find (λ ask. IsAskedOn row.home ask.partition) (is_ask_of asked priority) row.asks
+        (all_from (λ ask. IsAskedOn row.home ask.partition) row.asks (sound.apps app row found).asked) ask is in
+        let same : ask.partition ≡ asked = eqb-true ask.partition asked (and_parts (ask.partition == asked) (ask.priority == priority) its.1).0 in
+        ap (λ m. shares m row) (sym same) ∙ on ask its.0
 
 module _ (node app : ℕ) (r : Role) (size : Resource) (v : Rows) (lanes : List (List Seats)) (start : IsPlaced node app r size v lanes) where
   abbrev before : Rows
@@ -41,10 +72,15 @@ module _ (node app : ℕ) (r : Role) (size : Resource) (v : Rows) (lanes : List 
       let stands : start.can.node_row.partition ≡ place = sym (ap (λ o. option_map_or (λ (row : NodeRow). row.partition) o 0) start.can.node_found) in
       subst (HasPartition before) stands (slice_get_within before.partitions start.can.node_row.partition start.can.partition start.can.partition_found)
 
+  stood : MayStand place start.can.app_row r
+  stood =
+      subst (λ m. MayStand m start.can.app_row r) (sym (ap (λ o. option_map_or (λ (row : NodeRow). row.partition) o 0) start.can.node_found))
+      (may-stand before start.sound app start.can.app_row start.can.app_found start.can.node_row.partition start.can.partition.guests r start.can.role)
+
   -- its application shares the partition, unless it is a guest there
   shared : is_shared before.apps place (start.number, next_container before node app r size) ≡ true
   shared =
-      ap (λ o. is_guest_role place r || option_map_or (shares place) o false) start.can.app_found ∙ by r start.stands
+      ap (λ o. is_guest_role place r || option_map_or (shares place) o false) start.can.app_found ∙ by r stood
     where
       by : (role : Role) → MayStand place start.can.app_row role → (is_guest_role place role || shares place start.can.app_row) ≡ true
       by Master home = ap (λ m. shares m start.can.app_row) home ∙ home-shared start.can.app_row

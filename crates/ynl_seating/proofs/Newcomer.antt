@@ -13,13 +13,11 @@ use Rattle.ynl_slots.proofs.Lookups.{lookup-push, lookup-unused}
 use Rattle.ynl_app_table.specs.Apps.{with_change}
 use Rattle.ynl_app_table.specs.declared.app.Tickets.{Tickets}
 use Rattle.ynl_container_table.specs.declared.container.Container.{Container}
-use Rattle.ynl_container_table.specs.declared.container.Role.{Role}
-use Rattle.ynl_container_table.specs.declared.container.Role.TheVariants.{Master, Ask as Asked}
 use Rattle.ynl_lane.specs.Seats.{Seats, nothing_waits}
 use Rattle.ynl_inventory.specs.Rows.{Rows, PartitionRow, AppRow}
 use Rattle.ynl_inventory.specs.Changes.{with_tickets}
 use Rattle.ynl_inventory.specs.Parts.{containers_of}
-use Rattle.ynl_inventory.specs.Apps.{is_guest_role, is_master_role, runs_at}
+use Rattle.ynl_inventory.specs.Apps.{is_guest_role}
 use Rattle.ynl_inventory.proofs.Finding.{not-true}
 use Rattle.ynl_inventory.proofs.Lookups.{pushed-live}
 use Rattle.ynl_inventory.proofs.Updates.{at-number}
@@ -117,28 +115,6 @@ module _ (app : ℕ) (w : Rows) (lanes : List (List Seats)) (start : IsUnseated 
       go : (o : Option AppRow) → option_map_or (waits_at u p n) o nothing_waits ≡ option_map_or (waits_at v p n) o nothing_waits
       go None = refl
       go (Some row) = ap (λ b. waits_if b p row) (ap (list_any (is_master_of n)) (containers-same row.home))
-
-  -- the new application does not run
-  pub not-running : runs_at u app newcomer ≡ false
-  not-running =
-      ap (list_any (is_master_of app)) (containers-same start.row.home)
-      ∙ none-any (is_master_of app) (containers_of v start.row.home)
-      (Each-weaker (λ e. is_shared v.apps start.row.home e ≡ true) (λ e. is_master_of app e ≡ false) one (containers_of v start.row.home) (start.seated.shared start.row.home))
-    where
-      no-guest : (c : Container) → is_master_role c.role ≡ true → is_guest_role start.row.home c.role ≡ false
-      no-guest c is = go c.role is
-        where
-          go : (r : Role) → is_master_role r ≡ true → is_guest_role start.row.home r ≡ false
-          go Master h = refl
-          go (Asked p priority) h = absurd (true≢false (sym h))
-
-      one : (e : ℕ × Container) → is_shared v.apps start.row.home e ≡ true → is_master_of app e ≡ false
-      one e shared =
-          not-true (is_master_of app e)
-          (λ hit.
-          let parts = and_parts (is_master_role e.1.role) (nat_eq e.1.app app) hit in
-          let live = home-live start.row.home e shared (no-guest e.1 parts.0) in
-          true≢false (sym live ∙ ap (λ k. is_some (lookup (nat_eq k) v.apps)) (eqb-true e.1.app app parts.1) ∙ ap is_some (lookup-unused app v.apps start.unused)))
 
   -- ---- seats
 

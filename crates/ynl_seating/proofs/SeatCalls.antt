@@ -1,6 +1,6 @@
 -- What the calls find that add the seats of a new application.
 use Rattle.std.proofs.Common.{◌≡◌, ◌≢◌, ℕ, Bool, true, false, cond, List, Some, None, is_some, nat_eq, refl, sym, ap, subst, ◌∙◌, inl, inr}
-use Rattle.std.specs.Prelude.{IfSome, IsSome}
+use Rattle.std.specs.Prelude.{IsSome}
 use Rattle.std.specs.Map.{lookup}
 use Rattle.std.proofs.lemmas.Bool.{eqb-true, or_cases}
 use Rattle.std.proofs.lemmas.Option.{same_Some}
@@ -11,7 +11,6 @@ use Rattle.ynl_app_table.specs.declared.app.Tickets.{Tickets}
 use Rattle.ynl_lane.specs.Seats.{Seats}
 use Rattle.ynl_lane_table.specs.Lanes.{AddsOne, Changes, IsLaneAt, lane_at}
 use Rattle.ynl_inventory.specs.Rows.{Rows, AppRow}
-use Rattle.ynl_inventory.specs.Apps.{runs_at}
 use Rattle.ynl_inventory.specs.Changes.{with_tickets}
 use Rattle.ynl_inventory.specs.Parts.{Held}
 use Rattle.ynl_inventory.proofs.Lookups.{changed-live}
@@ -19,7 +18,7 @@ use Rattle.ynl_seating.specs.Seating.{shares, ticket_on}
 use Rattle.ynl_seating.specs.Steps.{AreSeatedBut, IsUnseated}
 use Rattle.ynl_seating.proofs.Adding.{default-there, lanes-before, lanes-half, lanes-once, lanes-twice, seated-but, still-default}
 use Rattle.ynl_seating.proofs.Entered.{default-shared, home-shared}
-use Rattle.ynl_seating.proofs.Newcomer.{newcomer, not-running, own-found}
+use Rattle.ynl_seating.proofs.Newcomer.{newcomer}
 
 module _ (app : ℕ) (w : Rows) (lanes : List (List Seats)) (start : IsUnseated app w lanes) where
   abbrev with_home : ℕ → Tickets
@@ -92,12 +91,6 @@ module _ (app : ℕ) (w : Rows) (lanes : List (List Seats)) (start : IsUnseated 
   module _ (t : Tickets) (h new : Held) (rows : h.rows ≡ w) (is : new ≡ record h { rows = with_tickets app t h.rows }) where
     rows-are : new.rows ≡ with_tickets app t w
     rows-are = ap (λ (h : Held). h.rows) is ∙ ap (with_tickets app t) rows
-
-    -- it does not run
-    pub runs-not : IfSome (lookup (nat_eq app) new.rows.apps) (λ row. false ≡ runs_at new.rows app row)
-    runs-not =
-        subst (λ (v : Rows). IfSome (lookup (nat_eq app) v.apps) (λ row. false ≡ runs_at v app row)) (sym rows-are)
-        (subst (λ o. IfSome o (λ row. false ≡ runs_at (with_tickets app t w) app row)) (sym (own-found app w lanes start t)) (sym (not-running app w lanes start t)))
 
     pub still-live : IsLive app w.apps → IsLive app new.rows.apps
     still-live live = subst (λ (v : Rows). IsLive app v.apps) (sym rows-are) (changed-live app app (λ (row : AppRow). record row { tickets = t }) w.apps live)

@@ -1,4 +1,4 @@
--- What was submitted to a leaf and is live stands in the order of the applications.
+-- What was submitted to a leaf and is live stands in the order of the applications, if those of a tenant stand in the order of their turns.
 use Rattle.std.proofs.Common.{◌≡◌, ◌≢◌, ◌<◌, ℕ, zero, suc, ◌+◌, Bool, true, false, cond, ◌||◌, List, [], ◌∷◌, map, filter, slice_get, Option, Some, None, option_map, is_some, nat_eq, refl, sym, ap, subst, ◌∙◌, arith, inl, inr, true≢false}
 use mathlib.Core.Logic.{◌⊎◌}
 use Rattle.std.specs.List.{AllByRecursion, cons_option, filter_map, list_any}
@@ -9,11 +9,11 @@ use Rattle.std.proofs.lemmas.Option.{none-some, same_Some}
 use Rattle.ynl_laws.proofs.Lists.{Each-both, Each-kept, Each-weaker}
 use Rattle.ynl_laws.proofs.Logic.{none-is}
 use Rattle.ynl_model.specs.Applications.{Application}
+use Rattle.ynl_laws.specs.Working.{Pairs}
 use Rattle.ynl_slots.proofs.Entries.{itself, other}
 use Rattle.ynl_inventory.specs.Rows.{Rows, AppRow}
-use Rattle.ynl_inventory.specs.Apps.{IsBefore}
-use Rattle.ynl_laws.specs.Working.{Pairs}
 use Rattle.ynl_inventory.specs.Meaning.{app_name, app_of, application_of, live_of, submitted_in, submitted_to, tenant_at}
+use Rattle.ynl_inventory.specs.Apps.{IsBefore}
 use Rattle.ynl_inventory.specs.Sound.{IsSound}
 use Rattle.ynl_inventory.proofs.Apps.{Entry}
 use Rattle.ynl_inventory.proofs.Filters.{filter-distinct, filter-lookup}

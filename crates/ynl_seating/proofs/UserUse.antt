@@ -82,9 +82,9 @@ module _ (v : Rows) (sound : IsSound v) (q : ℕ) (leaf : IsLeaf v q) where
     abbrev name : Name
     name = slice_index_or v.users user []
 
-    guest-is : (app : ℕ) (r : Role) → IsRole v p app r → is_guest_on row.label (what_of v.partitions r) ≡ is_guest_role p r
-    guest-is app Master is = refl
-    guest-is app (Asked a priority) is = λ i. default-is v sound a is i && not ((ap is_default (sym (own-label v sound p row there)) ∙ default-is v sound p has) i)
+    guest-is : (r : Role) (app : ℕ) → IsRole v p app r → is_guest_on row.label (what_of v.partitions r) ≡ is_guest_role p r
+    guest-is Master app is = refl
+    guest-is (Asked a priority) app is = λ i. default-is v sound a is i && not ((ap is_default (sym (own-label v sound p row there)) ∙ default-is v sound p has) i)
 
     user-is : (u : ℕ) → u < length v.users → same_name (slice_index_or v.users u []) name ≡ nat_eq u user
     user-is u u-in = go (nat_eq u user) refl
@@ -107,7 +107,7 @@ module _ (v : Rows) (sound : IsSound v) (q : ℕ) (leaf : IsLeaf v q) where
 
     one : (n : ℕ) (c : Container) → lookup (nat_eq n) row.containers ≡ Some c → models (placed c) ≡ counts v p q user (n, c)
     one n c found =
-        (λ i. (not (guest-is c.app c.role is.role i) && below i) && owned i)
+        (λ i. (not (guest-is c.role c.app is.role i) && below i) && owned i)
         ∙ shift (not (is_guest_role p c.role)) (nat_eq app.0.leaf q) (nat_eq app.0.user user)
         ∙ ap (λ o. not (is_guest_role p c.role) && option_map_or (is_of q user) o false) (sym app.1)
       where

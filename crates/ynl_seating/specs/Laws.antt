@@ -14,7 +14,6 @@ use Rattle.ynl_model.specs.Cluster.{State, runs, used, user_used, waits}
 use Rattle.ynl_model.specs.Limits.{sharing, users}
 use Rattle.ynl_model.specs.Queues.{Config}
 use Rattle.ynl_model.specs.Service.{Item, asks_of}
-use Rattle.ynl_laws.specs.Working.{Pairs}
 use Rattle.ynl_slots.specs.Slots.{IsUnused}
 use Rattle.ynl_app_table.specs.declared.asks.Ask.{Ask}
 use Rattle.ynl_layout.specs.Paths.{HasNumber, path_at}

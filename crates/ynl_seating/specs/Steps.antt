@@ -5,15 +5,14 @@ use Rattle.ynl_resource.specs.declared.amounts.Resource.{Resource}
 use Rattle.ynl_slots.specs.Slots.{HasDistinctNumbers, IsUnused}
 use Rattle.ynl_container_table.specs.declared.container.Container.{Container}
 use Rattle.ynl_container_table.specs.declared.container.Role.{Role}
-use Rattle.ynl_container_table.specs.declared.container.Role.TheVariants.{Master, Ask as Asked}
 use Rattle.ynl_layout.specs.Paths.{HasNumber}
 use Rattle.ynl_lane.specs.declared.kinds.Both.{Both}
 use Rattle.ynl_lane.specs.Seats.{Seats}
 use Rattle.ynl_lane_table.specs.Lanes.{lane_at}
 use Rattle.ynl_inventory.specs.Rows.{Rows, AppRow}
 use Rattle.ynl_inventory.specs.Parts.{containers_of, held_at}
-use Rattle.ynl_inventory.specs.Changes.{partition_of_node, with_dropped, with_ended, with_placed}
-use Rattle.ynl_inventory.specs.Sound.{HasPartition, IsPlaceable}
+use Rattle.ynl_inventory.specs.Changes.{with_dropped, with_ended, with_placed}
+use Rattle.ynl_inventory.specs.Sound.{HasPartition, IsPlaceable, IsSound}
 use Rattle.ynl_seating.specs.Seating.{Figures, AreSeated, AreSeatedWith, is_of, shares, user_use, waits_of}
 
 -- but for what waits of an application
@@ -50,18 +49,13 @@ pub record IsUnseated (app : ℕ) (v : Rows) (lanes : List (List Seats)) : Type 
   pub seated : AreSeated before lanes
   pub room : IsReserved row.home row.leaf row.user lanes
 
--- where a container of an application may stand: its master at home; and what was asked for where the application shares, there or as a guest of DEFAULT
-abbrev pub MayStand : ℕ → AppRow → Role → Type 0
-MayStand p row Master = p ≡ row.home
-MayStand p row (Asked asked priority) = (shares asked row ≡ true) × ((p ≡ asked) ⊎ (asked ≡ 0))
-
 -- the lanes are those of the rows before a container was placed on a node
 pub record IsPlaced (node app : ℕ) (role : Role) (size : Resource) (v : Rows) (lanes : List (List Seats)) : Type 0 where
   pub before : Rows
   pub number : ℕ
   pub rows : v ≡ with_placed number node app role size before
   pub can : IsPlaceable before node app role
-  pub stands : MayStand (partition_of_node before.nodes node) can.app_row role
+  pub sound : IsSound before
   pub seated : AreSeated before lanes
 
 -- those before a container ended on a partition, or went with its node

@@ -5,7 +5,7 @@ ghost use Rattle.std.specs.Map.{lookup};
 ghost use Rattle.ynl_resource.specs.Amounts.{plus};
 ghost use Rattle.ynl_slots.specs.Slots.{IsLive};
 ghost use Rattle.ynl_lane.specs.Rows.{IsUse};
-ghost use Rattle.ynl_inventory.specs.Apps.{is_guest_role, runs_at};
+ghost use Rattle.ynl_inventory.specs.Apps.{is_guest_role};
 ghost use Rattle.ynl_inventory.specs.Changes.{partition_of_node};
 ghost use Rattle.ynl_seating.specs.Seating.{AreSeated, user_use};
 ghost use Rattle.ynl_seating.specs.Steps.{AreSeatedBut, AreUsedBut, IsEnded, IsPlaced};
@@ -44,26 +44,18 @@ fn count_more(inventory: &Inventory, lanes: &mut Lanes, p: u8, placed: &Placemen
     use_more(inventory, lanes, placed.app, p, placed.size);
 }
 
-/// The lanes follow a container that was placed on a partition. `runs` says whether its application runs now.
-pub fn follow_placement(
-    inventory: &Inventory,
-    lanes: &mut Lanes,
-    p: u8,
-    placed: &Placement,
-    runs: bool,
-)
+/// The lanes follow a container that was placed on a partition.
+pub fn follow_placement(inventory: &Inventory, lanes: &mut Lanes, p: u8, placed: &Placement)
     requires live { IsLive placed.now.app inventory.now.rows.apps }
     requires start { IsPlaced placed.now.node placed.now.app placed.now.role placed.now.size
         inventory.now.rows lanes.old }
     requires partition { p ≡ partition_of_node inventory.now.rows.nodes placed.now.node }
-    requires runs { IfSome (lookup (nat_eq placed.now.app) inventory.now.rows.apps)
-        (λ row. runs ≡ runs_at inventory.now.rows placed.now.app row) }
     requires small { IfSome (lookup (nat_eq placed.now.app) inventory.now.rows.apps)
         (λ row. IsUse (user_use inventory.now.rows p row.leaf row.user)) }
     ensures { AreSeated inventory.now.rows lanes.new }
 {
     count_more(inventory, lanes, p, placed);
-    enter(inventory, lanes, placed.app, runs);
+    enter(inventory, lanes, placed.app);
 }
 
 /// The user of a container that ended uses less, unless that was a guest.
@@ -84,16 +76,14 @@ fn count_less(inventory: &Inventory, lanes: &mut Lanes, p: u8, ended: &Container
     use_less(inventory, lanes, ended.app, p, ended.size);
 }
 
-/// The lanes follow a container that ended on a partition, or went with its node. `runs` says whether its application still runs.
-pub fn follow_end(inventory: &Inventory, lanes: &mut Lanes, p: u8, ended: &Container, runs: bool)
+/// The lanes follow a container that ended on a partition, or went with its node.
+pub fn follow_end(inventory: &Inventory, lanes: &mut Lanes, p: u8, ended: &Container)
     requires live { IsLive ended.now.app inventory.now.rows.apps }
     requires start { IsEnded p ended.now inventory.now.rows lanes.old }
-    requires runs { IfSome (lookup (nat_eq ended.now.app) inventory.now.rows.apps)
-        (λ row. runs ≡ runs_at inventory.now.rows ended.now.app row) }
     requires small { IfSome (lookup (nat_eq ended.now.app) inventory.now.rows.apps)
         (λ row. IsUse (user_use inventory.now.rows p row.leaf row.user)) }
     ensures { AreSeated inventory.now.rows lanes.new }
 {
     count_less(inventory, lanes, p, ended);
-    enter(inventory, lanes, ended.app, runs);
+    enter(inventory, lanes, ended.app);
 }

@@ -1,11 +1,9 @@
 //! What waits of an application is entered anew.
 
-ghost use Rattle.std.specs.Prelude.{◌≡◌, IfSome, IsSome, nat_eq, unwrap_or};
-ghost use Rattle.std.specs.Map.{lookup};
+ghost use Rattle.std.specs.Prelude.{IsSome, unwrap_or};
 ghost use Rattle.ynl_slots.specs.Slots.{IsLive};
 ghost use Rattle.ynl_lane.specs.Seats.{IsSeat};
 ghost use Rattle.ynl_lane_table.specs.Lanes.{Changes, Enters, IsLaneAt, lane_at};
-ghost use Rattle.ynl_inventory.specs.Apps.{runs_at};
 ghost use Rattle.ynl_inventory.specs.Parts.{app_row};
 ghost use Rattle.ynl_seating.specs.Seating.{AreSeated, ticket_on, waits_if};
 ghost use Rattle.ynl_seating.specs.Steps.{AreSeatedBut};
@@ -29,16 +27,14 @@ fn enter_at(lanes: &mut Lanes, row: &AppRow, p: u8, runs: bool)
     lanes.enter(p as usize, row.leaf as usize, ticket, &waits);
 }
 
-/// What waits at the seats of an application is entered anew, where the lanes are those of the rows but for that. `runs` says
-/// whether the application runs.
-pub fn enter(inventory: &Inventory, lanes: &mut Lanes, app: u32, runs: bool)
+/// What waits at the seats of an application is entered anew, where the lanes are those of the rows but for that.
+pub fn enter(inventory: &Inventory, lanes: &mut Lanes, app: u32)
     requires live { IsLive app inventory.now.rows.apps }
-    requires runs { IfSome (lookup (nat_eq app) inventory.now.rows.apps)
-        (λ row. runs ≡ runs_at inventory.now.rows app row) }
     requires start { AreSeatedBut app inventory.now.rows lanes.old }
     ensures { AreSeated inventory.now.rows lanes.new }
 {
     let row = inventory.app(app);
+    let runs = inventory.runs(app);
     enter_at(lanes, row, row.home, runs);
     if row.home == 0 {
         return;

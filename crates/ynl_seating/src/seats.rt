@@ -66,7 +66,7 @@ pub fn seat(inventory: &mut Inventory, lanes: &mut Lanes, app: u32)
 {
     let tickets = add_seats(inventory, lanes, app);
     inventory.set_tickets(app, tickets);
-    enter(inventory, lanes, app, false);
+    enter(inventory, lanes, app);
 }
 
 /// The seat of an application on a partition goes.

@@ -1,13 +1,11 @@
 -- The shares mean the model's maxima.
-use Rattle.std.proofs.Common.{◌≡◌, ◌≢◌, ℕ, zero, suc, ◌+◌, ◌<◌, Bool, true, false, ◌&&◌, cond, nat_eq, List, [], ◌∷◌, ◌++◌, length, map, get_or, Some, None, find, refl, sym, ap, subst, ◌∙◌, arith}
-use Rattle.std.specs.Prelude.{Option}
+use Rattle.std.proofs.Common.{◌≡◌, ◌≢◌, ℕ, zero, suc, ◌+◌, ◌<◌, Bool, true, false, ◌&&◌, cond, nat_eq, List, [], ◌∷◌, ◌++◌, length, get_or, Some, None, find, refl, sym, ap, subst, ◌∙◌, arith}
 use Rattle.std.specs.Option.{option_map_or, option_or}
 use Rattle.std.proofs.lemmas.Bool.{and_from, and_right, false_from_ne_true}
 use Rattle.std.proofs.lemmas.Bool.Decides.{nat_tests}
 use Rattle.std.proofs.lemmas.List.{map-append}
 use Rattle.std.proofs.lemmas.List.Folds.{find-append}
 use Rattle.ynl_resource.specs.Names.{root, same_label, same_path}
-use Rattle.ynl_resource.specs.Tables.{update}
 use Rattle.ynl_resource.specs.declared.labels.Label.{Label}
 use Rattle.ynl_resource.specs.declared.labels.Label.TheVariants.{Unlabelled}
 use Rattle.ynl_resource.specs.declared.paths.Path.{Path}
@@ -60,7 +58,7 @@ module _ (rows : List (List Share)) (p q share : ℕ) (cell : HasCell rows p q) 
   read-share r n = ap (λ row. get_or row n no_share) (read-row r) ∙ go (nat_eq r p) refl
     where
       go : (b : Bool) → nat_eq r p ≡ b
-        → get_or (cond b (with_at q raise (shares_on rows r)) (shares_on rows r)) n no_share ≡ cond (b && nat_eq n q) (raise (share_at rows r n)) (share_at rows r n)
+          → get_or (cond b (with_at q raise (shares_on rows r)) (shares_on rows r)) n no_share ≡ cond (b && nat_eq n q) (raise (share_at rows r n)) (share_at rows r n)
       go true e = read-written q raise (shares_on rows r) no_share n (subst (λ m. q < length (shares_on rows m)) (sym (grind (arith, nat_tests, e))) cell.queue)
       go false e = refl
 
@@ -175,7 +173,7 @@ set-from : (q : ℕ) (paths : List Path) (queue : Path) (label : Label) (share :
 set-from q [] queue label share labels rows new is same set = refl
 set-from q (path ∷ paths) queue label share labels rows new is same set =
     (λ i. set-on 0 q path queue label share labels rows new (λ m. is m q) first (λ m. set m q) i
-      ++ set-from (q + 1) paths queue label share labels rows new is (λ j m inside within. same (suc j) m (omega (arith, inside)) within ∙ ap (is m) (sym (next-place q j))) set i)
+    ++ set-from (q + 1) paths queue label share labels rows new is (λ j m inside within. same (suc j) m (omega (arith, inside)) within ∙ ap (is m) (sym (next-place q j))) set i)
     ∙ sym (map-append (λ (row : MaximumRow). cond (is_maximum_of queue label row) (record row { share = share }) row) (maxima_on 0 q path labels rows) (maxima_from (q + 1) paths labels rows))
   where
     first : (m : ℕ) → m < length labels → (same_path path queue && same_label (get_or labels m Unlabelled) label) ≡ is (0 + m) q

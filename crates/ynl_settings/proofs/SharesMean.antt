@@ -4,12 +4,11 @@ use Rattle.std.specs.List.{AllByRecursion, flat_map}
 use Rattle.std.proofs.lemmas.List.{append_assoc, get_or-map, map-id}
 use Rattle.std.proofs.lemmas.List.Folds.{flat_map-map, fold-map}
 use Rattle.ynl_resource.specs.Amounts.{scale_floor}
-use Rattle.ynl_resource.specs.Names.{root, top_level, way_to}
+use Rattle.ynl_resource.specs.Names.{root, way_to}
 use Rattle.ynl_resource.specs.Ranges.{whole}
 use Rattle.ynl_resource.specs.declared.amounts.Resource.{Resource}
 use Rattle.ynl_resource.specs.declared.labels.Label.{Label}
 use Rattle.ynl_resource.specs.declared.labels.Label.TheVariants.{Unlabelled}
-use Rattle.ynl_resource.specs.declared.names.Name.{Name}
 use Rattle.ynl_resource.specs.declared.paths.Path.{Path}
 use Rattle.ynl_model.specs.Nodes.{partition_labels}
 use Rattle.ynl_model.specs.declared.queues.MaximumRow.{MaximumRow}
@@ -121,7 +120,7 @@ opened-on : (p q : ℕ) (path : Path) (labels : List Label) (rows : List (List S
 opened-on p q path [] rows set same = refl
 opened-on p q path (l ∷ ls) rows set same =
     λ i. record { queue = path; label = l; share = here i }
-      ∷ opened-on (p + 1) q path ls rows set (λ m inside. ap (λ r. maximum_at rows r q) (next p m) ∙ same (suc m) (omega (arith, inside))) i
+    ∷ opened-on (p + 1) q path ls rows set (λ m inside. ap (λ r. maximum_at rows r q) (next p m) ∙ same (suc m) (omega (arith, inside))) i
   where
     here : maximum_at rows p q ≡ set l path
     here = ap (λ r. maximum_at rows r q) (omega arith) ∙ same 0 (omega arith)
@@ -135,7 +134,7 @@ opened-from : (q : ℕ) (paths : List Path) (labels : List Label) (rows : List (
 opened-from q [] labels rows set same = refl
 opened-from q (path ∷ paths) labels rows set same =
     λ i. opened-on 0 q path labels rows set first i
-      ++ opened-from (q + 1) paths labels rows set (λ j m inside within. ap (maximum_at rows m) (next q j) ∙ same (suc j) m (omega (arith, inside)) within) i
+    ++ opened-from (q + 1) paths labels rows set (λ j m inside within. ap (maximum_at rows m) (next q j) ∙ same (suc j) m (omega (arith, inside)) within) i
   where
     next : (n k : ℕ) → n + 1 + k ≡ n + suc k
     next n k = omega arith

@@ -8,7 +8,7 @@ use Rattle.ynl_resource.specs.Names.{root, same_path, is_within}
 use Rattle.ynl_resource.specs.declared.paths.Path.{Path}
 use Rattle.ynl_model.specs.declared.queues.StopRow.{StopRow}
 use Rattle.ynl_model.specs.Queues.{QueueRow, accepts, set_stop}
-use Rattle.ynl_laws.specs.Ways.{AreApart, IsWay, has_number}
+use Rattle.ynl_laws.specs.Ways.{IsWay, has_number}
 use Rattle.ynl_laws.proofs.Names.{same-path}
 use Rattle.ynl_layout.specs.Paths.{HasNumber, IsTree, is_above, path_at}
 use Rattle.ynl_settings.specs.Meaning.{stops_of}
@@ -49,10 +49,10 @@ set-place [] marks k path stopped inside own differ = absurd (omega (arith, insi
 set-place (p ∷ ps) [] k path stopped inside own differ = refl
 set-place (p ∷ ps) (m ∷ ms) zero path stopped inside own differ =
     λ i. cond (sym own i) (row_of p stopped) (row_of p m)
-      ∷ sym (others-stay ps ms path stopped (λ k within. differ (suc k) (omega (arith, within)) (λ e. omega (arith, e)))) i
+    ∷ sym (others-stay ps ms path stopped (λ k within. differ (suc k) (omega (arith, within)) (λ e. omega (arith, e)))) i
 set-place (p ∷ ps) (m ∷ ms) (suc k) path stopped inside own differ =
     λ i. cond (sym (differ 0 (omega arith) (λ e. omega (arith, e))) i) (row_of p stopped) (row_of p m)
-      ∷ set-place ps ms k path stopped (omega (arith, inside)) own (λ n within apart. differ (suc n) (omega (arith, within)) (λ e. apart (omega (arith, e)))) i
+    ∷ set-place ps ms k path stopped (omega (arith, inside)) own (λ n within apart. differ (suc n) (omega (arith, within)) (λ e. apart (omega (arith, e)))) i
 
 -- the mark of a queue that is set is the model's
 pub stops-set : (paths : List Path) (marks : List Bool) → IsTree paths → (q : ℕ) (stopped : Bool) → 0 < q → HasNumber paths q
@@ -99,7 +99,7 @@ some-barred (p ∷ ps) [] leaf h = absurd (true≢false (sym h))
 some-barred (p ∷ ps) (m ∷ ms) leaf h = go (m && is_within p leaf) refl h (some-barred ps ms leaf)
   where
     go : (b : Bool) → (m && is_within p leaf) ≡ b → (b || list_any (bars leaf) (stops_of ps ms)) ≡ true → (list_any (bars leaf) (stops_of ps ms) ≡ true → (k : ℕ) × IsBarred ps ms leaf k)
-      → (k : ℕ) × IsBarred (p ∷ ps) (m ∷ ms) leaf k
+        → (k : ℕ) × IsBarred (p ∷ ps) (m ∷ ms) leaf k
     go true e h rest = (0, record { inside = omega arith; stopped = (and_parts m (is_within p leaf) e).0; within = (and_parts m (is_within p leaf) e).1 })
     go false e h rest = let at = rest h in (suc at.0, record { inside = omega (arith, at.1.inside); stopped = at.1.stopped; within = at.1.within })
 

@@ -20,18 +20,18 @@ enter_at-requires-clause-seat c =
 
 pub returns-then-row-eq0 : goal.returns-then-row-eq0
 returns-then-row-eq0 c =
-    entered-once c.args.app c.args.inventory.now.rows (app_row c.app-row.result.now) c.app-row.ensures c.args.runs
-    (subst (λ o. IfSome o (λ row. c.args.runs ≡ runs_at c.args.inventory.now.rows c.args.app row)) c.app-row.ensures c.requires.runs) c.args.lanes.now c.requires.start c.enter_at.new.lanes
+    entered-once c.args.app c.args.inventory.now.rows (app_row c.app-row.result.now) c.app-row.ensures c.runs-runs.result
+    (subst (λ o. IfSome o (λ row. c.runs-runs.result ≡ runs_at c.args.inventory.now.rows c.args.app row)) c.app-row.ensures c.runs-runs.ensures) c.args.lanes.now c.requires.start c.enter_at.new.lanes
     c.enter_at.ensures c.if-row-eq0.true
 
 pub enter_at-requires-2-clause-seat : goal.enter_at-requires-2-clause-seat
 enter_at-requires-2-clause-seat c =
-    second-seat c.args.app c.args.inventory.now.rows (app_row c.app-row.result.now) c.app-row.ensures c.args.runs
-    (subst (λ o. IfSome o (λ row. c.args.runs ≡ runs_at c.args.inventory.now.rows c.args.app row)) c.app-row.ensures c.requires.runs) c.args.lanes.now c.requires.start c.enter_at.new.lanes
+    second-seat c.args.app c.args.inventory.now.rows (app_row c.app-row.result.now) c.app-row.ensures c.runs-runs.result
+    (subst (λ o. IfSome o (λ row. c.runs-runs.result ≡ runs_at c.args.inventory.now.rows c.args.app row)) c.app-row.ensures c.runs-runs.ensures) c.args.lanes.now c.requires.start c.enter_at.new.lanes
     c.enter_at.ensures
 
 pub returns : goal.returns
 returns c =
-    entered-twice c.args.app c.args.inventory.now.rows (app_row c.app-row.result.now) c.app-row.ensures c.args.runs
-    (subst (λ o. IfSome o (λ row. c.args.runs ≡ runs_at c.args.inventory.now.rows c.args.app row)) c.app-row.ensures c.requires.runs) c.args.lanes.now c.requires.start c.enter_at.new.lanes
+    entered-twice c.args.app c.args.inventory.now.rows (app_row c.app-row.result.now) c.app-row.ensures c.runs-runs.result
+    (subst (λ o. IfSome o (λ row. c.runs-runs.result ≡ runs_at c.args.inventory.now.rows c.args.app row)) c.app-row.ensures c.runs-runs.ensures) c.args.lanes.now c.requires.start c.enter_at.new.lanes
     c.enter_at.ensures c.if-row-eq0.false c.enter_at-2.new.lanes c.enter_at-2.ensures
