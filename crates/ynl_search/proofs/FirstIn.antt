@@ -1,9 +1,8 @@
 -- The first request that is found in a leaf's lane is the first in the rows that may be placed.
-use Rattle.std.proofs.Common.{◌≡◌, ◌≤◌, ◌⊎◌, ℕ, Bool, true, false, not, ◌&&◌, ◌||◌, cond, nat_eq, List, [], ◌∷◌, map, filter, Option, None, Some, IsSome, is_some, option_map, Contains, inl, inr, refl, sym, ap, subst, ◌∙◌, arith, true≢false}
+use Rattle.std.proofs.Common.{◌≡◌, ◌≤◌, ◌⊎◌, ℕ, Bool, true, false, not, ◌&&◌, ◌||◌, cond, nat_eq, List, [], ◌∷◌, map, filter, Option, None, Some, IsSome, is_some, option_map, inl, inr, refl, sym, ap, subst, ◌∙◌, arith, true≢false}
 use Rattle.std.specs.Cmp.Lexicographic.{slice_cmp}
-use Rattle.std.specs.List.{AllByRecursion}
 use Rattle.std.specs.Map.{lookup}
-use Rattle.std.specs.Option.{option_and_then, option_map_or, option_or}
+use Rattle.std.specs.Option.{option_and_then, option_or}
 use Rattle.std.specs.Ordering.{is_gt, nat_cmp}
 use Rattle.std.proofs.lemmas.Bool.{and_from, and_parts, or_right}
 use Rattle.std.proofs.lemmas.Bool.Decides.{nat_tests}
@@ -12,25 +11,21 @@ use Rattle.ynl_resource.specs.Amounts.{fits_in, plus}
 use Rattle.ynl_resource.specs.declared.amounts.Resource.{Resource}
 use Rattle.ynl_limits.specs.Limits.{limit_of}
 use Rattle.ynl_model.specs.Service.{Item}
-use Rattle.ynl_slots.specs.Slots.{HasDistinctNumbers}
 use Rattle.ynl_app_table.specs.declared.asks.Ask.{Ask}
-use Rattle.ynl_container_table.specs.declared.container.Role.{Role}
-use Rattle.ynl_container_table.specs.declared.container.Role.TheVariants.{Master, Ask as Asked}
 use Rattle.ynl_lane.specs.declared.kinds.Kind.TheVariants as kind
 use Rattle.ynl_lane.specs.Seats.{Seat, first_given, given}
 use Rattle.ynl_inventory.specs.Rows.{Rows, AppRow}
 use Rattle.ynl_inventory.specs.Apps.{is_master_role, runs_at}
-use Rattle.ynl_seating.specs.Seating.{figures_of, seat_of, seats_of, shares, sits, ticket_on, user_use}
-use Rattle.ynl_requests.specs.First.{Asker, IsFirstPassing, IsNotAfter, IsPassing, rank_of, ranks_after}
+use Rattle.ynl_seating.specs.Seating.{figures_of, seat_of, seats_of, shares, sits, user_use}
+use Rattle.ynl_requests.specs.First.{Asker, IsFirstPassing, IsNotAfter, IsPassing, ranks_after}
 use Rattle.ynl_requests.specs.Requests.{Request, ask_request, asked, item_for, master_request, master_wanted, wanted}
 use Rattle.ynl_requests.proofs.Members.{Among, among-contained, among-either, among-filter, among-map, contained-among, each-among, filter-among, left-among, map-among, right-among}
 use Rattle.ynl_requests.proofs.Order.{Precedes, precedes-place}
 use Rattle.ynl_search.specs.declared.found.Found.{Found}
 use Rattle.ynl_search.specs.declared.leaf.LeafTests.{LeafTests}
-use Rattle.ynl_search.specs.InLeaf.{IsLaneOf, IsSizedRow, first_own, first_within, found_ask, found_master, gives_ask, gives_master, is_open_to}
+use Rattle.ynl_search.specs.InLeaf.{IsLaneOf, first_own, first_within, found_ask, found_master, gives_ask, gives_master, is_open_to}
 use Rattle.ynl_search.specs.Leaves.{most_of, passes_ask, passes_master, room_of}
 use Rattle.ynl_search.specs.Lowest.{lowest}
-use Rattle.ynl_search.specs.Places.{allows}
 use Rattle.ynl_search.proofs.FirstOver.{AreExclusive, IsFirstAt, either, first-either, first-none, first-some, found_of}
 use Rattle.ynl_search.proofs.LowestAsk.{IsLowest, lowest-is, lowest-none}
 use Rattle.ynl_search.proofs.SeatGiven.{ask-given, ask-is, found-among, among-found, master-given, master-is}
@@ -167,8 +162,7 @@ module _ (v : Rows) (p q : ℕ) (seats : List (ℕ × Seat)) (is : IsLaneOf v p 
               let here = conditional r (runs_at v n row) (map ask_request (filter (λ ask. nat_eq ask.partition p) row.asks)) there in
               let own = among-map ask_request r (filter (λ ask. nat_eq ask.partition p) row.asks) here.1 in
               let for_p = among-filter (λ ask. nat_eq ask.partition p) own.0 row.asks own.1 in
-              inr
-              (
+              inr (
                 here.0,
                 (
                   own.0,
@@ -188,7 +182,7 @@ module _ (v : Rows) (p q : ℕ) (seats : List (ℕ × Seat)) (is : IsLaneOf v p 
               → IsSome (either masters asks (seat (n, row)).1)
           from (inl (waits, same, passes)) =
               let given_master : masters (seat (n, row)).1 ≡ Some (found_master n row) =
-                    master-here ∙ (λ i. cond (waits i) (cond (passes i) (Some (found_master n row)) None) None) in
+              master-here ∙ (λ i. cond (waits i) (cond (passes i) (Some (found_master n row)) None) None) in
               ap is_some (λ i. option_or (apart (ap is_some given_master) i) (given_master i))
           from (inr (runs, (ask, there, same, opens))) = at (lowest (is_open_to v seats p tests used) row.asks) refl
             where
@@ -196,7 +190,7 @@ module _ (v : Rows) (p q : ℕ) (seats : List (ℕ × Seat)) (is : IsLaneOf v p 
               at None e = absurd (true≢false (sym opens ∙ each-among (λ ask. is_open_to v seats p tests used ask ≡ false) ask row.asks (lowest-none (is_open_to v seats p tests used) row.asks e) there))
               at (Some best) e =
                   let given_ask : asks (seat (n, row)).1 ≡ Some (found_ask n best) =
-                        ask-here ∙ (λ i. cond (runs i) (option_map (found_ask n) (e i)) None) in
+                  ask-here ∙ (λ i. cond (runs i) (option_map (found_ask n) (e i)) None) in
                   ap is_some (ap (λ o. option_or o (masters (seat (n, row)).1)) given_ask)
 
       -- and what is given is one that passes
@@ -208,8 +202,8 @@ module _ (v : Rows) (p q : ℕ) (seats : List (ℕ × Seat)) (is : IsLaneOf v p 
           go true runs (Some best) low waits w passes m =
               let its : IsLowest (is_open_to v seats p tests used) row.asks best = lowest-is (is_open_to v seats p tests used) row.asks best low in
               let same : found_ask n best ≡ x =
-                    same_Some (found_ask n best) x
-                    (sym (ap (λ o. option_or o (masters (seat (n, row)).1)) (ask-here ∙ (λ i. cond (runs i) (option_map (found_ask n) (low i)) None))) ∙ is_given) in
+              same_Some (found_ask n best) x
+              (sym (ap (λ o. option_or o (masters (seat (n, row)).1)) (ask-here ∙ (λ i. cond (runs i) (option_map (found_ask n) (low i)) None))) ∙ is_given) in
               record {
                 request = ask_request best;
                 is_found = sym same;
@@ -234,15 +228,15 @@ module _ (v : Rows) (p q : ℕ) (seats : List (ℕ × Seat)) (is : IsLaneOf v p 
               (none-some x
               (sym
               (λ i. option_or ((ask-here ∙ (λ j. cond (runs j) (option_map (found_ask n) (low j)) None)) i)
-                ((master-here ∙ ap (λ b. cond (not b && nat_eq row.home p) (cond (passes_master tests used row.master) (Some (found_master n row)) None) None) runs) i))
+              ((master-here ∙ ap (λ b. cond (not b && nat_eq row.home p) (cond (passes_master tests used row.master) (Some (found_master n row)) None) None) runs) i))
               ∙ is_given))
           go false runs o low true w true m =
               let same : found_master n row ≡ x =
-                    same_Some (found_master n row) x
-                    (sym
-                    (λ i. option_or ((ask-here ∙ ap (λ b. cond b (option_map (found_ask n) (lowest (is_open_to v seats p tests used) row.asks)) None) runs) i)
-                      ((master-here ∙ (λ j. cond (w j) (cond (m j) (Some (found_master n row)) None) None)) i))
-                    ∙ is_given) in
+              same_Some (found_master n row) x
+              (sym
+              (λ i. option_or ((ask-here ∙ ap (λ b. cond b (option_map (found_ask n) (lowest (is_open_to v seats p tests used) row.asks)) None) runs) i)
+              ((master-here ∙ (λ j. cond (w j) (cond (m j) (Some (found_master n row)) None) None)) i))
+              ∙ is_given) in
               record {
                 request = master_request row;
                 is_found = sym same;
@@ -261,14 +255,14 @@ module _ (v : Rows) (p q : ℕ) (seats : List (ℕ × Seat)) (is : IsLaneOf v p 
               (none-some x
               (sym
               (λ i. option_or ((ask-here ∙ ap (λ b. cond b (option_map (found_ask n) (lowest (is_open_to v seats p tests used) row.asks)) None) runs) i)
-                ((master-here ∙ (λ j. cond (w j) (cond (m j) (Some (found_master n row)) None) None)) i))
+              ((master-here ∙ (λ j. cond (w j) (cond (m j) (Some (found_master n row)) None) None)) i))
               ∙ is_given))
           go false runs o low false w passes m =
               absurd
               (none-some x
               (sym
               (λ i. option_or ((ask-here ∙ ap (λ b. cond b (option_map (found_ask n) (lowest (is_open_to v seats p tests used) row.asks)) None) runs) i)
-                ((master-here ∙ ap (λ b. cond b (cond (passes_master tests used row.master) (Some (found_master n row)) None) None) w) i))
+              ((master-here ∙ ap (λ b. cond b (cond (passes_master tests used row.master) (Some (found_master n row)) None) None) w) i))
               ∙ is_given))
 
     -- ---- over all
@@ -299,8 +293,7 @@ module _ (v : Rows) (p q : ℕ) (seats : List (ℕ × Seat)) (is : IsLaneOf v p 
         let at = first-some keep seat (either masters asks) v.apps found some in
         let first : IsFirstAt keep seat (either masters asks) v.apps found at.0 = at.1 in
         let there = found-among at.0 v.apps is.numbers first.there in
-        let its : IsGiven at.0.0 at.0.1 there first.kept found.1 = given-passing at.0.0 at.0.1 there first.kept found.1 first.given in
-        (
+        let its : IsGiven at.0.0 at.0.1 there first.kept found.1 = given-passing at.0.0 at.0.1 there first.kept found.1 first.given in (
           Some (record { number = at.0.0; row = at.0.1; request = its.request }),
           (
             its.passing,
@@ -317,8 +310,7 @@ module _ (v : Rows) (p q : ℕ) (seats : List (ℕ × Seat)) (is : IsLaneOf v p 
             → IsNotAfter v (wanted v p) test q (record { number = e.0; row = e.1; request = its.request }) other
         not-after e first its other pass (inr before) = inl (precedes-place e.0 other.number v.apps is.numbers before)
         not-after e first its other pass (inl same) =
-            inr
-            (
+            inr (
               ap (λ (o : ℕ × AppRow). o.0) same,
               its.first other.request (subst (λ (o : ℕ × AppRow). Passing (record { number = o.0; row = o.1; request = other.request })) same pass),
             )
@@ -348,12 +340,11 @@ module _ (v : Rows) (p q : ℕ) (seats : List (ℕ × Seat)) (is : IsLaneOf v p 
       go : (o : Option Resource) → room_of tests ≡ o → (a : Option Asker) × IsFirstPassing v (wanted v p) test q a × (option_map found_by a ≡ first_own v seats p tests)
       go None none = (None, shut none, sym (ap (option_and_then (first_within v seats p tests)) none))
       go (Some room) some =
-          let found = over room some (first_given (either (masters room some) (asks room some)) (seats_of (figures_of v) p q v.apps)) refl in
-          (
+          let found = over room some (first_given (either (masters room some) (asks room some)) (seats_of (figures_of v) p q v.apps)) refl in (
             found.0,
             found.1,
             found.2
-            ∙ ap (λ ss. found_of (masters room some) (asks room some) (first_given (either (masters room some) (asks room some)) ss)) (sym is.seats_are)
-            ∙ sym (first-either (masters room some) (asks room some) seats is.distinct (exclusive room some))
-            ∙ sym (ap (option_and_then (first_within v seats p tests)) some),
+                ∙ ap (λ ss. found_of (masters room some) (asks room some) (first_given (either (masters room some) (asks room some)) ss)) (sym is.seats_are)
+                ∙ sym (first-either (masters room some) (asks room some) seats is.distinct (exclusive room some))
+                ∙ sym (ap (option_and_then (first_within v seats p tests)) some),
           )

@@ -1,37 +1,33 @@
 -- What is found in a leaf is the model's first eligible request there.
-use Rattle.std.proofs.Common.{◌≡◌, ◌<◌, ℕ, Bool, true, false, ◌&&◌, ◌||◌, cond, nat_eq, List, [], ◌∷◌, map, filter, Option, None, Some, option_map, refl, sym, ap, subst, ◌∙◌, arith}
+use Rattle.std.proofs.Common.{◌≡◌, ℕ, Bool, true, false, ◌&&◌, ◌||◌, cond, nat_eq, List, [], ◌∷◌, map, filter, Option, None, Some, option_map, refl, sym, ap, subst, ◌∙◌}
 use Rattle.std.specs.Map.{lookup}
 use Rattle.std.specs.Option.{option_and_then}
 use Rattle.ynl_resource.specs.Names.{is_default, same_label}
-use Rattle.ynl_resource.specs.declared.amounts.Resource.{Resource}
 use Rattle.ynl_resource.specs.declared.labels.Label.{Label}
-use Rattle.ynl_resource.specs.declared.labels.Label.TheVariants.{Unlabelled}
 use Rattle.ynl_model.specs.declared.nodes.Node.{Node}
 use Rattle.ynl_model.specs.declared.queues.StopRow.{StopRow}
 use Rattle.ynl_model.specs.declared.queues.MaximumRow.{MaximumRow}
 use Rattle.ynl_model.specs.Applications.{Application, apps_of}
-use Rattle.ynl_model.specs.Cluster.{State, free, is_master_what, user_used}
-use Rattle.ynl_model.specs.Limits.{sharing}
+use Rattle.ynl_model.specs.Cluster.{State, free, user_used}
 use Rattle.ynl_model.specs.Queues.{Config}
-use Rattle.ynl_model.specs.Service.{Item, is_eligible, items_for, key}
+use Rattle.ynl_model.specs.Service.{is_eligible, items_for, key}
 use Rattle.ynl_laws.specs.Descent.{IsBelow}
 use Rattle.ynl_laws.specs.First.{IsFirst, is_later}
 use Rattle.ynl_layout.specs.Paths.{path_at}
 use Rattle.ynl_lane.specs.Seats.{Seat}
 use Rattle.ynl_inventory.specs.Rows.{Rows, AppRow}
-use Rattle.ynl_inventory.specs.Meaning.{app_of, item_of, label_at, state_of, what_of}
+use Rattle.ynl_inventory.specs.Meaning.{app_of, item_of, label_at, state_of}
 use Rattle.ynl_inventory.specs.Sound.{HasPartition, IsLeaf, IsSound}
 use Rattle.ynl_inventory.specs.Apps.{is_master_role}
-use Rattle.ynl_seating.specs.Seating.{shares, sits, sitting, user_use}
+use Rattle.ynl_seating.specs.Seating.{sits, user_use}
 use Rattle.ynl_seating.proofs.Sharing.{are-sharing}
 use Rattle.ynl_seating.proofs.UserUse.{is-user_use}
 use Rattle.ynl_requests.specs.First.{Asker, IsFirstPassing, item_by}
-use Rattle.ynl_requests.specs.Laws.{AreListed, in_leaf}
+use Rattle.ynl_requests.specs.Laws.{AreListed}
 use Rattle.ynl_requests.specs.Requests.{Request, item_for, wanted}
 use Rattle.ynl_requests.proofs.First.{first-means}
 use Rattle.ynl_requests.proofs.Running.{what-master}
 use Rattle.ynl_requests.proofs.Wanted.{wanted-means}
-use Rattle.ynl_search.specs.declared.found.Found.{Found}
 use Rattle.ynl_search.specs.declared.leaf.LeafTests.{LeafTests}
 use Rattle.ynl_search.specs.InLeaf.{IsLaneOf, first_own}
 use Rattle.ynl_search.specs.Laws.{FirstOwnIsModel, item_found}

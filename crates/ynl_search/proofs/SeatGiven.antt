@@ -1,6 +1,5 @@
 -- What a seat of a leaf's lane is given.
-use Rattle.std.proofs.Common.{◌≡◌, ◌<◌, ◌≤◌, ◌⊎◌, ℕ, min, Bool, true, false, not, ◌&&◌, cond, nat_eq, nat_le, List, [], ◌∷◌, map, filter, Option, None, Some, IsSome, is_some, unwrap_or, option_map, inl, inr, refl, sym, ap, subst, ◌∙◌, arith, true≢false}
-use Rattle.std.specs.List.{AllByRecursion}
+use Rattle.std.proofs.Common.{◌≡◌, ◌⊎◌, ℕ, min, Bool, true, false, not, ◌&&◌, cond, nat_eq, nat_le, List, [], ◌∷◌, filter, Option, None, Some, IsSome, unwrap_or, option_map, inl, inr, refl, sym, ap, subst, ◌∙◌, arith, true≢false}
 use Rattle.std.specs.Map.{lookup}
 use Rattle.std.specs.Option.{option_and_then, option_map_or}
 use Rattle.std.proofs.lemmas.Bool.{and_from, and_parts, not-true}
@@ -20,8 +19,7 @@ use Rattle.ynl_lane.specs.Kinds.{of_kind}
 use Rattle.ynl_lane.specs.Seats.{Seat, given, may_have, nothing_waits}
 use Rattle.ynl_inventory.specs.Rows.{Rows, AppRow}
 use Rattle.ynl_inventory.specs.Apps.{runs_at}
-use Rattle.ynl_seating.specs.Seating.{figures_of, least_asked, seat_of, seats_of, shares, sits, ticket_on, user_use, waits_at, waits_of}
-use Rattle.ynl_seating.specs.Laws.{AreMet}
+use Rattle.ynl_seating.specs.Seating.{figures_of, least_asked, seat_of, seats_of, sits, ticket_on, user_use, waits_at}
 use Rattle.ynl_seating.proofs.Leasts.{are-met}
 use Rattle.ynl_requests.proofs.Members.{Among, each-among, filter-among, map-among}
 use Rattle.ynl_search.specs.declared.found.Found.{Found}
@@ -77,8 +75,7 @@ module _ (tests : LeafTests) (room : Resource) (open_to : room_of tests ≡ Some
   bounds : (used size : Resource) → IsSize size → passes_ask tests used size ≡ true → (fits_in size room ≡ true) × (fits_in (plus used size) (most_of tests) ≡ true)
   bounds used size is passes =
       let parts = and_parts (allows tests.headroom size) (fits_in (plus used size) (limit_of tests.limits size)) passes in
-      let fits = (and_parts tests.headroom.is_open (fits_in size tests.headroom.room) parts.0).1 in
-      (
+      let fits = (and_parts tests.headroom.is_open (fits_in size tests.headroom.room) parts.0).1 in (
         ap (fits_in size) (sym (is-room tests.headroom.is_open open_to).1) ∙ fits,
         fits-trans (plus used size) (limit_of tests.limits size) (most_of tests) parts.1
             (limit-grows tests.limits size (smaller_of tests.headroom.room (amount 0xffff_ffff 0xffff_ffff)) (within-largest tests.headroom.room size is fits)),
@@ -173,7 +170,7 @@ module _ (v : Rows) (p q : ℕ) (seats : List (ℕ × Seat)) (are : seats ≡ se
             (ap (λ waits. may_have kind.Ask room (most_of tests) (record its.1 { waits = waits })) waits-are
             ∙ each-among
             (λ ask. ask.partition ≡ p → IsSize ask.size → fits_in ask.size room ≡ true → fits_in (plus used ask.size) (most_of tests) ≡ true
-              → may_have kind.Ask room (most_of tests) (record { app = n; user = row.user; used = used; waits = waits_at v p n row }) ≡ true)
+            → may_have kind.Ask room (most_of tests) (record { app = n; user = row.user; used = used; waits = waits_at v p n row }) ≡ true)
             best row.asks (are-met.ask v n row p r used room (most_of tests)) is.there for_p sized_ask bound.0 bound.1)
         go true r None e =
             ap (cond (may_have kind.Ask room (most_of tests) its.1) (gives_ask v seats p tests n)) (sym nothing) ∙ same (may_have kind.Ask room (most_of tests) its.1) (gives_ask v seats p tests n)

@@ -1,9 +1,9 @@
 -- One step down the tree of queues.
-use Rattle.std.proofs.Common.{◌≡◌, ℕ, Bool, true, false, ◌&&◌, List, [], ◌∷◌, ◌++◌, map, fold, refl, sym, ap, ◌∙◌}
+use Rattle.std.proofs.Common.{◌≡◌, ℕ, Bool, true, false, ◌&&◌, List, [], ◌∷◌, ◌++◌, map, fold, refl, ap, ◌∙◌}
 use Rattle.std.specs.List.{list_all}
 use Rattle.std.proofs.lemmas.List.{map-append}
 use Rattle.std.proofs.lemmas.List.Folds.{list_all-append}
-use Rattle.ynl_resource.specs.Amounts.{fits_in, plus, scale_floor}
+use Rattle.ynl_resource.specs.Amounts.{fits_in, scale_floor}
 use Rattle.ynl_resource.specs.Names.{root, top_level, way_to}
 use Rattle.ynl_resource.specs.Ranges.{whole}
 use Rattle.ynl_resource.specs.declared.amounts.Resource.{Resource}

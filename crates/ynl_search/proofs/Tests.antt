@@ -1,5 +1,5 @@
 -- The tests of a leaf tell which requests are eligible.
-use Rattle.std.proofs.Common.{◌≡◌, ℕ, Bool, true, false, not, ◌&&◌, ◌||◌, cond, List, length, filter, [], ◌∷◌, refl, sym, ap, ◌∙◌, arith}
+use Rattle.std.proofs.Common.{◌≡◌, Bool, true, false, not, ◌&&◌, ◌||◌, cond, List, length, filter, [], ◌∷◌, refl, sym, ap, ◌∙◌, arith}
 use Rattle.std.specs.Prelude.{nat_lt}
 use Rattle.std.specs.List.{list_any}
 use Rattle.std.proofs.lemmas.Bool.Decides.{nat_tests}
@@ -8,7 +8,7 @@ use Rattle.ynl_resource.specs.declared.amounts.Resource.{Resource}
 use Rattle.ynl_resource.specs.declared.labels.Label.{Label}
 use Rattle.ynl_resource.specs.declared.paths.Path.{Path}
 use Rattle.ynl_model.specs.Queues.{Config}
-use Rattle.ynl_model.specs.Cluster.{State, free, is_master, counted, is_master_what, masters_used, user_used}
+use Rattle.ynl_model.specs.Cluster.{State, free, is_master_what, masters_used, user_used}
 use Rattle.ynl_model.specs.Limits.{master_limit, user_limit}
 use Rattle.ynl_model.specs.Service.{Item, has_room, is_eligible, no_master_in, within_master_share, within_maximum, within_user_limit}
 use Rattle.ynl_model.specs.declared.nodes.Node.{Node}
@@ -17,7 +17,7 @@ use Rattle.ynl_model.specs.declared.proposals.What.TheVariants.{Master, Ask as A
 use Rattle.ynl_limits.specs.Limits.{limit_of}
 use Rattle.ynl_search.specs.declared.leaf.LeafTests.{LeafTests}
 use Rattle.ynl_search.specs.Leaves.{AreTests, TestsTell, passes, passes_ask, passes_master}
-use Rattle.ynl_search.specs.Places.{allows, can_take, keeps_maximum}
+use Rattle.ynl_search.specs.Places.{allows, can_take}
 
 module _ (c : Config) (s : State) (label : Label) (leaf : Path) (tests : LeafTests) where
   module _ (node : Node) (item : Item) (are : AreTests c s label (free s node) leaf tests) (there : node.label ≡ label) (of : item.leaf ≡ leaf) where

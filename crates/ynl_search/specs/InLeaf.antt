@@ -7,7 +7,6 @@ use Rattle.ynl_resource.specs.Amounts.{IsSize}
 use Rattle.ynl_resource.specs.declared.amounts.Resource.{Resource}
 use Rattle.ynl_app_table.specs.declared.asks.Ask.{Ask}
 use Rattle.ynl_container_table.specs.declared.container.Role.TheVariants.{Master, Ask as Asked}
-use Rattle.ynl_lane.specs.declared.kinds.Kind.{Kind}
 use Rattle.ynl_lane.specs.declared.kinds.Kind.TheVariants as kind
 use Rattle.ynl_lane.specs.Seats.{Seat, first_given, given, seats_up_to}
 use Rattle.ynl_inventory.specs.Rows.{Rows, AppRow}

@@ -1,5 +1,5 @@
 -- What is found in a leaf is the model's first request there.
-use Rattle.std.specs.Prelude.{◌≡◌, ℕ, List, Option, Some, option_map, nat_eq}
+use Rattle.std.specs.Prelude.{◌≡◌, ℕ, List, Option, option_map, nat_eq}
 use Rattle.std.specs.Map.{lookup}
 use Rattle.std.specs.Option.{option_and_then}
 use Rattle.ynl_model.specs.declared.nodes.Node.{Node}

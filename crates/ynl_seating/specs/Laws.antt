@@ -1,19 +1,16 @@
 -- What the seats are in the model, and which changes of the rows leave them.
-use Rattle.std.specs.Prelude.{◌≡◌, ◌≢◌, ℕ, ◌<◌, max, false, true, ◌&&◌, nat_eq, List, [], ◌∷◌, fold, map, length, replicate, slice_index_or, Some, unwrap_or, if◌then◌else◌}
+use Rattle.std.specs.Prelude.{◌≡◌, ◌≢◌, ℕ, ◌<◌, max, false, true, nat_eq, List, [], ◌∷◌, map, length, replicate, slice_index_or, Some, unwrap_or}
 use Rattle.std.specs.List.{AllByRecursion}
 use Rattle.std.specs.Map.{lookup}
-use Rattle.ynl_resource.specs.Amounts.{fits_in, IsSize, plus, smaller_of, total_of}
-use Rattle.ynl_resource.specs.Names.{root, same_label}
+use Rattle.ynl_resource.specs.Amounts.{fits_in, IsSize, plus, total_of}
+use Rattle.ynl_resource.specs.Names.{root}
 use Rattle.ynl_resource.specs.declared.amounts.Resource.{Resource}
-use Rattle.ynl_resource.specs.declared.labels.Label.{Label}
 use Rattle.ynl_resource.specs.declared.names.Name.{Name}
 use Rattle.ynl_model.specs.declared.queues.StopRow.{StopRow}
 use Rattle.ynl_model.specs.declared.queues.MaximumRow.{MaximumRow}
-use Rattle.ynl_model.specs.Applications.{Application}
-use Rattle.ynl_model.specs.Cluster.{State, runs, used, user_used, waits}
+use Rattle.ynl_model.specs.Cluster.{used, user_used}
 use Rattle.ynl_model.specs.Limits.{sharing, users}
 use Rattle.ynl_model.specs.Queues.{Config}
-use Rattle.ynl_model.specs.Service.{Item, asks_of}
 use Rattle.ynl_slots.specs.Slots.{IsUnused}
 use Rattle.ynl_app_table.specs.declared.asks.Ask.{Ask}
 use Rattle.ynl_layout.specs.Paths.{HasNumber, path_at}

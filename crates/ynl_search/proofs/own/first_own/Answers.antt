@@ -1,5 +1,5 @@
 -- What was found first has the ticket of a seat.
-use Rattle.std.proofs.Common.{◌≡◌, ℕ, Option, IfSome, sym, subst}
+use Rattle.std.proofs.Common.{ℕ, Option, IfSome, sym, subst}
 use Rattle.ynl_lane.specs.declared.kinds.Kind.TheVariants as kind
 use Rattle.ynl_lane.specs.Seats.{IsSeat, given}
 use Rattle.ynl_search.specs.InLeaf.{gives_master}

@@ -1,9 +1,7 @@
-use Rattle.std.proofs.Common.{◌≡◌, sym, ap, ◌∙◌}
+use Rattle.std.proofs.Common.{sym, ◌∙◌}
 use Rattle.std.specs.Prelude.{◌&&◌}
 use Rattle.ynl_resource.specs.Amounts.{fits_in, plus, scale_floor}
 use Rattle.ynl_resource.specs.Ranges.{whole}
-use Rattle.ynl_laws.specs.Decided.{below}
-use Rattle.ynl_search.specs.Places.{allows, keeps_maximum}
 use Rattle.ynl_search.proofs.Steps.{guaranteed-below, maximum-below, take-below}
 use Rattle.ynl_search.proofs.place.Place.below.Goals as goal
 

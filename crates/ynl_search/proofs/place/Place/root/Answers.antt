@@ -1,4 +1,4 @@
-use Rattle.std.proofs.Common.{◌≡◌, sym, ap, ◌∙◌}
+use Rattle.std.proofs.Common.{sym, ◌∙◌}
 use Rattle.std.specs.Prelude.{◌&&◌}
 use Rattle.ynl_resource.specs.Amounts.{fits_in, plus}
 use Rattle.ynl_search.proofs.Steps.{guaranteed-root, maximum-root, take-root}
