@@ -62,7 +62,8 @@ impl Submissions {
     pub fn next_turn(&self) -> u32
         ensures { result ≡ length self.now.entries }
     {
-        self.by_name.len() as u32
+        let count = self.by_name.len();
+        count as u32
     }
 
     /// Reserves room for one more submission. It fails if memory is refused, and after 2^32 - 1 submissions.
