@@ -2,3 +2,8 @@ pub mod Lines
 pub mod Opening
 pub mod Reading
 pub mod Setting
+pub mod Users
+pub mod Sizes
+pub mod Placing
+pub mod Ending
+pub mod Joining

@@ -1,24 +1,31 @@
 //! A cluster: all its parts together.
 
-ghost use Rattle.std.specs.Prelude.{◌≡◌, ◌<◌, IfOk, length};
+ghost use Rattle.std.specs.Prelude.{◌≡◌, ◌<◌, false, length, None, Some, IfOk, IsSome, OnErr, OnOk};
 ghost use Rattle.ynl_model.specs.Cluster.{guaranteed, maximum, opening, total};
 ghost use Rattle.ynl_model.specs.Nodes.{is_full, nodes_of};
 ghost use Rattle.ynl_model.specs.Queues.{accepts, set_maximum, set_stop};
+ghost use Rattle.ynl_model.specs.Changes.{end, node_joins, place};
 ghost use Rattle.ynl_laws.specs.Uses.{use_of};
 ghost use Rattle.ynl_layout.specs.Paths.{HasNumber};
-ghost use Rattle.ynl_inventory.specs.Sound.{HasPartition};
+ghost use Rattle.ynl_slots.specs.Slots.{IsUnused};
+ghost use Rattle.ynl_inventory.specs.Changes.{partition_of_node, with_ended, with_joined, with_placed};
+ghost use Rattle.ynl_inventory.specs.Meaning.{item_of, node_number, node_of, placed_of};
+ghost use Rattle.ynl_inventory.specs.Parts.{CanPlace, LeavesRoom, containers_of, held_at};
+ghost use Rattle.ynl_inventory.specs.Sound.{HasPartition, IsPlaceable};
 ghost use Rattle.ynl_seating.specs.Seating.{AreSeated};
 ghost use Rattle.ynl_cluster.specs.Cluster.{held_in, label_of, path_of, state_in, IsCell};
 
 use crate::ways::way_to;
 use std::alloc::{AllocError, Global};
 use std::marker::Model;
-use ynl_inventory::Inventory;
+use ynl_container_table::Container;
+use ynl_inventory::{Inventory, Placement};
 use ynl_lane_table::Lanes;
-use ynl_ledger::Totals;
+use ynl_ledger::{Totals, tally_of};
 use ynl_model::Use;
 use ynl_queues::Config;
-use ynl_resource::{Hundredths, Resource};
+use ynl_resource::{Hundredths, Name, Resource, Size};
+use ynl_seating::{follow_end, follow_placement};
 use ynl_settings::{Shares, Stops};
 use ynl_uses::Uses;
 
@@ -182,5 +189,80 @@ impl Cluster {
         } }
     {
         self.shares.set_maximum(p as usize, queue, share);
+    }
+
+    /// A container is placed on a node. It returns the container's number in the node's partition. It takes no memory.
+    pub fn place(&mut self, placed: &Placement) -> u32
+        requires { CanPlace (held_in self.old) placed.now }
+        ensures rows { self.new ≡ record self.old {
+          rows = with_placed result
+            placed.now.node placed.now.app placed.now.role placed.now.size self.old.rows;
+          rooms = self.new.rooms;
+        } }
+        ensures unused { IsUnused result (containers_of self.old.rows
+            (partition_of_node self.old.rows.nodes placed.now.node)) }
+        ensures rooms { LeavesRoom (partition_of_node self.old.rows.nodes placed.now.node) 1
+            self.old.rooms self.new.rooms }
+        ensures state {
+            (can : IsPlaceable self.old.rows placed.now.node placed.now.app placed.now.role)
+            → state_in self.new ≡ place self.old.config
+            (node_of self.old.rows.partitions can.node_row)
+            (item_of self.old.rows can.app_row placed.now.role placed.now.size)
+            (state_in self.old) }
+    {
+        let app = self.inventory.app(placed.app);
+        let line = self.inventory.layout().line(app.leaf as usize);
+        let node = self.inventory.node(placed.node);
+        let p = node.partition;
+        // Opens the size, which is one that requests may have.
+        let _size = placed.size.amount();
+        self.uses.raise(p as usize, line, &tally_of(p, placed.role, placed.size));
+        let number = self.inventory.place(placed);
+        let runs = self.inventory.runs(placed.app);
+        follow_placement(&self.inventory, &mut self.lanes, p, placed, runs);
+        number
+    }
+
+    /// The container under a number in a partition ends. It takes no memory.
+    pub fn end(&mut self, p: u8, number: u32) -> Container
+        requires { IsSome (held_at self.old.rows p number) }
+        ensures value { held_at self.old.rows p number ≡ Some result }
+        ensures rows { self.new ≡ record self.old {
+          rows = with_ended p number result.node self.old.rows;
+          rooms = self.new.rooms;
+        } }
+        ensures rooms { LeavesRoom p 0 self.old.rooms self.new.rooms }
+        ensures state { state_in self.new ≡ end self.old.config (state_in self.old)
+            (placed_of self.old.rows (label_of self.old p) result) }
+    {
+        let held = self.inventory.container(p, number);
+        let app = self.inventory.app(held.app);
+        let line = self.inventory.layout().line(app.leaf as usize);
+        self.uses.lower(p as usize, line, &tally_of(p, held.role, held.size));
+        let ended = self.inventory.end(p, number);
+        let runs = self.inventory.runs(ended.app);
+        follow_end(&self.inventory, &mut self.lanes, p, &ended, runs);
+        ended
+    }
+
+    /// A node of a new name joins a partition that is not full, with all of it free. It returns the node's number. It fails
+    /// where `Inventory::join` does.
+    pub fn join(&mut self, name: &Name, p: u8, size: Size) -> Result<u32, AllocError>
+        requires partition { HasPartition self.old.rows p }
+        requires new { node_number name.now self.old.rows.nodes ≡ None }
+        requires few { is_full (state_in self.old).nodes (label_of self.old p) ≡ false }
+        ensures ok { IfOk result (λ n. self.new ≡ record self.old {
+          rows = with_joined n name.now p size self.old.rows;
+        }) }
+        ensures unused { IfOk result (λ n. IsUnused n self.old.rows.nodes) }
+        ensures state { OnOk result (state_in self.new ≡ node_joins self.old.config
+            name.now (label_of self.old p) size (state_in self.old)) }
+        ensures err { OnErr result (self.new ≡ self.old) }
+    {
+        // Opens the size, which is one that nodes may have.
+        let _amount = size.amount();
+        let number = self.inventory.join(name, p, size)?;
+        self.totals.add(p as usize, size);
+        Ok(number)
     }
 }
