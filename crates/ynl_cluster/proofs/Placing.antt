@@ -32,7 +32,7 @@ use Rattle.ynl_ledger.specs.Ledger.{totals_in, uses_in, IsBounded}
 use Rattle.ynl_ledger.proofs.Bounded.{placing as bounded-placing}
 use Rattle.ynl_ledger.proofs.Sums.{changed-totals}
 use Rattle.ynl_seating.specs.Seating.{shares, user_use, AreSeated}
-use Rattle.ynl_seating.specs.Steps.{IsPlaced, MayStand}
+use Rattle.ynl_seating.specs.Steps.{IsPlaced}
 use Rattle.ynl_cluster.specs.declared.cluster.Cluster.TheInside.{Inside}
 use Rattle.ynl_cluster.specs.Cluster.{ClusterView, held_in, maxima_in, state_in, stops_in}
 use Rattle.ynl_cluster.specs.Whole.{view_of, AreParts, AskSizes, IsCluster}
@@ -49,28 +49,6 @@ module _ (v : Rows) (node app : ℕ) (role : Role) (can : IsPlaceable v node app
 
   own-containers : containers_of v (partition_of_node v.nodes node) ≡ can.partition.containers
   own-containers = ap (λ o. option_map_or (λ (row : PartitionRow). row.containers) o []) there
-
--- where what is asked for is asked for the application shares
-asked-shares : (row : AppRow) (asked : ℕ) → IsAskedOn row.home asked → shares asked row ≡ true
-asked-shares row asked (inl home) = or_right (nat_eq asked 0) (nat_eq row.home asked) (ap (nat_eq row.home) home ∙ itself row.home)
-asked-shares row asked (inr default) = or_left (nat_eq asked 0) (nat_eq row.home asked) (ap (λ m. nat_eq m 0) default)
-
--- what may be placed may stand there
-may-stand : (v : Rows) → IsSound v → (node app : ℕ) (role : Role) → (can : IsPlaceable v node app role) → MayStand (partition_of_node v.nodes node) can.app_row role
-may-stand v sound node app role can = subst (λ p. MayStand p can.app_row role) (stands v node app role can) (go role can.role)
-  where
-    go : (r : Role) → CanTake v app can.node_row.partition can.partition.guests can.app_row r → MayStand can.node_row.partition can.app_row r
-    go Master takes = sym takes.0
-    go (Asked asked priority) takes = (
-      asked-shares can.app_row asked
-          (ask-there (IsAskedOn can.app_row.home) asked priority can.app_row.asks
-          (all_from (λ (ask : Ask). IsAskedOn can.app_row.home ask.partition) can.app_row.asks (sound.apps app can.app_row can.app_found).asked) takes.0),
-      where_from takes.1,
-    )
-      where
-        where_from : ((asked ≡ can.node_row.partition) ⊎ ((asked ≡ 0) × (can.partition.guests ≡ true))) → ((can.node_row.partition ≡ asked) ⊎ (asked ≡ 0))
-        where_from (inl own) = inl (sym own)
-        where_from (inr guest) = inr guest.0
 
 module _ (a : Inside) (is : IsCluster a) (w : ClusterView) (view : view_of a ≡ w) (placed : Placement) (required : CanPlace (held_in w) placed) where
   abbrev v : Rows
@@ -136,7 +114,7 @@ module _ (a : Inside) (is : IsCluster a) (w : ClusterView) (view : view_of a ≡
       number = number;
       rows = rows;
       can = can;
-      stands = may-stand v is.parts.sound placed.node placed.app placed.role can;
+      sound = is.parts.sound;
       seated = is.parts.seated;
     }
 

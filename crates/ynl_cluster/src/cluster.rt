@@ -218,8 +218,7 @@ impl Cluster {
         let _size = placed.size.amount();
         self.uses.raise(p as usize, line, &tally_of(p, placed.role, placed.size));
         let number = self.inventory.place(placed);
-        let runs = self.inventory.runs(placed.app);
-        follow_placement(&self.inventory, &mut self.lanes, p, placed, runs);
+        follow_placement(&self.inventory, &mut self.lanes, p, placed);
         number
     }
 
@@ -240,8 +239,7 @@ impl Cluster {
         let line = self.inventory.layout().line(app.leaf as usize);
         self.uses.lower(p as usize, line, &tally_of(p, held.role, held.size));
         let ended = self.inventory.end(p, number);
-        let runs = self.inventory.runs(ended.app);
-        follow_end(&self.inventory, &mut self.lanes, p, &ended, runs);
+        follow_end(&self.inventory, &mut self.lanes, p, &ended);
         ended
     }
 

@@ -33,10 +33,6 @@ lower-requires-clause-inside c =
 pub end-ended-requires : goal.end-ended-requires
 end-ended-requires c = held-in c.self.inside c.args.self.now c.self.view_is c.args.p c.args.number c.requires
 
-pub runs-runs-requires : goal.runs-runs-requires
-runs-runs-requires c =
-    live-after c.self.inside c.self.invariant c.args.self.now c.self.view_is c.args.p c.args.number c.end-ended.result c.end-ended.ensures.value c.end-ended.new.self.rows c.end-ended.ensures.rows
-
 pub follow_end-requires-clause-live : goal.follow_end-requires-clause-live
 follow_end-requires-clause-live c =
     live-after c.self.inside c.self.invariant c.args.self.now c.self.view_is c.args.p c.args.number c.end-ended.result c.end-ended.ensures.value c.end-ended.new.self.rows c.end-ended.ensures.rows

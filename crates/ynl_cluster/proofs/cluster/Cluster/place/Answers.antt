@@ -40,11 +40,6 @@ raise-requires-clause-inside c =
 pub place-number-requires : goal.place-number-requires
 place-number-requires c = may c.self.inside c.self.invariant c.args.self.now c.self.view_is c.args.placed.now c.requires
 
-pub runs-runs-requires : goal.runs-runs-requires
-runs-runs-requires c =
-    live-after c.self.inside c.self.invariant c.args.self.now c.self.view_is c.args.placed.now c.requires c.place-number.result c.place-number.ensures.unused c.place-number.new.self.rows c.place-number.ensures.rows
-    c.amount-size.ensures.range
-
 pub follow_placement-requires-clause-live : goal.follow_placement-requires-clause-live
 follow_placement-requires-clause-live c =
     live-after c.self.inside c.self.invariant c.args.self.now c.self.view_is c.args.placed.now c.requires c.place-number.result c.place-number.ensures.unused c.place-number.new.self.rows c.place-number.ensures.rows
