@@ -138,23 +138,26 @@ module _ (v : Rows) (p q : ℕ) (seats : List (ℕ × Seat)) (is : IsLaneOf v p 
             passes = tell n row found (sits-parts row sitting).0 (ask_request ask) ∙ parts.1;
           }
 
-      -- a request that passes is the master, or an ask that is open
-      of-passing : (r : Request) → Passing (record { number = n; row = row; request = r })
-          → (((not (runs_at v n row) && nat_eq row.home p) ≡ true) × (r ≡ master_request row) × (passes_master tests used row.master ≡ true))
+      -- a request is the master that waits, and passes, or an ask of one that runs, and is open
+      abbrev IsMasterOrAsk : Request → Type 0
+      IsMasterOrAsk r =
+          (((not (runs_at v n row) && nat_eq row.home p) ≡ true) × (r ≡ master_request row) × (passes_master tests used row.master ≡ true))
           ⊎ ((runs_at v n row ≡ true) × ((ask : Ask) × Among ask row.asks × (r ≡ ask_request ask) × (is_open_to v seats p tests used ask ≡ true)))
+
+      -- so is each request that passes
+      of-passing : (r : Request) → Passing (record { number = n; row = row; request = r })
+          → IsMasterOrAsk r
       of-passing r pass = from (among-either r (master_wanted v p n row) (asked v p n row) (among-contained r (wanted v p n row) pass.there))
         where
           tested : cond (is_master_role r.role) (passes_master tests used r.size) (passes_ask tests used r.size) ≡ true
           tested = sym (tell n row found (sits-parts row sitting).0 r) ∙ pass.passes
 
           from : Among r (master_wanted v p n row) ⊎ Among r (asked v p n row)
-              → (((not (runs_at v n row) && nat_eq row.home p) ≡ true) × (r ≡ master_request row) × (passes_master tests used row.master ≡ true))
-              ⊎ ((runs_at v n row ≡ true) × ((ask : Ask) × Among ask row.asks × (r ≡ ask_request ask) × (is_open_to v seats p tests used ask ≡ true)))
+              → IsMasterOrAsk r
           from (inl there) = at (conditional r (not (runs_at v n row) && nat_eq row.home p) (master_request row ∷ []) there)
             where
               at : ((not (runs_at v n row) && nat_eq row.home p) ≡ true) × Among r (master_request row ∷ [])
-                  → (((not (runs_at v n row) && nat_eq row.home p) ≡ true) × (r ≡ master_request row) × (passes_master tests used row.master ≡ true))
-                  ⊎ ((runs_at v n row ≡ true) × ((ask : Ask) × Among ask row.asks × (r ≡ ask_request ask) × (is_open_to v seats p tests used ask ≡ true)))
+                  → IsMasterOrAsk r
               at (holds, inr none) = absurd none
               at (holds, inl same) =
                   inl (holds, sym same, ap (λ (r : Request). cond (is_master_role r.role) (passes_master tests used r.size) (passes_ask tests used r.size)) same ∙ tested)
@@ -177,8 +180,7 @@ module _ (v : Rows) (p q : ℕ) (seats : List (ℕ × Seat)) (is : IsLaneOf v p 
       passing-given : (r : Request) → Passing (record { number = n; row = row; request = r }) → IsSome (either masters asks (seat (n, row)).1)
       passing-given r pass = from (of-passing r pass)
         where
-          from : (((not (runs_at v n row) && nat_eq row.home p) ≡ true) × (r ≡ master_request row) × (passes_master tests used row.master ≡ true))
-              ⊎ ((runs_at v n row ≡ true) × ((ask : Ask) × Among ask row.asks × (r ≡ ask_request ask) × (is_open_to v seats p tests used ask ≡ true)))
+          from : IsMasterOrAsk r
               → IsSome (either masters asks (seat (n, row)).1)
           from (inl (waits, same, passes)) =
               let given_master : masters (seat (n, row)).1 ≡ Some (found_master n row) =
@@ -212,8 +214,7 @@ module _ (v : Rows) (p q : ℕ) (seats : List (ℕ × Seat)) (is : IsLaneOf v p 
               }
             where
               ranked : (other : Request)
-                  → (((not (runs_at v n row) && nat_eq row.home p) ≡ true) × (other ≡ master_request row) × (passes_master tests used row.master ≡ true))
-                  ⊎ ((runs_at v n row ≡ true) × ((ask : Ask) × Among ask row.asks × (other ≡ ask_request ask) × (is_open_to v seats p tests used ask ≡ true)))
+                  → IsMasterOrAsk other
                   → ranks_after (ask_request best) other ≡ false
               ranked other (inl (waiting, same, passing)) = absurd (true≢false (sym waiting ∙ ap (λ b. not b && nat_eq row.home p) runs))
               ranked other (inr (running, (ask, there, same, opens))) =
@@ -245,8 +246,7 @@ module _ (v : Rows) (p q : ℕ) (seats : List (ℕ × Seat)) (is : IsLaneOf v p 
               }
             where
               ranked : (other : Request)
-                  → (((not (runs_at v n row) && nat_eq row.home p) ≡ true) × (other ≡ master_request row) × (passes_master tests used row.master ≡ true))
-                  ⊎ ((runs_at v n row ≡ true) × ((ask : Ask) × Among ask row.asks × (other ≡ ask_request ask) × (is_open_to v seats p tests used ask ≡ true)))
+                  → IsMasterOrAsk other
                   → ranks_after (master_request row) other ≡ false
               ranked other (inl (waiting, same, passing)) = ap (ranks_after (master_request row)) same
               ranked other (inr (running, rest)) = absurd (true≢false (sym running ∙ runs))
