@@ -7,3 +7,4 @@ pub mod Sizes
 pub mod Placing
 pub mod Ending
 pub mod Joining
+pub mod Asking

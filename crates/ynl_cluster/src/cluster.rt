@@ -1,23 +1,27 @@
 //! A cluster: all its parts together.
 
-ghost use Rattle.std.specs.Prelude.{◌≡◌, ◌<◌, false, length, None, Some, IfOk, IsSome, OnErr, OnOk};
+ghost use Rattle.std.specs.Prelude.{◌≡◌, ◌<◌, false, length, None, Some, IfOk, IsOk, IsSome, nat_eq, OnErr, OnOk};
+ghost use Rattle.std.specs.Map.{lookup};
 ghost use Rattle.ynl_model.specs.Cluster.{guaranteed, maximum, opening, total};
 ghost use Rattle.ynl_model.specs.Nodes.{is_full, nodes_of};
 ghost use Rattle.ynl_model.specs.Queues.{accepts, set_maximum, set_stop};
+ghost use Rattle.ynl_model.specs.Applications.{in_leaf, set_ask, with_app};
 ghost use Rattle.ynl_model.specs.Changes.{end, node_joins, place};
 ghost use Rattle.ynl_laws.specs.Uses.{use_of};
 ghost use Rattle.ynl_layout.specs.Paths.{HasNumber};
 ghost use Rattle.ynl_slots.specs.Slots.{IsUnused};
-ghost use Rattle.ynl_inventory.specs.Changes.{partition_of_node, with_ended, with_joined, with_placed};
-ghost use Rattle.ynl_inventory.specs.Meaning.{item_of, node_number, node_of, placed_of};
+ghost use Rattle.ynl_inventory.specs.Rows.{AppRow};
+ghost use Rattle.ynl_inventory.specs.Changes.{partition_of_node, with_asked, with_ended, with_joined, with_placed};
+ghost use Rattle.ynl_inventory.specs.Meaning.{app_name, ask_of, item_of, node_number, node_of, placed_of};
 ghost use Rattle.ynl_inventory.specs.Parts.{CanPlace, LeavesRoom, containers_of, held_at};
-ghost use Rattle.ynl_inventory.specs.Sound.{HasPartition, IsPlaceable};
+ghost use Rattle.ynl_inventory.specs.Sound.{CanAsk, HasPartition, IsPlaceable};
 ghost use Rattle.ynl_seating.specs.Seating.{AreSeated};
 ghost use Rattle.ynl_cluster.specs.Cluster.{held_in, label_of, path_of, state_in, IsCell};
 
 use crate::ways::way_to;
 use std::alloc::{AllocError, Global};
 use std::marker::Model;
+use ynl_app_table::Ask;
 use ynl_container_table::Container;
 use ynl_inventory::{Inventory, Placement};
 use ynl_lane_table::Lanes;
@@ -25,7 +29,7 @@ use ynl_ledger::{Totals, tally_of};
 use ynl_model::Use;
 use ynl_queues::Config;
 use ynl_resource::{Hundredths, Name, Resource, Size};
-use ynl_seating::{follow_end, follow_placement};
+use ynl_seating::{enter, follow_end, follow_placement};
 use ynl_settings::{Shares, Stops};
 use ynl_uses::Uses;
 
@@ -264,5 +268,28 @@ impl Cluster {
         let number = self.inventory.join(name, p, size)?;
         self.totals.add(p as usize, size);
         Ok(number)
+    }
+
+    /// An application asks, as `Inventory::ask` says, and fails where that does.
+    pub fn ask(&mut self, app: u32, ask: Ask) -> Result<(), AllocError>
+        requires { CanAsk self.old.rows app ask }
+        ensures ok { OnOk result (self.new ≡ record self.old {
+          rows = with_asked app ask self.old.rows;
+        }) }
+        ensures state { OnOk result ((row : AppRow) → lookup (nat_eq app) self.old.rows.apps ≡ Some row
+            → state_in self.new ≡ record (state_in self.old) {
+            leaves = in_leaf (path_of self.old row.leaf)
+              (with_app (app_name self.old.rows.tenants row.tenant row.turn)
+              (set_ask (ask_of self.old.rows.partitions ask))) (state_in self.old).leaves;
+            }) }
+        ensures err { OnErr result (self.new ≡ self.old) }
+        ensures no_count { ask.count ≡ 0 → IsOk result }
+    {
+        // Opens the size, which is one that requests may have.
+        let _amount = ask.size.amount();
+        self.inventory.ask(app, ask)?;
+        let runs = self.inventory.runs(app);
+        enter(&self.inventory, &mut self.lanes, app, runs);
+        Ok(())
     }
 }
