@@ -8,3 +8,4 @@ pub mod Placing
 pub mod Ending
 pub mod Joining
 pub mod Asking
+pub mod Finishing

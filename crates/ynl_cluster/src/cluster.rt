@@ -1,20 +1,20 @@
 //! A cluster: all its parts together.
 
-ghost use Rattle.std.specs.Prelude.{◌≡◌, ◌<◌, false, length, None, Some, IfOk, IsOk, IsSome, nat_eq, OnErr, OnOk};
+ghost use Rattle.std.specs.Prelude.{◌≡◌, ◌<◌, false, length, None, Some, IfOk, IfSome, IsOk, IsSome, nat_eq, OnErr, OnOk};
 ghost use Rattle.std.specs.Map.{lookup};
 ghost use Rattle.ynl_model.specs.Cluster.{guaranteed, maximum, opening, total};
 ghost use Rattle.ynl_model.specs.Nodes.{is_full, nodes_of};
 ghost use Rattle.ynl_model.specs.Queues.{accepts, set_maximum, set_stop};
-ghost use Rattle.ynl_model.specs.Applications.{in_leaf, set_ask, with_app};
+ghost use Rattle.ynl_model.specs.Applications.{finished, in_leaf, set_ask, with_app};
 ghost use Rattle.ynl_model.specs.Changes.{end, node_joins, place};
 ghost use Rattle.ynl_laws.specs.Uses.{use_of};
 ghost use Rattle.ynl_layout.specs.Paths.{HasNumber};
-ghost use Rattle.ynl_slots.specs.Slots.{IsUnused};
+ghost use Rattle.ynl_slots.specs.Slots.{IsLive, IsUnused};
 ghost use Rattle.ynl_inventory.specs.Rows.{AppRow};
-ghost use Rattle.ynl_inventory.specs.Changes.{partition_of_node, with_asked, with_ended, with_joined, with_placed};
+ghost use Rattle.ynl_inventory.specs.Changes.{partition_of_node, with_app_gone, with_asked, with_ended, with_joined, with_placed};
 ghost use Rattle.ynl_inventory.specs.Meaning.{app_name, ask_of, item_of, node_number, node_of, placed_of};
 ghost use Rattle.ynl_inventory.specs.Parts.{CanPlace, LeavesRoom, containers_of, held_at};
-ghost use Rattle.ynl_inventory.specs.Sound.{CanAsk, HasPartition, IsPlaceable};
+ghost use Rattle.ynl_inventory.specs.Sound.{CanAsk, HasPartition, IsPlaceable, OwnsNoContainers};
 ghost use Rattle.ynl_seating.specs.Seating.{AreSeated};
 ghost use Rattle.ynl_cluster.specs.Cluster.{held_in, label_of, path_of, state_in, IsCell};
 
@@ -29,7 +29,7 @@ use ynl_ledger::{Totals, tally_of};
 use ynl_model::Use;
 use ynl_queues::Config;
 use ynl_resource::{Hundredths, Name, Resource, Size};
-use ynl_seating::{enter, follow_end, follow_placement};
+use ynl_seating::{enter, follow_end, follow_placement, unseat};
 use ynl_settings::{Shares, Stops};
 use ynl_uses::Uses;
 
@@ -291,5 +291,22 @@ impl Cluster {
         let runs = self.inventory.runs(app);
         enter(&self.inventory, &mut self.lanes, app, runs);
         Ok(())
+    }
+
+    /// An application without containers is live no more. Its name stays. It takes no memory.
+    pub fn finish(&mut self, app: u32)
+        requires live { IsLive app self.old.rows.apps }
+        requires empty { OwnsNoContainers self.old.rows app }
+        ensures rows { IfSome (lookup (nat_eq app) self.old.rows.apps) (λ row. self.new
+            ≡ record self.old { rows = with_app_gone app row.tenant row.turn self.old.rows }) }
+        ensures state { (row : AppRow) → lookup (nat_eq app) self.old.rows.apps ≡ Some row
+            → state_in self.new ≡ record (state_in self.old) {
+            leaves = in_leaf (path_of self.old row.leaf)
+              (finished (app_name self.old.rows.tenants row.tenant row.turn))
+              (state_in self.old).leaves;
+            } }
+    {
+        unseat(&self.inventory, &mut self.lanes, app);
+        self.inventory.finish(app);
     }
 }
