@@ -9,3 +9,4 @@ pub mod Ending
 pub mod Joining
 pub mod Asking
 pub mod Finishing
+pub mod Submitting
