@@ -7,3 +7,6 @@ pub mod Sizes
 pub mod Placing
 pub mod Ending
 pub mod Joining
+pub mod Asking
+pub mod Finishing
+pub mod Submitting

@@ -1,12 +1,12 @@
 -- Applications go on asking for amounts that requests may have.
-use Rattle.std.proofs.Common.{◌≡◌, ℕ, Bool, true, false, cond, not, nat_eq, List, [], ◌∷◌, Some, refl, sym, subst}
+use Rattle.std.proofs.Common.{◌≡◌, ◌==◌, ℕ, Bool, true, false, cond, not, nat_eq, List, [], ◌∷◌, Some, refl, sym, subst}
 use Rattle.std.specs.List.{AllByRecursion}
 use Rattle.std.specs.Map.{lookup}
 use Rattle.ynl_resource.specs.Amounts.{IsSize}
-use Rattle.ynl_resource.specs.Tables.{update}
-use Rattle.ynl_laws.proofs.Lists.{Each-filter, Each-update}
+use Rattle.ynl_resource.specs.Tables.{put, update, without}
+use Rattle.ynl_laws.proofs.Lists.{Each-filter, Each-put, Each-update}
 use Rattle.ynl_app_table.specs.declared.asks.Ask.{Ask}
-use Rattle.ynl_app_table.specs.Asks.{is_ask_of, is_spent, lowered}
+use Rattle.ynl_app_table.specs.Asks.{is_ask_of, is_spent, lowered, with_ask}
 use Rattle.ynl_container_table.specs.declared.container.Role.{Role}
 use Rattle.ynl_container_table.specs.declared.container.Role.TheVariants.{Master, Ask as Asked}
 use Rattle.ynl_inventory.specs.Rows.{Rows, AppRow}
@@ -33,3 +33,11 @@ taken-sizes (Asked p priority) row is = record {
       Each-filter (λ (ask : Ask). IsSize ask.size) (λ ask. not (is_spent p priority ask)) (update (is_ask_of p priority) lowered row.asks)
       (Each-update (λ (ask : Ask). IsSize ask.size) (is_ask_of p priority) lowered (λ ask h. h) row.asks is.asks);
 }
+
+-- where it asks for an amount that requests may have
+pub asked-sizes : (ask : Ask) → IsSize ask.size → (row : AppRow) → AsksSizes row → AsksSizes (record row { asks = with_ask ask row.asks })
+asked-sizes ask sized row is = record { master = is.master; asks = go (ask.count == 0) }
+  where
+    go : (b : Bool) → AllByRecursion (λ (ask : Ask). IsSize ask.size) (cond b (without (is_ask_of ask.partition ask.priority) row.asks) (put (is_ask_of ask.partition ask.priority) ask row.asks))
+    go true = Each-filter (λ (ask : Ask). IsSize ask.size) (λ other. not (is_ask_of ask.partition ask.priority other)) row.asks is.asks
+    go false = Each-put (λ (ask : Ask). IsSize ask.size) (is_ask_of ask.partition ask.priority) ask sized row.asks is.asks

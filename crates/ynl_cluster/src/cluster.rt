@@ -1,31 +1,36 @@
 //! A cluster: all its parts together.
 
-ghost use Rattle.std.specs.Prelude.{◌≡◌, ◌<◌, false, length, None, Some, IfOk, IsSome, OnErr, OnOk};
+ghost use Rattle.std.specs.Prelude.{◌≡◌, ◌<◌, false, length, None, Some, IfOk, IfSome, IsOk, IsSome, nat_eq, OnErr, OnOk, slice_index_or, []};
+ghost use Rattle.std.specs.Map.{lookup};
 ghost use Rattle.ynl_model.specs.Cluster.{guaranteed, maximum, opening, total};
 ghost use Rattle.ynl_model.specs.Nodes.{is_full, nodes_of};
 ghost use Rattle.ynl_model.specs.Queues.{accepts, set_maximum, set_stop};
+ghost use Rattle.ynl_model.specs.Applications.{finished, in_leaf, new_app, set_ask, submitted, with_app};
 ghost use Rattle.ynl_model.specs.Changes.{end, node_joins, place};
 ghost use Rattle.ynl_laws.specs.Uses.{use_of};
 ghost use Rattle.ynl_layout.specs.Paths.{HasNumber};
-ghost use Rattle.ynl_slots.specs.Slots.{IsUnused};
-ghost use Rattle.ynl_inventory.specs.Changes.{partition_of_node, with_ended, with_joined, with_placed};
-ghost use Rattle.ynl_inventory.specs.Meaning.{item_of, node_number, node_of, placed_of};
+ghost use Rattle.ynl_slots.specs.Slots.{IsLive, IsUnused};
+ghost use Rattle.ynl_app_table.specs.declared.app.Tickets.{Tickets as TicketPair};
+ghost use Rattle.ynl_inventory.specs.Rows.{AppRow};
+ghost use Rattle.ynl_inventory.specs.Changes.{partition_of_node, with_app_gone, with_asked, with_ended, with_joined, with_placed, with_submitted, with_tickets};
+ghost use Rattle.ynl_inventory.specs.Meaning.{app_name, ask_of, item_of, node_number, node_of, placed_of};
 ghost use Rattle.ynl_inventory.specs.Parts.{CanPlace, LeavesRoom, containers_of, held_at};
-ghost use Rattle.ynl_inventory.specs.Sound.{HasPartition, IsPlaceable};
+ghost use Rattle.ynl_inventory.specs.Sound.{CanAsk, CanSubmit, HasPartition, IsPlaceable, OwnsNoContainers};
 ghost use Rattle.ynl_seating.specs.Seating.{AreSeated};
 ghost use Rattle.ynl_cluster.specs.Cluster.{held_in, label_of, path_of, state_in, IsCell};
 
 use crate::ways::way_to;
 use std::alloc::{AllocError, Global};
 use std::marker::Model;
+use ynl_app_table::Ask;
 use ynl_container_table::Container;
-use ynl_inventory::{Inventory, Placement};
+use ynl_inventory::{Inventory, NewSubmission, Placement};
 use ynl_lane_table::Lanes;
 use ynl_ledger::{Totals, tally_of};
 use ynl_model::Use;
 use ynl_queues::Config;
 use ynl_resource::{Hundredths, Name, Resource, Size};
-use ynl_seating::{follow_end, follow_placement};
+use ynl_seating::{enter, follow_end, follow_placement, reserve, seat, unseat};
 use ynl_settings::{Shares, Stops};
 use ynl_uses::Uses;
 
@@ -262,5 +267,70 @@ impl Cluster {
         let number = self.inventory.join(name, p, size)?;
         self.totals.add(p as usize, size);
         Ok(number)
+    }
+
+    /// An application asks, as `Inventory::ask` says, and fails where that does.
+    pub fn ask(&mut self, app: u32, ask: Ask) -> Result<(), AllocError>
+        requires { CanAsk self.old.rows app ask }
+        ensures ok { OnOk result (self.new ≡ record self.old {
+          rows = with_asked app ask self.old.rows;
+        }) }
+        ensures state { OnOk result ((row : AppRow) → lookup (nat_eq app) self.old.rows.apps ≡ Some row
+            → state_in self.new ≡ record (state_in self.old) {
+            leaves = in_leaf (path_of self.old row.leaf)
+              (with_app (app_name self.old.rows.tenants row.tenant row.turn)
+              (set_ask (ask_of self.old.rows.partitions ask))) (state_in self.old).leaves;
+            }) }
+        ensures err { OnErr result (self.new ≡ self.old) }
+        ensures no_count { ask.count ≡ 0 → IsOk result }
+    {
+        // Opens the size, which is one that requests may have.
+        let _amount = ask.size.amount();
+        self.inventory.ask(app, ask)?;
+        let runs = self.inventory.runs(app);
+        enter(&self.inventory, &mut self.lanes, app, runs);
+        Ok(())
+    }
+
+    /// An application without containers is live no more. Its name stays. It takes no memory.
+    pub fn finish(&mut self, app: u32)
+        requires live { IsLive app self.old.rows.apps }
+        requires empty { OwnsNoContainers self.old.rows app }
+        ensures rows { IfSome (lookup (nat_eq app) self.old.rows.apps) (λ row. self.new
+            ≡ record self.old { rows = with_app_gone app row.tenant row.turn self.old.rows }) }
+        ensures state { (row : AppRow) → lookup (nat_eq app) self.old.rows.apps ≡ Some row
+            → state_in self.new ≡ record (state_in self.old) {
+            leaves = in_leaf (path_of self.old row.leaf)
+              (finished (app_name self.old.rows.tenants row.tenant row.turn))
+              (state_in self.old).leaves;
+            } }
+    {
+        unseat(&self.inventory, &mut self.lanes, app);
+        self.inventory.finish(app);
+    }
+
+    /// An application is submitted. It returns the application's number. All memory is taken first: it fails if that is
+    /// refused, and where `Inventory::submit` and `Lanes::reserve` do.
+    pub fn submit(&mut self, name: &Name, new: &NewSubmission) -> Result<u32, AllocError>
+        requires { CanSubmit self.old.rows name.now new.now }
+        ensures rows { IfOk result (λ app. (tickets : TicketPair) × (self.new ≡ record self.old {
+          rows = with_tickets app tickets (with_submitted app name.now new.now.tenant
+            new.now.leaf new.now.user new.now.home new.now.master_size self.old.rows);
+        })) }
+        ensures unused { IfOk result (λ app. IsUnused app self.old.rows.apps) }
+        ensures state { OnOk result (state_in self.new ≡ record (state_in self.old) {
+          leaves = in_leaf (path_of self.old new.now.leaf)
+            (submitted (new_app (path_of self.old new.now.leaf) name.now
+            (slice_index_or self.old.rows.users new.now.user [])
+            (label_of self.old new.now.home) new.now.master_size)) (state_in self.old).leaves;
+        }) }
+        ensures err { OnErr result (self.new ≡ self.old) }
+    {
+        // Opens the size, which is one that requests may have.
+        let _amount = new.master_size.amount();
+        reserve(&mut self.lanes, new.home, new.leaf, new.user)?;
+        let app = self.inventory.submit(name, new)?;
+        seat(&mut self.inventory, &mut self.lanes, app);
+        Ok(app)
     }
 }
