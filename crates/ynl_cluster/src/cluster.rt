@@ -287,8 +287,7 @@ impl Cluster {
         // Opens the size, which is one that requests may have.
         let _amount = ask.size.amount();
         self.inventory.ask(app, ask)?;
-        let runs = self.inventory.runs(app);
-        enter(&self.inventory, &mut self.lanes, app, runs);
+        enter(&self.inventory, &mut self.lanes, app);
         Ok(())
     }
 

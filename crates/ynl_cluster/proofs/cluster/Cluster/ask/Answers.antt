@@ -2,9 +2,6 @@
 use Rattle.ynl_cluster.proofs.Asking.{lanes-but, live-after, parts-after, state-after}
 use Rattle.ynl_cluster.proofs.cluster.Cluster.ask.Goals as goal
 
-pub runs-runs-requires : goal.runs-runs-requires
-runs-runs-requires c = live-after c.self.inside c.self.invariant c.args.self.now c.self.view_is c.args.app c.args.ask c.requires c.ask.new.self.rows c.in_ok-ask.ensures.ok
-
 pub enter-requires-clause-live : goal.enter-requires-clause-live
 enter-requires-clause-live c = live-after c.self.inside c.self.invariant c.args.self.now c.self.view_is c.args.app c.args.ask c.requires c.ask.new.self.rows c.in_ok-ask.ensures.ok
 
