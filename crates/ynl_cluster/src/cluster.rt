@@ -201,15 +201,14 @@ impl Cluster {
         requires { CanPlace (held_in self.old) placed.now }
         ensures rows { self.new ≡ record self.old {
           rows = with_placed result
-            placed.now.node placed.now.app placed.now.role placed.now.size self.old.rows;
+              placed.now.node placed.now.app placed.now.role placed.now.size self.old.rows;
           rooms = self.new.rooms;
         } }
         ensures unused { IsUnused result (containers_of self.old.rows
             (partition_of_node self.old.rows.nodes placed.now.node)) }
         ensures rooms { LeavesRoom (partition_of_node self.old.rows.nodes placed.now.node) 1
             self.old.rooms self.new.rooms }
-        ensures state {
-            (can : IsPlaceable self.old.rows placed.now.node placed.now.app placed.now.role)
+        ensures state { (can : IsPlaceable self.old.rows placed.now.node placed.now.app placed.now.role)
             → state_in self.new ≡ place self.old.config
             (node_of self.old.rows.partitions can.node_row)
             (item_of self.old.rows can.app_row placed.now.role placed.now.size)
@@ -221,7 +220,8 @@ impl Cluster {
         let p = node.partition;
         // Opens the size, which is one that requests may have.
         let _size = placed.size.amount();
-        self.uses.raise(p as usize, line, &tally_of(p, placed.role, placed.size));
+        self.uses
+            .raise(p as usize, line, &tally_of(p, placed.role, placed.size));
         let number = self.inventory.place(placed);
         follow_placement(&self.inventory, &mut self.lanes, p, placed);
         number
@@ -242,7 +242,8 @@ impl Cluster {
         let held = self.inventory.container(p, number);
         let app = self.inventory.app(held.app);
         let line = self.inventory.layout().line(app.leaf as usize);
-        self.uses.lower(p as usize, line, &tally_of(p, held.role, held.size));
+        self.uses
+            .lower(p as usize, line, &tally_of(p, held.role, held.size));
         let ended = self.inventory.end(p, number);
         follow_end(&self.inventory, &mut self.lanes, p, &ended);
         ended
@@ -277,9 +278,9 @@ impl Cluster {
         }) }
         ensures state { OnOk result ((row : AppRow) → lookup (nat_eq app) self.old.rows.apps ≡ Some row
             → state_in self.new ≡ record (state_in self.old) {
-            leaves = in_leaf (path_of self.old row.leaf)
-              (with_app (app_name self.old.rows.tenants row.tenant row.turn)
-              (set_ask (ask_of self.old.rows.partitions ask))) (state_in self.old).leaves;
+              leaves = in_leaf (path_of self.old row.leaf)
+                  (with_app (app_name self.old.rows.tenants row.tenant row.turn)
+                  (set_ask (ask_of self.old.rows.partitions ask))) (state_in self.old).leaves;
             }) }
         ensures err { OnErr result (self.new ≡ self.old) }
         ensures no_count { ask.count ≡ 0 → IsOk result }
@@ -299,9 +300,9 @@ impl Cluster {
             ≡ record self.old { rows = with_app_gone app row.tenant row.turn self.old.rows }) }
         ensures state { (row : AppRow) → lookup (nat_eq app) self.old.rows.apps ≡ Some row
             → state_in self.new ≡ record (state_in self.old) {
-            leaves = in_leaf (path_of self.old row.leaf)
-              (finished (app_name self.old.rows.tenants row.tenant row.turn))
-              (state_in self.old).leaves;
+              leaves = in_leaf (path_of self.old row.leaf)
+                  (finished (app_name self.old.rows.tenants row.tenant row.turn))
+                  (state_in self.old).leaves;
             } }
     {
         unseat(&self.inventory, &mut self.lanes, app);
@@ -314,14 +315,14 @@ impl Cluster {
         requires { CanSubmit self.old.rows name.now new.now }
         ensures rows { IfOk result (λ app. (tickets : TicketPair) × (self.new ≡ record self.old {
           rows = with_tickets app tickets (with_submitted app name.now new.now.tenant
-            new.now.leaf new.now.user new.now.home new.now.master_size self.old.rows);
+              new.now.leaf new.now.user new.now.home new.now.master_size self.old.rows);
         })) }
         ensures unused { IfOk result (λ app. IsUnused app self.old.rows.apps) }
         ensures state { OnOk result (state_in self.new ≡ record (state_in self.old) {
           leaves = in_leaf (path_of self.old new.now.leaf)
-            (submitted (new_app (path_of self.old new.now.leaf) name.now
-            (slice_index_or self.old.rows.users new.now.user [])
-            (label_of self.old new.now.home) new.now.master_size)) (state_in self.old).leaves;
+              (submitted (new_app (path_of self.old new.now.leaf) name.now
+              (slice_index_or self.old.rows.users new.now.user [])
+              (label_of self.old new.now.home) new.now.master_size)) (state_in self.old).leaves;
         }) }
         ensures err { OnErr result (self.new ≡ self.old) }
     {

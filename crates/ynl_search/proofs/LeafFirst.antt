@@ -49,7 +49,7 @@ module _ (v : Rows) (sound : IsSound v) (stops : List StopRow) (maxima : List Ma
   abbrev s : State
   s = state_of v stops maxima
 
-  listed : AreListed v stops maxima q
+  pub listed : AreListed v stops maxima q
   listed =
       sym (all-kept (λ (app : Application). is_default (label_at v.partitions 0) || same_label app.home (label_at v.partitions 0)) (apps_of s.leaves (path_at v.paths q))
       (λ app. ap (λ l. is_default l || same_label app.home l) sound.default))

@@ -82,7 +82,7 @@ module _ (tests : LeafTests) (room : Resource) (open_to : room_of tests ≡ Some
       )
 
 -- where nothing waits nothing may be had
-none-waits : (k : Kind) (room most : Resource) (seat : Seat) → of_kind k seat.waits ≡ no_size → may_have k room most seat ≡ false
+pub none-waits : (k : Kind) (room most : Resource) (seat : Seat) → of_kind k seat.waits ≡ no_size → may_have k room most seat ≡ false
 none-waits k room most seat is = ap (λ low. not (fits_in no_size low) && fits_in low room && fits_in (plus seat.used low) most) is
 
 -- ---- the seat of an application

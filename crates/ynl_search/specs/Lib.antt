@@ -3,3 +3,4 @@ pub mod Leaves
 pub mod Lowest
 pub mod InLeaf
 pub mod Laws
+pub mod Guests

@@ -1,5 +1,6 @@
 //! What is found in a leaf is the model's first request there.
 
+ghost use Rattle.ynl_search.specs.Guests.{FirstGuestIsModel};
 ghost use Rattle.ynl_search.specs.Laws.{FirstOwnIsModel};
 ghost use Rattle.ynl_search.specs.Leaves.{TestsTell};
 
@@ -11,4 +12,9 @@ pub fn tests_tell_eligible_requests()
 /// What is found in the lane of a leaf is the first of the leaf's requests that are eligible on the node.
 pub fn first_own_is_the_models()
     ensures { FirstOwnIsModel }
+{}
+
+/// What is found in the lane of a leaf on DEFAULT for a guest is the first of the leaf's asks for which the node has room.
+pub fn first_guest_is_the_models()
+    ensures { FirstGuestIsModel }
 {}

@@ -7,6 +7,7 @@ pub use leaf::LeafTests;
 pub use place::{Cell, Place};
 
 mod found;
+mod guests;
 mod headroom;
 pub mod laws;
 mod leaf;

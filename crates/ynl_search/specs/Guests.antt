@@ -1,0 +1,53 @@
+-- What the applications of a leaf are given as guests, by their seats in its lane on DEFAULT.
+use Rattle.std.specs.Prelude.{◌≡◌, ℕ, Bool, ◌&&◌, nat_eq, List, filter, Option, Some, option_map}
+use Rattle.std.specs.Map.{lookup}
+use Rattle.std.specs.Option.{option_and_then}
+use Rattle.ynl_resource.specs.Amounts.{amount, fits_in}
+use Rattle.ynl_resource.specs.declared.amounts.Resource.{Resource}
+use Rattle.ynl_resource.specs.declared.labels.Label.TheVariants.{Unlabelled}
+use Rattle.ynl_model.specs.declared.nodes.Node.{Node}
+use Rattle.ynl_model.specs.declared.queues.StopRow.{StopRow}
+use Rattle.ynl_model.specs.declared.queues.MaximumRow.{MaximumRow}
+use Rattle.ynl_model.specs.Cluster.{free}
+use Rattle.ynl_model.specs.Queues.{Config}
+use Rattle.ynl_model.specs.Service.{asks_for, has_room, key}
+use Rattle.ynl_laws.specs.Descent.{IsBelow}
+use Rattle.ynl_laws.specs.First.{IsFirst, is_later}
+use Rattle.ynl_layout.specs.Paths.{path_at}
+use Rattle.ynl_app_table.specs.declared.asks.Ask.{Ask}
+use Rattle.ynl_lane.specs.Rows.{IsUse}
+use Rattle.ynl_lane.specs.Seats.{Seat, first_given, given}
+use Rattle.ynl_lane.specs.declared.kinds.Kind.TheVariants as kind
+use Rattle.ynl_inventory.specs.Rows.{Rows, AppRow}
+use Rattle.ynl_inventory.specs.Meaning.{state_of}
+use Rattle.ynl_inventory.specs.Sound.{IsLeaf, IsSound}
+use Rattle.ynl_seating.specs.Seating.{user_use}
+use Rattle.ynl_search.specs.declared.found.Found.{Found}
+use Rattle.ynl_search.specs.InLeaf.{IsLaneOf, found_ask}
+use Rattle.ynl_search.specs.Laws.{item_found}
+use Rattle.ynl_search.specs.Lowest.{lowest}
+
+-- more than any user uses: a guest has no limit
+abbrev pub no_limit : Resource
+no_limit = amount 0xffff_ffff_ffff_ffff 0xffff_ffff_ffff_ffff
+
+-- whether an ask is for DEFAULT, and fits in a room
+abbrev pub is_guest_for : Resource → Ask → Bool
+is_guest_for room ask = nat_eq ask.partition 0 && fits_in ask.size room
+
+-- an application is given the ask of the lowest priority number of those
+abbrev pub gives_guest : Rows → Resource → ℕ → Option Found
+gives_guest v room n = option_and_then (λ row. option_map (found_ask n) (lowest (is_guest_for room) row.asks)) (lookup (nat_eq n) v.apps)
+
+-- the first application of the lane that is given one
+abbrev pub first_guest : Rows → List (ℕ × Seat) → Resource → Option Found
+first_guest v seats room = option_map (λ (e : ℕ × Found). e.1) (first_given (given kind.Ask room no_limit (gives_guest v room)) seats)
+
+-- it is the first of the leaf's asks for DEFAULT for which a node has room, by the ratios of any partition
+abbrev pub FirstGuestIsModel : Type 0
+FirstGuestIsModel =
+    (v : Rows) → IsSound v → (stops : List StopRow) (maxima : List MaximumRow) (q : ℕ) → IsLeaf v q → (seats : List (ℕ × Seat)) → IsLaneOf v 0 q seats
+    → ((n : ℕ) (row : AppRow) → lookup (nat_eq n) v.apps ≡ Some row → IsUse (user_use v 0 q row.user)) → (c : Config) (node : Node)
+    → IsFirst (is_later (key c (state_of v stops maxima) Unlabelled))
+    (IsBelow (filter (λ item. has_room (state_of v stops maxima) node item.size) (asks_for (state_of v stops maxima) Unlabelled)) (path_at v.paths q))
+    (option_and_then (item_found v) (first_guest v seats (free (state_of v stops maxima) node)))

@@ -1,0 +1,66 @@
+//! The first guest of a leaf.
+
+ghost use Rattle.std.specs.Prelude.{◌≡◌};
+ghost use Rattle.ynl_resource.specs.Amounts.{fits_in};
+ghost use Rattle.ynl_search.specs.Guests.{first_guest, gives_guest};
+
+use crate::found::Found;
+use crate::lowest::{SizeTest, lowest};
+use ynl_container_table::Role;
+use ynl_inventory::Inventory;
+use ynl_lane::{Kind, Lane, Request};
+use ynl_resource::{Resource, Size};
+
+/// More than any user uses: a guest has no limit.
+const NO_LIMIT: Resource = Resource {
+    memory: u64::MAX,
+    vcores: u64::MAX,
+};
+
+/// Whether a size fits in a room.
+#[derive(Drop)]
+struct FitsIn {
+    room: Resource,
+}
+
+impl SizeTest for FitsIn {
+    ghost passes = { λ t size. fits_in size t.room };
+
+    fn passes(&self, size: &Size) -> bool {
+        size.amount().fits_in(self.room)
+    }
+}
+
+/// The asks of a leaf for DEFAULT that fit in a room.
+#[derive(Drop)]
+struct Guests<'a> {
+    inventory: &'a Inventory,
+    room: Resource,
+}
+
+impl Request<Found> for Guests<'_> {
+    ghost gives = { λ g n. gives_guest g.inventory.now.rows g.room n };
+
+    fn of(&self, app: u32) -> Option<Found> {
+        let row = self.inventory.live_app(app)?;
+        let test = FitsIn { room: self.room };
+        let ask = lowest(row.asks.as_slice(), 0, &test)?;
+        Some(Found {
+            app,
+            role: Role::Ask {
+                partition: ask.partition,
+                priority: ask.priority,
+            },
+            size: ask.size,
+        })
+    }
+}
+
+/// The first ask of a leaf that a node with so much free may take as a guest, by the leaf's lane on DEFAULT.
+pub(crate) fn first_guest(inventory: &Inventory, lane: &Lane, room: Resource) -> Option<Found>
+    ensures { result ≡ first_guest inventory.now.rows lane.now.seats room }
+{
+    let guests = Guests { inventory, room };
+    let (_, found) = lane.first(Kind::Ask, room, NO_LIMIT, &guests, None)?;
+    Some(found)
+}
