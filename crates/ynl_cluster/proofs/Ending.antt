@@ -1,5 +1,6 @@
--- The parts of a cluster after a container ended.
-use Rattle.std.proofs.Common.{◌≡◌, ℕ, ◌<◌, IsSome, List, [], slice_get, nat_eq, Option, Some, None, refl, sym, ap, subst, ◌∙◌, inl}
+-- The parts of a cluster after a container ended, or went with its node.
+use Rattle.std.proofs.Common.{◌≡◌, ℕ, ◌<◌, IsSome, List, [], slice_get, nat_eq, Option, Some, None, refl, sym, ap, subst, ◌∙◌, inl, inr}
+use mathlib.Core.Logic.{◌⊎◌}
 use Rattle.std.specs.Prelude.{IfSome}
 use Rattle.std.specs.Map.{lookup}
 use Rattle.std.specs.Option.{option_and_then, option_map_or}
@@ -12,17 +13,18 @@ use Rattle.ynl_lane.specs.Rows.{IsUse}
 use Rattle.ynl_lane.specs.Seats.{Seats}
 use Rattle.ynl_inventory.specs.Rows.{Rows, PartitionRow}
 use Rattle.ynl_inventory.specs.Apps.{containers_of}
-use Rattle.ynl_inventory.specs.Changes.{next_clock_at, ticked, with_ended}
+use Rattle.ynl_inventory.specs.Changes.{next_clock_at, ticked, with_dropped, with_ended}
 use Rattle.ynl_inventory.specs.Meaning.{placed_of, state_of}
 use Rattle.ynl_inventory.specs.Parts.{held_at}
 use Rattle.ynl_inventory.specs.Sound.{HasPartition, IsFor, IsSound}
+use Rattle.ynl_inventory.proofs.Dropping.{dropped-for, dropped-sound}
 use Rattle.ynl_inventory.proofs.Ending.{ended-for, ended-means, ended-sound}
 use Rattle.ynl_inventory.proofs.Finding.{own-label}
 use Rattle.ynl_inventory.proofs.Lookups.{length-at}
 use Rattle.ynl_ledger.specs.Ledger.{totals_in, uses_in, IsBounded}
-use Rattle.ynl_ledger.proofs.Bounded.{ending}
+use Rattle.ynl_ledger.proofs.Bounded.{dropping, ending}
 use Rattle.ynl_ledger.proofs.Calls.{stands-there}
-use Rattle.ynl_ledger.proofs.Sums.{changed-totals}
+use Rattle.ynl_ledger.proofs.Sums.{changed-totals, dropped-totals}
 use Rattle.ynl_seating.specs.Seating.{user_use, AreSeated}
 use Rattle.ynl_seating.specs.Steps.{IsEnded}
 use Rattle.ynl_cluster.specs.declared.cluster.Cluster.TheInside.{Inside}
@@ -48,25 +50,35 @@ pub held-in : (a : Inside) (w : ClusterView) → view_of a ≡ w → (p number :
 held-in a w view p number = subst (λ (w : ClusterView). IsSome (held_at w.rows p number)) (sym view)
 
 module _ (a : Inside) (is : IsCluster a) (w : ClusterView) (view : view_of a ≡ w) (p number : ℕ) (c : Container) (held : held_at a.inventory.rows p number ≡ Some c)
-    (new : Rows) (rows : new ≡ with_ended p number c.node a.inventory.rows) where
+    (new : Rows) (rows : (new ≡ with_ended p number c.node a.inventory.rows) ⊎ (new ≡ with_dropped p number a.inventory.rows)) where
   abbrev v : Rows
   v = a.inventory.rows
+
+  abbrev dropped : PartitionRow → PartitionRow
+  dropped row = record row { containers = without number row.containers }
 
   at : Stands v p number c
   at = held-stands v p number c held
 
+  -- what is so in both cases
+  either : (P : Rows → Type 0) → P (with_ended p number c.node v) → P (with_dropped p number v) → P new
+  either P ended dropped = elim rows [ inl is ↦ subst P (sym is) ended | inr is ↦ subst P (sym is) dropped ]
+
   sound-after : IsSound new
-  sound-after = subst IsSound (sym rows) (ended-sound v is.parts.sound p at.row at.there number c at.found)
+  sound-after = either IsSound (ended-sound v is.parts.sound p at.row at.there number c at.found) (dropped-sound v is.parts.sound p at.row at.there number)
 
   bounded-after : IsBounded new
-  bounded-after = subst IsBounded (sym rows) (ending v is.parts.bounded p number c.node)
+  bounded-after = either IsBounded (ending v is.parts.bounded p number c.node) (dropping v is.parts.bounded p number)
 
   -- its application goes on
   pub live-after : IsLive c.app new.apps
-  live-after = subst (λ (v : Rows). IsLive c.app v.apps) (sym rows) (stands-there v is.parts.sound p number c held).1
+  live-after = let before = (stands-there v is.parts.sound p number c held).1 in either (λ v. IsLive c.app v.apps) before before
 
   has-after : HasPartition new p
-  has-after = subst (λ (v : Rows). HasPartition v p) (sym rows) (subst (λ (n : ℕ). p < n) (sym (length-at p (ticked (without number)) v.partitions)) (stands-there v is.parts.sound p number c held).0)
+  has-after =
+      let before = (stands-there v is.parts.sound p number c held).0 in
+      either (λ v. HasPartition v p) (subst (λ (n : ℕ). p < n) (sym (length-at p (ticked (without number)) v.partitions)) before)
+      (subst (λ (n : ℕ). p < n) (sym (length-at p dropped v.partitions)) before)
 
   -- what its user uses is small
   pub small-after : IfSome (lookup (nat_eq c.app) new.apps) (λ row. IsUse (user_use new p row.leaf row.user))
@@ -77,7 +89,7 @@ module _ (a : Inside) (is : IsCluster a) (w : ClusterView) (view : view_of a ≡
   lanes-before = record {
     before = v;
     number = number;
-    rows = inl rows;
+    rows = rows;
     held = held;
     numbers = subst HasDistinctNumbers (sym (ap (λ o. option_map_or (λ (row : PartitionRow). row.containers) o []) at.there)) (is.parts.sound.partitions p at.row at.there).numbers;
     seated = is.parts.seated;
@@ -86,19 +98,23 @@ module _ (a : Inside) (is : IsCluster a) (w : ClusterView) (view : view_of a ≡
   -- with uses and lanes that follow, the parts go together
   pub parts-after : (uses : List (List Use)) → uses ≡ uses_in new → (lanes : List (List Seats)) → AreSeated new lanes → AreParts a.config new uses a.totals lanes
   parts-after uses uses-are lanes seated = record {
-    configured = subst (IsFor a.config) (sym rows) (ended-for v is.parts.sound p at.row at.there number c at.found a.config is.parts.configured);
+    configured =
+        either (IsFor a.config) (ended-for v is.parts.sound p at.row at.there number c at.found a.config is.parts.configured)
+        (dropped-for v is.parts.sound p at.row at.there number a.config is.parts.configured);
     sound = sound-after;
     bounded = bounded-after;
-    sizes = subst AskSizes (sym rows) is.parts.sizes;
+    sizes = either AskSizes is.parts.sizes is.parts.sizes;
     uses_are = uses-are;
-    totals_are = is.parts.totals_are ∙ sym (ap totals_in rows ∙ changed-totals v p (ticked (without number)) c.node (next_clock_at v.partitions p) v.apps);
+    totals_are =
+        is.parts.totals_are
+        ∙ either (λ new. totals_in v ≡ totals_in new) (sym (changed-totals v p (ticked (without number)) c.node (next_clock_at v.partitions p) v.apps)) (sym (dropped-totals v p dropped));
     seated = seated;
   }
 
   -- and the state is the model's
-  pub state-after : state_of new (stops_in (view_of a)) (maxima_in (view_of a)) ≡ end w.config (state_in w) (placed_of w.rows (label_of w p) c)
-  state-after =
-      ap (λ (v : Rows). state_of v (stops_in (view_of a)) (maxima_in (view_of a))) rows
+  pub state-after : new ≡ with_ended p number c.node v → state_of new (stops_in (view_of a)) (maxima_in (view_of a)) ≡ end w.config (state_in w) (placed_of w.rows (label_of w p) c)
+  state-after ended =
+      ap (λ (v : Rows). state_of v (stops_in (view_of a)) (maxima_in (view_of a))) ended
       ∙ ended-means v is.parts.sound p at.row at.there number c at.found a.config is.parts.configured (stops_in (view_of a)) (maxima_in (view_of a))
       ∙ ap (λ label. end a.config (state_in (view_of a)) (placed_of v label c)) (sym (own-label v is.parts.sound p at.row at.there))
       ∙ ap (λ (w : ClusterView). end w.config (state_in w) (placed_of w.rows (label_of w p) c)) view

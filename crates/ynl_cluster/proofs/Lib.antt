@@ -10,3 +10,4 @@ pub mod Joining
 pub mod Asking
 pub mod Finishing
 pub mod Submitting
+pub mod Leaving

@@ -6,16 +6,16 @@ ghost use Rattle.ynl_model.specs.Cluster.{guaranteed, maximum, opening, total};
 ghost use Rattle.ynl_model.specs.Nodes.{is_full, nodes_of};
 ghost use Rattle.ynl_model.specs.Queues.{accepts, set_maximum, set_stop};
 ghost use Rattle.ynl_model.specs.Applications.{finished, in_leaf, new_app, set_ask, submitted, with_app};
-ghost use Rattle.ynl_model.specs.Changes.{end, node_joins, place};
+ghost use Rattle.ynl_model.specs.Changes.{end, node_joins, node_leaves, place};
 ghost use Rattle.ynl_laws.specs.Uses.{use_of};
 ghost use Rattle.ynl_layout.specs.Paths.{HasNumber};
 ghost use Rattle.ynl_slots.specs.Slots.{IsLive, IsUnused};
 ghost use Rattle.ynl_app_table.specs.declared.app.Tickets.{Tickets as TicketPair};
-ghost use Rattle.ynl_inventory.specs.Rows.{AppRow};
-ghost use Rattle.ynl_inventory.specs.Changes.{partition_of_node, with_app_gone, with_asked, with_ended, with_joined, with_placed, with_submitted, with_tickets};
+ghost use Rattle.ynl_inventory.specs.Rows.{AppRow, NodeRow};
+ghost use Rattle.ynl_inventory.specs.Changes.{partition_of_node, with_app_gone, with_asked, with_dropped, with_ended, with_joined, with_left, with_node_gone, with_placed, with_submitted, with_tickets};
 ghost use Rattle.ynl_inventory.specs.Meaning.{app_name, ask_of, item_of, node_number, node_of, placed_of};
 ghost use Rattle.ynl_inventory.specs.Parts.{CanPlace, LeavesRoom, containers_of, held_at};
-ghost use Rattle.ynl_inventory.specs.Sound.{CanAsk, CanSubmit, HasPartition, IsPlaceable, OwnsNoContainers};
+ghost use Rattle.ynl_inventory.specs.Sound.{CanAsk, CanSubmit, HasNoContainers, HasPartition, IsPlaceable, OwnsNoContainers};
 ghost use Rattle.ynl_seating.specs.Seating.{AreSeated};
 ghost use Rattle.ynl_cluster.specs.Cluster.{held_in, label_of, path_of, state_in, IsCell};
 
@@ -332,5 +332,50 @@ impl Cluster {
         let app = self.inventory.submit(name, new)?;
         seat(&mut self.inventory, &mut self.lanes, app);
         Ok(app)
+    }
+
+    /// The container under a number in a partition goes with its node: no clock rises.
+    fn discard(&mut self, p: u8, number: u32)
+        requires { IsSome (held_at self.old.rows p number) }
+        ensures { self.new ≡ record self.old {
+          rows = with_dropped p number self.old.rows;
+          rooms = self.new.rooms;
+        } }
+    {
+        let held = self.inventory.container(p, number);
+        let app = self.inventory.app(held.app);
+        let line = self.inventory.layout().line(app.leaf as usize);
+        self.uses.lower(p as usize, line, &tally_of(p, held.role, held.size));
+        let gone = self.inventory.drop(p, number);
+        follow_end(&self.inventory, &mut self.lanes, p, &gone);
+    }
+
+    /// A node without containers leaves.
+    fn leave_alone(&mut self, node: u32)
+        requires live { IsLive node self.old.rows.nodes }
+        requires empty { HasNoContainers self.old.rows node }
+        ensures { self.new ≡ record self.old { rows = with_node_gone node self.old.rows } }
+    {
+        let row = self.inventory.node(node);
+        self.totals.take(row.partition as usize, row.size);
+        self.inventory.leave(node);
+    }
+
+    /// A node leaves, and its containers go with it one after another. It takes no memory.
+    pub fn leave(&mut self, node: u32)
+        requires { IsLive node self.old.rows.nodes }
+        ensures rows { self.new ≡ record self.old {
+          rows = with_left node self.old.rows;
+          rooms = self.new.rooms;
+        } }
+        ensures state { (row : NodeRow) → lookup (nat_eq node) self.old.rows.nodes ≡ Some row
+            → state_in self.new
+            ≡ node_leaves (node_of self.old.rows.partitions row) (state_in self.old) }
+    {
+        let p = self.inventory.node(node).partition;
+        while let Some(number) = self.inventory().first_of_node(node) {
+            self.discard(p, number);
+        }
+        self.leave_alone(node);
     }
 }

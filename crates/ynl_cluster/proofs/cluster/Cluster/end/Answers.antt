@@ -1,5 +1,5 @@
 -- What is known where a container ends.
-use Rattle.std.proofs.Common.{◌≡◌, Some, sym, ap, subst, ◌∙◌}
+use Rattle.std.proofs.Common.{◌≡◌, Some, ap, subst, ◌∙◌, inl}
 use Rattle.ynl_inventory.specs.Rows.{Rows}
 use Rattle.ynl_inventory.specs.Changes.{with_ended}
 use Rattle.ynl_inventory.specs.Parts.{LeavesRoom, app_row, held_at}
@@ -35,21 +35,21 @@ end-ended-requires c = held-in c.self.inside c.args.self.now c.self.view_is c.ar
 
 pub follow_end-requires-clause-live : goal.follow_end-requires-clause-live
 follow_end-requires-clause-live c =
-    live-after c.self.inside c.self.invariant c.args.self.now c.self.view_is c.args.p c.args.number c.end-ended.result c.end-ended.ensures.value c.end-ended.new.self.rows c.end-ended.ensures.rows
+    live-after c.self.inside c.self.invariant c.args.self.now c.self.view_is c.args.p c.args.number c.end-ended.result c.end-ended.ensures.value c.end-ended.new.self.rows (inl c.end-ended.ensures.rows)
 
 pub follow_end-requires-clause-start : goal.follow_end-requires-clause-start
 follow_end-requires-clause-start c =
-    lanes-before c.self.inside c.self.invariant c.args.self.now c.self.view_is c.args.p c.args.number c.end-ended.result c.end-ended.ensures.value c.end-ended.new.self.rows c.end-ended.ensures.rows
+    lanes-before c.self.inside c.self.invariant c.args.self.now c.self.view_is c.args.p c.args.number c.end-ended.result c.end-ended.ensures.value c.end-ended.new.self.rows (inl c.end-ended.ensures.rows)
 
 pub follow_end-requires-clause-small : goal.follow_end-requires-clause-small
 follow_end-requires-clause-small c =
-    small-after c.self.inside c.self.invariant c.args.self.now c.self.view_is c.args.p c.args.number c.end-ended.result c.end-ended.ensures.value c.end-ended.new.self.rows c.end-ended.ensures.rows
+    small-after c.self.inside c.self.invariant c.args.self.now c.self.view_is c.args.p c.args.number c.end-ended.result c.end-ended.ensures.value c.end-ended.new.self.rows (inl c.end-ended.ensures.rows)
 
 pub invariant_of-self : goal.invariant_of-self
 invariant_of-self c = record {
   settings = c.self.invariant.settings;
   parts =
-      parts-after c.self.inside c.self.invariant c.args.self.now c.self.view_is c.args.p c.args.number c.end-ended.result c.end-ended.ensures.value c.end-ended.new.self.rows c.end-ended.ensures.rows c.lower.new.self
+      parts-after c.self.inside c.self.invariant c.args.self.now c.self.view_is c.args.p c.args.number c.end-ended.result c.end-ended.ensures.value c.end-ended.new.self.rows (inl c.end-ended.ensures.rows) c.lower.new.self
       (lowered-uses c.self.inside.inventory.rows c.self.inside.uses c.self.invariant.parts.uses_are c.self.invariant.parts.sound c.args.p c.args.number c.container-held.result c.container-held.ensures c.end-ended.result.node c.line-line.result.now
       (line-is c.self.inside.inventory.rows c.container-held.result.app (app_row c.app-app.result.now) c.app-app.ensures c.layout.result.now c.layout.ensures c.line-line.result.now c.line-line.ensures.way)
       c.tally_of.result c.tally_of.ensures c.lower.new.self c.lower.ensures c.end-ended.new.self.rows c.end-ended.ensures.rows)
@@ -69,4 +69,4 @@ returns-clause-rooms c = subst (λ (w : ClusterView). LeavesRoom c.args.p 0 w.ro
 
 pub returns-clause-state : goal.returns-clause-state
 returns-clause-state c =
-    state-after c.self.inside c.self.invariant c.args.self.now c.self.view_is c.args.p c.args.number c.end-ended.result c.end-ended.ensures.value c.end-ended.new.self.rows c.end-ended.ensures.rows
+    state-after c.self.inside c.self.invariant c.args.self.now c.self.view_is c.args.p c.args.number c.end-ended.result c.end-ended.ensures.value c.end-ended.new.self.rows (inl c.end-ended.ensures.rows) c.end-ended.ensures.rows
