@@ -345,7 +345,8 @@ impl Cluster {
         let held = self.inventory.container(p, number);
         let app = self.inventory.app(held.app);
         let line = self.inventory.layout().line(app.leaf as usize);
-        self.uses.lower(p as usize, line, &tally_of(p, held.role, held.size));
+        self.uses
+            .lower(p as usize, line, &tally_of(p, held.role, held.size));
         let gone = self.inventory.drop(p, number);
         follow_end(&self.inventory, &mut self.lanes, p, &gone);
     }
