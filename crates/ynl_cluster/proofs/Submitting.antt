@@ -1,5 +1,5 @@
 -- The parts of a cluster after an application was submitted.
-use Rattle.std.proofs.Common.{◌≡◌, ℕ, Bool, true, false, cond, nat_eq, List, [], ◌∷◌, map, Some, is_some, refl, sym, ap, subst, ◌∙◌, inl, inr}
+use Rattle.std.proofs.Common.{◌≡◌, ℕ, Bool, true, false, cond, nat_eq, List, [], ◌∷◌, Some, is_some, refl, sym, ap, subst, ◌∙◌, inl, inr}
 use mathlib.Core.Logic.{◌⊎◌}
 use Rattle.std.specs.Prelude.{slice_index_or}
 use Rattle.std.specs.Map.{lookup}
@@ -149,7 +149,7 @@ module _ (a : Inside) (is : IsCluster a) (w : ClusterView) (view : view_of a ≡
       pub state-after : state_of after (stops_in (view_of a)) (maxima_in (view_of a))
           ≡ record (state_in w) {
             leaves = in_leaf (path_of w new.leaf)
-              (submitted (new_model_app (path_of w new.leaf) name (slice_index_or w.rows.users new.user []) (label_of w new.home) new.master_size)) (state_in w).leaves;
+                (submitted (new_model_app (path_of w new.leaf) name (slice_index_or w.rows.users new.user []) (label_of w new.home) new.master_size)) (state_in w).leaves;
           }
       state-after =
           ap (λ (v : Rows). state_of v (stops_in (view_of a)) (maxima_in (view_of a))) all-rows
@@ -158,6 +158,6 @@ module _ (a : Inside) (is : IsCluster a) (w : ClusterView) (view : view_of a ≡
           ∙ ap
           (λ (w : ClusterView). record (state_in w) {
             leaves = in_leaf (path_of w new.leaf)
-              (submitted (new_model_app (path_of w new.leaf) name (slice_index_or w.rows.users new.user []) (label_of w new.home) new.master_size)) (state_in w).leaves;
+                (submitted (new_model_app (path_of w new.leaf) name (slice_index_or w.rows.users new.user []) (label_of w new.home) new.master_size)) (state_in w).leaves;
           })
           view

@@ -34,8 +34,9 @@ use ynl_seating::{enter, follow_end, follow_placement, reserve, seat, unseat};
 use ynl_settings::{Shares, Stops};
 use ynl_uses::Uses;
 
-/// A cluster under numbers. What its queues use and how much there is of each partition is kept beside its rows, and so are the
-/// lanes of those who wait. A contract sees the configuration, the rows and what is set of the queues.
+/// A cluster under numbers. What its queues use and how much there is of each partition is kept
+/// beside its rows, and so are the lanes of those who wait. A contract sees the configuration, the
+/// rows and what is set of the queues.
 pub struct Cluster {
     config: Config,
     inventory: Inventory,
@@ -193,7 +194,8 @@ impl Cluster {
         self.shares.set_maximum(p as usize, queue, share);
     }
 
-    /// Reserves room for so many more containers in a partition. It fails where `Inventory::reserve_for` does.
+    /// Reserves room for so many more containers in a partition. It fails where
+    /// `Inventory::reserve_for` does.
     pub fn reserve_for(&mut self, p: u8, count: u32) -> Result<(), AllocError>
         requires { HasPartition self.old.rows p }
         ensures rows { self.new ≡ record self.old { rooms = self.new.rooms } }
@@ -203,7 +205,8 @@ impl Cluster {
         self.inventory.reserve_for(p, count)
     }
 
-    /// The number of the user of a name, a new one if there is none. It fails where `Inventory::user` does.
+    /// The number of the user of a name, a new one if there is none. It fails where
+    /// `Inventory::user` does.
     pub fn user(&mut self, name: &Name) -> Result<u32, AllocError>
         ensures ok { OnOk result (self.new ≡ record self.old {
           rows = with_user_known name.now self.old.rows;
@@ -218,20 +221,20 @@ impl Cluster {
         Ok(user)
     }
 
-    /// A container is placed on a node. It returns the container's number in the node's partition. It takes no memory.
+    /// A container is placed on a node. It returns the container's number in the node's partition.
+    /// It takes no memory.
     pub fn place(&mut self, placed: &Placement) -> u32
         requires { CanPlace (held_in self.old) placed.now }
         ensures rows { self.new ≡ record self.old {
           rows = with_placed result
-            placed.now.node placed.now.app placed.now.role placed.now.size self.old.rows;
+              placed.now.node placed.now.app placed.now.role placed.now.size self.old.rows;
           rooms = self.new.rooms;
         } }
         ensures unused { IsUnused result (containers_of self.old.rows
             (partition_of_node self.old.rows.nodes placed.now.node)) }
         ensures rooms { LeavesRoom (partition_of_node self.old.rows.nodes placed.now.node) 1
             self.old.rooms self.new.rooms }
-        ensures state {
-            (can : IsPlaceable self.old.rows placed.now.node placed.now.app placed.now.role)
+        ensures state { (can : IsPlaceable self.old.rows placed.now.node placed.now.app placed.now.role)
             → state_in self.new ≡ place self.old.config
             (node_of self.old.rows.partitions can.node_row)
             (item_of self.old.rows can.app_row placed.now.role placed.now.size)
@@ -243,7 +246,8 @@ impl Cluster {
         let p = node.partition;
         // Opens the size, which is one that requests may have.
         let _size = placed.size.amount();
-        self.uses.raise(p as usize, line, &tally_of(p, placed.role, placed.size));
+        self.uses
+            .raise(p as usize, line, &tally_of(p, placed.role, placed.size));
         let number = self.inventory.place(placed);
         let runs = self.inventory.runs(placed.app);
         follow_placement(&self.inventory, &mut self.lanes, p, placed, runs);
@@ -265,15 +269,16 @@ impl Cluster {
         let held = self.inventory.container(p, number);
         let app = self.inventory.app(held.app);
         let line = self.inventory.layout().line(app.leaf as usize);
-        self.uses.lower(p as usize, line, &tally_of(p, held.role, held.size));
+        self.uses
+            .lower(p as usize, line, &tally_of(p, held.role, held.size));
         let ended = self.inventory.end(p, number);
         let runs = self.inventory.runs(ended.app);
         follow_end(&self.inventory, &mut self.lanes, p, &ended, runs);
         ended
     }
 
-    /// A node of a new name joins a partition that is not full, with all of it free. It returns the node's number. It fails
-    /// where `Inventory::join` does.
+    /// A node of a new name joins a partition that is not full, with all of it free. It returns the
+    /// node's number. It fails where `Inventory::join` does.
     pub fn join(&mut self, name: &Name, p: u8, size: Size) -> Result<u32, AllocError>
         requires partition { HasPartition self.old.rows p }
         requires new { node_number name.now self.old.rows.nodes ≡ None }
@@ -301,9 +306,9 @@ impl Cluster {
         }) }
         ensures state { OnOk result ((row : AppRow) → lookup (nat_eq app) self.old.rows.apps ≡ Some row
             → state_in self.new ≡ record (state_in self.old) {
-            leaves = in_leaf (path_of self.old row.leaf)
-              (with_app (app_name self.old.rows.tenants row.tenant row.turn)
-              (set_ask (ask_of self.old.rows.partitions ask))) (state_in self.old).leaves;
+              leaves = in_leaf (path_of self.old row.leaf)
+                  (with_app (app_name self.old.rows.tenants row.tenant row.turn)
+                  (set_ask (ask_of self.old.rows.partitions ask))) (state_in self.old).leaves;
             }) }
         ensures err { OnErr result (self.new ≡ self.old) }
         ensures no_count { ask.count ≡ 0 → IsOk result }
@@ -324,29 +329,29 @@ impl Cluster {
             ≡ record self.old { rows = with_app_gone app row.tenant row.turn self.old.rows }) }
         ensures state { (row : AppRow) → lookup (nat_eq app) self.old.rows.apps ≡ Some row
             → state_in self.new ≡ record (state_in self.old) {
-            leaves = in_leaf (path_of self.old row.leaf)
-              (finished (app_name self.old.rows.tenants row.tenant row.turn))
-              (state_in self.old).leaves;
+              leaves = in_leaf (path_of self.old row.leaf)
+                  (finished (app_name self.old.rows.tenants row.tenant row.turn))
+                  (state_in self.old).leaves;
             } }
     {
         unseat(&self.inventory, &mut self.lanes, app);
         self.inventory.finish(app);
     }
 
-    /// An application is submitted. It returns the application's number. All memory is taken first: it fails if that is
-    /// refused, and where `Inventory::submit` and `Lanes::reserve` do.
+    /// An application is submitted. It returns the application's number. All memory is taken first:
+    /// it fails if that is refused, and where `Inventory::submit` and `Lanes::reserve` do.
     pub fn submit(&mut self, name: &Name, new: &NewSubmission) -> Result<u32, AllocError>
         requires { CanSubmit self.old.rows name.now new.now }
         ensures rows { IfOk result (λ app. (tickets : TicketPair) × (self.new ≡ record self.old {
           rows = with_tickets app tickets (with_submitted app name.now new.now.tenant
-            new.now.leaf new.now.user new.now.home new.now.master_size self.old.rows);
+              new.now.leaf new.now.user new.now.home new.now.master_size self.old.rows);
         })) }
         ensures unused { IfOk result (λ app. IsUnused app self.old.rows.apps) }
         ensures state { OnOk result (state_in self.new ≡ record (state_in self.old) {
           leaves = in_leaf (path_of self.old new.now.leaf)
-            (submitted (new_app (path_of self.old new.now.leaf) name.now
-            (slice_index_or self.old.rows.users new.now.user [])
-            (label_of self.old new.now.home) new.now.master_size)) (state_in self.old).leaves;
+              (submitted (new_app (path_of self.old new.now.leaf) name.now
+              (slice_index_or self.old.rows.users new.now.user [])
+              (label_of self.old new.now.home) new.now.master_size)) (state_in self.old).leaves;
         }) }
         ensures err { OnErr result (self.new ≡ self.old) }
     {
@@ -369,7 +374,8 @@ impl Cluster {
         let held = self.inventory.container(p, number);
         let app = self.inventory.app(held.app);
         let line = self.inventory.layout().line(app.leaf as usize);
-        self.uses.lower(p as usize, line, &tally_of(p, held.role, held.size));
+        self.uses
+            .lower(p as usize, line, &tally_of(p, held.role, held.size));
         let gone = self.inventory.drop(p, number);
         let runs = self.inventory.runs(gone.app);
         follow_end(&self.inventory, &mut self.lanes, p, &gone, runs);

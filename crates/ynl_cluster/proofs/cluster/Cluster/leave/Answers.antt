@@ -1,5 +1,5 @@
 -- What is known where a node leaves, and its containers go first.
-use Rattle.std.proofs.Common.{◌≡◌, None, sym, subst}
+use Rattle.std.proofs.Common.{sym, subst}
 use Rattle.ynl_slots.specs.Slots.{IsLive}
 use Rattle.ynl_container_table.specs.Chains.{IsFirst}
 use Rattle.ynl_inventory.specs.Changes.{partition_of_node}
