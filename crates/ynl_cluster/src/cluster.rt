@@ -15,9 +15,11 @@ ghost use Rattle.ynl_inventory.specs.Rows.{AppRow, NodeRow};
 ghost use Rattle.ynl_inventory.specs.Changes.{partition_of_node, with_app_gone, with_asked, with_dropped, with_ended, with_joined, with_left, with_node_gone, with_placed, with_submitted, with_tickets, with_user_known};
 ghost use Rattle.ynl_inventory.specs.Meaning.{app_name, ask_of, item_of, node_number, node_of, placed_of};
 ghost use Rattle.ynl_inventory.specs.Parts.{CanPlace, LeavesRoom, containers_of, held_at};
-ghost use Rattle.ynl_inventory.specs.Sound.{CanAsk, CanSubmit, HasNoContainers, HasPartition, IsPlaceable, OwnsNoContainers};
+ghost use Rattle.ynl_inventory.specs.Sound.{CanAsk, CanSubmit, HasNoContainers, HasPartition, IsFor, IsPlaceable, OwnsNoContainers};
+ghost use Rattle.ynl_ledger.specs.Ledger.{IsBounded};
 ghost use Rattle.ynl_seating.specs.Seating.{AreSeated};
 ghost use Rattle.ynl_cluster.specs.Cluster.{held_in, label_of, path_of, state_in, IsCell};
+ghost use Rattle.ynl_cluster.specs.Whole.{AskSizes};
 
 use crate::ways::way_to;
 use std::alloc::{AllocError, Global};
@@ -94,7 +96,10 @@ impl Cluster {
 
     /// What it holds.
     pub fn inventory(&self) -> &Inventory
-        ensures { result.now ≡ held_in self.now }
+        ensures value { result.now ≡ held_in self.now }
+        ensures configured { IsFor self.now.config self.now.rows }
+        ensures bounded { IsBounded self.now.rows }
+        ensures sizes { AskSizes self.now.rows }
     {
         &self.inventory
     }
