@@ -12,7 +12,6 @@ use Rattle.ynl_container_table.specs.declared.container.Container.{Container}
 use Rattle.ynl_lane.specs.Rows.{IsUse}
 use Rattle.ynl_lane.specs.Seats.{Seats}
 use Rattle.ynl_inventory.specs.Rows.{Rows, PartitionRow}
-use Rattle.ynl_inventory.specs.Apps.{containers_of}
 use Rattle.ynl_inventory.specs.Changes.{next_clock_at, ticked, with_dropped, with_ended}
 use Rattle.ynl_inventory.specs.Meaning.{placed_of, state_of}
 use Rattle.ynl_inventory.specs.Parts.{held_at}

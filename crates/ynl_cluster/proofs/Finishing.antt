@@ -1,26 +1,25 @@
 -- The parts of a cluster after an application finished.
-use Rattle.std.proofs.Common.{◌≡◌, ◌≢◌, ℕ, Bool, true, false, cond, nat_eq, List, Some, None, refl, sym, ap, subst, ◌∙◌}
+use Rattle.std.proofs.Common.{◌≡◌, ◌≢◌, ℕ, nat_eq, List, Some, refl, sym, ap, subst, ◌∙◌}
 use Rattle.std.specs.Prelude.{IfSome}
 use Rattle.std.specs.Map.{lookup}
 use Rattle.ynl_model.specs.Applications.{finished, in_leaf}
-use Rattle.ynl_slots.specs.Slots.{IsLive, without}
+use Rattle.ynl_slots.specs.Slots.{IsLive}
 use Rattle.ynl_container_table.specs.declared.container.Container.{Container}
 use Rattle.ynl_lane.specs.Seats.{Seats}
 use Rattle.ynl_inventory.specs.Rows.{Rows, AppRow}
 use Rattle.ynl_inventory.specs.Changes.{with_app_gone}
 use Rattle.ynl_inventory.specs.Meaning.{app_name, state_of}
-use Rattle.ynl_inventory.specs.Sound.{IsFor, IsSound, OwnsNoContainers}
+use Rattle.ynl_inventory.specs.Sound.{OwnsNoContainers}
 use Rattle.ynl_inventory.proofs.Gone.{gone-means, gone-sound}
 use Rattle.ynl_inventory.proofs.Lookups.{live-found}
 use Rattle.ynl_inventory.proofs.Updates.{at-number}
 use Rattle.ynl_inventory.proofs.NodeParts.{found-without}
-use Rattle.ynl_ledger.specs.Ledger.{totals_in, uses_in, IsBounded}
 use Rattle.ynl_ledger.proofs.Bounded.{others}
 use Rattle.ynl_ledger.proofs.Ledger.{finishing}
 use Rattle.ynl_seating.specs.Seating.{AreSeated}
 use Rattle.ynl_cluster.specs.declared.cluster.Cluster.TheInside.{Inside}
 use Rattle.ynl_cluster.specs.Cluster.{ClusterView, maxima_in, path_of, state_in, stops_in}
-use Rattle.ynl_cluster.specs.Whole.{view_of, AreParts, AskSizes, IsCluster}
+use Rattle.ynl_cluster.specs.Whole.{view_of, AreParts, IsCluster}
 
 module _ (a : Inside) (is : IsCluster a) (w : ClusterView) (view : view_of a ≡ w) (app : ℕ) (live : IsLive app w.rows.apps) (empty : OwnsNoContainers w.rows app) where
   abbrev v : Rows

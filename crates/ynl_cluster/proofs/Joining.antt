@@ -1,5 +1,5 @@
 -- The parts of a cluster after a node joined.
-use Rattle.std.proofs.Common.{◌≡◌, ℕ, ◌<◌, Bool, false, List, slice_get, nat_le, Some, None, sym, ap, subst, ◌∙◌, arith}
+use Rattle.std.proofs.Common.{◌≡◌, ℕ, ◌<◌, false, List, slice_get, nat_le, Some, None, sym, ap, subst, ◌∙◌, arith}
 use Rattle.std.proofs.lemmas.Bool.Decides.{nat_tests}
 use Rattle.ynl_resource.specs.Amounts.{IsSize}
 use Rattle.ynl_resource.specs.Ranges.{most_nodes}
@@ -10,15 +10,14 @@ use Rattle.ynl_model.specs.Nodes.{is_full}
 use Rattle.ynl_slots.specs.Slots.{IsUnused}
 use Rattle.ynl_inventory.specs.Rows.{Rows, PartitionRow}
 use Rattle.ynl_inventory.specs.Changes.{with_at, with_joined}
-use Rattle.ynl_inventory.specs.Meaning.{label_at, node_number, state_of}
+use Rattle.ynl_inventory.specs.Meaning.{node_number, state_of}
 use Rattle.ynl_inventory.specs.Sound.{HasPartition, IsFor, IsJoinable, IsSound}
 use Rattle.ynl_inventory.proofs.Finding.{own-label, unnamed}
 use Rattle.ynl_inventory.proofs.Joining.{joined-for, joined-means, joined-sound}
 use Rattle.ynl_inventory.proofs.Lookups.{place-there}
 use Rattle.ynl_ledger.specs.declared.totals.Total.{Total}
 use Rattle.ynl_ledger.specs.Totals.{grown, total_at, IsSmallTotal}
-use Rattle.ynl_ledger.specs.Ledger.{total_in, totals_in, uses_in, IsBounded}
-use Rattle.ynl_ledger.specs.Meaning.{IsTotalOf}
+use Rattle.ynl_ledger.specs.Ledger.{total_in, uses_in, IsBounded}
 use Rattle.ynl_ledger.proofs.Bounded.{joining as bounded-joining}
 use Rattle.ynl_ledger.proofs.Calls.{grown-totals, small-total}
 use Rattle.ynl_ledger.proofs.Ledger.{joining as ledger-joining}

@@ -11,3 +11,4 @@ pub mod Asking
 pub mod Finishing
 pub mod Submitting
 pub mod Leaving
+pub mod Naming

@@ -1,7 +1,6 @@
 -- Applications go on asking for amounts that requests may have.
-use Rattle.std.proofs.Common.{◌≡◌, ◌==◌, ℕ, Bool, true, false, cond, not, nat_eq, List, [], ◌∷◌, Some, refl, sym, subst}
+use Rattle.std.proofs.Common.{◌==◌, ℕ, Bool, true, false, cond, not, nat_eq, sym, subst}
 use Rattle.std.specs.List.{AllByRecursion}
-use Rattle.std.specs.Map.{lookup}
 use Rattle.ynl_resource.specs.Amounts.{IsSize}
 use Rattle.ynl_resource.specs.Tables.{put, update, without}
 use Rattle.ynl_laws.proofs.Lists.{Each-filter, Each-put, Each-update}
@@ -11,7 +10,7 @@ use Rattle.ynl_container_table.specs.declared.container.Role.{Role}
 use Rattle.ynl_container_table.specs.declared.container.Role.TheVariants.{Master, Ask as Asked}
 use Rattle.ynl_inventory.specs.Rows.{Rows, AppRow}
 use Rattle.ynl_inventory.specs.Changes.{with_app_changed, with_taken}
-use Rattle.ynl_inventory.proofs.Lookups.{was-found, row_after}
+use Rattle.ynl_inventory.proofs.Lookups.{was-found}
 use Rattle.ynl_cluster.specs.Whole.{AskSizes, AsksSizes}
 
 -- where one application changes

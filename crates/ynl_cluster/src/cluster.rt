@@ -1,6 +1,6 @@
 //! A cluster: all its parts together.
 
-ghost use Rattle.std.specs.Prelude.{◌≡◌, ◌<◌, false, length, None, Some, IfOk, IfSome, IsOk, IsSome, nat_eq, OnErr, OnOk, slice_index_or, []};
+ghost use Rattle.std.specs.Prelude.{◌≡◌, ◌<◌, ◌≤◌, false, length, None, Some, IfOk, IfSome, IsOk, IsSome, nat_eq, OnErr, OnOk, slice_get, slice_index_or, []};
 ghost use Rattle.std.specs.Map.{lookup};
 ghost use Rattle.ynl_model.specs.Cluster.{guaranteed, maximum, opening, total};
 ghost use Rattle.ynl_model.specs.Nodes.{is_full, nodes_of};
@@ -12,12 +12,14 @@ ghost use Rattle.ynl_layout.specs.Paths.{HasNumber};
 ghost use Rattle.ynl_slots.specs.Slots.{IsLive, IsUnused};
 ghost use Rattle.ynl_app_table.specs.declared.app.Tickets.{Tickets as TicketPair};
 ghost use Rattle.ynl_inventory.specs.Rows.{AppRow, NodeRow};
-ghost use Rattle.ynl_inventory.specs.Changes.{partition_of_node, with_app_gone, with_asked, with_dropped, with_ended, with_joined, with_left, with_node_gone, with_placed, with_submitted, with_tickets};
+ghost use Rattle.ynl_inventory.specs.Changes.{partition_of_node, with_app_gone, with_asked, with_dropped, with_ended, with_joined, with_left, with_node_gone, with_placed, with_submitted, with_tickets, with_user_known};
 ghost use Rattle.ynl_inventory.specs.Meaning.{app_name, ask_of, item_of, node_number, node_of, placed_of};
 ghost use Rattle.ynl_inventory.specs.Parts.{CanPlace, LeavesRoom, containers_of, held_at};
-ghost use Rattle.ynl_inventory.specs.Sound.{CanAsk, CanSubmit, HasNoContainers, HasPartition, IsPlaceable, OwnsNoContainers};
+ghost use Rattle.ynl_inventory.specs.Sound.{CanAsk, CanSubmit, HasNoContainers, HasPartition, IsFor, IsPlaceable, OwnsNoContainers};
+ghost use Rattle.ynl_ledger.specs.Ledger.{IsBounded};
 ghost use Rattle.ynl_seating.specs.Seating.{AreSeated};
 ghost use Rattle.ynl_cluster.specs.Cluster.{held_in, label_of, path_of, state_in, IsCell};
+ghost use Rattle.ynl_cluster.specs.Whole.{AskSizes};
 
 use crate::ways::way_to;
 use std::alloc::{AllocError, Global};
@@ -29,16 +31,14 @@ use ynl_lane_table::Lanes;
 use ynl_ledger::{Totals, tally_of};
 use ynl_model::Use;
 use ynl_queues::Config;
-use ynl_resource::{Hundredths, Name, Resource, Size};
+use ynl_resource::{Hundredths, MOST_NODES, Name, Resource, Size};
 use ynl_seating::{enter, follow_end, follow_placement, reserve, seat, unseat};
 use ynl_settings::{Shares, Stops};
 use ynl_uses::Uses;
 
-/// The largest number of nodes that a partition may have.
-const MOST_NODES: u32 = 65536;
-
-/// A cluster under numbers. What its queues use and how much there is of each partition is kept beside its rows, and so are the
-/// lanes of those who wait. A contract sees the configuration, the rows and what is set of the queues.
+/// A cluster under numbers. What its queues use and how much there is of each partition is kept
+/// beside its rows, and so are the lanes of those who wait. A contract sees the configuration, the
+/// rows and what is set of the queues.
 pub struct Cluster {
     config: Config,
     inventory: Inventory,
@@ -96,7 +96,10 @@ impl Cluster {
 
     /// What it holds.
     pub fn inventory(&self) -> &Inventory
-        ensures { result.now ≡ held_in self.now }
+        ensures value { result.now ≡ held_in self.now }
+        ensures configured { IsFor self.now.config self.now.rows }
+        ensures bounded { IsBounded self.now.rows }
+        ensures sizes { AskSizes self.now.rows }
     {
         &self.inventory
     }
@@ -138,7 +141,7 @@ impl Cluster {
         requires { HasPartition self.now.rows p }
         ensures { result ≡ is_full (state_in self.now).nodes (label_of self.now p) }
     {
-        self.totals.nodes(p as usize) >= MOST_NODES
+        self.totals.nodes(p as usize) as usize >= MOST_NODES
     }
 
     /// What a queue is guaranteed of a partition.
@@ -196,7 +199,35 @@ impl Cluster {
         self.shares.set_maximum(p as usize, queue, share);
     }
 
-    /// A container is placed on a node. It returns the container's number in the node's partition. It takes no memory.
+    /// Reserves room for so many more containers in a partition. It fails where
+    /// `Inventory::reserve_for` does.
+    pub fn reserve_for(&mut self, p: u8, count: u32) -> Result<(), AllocError>
+        requires { HasPartition self.old.rows p }
+        ensures rows { self.new ≡ record self.old { rooms = self.new.rooms } }
+        ensures ok { OnOk result (IfSome (slice_get self.new.rooms p) (λ room. count ≤ room)) }
+        ensures rooms { LeavesRoom p 0 self.old.rooms self.new.rooms }
+    {
+        self.inventory.reserve_for(p, count)
+    }
+
+    /// The number of the user of a name, a new one if there is none. It fails where
+    /// `Inventory::user` does.
+    pub fn user(&mut self, name: &Name) -> Result<u32, AllocError>
+        ensures ok { OnOk result (self.new ≡ record self.old {
+          rows = with_user_known name.now self.old.rows;
+        }) }
+        ensures own { IfOk result (λ user. slice_get self.new.rows.users user ≡ Some name.now) }
+        ensures state { state_in self.new ≡ state_in self.old }
+        ensures err { OnErr result (self.new ≡ self.old) }
+    {
+        let user = self.inventory.user(name)?;
+        // Opens the inventory, whose rows are sound.
+        let _ = self.inventory.partition_count();
+        Ok(user)
+    }
+
+    /// A container is placed on a node. It returns the container's number in the node's partition.
+    /// It takes no memory.
     pub fn place(&mut self, placed: &Placement) -> u32
         requires { CanPlace (held_in self.old) placed.now }
         ensures rows { self.new ≡ record self.old {
@@ -249,8 +280,8 @@ impl Cluster {
         ended
     }
 
-    /// A node of a new name joins a partition that is not full, with all of it free. It returns the node's number. It fails
-    /// where `Inventory::join` does.
+    /// A node of a new name joins a partition that is not full, with all of it free. It returns the
+    /// node's number. It fails where `Inventory::join` does.
     pub fn join(&mut self, name: &Name, p: u8, size: Size) -> Result<u32, AllocError>
         requires partition { HasPartition self.old.rows p }
         requires new { node_number name.now self.old.rows.nodes ≡ None }
@@ -309,8 +340,8 @@ impl Cluster {
         self.inventory.finish(app);
     }
 
-    /// An application is submitted. It returns the application's number. All memory is taken first: it fails if that is
-    /// refused, and where `Inventory::submit` and `Lanes::reserve` do.
+    /// An application is submitted. It returns the application's number. All memory is taken first:
+    /// it fails if that is refused, and where `Inventory::submit` and `Lanes::reserve` do.
     pub fn submit(&mut self, name: &Name, new: &NewSubmission) -> Result<u32, AllocError>
         requires { CanSubmit self.old.rows name.now new.now }
         ensures rows { IfOk result (λ app. (tickets : TicketPair) × (self.new ≡ record self.old {

@@ -1,4 +1,5 @@
-//! A cluster under numbers: what it holds, what its queues use, what is set of them, and who waits in its lanes.
+//! A cluster under numbers: what it holds, what its queues use, what is set of them, and who waits
+//! in its lanes.
 #![tactic(auto)]
 
 pub use cluster::Cluster;

@@ -1,12 +1,12 @@
 -- What is known where a container goes with its node.
-use Rattle.std.proofs.Common.{◌≡◌, Some, ap, subst, ◌∙◌, inr}
+use Rattle.std.proofs.Common.{ap, ◌∙◌, inr}
 use Rattle.ynl_inventory.specs.Rows.{Rows}
 use Rattle.ynl_inventory.specs.Changes.{with_dropped}
 use Rattle.ynl_inventory.specs.Parts.{app_row}
 use Rattle.ynl_ledger.proofs.Calls.{dropped-uses, has-uses, leaf-number, line-inside, line-is, stands-there}
 use Rattle.ynl_cluster.specs.Cluster.{ClusterView}
 use Rattle.ynl_cluster.specs.Whole.{view_of}
-use Rattle.ynl_cluster.proofs.Ending.{held-in, lanes-before, live-after, parts-after, small-after, state-after}
+use Rattle.ynl_cluster.proofs.Ending.{held-in, lanes-before, live-after, parts-after, small-after}
 use Rattle.ynl_cluster.proofs.cluster.Cluster.discard.Goals as goal
 
 pub container-held-requires : goal.container-held-requires

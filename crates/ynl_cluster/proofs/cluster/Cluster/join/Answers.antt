@@ -1,5 +1,5 @@
 -- What is known where a node joins.
-use Rattle.std.proofs.Common.{◌≡◌, sym, ap, subst, ◌∙◌}
+use Rattle.std.proofs.Common.{ap, subst, ◌∙◌}
 use Rattle.ynl_slots.specs.Slots.{IsUnused}
 use Rattle.ynl_inventory.specs.Changes.{with_joined}
 use Rattle.ynl_inventory.specs.Parts.{Held}

@@ -1,5 +1,5 @@
 -- What is known where a node leaves, and its containers go first.
-use Rattle.std.proofs.Common.{◌≡◌, None, sym, subst}
+use Rattle.std.proofs.Common.{sym, subst}
 use Rattle.ynl_slots.specs.Slots.{IsLive}
 use Rattle.ynl_container_table.specs.Chains.{IsFirst}
 use Rattle.ynl_inventory.specs.Changes.{partition_of_node}
@@ -14,42 +14,42 @@ pub loop-number-init : goal.loop-number-init
 loop-number-init c = leaves-first c.self.inside c.self.invariant c.args.self.now c.self.view_is c.args.node (node_row c.node.result.now) c.node.ensures
 
 pub first_of_node-requires : goal.first_of_node-requires
-first_of_node-requires c = subst (λ (h : Held). IsLive c.args.node h.rows.nodes) (sym c.inventory.ensures) c.loop-number.invariant.live
+first_of_node-requires c = subst (λ (h : Held). IsLive c.args.node h.rows.nodes) (sym c.inventory.ensures.value) c.loop-number.invariant.live
 
 pub discard-requires : goal.discard-requires
 discard-requires c =
     on-held c.loop-number.self.rows c.args.node c.node.result.now.partition c.in-Some.number
-    (first-there c.loop-number.self c.inventory.result.now c.inventory.ensures c.args.node c.node.result.now.partition c.in-Some.number c.loop-number.invariant.place c.in-Some.ensures)
+    (first-there c.loop-number.self c.inventory.result.now c.inventory.ensures.value c.args.node c.node.result.now.partition c.in-Some.number c.loop-number.invariant.place c.in-Some.ensures)
 
 pub loop-number-smaller : goal.loop-number-smaller
 loop-number-smaller c =
     leaves-fewer c.args.node c.node.result.now.partition c.in-Some.number c.args.self.now c.loop-number.self c.discard.new.self c.loop-number.invariant
-    (first-there c.loop-number.self c.inventory.result.now c.inventory.ensures c.args.node c.node.result.now.partition c.in-Some.number c.loop-number.invariant.place c.in-Some.ensures) c.discard.ensures
+    (first-there c.loop-number.self c.inventory.result.now c.inventory.ensures.value c.args.node c.node.result.now.partition c.in-Some.number c.loop-number.invariant.place c.in-Some.ensures) c.discard.ensures
 
 pub loop-number-preserved : goal.loop-number-preserved
 loop-number-preserved c =
     leaves-on c.args.node c.node.result.now.partition c.in-Some.number c.args.self.now c.loop-number.self c.discard.new.self c.loop-number.invariant
-    (first-there c.loop-number.self c.inventory.result.now c.inventory.ensures c.args.node c.node.result.now.partition c.in-Some.number c.loop-number.invariant.place c.in-Some.ensures) c.discard.ensures
+    (first-there c.loop-number.self c.inventory.result.now c.inventory.ensures.value c.args.node c.node.result.now.partition c.in-Some.number c.loop-number.invariant.place c.in-Some.ensures) c.discard.ensures
 
 pub leave_alone-requires-clause-live : goal.leave_alone-requires-clause-live
 leave_alone-requires-clause-live c = c.loop-number.invariant.live
 
 pub leave_alone-requires-clause-empty : goal.leave_alone-requires-clause-empty
 leave_alone-requires-clause-empty c =
-    none-there c.loop-number.self c.loop-number.invariant.sound c.inventory.result.now c.inventory.ensures c.args.node
+    none-there c.loop-number.self c.loop-number.invariant.sound c.inventory.result.now c.inventory.ensures.value c.args.node
     (subst (λ first. IsFirst (λ c. c.node) c.args.node (containers_of c.inventory.result.now.rows (partition_of_node c.inventory.result.now.rows.nodes c.args.node)) first) c.in_default.is c.first_of_node.ensures)
 
 pub returns-clause-rows : goal.returns-clause-rows
 returns-clause-rows c =
     all-left c.args.node c.node.result.now.partition c.args.self.now c.loop-number.self c.leave_alone.new.self c.loop-number.invariant
-    (none-there c.loop-number.self c.loop-number.invariant.sound c.inventory.result.now c.inventory.ensures c.args.node
+    (none-there c.loop-number.self c.loop-number.invariant.sound c.inventory.result.now c.inventory.ensures.value c.args.node
     (subst (λ first. IsFirst (λ c. c.node) c.args.node (containers_of c.inventory.result.now.rows (partition_of_node c.inventory.result.now.rows.nodes c.args.node)) first) c.in_default.is c.first_of_node.ensures))
     c.leave_alone.ensures
 
 pub returns-clause-state : goal.returns-clause-state
 returns-clause-state c =
     left-state c.args.node c.node.result.now.partition c.args.self.now c.loop-number.self c.leave_alone.new.self c.loop-number.invariant
-    (none-there c.loop-number.self c.loop-number.invariant.sound c.inventory.result.now c.inventory.ensures c.args.node
+    (none-there c.loop-number.self c.loop-number.invariant.sound c.inventory.result.now c.inventory.ensures.value c.args.node
     (subst (λ first. IsFirst (λ c. c.node) c.args.node (containers_of c.inventory.result.now.rows (partition_of_node c.inventory.result.now.rows.nodes c.args.node)) first) c.in_default.is c.first_of_node.ensures))
     c.leave_alone.ensures
     (subst (λ (w : ClusterView). IsSound w.rows) c.self.view_is c.self.invariant.parts.sound)
