@@ -54,10 +54,12 @@ module _ (a : Inside) (is : IsCluster a) (w : ClusterView) (view : view_of a ≡
   abbrev v : Rows
   v = a.inventory.rows
 
-  abbrev paths : List Path
+  -- the configured paths
+  abbrev pub paths : List Path
   paths = paths_of a.config
 
-  abbrev labels : List Label
+  -- and labels
+  abbrev pub labels : List Label
   labels = partition_labels a.config.labels
 
   there : (p : ℕ) → HasPartition w.rows p → HasPartition v p
