@@ -9,6 +9,7 @@ ghost use Rattle.ynl_model.specs.Applications.{finished, in_leaf, new_app, set_a
 ghost use Rattle.ynl_model.specs.Changes.{end, node_joins, place};
 ghost use Rattle.ynl_laws.specs.Uses.{use_of};
 ghost use Rattle.ynl_layout.specs.Paths.{HasNumber};
+ghost use Rattle.ynl_uses.specs.Tallies.{IsSmallUse, IsTotal};
 ghost use Rattle.ynl_slots.specs.Slots.{IsLive, IsUnused};
 ghost use Rattle.ynl_app_table.specs.declared.app.Tickets.{Tickets as TicketPair};
 ghost use Rattle.ynl_inventory.specs.Rows.{AppRow};
@@ -112,8 +113,9 @@ impl Cluster {
     /// What a queue uses of a partition.
     pub fn used(&self, p: u8, queue: usize) -> &Use
         requires { IsCell self.now p queue }
-        ensures { result.now ≡ use_of (state_in self.now)
+        ensures value { result.now ≡ use_of (state_in self.now)
             (label_of self.now p) (path_of self.now queue) }
+        ensures small { IsSmallUse result.now }
     {
         self.uses.of(p as usize, queue)
     }
@@ -121,7 +123,8 @@ impl Cluster {
     /// How much there is of a partition.
     pub fn total(&self, p: u8) -> Resource
         requires { HasPartition self.now.rows p }
-        ensures { result ≡ total (state_in self.now) (label_of self.now p) }
+        ensures value { result ≡ total (state_in self.now) (label_of self.now p) }
+        ensures small { IsTotal result }
     {
         self.totals.amount(p as usize)
     }
