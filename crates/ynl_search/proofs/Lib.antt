@@ -6,3 +6,4 @@ pub mod FirstOver
 pub mod SeatGiven
 pub mod FirstIn
 pub mod LeafFirst
+pub mod LaneOf
