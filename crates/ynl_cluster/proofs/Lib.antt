@@ -1,6 +1,7 @@
 pub mod Lines
 pub mod Opening
 pub mod Reading
+pub mod Shares
 pub mod Setting
 pub mod Users
 pub mod Sizes

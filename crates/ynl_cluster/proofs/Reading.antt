@@ -3,7 +3,7 @@ use Rattle.std.proofs.Common.{◌≡◌, ℕ, zero, suc, ◌-◌, ◌<◌, ◌�
 use Rattle.std.specs.Prelude.{slice_index_or}
 use Rattle.std.specs.List.{AllByRecursion, list_any}
 use Rattle.std.proofs.lemmas.List.{length-map}
-use Rattle.std.proofs.lemmas.Option.{same_Some}
+use Rattle.std.proofs.lemmas.Option.{none-some, same_Some}
 use Rattle.ynl_resource.specs.Amounts.{IsSmall}
 use Rattle.ynl_resource.specs.Names.{root}
 use Rattle.ynl_resource.specs.declared.amounts.Resource.{Resource}
@@ -21,17 +21,17 @@ use Rattle.ynl_settings.specs.Shares.{capacity_at, maximum_at, reached, shares_o
 use Rattle.ynl_settings.proofs.MaximaMean.{AreLabels}
 use Rattle.ynl_settings.proofs.SharesMean.{AreConfigured, IsBelowRoot, guaranteed-means, most-means}
 use Rattle.ynl_settings.proofs.StopsMean.{stops-mean}
-use Rattle.ynl_uses.specs.Tallies.{HasPartition as HasUses, IsTotal}
+use Rattle.ynl_uses.specs.Tallies.{AreSmall, HasPartition as HasUses, IsSmallUse, IsTotal}
 use Rattle.ynl_inventory.specs.Rows.{Rows, PartitionRow}
 use Rattle.ynl_inventory.specs.Meaning.{label_at}
 use Rattle.ynl_inventory.specs.Sound.{HasPartition}
 use Rattle.ynl_ledger.specs.declared.totals.Total.{Total}
-use Rattle.ynl_ledger.specs.Ledger.{total_in, use_by}
+use Rattle.ynl_ledger.specs.Ledger.{total_in, use_by, uses_in}
 use Rattle.ynl_ledger.specs.Meaning.{IsTotalOf}
 use Rattle.ynl_ledger.specs.Totals.{total_at}
 use Rattle.ynl_ledger.proofs.Calls.{has-total, has-uses, total-is}
 use Rattle.ynl_ledger.proofs.Means.{listed, totals-mean, uses-mean}
-use Rattle.ynl_ledger.proofs.Small.{total-small}
+use Rattle.ynl_ledger.proofs.Small.{total-small, uses-small}
 use Rattle.ynl_cluster.specs.declared.cluster.Cluster.TheInside.{Inside}
 use Rattle.ynl_cluster.specs.Cluster.{ClusterView, label_of, maxima_in, path_of, state_in, stops_in, IsCell}
 use Rattle.ynl_cluster.specs.Whole.{view_of, IsCluster}
@@ -50,14 +50,22 @@ total-fits amount is =
     let vcores : amount.vcores ≤ 2 ^ 32 = is.1 in
     (omega (arith, memory), omega (arith, vcores))
 
+-- one of some uses that are small
+small-in : (us : List Use) (q : ℕ) (u : Use) → AreSmall us → slice_get us q ≡ Some u → IsSmallUse u
+small-in [] q u all found = absurd (none-some u found)
+small-in (x ∷ us) zero u all found = subst IsSmallUse (same_Some x u found) all.0
+small-in (x ∷ us) (suc q) u all found = small-in us q u all.1 found
+
 module _ (a : Inside) (is : IsCluster a) (w : ClusterView) (view : view_of a ≡ w) where
   abbrev v : Rows
   v = a.inventory.rows
 
-  abbrev paths : List Path
+  -- the configured paths
+  abbrev pub paths : List Path
   paths = paths_of a.config
 
-  abbrev labels : List Label
+  -- and labels
+  abbrev pub labels : List Label
   labels = partition_labels a.config.labels
 
   there : (p : ℕ) → HasPartition w.rows p → HasPartition v p
@@ -84,6 +92,12 @@ module _ (a : Inside) (is : IsCluster a) (w : ClusterView) (view : view_of a ≡
       ∙ sym (uses-mean v is.parts.sound (stops_in (view_of a)) (maxima_in (view_of a)) p (there p cell.partition) (path_at v.paths q))
       ∙ ap (λ (w : ClusterView). use_of (state_in w) (label_of w p) (path_of w q)) view
 
+  -- and small enough for one container more
+  pub use-small : (p q : ℕ) (u : Use) → slice_get (slice_index_or a.uses p []) q ≡ Some u → IsSmallUse u
+  use-small p q u found =
+      small-in (slice_index_or (uses_in v) p []) q u (uses-small v is.parts.sound is.parts.bounded p)
+      (ap (λ us. slice_get (slice_index_or us p []) q) (sym is.parts.uses_are) ∙ found)
+
   -- ---- totals
 
   module _ (p : ℕ) (has : HasPartition w.rows p) where
@@ -108,8 +122,11 @@ module _ (a : Inside) (is : IsCluster a) (w : ClusterView) (view : view_of a ≡
     full-means count read =
         ap (nat_le 65536) (read ∙ ap (λ (t : Total). t.nodes) own) ∙ sym told.full ∙ ap (λ (w : ClusterView). is_full (state_in w).nodes (label_of w p)) view
 
+    pub amount-total : (amount : Resource) → amount ≡ (total_at a.totals p).amount → IsTotal amount
+    amount-total amount read = subst IsTotal (sym (read ∙ ap (λ (t : Total). t.amount) own)) (total-small v is.parts.sound is.parts.bounded p).amount
+
     pub amount-small : (amount : Resource) → amount ≡ (total_at a.totals p).amount → IsSmall amount
-    amount-small amount read = subst IsSmall (sym (read ∙ ap (λ (t : Total). t.amount) own)) (total-fits (total_in v p).amount (total-small v is.parts.sound is.parts.bounded p).amount)
+    amount-small amount read = total-fits amount (amount-total amount read)
 
   -- ---- the settings
 

@@ -1,5 +1,8 @@
 -- A cluster as a contract sees it, and the model's state that it means.
-use Rattle.std.specs.Prelude.{ℕ, Bool, List}
+use Rattle.std.specs.Prelude.{◌≡◌, ℕ, Bool, List, nat_eq, Some}
+use Rattle.std.specs.List.{AllByRecursion}
+use Rattle.std.specs.Map.{lookup}
+use Rattle.ynl_resource.specs.Amounts.{IsSize}
 use Rattle.ynl_resource.specs.declared.labels.Label.{Label}
 use Rattle.ynl_resource.specs.declared.paths.Path.{Path}
 use Rattle.ynl_model.specs.declared.queues.StopRow.{StopRow}
@@ -10,10 +13,13 @@ use Rattle.ynl_model.specs.Queues.{Config}
 use Rattle.ynl_layout.specs.Paths.{HasNumber, path_at, paths_of}
 use Rattle.ynl_settings.specs.declared.shares.Share.{Share}
 use Rattle.ynl_settings.specs.Meaning.{maxima_of, stops_of}
-use Rattle.ynl_inventory.specs.Rows.{Rows}
+use Rattle.ynl_lane.specs.Seats.{Seats}
+use Rattle.ynl_lane_table.specs.Lanes.{lane_at}
+use Rattle.ynl_inventory.specs.Rows.{Rows, AppRow}
 use Rattle.ynl_inventory.specs.Meaning.{label_at, state_of}
 use Rattle.ynl_inventory.specs.Parts.{Held}
 use Rattle.ynl_inventory.specs.Sound.{HasPartition}
+use Rattle.ynl_seating.specs.Seating.{AreSeated}
 
 -- its configuration, its rows, how many placements take no memory by partition, and what is set of its queues
 pub record ClusterView : Type 0 where
@@ -51,3 +57,18 @@ path_of w q = path_at w.rows.paths q
 pub record IsCell (w : ClusterView) (p q : ℕ) : Type 0 where
   pub partition : HasPartition w.rows p
   pub queue : HasNumber w.rows.paths q
+
+-- an application asks for amounts that requests may have
+pub record AsksSizes (row : AppRow) : Type 0 where
+  pub master : IsSize row.master
+  pub asks : AllByRecursion (λ ask. IsSize ask.size) row.asks
+
+-- so does each
+abbrev pub AskSizes : Rows → Type 0
+AskSizes v = (n : ℕ) (row : AppRow) → lookup (nat_eq n) v.apps ≡ Some row → AsksSizes row
+
+-- what is seen of a lane is that of a leaf on a partition, in lanes that are those of the rows
+pub record IsLaneIn (w : ClusterView) (p q : ℕ) (lane : Seats) : Type 0 where
+  pub lanes : List (List Seats)
+  pub seated : AreSeated w.rows lanes
+  pub own : lane ≡ lane_at p q lanes

@@ -1,8 +1,5 @@
 -- How the parts of a cluster go together.
-use Rattle.std.specs.Prelude.{◌≡◌, ℕ, ◌<◌, Bool, List, length, nat_eq, slice_index_or, Some}
-use Rattle.std.specs.List.{AllByRecursion}
-use Rattle.std.specs.Map.{lookup}
-use Rattle.ynl_resource.specs.Amounts.{IsSize}
+use Rattle.std.specs.Prelude.{◌≡◌, ℕ, ◌<◌, Bool, List, length, slice_index_or}
 use Rattle.ynl_resource.specs.declared.labels.Label.TheVariants.{Unlabelled}
 use Rattle.ynl_model.specs.declared.uses.Use.{Use}
 use Rattle.ynl_model.specs.Nodes.{partition_labels}
@@ -11,13 +8,14 @@ use Rattle.ynl_layout.specs.Paths.{HasNumber, path_at, paths_of}
 use Rattle.ynl_settings.specs.declared.shares.Share.{Share}
 use Rattle.ynl_settings.specs.Shares.{capacity_at, HasCell}
 use Rattle.ynl_lane.specs.Seats.{Seats}
-use Rattle.ynl_inventory.specs.Rows.{Rows, AppRow}
+use Rattle.ynl_inventory.specs.Rows.{Rows}
 use Rattle.ynl_inventory.specs.Sound.{IsFor, IsSound}
 use Rattle.ynl_ledger.specs.declared.totals.Total.{Total}
 use Rattle.ynl_ledger.specs.Ledger.{totals_in, uses_in, IsBounded}
 use Rattle.ynl_seating.specs.Seating.{AreSeated}
 use Rattle.ynl_cluster.specs.declared.cluster.Cluster.TheInside.{Inside}
 use Rattle.ynl_cluster.specs.Cluster.{ClusterView}
+pub use Rattle.ynl_cluster.specs.Cluster.{AskSizes, AsksSizes}
 
 -- what contracts see of the parts
 abbrev pub view_of : Inside → ClusterView
@@ -29,15 +27,6 @@ pub record AreSettings (c : Config) (shares : List (List Share)) (stops : List B
   pub capacities : (p q : ℕ) → p < length (partition_labels c.labels) → 0 < q → HasNumber (paths_of c) q
       → capacity_at shares p q ≡ capacity_on c (path_at (paths_of c) q) (slice_index_or (partition_labels c.labels) p Unlabelled)
   pub marks : length stops ≡ length (paths_of c)
-
--- an application asks for amounts that requests may have
-pub record AsksSizes (row : AppRow) : Type 0 where
-  pub master : IsSize row.master
-  pub asks : AllByRecursion (λ ask. IsSize ask.size) row.asks
-
--- so does each
-abbrev pub AskSizes : Rows → Type 0
-AskSizes v = (n : ℕ) (row : AppRow) → lookup (nat_eq n) v.apps ≡ Some row → AsksSizes row
 
 -- the rows are those of the configuration, sound and in bounds; and uses, totals and lanes are those of the rows
 pub record AreParts (c : Config) (v : Rows) (uses : List (List Use)) (totals : List Total) (lanes : List (List Seats)) : Type 0 where

@@ -1,25 +1,25 @@
 //! A cluster: all its parts together.
 
-ghost use Rattle.std.specs.Prelude.{◌≡◌, ◌<◌, ◌≤◌, false, length, None, Some, IfOk, IfSome, IsOk, IsSome, nat_eq, OnErr, OnOk, slice_get, slice_index_or, []};
+ghost use Rattle.std.specs.Prelude.{◌≡◌, ◌<◌, ◌≤◌, false, length, None, Some, IfOk, IfSome, IsOk, IsSome, nat_eq, OnErr, OnOk, option_map, slice_get, slice_index_or, []};
 ghost use Rattle.std.specs.Map.{lookup};
 ghost use Rattle.ynl_model.specs.Cluster.{guaranteed, maximum, opening, total};
 ghost use Rattle.ynl_model.specs.Nodes.{is_full, nodes_of};
-ghost use Rattle.ynl_model.specs.Queues.{accepts, set_maximum, set_stop};
+ghost use Rattle.ynl_model.specs.Queues.{accepts, capacity_on, maximum_on, queue_row, set_maximum, set_stop};
 ghost use Rattle.ynl_model.specs.Applications.{finished, in_leaf, new_app, set_ask, submitted, with_app};
 ghost use Rattle.ynl_model.specs.Changes.{end, node_joins, node_leaves, place};
 ghost use Rattle.ynl_laws.specs.Uses.{use_of};
 ghost use Rattle.ynl_layout.specs.Paths.{HasNumber};
+ghost use Rattle.ynl_uses.specs.Tallies.{IsSmallUse, IsTotal};
 ghost use Rattle.ynl_slots.specs.Slots.{IsLive, IsUnused};
 ghost use Rattle.ynl_app_table.specs.declared.app.Tickets.{Tickets as TicketPair};
 ghost use Rattle.ynl_inventory.specs.Rows.{AppRow, NodeRow};
 ghost use Rattle.ynl_inventory.specs.Changes.{partition_of_node, with_app_gone, with_asked, with_dropped, with_ended, with_joined, with_left, with_node_gone, with_placed, with_submitted, with_tickets, with_user_known};
 ghost use Rattle.ynl_inventory.specs.Meaning.{app_name, ask_of, item_of, node_number, node_of, placed_of};
 ghost use Rattle.ynl_inventory.specs.Parts.{CanPlace, LeavesRoom, containers_of, held_at};
-ghost use Rattle.ynl_inventory.specs.Sound.{CanAsk, CanSubmit, HasNoContainers, HasPartition, IsFor, IsPlaceable, OwnsNoContainers};
+ghost use Rattle.ynl_inventory.specs.Sound.{CanAsk, CanSubmit, HasNoContainers, HasPartition, IsFor, IsPlaceable, IsSound, OwnsNoContainers};
 ghost use Rattle.ynl_ledger.specs.Ledger.{IsBounded};
 ghost use Rattle.ynl_seating.specs.Seating.{AreSeated};
-ghost use Rattle.ynl_cluster.specs.Cluster.{held_in, label_of, path_of, state_in, IsCell};
-ghost use Rattle.ynl_cluster.specs.Whole.{AskSizes};
+ghost use Rattle.ynl_cluster.specs.Cluster.{held_in, label_of, path_of, state_in, AskSizes, IsCell, IsLaneIn};
 
 use crate::ways::way_to;
 use std::alloc::{AllocError, Global};
@@ -27,9 +27,10 @@ use std::marker::Model;
 use ynl_app_table::Ask;
 use ynl_container_table::Container;
 use ynl_inventory::{Inventory, NewSubmission, Placement};
+use ynl_lane::Lane;
 use ynl_lane_table::Lanes;
 use ynl_ledger::{Totals, tally_of};
-use ynl_model::Use;
+use ynl_model::{LeafSettings, Use};
 use ynl_queues::Config;
 use ynl_resource::{Hundredths, MOST_NODES, Name, Resource, Size};
 use ynl_seating::{enter, follow_end, follow_placement, reserve, seat, unseat};
@@ -114,8 +115,9 @@ impl Cluster {
     /// What a queue uses of a partition.
     pub fn used(&self, p: u8, queue: usize) -> &Use
         requires { IsCell self.now p queue }
-        ensures { result.now ≡ use_of (state_in self.now)
+        ensures value { result.now ≡ use_of (state_in self.now)
             (label_of self.now p) (path_of self.now queue) }
+        ensures small { IsSmallUse result.now }
     {
         self.uses.of(p as usize, queue)
     }
@@ -123,7 +125,8 @@ impl Cluster {
     /// How much there is of a partition.
     pub fn total(&self, p: u8) -> Resource
         requires { HasPartition self.now.rows p }
-        ensures { result ≡ total (state_in self.now) (label_of self.now p) }
+        ensures value { result ≡ total (state_in self.now) (label_of self.now p) }
+        ensures small { IsTotal result }
     {
         self.totals.amount(p as usize)
     }
@@ -164,6 +167,46 @@ impl Cluster {
         let total = self.totals.amount(p as usize);
         let way = way_to(self.inventory.layout(), queue);
         self.shares.most(p as usize, way, &total)
+    }
+
+    /// The part of its parent's that a queue below root is guaranteed of a partition.
+    pub fn capacity_share(&self, p: u8, queue: usize) -> Hundredths
+        requires below_root { 0 < queue }
+        requires there { IsCell self.now p queue }
+        ensures { result ≡ capacity_on self.now.config
+            (path_of self.now queue) (label_of self.now p) }
+    {
+        self.shares.capacity(p as usize, queue)
+    }
+
+    /// The part of its parent's that a queue below root may use of a partition at most.
+    pub fn maximum_share(&self, p: u8, queue: usize) -> Hundredths
+        requires below_root { 0 < queue }
+        requires there { IsCell self.now p queue }
+        ensures { result ≡ maximum_on (state_in self.now).maxima
+            (path_of self.now queue) (label_of self.now p) }
+    {
+        self.shares.maximum(p as usize, queue)
+    }
+
+    /// What is configured of a queue below root as a leaf.
+    pub fn leaf_settings(&self, queue: usize) -> &LeafSettings
+        requires below_root { 0 < queue }
+        requires there { HasNumber self.now.rows.paths queue }
+        ensures { option_map (λ row. row.leaf)
+            (queue_row self.now.config (path_of self.now queue)) ≡ Some result.now }
+    {
+        &self.config.row_at(queue - 1).leaf
+    }
+
+    /// The lane of those who wait in a leaf on a partition.
+    pub fn lane(&self, p: u8, leaf: usize) -> &Lane
+        requires { IsCell self.now p leaf }
+        ensures lane { IsLaneIn self.now p leaf result.now }
+        ensures sound { IsSound self.now.rows }
+        ensures sizes { AskSizes self.now.rows }
+    {
+        self.lanes.lane(p as usize, leaf)
     }
 
     /// Whether neither a queue nor one above it is stopped.

@@ -7,3 +7,4 @@ pub mod SeatGiven
 pub mod FirstIn
 pub mod LeafFirst
 pub mod GuestFirst
+pub mod LaneOf

@@ -4,6 +4,7 @@
 pub use found::Found;
 pub use headroom::Headroom;
 pub use leaf::LeafTests;
+pub use leaves::{cell_of, lane_of, tests_of};
 pub use place::{Cell, Place};
 
 mod found;
@@ -11,6 +12,7 @@ mod guests;
 mod headroom;
 pub mod laws;
 mod leaf;
+mod leaves;
 mod lowest;
 mod own;
 mod place;
