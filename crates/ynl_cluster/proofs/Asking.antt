@@ -23,6 +23,7 @@ use Rattle.ynl_seating.proofs.RowChanges.{asked-but}
 use Rattle.ynl_cluster.specs.declared.cluster.Cluster.TheInside.{Inside}
 use Rattle.ynl_cluster.specs.Cluster.{ClusterView, maxima_in, path_of, state_in, stops_in}
 use Rattle.ynl_cluster.specs.Whole.{view_of, AreParts, AskSizes, IsCluster}
+use Rattle.ynl_cluster.proofs.Numbers.{as-numbered}
 use Rattle.ynl_cluster.proofs.Sizes.{asked-sizes, changed-sizes}
 
 module _ (a : Inside) (is : IsCluster a) (w : ClusterView) (view : view_of a ≡ w) (app : ℕ) (ask : Ask) (can : CanAsk w.rows app ask) where
@@ -62,6 +63,7 @@ module _ (a : Inside) (is : IsCluster a) (w : ClusterView) (view : view_of a ≡
           sound = subst IsSound (sym rows) (asked-sound v is.parts.sound app own.0 own.1 ask (on own.0 own.1));
           bounded = subst IsBounded (sym rows) (others v is.parts.bounded (with_asked app ask v) refl refl);
           sizes = subst AskSizes (sym rows) (changed-sizes v app (λ row. record row { asks = with_ask ask row.asks }) (asked-sizes ask sized) is.parts.sizes);
+          numbers = as-numbered v new (ap (λ (v : Rows). v.partitions) rows) (ap (λ (v : Rows). v.paths) rows) is.parts.numbers;
           uses_are = is.parts.uses_are ∙ sym (ap uses_in rows ∙ (asking v app ask).uses);
           totals_are = is.parts.totals_are ∙ sym (ap totals_in rows ∙ (asking v app ask).totals);
           seated = seated;

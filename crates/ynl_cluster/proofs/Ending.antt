@@ -12,7 +12,7 @@ use Rattle.ynl_container_table.specs.declared.container.Container.{Container}
 use Rattle.ynl_lane.specs.Rows.{IsUse}
 use Rattle.ynl_lane.specs.Seats.{Seats}
 use Rattle.ynl_inventory.specs.Rows.{Rows, PartitionRow}
-use Rattle.ynl_inventory.specs.Changes.{next_clock_at, ticked, with_dropped, with_ended}
+use Rattle.ynl_inventory.specs.Changes.{next_clock_at, ticked, with_at, with_dropped, with_ended}
 use Rattle.ynl_inventory.specs.Meaning.{placed_of, state_of}
 use Rattle.ynl_inventory.specs.Parts.{held_at}
 use Rattle.ynl_inventory.specs.Sound.{HasPartition, IsFor, IsSound}
@@ -28,7 +28,8 @@ use Rattle.ynl_seating.specs.Seating.{user_use, AreSeated}
 use Rattle.ynl_seating.specs.Steps.{IsEnded}
 use Rattle.ynl_cluster.specs.declared.cluster.Cluster.TheInside.{Inside}
 use Rattle.ynl_cluster.specs.Cluster.{ClusterView, label_of, maxima_in, state_in, stops_in}
-use Rattle.ynl_cluster.specs.Whole.{view_of, AreParts, AskSizes, IsCluster}
+use Rattle.ynl_cluster.specs.Whole.{view_of, AreNumbered, AreParts, AskSizes, IsCluster}
+use Rattle.ynl_cluster.proofs.Numbers.{numbers-at}
 use Rattle.ynl_cluster.proofs.Users.{own-small}
 
 -- the partition of a container, and where it stands there
@@ -69,6 +70,15 @@ module _ (a : Inside) (is : IsCluster a) (w : ClusterView) (view : view_of a ≡
   bounded-after : IsBounded new
   bounded-after = either IsBounded (ending v is.parts.bounded p number c.node) (dropping v is.parts.bounded p number)
 
+  with-partitions : (change : PartitionRow → PartitionRow) → AreNumbered (record v { partitions = with_at p change v.partitions })
+  with-partitions change = numbers-at v p change is.parts.numbers
+
+  numbers-after : AreNumbered new
+  numbers-after =
+      let ended = with-partitions (ticked (without number)) in
+      let gone = with-partitions dropped in
+      either AreNumbered (record { partitions = ended.partitions; queues = ended.queues }) (record { partitions = gone.partitions; queues = gone.queues })
+
   -- its application goes on
   pub live-after : IsLive c.app new.apps
   live-after = let before = (stands-there v is.parts.sound p number c held).1 in either (λ v. IsLive c.app v.apps) before before
@@ -103,6 +113,7 @@ module _ (a : Inside) (is : IsCluster a) (w : ClusterView) (view : view_of a ≡
     sound = sound-after;
     bounded = bounded-after;
     sizes = either AskSizes is.parts.sizes is.parts.sizes;
+    numbers = numbers-after;
     uses_are = uses-are;
     totals_are =
         is.parts.totals_are

@@ -1,5 +1,5 @@
 -- The parts of a cluster after an application finished.
-use Rattle.std.proofs.Common.{◌≡◌, ◌≢◌, ℕ, nat_eq, List, Some, refl, sym, ap, subst, ◌∙◌}
+use Rattle.std.proofs.Common.{◌≡◌, ◌≢◌, ℕ, Bool, nat_eq, List, Some, refl, sym, ap, subst, ◌∙◌}
 use Rattle.std.specs.Prelude.{IfSome}
 use Rattle.std.specs.Map.{lookup}
 use Rattle.ynl_model.specs.Applications.{finished, in_leaf}
@@ -57,6 +57,7 @@ module _ (a : Inside) (is : IsCluster a) (w : ClusterView) (view : view_of a ≡
             (λ p r at n c held. at-number (λ n (c : Container). c.app ≢ app) r.containers n c (empty-before p r at) held);
         bounded = others v is.parts.bounded (with_app_gone app own.0.tenant own.0.turn v) refl refl;
         sizes = λ n row found. is.parts.sizes n row (found-without n app row v.apps found);
+        numbers = record { partitions = is.parts.numbers.partitions; queues = is.parts.numbers.queues };
         uses_are = is.parts.uses_are ∙ sym (finishing v app own.0.tenant own.0.turn empty-before).uses;
         totals_are = is.parts.totals_are ∙ sym (finishing v app own.0.tenant own.0.turn empty-before).totals;
         seated = at-own (λ row. AreSeated (with_app_gone app row.tenant row.turn v) lanes) seated own.0 own.1;
@@ -76,9 +77,9 @@ module _ (a : Inside) (is : IsCluster a) (w : ClusterView) (view : view_of a ≡
       ∙ gone-means v app row is.parts.sound found (λ p r at n c held. at-number (λ n (c : Container). c.app ≢ app) r.containers n c (empty-before p r at) held) (stops_in (view_of a)) (maxima_in (view_of a)))
 
   -- the rows that a contract sees
-  pub rows-after : (new : Rows) → IfSome (lookup (nat_eq app) v.apps) (λ row. new ≡ with_app_gone app row.tenant row.turn v) → (rooms : List ℕ) → rooms ≡ a.inventory.rooms
-      → IfSome (lookup (nat_eq app) w.rows.apps) (λ row. record (view_of a) { rows = new; rooms = rooms } ≡ record w { rows = with_app_gone app row.tenant row.turn w.rows })
-  rows-after new rows rooms same =
-      subst (λ (w : ClusterView). IfSome (lookup (nat_eq app) w.rows.apps) (λ row. record (view_of a) { rows = new; rooms = rooms } ≡ record w { rows = with_app_gone app row.tenant row.turn w.rows })) view
-      (subst (λ o. IfSome o (λ row. record (view_of a) { rows = new; rooms = rooms } ≡ record (view_of a) { rows = with_app_gone app row.tenant row.turn v })) (sym own.1)
-      (λ i. record (view_of a) { rows = at-own (λ row. new ≡ with_app_gone app row.tenant row.turn v) rows own.0 own.1 i; rooms = same i }))
+  pub rows-after : (new : Rows) → IfSome (lookup (nat_eq app) v.apps) (λ row. new ≡ with_app_gone app row.tenant row.turn v) → (rooms : List ℕ) → rooms ≡ a.inventory.rooms → (ready : Bool) → ready ≡ a.inventory.ready
+      → IfSome (lookup (nat_eq app) w.rows.apps) (λ row. record (view_of a) { rows = new; rooms = rooms; ready = ready } ≡ record w { rows = with_app_gone app row.tenant row.turn w.rows })
+  rows-after new rows rooms same ready still =
+      subst (λ (w : ClusterView). IfSome (lookup (nat_eq app) w.rows.apps) (λ row. record (view_of a) { rows = new; rooms = rooms; ready = ready } ≡ record w { rows = with_app_gone app row.tenant row.turn w.rows })) view
+      (subst (λ o. IfSome o (λ row. record (view_of a) { rows = new; rooms = rooms; ready = ready } ≡ record (view_of a) { rows = with_app_gone app row.tenant row.turn v })) (sym own.1)
+      (λ i. record (view_of a) { rows = at-own (λ row. new ≡ with_app_gone app row.tenant row.turn v) rows own.0 own.1 i; rooms = same i; ready = still i }))

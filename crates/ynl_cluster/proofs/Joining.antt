@@ -9,7 +9,7 @@ use Rattle.ynl_model.specs.Changes.{node_joins}
 use Rattle.ynl_model.specs.Nodes.{is_full}
 use Rattle.ynl_slots.specs.Slots.{IsUnused}
 use Rattle.ynl_inventory.specs.Rows.{Rows, PartitionRow}
-use Rattle.ynl_inventory.specs.Changes.{with_at, with_joined}
+use Rattle.ynl_inventory.specs.Changes.{ticked, with_at, with_joined}
 use Rattle.ynl_inventory.specs.Meaning.{node_number, state_of}
 use Rattle.ynl_inventory.specs.Sound.{HasPartition, IsFor, IsJoinable, IsSound}
 use Rattle.ynl_inventory.proofs.Finding.{own-label, unnamed}
@@ -26,9 +26,10 @@ use Rattle.ynl_seating.specs.Seating.{AreSeated}
 use Rattle.ynl_seating.proofs.RowChanges.{joined-seated}
 use Rattle.ynl_cluster.specs.declared.cluster.Cluster.TheInside.{Inside}
 use Rattle.ynl_cluster.specs.Cluster.{ClusterView, label_of, maxima_in, state_in, stops_in}
-use Rattle.ynl_cluster.specs.Whole.{view_of, AreParts, AskSizes, IsCluster}
+use Rattle.ynl_cluster.specs.Whole.{view_of, AreNumbered, AreParts, AskSizes, IsCluster}
+use Rattle.ynl_cluster.proofs.Numbers.{numbers-at}
 
-less-than : (m n : ℕ) → nat_le m n ≡ false → n < m
+pub less-than : (m n : ℕ) → nat_le m n ≡ false → n < m
 less-than m n h = grind (arith, nat_tests, h)
 
 module _ (a : Inside) (is : IsCluster a) (w : ClusterView) (view : view_of a ≡ w) (p : ℕ) (has : HasPartition w.rows p) where
@@ -62,6 +63,9 @@ module _ (a : Inside) (is : IsCluster a) (w : ClusterView) (view : view_of a ≡
     abbrev joinable : IsJoinable v number name p
     joinable = record { unused = unused; unnamed = unnamed name v.nodes (unnamed-before name unknown); partition = own.0; found = own.1 }
 
+    many : AreNumbered (record v { partitions = with_at p (ticked (λ containers. containers)) v.partitions })
+    many = numbers-at v p (ticked (λ containers. containers)) is.parts.numbers
+
     -- with totals that follow, the parts go together
     pub parts-after : is_full (state_in w).nodes (label_of w p) ≡ false → (totals : List Total) → totals ≡ with_at p (grown size) a.totals → AreParts a.config new a.uses totals a.lanes
     parts-after free totals made = record {
@@ -69,6 +73,7 @@ module _ (a : Inside) (is : IsCluster a) (w : ClusterView) (view : view_of a ≡
       sound = subst IsSound (sym rows) (joined-sound v is.parts.sound number name p size joinable);
       bounded = subst IsBounded (sym rows) (bounded-joining v is.parts.sound is.parts.bounded number name p size unused sized (fewer free));
       sizes = subst AskSizes (sym rows) is.parts.sizes;
+      numbers = subst AreNumbered (sym rows) (record { partitions = many.partitions; queues = many.queues });
       uses_are = is.parts.uses_are ∙ sym (ap uses_in rows ∙ (ledger-joining v number name p size).uses);
       totals_are = grown-totals v a.totals is.parts.totals_are number name p size totals made new rows;
       seated = subst (λ v. AreSeated v a.lanes) (sym rows) (joined-seated v number name p size has-before a.lanes is.parts.seated);

@@ -29,7 +29,9 @@ use Rattle.ynl_seating.specs.Seating.{AreSeated}
 use Rattle.ynl_seating.proofs.RowChanges.{left-seated}
 use Rattle.ynl_cluster.specs.declared.cluster.Cluster.TheInside.{Inside}
 use Rattle.ynl_cluster.specs.Cluster.{ClusterView, held_in, maxima_in, state_in, stops_in}
+use Rattle.ynl_cluster.specs.Leaving.{IsLeaving}
 use Rattle.ynl_cluster.specs.Whole.{view_of, AreParts, AskSizes, IsCluster}
+use Rattle.ynl_cluster.proofs.Numbers.{as-numbered}
 
 -- a node is there
 pub node-there : (a : Inside) (w : ClusterView) → view_of a ≡ w → (node : ℕ) → IsLive node w.rows.nodes → IsLive node a.inventory.rows.nodes
@@ -60,6 +62,7 @@ module _ (a : Inside) (is : IsCluster a) (w : ClusterView) (view : view_of a ≡
       sound = subst IsSound (sym rows) (gone-sound v is.parts.sound node row found empty-before);
       bounded = subst IsBounded (sym rows) (bounded-leaving v is.parts.sound is.parts.bounded node row found);
       sizes = subst AskSizes (sym rows) is.parts.sizes;
+      numbers = as-numbered v new (ap (λ (v : Rows). v.partitions) rows) (ap (λ (v : Rows). v.paths) rows) is.parts.numbers;
       uses_are = is.parts.uses_are ∙ sym (ap uses_in rows ∙ (ledger-leaving v is.parts.sound node row found).uses);
       totals_are = shrunk-totals v a.totals is.parts.totals_are is.parts.sound node row found totals made new rows;
       seated = subst (λ v. AreSeated v a.lanes) (sym rows) (left-seated v node a.lanes is.parts.seated);
@@ -67,19 +70,11 @@ module _ (a : Inside) (is : IsCluster a) (w : ClusterView) (view : view_of a ≡
 
 -- ---- its containers go first
 
--- a node is leaving: some of its containers went with it, and all else is as it was
-pub record IsLeaving (node p : ℕ) (old now : ClusterView) : Type 0 where
-  pub same : now ≡ record old { rows = now.rows; rooms = now.rooms }
-  pub left : with_left node now.rows ≡ with_left node old.rows
-  pub place : p ≡ partition_of_node now.rows.nodes node
-  pub live : IsLive node now.rows.nodes
-  pub sound : IsSound now.rows
-
 -- at first none went
 pub leaves-first : (a : Inside) → IsCluster a → (w : ClusterView) → view_of a ≡ w → (node : ℕ) (row : NodeRow) → lookup (nat_eq node) a.inventory.rows.nodes ≡ Some row → IsLeaving node row.partition w w
 leaves-first a is w view node row found =
     subst (λ w. IsLeaving node row.partition w w) view
-    (record { same = refl; left = refl; place = sym (ap (λ o. option_map_or (λ (r : NodeRow). r.partition) o 0) found); live = ap is_some found; sound = is.parts.sound })
+    (record { same = refl; left = refl; nodes = refl; place = sym (ap (λ o. option_map_or (λ (r : NodeRow). r.partition) o 0) found); live = ap is_some found; sound = is.parts.sound })
 
 -- a container of a node, and where it stands
 pub record IsOn (v : Rows) (node p number : ℕ) : Type 0 where
@@ -114,7 +109,7 @@ not-more number (e ∷ es) = go (nat_eq number e.0) (not-more number es)
     go true h = omega (arith, h)
     go false h = omega (arith, h)
 
-one-fewer : (number : ℕ) (es : List (ℕ × Container)) (c : Container) → lookup (nat_eq number) es ≡ Some c → length (without number es) < length es
+pub one-fewer : (number : ℕ) (es : List (ℕ × Container)) (c : Container) → lookup (nat_eq number) es ≡ Some c → length (without number es) < length es
 one-fewer number [] c found = absurd (none-some c found)
 one-fewer number (e ∷ es) c found = go (nat_eq number e.0) found (one-fewer number es c) (not-more number es)
   where
@@ -134,6 +129,7 @@ module _ (node p number : ℕ) (old now after : ClusterView) (leaving : IsLeavin
       record {
         same = dropped ∙ (λ i. record (leaving.same i) { rows = sym rows-are i; rooms = after.rooms });
         left = ap (with_left node) rows-are ∙ dropped-left now.rows leaving.sound p on.row on.there number node nrow.0 nrow.1 on.gone on.found on.own ∙ leaving.left;
+        nodes = ap (λ (v : Rows). v.nodes) rows-are ∙ leaving.nodes;
         place = leaving.place ∙ ap (λ (v : Rows). partition_of_node v.nodes node) (sym rows-are);
         live = subst (λ (v : Rows). IsLive node v.nodes) (sym rows-are) leaving.live;
         sound = subst IsSound (sym rows-are) (dropped-sound now.rows leaving.sound p on.row on.there number);
@@ -184,3 +180,8 @@ pub none-there : (w : ClusterView) → IsSound w.rows → (h : Held) → h ≡ h
 none-there w sound h is node first =
     none-left w.rows sound node (partition_of_node w.rows.nodes node) refl
     (subst (λ (h : Held). AllByRecursion (λ e. e.1.node ≢ node) (containers_of h.rows (partition_of_node h.rows.nodes node))) is first.none)
+
+-- what is known of the node's row is so of the one that is found
+pub leaving-of : (w : ClusterView) (node : ℕ) (old now : ClusterView) (part : NodeRow) → lookup (nat_eq node) w.rows.nodes ≡ Some part → IsLeaving node part.partition old now
+    → (row : NodeRow) → lookup (nat_eq node) w.rows.nodes ≡ Some row → IsLeaving node row.partition old now
+leaving-of w node old now part at is row found = subst (λ (r : NodeRow). IsLeaving node r.partition old now) (same_Some part row (sym at ∙ found)) is

@@ -5,6 +5,7 @@ pub mod Shares
 pub mod Setting
 pub mod Users
 pub mod Sizes
+pub mod Numbers
 pub mod Placing
 pub mod Ending
 pub mod Joining
@@ -13,3 +14,6 @@ pub mod Finishing
 pub mod Submitting
 pub mod Leaving
 pub mod Naming
+pub mod Own
+pub mod OwnEnding
+pub mod Moving

@@ -37,6 +37,7 @@ module _ (a : Inside) (is : IsCluster a) (name : Name) (new : Rows) (rows : new 
         sound = sound;
         bounded = others v is.parts.bounded (with_user name v) refl refl;
         sizes = is.parts.sizes;
+        numbers = record { partitions = is.parts.numbers.partitions; queues = is.parts.numbers.queues };
         uses_are = is.parts.uses_are;
         totals_are = is.parts.totals_are;
         seated = user-seated v name a.lanes is.parts.seated;

@@ -1,5 +1,5 @@
 -- The parts of a cluster before any event.
-use Rattle.std.proofs.Common.{◌≡◌, ℕ, ◌+◌, ◌<◌, Bool, List, [], ◌∷◌, length, map, get_or, replicate, sym, ap, subst, ◌∙◌, arith}
+use Rattle.std.proofs.Common.{◌≡◌, ℕ, ◌+◌, ◌<◌, ◌≤◌, ◌^◌, Bool, List, [], ◌∷◌, length, map, get_or, replicate, sym, ap, subst, ◌∙◌, arith}
 use Rattle.std.proofs.lemmas.List.{get_or-map, length-map}
 use Rattle.std.proofs.lemmas.Option.{none-some}
 use Rattle.ynl_resource.specs.Names.{root}
@@ -29,6 +29,7 @@ use Rattle.ynl_seating.proofs.Starting.{is-seated_first}
 use Rattle.ynl_settings.specs.Meaning.{maxima_of, stops_of}
 use Rattle.ynl_cluster.specs.Cluster.{ClusterView, maxima_in, state_in, stops_in}
 use Rattle.ynl_cluster.specs.Whole.{AreParts, AreSettings}
+use Rattle.ynl_cluster.proofs.Numbers.{opening-numbers}
 
 -- root is one of the queues
 pub many-queues : (c : Config) (n : ℕ) → n ≡ length c.queues → n + 1 ≡ length (root ∷ paths_of c)
@@ -62,14 +63,15 @@ module _ (c : Config) where
   -- the other parts are those of the rows without containers
   pub parts-opened : (v : Rows) (uses : List (List Use)) (totals : List Total) (lanes : List (List Seats)) → v ≡ opening_rows c → IsFor c v → IsSound v
       → IsTable (length (partition_labels c.labels)) (length (root ∷ paths_of c)) no_use uses → totals ≡ replicate (length (partition_labels c.labels)) no_total
-      → lanes ≡ replicate (length (partition_labels c.labels)) (replicate (length (root ∷ paths_of c)) no_seats) → AreParts c v uses totals lanes
-  parts-opened v uses totals lanes rows configured sound table none empty =
+      → lanes ≡ replicate (length (partition_labels c.labels)) (replicate (length (root ∷ paths_of c)) no_seats) → length (partition_labels c.labels) ≤ 2 ^ 8 → length (root ∷ paths_of c) ≤ 2 ^ 32 → AreParts c v uses totals lanes
+  parts-opened v uses totals lanes rows configured sound table none empty partitions queues =
       subst (λ v. AreParts c v uses totals lanes) (sym rows)
       (record {
         configured = subst (IsFor c) rows configured;
         sound = subst IsSound rows sound;
         bounded = (opened c).bounded;
         sizes = λ n row found. absurd (none-some row found);
+        numbers = opening-numbers c partitions queues;
         uses_are = (opened c).uses uses table;
         totals_are = none ∙ sym (opened c).totals;
         seated = subst (AreSeated (opening_rows c)) (sym (empty ∙ ap (λ n. replicate n (replicate (length (root ∷ paths_of c)) no_seats)) (sym (length-map (partition_labels c.labels) (opening_partition c.labels))))) (is-seated_first c);

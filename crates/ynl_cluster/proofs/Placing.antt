@@ -1,41 +1,35 @@
 -- The parts of a cluster after a container was placed.
-use Rattle.std.proofs.Common.{◌≡◌, ℕ, ◌<◌, true, nat_eq, List, [], ◌∷◌, ◌++◌, slice_get, Some, refl, sym, ap, subst, ◌∙◌, inl, inr}
-use mathlib.Core.Logic.{◌⊎◌}
+use Rattle.std.proofs.Common.{◌≡◌, ℕ, ◌<◌, nat_eq, List, [], ◌∷◌, ◌++◌, slice_get, Some, refl, sym, ap, subst, ◌∙◌}
 use Rattle.std.specs.Prelude.{IfSome}
 use Rattle.std.specs.Map.{lookup}
 use Rattle.std.specs.Option.{option_map_or}
-use Rattle.std.proofs.lemmas.Bool.{or_left, or_right}
 use Rattle.std.proofs.lemmas.Option.{slice_get_within}
 use Rattle.ynl_resource.specs.Amounts.{IsSize}
 use Rattle.ynl_model.specs.declared.uses.Use.{Use}
 use Rattle.ynl_model.specs.Changes.{place}
 use Rattle.ynl_slots.specs.Slots.{IsLive, IsUnused}
-use Rattle.ynl_slots.proofs.Entries.{itself}
-use Rattle.ynl_slots.proofs.Lists.{all_from}
-use Rattle.ynl_app_table.specs.declared.asks.Ask.{Ask}
 use Rattle.ynl_container_table.specs.declared.container.Container.{Container}
 use Rattle.ynl_container_table.specs.declared.container.Role.{Role}
-use Rattle.ynl_container_table.specs.declared.container.Role.TheVariants.{Master, Ask as Asked}
 use Rattle.ynl_lane.specs.Rows.{IsUse}
 use Rattle.ynl_lane.specs.Seats.{Seats}
 use Rattle.ynl_inventory.specs.declared.partition.Placement.{Placement}
-use Rattle.ynl_inventory.specs.Rows.{Rows, PartitionRow, NodeRow, AppRow}
+use Rattle.ynl_inventory.specs.Rows.{Rows, PartitionRow, NodeRow}
 use Rattle.ynl_inventory.specs.Apps.{containers_of}
-use Rattle.ynl_inventory.specs.Changes.{next_clock_at, next_container, partition_of_node, ticked, with_changed, with_placed, with_taken}
+use Rattle.ynl_inventory.specs.Changes.{next_clock_at, next_container, partition_of_node, ticked, with_at, with_changed, with_placed, with_taken}
 use Rattle.ynl_inventory.specs.Meaning.{item_of, node_of, state_of}
 use Rattle.ynl_inventory.specs.Parts.{CanPlace}
-use Rattle.ynl_inventory.specs.Sound.{CanTake, HasPartition, IsAskedOn, IsFor, IsPlaceable, IsSound}
-use Rattle.ynl_inventory.proofs.Asked.{ask-there}
+use Rattle.ynl_inventory.specs.Sound.{HasPartition, IsFor, IsPlaceable, IsSound}
 use Rattle.ynl_inventory.proofs.Lookups.{changed-live, found-live, length-at, read-changed}
 use Rattle.ynl_inventory.proofs.Placing.{placed-for, placed-means, placed-sound}
 use Rattle.ynl_ledger.specs.Ledger.{totals_in, uses_in, IsBounded}
 use Rattle.ynl_ledger.proofs.Bounded.{placing as bounded-placing}
 use Rattle.ynl_ledger.proofs.Sums.{changed-totals}
-use Rattle.ynl_seating.specs.Seating.{shares, user_use, AreSeated}
+use Rattle.ynl_seating.specs.Seating.{user_use, AreSeated}
 use Rattle.ynl_seating.specs.Steps.{IsPlaced}
 use Rattle.ynl_cluster.specs.declared.cluster.Cluster.TheInside.{Inside}
 use Rattle.ynl_cluster.specs.Cluster.{ClusterView, held_in, maxima_in, state_in, stops_in}
-use Rattle.ynl_cluster.specs.Whole.{view_of, AreParts, AskSizes, IsCluster}
+use Rattle.ynl_cluster.specs.Whole.{view_of, AreNumbered, AreParts, AskSizes, IsCluster}
+use Rattle.ynl_cluster.proofs.Numbers.{numbers-at}
 use Rattle.ynl_cluster.proofs.Sizes.{changed-sizes, taken-sizes}
 use Rattle.ynl_cluster.proofs.Users.{own-small}
 
@@ -118,6 +112,9 @@ module _ (a : Inside) (is : IsCluster a) (w : ClusterView) (view : view_of a ≡
       seated = is.parts.seated;
     }
 
+    many : AreNumbered (record v { partitions = with_at place_of (ticked pushed) v.partitions })
+    many = numbers-at v place_of (ticked pushed) is.parts.numbers
+
     -- with uses and lanes that follow, the parts go together
     pub parts-after : (uses : List (List Use)) → uses ≡ uses_in new → (lanes : List (List Seats)) → AreSeated new lanes → AreParts a.config new uses a.totals lanes
     parts-after uses uses-are lanes seated = record {
@@ -125,6 +122,7 @@ module _ (a : Inside) (is : IsCluster a) (w : ClusterView) (view : view_of a ≡
       sound = sound-after;
       bounded = bounded-after;
       sizes = subst AskSizes (sym rows) (changed-sizes (with_changed place_of placed.node pushed v) placed.app (with_taken placed.role) (taken-sizes placed.role) is.parts.sizes);
+      numbers = subst AreNumbered (sym rows) (record { partitions = many.partitions; queues = many.queues });
       uses_are = uses-are;
       totals_are = is.parts.totals_are ∙ sym (ap totals_in rows ∙ changed-totals v place_of (ticked pushed) placed.node (next_clock_at v.partitions place_of) after.apps);
       seated = seated;

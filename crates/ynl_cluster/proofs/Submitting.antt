@@ -36,6 +36,7 @@ use Rattle.ynl_seating.proofs.Starting.{is-submitted_last}
 use Rattle.ynl_cluster.specs.declared.cluster.Cluster.TheInside.{Inside}
 use Rattle.ynl_cluster.specs.Cluster.{ClusterView, label_of, maxima_in, path_of, state_in, stops_in}
 use Rattle.ynl_cluster.specs.Whole.{view_of, AreParts, AskSizes, AsksSizes, IsCluster}
+use Rattle.ynl_cluster.proofs.Numbers.{as-numbered}
 use Rattle.ynl_cluster.proofs.Sizes.{changed-sizes}
 
 -- a change that leaves each row leaves all
@@ -136,6 +137,7 @@ module _ (a : Inside) (is : IsCluster a) (w : ClusterView) (view : view_of a ≡
         sound = subst IsSound (sym all-rows) (tickets-sound entered sound-entered number live-there tickets);
         bounded = subst IsBounded (sym all-rows) (others v is.parts.bounded (with_tickets number tickets entered) refl refl);
         sizes = subst AskSizes (sym all-rows) (changed-sizes entered number (set tickets) (λ row is. record { master = is.master; asks = is.asks }) (sizes-entered sized));
+        numbers = as-numbered v after (ap (λ (v : Rows). v.partitions) all-rows) (ap (λ (v : Rows). v.paths) all-rows) is.parts.numbers;
         uses_are =
             is.parts.uses_are
             ∙ sym (ap uses_in all-rows ∙ (ticketing entered number tickets).uses ∙ (submitting v is.parts.sound number name new.tenant new.leaf new.user new.home new.master_size).uses);

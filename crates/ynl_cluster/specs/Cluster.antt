@@ -1,9 +1,11 @@
 -- A cluster as a contract sees it, and the model's state that it means.
-use Rattle.std.specs.Prelude.{◌≡◌, ℕ, Bool, List, nat_eq, Some}
+use Rattle.std.specs.Prelude.{◌≡◌, ℕ, ◌≤◌, ◌^◌, Bool, List, ◌∷◌, length, nat_eq, Some}
 use Rattle.std.specs.List.{AllByRecursion}
 use Rattle.std.specs.Map.{lookup}
 use Rattle.ynl_resource.specs.Amounts.{IsSize}
+use Rattle.ynl_resource.specs.Names.{root, tenant_of}
 use Rattle.ynl_resource.specs.declared.labels.Label.{Label}
+use Rattle.ynl_resource.specs.declared.names.Name.{Name}
 use Rattle.ynl_resource.specs.declared.paths.Path.{Path}
 use Rattle.ynl_model.specs.declared.queues.StopRow.{StopRow}
 use Rattle.ynl_model.specs.declared.queues.MaximumRow.{MaximumRow}
@@ -16,22 +18,23 @@ use Rattle.ynl_settings.specs.Meaning.{maxima_of, stops_of}
 use Rattle.ynl_lane.specs.Seats.{Seats}
 use Rattle.ynl_lane_table.specs.Lanes.{lane_at}
 use Rattle.ynl_inventory.specs.Rows.{Rows, AppRow}
-use Rattle.ynl_inventory.specs.Meaning.{label_at, state_of}
+use Rattle.ynl_inventory.specs.Meaning.{app_name, label_at, state_of}
 use Rattle.ynl_inventory.specs.Parts.{Held}
 use Rattle.ynl_inventory.specs.Sound.{HasPartition}
 use Rattle.ynl_seating.specs.Seating.{AreSeated}
 
--- its configuration, its rows, how many placements take no memory by partition, and what is set of its queues
+-- its configuration, its rows, how many placements take no memory by partition, what is set of its queues, and whether a node may join again without memory
 pub record ClusterView : Type 0 where
   pub config : Config
   pub rows : Rows
   pub rooms : List ℕ
   pub stops : List Bool
   pub shares : List (List Share)
+  pub ready : Bool
 
 -- what it holds
 abbrev pub held_in : ClusterView → Held
-held_in w = record { rows = w.rows; rooms = w.rooms }
+held_in w = record { rows = w.rows; rooms = w.rooms; ready = w.ready }
 
 -- the marks of its queues below root
 abbrev pub stops_in : ClusterView → List StopRow
@@ -53,10 +56,23 @@ label_of w p = label_at w.rows.partitions p
 abbrev pub path_of : ClusterView → ℕ → Path
 path_of w q = path_at w.rows.paths q
 
+-- the tenant of a live application
+abbrev pub tenant_in : Rows → AppRow → Name
+tenant_in v row = tenant_of (path_at v.paths row.leaf)
+
+-- and its name
+abbrev pub name_in : Rows → AppRow → Name
+name_in v row = app_name v.tenants row.tenant row.turn
+
 -- there is a partition of the one number, and a queue of the other
 pub record IsCell (w : ClusterView) (p q : ℕ) : Type 0 where
   pub partition : HasPartition w.rows p
   pub queue : HasNumber w.rows.paths q
+
+-- partitions and queues have numbers of 8 and of 32 bits
+pub record AreNumbered (v : Rows) : Type 0 where
+  pub partitions : length v.partitions ≤ 2 ^ 8
+  pub queues : length (root ∷ v.paths) ≤ 2 ^ 32
 
 -- an application asks for amounts that requests may have
 pub record AsksSizes (row : AppRow) : Type 0 where

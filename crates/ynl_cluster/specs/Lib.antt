@@ -1,2 +1,4 @@
 pub mod Cluster
 pub mod Whole
+pub mod Finishing
+pub mod Leaving

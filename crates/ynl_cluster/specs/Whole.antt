@@ -15,11 +15,11 @@ use Rattle.ynl_ledger.specs.Ledger.{totals_in, uses_in, IsBounded}
 use Rattle.ynl_seating.specs.Seating.{AreSeated}
 use Rattle.ynl_cluster.specs.declared.cluster.Cluster.TheInside.{Inside}
 use Rattle.ynl_cluster.specs.Cluster.{ClusterView}
-pub use Rattle.ynl_cluster.specs.Cluster.{AskSizes, AsksSizes}
+pub use Rattle.ynl_cluster.specs.Cluster.{AreNumbered, AskSizes, AsksSizes}
 
 -- what contracts see of the parts
 abbrev pub view_of : Inside → ClusterView
-view_of a = record { config = a.config; rows = a.inventory.rows; rooms = a.inventory.rooms; stops = a.stops; shares = a.shares }
+view_of a = record { config = a.config; rows = a.inventory.rows; rooms = a.inventory.rooms; stops = a.stops; shares = a.shares; ready = a.inventory.ready }
 
 -- there is a share for each partition and queue, whose capacity is the configured one, and a mark for each queue below root
 pub record AreSettings (c : Config) (shares : List (List Share)) (stops : List Bool) : Type 0 where
@@ -28,12 +28,13 @@ pub record AreSettings (c : Config) (shares : List (List Share)) (stops : List B
       → capacity_at shares p q ≡ capacity_on c (path_at (paths_of c) q) (slice_index_or (partition_labels c.labels) p Unlabelled)
   pub marks : length stops ≡ length (paths_of c)
 
--- the rows are those of the configuration, sound and in bounds; and uses, totals and lanes are those of the rows
+-- the rows are those of the configuration, sound and in bounds, with numbers of their types; and uses, totals and lanes are those of the rows
 pub record AreParts (c : Config) (v : Rows) (uses : List (List Use)) (totals : List Total) (lanes : List (List Seats)) : Type 0 where
   pub configured : IsFor c v
   pub sound : IsSound v
   pub bounded : IsBounded v
   pub sizes : AskSizes v
+  pub numbers : AreNumbered v
   pub uses_are : uses ≡ uses_in v
   pub totals_are : totals ≡ totals_in v
   pub seated : AreSeated v lanes

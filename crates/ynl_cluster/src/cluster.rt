@@ -1,25 +1,28 @@
 //! A cluster: all its parts together.
 
-ghost use Rattle.std.specs.Prelude.{◌≡◌, ◌<◌, ◌≤◌, false, length, None, Some, IfOk, IfSome, IsOk, IsSome, nat_eq, OnErr, OnOk, option_map, slice_get, slice_index_or, []};
+ghost use Rattle.std.specs.Prelude.{◌≡◌, ◌≢◌, ◌<◌, ◌≤◌, ◌+◌, false, true, length, None, Some, IfOk, IfSome, IsOk, IsSome, nat_eq, OnErr, OnOk, option_map, slice_get, slice_index_or, []};
 ghost use Rattle.std.specs.Map.{lookup};
 ghost use Rattle.ynl_model.specs.Cluster.{guaranteed, maximum, opening, total};
 ghost use Rattle.ynl_model.specs.Nodes.{is_full, nodes_of};
 ghost use Rattle.ynl_model.specs.Queues.{accepts, capacity_on, maximum_on, queue_row, set_maximum, set_stop};
 ghost use Rattle.ynl_model.specs.Applications.{finished, in_leaf, new_app, set_ask, submitted, with_app};
-ghost use Rattle.ynl_model.specs.Changes.{end, node_joins, node_leaves, place};
+ghost use Rattle.ynl_model.specs.Changes.{app_finishes, end, node_joins, node_leaves, place};
+ghost use Rattle.ynl_resource.specs.Ranges.{most_nodes};
 ghost use Rattle.ynl_laws.specs.Uses.{use_of};
 ghost use Rattle.ynl_layout.specs.Paths.{HasNumber};
 ghost use Rattle.ynl_uses.specs.Tallies.{IsSmallUse, IsTotal};
-ghost use Rattle.ynl_slots.specs.Slots.{IsLive, IsUnused};
+ghost use Rattle.ynl_slots.specs.Slots.{without, IsLive, IsUnused};
 ghost use Rattle.ynl_app_table.specs.declared.app.Tickets.{Tickets as TicketPair};
 ghost use Rattle.ynl_inventory.specs.Rows.{AppRow, NodeRow};
 ghost use Rattle.ynl_inventory.specs.Changes.{partition_of_node, with_app_gone, with_asked, with_dropped, with_ended, with_joined, with_left, with_node_gone, with_placed, with_submitted, with_tickets, with_user_known};
-ghost use Rattle.ynl_inventory.specs.Meaning.{app_name, ask_of, item_of, node_number, node_of, placed_of};
+ghost use Rattle.ynl_inventory.specs.Meaning.{app_name, app_of, ask_of, item_of, node_number, node_of, placed_of};
 ghost use Rattle.ynl_inventory.specs.Parts.{CanPlace, LeavesRoom, containers_of, held_at};
 ghost use Rattle.ynl_inventory.specs.Sound.{CanAsk, CanSubmit, HasNoContainers, HasPartition, IsFor, IsPlaceable, IsSound, OwnsNoContainers};
-ghost use Rattle.ynl_ledger.specs.Ledger.{IsBounded};
+ghost use Rattle.ynl_ledger.specs.Ledger.{total_in, IsBounded};
 ghost use Rattle.ynl_seating.specs.Seating.{AreSeated};
-ghost use Rattle.ynl_cluster.specs.Cluster.{held_in, label_of, path_of, state_in, AskSizes, IsCell, IsLaneIn};
+ghost use Rattle.ynl_cluster.specs.Cluster.{held_in, label_of, path_of, state_in, AreNumbered, AskSizes, IsCell, IsLaneIn};
+ghost use Rattle.ynl_cluster.specs.Leaving.{IsLeaving};
+ghost use Rattle.ynl_cluster.specs.Finishing.{IsFinishing, OwnsNoneBefore};
 
 use crate::ways::way_to;
 use std::alloc::{AllocError, Global};
@@ -50,6 +53,22 @@ pub struct Cluster {
     lanes: Lanes,
 }
 
+// By hand, so that crates above call it: one that is derived is proved anew in each of them, with
+// all that it holds.
+impl Drop for Cluster {
+    fn drop(self) {
+        let Cluster {
+            config: _,
+            inventory: _,
+            uses: _,
+            totals: _,
+            shares: _,
+            stops: _,
+            lanes: _,
+        } = self;
+    }
+}
+
 impl Model for Cluster {
     ghost use Rattle.ynl_cluster.specs.Cluster.{ClusterView};
     ghost use Rattle.ynl_cluster.specs.Whole.{view_of, IsCluster};
@@ -62,13 +81,20 @@ impl Model for Cluster {
 }
 
 impl Cluster {
-    /// The cluster of a configuration before any event. It fails if memory is refused.
+    /// The cluster of a configuration before any event. It fails if memory is refused, and where
+    /// there are more labels or queues than numbers. An accepted configuration has at most 64
+    /// labels and 1,024 queues.
     pub fn new(alloc: Global, config: Config) -> Result<Cluster, AllocError>
         ensures config { IfOk result (λ cluster. cluster.config ≡ config) }
         ensures state { IfOk result (λ cluster. state_in cluster ≡ opening config) }
     {
-        let partitions = config.labels().rows().len() + 1;
-        let queues = config.queues().len() + 1;
+        let labels = config.labels().rows().len();
+        let below_root = config.queues().len();
+        if labels > u8::MAX as usize || below_root > u32::MAX as usize {
+            return Err(AllocError);
+        }
+        let partitions = labels + 1;
+        let queues = below_root + 1;
         let uses = Uses::new(alloc, partitions, queues)?;
         let totals = Totals::new(alloc, partitions)?;
         let shares = Shares::new(alloc, &config)?;
@@ -98,10 +124,15 @@ impl Cluster {
     /// What it holds.
     pub fn inventory(&self) -> &Inventory
         ensures value { result.now ≡ held_in self.now }
+        ensures rooms { length self.now.rooms ≡ length self.now.rows.partitions }
         ensures configured { IsFor self.now.config self.now.rows }
         ensures bounded { IsBounded self.now.rows }
         ensures sizes { AskSizes self.now.rows }
+        ensures sound { IsSound self.now.rows }
+        ensures numbers { AreNumbered self.now.rows }
     {
+        // Opens the inventory, which has room by partition.
+        let _ = self.inventory.partition_count();
         &self.inventory
     }
 
@@ -366,8 +397,8 @@ impl Cluster {
         Ok(())
     }
 
-    /// An application without containers is live no more. Its name stays. It takes no memory.
-    pub fn finish(&mut self, app: u32)
+    /// An application without containers is live no more. Its name stays.
+    fn finish_alone(&mut self, app: u32)
         requires live { IsLive app self.old.rows.apps }
         requires empty { OwnsNoContainers self.old.rows app }
         ensures rows { IfSome (lookup (nat_eq app) self.old.rows.apps) (λ row. self.new
@@ -381,6 +412,54 @@ impl Cluster {
     {
         unseat(&self.inventory, &mut self.lanes, app);
         self.inventory.finish(app);
+    }
+
+    /// The containers of an application in a partition end one after another, where it has none in
+    /// the partitions before.
+    fn end_own(&mut self, app: u32, p: u8)
+        requires live { IsLive app self.old.rows.apps }
+        requires partition { HasPartition self.old.rows p }
+        requires first { OwnsNoneBefore self.old.rows app p }
+        ensures ended { IsFinishing app self.old self.new }
+        ensures none { OwnsNoneBefore self.new.rows app (p + 1) }
+    {
+        while let Some(number) = self.inventory().first_of_app(app, p) {
+            let _ended = self.end(p, number);
+        }
+    }
+
+    /// The containers of an application end in the order of their ids, and it is live no more. Its
+    /// name stays. It takes no memory.
+    pub fn finish(&mut self, app: u32)
+        requires { IsLive app self.old.rows.apps }
+        ensures rows { IfSome (lookup (nat_eq app) self.old.rows.apps) (λ row. self.new
+            ≡ record self.old {
+              rows = record (with_app_gone app row.tenant row.turn self.old.rows) {
+                partitions = self.new.rows.partitions;
+                nodes = self.new.rows.nodes;
+              };
+              rooms = self.new.rooms;
+            }) }
+        ensures same { self.new ≡ record self.old {
+          rows = record self.old.rows {
+            partitions = self.new.rows.partitions;
+            nodes = self.new.rows.nodes;
+            apps = without app self.old.rows.apps;
+            tenants = self.new.rows.tenants;
+          };
+          rooms = self.new.rooms;
+        } }
+        ensures state { (row : AppRow) → lookup (nat_eq app) self.old.rows.apps ≡ Some row
+            → state_in self.new ≡ app_finishes self.old.config
+            (app_of self.old.rows (app, row)) (state_in self.old) }
+    {
+        let count = self.inventory().partition_count();
+        for p in 0..count {
+            self.end_own(app, p as u8);
+        }
+        // Opens the inventory, whose rows are sound.
+        let _ = self.inventory();
+        self.finish_alone(app);
     }
 
     /// An application is submitted. It returns the application's number. All memory is taken first:
@@ -421,7 +500,7 @@ impl Cluster {
         let line = self.inventory.layout().line(app.leaf as usize);
         self.uses
             .lower(p as usize, line, &tally_of(p, held.role, held.size));
-        let gone = self.inventory.drop(p, number);
+        let gone = self.inventory.discard(p, number);
         follow_end(&self.inventory, &mut self.lanes, p, &gone);
     }
 
@@ -436,6 +515,19 @@ impl Cluster {
         self.inventory.leave(node);
     }
 
+    /// The containers of a node go with it one after another, so that it has none.
+    fn clear(&mut self, node: u32)
+        requires { IsLive node self.old.rows.nodes }
+        ensures left { (row : NodeRow) → lookup (nat_eq node) self.old.rows.nodes ≡ Some row
+            → IsLeaving node row.partition self.old self.new }
+        ensures empty { HasNoContainers self.new.rows node }
+    {
+        let p = self.inventory.node(node).partition;
+        while let Some(number) = self.inventory().first_of_node(node) {
+            self.discard(p, number);
+        }
+    }
+
     /// A node leaves, and its containers go with it one after another. It takes no memory.
     pub fn leave(&mut self, node: u32)
         requires { IsLive node self.old.rows.nodes }
@@ -447,10 +539,71 @@ impl Cluster {
             → state_in self.new
             ≡ node_leaves (node_of self.old.rows.partitions row) (state_in self.old) }
     {
-        let p = self.inventory.node(node).partition;
-        while let Some(number) = self.inventory().first_of_node(node) {
-            self.discard(p, number);
-        }
+        // Opens the inventory, whose rows are sound.
+        let _ = self.inventory();
+        self.clear(node);
         self.leave_alone(node);
+    }
+
+    /// Reserves room for a node that joins again. It fails where `Inventory::reserve_node` does.
+    fn reserve_node(&mut self) -> Result<(), AllocError>
+        ensures ok { OnOk result (self.new ≡ record self.old { ready = true }) }
+        ensures err { OnErr result (self.new ≡ self.old) }
+    {
+        self.inventory.reserve_node()
+    }
+
+    /// A node without containers leaves, and joins another partition that is not full. It returns
+    /// the node's new number.
+    fn move_alone(&mut self, node: u32, p: u8) -> u32
+        requires there { IsLive node self.old.rows.nodes × HasPartition self.old.rows p }
+        requires empty { HasNoContainers self.old.rows node }
+        requires ready { self.old.ready ≡ true }
+        requires few { (total_in self.old.rows p).nodes < most_nodes }
+        requires other { p ≢ partition_of_node self.old.rows.nodes node }
+        ensures rows { IfSome (lookup (nat_eq node) self.old.rows.nodes) (λ row. self.new
+            ≡ record self.old {
+              rows = with_joined result row.name p row.size (with_node_gone node self.old.rows);
+              ready = false;
+            }) }
+        ensures unused { IsUnused result (without node self.old.rows.nodes) }
+    {
+        let row = self.inventory.node(node);
+        let size = row.size;
+        // Opens the size, which is one that nodes may have.
+        let _amount = size.amount();
+        self.totals.take(row.partition as usize, size);
+        let number = self.inventory.rejoin(node, p);
+        self.totals.add(p as usize, size);
+        number
+    }
+
+    /// A node leaves with its containers, and joins another partition, which is not full, under its
+    /// own name and size. It returns the node's new number. All memory is taken first: it fails
+    /// where `Inventory::reserve_node` does.
+    pub fn relabel(&mut self, node: u32, p: u8) -> Result<u32, AllocError>
+        requires live { IsLive node self.old.rows.nodes }
+        requires partition { HasPartition self.old.rows p }
+        requires few { is_full (state_in self.old).nodes (label_of self.old p) ≡ false }
+        requires other { p ≢ partition_of_node self.old.rows.nodes node }
+        ensures rows { IfOk result (λ n. (row : NodeRow)
+            → lookup (nat_eq node) self.old.rows.nodes ≡ Some row
+            → self.new ≡ record self.old {
+              rows = with_joined n row.name p row.size (with_left node self.old.rows);
+              rooms = self.new.rooms;
+              ready = false;
+            }) }
+        ensures unused { IfOk result (λ n. IsUnused n (without node self.old.rows.nodes)) }
+        ensures state { OnOk result ((row : NodeRow)
+            → lookup (nat_eq node) self.old.rows.nodes ≡ Some row
+            → state_in self.new ≡ node_joins self.old.config row.name (label_of self.old p)
+            row.size (node_leaves (node_of self.old.rows.partitions row) (state_in self.old))) }
+        ensures err { OnErr result (self.new ≡ self.old) }
+    {
+        // Opens the inventory, whose rows are sound.
+        let _ = self.inventory();
+        self.reserve_node()?;
+        self.clear(node);
+        Ok(self.move_alone(node, p))
     }
 }

@@ -20,6 +20,11 @@ module _ {X Y : Type 0} (f : X → Y) where
       go true k = refl
       go false k = k
 
+  -- without the numbers
+  pub rows-of_rows : (es : List (ℕ × X)) → map f (map (λ e. e.1) es) ≡ map (λ e. e.1) (of_rows f es)
+  rows-of_rows [] = refl
+  rows-of_rows (e ∷ es) = ap (λ ys. f e.1 ∷ ys) (rows-of_rows es)
+
   pub of_rows-push : (n : ℕ) (row : X) (es : List (ℕ × X)) → of_rows f (es ++ (n, row) ∷ []) ≡ of_rows f es ++ (n, f row) ∷ []
   of_rows-push n row es = map-append (λ (e : ℕ × X). (e.0, f e.1)) es ((n, row) ∷ [])
 

@@ -1,6 +1,6 @@
 //! The containers of a partition.
 
-ghost use Rattle.std.specs.Prelude.{◌≡◌, ◌<◌, ◌≤◌, ◌+◌, ◌++◌, ◌∷◌, [], length, nat_eq, option_copied, option_map, Some, IsOk, OnOk, IfSome};
+ghost use Rattle.std.specs.Prelude.{◌≡◌, ◌<◌, ◌≤◌, ◌+◌, ◌++◌, ◌∷◌, [], length, map, nat_eq, option_copied, option_map, Some, IfOk, IsOk, OnOk, IfSome};
 ghost use Rattle.std.specs.Map.{lookup};
 ghost use Rattle.ynl_slots.specs.Slots.{IsLive, IsUnused, HasDistinctNumbers, without};
 ghost use Rattle.ynl_slots.specs.declared.chain.Chain.{Chain};
@@ -125,6 +125,15 @@ impl Containers {
         }
     }
 
+    /// The containers in the order of placement. It fails if memory is refused, and takes the time
+    /// of a sort.
+    pub fn copies(&self, alloc: Global) -> Result<Vec<Container>, AllocError>
+        ensures { IfOk result (λ list. list.items ≡ map (λ e. e.1) self.now.entries) }
+    {
+        let rows = self.rows.copies(alloc)?;
+        containers_of(alloc, &rows)
+    }
+
     /// The number of the container with a clock, if there is one.
     pub fn find(&self, clock: u64) -> Option<u32>
         ensures value { result ≡ number_at clock self.now.entries }
@@ -201,4 +210,11 @@ impl Index<u32> for Containers {
     fn index(&self, number: u32) -> &Container {
         &self.rows[number].container
     }
+}
+
+/// The containers of rows.
+fn containers_of(alloc: Global, rows: &[Row]) -> Result<Vec<Container>, AllocError>
+    ensures { IfOk result (λ list. list.items ≡ map (λ row. row.container) rows.now) }
+{
+    rows.iter().map(|row| row.container).collect(alloc)
 }

@@ -64,8 +64,8 @@ module _ (a : Inside) (app : ℕ) (tickets : Tickets) (apps' : Numbered AppPart)
         let its : IsApp (held_of a).rows app (app_row own.0) = inv.sound.apps app (app_row own.0) own.2 in
         subst IsSound (sym (ap (λ (h : Held). h.rows) tickets-held)) (app-sound (held_of a).rows app set_row leaves inv.sound (app_row own.0) own.2 its.asks its.asked);
     linked =
-        subst (λ (apps : Numbered AppPart). AreLinked a.partitions.items a.nodes apps.entries) (sym is)
-        (kept-linked a.partitions.items a.nodes a.apps.entries inv.linked app set_part (record { home = λ r. refl; master = λ r. refl; chains = λ r p. refl })
+        subst (λ (apps : Numbered AppPart). AreLinked a.partitions.items a.nodes.entries apps.entries) (sym is)
+        (kept-linked a.partitions.items a.nodes.entries a.apps.entries inv.linked app set_part (record { home = λ r. refl; master = λ r. refl; chains = λ r p. refl })
         (λ r at. more-places a.partitions.items r (set_part r) refl (λ q live. live) (λ P each. each) (inv.linked.places app r at)));
   }
 
@@ -131,9 +131,9 @@ module _ (a : Inside) (inv : IsInventory a) (app : ℕ) (part : AppPart) (found 
           (gone-sound v app (app_row part) inv.sound row-at (λ p r at n c held. at-number (λ n (c : Container). c.app ≢ app) r.containers n c (none p r at) held))
 
       -- and the parts go together as before
-      pub finished-linked : AreLinked a.partitions.items a.nodes apps'.entries
+      pub finished-linked : AreLinked a.partitions.items a.nodes.entries apps'.entries
       finished-linked =
-          subst (λ apps. AreLinked a.partitions.items a.nodes apps) (sym apps-are)
+          subst (λ apps. AreLinked a.partitions.items a.nodes.entries apps) (sym apps-are)
           (record {
             node = inv.linked.node;
             app = λ n r p x at here. inv.linked.app n r p x (found-without n app r a.apps.entries at) here;

@@ -41,8 +41,8 @@ module _ (a : Inside) (inv : IsInventory a) (app : ℕ) (apps' : Numbered AppPar
   placed-inventory = record {
     sound = subst IsSound (sym (ap (λ (h : Held). h.rows) placed-held)) inv.sound;
     linked =
-        subst (λ (apps : Numbered AppPart). AreLinked a.partitions.items a.nodes apps.entries) (sym more.apps)
-        (kept-linked a.partitions.items a.nodes a.apps.entries inv.linked app placed_part (record { home = λ r. refl; master = λ r. refl; chains = λ r. (more.adds r.chains).same })
+        subst (λ (apps : Numbered AppPart). AreLinked a.partitions.items a.nodes.entries apps.entries) (sym more.apps)
+        (kept-linked a.partitions.items a.nodes.entries a.apps.entries inv.linked app placed_part (record { home = λ r. refl; master = λ r. refl; chains = λ r. (more.adds r.chains).same })
         placed-places);
   }
 
@@ -91,7 +91,7 @@ module _ (a : Inside) (inv : IsInventory a) (app : ℕ) (apps' : Numbered AppPar
           subst IsSound (sym asked-rows)
           (asked-sound v inv.sound app (app_row own.0) own.2 ask (at_live (λ (r : AppRow). IsAskedOn r.home ask.partition) (lookup (nat_eq app) v.apps) (app_row own.0) can.1 own.2));
       linked =
-          subst (λ (apps : Numbered AppPart). AreLinked a.partitions.items a.nodes apps.entries) (sym new-is)
-          (kept-linked a.partitions.items a.nodes a.apps.entries inv.linked app asked_part (record { home = λ r. refl; master = λ r. refl; chains = λ r. (more.adds r.chains).same })
+          subst (λ (apps : Numbered AppPart). AreLinked a.partitions.items a.nodes.entries apps.entries) (sym new-is)
+          (kept-linked a.partitions.items a.nodes.entries a.apps.entries inv.linked app asked_part (record { home = λ r. refl; master = λ r. refl; chains = λ r. (more.adds r.chains).same })
           asked-places);
     }

@@ -32,7 +32,7 @@ module _ (a : Inside) (h : Held) (p number : ℕ) (view : held_of a ≡ h) (requ
     module _ (inv : IsInventory a) (next : Option ℕ) where
       pub node-next : IsNextOfNode part.containers number next → IfSome (held_at h.rows p number) (λ c. IsNext (λ (x : Container). x.node) c.node (containers_of h.rows p) number next)
       node-next is =
-          let row = live-found its.1.node a.nodes (node-there a inv p number part there its.1 found) in
+          let row = live-found its.1.node a.nodes.entries (node-there a inv p number part there its.1 found) in
           subst (λ (h : Held). IfSome (held_at h.rows p number) (λ c. IsNext (λ (x : Container). x.node) c.node (containers_of h.rows p) number next)) view
           (subst (λ o. IfSome o (λ (c : Container). IsNext (λ (x : Container). x.node) c.node (containers_of (held_of a).rows p) number next)) (sym (held-is a p number part its.1 there found))
           (subst (λ es. IsNext (λ (x : Container). x.node) its.1.node es number next) (sym (containers-are a p part there))

@@ -28,17 +28,17 @@ containers-are a p part there =
     ap (λ o. option_map_or (λ (row : PartitionRow). row.containers) o []) (slice_get-map partition_row a.partitions.items p ∙ ap (option_map partition_row) there)
 
 -- a node stands where its row says
-node-stands : (a : Inside) (node : ℕ) (row : NodePart) → lookup (nat_eq node) a.nodes ≡ Some row → partition_of_node (held_of a).rows.nodes node ≡ row.partition
-node-stands a node row at = ap (λ o. option_map_or (λ (r : NodeRow). r.partition) o 0) (lookup-of_rows node_row node a.nodes ∙ ap (option_map node_row) at)
+node-stands : (a : Inside) (node : ℕ) (row : NodePart) → lookup (nat_eq node) a.nodes.entries ≡ Some row → partition_of_node (held_of a).rows.nodes node ≡ row.partition
+node-stands a node row at = ap (λ o. option_map_or (λ (r : NodeRow). r.partition) o 0) (lookup-of_rows node_row node a.nodes.entries ∙ ap (option_map node_row) at)
 
 -- its partition is there
-pub node-partition : (a : Inside) → IsInventory a → (node : ℕ) (row : NodePart) → lookup (nat_eq node) a.nodes ≡ Some row → row.partition < length a.partitions.items
+pub node-partition : (a : Inside) → IsInventory a → (node : ℕ) (row : NodePart) → lookup (nat_eq node) a.nodes.entries ≡ Some row → row.partition < length a.partitions.items
 node-partition a inv node row at =
-    let has : HasPartition (held_of a).rows row.partition = inv.sound.nodes node (node_row row) (lookup-of_rows node_row node a.nodes ∙ ap (option_map node_row) at) in
+    let has : HasPartition (held_of a).rows row.partition = inv.sound.nodes node (node_row row) (lookup-of_rows node_row node a.nodes.entries ∙ ap (option_map node_row) at) in
     subst (λ n. row.partition < n) (length-map a.partitions.items partition_row) has
 
 -- the first container of a node
-pub node-first : (a : Inside) (h : Held) → held_of a ≡ h → IsInventory a → (node : ℕ) (row : NodePart) → lookup (nat_eq node) a.nodes ≡ Some row → (part : Partition) → slice_get a.partitions.items row.partition ≡ Some part
+pub node-first : (a : Inside) (h : Held) → held_of a ≡ h → IsInventory a → (node : ℕ) (row : NodePart) → lookup (nat_eq node) a.nodes.entries ≡ Some row → (part : Partition) → slice_get a.partitions.items row.partition ≡ Some part
     → (first : Option ℕ) → IsFirstOfNode part.containers row.containers first → IsFirst (λ (c : Container). c.node) node (containers_of h.rows (partition_of_node h.rows.nodes node)) first
 node-first a h view inv node row at part there first is =
     subst (λ (h : Held). IsFirst (λ (c : Container). c.node) node (containers_of h.rows (partition_of_node h.rows.nodes node)) first) view

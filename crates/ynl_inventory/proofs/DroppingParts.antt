@@ -43,9 +43,9 @@ changed-none {X} n f (e ∷ es) h = λ i. one (nat_eq n e.0) refl i ∷ changed-
     one false is = refl
 
 module _ (a : Inside) (inv : IsInventory a) (p number : ℕ) (part : Partition) (there : slice_get a.partitions.items p ≡ Some part) (held : Container) (found : lookup (nat_eq number) part.containers.entries ≡ Some held)
-    (row : NodePart) (at : lookup (nat_eq held.node) a.nodes ≡ Some row) (new : Partition) (of_node of_app : Chain) (is : IsDropped number held part new of_node of_app)
+    (row : NodePart) (at : lookup (nat_eq held.node) a.nodes.entries ≡ Some row) (new : Partition) (of_node of_app : Chain) (is : IsDropped number held part new of_node of_app)
     (nodes' : List (ℕ × NodePart)) (apps' : Numbered AppPart)
-    (nodes-are : nodes' ≡ with_change held.node (λ r. record r { containers = of_node; stamp = row.stamp; free = plus r.free held.size }) a.nodes)
+    (nodes-are : nodes' ≡ with_change held.node (λ r. record r { containers = of_node; stamp = row.stamp; free = plus r.free held.size }) a.nodes.entries)
     (apps-are : apps' ≡ with_app held.app (λ r. released_part held.role (record r { chains = with_row p of_app r.chains })) a.apps) where
   abbrev before : Rows
   before = (held_of a).rows
@@ -70,7 +70,7 @@ module _ (a : Inside) (inv : IsInventory a) (p number : ℕ) (part : Partition) 
           (λ i. record { label = is.label i; guests = is.out.guests i; limit = is.limit i; clock = is.clock i; containers = is.out.entries i })
 
       row-at : lookup (nat_eq held.node) before.nodes ≡ Some (node_row row)
-      row-at = lookup-of_rows node_row held.node a.nodes ∙ ap (option_map node_row) at
+      row-at = lookup-of_rows node_row held.node a.nodes.entries ∙ ap (option_map node_row) at
 
       stamped : (n : ℕ) (r : NodeRow) → lookup (nat_eq n) before.nodes ≡ Some r → n ≡ held.node → record r { stamp = row.stamp } ≡ r
       stamped n r its same =

@@ -34,7 +34,7 @@ module _ (a : Inside) (h : Held) (p number : ℕ) (view : held_of a ≡ h) (requ
   found-in part there = at_live (λ (part : Partition). lookup (nat_eq number) part.containers.entries ≡ Some held) (slice_get items p) part told (ap (λ xs. slice_get xs p) items-are ∙ there)
 
   module _ (inv : IsInventory a) where
-    pub node-live : IsLive held.node a.nodes
+    pub node-live : IsLive held.node a.nodes.entries
     node-live = node-there a inv p number its.0 its.2 held (found-in its.0 its.2)
 
     pub app-live : IsLive held.app a.apps.entries
@@ -45,8 +45,8 @@ module _ (a : Inside) (h : Held) (p number : ℕ) (view : held_of a ≡ h) (requ
         let own = live-found held.app a.apps.entries app-live in
         subst (λ o. IfSome o (λ (r : AppPart). IsLive p r.chains)) (sym own.1) (place a inv p number its.0 its.2 held (found-in its.0 its.2) own.0 own.1)
 
-    module _ (row : NodePart) (at : lookup (nat_eq held.node) a.nodes ≡ Some row) where
-      pub small-there : IfSome (lookup (nat_eq held.node) a.nodes) (λ r. IsSmall (plus r.free held.size))
+    module _ (row : NodePart) (at : lookup (nat_eq held.node) a.nodes.entries ≡ Some row) where
+      pub small-there : IfSome (lookup (nat_eq held.node) a.nodes.entries) (λ r. IsSmall (plus r.free held.size))
       small-there = subst (λ o. IfSome o (λ (r : NodePart). IsSmall (plus r.free held.size))) (sym at) (small a inv p number its.0 its.2 held (found-in its.0 its.2) row at)
 
       module _ (part : Partition) (read : part ≡ get_or a.partitions.items p part) where

@@ -90,17 +90,17 @@ module _ (a : Inside) (inv : IsInventory a) (p number : ℕ) (part : Partition) 
   on = is-partition.each number held found
 
   -- its node and its application are there
-  pub node-there : IsLive held.node a.nodes
-  node-there = ap is_some (unmapped node_row (lookup (nat_eq held.node) a.nodes) on.node (sym (lookup-of_rows node_row held.node a.nodes) ∙ on.node_found)).1
+  pub node-there : IsLive held.node a.nodes.entries
+  node-there = ap is_some (unmapped node_row (lookup (nat_eq held.node) a.nodes.entries) on.node (sym (lookup-of_rows node_row held.node a.nodes.entries) ∙ on.node_found)).1
 
   pub app-there : IsLive held.app a.apps.entries
   app-there =
       let row = live-found held.app v.apps on.app in
       ap is_some (unmapped app_row (lookup (nat_eq held.app) a.apps.entries) row.0 (sym (lookup-of_rows app_row held.app a.apps.entries) ∙ row.1)).1
 
-  module _ (row : NodePart) (at : lookup (nat_eq held.node) a.nodes ≡ Some row) where
+  module _ (row : NodePart) (at : lookup (nat_eq held.node) a.nodes.entries ≡ Some row) where
     pub stands : row.partition ≡ p
-    stands = ap (λ (r : NodeRow). r.partition) (same_Some (node_row row) on.node (sym (lookup-of_rows node_row held.node a.nodes ∙ ap (option_map node_row) at) ∙ on.node_found)) ∙ on.node_there
+    stands = ap (λ (r : NodeRow). r.partition) (same_Some (node_row row) on.node (sym (lookup-of_rows node_row held.node a.nodes.entries ∙ ap (option_map node_row) at) ∙ on.node_found)) ∙ on.node_there
 
     its-part : slice_get a.partitions.items row.partition ≡ Some part
     its-part = ap (slice_get a.partitions.items) stands ∙ there
@@ -172,9 +172,9 @@ released-chains Master part = refl
 released-chains (Asked p priority) part = refl
 
 module _ (a : Inside) (inv : IsInventory a) (p number : ℕ) (part : Partition) (there : slice_get a.partitions.items p ≡ Some part) (held : Container) (found : lookup (nat_eq number) part.containers.entries ≡ Some held)
-    (row : NodePart) (at : lookup (nat_eq held.node) a.nodes ≡ Some row) (new : Partition) (of_node of_app : Chain) (is : IsOut number held part new of_node of_app) (stamp : ℕ)
+    (row : NodePart) (at : lookup (nat_eq held.node) a.nodes.entries ≡ Some row) (new : Partition) (of_node of_app : Chain) (is : IsOut number held part new of_node of_app) (stamp : ℕ)
     (nodes' : List (ℕ × NodePart)) (apps' : Numbered AppPart)
-    (nodes-are : nodes' ≡ with_change held.node (λ r. record r { containers = of_node; stamp = stamp; free = plus r.free held.size }) a.nodes)
+    (nodes-are : nodes' ≡ with_change held.node (λ r. record r { containers = of_node; stamp = stamp; free = plus r.free held.size }) a.nodes.entries)
     (apps-are : apps' ≡ with_app held.app (λ r. released_part held.role (record r { chains = with_row p of_app r.chains })) a.apps) where
   abbrev freed_one : NodePart → NodePart
   freed_one r = record r { containers = of_node; stamp = stamp; free = plus r.free held.size }
@@ -189,8 +189,8 @@ module _ (a : Inside) (inv : IsInventory a) (p number : ℕ) (part : Partition) 
       ∙ of_rows-kept app_row released_one held.app a.apps.entries (λ r. released-row held.role (with_row p of_app) r)
 
   -- those of the nodes have the stamp
-  pub out-nodes : of_rows node_row nodes' ≡ with_change held.node (λ r. record r { stamp = stamp }) (of_rows node_row a.nodes)
-  out-nodes = ap (of_rows node_row) nodes-are ∙ of_rows-changed node_row freed_one (λ r. record r { stamp = stamp }) held.node a.nodes (λ r. refl)
+  pub out-nodes : of_rows node_row nodes' ≡ with_change held.node (λ r. record r { stamp = stamp }) (of_rows node_row a.nodes.entries)
+  out-nodes = ap (of_rows node_row) nodes-are ∙ of_rows-changed node_row freed_one (λ r. record r { stamp = stamp }) held.node a.nodes.entries (λ r. refl)
 
   own-right : IsRight held.node (freed_one row) new
   own-right = record {
@@ -264,13 +264,13 @@ module _ (a : Inside) (inv : IsInventory a) (p number : ℕ) (part : Partition) 
   out-linked =
       subst (λ (apps : Numbered AppPart). AreLinked (slice_set a.partitions.items p new) nodes' apps.entries) (sym apps-are)
       (subst (λ nodes. AreLinked (slice_set a.partitions.items p new) nodes (with_change held.app released_one a.apps.entries)) (sym nodes-are)
-      (still-linked a.partitions.items a.nodes a.apps.entries inv.linked p part new there is.guests held.node row at (stands a inv p number part there held found row at) freed_one (λ r. refl) (λ r. refl)
+      (still-linked a.partitions.items a.nodes.entries a.apps.entries inv.linked p part new there is.guests held.node row at (stands a inv p number part there held found row at) freed_one (λ r. refl) (λ r. refl)
       own-right others-use held.app released_one touched masters is.nodes is.apps))
 
 module _ (a : Inside) (inv : IsInventory a) (p number : ℕ) (part : Partition) (there : slice_get a.partitions.items p ≡ Some part) (held : Container) (found : lookup (nat_eq number) part.containers.entries ≡ Some held)
-    (row : NodePart) (at : lookup (nat_eq held.node) a.nodes ≡ Some row) (new : Partition) (of_node of_app : Chain) (is : IsEnded number held part new of_node of_app)
+    (row : NodePart) (at : lookup (nat_eq held.node) a.nodes.entries ≡ Some row) (new : Partition) (of_node of_app : Chain) (is : IsEnded number held part new of_node of_app)
     (nodes' : List (ℕ × NodePart)) (apps' : Numbered AppPart)
-    (nodes-are : nodes' ≡ with_change held.node (λ r. record r { containers = of_node; stamp = new.clock; free = plus r.free held.size }) a.nodes)
+    (nodes-are : nodes' ≡ with_change held.node (λ r. record r { containers = of_node; stamp = new.clock; free = plus r.free held.size }) a.nodes.entries)
     (apps-are : apps' ≡ with_app held.app (λ r. released_part held.role (record r { chains = with_row p of_app r.chains })) a.apps) where
   abbrev before : Rows
   before = (held_of a).rows

@@ -15,14 +15,14 @@ use Rattle.ynl_inventory.proofs.ChainsRead.{containers-are, node-partition}
 use Rattle.ynl_inventory.proofs.PartLists.{unmapped}
 
 -- it is what the containers there leave
-pub free-is : (a : Inside) → IsInventory a → (node : ℕ) (row : NodePart) → lookup (nat_eq node) a.nodes ≡ Some row → row.free ≡ free_of (held_of a).rows node
+pub free-is : (a : Inside) → IsInventory a → (node : ℕ) (row : NodePart) → lookup (nat_eq node) a.nodes.entries ≡ Some row → row.free ≡ free_of (held_of a).rows node
 free-is a inv node row at =
     let own = place-there a.partitions.items row.partition (node-partition a inv node row at) in
     let there : slice_get (held_of a).rows.partitions row.partition ≡ Some (partition_row own.0) = slice_get-map partition_row a.partitions.items row.partition ∙ ap (option_map partition_row) own.1 in
     inv.linked.free node row own.0 at own.1
     ∙ sym
     (ap (λ o. option_map_or (λ (r : NodeRow). less r.size (used_of (option_map_or (λ (p : PartitionRow). p.containers) (slice_get (held_of a).rows.partitions r.partition) []) node)) o nothing)
-    (lookup-of_rows node_row node a.nodes ∙ ap (option_map node_row) at)
+    (lookup-of_rows node_row node a.nodes.entries ∙ ap (option_map node_row) at)
     ∙ ap (λ o. less row.size (used_of (option_map_or (λ (p : PartitionRow). p.containers) o []) node)) there)
 
 -- the containers of each node fit on it
@@ -36,5 +36,5 @@ fitting a inv = record {
   small = λ n row at. let part = part-of n row at in subst (λ (r : NodeRow). IsSmall r.size) part.2 (inv.linked.small n part.0 part.1);
 }
   where
-    part-of : (n : ℕ) (row : NodeRow) → lookup (nat_eq n) (held_of a).rows.nodes ≡ Some row → (part : NodePart) × (lookup (nat_eq n) a.nodes ≡ Some part) × (node_row part ≡ row)
-    part-of n row at = unmapped node_row (lookup (nat_eq n) a.nodes) row (sym (lookup-of_rows node_row n a.nodes) ∙ at)
+    part-of : (n : ℕ) (row : NodeRow) → lookup (nat_eq n) (held_of a).rows.nodes ≡ Some row → (part : NodePart) × (lookup (nat_eq n) a.nodes.entries ≡ Some part) × (node_row part ≡ row)
+    part-of n row at = unmapped node_row (lookup (nat_eq n) a.nodes.entries) row (sym (lookup-of_rows node_row n a.nodes.entries) ∙ at)

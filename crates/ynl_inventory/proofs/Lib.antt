@@ -49,3 +49,4 @@ pub mod PlacedRead
 pub mod Results
 pub mod FreeRead
 pub mod MastersTell
+pub mod Rejoining

@@ -48,25 +48,25 @@ found-without n m row es found = go (nat_eq n m) (sym (lookup-without n m es) �
     go true h = absurd (none-some row h)
     go false h = h
 
-module _ (a : Inside) (node : ℕ) (nodes' : List (ℕ × NodePart)) (is : nodes' ≡ without node a.nodes) where
+module _ (a : Inside) (node : ℕ) (nodes' : List (ℕ × NodePart)) (is : nodes' ≡ without node a.nodes.entries) where
   -- what the parts mean without a node
-  pub left-held : held_of (record a { nodes = nodes' }) ≡ record (held_of a) { rows = with_node_gone node (held_of a).rows }
-  left-held = λ i. record (held_of a) { rows = record (held_of a).rows { nodes = (ap (of_rows node_row) is ∙ of_rows-without node_row node a.nodes) i } }
+  pub left-held : held_of (record a { nodes = record a.nodes { entries = nodes' } }) ≡ record (held_of a) { rows = with_node_gone node (held_of a).rows }
+  left-held = λ i. record (held_of a) { rows = record (held_of a).rows { nodes = (ap (of_rows node_row) is ∙ of_rows-without node_row node a.nodes.entries) i } }
 
   -- they go together as before
-  pub left-linked : AreLinked a.partitions.items a.nodes a.apps.entries → AreLinked a.partitions.items nodes' a.apps.entries
+  pub left-linked : AreLinked a.partitions.items a.nodes.entries a.apps.entries → AreLinked a.partitions.items nodes' a.apps.entries
   left-linked linked = subst (λ nodes. AreLinked a.partitions.items nodes a.apps.entries) (sym is) (record {
-    node = λ n row part found at. linked.node n row part (found-without n node row a.nodes found) at;
+    node = λ n row part found at. linked.node n row part (found-without n node row a.nodes.entries found) at;
     app = linked.app;
-    free = λ n row part found at. linked.free n row part (found-without n node row a.nodes found) at;
-    fits = λ n row part found at. linked.fits n row part (found-without n node row a.nodes found) at;
-    small = λ n row found. linked.small n row (found-without n node row a.nodes found);
+    free = λ n row part found at. linked.free n row part (found-without n node row a.nodes.entries found) at;
+    fits = λ n row part found at. linked.fits n row part (found-without n node row a.nodes.entries found) at;
+    small = λ n row found. linked.small n row (found-without n node row a.nodes.entries found);
     master = linked.master;
     places = linked.places;
   })
 
   -- and their invariant holds
-  pub left-inventory : IsInventory a → IsLive node (held_of a).rows.nodes → HasNoContainers (held_of a).rows node → IsInventory (record a { nodes = nodes' })
+  pub left-inventory : IsInventory a → IsLive node (held_of a).rows.nodes → HasNoContainers (held_of a).rows node → IsInventory (record a { nodes = record a.nodes { entries = nodes' } })
   left-inventory inv live none = record {
     sound =
         subst IsSound (sym (ap (λ (h : Held). h.rows) left-held))
@@ -75,10 +75,10 @@ module _ (a : Inside) (node : ℕ) (nodes' : List (ℕ × NodePart)) (is : nodes
   }
 
 -- a node that has a row is there
-pub node-live : (a : Inside) (node : ℕ) → IsLive node (held_of a).rows.nodes → IsLive node a.nodes
+pub node-live : (a : Inside) (node : ℕ) → IsLive node (held_of a).rows.nodes → IsLive node a.nodes.entries
 node-live a node live =
     let own = live-found node (held_of a).rows.nodes live in
-    ap is_some (unmapped node_row (lookup (nat_eq node) a.nodes) own.0 (sym (lookup-of_rows node_row node a.nodes) ∙ own.1)).1
+    ap is_some (unmapped node_row (lookup (nat_eq node) a.nodes.entries) own.0 (sym (lookup-of_rows node_row node a.nodes.entries) ∙ own.1)).1
 
 -- ---- joining
 
@@ -130,7 +130,7 @@ module _ (number : ℕ) (x : Partition) (none : AllByRecursion (λ e. e.1.node �
 
 module _ (a : Inside) (inv : IsInventory a) (p : ℕ) (part : Partition) (there : slice_get a.partitions.items p ≡ Some part) (number : ℕ) (name : Name) (size : Resource) (clock : ℕ)
     (unnamed : node_number name (held_of a).rows.nodes ≡ None) (clock-is : clock ≡ rises part.limit part.clock) (is-size : IsSize size)
-    (nodes' : List (ℕ × NodePart)) (joins : Joins number name p size clock a.nodes nodes') where
+    (nodes' : List (ℕ × NodePart)) (joins : Joins number name p size clock a.nodes.entries nodes') where
   abbrev v : Rows
   v = (held_of a).rows
 
@@ -144,7 +144,7 @@ module _ (a : Inside) (inv : IsInventory a) (p : ℕ) (part : Partition) (there 
   row-there = slice_get-map partition_row a.partitions.items p ∙ ap (option_map partition_row) there
 
   unused : IsUnused number v.nodes
-  unused = unused_of_rows node_row number a.nodes joins.unused
+  unused = unused_of_rows node_row number a.nodes.entries joins.unused
 
   -- the node may join
   can : IsJoinable v number name p
@@ -173,7 +173,7 @@ module _ (a : Inside) (inv : IsInventory a) (p : ℕ) (part : Partition) (there 
 
       nodes : of_rows node_row nodes' ≡ (with_joined number name p size v).nodes
       nodes =
-          ap (of_rows node_row) joins.nodes ∙ of_rows-push node_row number row a.nodes
+          ap (of_rows node_row) joins.nodes ∙ of_rows-push node_row number row a.nodes.entries
           ∙ (λ i. v.nodes ++ (number, record { name = name; partition = p; size = size; stamp = stamp-is i }) ∷ [])
 
   -- they are sound
@@ -196,12 +196,12 @@ module _ (a : Inside) (inv : IsInventory a) (p : ℕ) (part : Partition) (there 
       each-number (λ n c. c.node ≢ number) part.containers.entries is.numbers
       (λ n c found. let on = is.each n c found in live-apart c.node number v.nodes (found-live c.node on.node v.nodes on.node_found) unused)
 
-  linked-before : AreLinked (slice_set a.partitions.items p new) a.nodes a.apps.entries
-  linked-before = room-linked a.partitions.items p part new there refl refl a.nodes a.apps.entries inv.linked
+  linked-before : AreLinked (slice_set a.partitions.items p new) a.nodes.entries a.apps.entries
+  linked-before = room-linked a.partitions.items p part new there refl refl a.nodes.entries a.apps.entries inv.linked
 
-  right : (n : ℕ) (r : NodePart) (x : Partition) → lookup (nat_eq n) (a.nodes ++ (number, row) ∷ []) ≡ Some r → slice_get (slice_set a.partitions.items p new) r.partition ≡ Some x → IsRight n r x
+  right : (n : ℕ) (r : NodePart) (x : Partition) → lookup (nat_eq n) (a.nodes.entries ++ (number, row) ∷ []) ≡ Some r → slice_get (slice_set a.partitions.items p new) r.partition ≡ Some x → IsRight n r x
   right n r x found at =
-      elim (pushed-cases n number row a.nodes joins.unused r found) [
+      elim (pushed-cases n number row a.nodes.entries joins.unused r found) [
         | inl own ↦
             let place : r.partition ≡ p = ap (λ (r : NodePart). r.partition) own.1 in
             let its : x ≡ new = same_Some x new (sym at ∙ ap (slice_get (slice_set a.partitions.items p new)) place ∙ set-same a.partitions.items p part new there) in
@@ -219,7 +219,7 @@ module _ (a : Inside) (inv : IsInventory a) (p : ℕ) (part : Partition) (there 
         free = λ n r x found at. (right n r x found at).free;
         fits = λ n r x found at. (right n r x found at).fits;
         small = λ n r found.
-            elim (pushed-cases n number row a.nodes joins.unused r found) [
+            elim (pushed-cases n number row a.nodes.entries joins.unused r found) [
               | inl own ↦ subst (λ (s : NodePart). IsSmall s.size) (sym own.1) (size-small size is-size)
               | inr was ↦ linked-before.small n r was
             ];

@@ -45,20 +45,20 @@ use Rattle.ynl_inventory.proofs.Updates.{each-number}
 -- ---- before
 
 -- the node and the application are there
-pub node-live : (a : Inside) (placed : Placement) → CanPlace (held_of a) placed → IsLive placed.node a.nodes
+pub node-live : (a : Inside) (placed : Placement) → CanPlace (held_of a) placed → IsLive placed.node a.nodes.entries
 node-live a placed can =
-    ap is_some (unmapped node_row (lookup (nat_eq placed.node) a.nodes) can.placeable.node_row (sym (lookup-of_rows node_row placed.node a.nodes) ∙ can.placeable.node_found)).1
+    ap is_some (unmapped node_row (lookup (nat_eq placed.node) a.nodes.entries) can.placeable.node_row (sym (lookup-of_rows node_row placed.node a.nodes.entries) ∙ can.placeable.node_found)).1
 
 pub app-live : (a : Inside) (placed : Placement) → CanPlace (held_of a) placed → IsLive placed.app a.apps.entries
 app-live a placed can =
     ap is_some (unmapped app_row (lookup (nat_eq placed.app) a.apps.entries) can.placeable.app_row (sym (lookup-of_rows app_row placed.app a.apps.entries) ∙ can.placeable.app_found)).1
 
-module _ (a : Inside) (inv : IsInventory a) (placed : Placement) (can : CanPlace (held_of a) placed) (row : NodePart) (at : lookup (nat_eq placed.node) a.nodes ≡ Some row) where
+module _ (a : Inside) (inv : IsInventory a) (placed : Placement) (can : CanPlace (held_of a) placed) (row : NodePart) (at : lookup (nat_eq placed.node) a.nodes.entries ≡ Some row) where
   abbrev v : Rows
   v = (held_of a).rows
 
   row-at : lookup (nat_eq placed.node) v.nodes ≡ Some (node_row row)
-  row-at = lookup-of_rows node_row placed.node a.nodes ∙ ap (option_map node_row) at
+  row-at = lookup-of_rows node_row placed.node a.nodes.entries ∙ ap (option_map node_row) at
 
   is-row : node_row row ≡ can.placeable.node_row
   is-row = same_Some (node_row row) can.placeable.node_row (sym row-at ∙ can.placeable.node_found)
@@ -181,7 +181,7 @@ pub record IsPlaced (placed : Placement) (number : ℕ) (old new : Partition) (o
   pub nodes : KeepsNodes placed.node old.containers new.containers
   pub apps : KeepsApps placed.app old.containers new.containers
 
-module _ (a : Inside) (inv : IsInventory a) (placed : Placement) (can : CanPlace (held_of a) placed) (row : NodePart) (at : lookup (nat_eq placed.node) a.nodes ≡ Some row)
+module _ (a : Inside) (inv : IsInventory a) (placed : Placement) (can : CanPlace (held_of a) placed) (row : NodePart) (at : lookup (nat_eq placed.node) a.nodes.entries ≡ Some row)
     (part : Partition) (there : slice_get a.partitions.items row.partition ≡ Some part)
     (number : ℕ) (new : Partition) (of_node of_app : Chain) (is : IsPlaced placed number part new of_node of_app)
     (chained : IfSome (lookup (nat_eq placed.app) (with_change placed.app (λ r. taken_part placed.role number (record r { chains = with_row row.partition of_app r.chains })) a.apps.entries)) (λ r. chain_of row.partition r.chains ≡ of_app)) where
@@ -222,7 +222,7 @@ module _ (a : Inside) (inv : IsInventory a) (placed : Placement) (can : CanPlace
   pub rows-placed : ◌≡◌ {A = Rows} (record {
     paths = a.layout;
     partitions = map partition_row (slice_set a.partitions.items row.partition new);
-    nodes = of_rows node_row (with_change placed.node used_one a.nodes);
+    nodes = of_rows node_row (with_change placed.node used_one a.nodes.entries);
     apps = of_rows app_row (with_change placed.app taken_one a.apps.entries);
     tenants = before.tenants;
     users = a.users;
@@ -240,9 +240,9 @@ module _ (a : Inside) (inv : IsInventory a) (placed : Placement) (can : CanPlace
       partitions =
           map-set partition_row (ticked push) a.partitions.items row.partition part new there part-is ∙ ap (λ q. with_at q (ticked push) before.partitions) (sym p-is)
 
-      nodes : of_rows node_row (with_change placed.node used_one a.nodes) ≡ with_change placed.node (λ r. record r { stamp = next_clock_at before.partitions p }) before.nodes
+      nodes : of_rows node_row (with_change placed.node used_one a.nodes.entries) ≡ with_change placed.node (λ r. record r { stamp = next_clock_at before.partitions p }) before.nodes
       nodes =
-          of_rows-changed node_row used_one (λ r. record r { stamp = new.clock }) placed.node a.nodes (λ r. refl)
+          of_rows-changed node_row used_one (λ r. record r { stamp = new.clock }) placed.node a.nodes.entries (λ r. refl)
           ∙ ap (λ t. with_change placed.node (λ (r : NodeRow). record r { stamp = t }) before.nodes) (is.clock ∙ sym clock-is)
 
       apps : of_rows app_row (with_change placed.app taken_one a.apps.entries) ≡ with_change placed.app (with_taken placed.role) before.apps
@@ -332,9 +332,9 @@ module _ (a : Inside) (inv : IsInventory a) (placed : Placement) (can : CanPlace
   }
 
   -- the parts go together
-  pub parts-linked : AreLinked (slice_set a.partitions.items row.partition new) (with_change placed.node used_one a.nodes) (with_change placed.app taken_one a.apps.entries)
+  pub parts-linked : AreLinked (slice_set a.partitions.items row.partition new) (with_change placed.node used_one a.nodes.entries) (with_change placed.app taken_one a.apps.entries)
   parts-linked =
-      still-linked a.partitions.items a.nodes a.apps.entries inv.linked row.partition part new there is.guests placed.node row at refl used_one (λ r. refl) (λ r. refl) own-right others-use placed.app
+      still-linked a.partitions.items a.nodes.entries a.apps.entries inv.linked row.partition part new there is.guests placed.node row at refl used_one (λ r. refl) (λ r. refl) own-right others-use placed.app
       taken_one touched masters is.nodes is.apps
 
   -- and the rows are sound
@@ -343,7 +343,7 @@ module _ (a : Inside) (inv : IsInventory a) (placed : Placement) (can : CanPlace
       placed-sound before inv.sound number placed.node placed.app placed.role placed.size can.placeable
       (subst (λ (r : PartitionRow). IsUnused number r.containers) (is-part a inv placed can row at part there) is.unused)
 
-  module _ (nodes' : List (ℕ × NodePart)) (apps' : Numbered AppPart) (nodes-are : nodes' ≡ with_change placed.node used_one a.nodes) (apps-are : apps' ≡ with_app placed.app taken_one a.apps) where
+  module _ (nodes' : List (ℕ × NodePart)) (apps' : Numbered AppPart) (nodes-are : nodes' ≡ with_change placed.node used_one a.nodes.entries) (apps-are : apps' ≡ with_app placed.app taken_one a.apps) where
     abbrev rows_after : Rows
     rows_after = record {
       paths = a.layout;

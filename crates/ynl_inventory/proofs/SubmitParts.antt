@@ -147,9 +147,9 @@ module _ (a : Inside) (inv : IsInventory a) (name : Name) (new : NewSubmission) 
       }
 
       -- and the parts go together
-      pub submitted-linked : AreLinked a.partitions.items a.nodes apps'.entries
+      pub submitted-linked : AreLinked a.partitions.items a.nodes.entries apps'.entries
       submitted-linked =
-          subst (λ apps. AreLinked a.partitions.items a.nodes apps) (sym apps-are)
+          subst (λ apps. AreLinked a.partitions.items a.nodes.entries apps) (sym apps-are)
           (record {
             node = inv.linked.node;
             app = λ n r p part found at.
@@ -185,6 +185,6 @@ room-rows a apps' apps-are tenants tenants-are = λ i. record (held_of a).rows {
 
 -- and the invariant holds
 pub room-inventory : (a : Inside) → IsInventory a → (apps' : Numbered AppPart) → apps'.entries ≡ a.apps.entries → (tenants : List (List (Name × Submission))) → tenants ≡ (held_of a).rows.tenants
-    → IsSound (record (held_of a).rows { apps = of_rows app_row apps'.entries; tenants = tenants }) × AreLinked a.partitions.items a.nodes apps'.entries
+    → IsSound (record (held_of a).rows { apps = of_rows app_row apps'.entries; tenants = tenants }) × AreLinked a.partitions.items a.nodes.entries apps'.entries
 room-inventory a inv apps' apps-are tenants tenants-are =
-    (subst IsSound (sym (room-rows a apps' apps-are tenants tenants-are)) inv.sound, subst (λ apps. AreLinked a.partitions.items a.nodes apps) (sym apps-are) inv.linked)
+    (subst IsSound (sym (room-rows a apps' apps-are tenants tenants-are)) inv.sound, subst (λ apps. AreLinked a.partitions.items a.nodes.entries apps) (sym apps-are) inv.linked)

@@ -1,5 +1,5 @@
 -- What the parts of an inventory mean as rows, and how they go together.
-use Rattle.std.specs.Prelude.{◌≡◌, ◌≢◌, ℕ, ◌+◌, ◌^◌, ◌<◌, ◌≤◌, true, nat_eq, List, [], map, filter, slice_get, Option, Some, None, IfSome}
+use Rattle.std.specs.Prelude.{◌≡◌, ◌≢◌, ℕ, ◌+◌, ◌^◌, ◌<◌, ◌≤◌, Bool, true, nat_eq, List, [], map, filter, slice_get, Option, Some, None, IfSome}
 use Rattle.std.specs.List.{AllByRecursion}
 use Rattle.std.specs.Map.{lookup}
 use Rattle.std.specs.Option.{option_map_or, option_and_then}
@@ -57,10 +57,11 @@ abbrev pub taken_part : Role → ℕ → AppPart → AppPart
 taken_part Master number part = record part { master = Some number }
 taken_part (Asked p priority) number part = record part { asks = with_one_taken p priority part.asks }
 
--- what a contract sees: the rows, and by partition how many placements take no memory
+-- what a contract sees: the rows, by partition how many placements take no memory, and whether a node may join again without
 pub record Held : Type 0 where
   pub rows : Rows
   pub rooms : List ℕ
+  pub ready : Bool
 
 -- what the parts mean
 abbrev pub held_of : Inside → Held
@@ -68,12 +69,13 @@ held_of a = record {
   rows = record {
     paths = a.layout;
     partitions = map partition_row a.partitions.items;
-    nodes = of_rows node_row a.nodes;
+    nodes = of_rows node_row a.nodes.entries;
     apps = of_rows app_row a.apps.entries;
     tenants = map (λ listing. listing.entries) a.tenants.items;
     users = a.users;
   };
   rooms = map (λ part. part.containers.room) a.partitions.items;
+  ready = a.nodes.ready;
 }
 
 -- what containers of a partition use of a node
@@ -115,6 +117,11 @@ pub record AreLinked (partitions : List Partition) (nodes : List (ℕ × NodePar
 abbrev pub held_at : Rows → ℕ → ℕ → Option Container
 held_at v p number = option_and_then (λ row. lookup (nat_eq number) row.containers) (slice_get v.partitions p)
 
+-- a container is held in a partition, under a number
+pub record IsHeldIn (v : Rows) (p : ℕ) (c : Container) : Type 0 where
+  pub number : ℕ
+  pub held : held_at v p number ≡ Some c
+
 -- its master is no more, if that was the container
 abbrev pub released_part : Role → AppPart → AppPart
 released_part Master part = record part { master = None }
@@ -123,7 +130,7 @@ released_part (Asked p priority) part = part
 -- the rows are sound, and the parts go together
 pub record IsInventory (a : Inside) : Type 0 where
   pub sound : IsSound (held_of a).rows
-  pub linked : AreLinked a.partitions.items a.nodes a.apps.entries
+  pub linked : AreLinked a.partitions.items a.nodes.entries a.apps.entries
 
 -- a container may be placed: there is room for it, in the partition and on the node
 pub record CanPlace (h : Held) (placed : Placement) : Type 0 where

@@ -18,11 +18,14 @@ use ynl_slots::Chain;
 
 /// A node has one more container of this size: its chain, the clock that is its stamp, and what is free of it.
 pub(crate) fn used(nodes: &mut Nodes, node: u32, chain: Chain, clock: u64, size: Size)
-    requires live { IsLive node nodes.old }
-    requires room { IfSome (lookup (nat_eq node) nodes.old)
+    requires live { IsLive node nodes.old.entries }
+    requires room { IfSome (lookup (nat_eq node) nodes.old.entries)
         (λ row. IsTrue (fits_in size row.free)) }
-    ensures { nodes.new ≡ with_change node (λ row.
-        record row { containers = chain; stamp = clock; free = less row.free size }) nodes.old }
+    ensures { nodes.new ≡ record nodes.old {
+      entries = with_change node (λ row.
+          record row { containers = chain; stamp = clock; free = less row.free size })
+          nodes.old.entries;
+    } }
 {
     nodes.set_containers(node, chain);
     nodes.set_stamp(node, clock);
@@ -53,12 +56,14 @@ pub(crate) fn taken(apps: &mut Apps, placed: &Placement, p: u8, chain: Chain, nu
 
 /// A node has one container less: its chain, the clock that is its stamp, and what is free of it.
 pub(crate) fn freed(nodes: &mut Nodes, ended: &Container, chain: Chain, clock: u64)
-    requires live { IsLive ended.now.node nodes.old }
-    requires small { IfSome (lookup (nat_eq ended.now.node) nodes.old)
+    requires live { IsLive ended.now.node nodes.old.entries }
+    requires small { IfSome (lookup (nat_eq ended.now.node) nodes.old.entries)
         (λ row. IsSmall (plus row.free ended.now.size)) }
-    ensures { nodes.new ≡ with_change ended.now.node (λ row.
-        record row { containers = chain; stamp = clock; free = plus row.free ended.now.size })
-        nodes.old }
+    ensures { nodes.new ≡ record nodes.old {
+      entries = with_change ended.now.node (λ row.
+          record row { containers = chain; stamp = clock; free = plus row.free ended.now.size })
+          nodes.old.entries;
+    } }
 {
     nodes.set_containers(ended.node, chain);
     nodes.set_stamp(ended.node, clock);

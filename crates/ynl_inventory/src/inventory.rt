@@ -1,8 +1,8 @@
 //! What a cluster holds.
 
-ghost use Rattle.std.specs.Prelude.{◌≡◌, ◌<◌, ◌≤◌, nat_eq, length, slice_get, option_map, Some, None, IfNone, nat_le, IfOk, IsOk, OnOk, OnErr, IfSome, IsSome};
+ghost use Rattle.std.specs.Prelude.{◌≡◌, ◌<◌, ◌≤◌, nat_eq, length, map, slice_get, option_map, Some, None, IfNone, nat_le, false, true, IfOk, IsOk, OnOk, OnErr, IfSome, IsSome};
 ghost use Rattle.std.specs.Map.{lookup};
-ghost use Rattle.ynl_slots.specs.Slots.{IsLive, IsUnused};
+ghost use Rattle.ynl_slots.specs.Slots.{without, IsLive, IsUnused};
 ghost use Rattle.ynl_app_table.specs.Chains.{chain_of};
 ghost use Rattle.ynl_inventory.specs.Changes.{partition_of_node, with_placed, with_ended, with_joined, with_dropped, with_node_gone, with_submitted, with_asked, with_tickets, with_app_gone, with_user_known};
 ghost use Rattle.ynl_model.specs.Nodes.{rises};
@@ -43,6 +43,21 @@ pub struct Inventory {
     apps: Apps,
     tenants: Vec<Submissions>,
     users: Users,
+}
+
+// By hand, so that crates above call it: one that is derived is proved anew in each of them, with
+// all that it holds.
+impl Drop for Inventory {
+    fn drop(self) {
+        let Inventory {
+            layout: _,
+            partitions: _,
+            nodes: _,
+            apps: _,
+            tenants: _,
+            users: _,
+        } = self;
+    }
 }
 
 impl Model for Inventory {
@@ -87,6 +102,7 @@ impl Inventory {
             (partition_of_node self.old.rows.nodes placed.now.node)) }
         ensures rooms { LeavesRoom (partition_of_node self.old.rows.nodes placed.now.node) 1
             self.old.rooms self.new.rooms }
+        ensures ready { self.new.ready ≡ self.old.ready }
     {
         let row = &self.nodes[placed.node];
         let p = row.partition;
@@ -107,6 +123,7 @@ impl Inventory {
         ensures rows { self.new.rows ≡ self.old.rows }
         ensures ok { OnOk result (IfSome (slice_get self.new.rooms p) (λ room. count ≤ room)) }
         ensures rooms { LeavesRoom p 0 self.old.rooms self.new.rooms }
+        ensures ready { self.new.ready ≡ self.old.ready }
     {
         let part = &mut self.partitions[p as usize];
         part.reserve(count)
@@ -132,6 +149,40 @@ impl Inventory {
         Ok(number)
     }
 
+    /// Reserves room for a node that joins again. It fails where `Nodes::reserve_one` does.
+    pub fn reserve_node(&mut self) -> Result<(), AllocError>
+        ensures ok { OnOk result (self.new ≡ record self.old { ready = true }) }
+        ensures err { OnErr result (self.new ≡ self.old) }
+    {
+        self.nodes.reserve_one()
+    }
+
+    /// A node without containers leaves, and joins a partition under its own name and size. It
+    /// returns the node's new number. It takes no memory.
+    pub fn rejoin(&mut self, node: u32, p: u8) -> u32
+        requires live { IsLive node self.old.rows.nodes }
+        requires empty { HasNoContainers self.old.rows node }
+        requires partition { HasPartition self.old.rows p }
+        requires ready { self.old.ready ≡ true }
+        ensures rows { IfSome (lookup (nat_eq node) self.old.rows.nodes) (λ row. self.new
+            ≡ record self.old {
+              rows = with_joined result row.name p row.size (with_node_gone node self.old.rows);
+              ready = false;
+            }) }
+        ensures unused { IsUnused result (without node self.old.rows.nodes) }
+    {
+        // Opens the nodes, no two of which have one name.
+        let _ = self.nodes.len();
+        let size = self.nodes[node].size;
+        // Opens the size, which is small.
+        let _amount = size.amount();
+        let clock = next_clock(&self.partitions, p);
+        let number = self.nodes.rejoin(node, p, clock);
+        let part = &mut self.partitions[p as usize];
+        part.clock = clock;
+        number
+    }
+
     /// A node without containers leaves. It takes no memory.
     pub fn leave(&mut self, node: u32)
         requires live { IsLive node self.old.rows.nodes }
@@ -147,6 +198,7 @@ impl Inventory {
         ensures value { held_at self.old.rows p number ≡ Some result }
         ensures rows { self.new.rows ≡ with_ended p number result.node self.old.rows }
         ensures rooms { LeavesRoom p 0 self.old.rooms self.new.rooms }
+        ensures ready { self.new.ready ≡ self.old.ready }
     {
         let held = container_in(&self.partitions, p, number);
         let row = &self.nodes[held.node];
@@ -161,11 +213,12 @@ impl Inventory {
     }
 
     /// The container under a number in a partition goes with its node: no clock rises, and no stamp changes. It takes no memory.
-    pub fn drop(&mut self, p: u8, number: u32) -> Container
+    pub fn discard(&mut self, p: u8, number: u32) -> Container
         requires { IsSome (held_at self.old.rows p number) }
         ensures value { held_at self.old.rows p number ≡ Some result }
         ensures rows { self.new.rows ≡ with_dropped p number self.old.rows }
         ensures rooms { LeavesRoom p 0 self.old.rooms self.new.rooms }
+        ensures ready { self.new.ready ≡ self.old.ready }
     {
         let held = container_in(&self.partitions, p, number);
         let row = &self.nodes[held.node];
@@ -205,6 +258,7 @@ impl Inventory {
             self.old.rows) }
         ensures unused { IfOk result (λ app. IsUnused app self.old.rows.apps) }
         ensures rooms { self.new.rooms ≡ self.old.rooms }
+        ensures ready { self.new.ready ≡ self.old.ready }
         ensures err { OnErr result (self.new.rows ≡ self.old.rows) }
     {
         let alloc = *self.tenants.allocator();
@@ -226,6 +280,7 @@ impl Inventory {
         ensures ok { OnOk result (self.new.rows ≡ with_asked app ask self.old.rows) }
         ensures err { OnErr result (self.new.rows ≡ self.old.rows) }
         ensures rooms { self.new.rooms ≡ self.old.rooms }
+        ensures ready { self.new.ready ≡ self.old.ready }
         ensures no_count { ask.count ≡ 0 → IsOk result }
     {
         reserve_for_ask(&mut self.apps, &self.partitions, app, &ask)?;
@@ -248,6 +303,7 @@ impl Inventory {
         ensures rows { IfSome (lookup (nat_eq app) self.old.rows.apps)
             (λ row. self.new.rows ≡ with_app_gone app row.tenant row.turn self.old.rows) }
         ensures rooms { self.new.rooms ≡ self.old.rooms }
+        ensures ready { self.new.ready ≡ self.old.ready }
     {
         let row = self.apps.remove(app);
         let submissions = &mut self.tenants[row.tenant as usize];
@@ -321,6 +377,17 @@ impl Inventory {
         container_in(&self.partitions, p, number)
     }
 
+    /// The containers of a partition, in the order of placement. It fails if memory is refused, and
+    /// takes the time of a sort.
+    pub fn containers(&self, alloc: Global, p: u8) -> Result<Vec<Container>, AllocError>
+        requires { HasPartition self.now.rows p }
+        ensures { IfOk result (λ list.
+            list.items ≡ map (λ e. e.1) (containers_of self.now.rows p)) }
+    {
+        let part = &self.partitions[p as usize];
+        part.containers.copies(alloc)
+    }
+
     /// The queues under numbers.
     pub fn layout(&self) -> &Layout
         ensures { result.now ≡ self.now.rows.paths }
@@ -331,6 +398,7 @@ impl Inventory {
     /// How many partitions there are, DEFAULT among them.
     pub fn partition_count(&self) -> usize
         ensures count { result ≡ length self.now.rows.partitions }
+        ensures rooms { length self.now.rooms ≡ length self.now.rows.partitions }
         ensures sound { IsSound self.now.rows }
         ensures fitting { IsFitting self.now.rows }
     {
@@ -344,6 +412,15 @@ impl Inventory {
     {
         let part = &self.partitions[p as usize];
         &part.label
+    }
+
+    /// Whether a partition takes guests.
+    pub fn takes_guests(&self, p: u8) -> bool
+        requires { HasPartition self.now.rows p }
+        ensures { IfSome (slice_get self.now.rows.partitions p) (λ row. result ≡ row.guests) }
+    {
+        let part = &self.partitions[p as usize];
+        part.guests
     }
 
     /// Whether the clock of a partition stands at its limit.

@@ -3,10 +3,10 @@
 ghost use Rattle.std.specs.Prelude.{◌≡◌, IfSome, IsSome};
 ghost use Rattle.ynl_inventory.specs.Meaning.{label_at, placed_of, what_of};
 ghost use Rattle.ynl_inventory.specs.Sound.{IsAskedThere};
-ghost use Rattle.ynl_inventory.specs.Parts.{held_at};
+ghost use Rattle.ynl_inventory.specs.Parts.{held_at, IsHeldIn};
 
 use crate::inventory::Inventory;
-use ynl_container_table::Role;
+use ynl_container_table::{Container, Role};
 use ynl_model::{Placed, What};
 use ynl_resource::Id;
 
@@ -17,9 +17,18 @@ impl Inventory {
         ensures { IfSome (held_at self.now.rows p number) (λ c.
             result ≡ placed_of self.now.rows (label_at self.now.rows.partitions p) c) }
     {
+        let held = self.container(p, number);
+        self.told(p, &held)
+    }
+
+    /// A container that is held in a partition, as the model has it.
+    pub fn told(&self, p: u8, held: &Container) -> Placed
+        requires { IsHeldIn self.now.rows p held.now }
+        ensures { result ≡ placed_of self.now.rows
+            (label_at self.now.rows.partitions p) held.now }
+    {
         // Opens the rows, which are sound.
         let _ = self.partition_count();
-        let held = self.container(p, number);
         let node = self.node(held.node);
         let app = self.app(held.app);
         let label = self.label(p);
@@ -37,7 +46,7 @@ impl Inventory {
     }
 
     /// What a container is to its application, as the model has it.
-    fn what(&self, role: Role) -> What
+    pub fn what(&self, role: Role) -> What
         requires { IsAskedThere self.now.rows role }
         ensures { result ≡ what_of self.now.rows.partitions role }
     {

@@ -83,6 +83,13 @@ impl Lane {
         self.rows.seats.get(ticket).is_some()
     }
 
+    /// How many seats there are.
+    pub fn len(&self) -> usize
+        ensures { result ≡ length self.now.seats }
+    {
+        self.rows.seats.len()
+    }
+
     /// How many users have a seat.
     pub fn users(&self) -> usize
         ensures { result ≡ length (each_once (map (λ e. e.1.user) self.now.seats)) }

@@ -14,6 +14,7 @@ use ynl_resource::{Name, Path};
 
 /// The queues of a configuration under numbers. Root has 0, and the others follow in the order of the
 /// configuration. A contract sees the paths of the queues below root.
+#[derive(Drop)]
 pub struct Layout {
     paths: Vec<Path>,
     lines: Vec<Vec<usize>>,

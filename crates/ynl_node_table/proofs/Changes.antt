@@ -1,5 +1,5 @@
 -- What the nodes keep while one comes, goes or changes.
-use Rattle.std.proofs.Common.{◌≡◌, ◌≢◌, ℕ, Bool, true, false, cond, List, [], ◌∷◌, ◌++◌, Option, Some, None, option_map, nat_eq, refl, sym, ap, subst, ◌∙◌, arith}
+use Rattle.std.proofs.Common.{◌≡◌, ◌≢◌, ◌<◌, ◌≤◌, ℕ, Bool, true, false, cond, List, [], ◌∷◌, ◌++◌, Option, Some, None, option_map, nat_eq, refl, sym, ap, subst, ◌∙◌, arith}
 use Rattle.std.specs.List.{AllByRecursion}
 use Rattle.std.specs.Map.{lookup}
 use Rattle.std.specs.BTreeMap.{BTreeMap, get, is_at}
@@ -95,44 +95,47 @@ module _ (a : Inside) (h : IsKept a) where
   pub change_is : (n : ℕ) (row : NodeRow) (change : NodeRow → NodeRow) → lookup (nat_eq n) a.rows.entries ≡ Some row → with_row n (change row) a.rows.entries ≡ with_change n change a.rows.entries
   change_is n row change found = changed n row change a.rows.entries (only_from_distinct n row a.rows.entries h.distinct found)
 
-  pub change_kept : (n : ℕ) (row next : NodeRow) (room : ℕ) → lookup (nat_eq n) a.rows.entries ≡ Some row → next.name ≡ row.name
-      → IsKept (record { rows = record { entries = with_row n next a.rows.entries; room = room }; numbers = a.numbers })
-  change_kept n row next room found is = record {
+  pub change_kept : (n : ℕ) (row next : NodeRow) (room : ℕ) → lookup (nat_eq n) a.rows.entries ≡ Some row → next.name ≡ row.name → a.rows.room ≤ room
+      → IsKept (record { rows = record { entries = with_row n next a.rows.entries; room = room }; numbers = a.numbers; ready = a.ready })
+  change_kept n row next room found is more = record {
     distinct = distinct_alike (with_row n next a.rows.entries) a.rows.entries (numbers_stay n next a.rows.entries) h.distinct;
     names = names_alike (with_row n next a.rows.entries) a.rows.entries alike h.names;
     found = λ name. h.found name ∙ ap (lookup (same_name name)) (sym alike);
+    room = λ ready. let before = h.room ready in omega (arith, before, more);
   }
     where
       alike : by_name (with_row n next a.rows.entries) ≡ by_name a.rows.entries
       alike = named_alike n row next a.rows.entries (only_from_distinct n row a.rows.entries h.distinct found) is
 
   -- a node comes last
-  pub push_kept : (n : ℕ) (row : NodeRow) (rows : Numbered NodeRow) (numbers : BTreeMap Name ℕ) → rows.entries ≡ a.rows.entries ++ (n, row) ∷ [] → IsUnused n a.rows.entries → number_of row.name a.rows.entries ≡ None
-      → ((q : Name) → get name_order numbers q ≡ cond (is_at (name_order row.name) q) (Some n) (get name_order a.numbers q)) → IsKept (record { rows = rows; numbers = numbers })
-  push_kept n row rows numbers is unused new put = record {
+  pub push_kept : (n : ℕ) (row : NodeRow) (rows : Numbered NodeRow) (numbers : BTreeMap Name ℕ) (ready : Bool) → (ready ≡ true → 0 < rows.room) → rows.entries ≡ a.rows.entries ++ (n, row) ∷ [] → IsUnused n a.rows.entries → number_of row.name a.rows.entries ≡ None
+      → ((q : Name) → get name_order numbers q ≡ cond (is_at (name_order row.name) q) (Some n) (get name_order a.numbers q)) → IsKept (record { rows = rows; numbers = numbers; ready = ready })
+  push_kept n row rows numbers ready room is unused new put = record {
     distinct = subst HasDistinctNumbers (sym is) (distinct_push n row a.rows.entries unused h.distinct);
     names = subst HasDistinctNames (sym is) (names_pushed n row a.rows.entries new h.names);
     found = λ q.
         put q ∙ ap (λ (b : Bool). cond b (Some n) (get name_order a.numbers q)) (at_same row.name q) ∙ ap (λ (o : Option ℕ). cond (same_name row.name q) (Some n) o) (h.found q)
         ∙ sym (number-pushed n row a.rows.entries q new) ∙ ap (number_of q) (sym is);
+    room = room;
   }
 
   -- a node goes
-  pub without_kept : (n : ℕ) (row : NodeRow) (rows : Numbered NodeRow) (numbers : BTreeMap Name ℕ) → rows.entries ≡ without n a.rows.entries → lookup (nat_eq n) a.rows.entries ≡ Some row
-      → ((q : Name) → get name_order numbers q ≡ cond (is_at (name_order row.name) q) None (get name_order a.numbers q)) → IsKept (record { rows = rows; numbers = numbers })
-  without_kept n row rows numbers is there gone = record {
+  pub without_kept : (n : ℕ) (row : NodeRow) (rows : Numbered NodeRow) (numbers : BTreeMap Name ℕ) (ready : Bool) → (ready ≡ true → 0 < rows.room) → rows.entries ≡ without n a.rows.entries → lookup (nat_eq n) a.rows.entries ≡ Some row
+      → ((q : Name) → get name_order numbers q ≡ cond (is_at (name_order row.name) q) None (get name_order a.numbers q)) → IsKept (record { rows = rows; numbers = numbers; ready = ready })
+  without_kept n row rows numbers ready room is there gone = record {
     distinct = subst HasDistinctNumbers (sym is) (distinct_without n a.rows.entries h.distinct);
     names = subst HasDistinctNames (sym is) (names_without n a.rows.entries h.names);
     found = λ q.
         gone q ∙ ap (λ (b : Bool). let o : Option ℕ = cond b None (get name_order a.numbers q) in o) (at_same row.name q)
         ∙ ap (λ (o : Option ℕ). let p : Option ℕ = cond (same_name row.name q) None o in p) (h.found q)
         ∙ sym (number-without n row a.rows.entries q h.distinct h.names there) ∙ ap (number_of q) (sym is);
+    room = room;
   }
 
   -- a node goes, and one of its name comes last
-  pub moved_kept : (n m : ℕ) (row next : NodeRow) (rows : Numbered NodeRow) (numbers : BTreeMap Name ℕ) → rows.entries ≡ without n a.rows.entries ++ (m, next) ∷ [] → lookup (nat_eq n) a.rows.entries ≡ Some row → next.name ≡ row.name → IsUnused m (without n a.rows.entries)
-      → ((q : Name) → get name_order numbers q ≡ cond (is_at (name_order row.name) q) (Some m) (get name_order a.numbers q)) → IsKept (record { rows = rows; numbers = numbers })
-  moved_kept n m row next rows numbers is there same unused put = record {
+  pub moved_kept : (n m : ℕ) (row next : NodeRow) (rows : Numbered NodeRow) (numbers : BTreeMap Name ℕ) (ready : Bool) → (ready ≡ true → 0 < rows.room) → rows.entries ≡ without n a.rows.entries ++ (m, next) ∷ [] → lookup (nat_eq n) a.rows.entries ≡ Some row → next.name ≡ row.name → IsUnused m (without n a.rows.entries)
+      → ((q : Name) → get name_order numbers q ≡ cond (is_at (name_order row.name) q) (Some m) (get name_order a.numbers q)) → IsKept (record { rows = rows; numbers = numbers; ready = ready })
+  moved_kept n m row next rows numbers ready room is there same unused put = record {
     distinct = subst HasDistinctNumbers (sym is) (distinct_push m next (without n a.rows.entries) unused (distinct_without n a.rows.entries h.distinct));
     names = subst HasDistinctNames (sym is) (names_pushed m next (without n a.rows.entries) new (names_without n a.rows.entries h.names));
     found = λ q.
@@ -141,6 +144,7 @@ module _ (a : Inside) (h : IsKept a) where
         ∙ ap (λ (o : Option ℕ). cond (same_name row.name q) (Some m) o) (sym (number-without n row a.rows.entries q h.distinct h.names there))
         ∙ ap (λ (x : Name). cond (same_name x q) (Some m) (number_of q (without n a.rows.entries))) (sym same)
         ∙ sym (number-pushed m next (without n a.rows.entries) q new) ∙ ap (number_of q) (sym is);
+    room = room;
   }
     where
       new : number_of next.name (without n a.rows.entries) ≡ None
@@ -155,9 +159,10 @@ module _ (a : Inside) (h : IsKept a) where
   name_there n row there = h.found row.name ∙ number_there n row a.rows.entries h.names there
 
   -- the names stay where the nodes do
-  pub same_kept : (rows : Numbered NodeRow) (numbers : BTreeMap Name ℕ) → rows.entries ≡ a.rows.entries → numbers.entries ≡ a.numbers.entries → IsKept (record { rows = rows; numbers = numbers })
-  same_kept rows numbers is same = record {
+  pub same_kept : (rows : Numbered NodeRow) (numbers : BTreeMap Name ℕ) (ready : Bool) → (ready ≡ true → 0 < rows.room) → rows.entries ≡ a.rows.entries → numbers.entries ≡ a.numbers.entries → IsKept (record { rows = rows; numbers = numbers; ready = ready })
+  same_kept rows numbers ready room is same = record {
     distinct = subst HasDistinctNumbers (sym is) h.distinct;
     names = subst HasDistinctNames (sym is) h.names;
     found = λ q. ap (lookup (is_at (name_order q))) same ∙ h.found q ∙ ap (number_of q) (sym is);
+    room = room;
   }

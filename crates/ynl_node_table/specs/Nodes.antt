@@ -1,5 +1,5 @@
 -- The nodes of a cluster, as a contract sees them.
-use Rattle.std.specs.Prelude.{◌≡◌, ◌≢◌, ⊤, ℕ, List, [], ◌∷◌, ◌++◌, map, nat_eq, Option, Some, None, if◌then◌else◌}
+use Rattle.std.specs.Prelude.{◌≡◌, ◌≢◌, ⊤, ℕ, Bool, List, [], ◌∷◌, ◌++◌, map, nat_eq, Option, Some, None, if◌then◌else◌}
 use Rattle.std.specs.List.{AllByRecursion}
 use Rattle.std.specs.Map.{lookup}
 use Rattle.ynl_resource.specs.declared.amounts.Resource.{Resource}
@@ -8,6 +8,11 @@ use Rattle.ynl_resource.specs.Names.{same_name}
 use Rattle.ynl_slots.specs.declared.chain.Chain.{Chain}
 use Rattle.ynl_slots.specs.Slots.{IsUnused, without}
 use Rattle.ynl_node_table.specs.declared.nodes.NodeRow.{NodeRow}
+
+-- the nodes under their numbers in the order of joining, and whether one may join again without memory
+pub record NodesView : Type 0 where
+  pub entries : List (ℕ × NodeRow)
+  pub ready : Bool
 
 -- no two nodes have one name
 abbrev pub HasDistinctNames : List (ℕ × NodeRow) → Type 0

@@ -1,6 +1,6 @@
 //! The nodes of a cluster.
 
-ghost use Rattle.std.specs.Prelude.{◌≡◌, ◌++◌, ◌∷◌, [], length, nat_eq, option_copied, option_map, Some, None, IsTrue, IfOk, IfSome, OnErr};
+ghost use Rattle.std.specs.Prelude.{◌≡◌, ◌++◌, ◌∷◌, [], length, nat_eq, false, true, option_copied, option_map, Some, None, IsTrue, IfOk, IfSome, OnErr, OnOk};
 ghost use Rattle.std.specs.Map.{lookup};
 ghost use Rattle.ynl_resource.specs.Amounts.{plus, less, fits_in, IsSmall};
 ghost use Rattle.ynl_slots.specs.Slots.{IsLive, IsUnused, HasDistinctNumbers, without};
@@ -29,22 +29,24 @@ pub struct NodeRow {
 }
 
 /// The nodes of a cluster under numbers, no two of one name. A node is found by its number in constant time, and by its name
-/// in few steps, whatever names there are. A contract sees the nodes under their numbers, in the order of joining.
+/// in few steps, whatever names there are. A contract sees the nodes under their numbers, in the order of joining, and
+/// whether one may join again without memory.
 #[derive(Drop)]
 pub struct Nodes {
     rows: Slots<NodeRow>,
     numbers: BTreeMap<Name, u32>,
+    /// There is room for one more.
+    ready: bool,
 }
 
 impl Model for Nodes {
-    ghost use Rattle.std.specs.Prelude.{List, ℕ};
-    ghost use Rattle.ynl_node_table.specs.declared.nodes.NodeRow.{NodeRow};
+    ghost use Rattle.ynl_node_table.specs.Nodes.{NodesView};
 
-    ghost Value = { List (ℕ × NodeRow) };
+    ghost Value = { NodesView };
 
-    ghost use Rattle.ynl_node_table.specs.Fields.{IsKept};
+    ghost use Rattle.ynl_node_table.specs.Fields.{nodes_of, IsKept};
 
-    ghost view = { λ a. a.rows.entries };
+    ghost view = { nodes_of };
 
     ghost invariant = { IsKept };
 }
@@ -52,41 +54,43 @@ impl Model for Nodes {
 impl Nodes {
     /// No nodes. It takes no memory.
     pub fn new(alloc: Global) -> Nodes
-        ensures { result ≡ [] }
+        ensures entries { result.entries ≡ [] }
+        ensures ready { result.ready ≡ false }
     {
         Nodes {
             rows: Slots::new(alloc),
             numbers: BTreeMap::new(alloc),
+            ready: false,
         }
     }
 
     /// How many nodes there are.
     pub fn len(&self) -> usize
-        ensures value { result ≡ length self.now }
-        ensures distinct { HasDistinctNumbers self.now }
-        ensures names { HasDistinctNames self.now }
+        ensures value { result ≡ length self.now.entries }
+        ensures distinct { HasDistinctNumbers self.now.entries }
+        ensures names { HasDistinctNames self.now.entries }
     {
         self.rows.len()
     }
 
     /// The node under a number, if there is one.
     pub fn get(&self, number: u32) -> Option<&NodeRow>
-        ensures { option_copied result ≡ lookup (nat_eq number) self.now }
+        ensures { option_copied result ≡ lookup (nat_eq number) self.now.entries }
     {
         self.rows.get(number)
     }
 
     /// The number of the node of a name, if there is one.
     pub fn find(&self, name: &Name) -> Option<u32>
-        ensures value { result ≡ number_of name.now self.now }
+        ensures value { result ≡ number_of name.now self.now.entries }
         ensures own { IfSome result (λ n.
-            option_map (λ node. node.name) (lookup (nat_eq n) self.now) ≡ Some name.now) }
+            option_map (λ node. node.name) (lookup (nat_eq n) self.now.entries) ≡ Some name.now) }
     {
         self.numbers.get(name).copied()
     }
 
     /// A node comes last, with all of it free and no containers. It returns the number. It fails if memory is refused, if there
-    /// are 2^32 - 1 nodes, and after 2^64 - 1 calls.
+    /// are 2^32 - 2 nodes, and after 2^64 - 2 calls.
     pub fn join(
         &mut self,
         name: &Name,
@@ -94,11 +98,13 @@ impl Nodes {
         size: Size,
         stamp: u64,
     ) -> Result<u32, AllocError>
-        requires { number_of name.now self.old ≡ None }
-        ensures ok { IfOk result (λ n. Joins n name.now partition size stamp self.old self.new) }
+        requires { number_of name.now self.old.entries ≡ None }
+        ensures ok { IfOk result (λ n. Joins n name.now partition size stamp
+            self.old.entries self.new.entries) }
+        ensures ready { self.new.ready ≡ self.old.ready }
         ensures err { OnErr result (self.new ≡ self.old) }
     {
-        self.rows.reserve_one()?;
+        self.rows.reserve(2)?;
         let number = self.rows.push(NodeRow {
             name: *name,
             partition,
@@ -116,14 +122,26 @@ impl Nodes {
         }
     }
 
-    /// A node comes last again, on another partition, with all of it free and no containers. It returns the number. It fails
-    /// where `join` does.
-    pub fn rejoin(&mut self, number: u32, partition: u8, stamp: u64) -> Result<u32, AllocError>
-        requires { IsLive number self.old }
-        ensures ok { IfOk result (λ n. Rejoins number n partition stamp self.old self.new) }
+    /// Reserves room for a node that joins again. It fails if memory is refused, if there are
+    /// 2^32 - 1 nodes, and after 2^64 - 1 calls.
+    pub fn reserve_one(&mut self) -> Result<(), AllocError>
+        ensures ok { OnOk result (self.new ≡ record self.old { ready = true }) }
         ensures err { OnErr result (self.new ≡ self.old) }
     {
         self.rows.reserve_one()?;
+        self.ready = true;
+        Ok(())
+    }
+
+    /// A node comes last again, on another partition, with all of it free and no containers. It returns the number. It takes
+    /// no memory.
+    pub fn rejoin(&mut self, number: u32, partition: u8, stamp: u64) -> u32
+        requires live { IsLive number self.old.entries }
+        requires ready { self.old.ready ≡ true }
+        ensures entries { Rejoins number result partition stamp
+            self.old.entries self.new.entries }
+        ensures ready { self.new.ready ≡ false }
+    {
         let was = self.rows.remove(number);
         let last = self.rows.push(NodeRow {
             name: was.name,
@@ -133,17 +151,18 @@ impl Nodes {
             stamp,
             containers: Chain::new(),
         });
+        self.ready = false;
         match self.numbers.insert(was.name, last) {
-            Ok(_) => Ok(last),
+            Ok(_) => last,
             Err(_) => unreachable!(),
         }
     }
 
     /// Takes out the node under a number. It takes no memory.
     pub fn leave(&mut self, number: u32) -> NodeRow
-        requires { IsLive number self.old }
-        ensures value { lookup (nat_eq number) self.old ≡ Some result }
-        ensures nodes { self.new ≡ without number self.old }
+        requires { IsLive number self.old.entries }
+        ensures value { lookup (nat_eq number) self.old.entries ≡ Some result }
+        ensures nodes { self.new ≡ record self.old { entries = without number self.old.entries } }
     {
         let row = self.rows.remove(number);
         let _number = self.numbers.remove(&row.name);
@@ -152,9 +171,11 @@ impl Nodes {
 
     /// Sets the stamp of a node.
     pub fn set_stamp(&mut self, number: u32, stamp: u64)
-        requires { IsLive number self.old }
-        ensures { self.new ≡ with_change number (λ node.
-            record node { stamp = stamp }) self.old }
+        requires { IsLive number self.old.entries }
+        ensures { self.new ≡ record self.old {
+          entries = with_change number (λ node.
+              record node { stamp = stamp }) self.old.entries;
+        } }
     {
         let row = &mut self.rows[number];
         row.stamp = stamp;
@@ -162,9 +183,11 @@ impl Nodes {
 
     /// Sets the chain of a node's containers.
     pub fn set_containers(&mut self, number: u32, chain: Chain)
-        requires { IsLive number self.old }
-        ensures { self.new ≡ with_change number (λ node.
-            record node { containers = chain }) self.old }
+        requires { IsLive number self.old.entries }
+        ensures { self.new ≡ record self.old {
+          entries = with_change number (λ node.
+              record node { containers = chain }) self.old.entries;
+        } }
     {
         let row = &mut self.rows[number];
         row.containers = chain;
@@ -172,11 +195,13 @@ impl Nodes {
 
     /// A container of this size takes free room of a node.
     pub fn take(&mut self, number: u32, size: Size)
-        requires live { IsLive number self.old }
-        requires room { IfSome (lookup (nat_eq number) self.old)
+        requires live { IsLive number self.old.entries }
+        requires room { IfSome (lookup (nat_eq number) self.old.entries)
             (λ node. IsTrue (fits_in size node.free)) }
-        ensures { self.new ≡ with_change number (λ node.
-            record node { free = less node.free size }) self.old }
+        ensures { self.new ≡ record self.old {
+          entries = with_change number (λ node.
+              record node { free = less node.free size }) self.old.entries;
+        } }
     {
         let row = &mut self.rows[number];
         row.free = row.free.sub(size.amount());
@@ -184,11 +209,13 @@ impl Nodes {
 
     /// A container of this size gives its room on a node back.
     pub fn give(&mut self, number: u32, size: Size)
-        requires live { IsLive number self.old }
-        requires small { IfSome (lookup (nat_eq number) self.old)
+        requires live { IsLive number self.old.entries }
+        requires small { IfSome (lookup (nat_eq number) self.old.entries)
             (λ node. IsSmall (plus node.free size)) }
-        ensures { self.new ≡ with_change number (λ node.
-            record node { free = plus node.free size }) self.old }
+        ensures { self.new ≡ record self.old {
+          entries = with_change number (λ node.
+              record node { free = plus node.free size }) self.old.entries;
+        } }
     {
         let row = &mut self.rows[number];
         row.free = row.free.add(size.amount());
@@ -198,9 +225,9 @@ impl Nodes {
 impl Index<u32> for Nodes {
     type Output = NodeRow;
 
-    ghost can_index = { λ nodes number. IsLive number nodes };
+    ghost can_index = { λ nodes number. IsLive number nodes.entries };
 
-    ghost index_gives = { λ nodes number node. lookup (nat_eq number) nodes ≡ Some node };
+    ghost index_gives = { λ nodes number node. lookup (nat_eq number) nodes.entries ≡ Some node };
 
     fn index(&self, number: u32) -> &NodeRow {
         &self.rows[number]

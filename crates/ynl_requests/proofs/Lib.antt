@@ -4,3 +4,4 @@ pub mod Live
 pub mod Wanted
 pub mod Order
 pub mod First
+pub mod Tables

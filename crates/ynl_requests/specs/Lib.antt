@@ -1,3 +1,4 @@
 pub mod Requests
 pub mod Laws
 pub mod First
+pub mod Tables

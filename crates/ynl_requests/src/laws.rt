@@ -2,6 +2,7 @@
 
 ghost use Rattle.ynl_requests.specs.First.{FirstIsModel};
 ghost use Rattle.ynl_requests.specs.Laws.{AskedIsModel, OrderIsModel, RunsIsModel, WantedIsModel};
+ghost use Rattle.ynl_requests.specs.Tables.{SoundIsDistinct, SoundIsTabled};
 
 /// An application runs in the model if its rows say so.
 pub fn runs_is_the_models()
@@ -23,8 +24,18 @@ pub fn order_is_the_models()
     ensures { OrderIsModel }
 {}
 
-/// The first of a leaf's requests that pass a test, by the order of the rows and by their ranks, is the first in the model's
-/// order of service.
+/// The first of a leaf's requests that pass a test, by the order of the rows and by their ranks, is
+/// the first in the model's order of service.
 pub fn first_is_the_models()
     ensures { FirstIsModel }
+{}
+
+/// The state that the rows mean finds its applications and leaves by their names.
+pub fn sound_rows_are_tabled()
+    ensures { SoundIsTabled }
+{}
+
+/// The asks of each of its applications differ.
+pub fn asks_of_sound_rows_differ()
+    ensures { SoundIsDistinct }
 {}

@@ -65,11 +65,12 @@ fn rejoin<R: Print>(rt: &R, nodes: &mut Nodes, number: u32) -> Result<u32, Fail>
     if nodes.get(number).is_none() {
         return Err(Fail::new("no node"));
     }
-    if let Ok(last) = nodes.rejoin(number, 2, 6) {
-        return Ok(last);
+    if let Ok(()) = nodes.reserve_one() {
+        return Ok(nodes.rejoin(number, 2, 6));
     }
     println!(rt; "refused")?;
-    Ok(nodes.rejoin(number, 2, 6)?)
+    nodes.reserve_one()?;
+    Ok(nodes.rejoin(number, 2, 6))
 }
 
 // A node leaves, if it is there. Its stamp is returned.

@@ -1,6 +1,5 @@
 -- What is known where a container ends.
 use Rattle.std.proofs.Common.{◌≡◌, Some, ap, subst, ◌∙◌, inl}
-use Rattle.ynl_inventory.specs.Rows.{Rows}
 use Rattle.ynl_inventory.specs.Changes.{with_ended}
 use Rattle.ynl_inventory.specs.Parts.{LeavesRoom, app_row, held_at}
 use Rattle.ynl_ledger.proofs.Calls.{has-uses, leaf-number, line-inside, line-is, lowered-uses, stands-there}
@@ -61,7 +60,7 @@ returns-clause-value c = subst (λ (w : ClusterView). held_at w.rows c.args.p c.
 
 pub returns-clause-rows : goal.returns-clause-rows
 returns-clause-rows c =
-    ap (λ (rows : Rows). record (view_of c.self.inside) { rows = rows; rooms = c.end-ended.new.self.rooms }) c.end-ended.ensures.rows
+    (λ i. record (view_of c.self.inside) { rows = c.end-ended.ensures.rows i; rooms = c.end-ended.new.self.rooms; ready = c.end-ended.ensures.ready i })
     ∙ ap (λ (w : ClusterView). record w { rows = with_ended c.args.p c.args.number c.end-ended.result.node w.rows; rooms = c.end-ended.new.self.rooms }) c.self.view_is
 
 pub returns-clause-rooms : goal.returns-clause-rooms

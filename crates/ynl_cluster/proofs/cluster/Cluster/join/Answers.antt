@@ -32,7 +32,7 @@ invariant_of-self-2 c = record {
 
 pub returns-clause-ok : goal.returns-clause-ok
 returns-clause-ok c =
-    ap (λ (h : Held). record (view_of c.self.inside) { rows = h.rows; rooms = h.rooms }) c.in_ok-number.ensures.ok
+    ap (λ (h : Held). record (view_of c.self.inside) { rows = h.rows; rooms = h.rooms; ready = h.ready }) c.in_ok-number.ensures.ok
     ∙ ap (λ (w : ClusterView). record w { rows = with_joined c.in_ok-number.number c.args.name.now c.args.p c.args.size w.rows }) c.self.view_is
 
 pub returns-clause-unused : goal.returns-clause-unused

@@ -1,55 +1,18 @@
 -- What is known where a node leaves, and its containers go first.
-use Rattle.std.proofs.Common.{sym, subst}
-use Rattle.ynl_slots.specs.Slots.{IsLive}
-use Rattle.ynl_container_table.specs.Chains.{IsFirst}
-use Rattle.ynl_inventory.specs.Changes.{partition_of_node}
-use Rattle.ynl_inventory.specs.Apps.{containers_of}
-use Rattle.ynl_inventory.specs.Parts.{Held, node_row}
-use Rattle.ynl_inventory.specs.Sound.{IsSound}
-use Rattle.ynl_cluster.specs.Cluster.{ClusterView}
-use Rattle.ynl_cluster.proofs.Leaving.{all-left, first-there, leaves-fewer, leaves-first, leaves-on, left-state, none-there, on-held}
+use Rattle.ynl_cluster.proofs.Leaving.{all-left, left-state}
+use Rattle.ynl_cluster.proofs.Moving.{row-there}
 use Rattle.ynl_cluster.proofs.cluster.Cluster.leave.Goals as goal
 
-pub loop-number-init : goal.loop-number-init
-loop-number-init c = leaves-first c.self.inside c.self.invariant c.args.self.now c.self.view_is c.args.node (node_row c.node.result.now) c.node.ensures
-
-pub first_of_node-requires : goal.first_of_node-requires
-first_of_node-requires c = subst (λ (h : Held). IsLive c.args.node h.rows.nodes) (sym c.inventory.ensures.value) c.loop-number.invariant.live
-
-pub discard-requires : goal.discard-requires
-discard-requires c =
-    on-held c.loop-number.self.rows c.args.node c.node.result.now.partition c.in-Some.number
-    (first-there c.loop-number.self c.inventory.result.now c.inventory.ensures.value c.args.node c.node.result.now.partition c.in-Some.number c.loop-number.invariant.place c.in-Some.ensures)
-
-pub loop-number-smaller : goal.loop-number-smaller
-loop-number-smaller c =
-    leaves-fewer c.args.node c.node.result.now.partition c.in-Some.number c.args.self.now c.loop-number.self c.discard.new.self c.loop-number.invariant
-    (first-there c.loop-number.self c.inventory.result.now c.inventory.ensures.value c.args.node c.node.result.now.partition c.in-Some.number c.loop-number.invariant.place c.in-Some.ensures) c.discard.ensures
-
-pub loop-number-preserved : goal.loop-number-preserved
-loop-number-preserved c =
-    leaves-on c.args.node c.node.result.now.partition c.in-Some.number c.args.self.now c.loop-number.self c.discard.new.self c.loop-number.invariant
-    (first-there c.loop-number.self c.inventory.result.now c.inventory.ensures.value c.args.node c.node.result.now.partition c.in-Some.number c.loop-number.invariant.place c.in-Some.ensures) c.discard.ensures
-
 pub leave_alone-requires-clause-live : goal.leave_alone-requires-clause-live
-leave_alone-requires-clause-live c = c.loop-number.invariant.live
-
-pub leave_alone-requires-clause-empty : goal.leave_alone-requires-clause-empty
-leave_alone-requires-clause-empty c =
-    none-there c.loop-number.self c.loop-number.invariant.sound c.inventory.result.now c.inventory.ensures.value c.args.node
-    (subst (λ first. IsFirst (λ c. c.node) c.args.node (containers_of c.inventory.result.now.rows (partition_of_node c.inventory.result.now.rows.nodes c.args.node)) first) c.in_default.is c.first_of_node.ensures)
+leave_alone-requires-clause-live c =
+    let own = row-there c.args.self.now c.args.node c.requires in (c.clear.ensures.left own.0 own.1).live
 
 pub returns-clause-rows : goal.returns-clause-rows
 returns-clause-rows c =
-    all-left c.args.node c.node.result.now.partition c.args.self.now c.loop-number.self c.leave_alone.new.self c.loop-number.invariant
-    (none-there c.loop-number.self c.loop-number.invariant.sound c.inventory.result.now c.inventory.ensures.value c.args.node
-    (subst (λ first. IsFirst (λ c. c.node) c.args.node (containers_of c.inventory.result.now.rows (partition_of_node c.inventory.result.now.rows.nodes c.args.node)) first) c.in_default.is c.first_of_node.ensures))
-    c.leave_alone.ensures
+    let own = row-there c.args.self.now c.args.node c.requires in
+    all-left c.args.node own.0.partition c.args.self.now c.clear.new.self c.leave_alone.new.self (c.clear.ensures.left own.0 own.1) c.clear.ensures.empty c.leave_alone.ensures
 
 pub returns-clause-state : goal.returns-clause-state
-returns-clause-state c =
-    left-state c.args.node c.node.result.now.partition c.args.self.now c.loop-number.self c.leave_alone.new.self c.loop-number.invariant
-    (none-there c.loop-number.self c.loop-number.invariant.sound c.inventory.result.now c.inventory.ensures.value c.args.node
-    (subst (λ first. IsFirst (λ c. c.node) c.args.node (containers_of c.inventory.result.now.rows (partition_of_node c.inventory.result.now.rows.nodes c.args.node)) first) c.in_default.is c.first_of_node.ensures))
-    c.leave_alone.ensures
-    (subst (λ (w : ClusterView). IsSound w.rows) c.self.view_is c.self.invariant.parts.sound)
+returns-clause-state c = λ row found.
+    left-state c.args.node row.partition c.args.self.now c.clear.new.self c.leave_alone.new.self (c.clear.ensures.left row found) c.clear.ensures.empty c.leave_alone.ensures
+    c.inventory.ensures.sound row found

@@ -32,5 +32,5 @@ invariant_of-self c = record {
 
 pub returns : goal.returns
 returns c =
-    ap (λ (h : Held). record (view_of c.self.inside) { rows = h.rows; rooms = h.rooms }) c.leave.ensures
+    ap (λ (h : Held). record (view_of c.self.inside) { rows = h.rows; rooms = h.rooms; ready = h.ready }) c.leave.ensures
     ∙ ap (λ (w : ClusterView). record w { rows = with_node_gone c.args.node w.rows }) c.self.view_is

@@ -2,7 +2,7 @@
 use Rattle.std.proofs.Common.{sym, ap, subst, ◌∙◌}
 use Rattle.std.specs.Option.{option_map_or}
 use Rattle.ynl_slots.specs.Slots.{IsUnused}
-use Rattle.ynl_inventory.specs.Rows.{Rows, NodeRow}
+use Rattle.ynl_inventory.specs.Rows.{NodeRow}
 use Rattle.ynl_inventory.specs.Changes.{partition_of_node, with_placed}
 use Rattle.ynl_inventory.specs.Parts.{LeavesRoom, app_row, containers_of, node_row}
 use Rattle.ynl_inventory.proofs.Lookups.{found-live}
@@ -75,7 +75,7 @@ invariant_of-self c = record {
 
 pub returns-clause-rows : goal.returns-clause-rows
 returns-clause-rows c =
-    ap (λ (rows : Rows). record (view_of c.self.inside) { rows = rows; rooms = c.place-number.new.self.rooms }) c.place-number.ensures.rows
+    (λ i. record (view_of c.self.inside) { rows = c.place-number.ensures.rows i; rooms = c.place-number.new.self.rooms; ready = c.place-number.ensures.ready i })
     ∙ ap
     (λ (w : ClusterView). record w {
       rows = with_placed c.place-number.result c.args.placed.now.node c.args.placed.now.app c.args.placed.now.role c.args.placed.now.size w.rows;

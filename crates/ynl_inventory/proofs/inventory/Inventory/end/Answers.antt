@@ -1,6 +1,7 @@
 -- What is known where a container ends.
 use Rattle.std.proofs.Common.{◌≡◌, ◌<◌, map, slice_get, Some, nat_eq, sym, ap, subst, ◌∙◌, arith}
 use Rattle.std.specs.Map.{lookup}
+use Rattle.ynl_node_table.specs.Nodes.{NodesView}
 use Rattle.ynl_inventory.specs.declared.partition.Partition.{Partition}
 use Rattle.ynl_inventory.specs.Changes.{with_ended}
 use Rattle.ynl_inventory.specs.Parts.{Held, LeavesRoom, held_at}
@@ -83,14 +84,14 @@ invariant_of-self c = record {
       c.container_in-held.result (found c)
       c.index-row.result.now c.index-row.ensures c.end-held.new.self c.end-held.new.of_node c.end-held.new.of_app
       (left c)
-      c.freed.new.nodes c.released.new.apps c.freed.ensures c.released.ensures;
+      c.freed.new.nodes.entries c.released.new.apps (ap (λ (v : NodesView). v.entries) c.freed.ensures) c.released.ensures;
   linked =
       out-linked c.self.inside c.self.invariant c.args.p c.args.number c.index_mut-part.result.now
       (there c)
       c.container_in-held.result (found c)
       c.index-row.result.now c.index-row.ensures c.end-held.new.self c.end-held.new.of_node c.end-held.new.of_app
       (left c).out c.end-held.new.self.clock
-      c.freed.new.nodes c.released.new.apps c.freed.ensures c.released.ensures;
+      c.freed.new.nodes.entries c.released.new.apps (ap (λ (v : NodesView). v.entries) c.freed.ensures) c.released.ensures;
 }
 
 pub returns-clause-value : goal.returns-clause-value
@@ -107,10 +108,13 @@ returns-clause-rows c =
     c.container_in-held.result (found c)
     c.index-row.result.now c.index-row.ensures c.end-held.new.self c.end-held.new.of_node c.end-held.new.of_app
     (left c)
-    c.freed.new.nodes c.released.new.apps c.freed.ensures c.released.ensures
+    c.freed.new.nodes.entries c.released.new.apps (ap (λ (v : NodesView). v.entries) c.freed.ensures) c.released.ensures
     ∙ ap (λ (h : Held). with_ended c.args.p c.args.number c.container_in-held.result.node h.rows) c.self.view_is
 
 pub returns-clause-rooms : goal.returns-clause-rooms
 returns-clause-rooms c =
     subst (λ (h : Held). LeavesRoom c.args.p 0 h.rooms (map (λ (part : Partition). part.containers.room) (slice_set c.self.inside.partitions.items c.args.p c.end-held.new.self))) c.self.view_is
     (rooms-left c.self.inside.partitions.items c.args.p c.index_mut-part.result.now c.end-held.new.self 0 (there c) (omega (arith, c.end-held.ensures.room)))
+
+pub returns-clause-ready : goal.returns-clause-ready
+returns-clause-ready c = ap (λ (v : NodesView). v.ready) c.freed.ensures ∙ ap (λ (h : Held). h.ready) c.self.view_is

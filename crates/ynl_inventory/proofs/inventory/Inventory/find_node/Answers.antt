@@ -7,4 +7,4 @@ use Rattle.ynl_inventory.proofs.inventory.Inventory.find_node.Goals as goal
 
 pub returns : goal.returns
 returns c =
-    c.find.ensures.value ∙ sym (same-number c.args.name.now c.self.inside.nodes) ∙ ap (λ (h : Held). node_number c.args.name.now h.rows.nodes) c.self.view_is
+    c.find.ensures.value ∙ sym (same-number c.args.name.now c.self.inside.nodes.entries) ∙ ap (λ (h : Held). node_number c.args.name.now h.rows.nodes) c.self.view_is

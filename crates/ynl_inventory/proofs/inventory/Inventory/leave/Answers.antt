@@ -1,9 +1,10 @@
 -- A node without containers leaves: nothing hung on it.
-use Rattle.std.proofs.Common.{sym, ap, subst, ◌∙◌}
-use Rattle.ynl_slots.specs.Slots.{IsLive}
+use Rattle.std.proofs.Common.{refl, sym, ap, subst, ◌∙◌}
+use Rattle.ynl_slots.specs.Slots.{without, IsLive}
+use Rattle.ynl_node_table.specs.Nodes.{NodesView}
 use Rattle.ynl_inventory.specs.Changes.{with_node_gone}
 use Rattle.ynl_inventory.specs.Sound.{HasNoContainers}
-use Rattle.ynl_inventory.specs.Parts.{Held}
+use Rattle.ynl_inventory.specs.Parts.{held_of, Held, IsInventory}
 use Rattle.ynl_inventory.proofs.NodeParts.{left-held, left-inventory, node-live}
 use Rattle.ynl_inventory.proofs.inventory.Inventory.leave.Goals as goal
 
@@ -12,11 +13,13 @@ leave-row-requires c = node-live c.self.inside c.args.node (subst (λ (h : Held)
 
 pub invariant_of-self : goal.invariant_of-self
 invariant_of-self c =
-    left-inventory c.self.inside c.args.node c.leave-row.new.self c.leave-row.ensures.nodes c.self.invariant
+    subst (λ (nodes : NodesView). IsInventory (record c.self.inside { nodes = nodes })) (sym c.leave-row.ensures.nodes)
+    (left-inventory c.self.inside c.args.node (without c.args.node c.self.inside.nodes.entries) refl c.self.invariant
     (subst (λ (h : Held). IsLive c.args.node h.rows.nodes) (sym c.self.view_is) c.requires.live)
-    (subst (λ (h : Held). HasNoContainers h.rows c.args.node) (sym c.self.view_is) c.requires.empty)
+    (subst (λ (h : Held). HasNoContainers h.rows c.args.node) (sym c.self.view_is) c.requires.empty))
 
 pub returns : goal.returns
 returns c =
-    left-held c.self.inside c.args.node c.leave-row.new.self c.leave-row.ensures.nodes
+    ap (λ (nodes : NodesView). held_of (record c.self.inside { nodes = nodes })) c.leave-row.ensures.nodes
+    ∙ left-held c.self.inside c.args.node (without c.args.node c.self.inside.nodes.entries) refl
     ∙ ap (λ (h : Held). record h { rows = with_node_gone c.args.node h.rows }) c.self.view_is

@@ -17,7 +17,7 @@ use Rattle.ynl_inventory.proofs.Opening.{opening-for, opening-sound, opening-mea
 use Rattle.ynl_inventory.proofs.inventory.Inventory.new.Goals as goal
 
 -- where there are no nodes and no applications, none goes wrong
-none-linked : (a : Inside) → a.nodes ≡ [] → a.apps.entries ≡ [] → AreLinked a.partitions.items a.nodes a.apps.entries
+none-linked : (a : Inside) → a.nodes.entries ≡ [] → a.apps.entries ≡ [] → AreLinked a.partitions.items a.nodes.entries a.apps.entries
 none-linked a nodes apps = record {
   node = λ n row part found at. absurd (none-some row (sym (ap (lookup (nat_eq n)) nodes) ∙ found));
   app = λ n row p part found at. absurd (none-some row (sym (ap (lookup (nat_eq n)) apps) ∙ found));
@@ -30,7 +30,7 @@ none-linked a nodes apps = record {
 
 -- the rows are those before any event
 rows-are : (c : Config) (a : Inside) (n : ℕ) → a.layout ≡ paths_of c → map partition_row a.partitions.items ≡ map (opening_partition c.labels) (partition_labels c.labels)
-    → a.nodes ≡ [] → a.apps.entries ≡ [] → map (λ listing. listing.entries) a.tenants.items ≡ replicate n [] → n ≡ length (root ∷ paths_of c) → a.users ≡ []
+    → a.nodes.entries ≡ [] → a.apps.entries ≡ [] → map (λ listing. listing.entries) a.tenants.items ≡ replicate n [] → n ≡ length (root ∷ paths_of c) → a.users ≡ []
     → (held_of a).rows ≡ opening_rows c
 rows-are c a n layout partitions nodes apps tenants many users = λ i. record {
   paths = layout i;
@@ -62,7 +62,7 @@ rows c =
     let labels : c.labels.result.now ≡ c.args.config.now.labels = c.labels.ensures ∙ ap (λ (d : Config). d.labels) c.draft-draft.ensures.value in
     let queues : length c.queues.result.now ≡ length c.args.config.now.queues = ap length c.queues.ensures ∙ ap (λ (d : Config). length d.queues) c.draft-draft.ensures.value in
     rows-are c.args.config.now (inside c) (length c.queues.result.now + 1) c.in_ok-layout.ensures
-    (c.in_ok-partitions.ensures ∙ ap (λ (labels : Labels). map (opening_partition labels) (partition_labels labels)) labels) c.new-2.ensures c.new-3.ensures c.in_ok-tenants.ensures
+    (c.in_ok-partitions.ensures ∙ ap (λ (labels : Labels). map (opening_partition labels) (partition_labels labels)) labels) c.new-2.ensures.entries c.new-3.ensures c.in_ok-tenants.ensures
     (many c.args.config.now (length c.queues.result.now) queues) c.new-4.ensures
 
 pub invariant_of-result : goal.invariant_of-result
@@ -70,7 +70,7 @@ unfolding inside
 invariant_of-result c = record {
   sound =
       subst IsSound (sym (rows c)) (opening-sound c.args.config.now c.draft-draft.ensures.tree (subst IsTree c.in_ok-layout.ensures c.len.ensures.tree));
-  linked = none-linked (inside c) c.new-2.ensures c.new-3.ensures;
+  linked = none-linked (inside c) c.new-2.ensures.entries c.new-3.ensures;
 }
 
 pub returns-clause-config : goal.returns-clause-config

@@ -13,5 +13,5 @@ index-requires c = node-live c.self.inside c.args.number (subst (λ (h : Held). 
 
 pub returns : goal.returns
 returns c =
-    ap (λ (h : Held). lookup (nat_eq c.args.number) h.rows.nodes) (sym c.self.view_is) ∙ lookup-of_rows node_row c.args.number c.self.inside.nodes
+    ap (λ (h : Held). lookup (nat_eq c.args.number) h.rows.nodes) (sym c.self.view_is) ∙ lookup-of_rows node_row c.args.number c.self.inside.nodes.entries
     ∙ ap (option_map node_row) c.index.ensures

@@ -11,6 +11,7 @@ use Rattle.ynl_node_table.specs.declared.nodes.NodeRow.{NodeRow as NodePart}
 use Rattle.ynl_container_table.specs.Chains.{IsNodeChain, IsAppChain}
 use Rattle.ynl_container_table.specs.Table.{IsAbove}
 use Rattle.ynl_container_table.proofs.Removing.{at_live}
+use Rattle.ynl_node_table.specs.Nodes.{NodesView}
 use Rattle.ynl_inventory.specs.declared.partition.Placement.{Placement}
 use Rattle.ynl_inventory.specs.declared.partition.Partition.{Partition}
 use Rattle.ynl_inventory.specs.declared.inventory.Inventory.TheInside.{Inside}
@@ -45,7 +46,7 @@ index_mut-part-requires c =
     subst (λ n. c.index-row.result.now.partition < n) (sym c.self.inside.partitions.ok.0) has
 
 module _ (a : Inside) (h : Held) (placed : Placement) (view : held_of a ≡ h) (inv : IsInventory a) (required : CanPlace h placed)
-    (row : NodePart) (at : lookup (nat_eq placed.node) a.nodes ≡ Some row) (part : Partition) (read : part ≡ get_or a.partitions.items row.partition part) where
+    (row : NodePart) (at : lookup (nat_eq placed.node) a.nodes.entries ≡ Some row) (part : Partition) (read : part ≡ get_or a.partitions.items row.partition part) where
   abbrev able : CanPlace (held_of a) placed
   able = can a h placed view required
 
@@ -79,7 +80,7 @@ module _ (a : Inside) (h : Held) (placed : Placement) (view : held_of a ≡ h) (
   place-there : row.partition < 2 ^ 8 → IfSome (lookup (nat_eq placed.app) a.apps.entries) (λ r. IsLive row.partition r.chains)
   place-there small = subst (λ o. IfSome o (λ (r : AppPart). IsLive row.partition r.chains)) (sym own.1) (has-place a inv placed able row at part stood own.0 own.1 small)
 
-  free-there : IfSome (lookup (nat_eq placed.node) a.nodes) (λ r. IsTrue (fits_in placed.size r.free))
+  free-there : IfSome (lookup (nat_eq placed.node) a.nodes.entries) (λ r. IsTrue (fits_in placed.size r.free))
   free-there = subst (λ o. IfSome o (λ (r : NodePart). IsTrue (fits_in placed.size r.free))) (sym at) free
 
 pub place-number-requires-clause-room : goal.place-number-requires-clause-room
@@ -133,7 +134,7 @@ invariant_of-self c = record {
         nodes = c.place-number.ensures.nodes;
         apps = c.place-number.ensures.apps;
       })
-      (subst (λ (apps : Numbered AppPart). IfSome (lookup (nat_eq c.args.placed.now.app) apps.entries) (λ r. chain_of c.index-row.result.now.partition r.chains ≡ c.place-number.new.of_app)) c.taken.ensures.apps c.taken.ensures.chain) c.used.new.nodes c.taken.new.apps c.used.ensures c.taken.ensures.apps;
+      (subst (λ (apps : Numbered AppPart). IfSome (lookup (nat_eq c.args.placed.now.app) apps.entries) (λ r. chain_of c.index-row.result.now.partition r.chains ≡ c.place-number.new.of_app)) c.taken.ensures.apps c.taken.ensures.chain) c.used.new.nodes.entries c.taken.new.apps (ap (λ (v : NodesView). v.entries) c.used.ensures) c.taken.ensures.apps;
   linked =
       all-linked c.self.inside c.self.invariant c.args.placed.now (can c.self.inside c.args.self.now c.args.placed.now c.self.view_is c.requires) c.index-row.result.now c.index-row.ensures c.index_mut-part.result.now
       (stood c.self.inside c.args.self.now c.args.placed.now c.self.view_is c.self.invariant c.requires c.index-row.result.now c.index-row.ensures c.index_mut-part.result.now c.index_mut-part.ensures.value)
@@ -150,7 +151,7 @@ invariant_of-self c = record {
         nodes = c.place-number.ensures.nodes;
         apps = c.place-number.ensures.apps;
       })
-      (subst (λ (apps : Numbered AppPart). IfSome (lookup (nat_eq c.args.placed.now.app) apps.entries) (λ r. chain_of c.index-row.result.now.partition r.chains ≡ c.place-number.new.of_app)) c.taken.ensures.apps c.taken.ensures.chain) c.used.new.nodes c.taken.new.apps c.used.ensures c.taken.ensures.apps;
+      (subst (λ (apps : Numbered AppPart). IfSome (lookup (nat_eq c.args.placed.now.app) apps.entries) (λ r. chain_of c.index-row.result.now.partition r.chains ≡ c.place-number.new.of_app)) c.taken.ensures.apps c.taken.ensures.chain) c.used.new.nodes.entries c.taken.new.apps (ap (λ (v : NodesView). v.entries) c.used.ensures) c.taken.ensures.apps;
 }
 
 pub returns-clause-rows : goal.returns-clause-rows
@@ -170,7 +171,7 @@ returns-clause-rows c =
       nodes = c.place-number.ensures.nodes;
       apps = c.place-number.ensures.apps;
     })
-    (subst (λ (apps : Numbered AppPart). IfSome (lookup (nat_eq c.args.placed.now.app) apps.entries) (λ r. chain_of c.index-row.result.now.partition r.chains ≡ c.place-number.new.of_app)) c.taken.ensures.apps c.taken.ensures.chain) c.used.new.nodes c.taken.new.apps c.used.ensures c.taken.ensures.apps
+    (subst (λ (apps : Numbered AppPart). IfSome (lookup (nat_eq c.args.placed.now.app) apps.entries) (λ r. chain_of c.index-row.result.now.partition r.chains ≡ c.place-number.new.of_app)) c.taken.ensures.apps c.taken.ensures.chain) c.used.new.nodes.entries c.taken.new.apps (ap (λ (v : NodesView). v.entries) c.used.ensures) c.taken.ensures.apps
     ∙ ap (λ (h : Held). with_placed c.place-number.result c.args.placed.now.node c.args.placed.now.app c.args.placed.now.role c.args.placed.now.size h.rows) c.self.view_is
 
 pub returns-clause-unused : goal.returns-clause-unused
@@ -190,3 +191,6 @@ returns-clause-rooms c =
     (subst (λ p. LeavesRoom p 1 (held_of c.self.inside).rooms (map (λ (part : Partition). part.containers.room) (slice_set c.self.inside.partitions.items c.index-row.result.now.partition c.place-number.new.self)))
     (sym (stands c.self.inside c.self.invariant c.args.placed.now (can c.self.inside c.args.self.now c.args.placed.now c.self.view_is c.requires) c.index-row.result.now c.index-row.ensures))
     (rooms-left c.self.inside.partitions.items c.index-row.result.now.partition c.index_mut-part.result.now c.place-number.new.self 1 (stood c.self.inside c.args.self.now c.args.placed.now c.self.view_is c.self.invariant c.requires c.index-row.result.now c.index-row.ensures c.index_mut-part.result.now c.index_mut-part.ensures.value) c.place-number.ensures.room))
+
+pub returns-clause-ready : goal.returns-clause-ready
+returns-clause-ready c = ap (λ (v : NodesView). v.ready) c.used.ensures ∙ ap (λ (h : Held). h.ready) c.self.view_is

@@ -21,7 +21,7 @@ invariant_of-self c =
           c.self.invariant.sound;
       linked =
           room-linked c.self.inside.partitions.items c.args.p c.index_mut-part.result.now c.reserve.new.self at c.reserve.ensures.containers
-          (ap (λ (part : Partition). part.guests) c.reserve.ensures.partition) c.self.inside.nodes c.self.inside.apps.entries c.self.invariant.linked;
+          (ap (λ (part : Partition). part.guests) c.reserve.ensures.partition) c.self.inside.nodes.entries c.self.inside.apps.entries c.self.invariant.linked;
     }
 
 pub returns-clause-rows : goal.returns-clause-rows

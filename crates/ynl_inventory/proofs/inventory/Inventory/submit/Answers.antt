@@ -116,7 +116,7 @@ module _ (a : Inside) (h : Held) (view : held_of a ≡ h) (inv : IsInventory a) 
   all-sound : IsSound (record (held_of a).rows { apps = of_rows app_row apps'.entries; tenants = map (λ (l : Listing). l.entries) (slice_set a.tenants.items new.tenant listing') })
   all-sound = submitted-rows-sound a inv name new (able a h view inv name new required) listing there row is-new app unused-there apps' with-app listing' with-name
 
-  all-linked : AreLinked a.partitions.items a.nodes apps'.entries
+  all-linked : AreLinked a.partitions.items a.nodes.entries apps'.entries
   all-linked = submitted-linked a inv name new (able a h view inv name new required) listing there row is-new app unused-there apps' with-app listing' with-name
 
 pub invariant_of-self-2 : goal.invariant_of-self-2

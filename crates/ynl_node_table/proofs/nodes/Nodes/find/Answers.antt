@@ -1,10 +1,11 @@
-use Rattle.std.proofs.Common.{◌≡◌, ◌∙◌, subst, ℕ, List, IfSome, Some, option_map, nat_eq}
+use Rattle.std.proofs.Common.{◌≡◌, ◌∙◌, subst, IfSome, Some, option_map, nat_eq}
 use Rattle.std.specs.Map.{lookup}
 use Rattle.ynl_node_table.specs.declared.nodes.NodeRow.{NodeRow}
+use Rattle.ynl_node_table.specs.Nodes.{NodesView}
 use Rattle.ynl_node_table.proofs.Names.{number_owns}
 use Rattle.ynl_node_table.proofs.nodes.Nodes.find.Goals as goal
 
 pub returns-clause-own : goal.returns-clause-own
 returns-clause-own c =
-    subst (λ (t : List (ℕ × NodeRow)). IfSome c.copied.result (λ n. option_map (λ (r : NodeRow). r.name) (lookup (nat_eq n) t) ≡ Some c.args.name.now)) c.self.view_is
+    subst (λ (t : NodesView). IfSome c.copied.result (λ n. option_map (λ (r : NodeRow). r.name) (lookup (nat_eq n) t.entries) ≡ Some c.args.name.now)) c.self.view_is
     (number_owns c.self.inside.rows.entries c.args.name.now c.copied.result c.self.invariant.distinct (c.copied.ensures ∙ c.get.ensures.value ∙ c.self.invariant.found c.args.name.now))

@@ -1,6 +1,7 @@
 -- What is known where a container goes with its node.
 use Rattle.std.proofs.Common.{◌≡◌, ◌<◌, map, slice_get, Some, nat_eq, sym, ap, subst, ◌∙◌, arith}
 use Rattle.std.specs.Map.{lookup}
+use Rattle.ynl_node_table.specs.Nodes.{NodesView}
 use Rattle.ynl_inventory.specs.declared.partition.Partition.{Partition}
 use Rattle.ynl_inventory.specs.Changes.{with_dropped}
 use Rattle.ynl_inventory.specs.Parts.{Held, LeavesRoom, held_at}
@@ -9,7 +10,7 @@ use Rattle.ynl_inventory.proofs.DroppingParts.{IsDropped, dropped-rows, dropped-
 use Rattle.ynl_inventory.proofs.EndingCalls.{has, there-of, found-in, node-live, app-live, chain-there, small-there, live, of_node, of_app, same}
 use Rattle.std.specs.Prelude.{slice_set}
 use Rattle.ynl_inventory.proofs.RoomParts.{rooms-left}
-use Rattle.ynl_inventory.proofs.inventory.Inventory.drop.Goals as goal
+use Rattle.ynl_inventory.proofs.inventory.Inventory.discard.Goals as goal
 
 pub index-row-requires : goal.index-row-requires
 index-row-requires c =
@@ -84,14 +85,14 @@ invariant_of-self c = record {
       c.container_in-held.result (found c)
       c.index-row.result.now c.index-row.ensures c.discard-held.new.self c.discard-held.new.of_node c.discard-held.new.of_app
       (left c)
-      c.freed.new.nodes c.released.new.apps c.freed.ensures c.released.ensures;
+      c.freed.new.nodes.entries c.released.new.apps (ap (λ (v : NodesView). v.entries) c.freed.ensures) c.released.ensures;
   linked =
       out-linked c.self.inside c.self.invariant c.args.p c.args.number c.index_mut-part.result.now
       (there c)
       c.container_in-held.result (found c)
       c.index-row.result.now c.index-row.ensures c.discard-held.new.self c.discard-held.new.of_node c.discard-held.new.of_app
       (left c).out c.index-row.result.now.stamp
-      c.freed.new.nodes c.released.new.apps c.freed.ensures c.released.ensures;
+      c.freed.new.nodes.entries c.released.new.apps (ap (λ (v : NodesView). v.entries) c.freed.ensures) c.released.ensures;
 }
 
 pub returns-clause-value : goal.returns-clause-value
@@ -108,10 +109,13 @@ returns-clause-rows c =
     c.container_in-held.result (found c)
     c.index-row.result.now c.index-row.ensures c.discard-held.new.self c.discard-held.new.of_node c.discard-held.new.of_app
     (left c)
-    c.freed.new.nodes c.released.new.apps c.freed.ensures c.released.ensures
+    c.freed.new.nodes.entries c.released.new.apps (ap (λ (v : NodesView). v.entries) c.freed.ensures) c.released.ensures
     ∙ ap (λ (h : Held). with_dropped c.args.p c.args.number h.rows) c.self.view_is
 
 pub returns-clause-rooms : goal.returns-clause-rooms
 returns-clause-rooms c =
     subst (λ (h : Held). LeavesRoom c.args.p 0 h.rooms (map (λ (part : Partition). part.containers.room) (slice_set c.self.inside.partitions.items c.args.p c.discard-held.new.self))) c.self.view_is
     (rooms-left c.self.inside.partitions.items c.args.p c.index_mut-part.result.now c.discard-held.new.self 0 (there c) (omega (arith, c.discard-held.ensures.room)))
+
+pub returns-clause-ready : goal.returns-clause-ready
+returns-clause-ready c = ap (λ (v : NodesView). v.ready) c.freed.ensures ∙ ap (λ (h : Held). h.ready) c.self.view_is

@@ -1,7 +1,7 @@
 use Rattle.std.proofs.Common.{length}
 use Rattle.ynl_inventory.specs.Apps.{containers_of}
-use Rattle.ynl_cluster.proofs.Leaving.{IsLeaving}
-use Rattle.ynl_cluster.proofs.cluster.Cluster.leave.Given as goal
+use Rattle.ynl_cluster.specs.Leaving.{IsLeaving}
+use Rattle.ynl_cluster.proofs.cluster.Cluster.clear.Given as goal
 
 -- some of the node's containers went, and all else is as it was
 abbrev pub invariant-loop-number : goal.invariant-loop-number
