@@ -1,0 +1,10 @@
+mod Requests
+mod Rooms
+mod Stays
+mod Lasting
+mod Once
+mod Facts
+mod Keeping
+mod Forgetting
+mod Rowwise
+mod Told

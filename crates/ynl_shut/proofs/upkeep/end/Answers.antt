@@ -1,0 +1,32 @@
+use Rattle.std.proofs.Common.{◌≡◌, ℕ, nat_eq, Some, refl, sym, ap, subst, ◌∙◌}
+use Rattle.std.specs.Map.{lookup}
+use Rattle.ynl_inventory.specs.Parts.{Held, app_row, held_at, node_row}
+use Rattle.ynl_inventory.specs.Rows.{AppRow}
+use Rattle.ynl_cluster.specs.Cluster.{ClusterView}
+use Rattle.std.proofs.lemmas.Option.{same_Some}
+use Rattle.ynl_container_table.specs.declared.container.Container.{Container}
+use Rattle.ynl_inventory.specs.Sound.{IsSound}
+use Rattle.ynl_ledger.proofs.Calls.{stands-there}
+use Rattle.ynl_shut.proofs.Keeping.{end-right, leaf-there}
+use Rattle.ynl_shut.proofs.upkeep.end.Goals as goal
+
+pub app-app-requires : goal.app-app-requires
+app-app-requires c =
+    (stands-there c.inventory-inventory.result.now.rows (subst (λ (h : Held). IsSound h.rows) (sym c.inventory-inventory.ensures.value) c.inventory-inventory.ensures.sound) c.args.p c.args.number c.container-held.result c.container-held.ensures).1
+
+pub forget_way-requires : goal.forget_way-requires
+forget_way-requires c =
+    leaf-there c.args.cluster.now c.end-ended.new.self c.inventory-inventory.ensures.sound c.container-held.result.app (app_row c.app-app.result.now)
+    (subst (λ (h : Held). lookup (nat_eq c.container-held.result.app) h.rows.apps ≡ Some (app_row c.app-app.result.now)) c.inventory-inventory.ensures.value c.app-app.ensures)
+    (ap (λ (w : ClusterView). w.rows.paths) c.end-ended.ensures.rows)
+
+pub returns-clause-shut : goal.returns-clause-shut
+returns-clause-shut c =
+    let held : c.container-held.result ≡ c.end-ended.result = same_Some c.container-held.result c.end-ended.result
+    (sym (subst (λ (h : Held). held_at h.rows c.args.p c.args.number ≡ Some c.container-held.result) c.inventory-inventory.ensures.value c.container-held.ensures) ∙ c.end-ended.ensures.value) in
+    end-right c.args.cluster.now c.end-ended.new.self c.inventory-inventory.ensures.sound c.forget_way.ensures.sound c.requires.working c.inventory-inventory.ensures.configured c.forget_way.ensures.configured
+    (ap (λ (w : ClusterView). w.config) c.end-ended.ensures.rows) c.args.shut.now c.forget_way.new.shut
+    c.args.p c.args.number c.end-ended.result (app_row c.app-app.result.now) c.end-ended.ensures.value
+    (subst (λ (x : Container). lookup (nat_eq x.app) c.args.cluster.now.rows.apps ≡ Some (app_row c.app-app.result.now)) held
+    (subst (λ (h : Held). lookup (nat_eq c.container-held.result.app) h.rows.apps ≡ Some (app_row c.app-app.result.now)) c.inventory-inventory.ensures.value c.app-app.ensures))
+    c.end-ended.ensures.state c.changed_on.result c.changed_on.ensures c.forget_way.ensures.forgotten

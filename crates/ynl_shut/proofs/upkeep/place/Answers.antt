@@ -1,0 +1,45 @@
+use Rattle.std.proofs.Common.{◌≡◌, ℕ, nat_eq, Some, is_some, refl, sym, ap, subst, ◌∙◌}
+use Rattle.std.specs.Map.{lookup}
+use Rattle.ynl_inventory.specs.Parts.{Held, app_row, held_at, node_row}
+use Rattle.ynl_inventory.specs.Rows.{NodeRow}
+use Rattle.ynl_cluster.specs.Cluster.{ClusterView}
+use Rattle.std.specs.Prelude.{IfSome, IsSome}
+use Rattle.std.specs.Option.{option_map_or}
+use Rattle.ynl_inventory.specs.Changes.{partition_of_node}
+use Rattle.ynl_inventory.specs.Meaning.{label_at, placed_of}
+use Rattle.ynl_shut.proofs.Keeping.{leaf-there, place-right}
+use Rattle.ynl_shut.proofs.Told.{there, told-in}
+use Rattle.ynl_shut.proofs.upkeep.place.Goals as goal
+
+pub forget_way-requires : goal.forget_way-requires
+forget_way-requires c =
+    leaf-there c.args.cluster.now c.place-number.new.self c.inventory-inventory.ensures.sound c.args.placed.now.app (app_row c.app-app.result.now)
+    (subst (λ (h : Held). lookup (nat_eq c.args.placed.now.app) h.rows.apps ≡ Some (app_row c.app-app.result.now)) c.inventory-inventory.ensures.value c.app-app.ensures)
+    (ap (λ (w : ClusterView). w.rows.paths) c.place-number.ensures.rows)
+
+pub placed-requires : goal.placed-requires
+placed-requires c =
+    let at : partition_of_node c.args.cluster.now.rows.nodes c.args.placed.now.node ≡ c.node-node.result.now.partition =
+    ap (λ o. option_map_or (λ (row : NodeRow). row.partition) o 0) (subst (λ (h : Held). lookup (nat_eq c.args.placed.now.node) h.rows.nodes ≡ Some (node_row c.node-node.result.now)) c.inventory-inventory.ensures.value c.node-node.ensures) in
+    subst (λ (h : Held). IsSome (held_at h.rows c.node-node.result.now.partition c.place-number.result)) (sym c.inventory.ensures.value)
+    (ap is_some (there c.args.cluster.now c.place-number.new.self c.inventory-inventory.ensures.sound c.args.placed.now.node c.args.placed.now.app c.args.placed.now.role c.args.placed.now.size
+    c.requires.can.placeable c.place-number.result c.place-number.ensures.unused (ap (λ (w : ClusterView). w.rows) c.place-number.ensures.rows) c.node-node.result.now.partition at))
+
+pub returns-clause-told : goal.returns-clause-told
+returns-clause-told c can =
+    let at : partition_of_node c.args.cluster.now.rows.nodes c.args.placed.now.node ≡ c.node-node.result.now.partition =
+    ap (λ o. option_map_or (λ (row : NodeRow). row.partition) o 0) (subst (λ (h : Held). lookup (nat_eq c.args.placed.now.node) h.rows.nodes ≡ Some (node_row c.node-node.result.now)) c.inventory-inventory.ensures.value c.node-node.ensures) in
+    told-in c.args.cluster.now c.place-number.new.self c.inventory-inventory.ensures.sound c.inventory-inventory.ensures.configured
+    c.args.placed.now.node c.args.placed.now.app c.args.placed.now.role c.args.placed.now.size can c.place-number.result c.place-number.ensures.unused (ap (λ (w : ClusterView). w.rows) c.place-number.ensures.rows)
+    c.node-node.result.now.partition at c.placed.result
+    (subst (λ (h : Held). IfSome (held_at h.rows c.node-node.result.now.partition c.place-number.result) (λ x. c.placed.result ≡ placed_of h.rows (label_at h.rows.partitions c.node-node.result.now.partition) x))
+    c.inventory.ensures.value c.placed.ensures)
+
+pub returns-clause-shut : goal.returns-clause-shut
+returns-clause-shut c =
+    place-right c.args.cluster.now c.place-number.new.self c.inventory-inventory.ensures.sound c.forget_way.ensures.sound c.requires.working c.inventory-inventory.ensures.configured c.forget_way.ensures.configured
+    (ap (λ (w : ClusterView). w.config) c.place-number.ensures.rows) c.args.shut.now c.forget_way.new.shut
+    c.args.placed.now.node c.args.placed.now.app c.args.placed.now.role c.args.placed.now.size c.requires.can.placeable (c.place-number.ensures.state c.requires.can.placeable)
+    (app_row c.app-app.result.now) (subst (λ (h : Held). lookup (nat_eq c.args.placed.now.app) h.rows.apps ≡ Some (app_row c.app-app.result.now)) c.inventory-inventory.ensures.value c.app-app.ensures)
+    (node_row c.node-node.result.now) (subst (λ (h : Held). lookup (nat_eq c.args.placed.now.node) h.rows.nodes ≡ Some (node_row c.node-node.result.now)) c.inventory-inventory.ensures.value c.node-node.ensures)
+    c.changed_on.result c.changed_on.ensures c.forget_way.ensures.forgotten

@@ -1,0 +1,4 @@
+pub mod Notes
+pub mod Shut
+pub mod Laws
+pub mod Upkeep
