@@ -1,7 +1,7 @@
 -- The first guest that is found in a leaf is the model's.
-use Rattle.std.proofs.Common.{◌≡◌, ◌≤◌, ◌⊎◌, ◌+◌, ℕ, Bool, true, false, ◌&&◌, cond, nat_eq, nat_le, List, [], ◌∷◌, map, filter, Option, None, Some, IsSome, is_some, option_map, Contains, inl, inr, refl, sym, ap, subst, ◌∙◌, arith, true≢false}
+use Rattle.std.proofs.Common.{◌≡◌, ◌≤◌, ◌⊎◌, ◌+◌, ℕ, Bool, true, false, cond, nat_eq, nat_le, List, [], ◌∷◌, map, filter, Option, None, Some, IsSome, is_some, option_map, inl, inr, refl, sym, ap, subst, ◌∙◌, arith, true≢false}
 use Rattle.std.specs.Cmp.Lexicographic.{slice_cmp}
-use Rattle.std.specs.List.{AllByRecursion}
+use Rattle.std.specs.Prelude.{IfSome}
 use Rattle.std.specs.Map.{lookup}
 use Rattle.std.specs.Option.{option_and_then, option_map_or}
 use Rattle.std.specs.Ordering.{is_gt, nat_cmp}
@@ -31,7 +31,6 @@ use Rattle.ynl_inventory.specs.Rows.{Rows, AppRow}
 use Rattle.ynl_inventory.specs.Meaning.{item_of, label_at, state_of}
 use Rattle.ynl_inventory.specs.Sound.{IsLeaf, IsSound}
 use Rattle.ynl_inventory.specs.Apps.{runs_at}
-use Rattle.ynl_seating.specs.Laws.{AreMet}
 use Rattle.ynl_seating.specs.Seating.{figures_of, least_asked, seat_of, seats_of, sits, user_use, waits_at}
 use Rattle.ynl_seating.proofs.Leasts.{are-met}
 use Rattle.ynl_requests.specs.First.{Asker, IsFirstPassing, IsNotAfter, IsPassing, item_by, ranks_after}
@@ -41,15 +40,16 @@ use Rattle.ynl_requests.proofs.Members.{Among, among-contained, among-filter, am
 use Rattle.ynl_requests.proofs.Order.{Precedes, precedes-place}
 use Rattle.ynl_requests.proofs.Wanted.{asked-means}
 use Rattle.ynl_search.specs.declared.found.Found.{Found}
-use Rattle.ynl_search.specs.Guests.{FirstGuestIsModel, first_guest, gives_guest, is_guest_for, no_limit}
+use Rattle.ynl_search.specs.Guests.{FirstGuestIsModel, IsGuestAsked, first_guest, gives_guest, is_guest_for, no_limit}
 use Rattle.ynl_search.specs.InLeaf.{IsLaneOf, found_ask}
-use Rattle.ynl_search.specs.Laws.{item_found}
+use Rattle.ynl_search.specs.Laws.{is_asked, item_found, no_item}
 use Rattle.ynl_search.specs.Lowest.{lowest}
 use Rattle.ynl_search.proofs.FirstIn.{found_by}
 use Rattle.ynl_search.proofs.FirstOver.{IsFirstAt, first-none, first-some}
 use Rattle.ynl_search.proofs.LeafFirst.{listed}
 use Rattle.ynl_search.proofs.LowestAsk.{IsLowest, lowest-is, lowest-none}
 use Rattle.ynl_search.proofs.SeatGiven.{among-found, found-among, none-waits}
+use Rattle.ynl_search.proofs.Wanted.{guest-asked}
 
 -- in a list under a condition
 conditional : {X : Type 0} (x : X) (b : Bool) (xs : List X) → Among x (cond b xs []) → (b ≡ true) × Among x xs
@@ -247,18 +247,26 @@ module _ (v : Rows) (sound : IsSound v) (stops : List StopRow) (maxima : List Ma
   abbrev test : Item → Bool
   test item = has_room s node item.size
 
-  item-is : (a : Option Asker) → IsFirstPassing v (asked v 0) test q a → option_and_then (item_found v) (option_map found_by a) ≡ option_map (item_by v) a
+  item-is : (a : Option Asker) → IsFirstPassing v (asked v 0) test q a → option_map (item_found v) (option_map found_by a) ≡ option_map (item_by v) a
   item-is None first = refl
-  item-is (Some a) first = ap (option_map (λ (row : AppRow). item_of v row a.request.role a.request.size)) first.0.found
+  item-is (Some a) first = ap (λ o. Some (option_map_or (λ (row : AppRow). item_of v row a.request.role a.request.size) o no_item)) first.0.found
 
-  guest-first : IsFirst (is_later (key c s Unlabelled)) (IsBelow (filter test (asks_for s Unlabelled)) (path_at v.paths q)) (option_and_then (item_found v) (first_guest v seats (free s node)))
+  guest-first : IsFirst (is_later (key c s Unlabelled)) (IsBelow (filter test (asks_for s Unlabelled)) (path_at v.paths q)) (option_map (item_found v) (first_guest v seats (free s node)))
   guest-first =
       let found = first-guest v q seats lane small (free s node) test (λ n row ask. refl) in
-      subst (λ (label : Label). IsFirst (is_later (key c s Unlabelled)) (IsBelow (filter test (asks_for s label)) (path_at v.paths q)) (option_and_then (item_found v) (first_guest v seats (free s node)))) sound.default
+      subst (λ (label : Label). IsFirst (is_later (key c s Unlabelled)) (IsBelow (filter test (asks_for s label)) (path_at v.paths q)) (option_map (item_found v) (first_guest v seats (free s node)))) sound.default
       (subst (IsFirst (is_later (key c s Unlabelled)) (IsBelow (filter test (asks_for s (label_at v.partitions 0))) (path_at v.paths q)))
-      (sym (item-is found.0 found.1) ∙ ap (option_and_then (item_found v)) found.2)
+      (sym (item-is found.0 found.1) ∙ ap (option_map (item_found v)) found.2)
       (first-means v sound stops maxima q leaf (listed v sound stops maxima q leaf) (asked v 0) (asks_for s (label_at v.partitions 0)) (λ item. (asked-means v sound stops maxima 0 sound.some item).0) (λ item. (asked-means v sound stops maxima 0 sound.some item).1)
       test found.0 found.1 c Unlabelled))
+
+  found-asked : IfSome (first_guest v seats (free s node)) (λ found. is_asked v 0 found ≡ true)
+  found-asked =
+      let found = first-guest v q seats lane small (free s node) test (λ n row ask. refl) in
+      subst (λ o. IfSome o (λ found. is_asked v 0 found ≡ true)) found.2 (guest-asked v 0 test q found.0 found.1)
+
+pub guest-is-asked : IsGuestAsked
+guest-is-asked v sound stops maxima q leaf seats lane small c node = found-asked v sound stops maxima q leaf seats lane small c node
 
 pub guest-means : FirstGuestIsModel
 guest-means v sound stops maxima q leaf seats lane small c node = guest-first v sound stops maxima q leaf seats lane small c node

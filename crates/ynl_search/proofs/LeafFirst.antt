@@ -1,7 +1,8 @@
 -- What is found in a leaf is the model's first eligible request there.
 use Rattle.std.proofs.Common.{◌≡◌, ℕ, Bool, true, false, ◌&&◌, ◌||◌, cond, nat_eq, List, [], ◌∷◌, map, filter, Option, None, Some, option_map, refl, sym, ap, subst, ◌∙◌}
 use Rattle.std.specs.Map.{lookup}
-use Rattle.std.specs.Option.{option_and_then}
+use Rattle.std.specs.Option.{option_map_or}
+use Rattle.std.specs.Prelude.{IfSome}
 use Rattle.ynl_resource.specs.Names.{is_default, same_label}
 use Rattle.ynl_resource.specs.declared.labels.Label.{Label}
 use Rattle.ynl_model.specs.declared.nodes.Node.{Node}
@@ -30,10 +31,11 @@ use Rattle.ynl_requests.proofs.Running.{what-master}
 use Rattle.ynl_requests.proofs.Wanted.{wanted-means}
 use Rattle.ynl_search.specs.declared.leaf.LeafTests.{LeafTests}
 use Rattle.ynl_search.specs.InLeaf.{IsLaneOf, first_own}
-use Rattle.ynl_search.specs.Laws.{FirstOwnIsModel, item_found}
+use Rattle.ynl_search.specs.Laws.{FirstOwnIsModel, IsOwnWanted, is_wanted, item_found, no_item}
 use Rattle.ynl_search.specs.Leaves.{AreTests, passes_ask, passes_master}
 use Rattle.ynl_search.proofs.FirstIn.{first-in, found_by}
 use Rattle.ynl_search.proofs.Tests.{tests-tell}
+use Rattle.ynl_search.proofs.Wanted.{own-wanted}
 
 -- ---- the model lists the applications of a leaf in the order of the rows
 
@@ -73,18 +75,26 @@ module _ (v : Rows) (sound : IsSound v) (stops : List StopRow) (maxima : List Ma
         used = is-user_use v sound p q row.user has leaf (sound.apps n row found).user stops maxima
 
     -- what was found is the request of the asker
-    item-is : (a : Option Asker) → IsFirstPassing v (wanted v p) (is_eligible c s node) q a → option_and_then (item_found v) (option_map found_by a) ≡ option_map (item_by v) a
+    item-is : (a : Option Asker) → IsFirstPassing v (wanted v p) (is_eligible c s node) q a → option_map (item_found v) (option_map found_by a) ≡ option_map (item_by v) a
     item-is None first = refl
-    item-is (Some a) first = ap (option_map (λ (row : AppRow). item_of v row a.request.role a.request.size)) first.0.found
+    item-is (Some a) first = ap (λ o. Some (option_map_or (λ (row : AppRow). item_of v row a.request.role a.request.size) o no_item)) first.0.found
 
-    found-first : IsFirst (is_later (key c s node.label)) (IsBelow (filter (is_eligible c s node) (items_for s node.label)) (path_at v.paths q)) (option_and_then (item_found v) (first_own v seats p tests))
+    found-first : IsFirst (is_later (key c s node.label)) (IsBelow (filter (is_eligible c s node) (items_for s node.label)) (path_at v.paths q)) (option_map (item_found v) (first_own v seats p tests))
     found-first =
         let found = first-in v p q seats lane tests (is_eligible c s node) tell in
-        subst (λ (label : Label). IsFirst (is_later (key c s node.label)) (IsBelow (filter (is_eligible c s node) (items_for s label)) (path_at v.paths q)) (option_and_then (item_found v) (first_own v seats p tests))) (sym there)
+        subst (λ (label : Label). IsFirst (is_later (key c s node.label)) (IsBelow (filter (is_eligible c s node) (items_for s label)) (path_at v.paths q)) (option_map (item_found v) (first_own v seats p tests))) (sym there)
         (subst (IsFirst (is_later (key c s node.label)) (IsBelow (filter (is_eligible c s node) (items_for s (label_at v.partitions p))) (path_at v.paths q)))
-        (sym (item-is found.0 found.1) ∙ ap (option_and_then (item_found v)) found.2)
+        (sym (item-is found.0 found.1) ∙ ap (option_map (item_found v)) found.2)
         (first-means v sound stops maxima q leaf listed (wanted v p) (items_for s (label_at v.partitions p)) (λ item. (wanted-means v sound stops maxima p has item).0) (λ item. (wanted-means v sound stops maxima p has item).1)
         (is_eligible c s node) found.0 found.1 c node.label))
+
+    found-wanted : IfSome (first_own v seats p tests) (λ found. is_wanted v p found ≡ true)
+    found-wanted =
+        let found = first-in v p q seats lane tests (is_eligible c s node) tell in
+        subst (λ o. IfSome o (λ found. is_wanted v p found ≡ true)) found.2 (own-wanted v p (is_eligible c s node) q found.0 found.1)
+
+pub leaf-wanted : IsOwnWanted
+leaf-wanted v sound stops maxima p q has leaf seats lane c node there tests are = found-wanted v sound stops maxima q leaf p has seats lane c node there tests are
 
 pub leaf-first : FirstOwnIsModel
 leaf-first v sound stops maxima p q has leaf seats lane c node there tests are = found-first v sound stops maxima q leaf p has seats lane c node there tests are

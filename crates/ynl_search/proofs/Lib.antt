@@ -8,3 +8,12 @@ pub mod FirstIn
 pub mod LeafFirst
 pub mod GuestFirst
 pub mod LaneOf
+pub mod Wanted
+pub mod Reading
+pub mod Below
+pub mod FreeMeans
+pub mod Trees
+pub mod Splits
+pub mod ShutBelow
+pub mod NodeIs
+pub mod Chosen

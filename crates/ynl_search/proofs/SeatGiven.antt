@@ -87,6 +87,27 @@ none-waits k room most seat is = ap (λ low. not (fits_in no_size low) && fits_i
 
 -- ---- the seat of an application
 
+module _ (v : Rows) (p q : ℕ) (seats : List (ℕ × Seat)) (are : seats ≡ seats_of (figures_of v) p q v.apps) (distinct : HasDistinctNumbers seats)
+    (n : ℕ) (row : AppRow) (found : lookup (nat_eq n) v.apps ≡ Some row) (sitting : sits p q row ≡ true) (ticket : IsSome (ticket_on p row)) where
+  abbrev seat : ℕ × Seat
+  seat = seat_of (figures_of v) p q (n, row)
+
+  there : Among seat seats
+  there = subst (Among seat) (sym are) (map-among (seat_of (figures_of v) p q) (n, row) (filter (λ (e : ℕ × AppRow). sits p q e.1) v.apps) (filter-among (λ (e : ℕ × AppRow). sits p q e.1) (n, row) v.apps sitting (among-found n row v.apps found)))
+
+  ticket-is : ticket_on p row ≡ Some seat.0
+  ticket-is = go (ticket_on p row) ticket
+    where
+      go : (o : Option ℕ) → IsSome o → o ≡ Some (unwrap_or o 0)
+      go None some = absurd (true≢false (sym some))
+      go (Some t) some = refl
+
+  -- it shows what the user uses
+  pub seat-used : used_on seats p row ≡ Some (user_use v p q row.user)
+  seat-used =
+      ap (option_and_then (λ ticket. option_map (λ (seat : Seat). seat.used) (lookup (nat_eq ticket) seats))) ticket-is
+      ∙ ap (option_map (λ (seat : Seat). seat.used)) (found-among seat seats distinct there)
+
 module _ (v : Rows) (p q : ℕ) (seats : List (ℕ × Seat)) (are : seats ≡ seats_of (figures_of v) p q v.apps) (distinct : HasDistinctNumbers seats) (tests : LeafTests)
     (n : ℕ) (row : AppRow) (found : lookup (nat_eq n) v.apps ≡ Some row) (sitting : sits p q row ≡ true) (ticket : IsSome (ticket_on p row)) (sized : IsSizedRow row) where
   -- what the user uses
@@ -96,20 +117,8 @@ module _ (v : Rows) (p q : ℕ) (seats : List (ℕ × Seat)) (are : seats ≡ se
   abbrev pub its : ℕ × Seat
   its = seat_of (figures_of v) p q (n, row)
 
-  there : Among its seats
-  there = subst (Among its) (sym are) (map-among (seat_of (figures_of v) p q) (n, row) (filter (λ (e : ℕ × AppRow). sits p q e.1) v.apps) (filter-among (λ (e : ℕ × AppRow). sits p q e.1) (n, row) v.apps sitting (among-found n row v.apps found)))
-
-  ticket-is : ticket_on p row ≡ Some its.0
-  ticket-is = go (ticket_on p row) ticket
-    where
-      go : (o : Option ℕ) → IsSome o → o ≡ Some (unwrap_or o 0)
-      go None some = absurd (true≢false (sym some))
-      go (Some t) some = refl
-
   used-is : used_on seats p row ≡ Some used
-  used-is =
-      ap (option_and_then (λ ticket. option_map (λ (seat : Seat). seat.used) (lookup (nat_eq ticket) seats))) ticket-is
-      ∙ ap (option_map (λ (seat : Seat). seat.used)) (found-among its seats distinct there)
+  used-is = seat-used v p q seats are distinct n row found sitting ticket
 
   waits-are : its.1.waits ≡ waits_at v p n row
   waits-are = ap (λ o. option_map_or (waits_at v p n) o nothing_waits) found

@@ -14,9 +14,8 @@ use Rattle.ynl_model.specs.Service.{Item, has_room, is_eligible, no_master_in, w
 use Rattle.ynl_model.specs.declared.nodes.Node.{Node}
 use Rattle.ynl_model.specs.declared.proposals.What.{What}
 use Rattle.ynl_model.specs.declared.proposals.What.TheVariants.{Master, Ask as Asked}
-use Rattle.ynl_limits.specs.Limits.{limit_of}
 use Rattle.ynl_search.specs.declared.leaf.LeafTests.{LeafTests}
-use Rattle.ynl_search.specs.Leaves.{AreTests, TestsTell, passes, passes_ask, passes_master}
+use Rattle.ynl_search.specs.Leaves.{AreTests, TestsTell, keeps_limit, keeps_share, passes, passes_ask, passes_master}
 use Rattle.ynl_search.specs.Places.{allows, can_take}
 
 module _ (c : Config) (s : State) (label : Label) (leaf : Path) (tests : LeafTests) where
@@ -30,7 +29,7 @@ module _ (c : Config) (s : State) (label : Label) (leaf : Path) (tests : LeafTes
         are.headroom item.size
         ∙ (λ i. can_take s (sym there i) (free s node) (sym of i) item.size)
 
-    user : fits_in (plus used item.size) (limit_of tests.limits item.size) ≡ within_user_limit c s node.label item
+    pub user : keeps_limit tests used item.size ≡ within_user_limit c s node.label item
     unfolding within_user_limit
     user =
         ap (fits_in (plus used item.size)) (are.limit item.size)
@@ -45,7 +44,7 @@ module _ (c : Config) (s : State) (label : Label) (leaf : Path) (tests : LeafTes
     swapped false true = refl
     swapped false false = refl
 
-    master : (not tests.has_master || fits_in (plus tests.masters item.size) tests.master_limit) ≡ within_master_share c s node.label item.leaf Master item.size
+    pub master : keeps_share tests item.size ≡ within_master_share c s node.label item.leaf Master item.size
     unfolding within_master_share
     master =
         swapped (not tests.has_master) (fits_in (plus tests.masters item.size) tests.master_limit)

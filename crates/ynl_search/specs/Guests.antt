@@ -1,5 +1,5 @@
 -- What the applications of a leaf are given as guests, by their seats in its lane on DEFAULT.
-use Rattle.std.specs.Prelude.{◌≡◌, ℕ, Bool, ◌&&◌, nat_eq, List, filter, Option, Some, option_map}
+use Rattle.std.specs.Prelude.{◌≡◌, ℕ, Bool, true, ◌&&◌, nat_eq, List, filter, Option, Some, option_map, IfSome}
 use Rattle.std.specs.Map.{lookup}
 use Rattle.std.specs.Option.{option_and_then}
 use Rattle.ynl_resource.specs.Amounts.{amount, fits_in}
@@ -24,7 +24,7 @@ use Rattle.ynl_inventory.specs.Sound.{IsLeaf, IsSound}
 use Rattle.ynl_seating.specs.Seating.{user_use}
 use Rattle.ynl_search.specs.declared.found.Found.{Found}
 use Rattle.ynl_search.specs.InLeaf.{IsLaneOf, found_ask}
-use Rattle.ynl_search.specs.Laws.{item_found}
+use Rattle.ynl_search.specs.Laws.{is_asked, item_found}
 use Rattle.ynl_search.specs.Lowest.{lowest}
 
 -- more than any user uses: a guest has no limit
@@ -50,4 +50,11 @@ FirstGuestIsModel =
     → ((n : ℕ) (row : AppRow) → lookup (nat_eq n) v.apps ≡ Some row → IsUse (user_use v 0 q row.user)) → (c : Config) (node : Node)
     → IsFirst (is_later (key c (state_of v stops maxima) Unlabelled))
     (IsBelow (filter (λ item. has_room (state_of v stops maxima) node item.size) (asks_for (state_of v stops maxima) Unlabelled)) (path_at v.paths q))
-    (option_and_then (item_found v) (first_guest v seats (free (state_of v stops maxima) node)))
+    (option_map (item_found v) (first_guest v seats (free (state_of v stops maxima) node)))
+
+-- and its application asks for it
+abbrev pub IsGuestAsked : Type 0
+IsGuestAsked =
+    (v : Rows) → IsSound v → (stops : List StopRow) (maxima : List MaximumRow) (q : ℕ) → IsLeaf v q → (seats : List (ℕ × Seat)) → IsLaneOf v 0 q seats
+    → ((n : ℕ) (row : AppRow) → lookup (nat_eq n) v.apps ≡ Some row → IsUse (user_use v 0 q row.user)) → (c : Config) (node : Node)
+    → IfSome (first_guest v seats (free (state_of v stops maxima) node)) (λ found. is_asked v 0 found ≡ true)

@@ -24,13 +24,21 @@ pub record IsLeafKept (c : Config) (s : State) (label : Label) (leaf : Path) (se
   pub uses : kept ≡ use_of s label leaf
   pub users : users_there ≡ users s leaf label
 
+-- whether a user that uses so much keeps the user limit with so much more
+abbrev pub keeps_limit : LeafTests → Resource → Resource → Bool
+keeps_limit tests used size = fits_in (plus used size) (limit_of tests.limits size)
+
+-- whether one more master of this size keeps the master limit, or is the only one
+abbrev pub keeps_share : LeafTests → Resource → Bool
+keeps_share tests size = not tests.has_master || fits_in (plus tests.masters size) tests.master_limit
+
 -- whether an ask of a user that uses so much may be placed
 abbrev pub passes_ask : LeafTests → Resource → Resource → Bool
-passes_ask tests used size = allows tests.headroom size && fits_in (plus used size) (limit_of tests.limits size)
+passes_ask tests used size = allows tests.headroom size && keeps_limit tests used size
 
 -- and a master
 abbrev pub passes_master : LeafTests → Resource → Resource → Bool
-passes_master tests used size = passes_ask tests used size && (not tests.has_master || fits_in (plus tests.masters size) tests.master_limit)
+passes_master tests used size = passes_ask tests used size && keeps_share tests size
 
 -- whether a request may be placed, by the tests of its leaf
 abbrev pub passes : LeafTests → Resource → Item → Bool

@@ -4,3 +4,6 @@ pub mod Lowest
 pub mod InLeaf
 pub mod Laws
 pub mod Guests
+pub mod Scenes
+pub mod Shut
+pub mod Choosing

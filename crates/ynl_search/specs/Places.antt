@@ -1,7 +1,7 @@
 -- A queue on the way of a search, and what the model says of it.
 use Rattle.std.specs.Prelude.{◌≡◌, Bool, ◌&&◌, ◌∷◌}
 use Rattle.std.specs.List.{list_all}
-use Rattle.ynl_resource.specs.Amounts.{fits_in, plus}
+use Rattle.ynl_resource.specs.Amounts.{fits_in}
 use Rattle.ynl_resource.specs.Names.{root, way_to}
 use Rattle.ynl_resource.specs.declared.amounts.Resource.{Resource}
 use Rattle.ynl_resource.specs.declared.labels.Label.{Label}
@@ -9,6 +9,7 @@ use Rattle.ynl_resource.specs.declared.paths.Path.{Path}
 use Rattle.ynl_model.specs.Queues.{Config, capacity_on, maximum_on}
 use Rattle.ynl_model.specs.Cluster.{State, guaranteed, maximum, used}
 use Rattle.ynl_uses.specs.Tallies.{IsTotal}
+use Rattle.ynl_shut.specs.Shut.{keeps_maximum}
 use Rattle.ynl_search.specs.declared.headroom.Headroom.{Headroom}
 use Rattle.ynl_search.specs.declared.place.Place.{Place}
 use Rattle.ynl_search.specs.declared.place.Cell.{Cell}
@@ -16,10 +17,6 @@ use Rattle.ynl_search.specs.declared.place.Cell.{Cell}
 -- whether there is headroom for so much
 abbrev pub allows : Headroom → Resource → Bool
 allows h size = h.is_open && fits_in size h.room
-
--- whether a queue stays within its maximum with so much more
-abbrev pub keeps_maximum : State → Label → Resource → Path → Bool
-keeps_maximum s label size queue = fits_in (plus (used s queue label) size) (maximum s queue label)
 
 -- whether so much fits what is free, and the queue and those above it stay within their maxima
 abbrev pub can_take : State → Label → Resource → Path → Resource → Bool

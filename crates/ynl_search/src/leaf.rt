@@ -46,7 +46,7 @@ impl LeafTests {
     ghost use Rattle.ynl_model.specs.Queues.{Config};
     ghost use Rattle.ynl_model.specs.Cluster.{State};
     ghost use Rattle.ynl_uses.specs.Tallies.{IsSmallUse};
-    ghost use Rattle.ynl_search.specs.Leaves.{AreTests, IsLeafKept, most_of, passes_ask, passes_master, room_of};
+    ghost use Rattle.ynl_search.specs.Leaves.{AreTests, IsLeafKept, keeps_limit, keeps_share, most_of, passes_ask, passes_master, room_of};
     ghost use Rattle.ynl_search.specs.Places.{IsPlace, IsSmallPlace};
 
     /// Those of a leaf where it was reached, by its settings, what it uses, and how many users share it, which are 1 or
@@ -97,13 +97,28 @@ impl LeafTests {
         })
     }
 
+    /// Whether a user that uses so much keeps the user limit with so much more.
+    pub fn keeps_limit(&self, used: &Resource, size: &Size) -> bool
+        requires { IsUse used.now }
+        ensures { result ≡ keeps_limit self.now used.now size.now }
+    {
+        let size = size.amount();
+        self.limits.keeps(&used.add(size), &size)
+    }
+
+    /// Whether one more master keeps the master limit of the leaf, or is its only one.
+    pub fn keeps_share(&self, size: &Size) -> bool
+        ensures { result ≡ keeps_share self.now size.now }
+    {
+        !self.has_master || self.masters.add(size.amount()).fits_in(self.master_limit)
+    }
+
     /// Whether an ask of a user that uses so much may be placed.
     pub fn allows_ask(&self, used: &Resource, size: &Size) -> bool
         requires { IsUse used.now }
         ensures { result ≡ passes_ask self.now used.now size.now }
     {
-        let size = size.amount();
-        self.headroom.allows(&size) && self.limits.keeps(&used.add(size), &size)
+        self.headroom.allows(&size.amount()) && self.keeps_limit(used, size)
     }
 
     /// Whether a master of a user that uses so much may be placed.
@@ -111,7 +126,6 @@ impl LeafTests {
         requires { IsUse used.now }
         ensures { result ≡ passes_master self.now used.now size.now }
     {
-        self.allows_ask(used, size)
-            && (!self.has_master || self.masters.add(size.amount()).fits_in(self.master_limit))
+        self.allows_ask(used, size) && self.keeps_share(size)
     }
 }

@@ -1,6 +1,8 @@
 //! What a search reads of the queues of a cluster.
 
 ghost use Rattle.std.specs.Prelude.{◌≡◌, ◌<◌, ◌≤◌};
+ghost use Rattle.ynl_model.specs.declared.nodes.Node.{Node};
+ghost use Rattle.ynl_model.specs.Cluster.{free};
 ghost use Rattle.ynl_model.specs.Limits.{users};
 ghost use Rattle.ynl_resource.specs.declared.amounts.Resource.{Resource as Amount};
 ghost use Rattle.ynl_inventory.specs.Sound.{IsLeaf, IsSound};
@@ -8,11 +10,16 @@ ghost use Rattle.ynl_cluster.specs.Cluster.{label_of, path_of, state_in, IsCell 
 ghost use Rattle.ynl_search.specs.InLeaf.{IsLaneOf};
 ghost use Rattle.ynl_search.specs.Leaves.{AreTests};
 ghost use Rattle.ynl_search.specs.Places.{IsCell, IsPlace, IsSmallPlace};
+ghost use Rattle.ynl_search.specs.Scenes.{IsFirstGuest, IsFirstOwn, IsPlaceOf};
 
+use crate::found::Found;
+use crate::guests::first_guest;
 use crate::leaf::LeafTests;
+use crate::own::first_own;
 use crate::place::{Cell, Place};
 use ynl_cluster::Cluster;
 use ynl_lane::Lane;
+use ynl_resource::Resource;
 
 /// A queue below root on a partition.
 pub fn cell_of(cluster: &Cluster, p: u8, queue: usize) -> Cell
@@ -63,4 +70,31 @@ pub fn tests_of(cluster: &Cluster, p: u8, place: &Place) -> LeafTests
     let kept = cluster.used(p, place.queue);
     let users = users_of(cluster, p, place.queue);
     LeafTests::new(place, cluster.leaf_settings(place.queue), kept, users)
+}
+
+/// The first request of a leaf that may be placed on a node of a partition, where the leaf was
+/// reached with what is free there.
+pub fn first_in_leaf(cluster: &Cluster, p: u8, place: &Place) -> Option<Found>
+    requires small { IsSmallPlace place.now }
+    requires below_root { 0 < place.now.queue }
+    requires there { IsThere cluster.now p place.now.queue }
+    requires leaf { IsLeaf cluster.now.rows place.now.queue }
+    ensures { (node : Node) → node.label ≡ label_of cluster.now p
+        → IsPlaceOf cluster.now p (free (state_in cluster.now) node) place.now
+        → IsFirstOwn cluster.now p node place.now.queue result }
+{
+    let lane = lane_of(cluster, p, place.queue);
+    let tests = tests_of(cluster, p, place);
+    first_own(cluster.inventory(), lane, p, &tests)
+}
+
+/// The first ask of a leaf for DEFAULT that a node with so much free may take as a guest.
+pub fn first_guest_in_leaf(cluster: &Cluster, leaf: usize, room: Resource) -> Option<Found>
+    requires there { IsThere cluster.now 0 leaf }
+    requires leaf { IsLeaf cluster.now.rows leaf }
+    ensures { (node : Node) → room ≡ free (state_in cluster.now) node
+        → IsFirstGuest cluster.now node leaf result }
+{
+    let lane = lane_of(cluster, 0, leaf);
+    first_guest(cluster.inventory(), lane, room)
 }

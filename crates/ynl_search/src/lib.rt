@@ -1,13 +1,19 @@
 //! The search for what is placed next on a node.
 #![tactic(auto)]
 
+pub use choosing::{choose, some_own};
 pub use found::Found;
 pub use headroom::Headroom;
 pub use leaf::LeafTests;
-pub use leaves::{cell_of, lane_of, tests_of};
+pub use leaves::{cell_of, first_guest_in_leaf, first_in_leaf, lane_of, tests_of};
+pub use own::ticket_of;
 pub use place::{Cell, Place};
+pub use queues::{child_at, child_in, reach, root_at, standing_at};
+pub use reached::Reached;
 
+mod choosing;
 mod found;
+mod guest_tree;
 mod guests;
 mod headroom;
 pub mod laws;
@@ -15,4 +21,7 @@ mod leaf;
 mod leaves;
 mod lowest;
 mod own;
+mod own_tree;
 mod place;
+mod queues;
+mod reached;

@@ -18,7 +18,7 @@ use ynl_lane::{Kind, Lane, Request};
 use ynl_resource::{Resource, Size};
 
 /// The ticket of an application on a partition, if it has one.
-fn ticket_of(row: &AppRow, p: u8) -> Option<u32>
+pub fn ticket_of(row: &AppRow, p: u8) -> Option<u32>
     ensures { result ≡ ticket_on p (app_row row.now) }
 {
     if row.home == p {

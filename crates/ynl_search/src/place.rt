@@ -41,6 +41,7 @@ impl Place {
         ensures place { (c : Config) (s : State) (label : Label) → total ≡ total_of s label
             → used.now ≡ used_of s root label → IsPlace c s label free root result }
         ensures small { IsSmallPlace result }
+        ensures queue { result.queue ≡ 0 }
     {
         let own = Headroom::of(used, &total);
         Place {

@@ -1,0 +1,16 @@
+use Rattle.std.proofs.Common.{ℕ, sym, subst}
+use Rattle.ynl_resource.specs.declared.paths.Path.{Path}
+use Rattle.ynl_model.specs.Service.{last_name}
+use Rattle.ynl_cluster.specs.Cluster.{label_of, path_of, state_in}
+use Rattle.ynl_search.specs.Places.{IsCell, IsPlace}
+use Rattle.ynl_search.proofs.queues.child_at.Goals as goal
+
+pub returns-clause-place : goal.returns-clause-place
+returns-clause-place c free is =
+    let w = c.args.cluster.now in
+    let child = c.args.child in
+    let label = label_of w c.args.p in
+    subst (λ (q : ℕ). IsPlace w.config (state_in w) label free (path_of w q) c.below.result) (sym c.below.ensures.queue)
+    (subst (λ (path : Path). IsPlace w.config (state_in w) label free path c.below.result) (sym c.requires.child.path)
+    (c.below.ensures.place w.config (state_in w) label free (path_of w c.args.place.now.queue) (last_name (path_of w child)) is
+    (subst (λ (path : Path). IsCell w.config (state_in w) label path c.cell_of-cell.result) c.requires.child.path c.cell_of-cell.ensures)))
