@@ -1,0 +1,10 @@
+//! What is told of a cluster by numbers, as the model's replies.
+#![tactic(auto)]
+
+pub use asking::pending;
+pub use listing::{containers, own_containers, placed_at};
+pub use polling::{held, usage};
+
+mod asking;
+mod listing;
+mod polling;
