@@ -1,0 +1,11 @@
+mod Accessing
+mod Along
+mod Beaten
+mod Beats
+mod Going
+mod Limiting
+mod Nexts
+mod Proposed
+mod Reasons
+mod Requested
+mod Wanted
