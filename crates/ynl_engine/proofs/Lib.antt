@@ -1,0 +1,4 @@
+mod Stepping
+mod Accepted
+mod Known
+mod Proposals

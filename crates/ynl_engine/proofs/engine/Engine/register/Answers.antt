@@ -1,0 +1,15 @@
+use Rattle.std.proofs.Common.{ap}
+use Rattle.ynl_model.specs.declared.events.Event.TheVariants.{Register}
+use Rattle.ynl_model.specs.declared.replies.Reply.TheVariants.{Done}
+use Rattle.ynl_cluster.specs.Cluster.{ClusterView}
+use Rattle.ynl_engine.proofs.Accepted as does
+use Rattle.ynl_engine.proofs.Stepping.{none-shut, works}
+use Rattle.ynl_engine.proofs.engine.Engine.register.Goals as goal
+
+pub invariant_of-self-2 : goal.invariant_of-self-2
+invariant_of-self-2 c = record {
+  working =
+      works c.self.inside.cluster c.join.new.self (Register c.args.name.now c.args.label.now c.args.size.now) Done (c.in-Ok.ensures.free c.args.size.now) (ap (λ (w : ClusterView). w.config) c.in_ok-join.ensures.ok)
+      (does.registered c.self.inside.cluster c.join.new.self c.args.name.now c.args.label.now c.args.size.now c.in-Ok.p c.in-Ok.ensures.joins c.in_ok-join.ensures.state) c.amount-sized.ensures.range c.self.invariant.working;
+  shut = none-shut c.join.new.self c.self.inside.shut c.forget_all.new.self c.forget_all.ensures;
+}

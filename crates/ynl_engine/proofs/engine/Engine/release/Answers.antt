@@ -1,0 +1,23 @@
+use Rattle.std.proofs.Common.{◌≡◌, sym, ap, ◌∙◌}
+use Rattle.std.proofs.lemmas.Option.{same_Some}
+use Rattle.ynl_model.specs.declared.events.Event.TheVariants.{Release}
+use Rattle.ynl_model.specs.declared.replies.Reply.TheVariants.{Done}
+use Rattle.ynl_cluster.specs.Cluster.{ClusterView}
+use Rattle.ynl_engine.proofs.Accepted as does
+use Rattle.ynl_engine.proofs.Stepping.{works}
+use Rattle.ynl_container_table.specs.declared.container.Container.{Container}
+use Rattle.ynl_model.specs.Changes.{end}
+use Rattle.ynl_inventory.specs.Meaning.{placed_of}
+use Rattle.ynl_cluster.specs.Cluster.{label_of, state_in}
+use Rattle.ynl_engine.proofs.engine.Engine.release.Goals as goal
+
+pub invariant_of-self : goal.invariant_of-self
+invariant_of-self c =
+    let same : c.end.result ≡ c.in-Ok.ensures.ends.its.container = same_Some c.end.result c.in-Ok.ensures.ends.its.container (sym c.end.ensures.value ∙ c.in-Ok.ensures.ends.its.found.found) in
+    record {
+      working =
+          works c.self.inside.cluster c.end.new.cluster (Release c.args.tenant.now c.args.id.now) Done c.in-Ok.ensures.free (ap (λ (w : ClusterView). w.config) c.end.ensures.rows)
+          (does.released c.self.inside.cluster c.end.new.cluster c.args.tenant.now c.args.id.now c.in-Ok.held c.in-Ok.ensures.ends
+          (c.end.ensures.state ∙ ap (λ (x : Container). end c.self.inside.cluster.config (state_in c.self.inside.cluster) (placed_of c.self.inside.cluster.rows (label_of c.self.inside.cluster c.in-Ok.held.partition) x)) same)) tt c.self.invariant.working;
+      shut = c.end.ensures.shut c.self.invariant.shut;
+    }

@@ -1,0 +1,58 @@
+use Rattle.std.proofs.Common.{◌≡◌, [], slice_index_or, ap, subst, ◌∙◌}
+use Rattle.std.proofs.lemmas.Option.{get_or_from_slice_get}
+use Rattle.ynl_model.specs.declared.events.Event.TheVariants.{Submit}
+use Rattle.ynl_model.specs.declared.replies.Reply.TheVariants.{Done}
+use Rattle.ynl_model.specs.Applications.{in_leaf, new_app, submitted}
+use Rattle.ynl_model.specs.Events.{accepted, done}
+use Rattle.ynl_layout.specs.Paths.{path_at}
+use Rattle.ynl_inventory.specs.Meaning.{label_at}
+use Rattle.ynl_cluster.specs.Cluster.{ClusterView, state_in}
+use Rattle.ynl_engine.specs.World.{Answers, World}
+use Rattle.ynl_engine.proofs.Accepted as does
+use Rattle.ynl_engine.proofs.Known.{shut-stays, user-leaves}
+use Rattle.ynl_engine.proofs.Stepping.{answers, works, world_in}
+use Rattle.ynl_engine.proofs.engine.Engine.submit.Goals as goal
+
+module _ (c : goal.In_ok-submit) where
+  abbrev w : ClusterView
+  w = c.self.inside.cluster
+
+  abbrev known : ClusterView
+  known = c.user.new.self
+
+  abbrev u : ClusterView
+  u = c.submit-2.new.cluster
+
+  partitions : known.rows.partitions ≡ w.rows.partitions
+  partitions = ap (λ (v : ClusterView). v.rows.partitions) c.in_ok-user.ensures.ok ∙ (user-leaves c.args.user.now w.rows).0
+
+  paths : known.rows.paths ≡ w.rows.paths
+  paths = ap (λ (v : ClusterView). v.rows.paths) c.in_ok-user.ensures.ok ∙ (user-leaves c.args.user.now w.rows).1
+
+  user : slice_index_or known.rows.users c.in_ok-user.field-0 [] ≡ c.args.user.now
+  user = get_or_from_slice_get known.rows.users c.in_ok-user.field-0 c.args.user.now [] c.in_ok-user.ensures.own
+
+  config : u.config ≡ w.config
+  config = ap (λ (v : ClusterView). v.config) c.in_ok-submit.ensures.rows.1 ∙ ap (λ (v : ClusterView). v.config) c.in_ok-user.ensures.ok
+
+  state : state_in u ≡ record (state_in w) {
+    leaves = in_leaf (path_at w.rows.paths c.in-Ok.comer.leaf) (submitted (new_app (path_at w.rows.paths c.in-Ok.comer.leaf) c.args.app.now c.args.user.now (label_at w.rows.partitions c.in-Ok.comer.home) c.args.master.now)) (state_in w).leaves;
+  }
+  state = c.in_ok-submit.ensures.state ∙ (λ i. record (c.in_ok-user.ensures.state i) {
+    leaves = in_leaf (path_at (paths i) c.in-Ok.comer.leaf) (submitted (new_app (path_at (paths i) c.in-Ok.comer.leaf) c.args.app.now (user i) (label_at (partitions i) c.in-Ok.comer.home) c.args.master.now)) (c.in_ok-user.ensures.state i).leaves;
+  })
+
+  submits : accepted w.config (state_in w) (Submit c.args.queue.now c.args.app.now c.args.user.now c.args.label.now c.args.master.now) ≡ done (state_in u)
+  submits = does.submits w u c.args.queue.now c.args.app.now c.args.user.now c.args.label.now c.args.master.now c.in-Ok.comer c.in-Ok.ensures.comes state
+
+pub invariant_of-self-2 : goal.invariant_of-self-2
+invariant_of-self-2 c = record {
+  working =
+      works (w c) (u c) (Submit c.args.queue.now c.args.app.now c.args.user.now c.args.label.now c.args.master.now) Done (c.in-Ok.ensures.free c.args.user.now) (config c) (submits c) c.amount-sized.ensures.range c.self.invariant.working;
+  shut = c.in_ok-submit.ensures.shut (shut-stays (w c) (known c) c.self.inside.shut (ap (λ (v : ClusterView). v.config) c.in_ok-user.ensures.ok) c.in_ok-user.ensures.state (partitions c) (paths c) c.self.invariant.shut);
+}
+
+pub returns-clause-ok : goal.returns-clause-ok
+returns-clause-ok c =
+    subst (λ (v : World). Answers v (Submit c.args.queue.now c.args.app.now c.args.user.now c.args.label.now c.args.master.now) (world_in (u c)) Done) c.self.view_is
+    (answers (w c) (u c) (Submit c.args.queue.now c.args.app.now c.args.user.now c.args.label.now c.args.master.now) Done (c.in-Ok.ensures.free c.args.user.now) (config c) (submits c))

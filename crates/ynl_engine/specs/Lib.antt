@@ -1,0 +1,4 @@
+pub mod World
+pub mod Sure
+pub mod EngineFields
+pub mod Proposals
