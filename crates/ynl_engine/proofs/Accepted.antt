@@ -4,7 +4,7 @@ use Rattle.std.specs.Prelude.{IfSome}
 use Rattle.std.specs.List.{AllByRecursion, list_any}
 use Rattle.std.specs.Option.{option_and_then}
 use Rattle.std.proofs.lemmas.Bool.{and_parts}
-use Rattle.std.proofs.lemmas.Option.{none-some}
+use Rattle.std.proofs.lemmas.Option.{none-some, same_Some}
 use Rattle.ynl_resource.specs.Names.{same_name, tenant_of}
 use Rattle.ynl_resource.specs.declared.amounts.Resource.{Resource}
 use Rattle.ynl_resource.specs.declared.ids.Id.{Id}
@@ -12,27 +12,31 @@ use Rattle.ynl_resource.specs.declared.labels.Label.{Label}
 use Rattle.ynl_resource.specs.declared.names.Name.{Name}
 use Rattle.ynl_resource.specs.declared.paths.Path.{Path}
 use Rattle.ynl_model.specs.declared.applications.AskRow.{AskRow}
-use Rattle.ynl_model.specs.declared.events.Event.TheVariants.{Exited, Finish, Heartbeat, Lost, Maximum, Poll, Register, Relabel, Release, Start, Stop, Submit}
+use Rattle.ynl_model.specs.declared.events.Event.TheVariants.{Commit, Exited, Finish, Heartbeat, Lost, Maximum, Poll, Register, Relabel, Release, Start, Stop, Submit}
 use Rattle.ynl_model.specs.declared.events.Event.TheVariants as event
 use Rattle.ynl_model.specs.Applications.{Application, LeafApps, find_app, in_leaf, new_app, row_of, set_ask, submitted, with_app}
 use Rattle.ynl_model.specs.declared.nodes.Node.{Node}
+use Rattle.ynl_model.specs.declared.containers.Placed.{Placed}
 use Rattle.ynl_model.specs.declared.proposals.Proposal.{Proposal}
 use Rattle.ynl_model.specs.declared.replies.Reply.{Reply}
-use Rattle.ynl_model.specs.declared.replies.Reply.TheVariants.{Placed, Proposed}
-use Rattle.ynl_model.specs.Check.{proposed}
+use Rattle.ynl_model.specs.declared.replies.Reply.TheVariants.{Committed, Placed as PlacedOn, Proposed}
+use Rattle.ynl_model.specs.Check.{proposed, proposed_item}
 use Rattle.ynl_model.specs.Cluster.{State, node_of as node_in}
 use Rattle.ynl_laws.specs.Tabled.{IsFoundIn, Tabled}
 use Rattle.ynl_laws.proofs.Lists.{Each-find, found-passes}
 use Rattle.ynl_laws.proofs.Names.{same-name_sym}
-use Rattle.ynl_model.specs.Changes.{app_finishes, beat, end, node_joins, node_leaves}
-use Rattle.ynl_model.specs.Events.{accepted, answered, done, held, served, where_there}
+use Rattle.ynl_model.specs.Changes.{app_finishes, beat, container_of, end, node_joins, node_leaves, place}
+use Rattle.ynl_model.specs.Events.{accepted, answered, commits, done, held, served, where_there}
 use Rattle.ynl_model.specs.Queues.{set_maximum, set_stop}
-use Rattle.ynl_inventory.specs.Meaning.{app_name, app_of, ask_of, node_of, placed_of}
+use Rattle.ynl_inventory.specs.Rows.{AppRow}
+use Rattle.ynl_inventory.specs.Meaning.{app_name, app_of, ask_of, item_of, node_of, placed_of}
 use Rattle.ynl_inventory.specs.Sound.{IsSound}
 use Rattle.ynl_requests.proofs.Tables.{tabled}
 use Rattle.ynl_cluster.specs.Cluster.{ClusterView, label_of, maxima_in, name_in, path_of, state_in, stops_in, tenant_in}
 use Rattle.ynl_admission.specs.Admitted.{CanAskAs, CanExit, CanJoin, CanRelabel, CanRelease, CanSubmitAs}
 use Rattle.ynl_admission.specs.Named.{IsAppNamed, IsBelowRoot, IsCellBelowRoot, IsNodeNamed, IsPartitionOf}
+use Rattle.ynl_inventory.specs.declared.partition.Placement.{Placement}
+use Rattle.ynl_service.specs.Checking.{IsProposed}
 use Rattle.ynl_admission.specs.declared.applications.Asking.{Asking}
 use Rattle.ynl_admission.specs.declared.containers.Held.{Held}
 use Rattle.ynl_admission.specs.declared.nodes.Moved.{Moved}
@@ -86,11 +90,11 @@ module _ (w u : ClusterView) where
 
   pub beats : (name : Name) (n : ℕ) (named : IsNodeNamed w name n) → state_in u ≡ (beat w.config (node_of w.rows.partitions named.row) w.config.containers_per_heartbeat (state_in w)).state
       → accepted w.config (state_in w) (Heartbeat name)
-      ≡ record { state = state_in u; reply = Placed (beat w.config (node_of w.rows.partitions named.row) w.config.containers_per_heartbeat (state_in w)).placed }
+      ≡ record { state = state_in u; reply = PlacedOn (beat w.config (node_of w.rows.partitions named.row) w.config.containers_per_heartbeat (state_in w)).placed }
   unfolding accepted
   beats name n named is =
       ap (λ o. where_there o (state_in w) (λ node. served (beat w.config node w.config.containers_per_heartbeat (state_in w)))) named.named
-      ∙ (λ i. record { state = sym is i; reply = Placed (beat w.config (node_of w.rows.partitions named.row) w.config.containers_per_heartbeat (state_in w)).placed })
+      ∙ (λ i. record { state = sym is i; reply = PlacedOn (beat w.config (node_of w.rows.partitions named.row) w.config.containers_per_heartbeat (state_in w)).placed })
 
   pub exited : (name : Name) (id : Id) (held : Held) (can : CanExit w name id held) → state_in u ≡ end w.config (state_in w) (placed_of w.rows (label_of w held.partition) can.container)
       → accepted w.config (state_in w) (Exited name id) ≡ done (state_in u)
@@ -134,6 +138,30 @@ module _ (w u : ClusterView) where
       → state_in u ≡ record (state_in w) { maxima = set_maximum (path_of w cell.queue) (label_of w cell.partition) share (state_in w).maxima } → accepted w.config (state_in w) (Maximum queue label share) ≡ done (state_in u)
   unfolding accepted
   maximum-set queue label share cell is-cell is = ap done ((λ i. record (state_in w) { maxima = set_maximum (sym is-cell.queue.queue.own i) (sym is-cell.partition.own i) share (state_in w).maxima }) ∙ sym is)
+
+-- what was proposed is placed
+module _ (w u : ClusterView) (proposal : Proposal) (placement : Placement) (is : IsProposed w proposal placement) where
+  -- the node is the one whose name the proposal has
+  node-same : node_of w.rows.partitions is.placeable.node_row ≡ node_of w.rows.partitions is.node.row
+  node-same = ap (node_of w.rows.partitions) (same_Some is.placeable.node_row is.node.row (sym is.placeable.node_found ∙ is.node.found))
+
+  -- the request is the proposal's
+  item-same : item_of w.rows is.placeable.app_row placement.role placement.size ≡ proposed_item proposal (app_of w.rows (placement.app, is.app.row))
+  item-same = ap (λ (row : AppRow). item_of w.rows row placement.role placement.size) (same_Some is.placeable.app_row is.app.row (sym is.placeable.app_found ∙ is.app.found)) ∙ sym is.item
+
+  pub committed : (placed : Placed)
+      → state_in u ≡ place w.config (node_of w.rows.partitions is.placeable.node_row) (item_of w.rows is.placeable.app_row placement.role placement.size) (state_in w)
+      → placed ≡ container_of w.config (state_in w) (node_of w.rows.partitions is.placeable.node_row) (item_of w.rows is.placeable.app_row placement.role placement.size)
+      → accepted w.config (state_in w) (Commit proposal) ≡ record { state = state_in u; reply = Committed placed }
+  unfolding accepted
+  committed placed state told =
+      ap (λ o. where_there o (state_in w) (λ node. where_there (find_app (state_in w).leaves proposal.tenant proposal.app) (state_in w) (commits w.config (state_in w) proposal node))) is.node.named
+      ∙ ap (λ o. where_there o (state_in w) (commits w.config (state_in w) proposal (node_of w.rows.partitions is.node.row))) is.app.named
+      ∙ (λ i. record {
+        state = place w.config (sym node-same i) (sym item-same i) (state_in w);
+        reply = Committed (container_of w.config (state_in w) (sym node-same i) (sym item-same i));
+      })
+      ∙ (λ i. record { state = sym state i; reply = Committed (sym told i) })
 
 -- a question changes nothing
 module _ (w : ClusterView) where

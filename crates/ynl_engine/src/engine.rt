@@ -1,7 +1,7 @@
 //! A cluster under numbers that takes one event after another.
 
 ghost use Rattle.std.specs.Prelude.{◌≡◌, IfOk, IsOk, IsTrue, OnErr};
-ghost use Rattle.ynl_model.specs.declared.events.Event.TheVariants.{Register, Lost, Relabel, Heartbeat, Exited, Submit, Release, Finish, Stop, Start, Poll, Usage, Propose, Maximum};
+ghost use Rattle.ynl_model.specs.declared.events.Event.TheVariants.{Register, Lost, Relabel, Heartbeat, Exited, Submit, Release, Finish, Stop, Start, Poll, Usage, Propose, Commit, Maximum};
 ghost use Rattle.ynl_model.specs.declared.events.Event.TheVariants as event;
 ghost use Rattle.ynl_engine.specs.Sure.{is_refused, takes_no_memory};
 ghost use Rattle.ynl_engine.specs.World.{opened, beaten, Answers};
@@ -12,12 +12,12 @@ use std::marker::Model;
 use ynl_admission as admission;
 use ynl_cluster::Cluster;
 use ynl_inventory::NewSubmission;
-use ynl_model::{AskRow, Placed, Reply};
+use ynl_model::{AskRow, Placed, Proposal, Reply};
 use ynl_queues::Config;
 use ynl_replies as replies;
 use ynl_resource::{Hundredths, Id, Label, Name, Path, Refusal, Size};
-use ynl_service::serve;
-use ynl_shut::{Shut, ask, end, finish, submit};
+use ynl_service::{check, serve};
+use ynl_shut::{Shut, ask, end, finish, place, submit};
 
 /// A cluster, with the rooms in which a search found nothing below its queues.
 pub struct Engine {
@@ -305,6 +305,25 @@ impl Engine {
             Err(refusal) => return Reply::Refused(refusal),
         };
         Reply::Proposed(proposed(&self.cluster, &mut self.shut, node))
+    }
+
+    /// What was proposed is placed.
+    #[tactic(auto, unfolding(ynl_model::specs::Events::step, ynl_model::specs::Events::accepted, ynl_model::specs::Events::reasons))]
+    #[inline(never)]
+    pub fn commit(&mut self, proposal: &Proposal) -> Result<Reply, AllocError>
+        ensures ok { IfOk result (λ reply. Answers self.old (Commit proposal.now) self.new reply) }
+        ensures err { OnErr result (self.new ≡ self.old) }
+        ensures sure { IsTrue (is_refused self.old (Commit proposal.now)) → IsOk result }
+    {
+        let placement = match check(&self.cluster, &mut self.shut, proposal) {
+            Ok(placement) => placement,
+            Err(refusal) => return Ok(Reply::Refused(refusal)),
+        };
+        let _sized = proposal.size.amount();
+        let p = self.cluster.inventory().node(placement.node).partition;
+        self.cluster.reserve_for(p, 1)?;
+        let placed = place(&mut self.cluster, &mut self.shut, &placement);
+        Ok(Reply::Committed(placed))
     }
 
     /// A heartbeat of a node: why it is refused, or else what it placed, in the place of what the
