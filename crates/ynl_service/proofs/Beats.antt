@@ -1,12 +1,11 @@
 -- A heartbeat goes on by one placement.
-use Rattle.std.proofs.Common.{◌≡◌, ℕ, zero, suc, false, cond, List, [], ◌∷◌, ◌++◌, Option, None, Some, refl, sym, ap, subst, ◌∙◌}
+use Rattle.std.proofs.Common.{◌≡◌, ℕ, zero, suc, cond, [], ◌∷◌, None, Some, refl, ap}
 use Rattle.std.specs.Option.{option_map_or}
 use Rattle.ynl_model.specs.declared.nodes.Node.{Node}
-use Rattle.ynl_model.specs.declared.containers.Placed.{Placed}
 use Rattle.ynl_model.specs.Queues.{Config}
 use Rattle.ynl_model.specs.Cluster.{State, free, is_spent}
-use Rattle.ynl_model.specs.Service.{Item, choice, guests_for, is_eligible, within_maximum, within_user_limit, within_master_share}
-use Rattle.ynl_model.specs.Changes.{Beat, beat, changed_at, container_of, next_item, place}
+use Rattle.ynl_model.specs.Service.{Item, choice, guests_for, is_eligible}
+use Rattle.ynl_model.specs.Changes.{beat, changed_at, container_of, next_item, place}
 
 -- a node with another stamp
 abbrev pub restamped : ℕ → Node → Node

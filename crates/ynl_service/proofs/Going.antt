@@ -1,21 +1,17 @@
 -- A step of a heartbeat.
-use Rattle.std.proofs.Common.{◌≡◌, ℕ, zero, suc, ◌+◌, ◌-◌, ◌<◌, ◌≤◌, Bool, true, false, cond, nat_eq, List, [], ◌∷◌, ◌++◌, length, length-append, slice_get, Option, None, Some, option_map, is_some, append-nil, append_assoc, refl, sym, ap, subst, ◌∙◌, arith}
+use Rattle.std.proofs.Common.{◌≡◌, ℕ, zero, suc, ◌+◌, ◌<◌, ◌≤◌, Bool, true, false, cond, nat_eq, List, [], ◌∷◌, ◌++◌, length, slice_get, Option, None, Some, is_some, refl, sym, ap, subst, ◌∙◌, arith}
 use Rattle.std.specs.Prelude.{IfSome}
 use Rattle.std.specs.Map.{lookup}
 use Rattle.std.specs.Option.{option_map_or}
-use Rattle.std.proofs.lemmas.Bool.Decides.{nat_tests}
 use Rattle.std.proofs.lemmas.Option.{none-some, same_Some}
 use Rattle.ynl_model.specs.declared.containers.Placed.{Placed}
 use Rattle.ynl_model.specs.declared.nodes.Node.{Node}
-use Rattle.ynl_model.specs.Cluster.{State, is_spent}
-use Rattle.ynl_model.specs.Changes.{Beat, beat, container_of, next_item, place}
+use Rattle.ynl_model.specs.Cluster.{is_spent}
+use Rattle.ynl_model.specs.Changes.{beat, container_of, next_item, place}
 use Rattle.ynl_model.specs.Service.{Item, choice}
-use Rattle.ynl_laws.specs.Working.{IsWorking, Stands}
+use Rattle.ynl_laws.specs.Working.{IsWorking}
 use Rattle.ynl_laws.proofs.Soundness.Steps.{stands-found}
 use Rattle.ynl_laws.proofs.Soundness.Working.{working-place}
-use Rattle.ynl_slots.specs.Slots.{IsLive}
-use Rattle.ynl_container_table.specs.declared.container.Container.{Container}
-use Rattle.ynl_inventory.specs.declared.partition.Placement.{Placement}
 use Rattle.ynl_inventory.specs.Rows.{AppRow, NodeRow}
 use Rattle.ynl_inventory.specs.Changes.{next_clock_at, next_container, partition_of_node, with_placed}
 use Rattle.ynl_inventory.specs.Meaning.{item_of, label_at, node_of}
@@ -27,9 +23,6 @@ use Rattle.ynl_inventory.proofs.Lookups.{read-after, row_after, still-found}
 use Rattle.ynl_cluster.specs.Cluster.{ClusterView, held_in, state_in}
 use Rattle.ynl_search.specs.declared.found.Found.{Found}
 use Rattle.ynl_search.specs.Laws.{item_found, no_item}
-use Rattle.ynl_shut.specs.Notes.{Notes}
-use Rattle.ynl_shut.specs.Shut.{AreShut}
-use Rattle.ynl_shut.specs.Upkeep.{StayRight}
 use Rattle.ynl_service.specs.Serving.{CanBePlaced, HasRoom, IsNext, IsNode, IsNoStep, IsStep}
 use Rattle.ynl_service.proofs.Beats.{beat-none, beat-some, restamped}
 

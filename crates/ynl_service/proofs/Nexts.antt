@@ -1,5 +1,5 @@
 -- What is next on a node.
-use Rattle.std.proofs.Common.{◌≡◌, ℕ, ◌<◌, Bool, true, false, cond, nat_eq, slice_get, Option, None, Some, option_map, refl, sym, ap, subst, ◌∙◌, arith}
+use Rattle.std.proofs.Common.{◌≡◌, ℕ, true, false, cond, nat_eq, slice_get, Option, None, Some, sym, ap, ◌∙◌, arith}
 use Rattle.std.specs.Prelude.{IfSome, nat_le}
 use Rattle.std.specs.Map.{lookup}
 use Rattle.std.specs.Option.{option_map_or}
@@ -8,17 +8,14 @@ use Rattle.std.proofs.lemmas.Option.{same_Some}
 use Rattle.ynl_model.specs.declared.nodes.Node.{Node}
 use Rattle.ynl_model.specs.Nodes.{clock_limit}
 use Rattle.ynl_model.specs.Cluster.{clock, is_spent}
-use Rattle.ynl_model.specs.Changes.{next_item}
 use Rattle.ynl_model.specs.Service.{choice}
 use Rattle.ynl_inventory.specs.Rows.{NodeRow, PartitionRow}
-use Rattle.ynl_inventory.specs.Changes.{partition_of_node}
-use Rattle.ynl_inventory.specs.Meaning.{label_at, node_of}
+use Rattle.ynl_inventory.specs.Meaning.{node_of}
 use Rattle.ynl_inventory.specs.Sound.{IsFor, IsSound}
 use Rattle.ynl_inventory.proofs.Finding.{clock-at, limit-at, own-label}
 use Rattle.ynl_cluster.specs.Cluster.{ClusterView, maxima_in, state_in, stops_in}
 use Rattle.ynl_search.specs.declared.found.Found.{Found}
 use Rattle.ynl_search.specs.Choosing.{IsChosen, MayBePlaced}
-use Rattle.ynl_search.specs.Laws.{item_found}
 use Rattle.ynl_service.specs.Serving.{CanBePlaced, IsNext, IsNode}
 
 module _ (w : ClusterView) (sound : IsSound w.rows) (is : IsFor w.config w.rows) (n : ℕ) (row : NodeRow) (found : lookup (nat_eq n) w.rows.nodes ≡ Some row)

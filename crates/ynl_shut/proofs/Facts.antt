@@ -1,25 +1,19 @@
 -- What the rows of a cluster say of the state, as the laws want it.
-use Rattle.std.proofs.Common.{◌≡◌, ℕ, zero, suc, ◌<◌, Bool, true, false, cond, nat_eq, List, [], ◌∷◌, map, filter, find, slice_get, Option, None, Some, refl, sym, ap, subst, ◌∙◌, arith, true≢false}
-use Rattle.std.specs.Prelude.{length}
+use Rattle.std.proofs.Common.{◌≡◌, ℕ, true, false, nat_eq, List, [], ◌∷◌, filter, slice_get, Some, sym, ap, ◌∙◌}
 use Rattle.std.specs.Map.{lookup}
-use Rattle.std.specs.Option.{option_and_then, option_map_or}
-use Rattle.std.proofs.lemmas.Option.{none-some, same_Some}
-use Rattle.ynl_resource.specs.Names.{same_id, same_label, tenant_of}
-use Rattle.ynl_resource.specs.declared.labels.Label.{Label}
-use Rattle.ynl_resource.specs.declared.names.Name.{Name}
+use Rattle.std.specs.Option.{option_map_or}
+use Rattle.ynl_resource.specs.Names.{same_id}
 use Rattle.ynl_model.specs.Applications.{leaf_of}
-use Rattle.ynl_model.specs.Cluster.{Partition, State, containers_on, is_partition}
+use Rattle.ynl_model.specs.Cluster.{Partition, State, containers_on}
 use Rattle.ynl_model.specs.declared.containers.Placed.{Placed}
 use Rattle.ynl_model.specs.declared.queues.StopRow.{StopRow}
 use Rattle.ynl_model.specs.declared.queues.MaximumRow.{MaximumRow}
 use Rattle.ynl_laws.specs.Working.{IsKnown, has_row}
-use Rattle.ynl_laws.proofs.Names.{same-label_path, same-label_self}
 use Rattle.ynl_layout.specs.Paths.{path_at}
 use Rattle.ynl_container_table.specs.declared.container.Container.{Container}
 use Rattle.ynl_inventory.specs.Rows.{Rows, AppRow, PartitionRow}
-use Rattle.ynl_inventory.specs.Meaning.{app_name, label_at, partition_of, placed_of, state_of}
-use Rattle.ynl_inventory.specs.Parts.{held_at}
-use Rattle.ynl_inventory.specs.Sound.{HasPartition, IsSound}
+use Rattle.ynl_inventory.specs.Meaning.{app_name, label_at, placed_of, state_of}
+use Rattle.ynl_inventory.specs.Sound.{IsSound}
 use Rattle.ynl_inventory.proofs.AppsFound.{leaf-found}
 use Rattle.ynl_inventory.proofs.Finding.{containers-at, find-partition, own-label}
 use Rattle.ynl_inventory.proofs.Submitted.{app-submitted}

@@ -1,5 +1,5 @@
 -- How long a queue stays shut while the cluster changes.
-use Rattle.std.proofs.Common.{◌≡◌, Bool, true, false, not, ◌&&◌, cond, List, [], ◌∷◌, ◌++◌, filter, Option, Some, is_some, refl, sym, ap, ◌∙◌, true≢false}
+use Rattle.std.proofs.Common.{◌≡◌, Bool, true, false, not, ◌&&◌, cond, List, [], ◌∷◌, ◌++◌, filter, Some, refl, sym, ap, ◌∙◌, true≢false}
 use Rattle.std.specs.List.{AllByRecursion}
 use Rattle.std.specs.Option.{option_map_or}
 use Rattle.std.proofs.lemmas.Bool.{and_parts}
@@ -20,7 +20,6 @@ use Rattle.ynl_model.specs.Changes.{all_end, all_own, app_finishes, changed_at, 
 use Rattle.ynl_model.specs.Cluster.{State, containers_on, is_below, is_guest, is_of, maximum, used}
 use Rattle.ynl_model.specs.Service.{Item}
 use Rattle.ynl_laws.specs.Uses.{counts, lowered, raised, use_of}
-use Rattle.ynl_laws.specs.Working.{IsKnown}
 use Rattle.ynl_laws.proofs.Events.Kept.{finished-names, kept-on, leaf_of-kept, submit-extends, with_app-names}
 use Rattle.ynl_laws.proofs.Limits.Within.{total-same}
 use Rattle.ynl_laws.proofs.Lists.{Each-all, Each-weaker, filter-agree, filter-filter}
@@ -30,7 +29,7 @@ use Rattle.ynl_laws.proofs.Totals.Elsewhere.{lulls-last_asking_elsewhere, lulls-
 use Rattle.ynl_laws.proofs.Totals.Lulls.{lulls-last_asking, lulls-last_ending, lulls-last_finishing, lulls-last_placing, lulls-last_submitting}
 use Rattle.ynl_laws.proofs.Totals.Marks.{on-finish}
 use Rattle.ynl_laws.proofs.Totals.Placing.{label_sym, on-end, on-place, use-end, use-place}
-use Rattle.ynl_shut.specs.Laws.{AreReadable, StaysWhileAsking, StaysWhileAskingElsewhere, StaysWhileEnding, StaysWhileEndingElsewhere, StaysWhileFinishing, StaysWhilePlacing, StaysWhilePlacingElsewhere, StaysWhileSubmitting}
+use Rattle.ynl_shut.specs.Laws.{StaysWhileAsking, StaysWhileAskingElsewhere, StaysWhileEnding, StaysWhileEndingElsewhere, StaysWhileFinishing, StaysWhilePlacing, StaysWhilePlacingElsewhere, StaysWhileSubmitting}
 use Rattle.ynl_shut.proofs.Stays.{stays}
 
 -- a queue below one that has no part in another's way has none either

@@ -1,5 +1,5 @@
 -- The requests for a partition are those of the leaves.
-use Rattle.std.proofs.Common.{◌≡◌, ◌⊎◌, Bool, true, ◌&&◌, List, [], ◌∷◌, ◌++◌, map, filter, flat_map, find, Option, None, Some, Contains, inl, inr, refl, sym, ap, subst, ◌∙◌}
+use Rattle.std.proofs.Common.{◌≡◌, ◌⊎◌, Bool, true, ◌&&◌, List, [], map, filter, flat_map, find, Option, None, Some, Contains, inl, inr, refl, sym, ap, subst, ◌∙◌}
 use Rattle.std.specs.List.{AllByRecursion}
 use Rattle.std.specs.Option.{option_map_or}
 use Rattle.ynl_resource.specs.Names.{same_label, same_path}
@@ -8,7 +8,6 @@ use Rattle.ynl_resource.specs.declared.paths.Path.{Path}
 use Rattle.ynl_model.specs.Applications.{Application, LeafApps, all_apps, apps_of}
 use Rattle.ynl_model.specs.Cluster.{State, runs, waits}
 use Rattle.ynl_model.specs.Service.{Item, ask_item, asks_for, asks_of, items_for, master_item}
-use Rattle.ynl_model.specs.declared.applications.AskRow.{AskRow}
 use Rattle.ynl_laws.specs.Lulls.{requests_at, requests_of}
 use Rattle.ynl_laws.specs.Tabled.{IsFoundIn, Tabled}
 use Rattle.ynl_laws.proofs.Lists.{Each-find, each-contained}

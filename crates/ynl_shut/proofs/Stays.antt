@@ -1,5 +1,5 @@
 -- A queue that is shut stays so where what stands below it does.
-use Rattle.std.proofs.Common.{◌≡◌, ◌⊎◌, ℕ, Bool, true, false, ◌&&◌, ◌||◌, List, [], ◌∷◌, map, Option, None, Some, inl, inr, refl, sym, ap, subst, ◌∙◌, true≢false, arith}
+use Rattle.std.proofs.Common.{◌≡◌, ◌⊎◌, ℕ, Bool, true, false, ◌&&◌, ◌||◌, List, [], ◌∷◌, Option, None, Some, inl, inr, refl, sym, ap, subst, ◌∙◌, true≢false, arith}
 use Rattle.std.specs.Prelude.{nat_le}
 use Rattle.std.proofs.lemmas.Bool.Decides.{nat_tests}
 use Rattle.std.specs.List.{AllByRecursion, list_all}
@@ -16,9 +16,9 @@ use Rattle.ynl_laws.specs.Descent.{IsBelow}
 use Rattle.ynl_laws.specs.Lulls.{IsLull, Lasts, keeps_own_limits, requests_at}
 use Rattle.ynl_laws.specs.Tabled.{Tabled}
 use Rattle.ynl_laws.proofs.Lists.{Each-all, Each-map}
-use Rattle.ynl_laws.proofs.Names.{same-name_self, same-name_sym, within-self}
+use Rattle.ynl_laws.proofs.Names.{same-name_self, same-name_sym}
 use Rattle.ynl_requests.proofs.Members.{Among, among-contained, contained-among, each-among}
-use Rattle.ynl_shut.specs.Shut.{IsShut, keeps_below, keeps_maximum}
+use Rattle.ynl_shut.specs.Shut.{IsShut, keeps_maximum}
 use Rattle.ynl_shut.specs.Laws.{StaysShut}
 use Rattle.ynl_shut.proofs.Requests.{from-leaf, in-leaf}
 use Rattle.ynl_shut.proofs.Rooms.{allows, narrow, narrow-tells}

@@ -1,4 +1,4 @@
-use Rattle.std.proofs.Common.{◌≡◌, ℕ, Bool, true, false, nat_eq, slice_get, length, Option, None, Some, refl, sym, ap, subst, ◌∙◌}
+use Rattle.std.proofs.Common.{◌≡◌, ℕ, Bool, nat_eq, slice_get, Some, sym, subst, ◌∙◌}
 use Rattle.std.specs.Prelude.{IfSome, nat_le}
 use Rattle.std.specs.Map.{lookup}
 use Rattle.ynl_inventory.specs.Parts.{Held, node_row}

@@ -1,4 +1,3 @@
-use Rattle.std.proofs.Common.{ℕ}
 use Rattle.std.specs.Vec.{vec_capacity}
 use Rattle.ynl_service.proofs.Beaten.{Serving}
 use Rattle.ynl_service.proofs.serving.serve.Given as goal

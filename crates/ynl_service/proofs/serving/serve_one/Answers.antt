@@ -1,4 +1,4 @@
-use Rattle.std.proofs.Common.{sym, subst}
+use Rattle.std.proofs.Common.{subst}
 use Rattle.ynl_service.specs.Serving.{IsNext}
 use Rattle.ynl_service.proofs.Going.{no-step, step}
 use Rattle.ynl_service.proofs.serving.serve_one.Goals as goal

@@ -1,7 +1,6 @@
-use Rattle.std.proofs.Common.{◌≡◌, ℕ, nat_eq, Some, refl, sym, ap, subst, ◌∙◌}
+use Rattle.std.proofs.Common.{◌≡◌, nat_eq, Some, ap, subst}
 use Rattle.std.specs.Map.{lookup}
-use Rattle.ynl_inventory.specs.Parts.{Held, app_row, held_at, node_row}
-use Rattle.ynl_inventory.specs.Rows.{AppRow}
+use Rattle.ynl_inventory.specs.Parts.{Held, app_row}
 use Rattle.ynl_cluster.specs.Cluster.{ClusterView}
 use Rattle.ynl_shut.proofs.Keeping.{ask-right, leaf-there}
 use Rattle.ynl_shut.proofs.upkeep.ask.Goals as goal

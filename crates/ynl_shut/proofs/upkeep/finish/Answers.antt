@@ -1,4 +1,4 @@
-use Rattle.std.proofs.Common.{◌≡◌, ℕ, nat_eq, Some, refl, sym, ap, subst, ◌∙◌}
+use Rattle.std.proofs.Common.{◌≡◌, nat_eq, Some, ap, subst}
 use Rattle.std.specs.Map.{lookup}
 use Rattle.ynl_inventory.specs.Parts.{Held, app_row}
 use Rattle.ynl_cluster.specs.Cluster.{ClusterView}

@@ -1,4 +1,4 @@
-use Rattle.std.proofs.Common.{◌≡◌, ℕ, ◌<◌, true, false, ◌&&◌, cond, nat_eq, List, map, length, set, None, Option, refl, sym, ap, subst, ◌∙◌, arith}
+use Rattle.std.proofs.Common.{◌<◌, ◌&&◌, nat_eq, List, map, length, set, subst, arith}
 use Rattle.ynl_laws.specs.Ways.{has_number}
 use Rattle.ynl_shut.specs.Notes.{Changes, Row, forgotten, row_of}
 use Rattle.ynl_shut.proofs.Rowwise.{forgotten-row, there}

@@ -1,7 +1,5 @@
-use Rattle.std.proofs.Common.{◌≡◌, ℕ, ◌<◌, true, false, ◌&&◌, cond, nat_eq, List, map, length, set, None, Option, refl, sym, ap, subst, ◌∙◌, arith}
+use Rattle.std.proofs.Common.{◌≡◌, ◌<◌, true, false, length, refl, ◌∙◌, arith}
 use Rattle.std.proofs.lemmas.List.{length-set}
-use Rattle.ynl_shut.specs.Notes.{row_of}
-use Rattle.ynl_shut.specs.declared.row.Row.{Row as RowPart}
 use Rattle.ynl_shut.proofs.Rowwise.{all-done, all-more, there}
 use Rattle.ynl_shut.proofs.shut.Shut.forget_all.Goals as goal
 

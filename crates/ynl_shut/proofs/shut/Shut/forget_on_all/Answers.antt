@@ -1,8 +1,6 @@
-use Rattle.std.proofs.Common.{◌≡◌, ℕ, ◌<◌, true, false, ◌&&◌, cond, nat_eq, List, map, length, set, None, Option, refl, sym, ap, subst, ◌∙◌, arith}
+use Rattle.std.proofs.Common.{◌≡◌, ◌<◌, length, ◌∙◌, arith}
 use Rattle.std.proofs.lemmas.List.{length-set}
 use Rattle.ynl_laws.specs.Ways.{has_number}
-use Rattle.ynl_shut.specs.Notes.{row_of}
-use Rattle.ynl_shut.specs.declared.row.Row.{Row as RowPart}
 use Rattle.ynl_shut.proofs.Rowwise.{all-done, all-more, there}
 use Rattle.ynl_shut.proofs.shut.Shut.forget_on_all.Goals as goal
 

@@ -1,5 +1,4 @@
-use Rattle.std.proofs.Common.{◌≡◌, ℕ, ◌+◌, List, ◌++◌, [], ◌∷◌, length, length-append, refl, sym, ap, ◌∙◌, arith}
-use Rattle.ynl_shut.specs.declared.row.Row.{Row as RowPart}
+use Rattle.std.proofs.Common.{◌+◌, [], ◌∷◌, length, length-append, ap, ◌∙◌}
 use Rattle.ynl_shut.proofs.Rowwise.{empty-more}
 use Rattle.ynl_shut.proofs.shut.Shut.new.Goals as goal
 
