@@ -21,7 +21,7 @@ use Rattle.ynl_cluster.specs.Cluster.{ClusterView, label_of, path_of, state_in}
 use Rattle.ynl_admission.specs.declared.applications.Asking.{Asking}
 use Rattle.ynl_admission.specs.declared.containers.Held.{Held}
 use Rattle.ynl_admission.specs.declared.nodes.Moved.{Moved}
-use Rattle.ynl_admission.specs.declared.submissions.Comer.{Comer}
+use Rattle.ynl_admission.specs.declared.submissions.SubmissionNumbers.{SubmissionNumbers}
 use Rattle.ynl_admission.specs.declared.submissions.Target.{Target}
 use Rattle.ynl_admission.specs.Named.{IsAppNamed, IsContainerFound, IsNodeNamed, IsPartitionOf, IsQueueOf}
 
@@ -80,11 +80,11 @@ pub record IsTarget (w : ClusterView) (queue : Path) (label : Option Label) (mas
   pub fits : fits_in master w.config.maximum_allocation ≡ true
 
 -- an application of this name may be submitted to the leaf of this path, with this label or the leaf's, by these numbers, whoever its user is
-pub record CanSubmitAs (w : ClusterView) (queue : Path) (name : Name) (label : Option Label) (comer : Comer) : Type 0 where
-  pub unnamed : turn_of name (submitted_to w.rows.tenants comer.tenant) ≡ None
-  pub there : HasNumber w.rows.paths comer.leaf
-  pub leaf : has_none_below w.rows.paths (path_of w comer.leaf) ≡ true
-  pub tenant : tenant_at w.rows.paths comer.leaf ≡ comer.tenant
-  pub home : HasPartition w.rows comer.home
-  pub own : path_of w comer.leaf ≡ queue
-  pub label_is : label_of w comer.home ≡ home_of w.config queue label
+pub record CanSubmitAs (w : ClusterView) (queue : Path) (name : Name) (label : Option Label) (numbers : SubmissionNumbers) : Type 0 where
+  pub unnamed : turn_of name (submitted_to w.rows.tenants numbers.tenant) ≡ None
+  pub there : HasNumber w.rows.paths numbers.leaf
+  pub leaf : has_none_below w.rows.paths (path_of w numbers.leaf) ≡ true
+  pub tenant : tenant_at w.rows.paths numbers.leaf ≡ numbers.tenant
+  pub home : HasPartition w.rows numbers.home
+  pub own : path_of w numbers.leaf ≡ queue
+  pub label_is : label_of w numbers.home ≡ home_of w.config queue label

@@ -21,7 +21,7 @@ use ynl_resource::{Label, Name, Path, Refusal, Size};
 
 /// The numbers of an application that comes: of its tenant, of its leaf and of its home partition.
 #[derive(Clone, Copy)]
-pub struct Comer {
+pub struct SubmissionNumbers {
     pub tenant: u32,
     pub leaf: u32,
     pub home: u8,
@@ -113,7 +113,7 @@ pub fn submit(
     app: &Name,
     label: &Option<Label>,
     master: &Size,
-) -> Result<Comer, Refusal>
+) -> Result<SubmissionNumbers, Refusal>
     ensures refused { IfErr result (λ refusal. (user : List ℕ)
         → first_that_holds (reasons cluster.now.config (state_in cluster.now)
         (event.Submit queue.now app.now user label.now master.now)) ≡ Some refusal) }
@@ -131,7 +131,7 @@ pub fn submit(
     if has_most_apps(cluster, target.leaf) {
         return Err(Refusal::TooManyApplications);
     }
-    Ok(Comer {
+    Ok(SubmissionNumbers {
         tenant,
         leaf: target.leaf as u32,
         home: target.home,

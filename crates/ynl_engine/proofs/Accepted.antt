@@ -41,7 +41,7 @@ use Rattle.ynl_admission.specs.declared.applications.Asking.{Asking}
 use Rattle.ynl_admission.specs.declared.containers.Held.{Held}
 use Rattle.ynl_admission.specs.declared.nodes.Moved.{Moved}
 use Rattle.ynl_admission.specs.declared.queues.CellNumbers.{CellNumbers}
-use Rattle.ynl_admission.specs.declared.submissions.Comer.{Comer}
+use Rattle.ynl_admission.specs.declared.submissions.SubmissionNumbers.{SubmissionNumbers}
 
 -- what is found by a name has it
 node-named : (s : State) (name : Name) (node : Node) → node_in s name ≡ Some node → name ≡ node.name
@@ -106,11 +106,11 @@ module _ (w u : ClusterView) where
   unfolding accepted
   released tenant id held can is = ap (λ o. where_there o (state_in w) (λ container. done (end w.config (state_in w) container))) can.its.named ∙ ap done (sym is)
 
-  pub submits : (queue : Path) (app user : Name) (label : Option Label) (master : Resource) (comer : Comer) → CanSubmitAs w queue app label comer
-      → state_in u ≡ record (state_in w) { leaves = in_leaf (path_of w comer.leaf) (submitted (new_app (path_of w comer.leaf) app user (label_of w comer.home) master)) (state_in w).leaves }
+  pub submits : (queue : Path) (app user : Name) (label : Option Label) (master : Resource) (numbers : SubmissionNumbers) → CanSubmitAs w queue app label numbers
+      → state_in u ≡ record (state_in w) { leaves = in_leaf (path_of w numbers.leaf) (submitted (new_app (path_of w numbers.leaf) app user (label_of w numbers.home) master)) (state_in w).leaves }
       → accepted w.config (state_in w) (Submit queue app user label master) ≡ done (state_in u)
   unfolding accepted
-  submits queue app user label master comer can is =
+  submits queue app user label master numbers can is =
       ap done ((λ i. record (state_in w) { leaves = in_leaf (sym can.own i) (submitted (new_app (sym can.own i) app user (sym can.label_is i) master)) (state_in w).leaves }) ∙ sym is)
 
   pub asks : (tenant name : Name) (row : AskRow) (asking : Asking) (can : CanAskAs w tenant name row asking)

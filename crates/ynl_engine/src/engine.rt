@@ -83,6 +83,7 @@ impl Engine {
             Ok(p) => p,
             Err(refusal) => return Ok(Reply::Refused(refusal)),
         };
+        // A size is one that requests may have, so that the state works after it, here and below.
         let _sized = size.amount();
         self.cluster.join(name, p, *size)?;
         self.shut.forget_all();
@@ -174,16 +175,16 @@ impl Engine {
         ensures err { OnErr result (self.new ≡ self.old) }
         ensures sure { IsTrue (is_refused self.old (Submit queue.now app.now user.now label.now master.now)) → IsOk result }
     {
-        let comer = match admission::submit(&self.cluster, queue, app, label, master) {
-            Ok(comer) => comer,
+        let numbers = match admission::submit(&self.cluster, queue, app, label, master) {
+            Ok(numbers) => numbers,
             Err(refusal) => return Ok(Reply::Refused(refusal)),
         };
         let _sized = master.amount();
         let new = NewSubmission {
-            tenant: comer.tenant,
-            leaf: comer.leaf,
+            tenant: numbers.tenant,
+            leaf: numbers.leaf,
             user: self.cluster.user(user)?,
-            home: comer.home,
+            home: numbers.home,
             master_size: *master,
         };
         submit(&mut self.cluster, &mut self.shut, app, &new)?;

@@ -1,4 +1,4 @@
-//! Proposals.
+//! What is proposed for a node.
 
 ghost use Rattle.std.specs.Prelude.{◌≡◌, Some, nat_eq};
 ghost use Rattle.std.specs.Map.{lookup};

@@ -36,14 +36,14 @@ module _ (c : goal.In_ok-submit) where
   config = ap (λ (v : ClusterView). v.config) c.in_ok-submit.ensures.rows.1 ∙ ap (λ (v : ClusterView). v.config) c.in_ok-user.ensures.ok
 
   state : state_in u ≡ record (state_in w) {
-    leaves = in_leaf (path_at w.rows.paths c.in-Ok.comer.leaf) (submitted (new_app (path_at w.rows.paths c.in-Ok.comer.leaf) c.args.app.now c.args.user.now (label_at w.rows.partitions c.in-Ok.comer.home) c.args.master.now)) (state_in w).leaves;
+    leaves = in_leaf (path_at w.rows.paths c.in-Ok.numbers.leaf) (submitted (new_app (path_at w.rows.paths c.in-Ok.numbers.leaf) c.args.app.now c.args.user.now (label_at w.rows.partitions c.in-Ok.numbers.home) c.args.master.now)) (state_in w).leaves;
   }
   state = c.in_ok-submit.ensures.state ∙ (λ i. record (c.in_ok-user.ensures.state i) {
-    leaves = in_leaf (path_at (paths i) c.in-Ok.comer.leaf) (submitted (new_app (path_at (paths i) c.in-Ok.comer.leaf) c.args.app.now (user i) (label_at (partitions i) c.in-Ok.comer.home) c.args.master.now)) (c.in_ok-user.ensures.state i).leaves;
+    leaves = in_leaf (path_at (paths i) c.in-Ok.numbers.leaf) (submitted (new_app (path_at (paths i) c.in-Ok.numbers.leaf) c.args.app.now (user i) (label_at (partitions i) c.in-Ok.numbers.home) c.args.master.now)) (c.in_ok-user.ensures.state i).leaves;
   })
 
   submits : accepted w.config (state_in w) (Submit c.args.queue.now c.args.app.now c.args.user.now c.args.label.now c.args.master.now) ≡ done (state_in u)
-  submits = does.submits w u c.args.queue.now c.args.app.now c.args.user.now c.args.label.now c.args.master.now c.in-Ok.comer c.in-Ok.ensures.comes state
+  submits = does.submits w u c.args.queue.now c.args.app.now c.args.user.now c.args.label.now c.args.master.now c.in-Ok.numbers c.in-Ok.ensures.comes state
 
 pub invariant_of-self-2 : goal.invariant_of-self-2
 invariant_of-self-2 c = record {
