@@ -318,6 +318,14 @@ impl Inventory {
         &self.nodes[number]
     }
 
+    /// The numbers of the nodes, in the order of joining. It fails if memory is refused, and takes
+    /// the time of a sort.
+    pub fn live_nodes(&self, alloc: Global) -> Result<Vec<u32>, AllocError>
+        ensures { IfOk result (λ numbers. numbers.items ≡ map (λ e. e.0) self.now.rows.nodes) }
+    {
+        self.nodes.numbers(alloc)
+    }
+
     /// What is free of a node: what its containers leave.
     pub fn free(&self, node: u32) -> Resource
         requires { IsLive node self.now.rows.nodes }
@@ -347,6 +355,14 @@ impl Inventory {
         ensures { option_map (λ row. app_row row.now) result ≡ lookup (nat_eq number) self.now.rows.apps }
     {
         self.apps.get(number)
+    }
+
+    /// The numbers of the live applications, in the order of submission. It fails if memory is
+    /// refused, and takes the time of a sort.
+    pub fn live_apps(&self, alloc: Global) -> Result<Vec<u32>, AllocError>
+        ensures { IfOk result (λ numbers. numbers.items ≡ map (λ e. e.0) self.now.rows.apps) }
+    {
+        self.apps.numbers(alloc)
     }
 
     /// Whether a live application runs: its master is placed.

@@ -1,6 +1,6 @@
 //! The nodes of a cluster.
 
-ghost use Rattle.std.specs.Prelude.{◌≡◌, ◌++◌, ◌∷◌, [], length, nat_eq, false, true, option_copied, option_map, Some, None, IsTrue, IfOk, IfSome, OnErr, OnOk};
+ghost use Rattle.std.specs.Prelude.{◌≡◌, ◌++◌, ◌∷◌, [], length, map, nat_eq, false, true, option_copied, option_map, Some, None, IsTrue, IfOk, IfSome, OnErr, OnOk};
 ghost use Rattle.std.specs.Map.{lookup};
 ghost use Rattle.ynl_resource.specs.Amounts.{plus, less, fits_in, IsSmall};
 ghost use Rattle.ynl_slots.specs.Slots.{IsLive, IsUnused, HasDistinctNumbers, without};
@@ -71,6 +71,13 @@ impl Nodes {
         ensures names { HasDistinctNames self.now.entries }
     {
         self.rows.len()
+    }
+
+    /// The numbers of the nodes, in the order of joining. It fails if memory is refused, and takes the time of a sort.
+    pub fn numbers(&self, alloc: Global) -> Result<Vec<u32>, AllocError>
+        ensures { IfOk result (λ numbers. numbers.items ≡ map (λ e. e.0) self.now.entries) }
+    {
+        self.rows.numbers(alloc)
     }
 
     /// The node under a number, if there is one.

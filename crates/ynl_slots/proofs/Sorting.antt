@@ -1,4 +1,4 @@
--- The rows sorted by their turns are the rows in the order of the pushes.
+-- The rows and their numbers, sorted by their turns, are those in the order of the pushes.
 use Rattle.std.proofs.Common.{◌≡◌, ℕ, zero, suc, ◌+◌, ◌<◌, ◌≤◌, Bool, true, false, cond, nat_eq, List, [], ◌∷◌, ◌++◌, map, filter, length, IsPermutation, nat_cmp, refl, sym, ap, ◌∙◌, inl, inr, arith, append-nil}
 use Rattle.std.specs.List.{AllByRecursion}
 use Rattle.std.specs.List.Sorted.{IsNonDecreasingBy, IsStableByKey, ties}
@@ -10,7 +10,7 @@ use Rattle.std.proofs.lemmas.List.Elements.{All-from_recursion, filter_agree}
 use Rattle.std.proofs.lemmas.List.Sorted.{All-permutation, length_permutation}
 use Rattle.ynl_slots.specs.declared.slots.Slot.{Slot}
 use Rattle.ynl_slots.specs.declared.slots.Slot.TheVariants.{Free, Live}
-use Rattle.ynl_slots.specs.Kept.{IsBefore, pushes_of, pushed_at, pushed_before}
+use Rattle.ynl_slots.specs.Kept.{IsBefore, pushes_of, pushed_at, pushed_before, slot_entry, turn_entry, turns_of}
 use Rattle.ynl_slots.proofs.Lists.{all_then, all_from, filter_none}
 
 module _ {T : Type 0} where
@@ -112,3 +112,40 @@ module _ {T : Type 0} where
       let in_turn = sorted_by_turns next ys sorted (all_from (λ (e : ℕ × T). e.0 < next) ys low) in
       let same = same_by_turns next xs ys (λ turn. same_of_turn turn xs ys (length_permutation xs ys moved) stable) in
       ap (map (λ (e : ℕ × T). e.1)) (sym in_turn ∙ same) ∙ sym (rows_before next slots)
+
+-- the numbers that have the turn
+numbers_at : {T : Type 0} (turn number : ℕ) (slots : List (Slot T)) → map (λ e. e.0) (pushed_at turn number slots) ≡ map (λ e. e.1) (of_turn turn (turns_of number slots))
+unfolding of_turn
+numbers_at turn number [] = refl
+numbers_at turn number (Free _ ∷ slots) = numbers_at turn (number + 1) slots
+numbers_at {T = T} turn number (Live at row ∷ slots) = go (nat_eq at turn) (numbers_at turn (number + 1) slots)
+  where
+    go : (b : Bool) → map (λ e. e.0) (pushed_at turn (number + 1) slots) ≡ map (λ e. e.1) (filter (λ (e : ℕ × ℕ). nat_eq e.0 turn) (turns_of (number + 1) slots))
+        → map (λ (e : ℕ × T). e.0) (cond b ((number, row) ∷ []) [] ++ pushed_at turn (number + 1) slots)
+        ≡ map (λ (e : ℕ × ℕ). e.1) (cond b ((at, number) ∷ filter (λ (e : ℕ × ℕ). nat_eq e.0 turn) (turns_of (number + 1) slots)) (filter (λ (e : ℕ × ℕ). nat_eq e.0 turn) (turns_of (number + 1) slots)))
+    go true k = ap (λ numbers. number ∷ numbers) k
+    go false k = k
+
+numbers_before : {T : Type 0} (until : ℕ) (slots : List (Slot T)) → map (λ e. e.0) (pushed_before until slots) ≡ map (λ e. e.1) (by_turns until (turns_of 0 slots))
+unfolding by_turns
+numbers_before zero slots = refl
+numbers_before {T = T} (suc turn) slots =
+    map-append (λ (e : ℕ × T). e.0) (pushed_before turn slots) (pushed_at turn 0 slots)
+    ∙ ap (λ numbers. numbers ++ map (λ (e : ℕ × T). e.0) (pushed_at turn 0 slots)) (numbers_before turn slots)
+    ∙ ap (λ numbers. map (λ (e : ℕ × ℕ). e.1) (by_turns turn (turns_of 0 slots)) ++ numbers) (numbers_at turn 0 slots)
+    ∙ sym (map-append (λ (e : ℕ × ℕ). e.1) (by_turns turn (turns_of 0 slots)) (of_turn turn (turns_of 0 slots)))
+
+turns_below : {T : Type 0} (next number : ℕ) (slots : List (Slot T)) → AllByRecursion (IsBefore next) slots → AllByRecursion (λ e. e.0 < next) (turns_of number slots)
+turns_below next number [] h = tt
+turns_below next number (Free _ ∷ slots) h = turns_below next (number + 1) slots h.1
+turns_below next number (Live at row ∷ slots) h = (h.0, turns_below next (number + 1) slots h.1)
+
+-- the numbers sorted by their turns are those of the rows in the order of the pushes
+pub sorted_numbers : {T : Type 0} (next : ℕ) (slots : List (Slot T)) (ys : List (ℕ × ℕ)) → AllByRecursion (IsBefore next) slots → IsPermutation (turns_of 0 slots) ys → IsNonDecreasingBy (λ e. e.0) ys
+    → IsStableByKey (λ e. e.0) nat_cmp (turns_of 0 slots) ys → map (λ e. e.1) ys ≡ map (λ e. e.0) (pushed_before next slots)
+sorted_numbers next slots ys h moved sorted stable =
+    let xs = turns_of 0 slots in
+    let low = All-permutation (λ (e : ℕ × ℕ). e.0 < next) xs ys moved (All-from_recursion (λ (e : ℕ × ℕ). e.0 < next) xs (turns_below next 0 slots h)) in
+    let in_turn = sorted_by_turns next ys sorted (all_from (λ (e : ℕ × ℕ). e.0 < next) ys low) in
+    let same = same_by_turns next xs ys (λ turn. same_of_turn turn xs ys (length_permutation xs ys moved) stable) in
+    ap (map (λ (e : ℕ × ℕ). e.1)) (sym in_turn ∙ same) ∙ sym (numbers_before next slots)

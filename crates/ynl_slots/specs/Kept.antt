@@ -28,6 +28,16 @@ module _ {T : Type 0} where
   pushes_of (Free _ ∷ slots) = pushes_of slots
   pushes_of (Live turn row ∷ slots) = (turn, row) ∷ pushes_of slots
 
+  -- the turn and the number of a slot that is live
+  abbrev pub turn_entry : ℕ → Slot T → List (ℕ × ℕ)
+  turn_entry number (Free _) = []
+  turn_entry number (Live turn row) = (turn, number) ∷ []
+
+  -- the turns and the numbers of the live slots, where the first slot has this number
+  abbrev pub turns_of : ℕ → List (Slot T) → List (ℕ × ℕ)
+  turns_of number [] = []
+  turns_of number (slot ∷ slots) = turn_entry number slot ++ turns_of (number + 1) slots
+
   -- what the slot of this number holds, if it was pushed at the turn
   abbrev pub slot_entry : ℕ → ℕ → Slot T → List (ℕ × T)
   slot_entry turn number (Free _) = []

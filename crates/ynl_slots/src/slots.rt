@@ -1,10 +1,10 @@
 //! Rows in slots, with a list of the free ones.
 
-ghost use Rattle.std.specs.Prelude.{◌≡◌, ◌≤◌, ◌<◌, ◌+◌, ◌++◌, ◌∷◌, ◌==◌, [], length, map, Some, IsSome, IsOk, OnOk, IfOk, IfSome, slice_index_or, nat_eq, option_copied};
+ghost use Rattle.std.specs.Prelude.{◌≡◌, ◌≤◌, ◌<◌, ◌+◌, ◌^◌, ◌++◌, ◌∷◌, ◌==◌, [], length, map, Some, IsSome, IsOk, OnOk, IfOk, IfSome, slice_index_or, nat_eq, option_copied};
 ghost use Rattle.std.specs.Map.{lookup};
 ghost use Rattle.std.specs.Borrow.{Lends, sem};
 ghost use Rattle.ynl_slots.specs.Slots.{IsLive, IsUnused, IsOnly, HasDistinctNumbers, without};
-ghost use Rattle.ynl_slots.specs.Kept.{row_of, slot_with, pushes_of};
+ghost use Rattle.ynl_slots.specs.Kept.{row_of, slot_with, pushes_of, turn_entry, turns_of};
 
 use std::alloc::{AllocError, Global};
 use std::marker::Model;
@@ -159,6 +159,15 @@ impl<T> Slots<T> {
         row_at(&self.slots, number)
     }
 
+    /// The numbers of the rows in the order of their pushes. It takes the time of a sort.
+    pub fn numbers(&self, alloc: Global) -> Result<Vec<u32>, AllocError>
+        ensures { IfOk result (λ numbers. numbers.items ≡ map (λ e. e.0) self.now.entries) }
+    {
+        let mut turns = turns(alloc, &self.slots)?;
+        turns.sort_by_key(|turn| turn.0)?;
+        rows_of(alloc, &turns)
+    }
+
     /// Takes out the row under a number. The next push fills its slot.
     pub fn remove(&mut self, number: u32) -> T
         requires { IsLive number self.old.entries }
@@ -225,6 +234,28 @@ fn pushes<T: Copy>(alloc: Global, slots: &[Slot<T>]) -> Result<Vec<(u64, T)>, Al
         add_push(slot, &mut pushes)?;
     }
     Ok(pushes)
+}
+
+/// The turns and the numbers of the live slots, in the order of the slots.
+fn turns<T>(alloc: Global, slots: &[Slot<T>]) -> Result<Vec<(u64, u32)>, AllocError>
+    requires { length slots.now < 2 ^ 32 }
+    ensures { IfOk result (λ turns. turns.items ≡ turns_of 0 slots.now) }
+{
+    let mut turns = Vec::new(alloc);
+    for i in 0..slots.len() {
+        add_turn(&slots[i], i as u32, &mut turns)?;
+    }
+    Ok(turns)
+}
+
+/// The turn and the number of a live slot come last.
+fn add_turn<T>(slot: &Slot<T>, number: u32, turns: &mut Vec<(u64, u32)>) -> Result<(), AllocError>
+    ensures { OnOk result (turns.new.items ≡ turns.old.items ++ turn_entry number slot.now) }
+{
+    if let Slot::Live { turn, row: _ } = slot {
+        turns.push((*turn, number))?;
+    }
+    Ok(())
 }
 
 /// The rows of the pushes.
