@@ -1,6 +1,6 @@
 -- The next child, and what is known once children were tried.
 use Rattle.std.proofs.Common.{◌≡◌, ℕ, zero, suc, ◌+◌, ◌<◌, ◌≤◌, Bool, true, false, cond, List, [], ◌∷◌, ◌++◌, length, Option, Some, None, refl, sym, ap, subst, ◌∙◌, get_or, arith}
-use Rattle.std.specs.Prelude.{is_some, option_map, nat_lt, filter, IfSome, ◌&&◌}
+use Rattle.std.specs.Prelude.{is_some, option_map, nat_lt, filter, IfNone, IfSome, ◌&&◌}
 use Rattle.std.specs.List.{Contains}
 use Rattle.std.specs.Ordering.{is_lt, is_gt}
 use Rattle.std.specs.declared.cmp.Ordering.TheVariants.{Equal}
@@ -20,7 +20,7 @@ use Rattle.ynl_laws.proofs.Service.Decided.{do_siblings_not_tie}
 use Rattle.ynl_laws.proofs.Service.Descent.{is_first_below_least}
 use Rattle.ynl_descent.specs.declared.standing.Standing.{Standing}
 use Rattle.ynl_descent.specs.Scenes.{Scene, Branch, AreAllBelow, HasNone, HasNoneAt, IsChildAt, IsFirstBelow, IsFirstOf, name_at, path_at, stands, stands_at}
-use Rattle.ynl_descent.specs.Turns.{AreNoneLeft, AreTried, HaveNone, HavePlaces, IsNext, IsStanding, better, is_before, is_left, told}
+use Rattle.ynl_descent.specs.Turns.{AreNoneLeft, AreTried, HaveNone, HavePlaces, IsNext, IsStanding, better, better_of, is_before, is_left, told}
 use Rattle.ynl_descent.proofs.Siblings.{before-trans, before-itself, tied, not-after}
 
 -- what comes after one that is left is left
@@ -143,6 +143,16 @@ module _ (b : Branch) where
       go true true e k = record { best = (standing, e); none = none-better n last best s none standing here k }
       go true false e k = record { best = is; none = none-more n last best none (λ left soon. absurd (true≢false (sym soon ∙ (λ i. is_before b (sym own i) best) ∙ k))) }
       go false soon e k = record { best = is; none = none-more n last best none (λ left soon. absurd (true≢false (sym left ∙ (λ i. is_left b last (sym own i)) ∙ e))) }
+
+  pub places-looked : (looked : Option Standing) → IfSome looked (IsStanding b) → HavePlaces b looked
+  places-looked None h = h
+  places-looked (Some s) h = h.there
+
+  -- or was left out
+  pub looked-over : (n : ℕ) (last best looked : Option Standing) → IsBest last best → HaveNone b n last best → IfSome looked (λ s. s.place ≡ n)
+      → IfSome looked (IsStanding b) → IfNone looked (HasNoneAt b n) → Holds (n + 1) last (better_of b last best looked)
+  looked-over n last best (Some s) is none here standing out = looked-at n last best s is none standing here
+  looked-over n last best None is none here standing out = record { best = is; none = none-more n last best none (λ left soon. out) }
 
   -- ---- what was tried
 

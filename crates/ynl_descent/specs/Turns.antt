@@ -48,6 +48,11 @@ module _ (b : Branch) where
   abbrev pub better : Option Standing → Option Standing → Standing → Option Standing
   better last best s = if is_left last (told s) && is_before (told s) best then Some s else best
 
+  -- the same, where one more may be left out
+  abbrev pub better_of : Option Standing → Option Standing → Option Standing → Option Standing
+  better_of last best None = best
+  better_of last best (Some s) = better last best s
+
   -- of the children in places below n those that come after the last, and before the best, have no request below them
   abbrev pub HaveNone : ℕ → Option Standing → Option Standing → Type 0
   HaveNone n last best =

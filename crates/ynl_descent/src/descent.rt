@@ -2,7 +2,7 @@
 
 ghost use Rattle.std.specs.Prelude.{◌≡◌, ◌≤◌, option_map, All, IfSome, IfNone};
 ghost use Rattle.ynl_descent.specs.Scenes.{AreAllBelow, Branch, HasPlace, IsFirstOf};
-ghost use Rattle.ynl_descent.specs.Turns.{AreInOrder, AreNoneLeft, HavePlaces, IsNext, IsStanding, better, is_before, is_left, told};
+ghost use Rattle.ynl_descent.specs.Turns.{AreInOrder, AreNoneLeft, HavePlaces, IsNext, IsStanding, better, better_of, is_before, is_left, told};
 
 use crate::standing::Standing;
 use crate::tree::Tree;
@@ -41,6 +41,21 @@ fn better(last: Option<Standing>, best: Option<Standing>, standing: Standing) ->
     }
 }
 
+/// The better of the best so far and one more queue, if that is not left out.
+fn better_of(
+    last: Option<Standing>,
+    best: Option<Standing>,
+    looked: Option<Standing>,
+) -> Option<Standing>
+    ensures { (b : Branch) → AreInOrder b.children → HavePlaces b last → HavePlaces b best
+        → HavePlaces b looked → result ≡ better_of b last best looked }
+{
+    match looked {
+        Some(standing) => better(last, best, standing),
+        None => best,
+    }
+}
+
 /// Of the queues just below one that come after the last that was tried, the first below which there may be a
 /// request.
 fn next_child<T: Tree>(
@@ -57,9 +72,7 @@ fn next_child<T: Tree>(
 {
     let mut best = None;
     for place in 0..tree.children(queue) {
-        if tree.is_open(notes, queue, place) {
-            best = better(last, best, tree.standing(queue, place));
-        }
+        best = better_of(last, best, tree.look(notes, queue, place));
     }
     best
 }

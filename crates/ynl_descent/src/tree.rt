@@ -1,6 +1,6 @@
 //! The tree of queues, as a descent sees it.
 
-ghost use Rattle.std.specs.Prelude.{◌≡◌, ◌<◌, ℕ, None, length, IsFalse, option_map};
+ghost use Rattle.std.specs.Prelude.{◌≡◌, ◌<◌, ℕ, IfNone, IfSome, None, length, option_map};
 ghost use Rattle.ynl_model.specs.Service.{Item};
 ghost use Rattle.ynl_descent.specs.Scenes.{AreAllBelow, Branch, HasNoneAt, HasPlace, IsChildAt, IsFirstOf};
 ghost use Rattle.ynl_descent.specs.Turns.{AreInOrder, IsStanding};
@@ -38,13 +38,6 @@ pub trait Tree {
         ensures order { AreInOrder (branch self.now queue.now).children }
         ensures all { 0 < result → AreAllBelow (branch self.now queue.now) };
 
-    /// How the queue in a place just below stands.
-    fn standing(&self, queue: &Self::Queue, place: usize) -> Standing
-        requires queue { is_queue self.now queue.now }
-        requires place { HasPlace (branch self.now queue.now) place }
-        ensures place { result.place ≡ place }
-        ensures standing { IsStanding (branch self.now queue.now) result };
-
     /// The queue in a place just below.
     fn child(&self, queue: &Self::Queue, place: usize) -> Self::Queue
         requires queue { is_queue self.now queue.now }
@@ -53,12 +46,14 @@ pub trait Tree {
         ensures child { IsChildAt (branch self.now queue.now) place (branch self.now result) }
         ensures height { height self.now result < height self.now queue.now };
 
-    /// Whether there may be a request below the queue in a place just below.
-    fn is_open(&self, notes: &Self::Notes, queue: &Self::Queue, place: usize) -> bool
+    /// How the queue in a place just below stands, or nothing where there is known to be no request below it.
+    fn look(&self, notes: &Self::Notes, queue: &Self::Queue, place: usize) -> Option<Standing>
         requires notes { are_notes self.now notes.now }
         requires queue { is_queue self.now queue.now }
         requires place { HasPlace (branch self.now queue.now) place }
-        ensures { IsFalse result → HasNoneAt (branch self.now queue.now) place };
+        ensures place { IfSome result (λ s. s.place ≡ place) }
+        ensures standing { IfSome result (IsStanding (branch self.now queue.now)) }
+        ensures none { IfNone result (HasNoneAt (branch self.now queue.now) place) };
 
     /// The first request of a leaf. What is found out on the way may be noted.
     fn first_in(&self, notes: &mut Self::Notes, leaf: &Self::Queue) -> Option<Self::Found>

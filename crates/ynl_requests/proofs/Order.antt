@@ -165,7 +165,7 @@ module _ (v : Rows) (sound : IsSound v) (stops : List StopRow) (maxima : List Ma
             ∙ ap (λ b. b && same_name (owner_of v m).1 (app_of v (n, row)).name) (sym tenant)
             ∙ owner-tells v sound m other at n row found
 
-    place-is : place_in_leaf (state_of v stops maxima) leaf (app_of v (n, row)).name ≡ place n (in_leaf q v.apps)
+    pub place-is : place_in_leaf (state_of v stops maxima) leaf (app_of v (n, row)).name ≡ place n (in_leaf q v.apps)
     place-is =
         ap (position_or_len (λ app. same_name app.name (app_of v (n, row)).name)) listed
         ∙ place-map (app_of v) (λ app. same_name app.name (app_of v (n, row)).name) (in_leaf q v.apps)

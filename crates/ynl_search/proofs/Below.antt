@@ -31,12 +31,12 @@ use Rattle.ynl_search.specs.Scenes.{guest_scene, own_scene, queues_below}
 -- ---- paths
 
 -- a child is within its parent
-within-more : (path : Path) (name : Name) → is_within path (below path name) ≡ true
+pub within-more : (path : Path) (name : Name) → is_within path (below path name) ≡ true
 within-more [] name = refl
 within-more (step ∷ path) name = and_from (same_name step step) (is_within path (below path name)) (same-name_self step) (within-more path name)
 
 -- and its parent is not within it
-within-less : (path : Path) (name : Name) → is_within (below path name) path ≡ true → ⊥
+pub within-less : (path : Path) (name : Name) → is_within (below path name) path ≡ true → ⊥
 within-less [] name h = true≢false (sym h)
 within-less (step ∷ path) name h = within-less path name (and_parts (same_name step step) (is_within (below path name) path) h).1
 
@@ -89,6 +89,9 @@ module _ (w : ClusterView) (sound : IsSound w.rows) where
       let one = among-filter (is_eligible w.config (state_in w) node) item (items_for (state_in w) node.label) (among-contained item (own_scene w node).items in_scene) in
       request-stands p has item (subst (λ (label : Label). Contains (items_for (state_in w) label) item) there (contained-among item (items_for (state_in w) node.label) one.0))
 
+  pub asks-stand : HaveLeaves w.rows (asks_for (state_in w) (label_of w 0))
+  asks-stand item there = wanted-stands w.rows sound (asked w.rows 0) item ((asked-means w.rows sound (stops_in w) (maxima_in w) 0 sound.some item).0 there)
+
   pub guests-stand : (node : Node) → HaveLeaves w.rows (guest_scene w node).items
   guests-stand node item in_scene =
       let test : Item → Bool = λ item. has_room (state_in w) node item.size in
@@ -106,7 +109,7 @@ module _ (v : Rows) (tree : IsTree v.paths) (q : ℕ) (has : HasNumber v.paths q
   child-there : (place : ℕ) → place < length children → IsChild v.paths q (get_or children place 0)
   child-there place inside = are.each place 0 inside
 
-  child-number : (child : ℕ) → IsChild v.paths q child → child ≢ 0
+  pub child-number : (child : ℕ) → IsChild v.paths q child → child ≢ 0
   child-number child is zero_is = apart (path_at v.paths q) (last_name (path_at v.paths child)) (ap (path_at v.paths) (sym zero_is) ∙ is.path)
     where
       apart : (p : Path) (name : Name) → [] ≡ p ++ name ∷ [] → ⊥

@@ -1,5 +1,5 @@
 -- The first of what is eligible on a node, or else the first of the guests, is the choice, and may be placed.
-use Rattle.std.proofs.Common.{◌≡◌, ℕ, Bool, true, false, not, ◌&&◌, cond, nat_eq, List, [], filter, Contains, slice_get, is_some, Option, None, Some, option_map, inl, inr, refl, sym, ap, subst, ◌∙◌, arith, true≢false}
+use Rattle.std.proofs.Common.{◌≡◌, ℕ, Bool, true, false, not, ◌&&◌, cond, nat_eq, List, [], filter, Contains, slice_get, is_some, Option, None, Some, option_map, inl, inr, ◌⊎◌, refl, sym, ap, subst, ◌∙◌, arith, true≢false}
 use Rattle.std.specs.Prelude.{IfSome, slice_index_or}
 use Rattle.std.specs.List.{list_any}
 use Rattle.std.specs.Map.{lookup}
@@ -25,7 +25,7 @@ use Rattle.ynl_inventory.specs.Apps.{runs_at}
 use Rattle.ynl_inventory.specs.Changes.{partition_of_node}
 use Rattle.ynl_inventory.specs.Meaning.{has_none_below, item_of, node_of}
 use Rattle.ynl_inventory.specs.Parts.{free_of}
-use Rattle.ynl_inventory.specs.Sound.{CanTake, HasPartition, IsFor, IsSound}
+use Rattle.ynl_inventory.specs.Sound.{CanTake, HasPartition, IsAskedThere, IsFor, IsSound}
 use Rattle.ynl_inventory.proofs.Finding.{not-true, own-label}
 use Rattle.ynl_inventory.proofs.Lookups.{place-there}
 use Rattle.ynl_requests.proofs.Members.{Among, among-contained, among-filter, any-among, contained-among, filter-among}
@@ -200,10 +200,22 @@ module _ (w : ClusterView) (sound : IsSound w.rows) (n : ℕ) (row : NodeRow) (a
   -- ---- what is chosen may be placed
 
   module _ (found : Found) (arow : AppRow) (live : lookup (nat_eq found.app) w.rows.apps ≡ Some arow) where
+    -- the partition of what is asked for is there
+    asked-there : (role : Role) → ((partition : PartitionRow) → slice_get w.rows.partitions p ≡ Some partition → CanTake w.rows found.app p partition.guests arow role) → IsAskedThere w.rows role
+    asked-there Master takes = tt
+    asked-there (Asked q priority) takes =
+        let part = place-there w.rows.partitions p has in
+        by part.0.guests (takes part.0 part.1).1
+      where
+        by : (guests : Bool) → (q ≡ p) ⊎ ((q ≡ 0) × (guests ≡ true)) → HasPartition w.rows q
+        by guests (inl same) = subst (HasPartition w.rows) (sym same) has
+        by guests (inr both) = subst (HasPartition w.rows) (sym both.0) sound.some
+
     placed : fits_in (item_found w.rows found).size (free s node) ≡ true
         → ((partition : PartitionRow) → slice_get w.rows.partitions p ≡ Some partition → CanTake w.rows found.app p partition.guests arow found.role)
         → MayBePlaced w n found
     placed fits takes = record {
+      named = record { live = subst (λ (o : Option AppRow). is_some o ≡ true) (sym live) refl; asked = asked-there found.role takes };
       fits = (λ i. fits_in (sym (size-is w.rows found arow live) i) (sym free-is i)) ∙ fits;
       placeable = λ partition there rises.
           let own : slice_get w.rows.partitions p ≡ Some partition = ap (slice_get w.rows.partitions) (sym here) ∙ there in

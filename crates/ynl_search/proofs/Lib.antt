@@ -14,6 +14,10 @@ pub mod Below
 pub mod FreeMeans
 pub mod Trees
 pub mod Splits
+pub mod Least
 pub mod ShutBelow
+pub mod ShutAnywhere
+pub mod GuestShut
 pub mod NodeIs
 pub mod Chosen
+pub mod Along

@@ -1,37 +1,46 @@
--- Below a queue that is shut nothing is eligible, and where nothing is eligible below a queue it is shut.
-use Rattle.std.proofs.Common.{◌≡◌, ℕ, Bool, true, false, not, ◌&&◌, ◌||◌, cond, nat_eq, Option, None, Some, refl, sym, subst, ◌∙◌, arith, true≢false}
+-- Below a queue that is shut or closed nothing is eligible, and where nothing is eligible below a queue it is shut.
+use Rattle.std.proofs.Common.{◌≡◌, ℕ, Bool, true, false, ◌&&◌, cond, nat_eq, ◌∷◌, Option, None, Some, refl, sym, subst, ◌∙◌, arith, true≢false}
+use Rattle.std.specs.List.{list_all}
 use Rattle.std.specs.Prelude.{IfSome}
-use Rattle.std.specs.Option.{option_map_or}
 use Rattle.std.proofs.lemmas.Bool.{and_from, and_parts}
 use Rattle.std.proofs.lemmas.Bool.Decides.{nat_tests}
 use Rattle.ynl_resource.specs.Amounts.{fits_in}
+use Rattle.ynl_resource.specs.Names.{root, way_to}
 use Rattle.ynl_resource.specs.declared.amounts.Resource.{Resource}
 use Rattle.ynl_resource.specs.declared.labels.Label.{Label}
+use Rattle.ynl_resource.specs.declared.names.Name.{Name}
 use Rattle.ynl_resource.specs.declared.paths.Path.{Path}
 use Rattle.ynl_model.specs.declared.nodes.Node.{Node}
 use Rattle.ynl_model.specs.Cluster.{State, free}
 use Rattle.ynl_model.specs.Queues.{Config}
 use Rattle.ynl_model.specs.Service.{Item, eligible, is_eligible, items_for}
+use Rattle.ynl_laws.specs.Decided.{below}
 use Rattle.ynl_laws.specs.Descent.{IsBelow}
+use Rattle.ynl_laws.proofs.Amounts.{fits-trans}
 use Rattle.ynl_descent.specs.Scenes.{HasNone}
 use Rattle.ynl_inventory.proofs.Finding.{not-true}
 use Rattle.ynl_requests.proofs.Members.{among-contained, among-filter, contained-among, filter-among}
-use Rattle.ynl_cluster.specs.Cluster.{ClusterView, IsCell, label_of, path_of, state_in}
-use Rattle.ynl_shut.specs.Notes.{Changes, Notes, has_at, noted, room_at}
-use Rattle.ynl_shut.specs.Shut.{AreShut, IsShut, keeps_below}
+use Rattle.ynl_cluster.specs.Cluster.{ClusterView, label_of, path_of, state_in}
+use Rattle.ynl_shut.specs.Notes.{Changes, Notes, Rooms, has_at, noted, room_at}
+use Rattle.ynl_shut.specs.Shut.{AreGuestsShut, AreOwnShut, AreShut, IsShut, keeps_below, keeps_maximum}
 use Rattle.ynl_search.specs.declared.place.Place.{Place}
-use Rattle.ynl_search.specs.Places.{IsPlace, can_take}
+use Rattle.ynl_search.specs.declared.headroom.Headroom.{Headroom}
+use Rattle.ynl_search.specs.Places.{IsPlace, allows, can_take}
 use Rattle.ynl_search.specs.Scenes.{own_scene}
-use Rattle.ynl_search.specs.Shut.{is_shut_in}
+use Rattle.ynl_search.specs.Shut.{HasNoneIn, IsClosed, IsClosedIn, IsShutIn, covers}
+use Rattle.ynl_search.proofs.Steps.{take-below}
 use Rattle.ynl_search.proofs.Splits.{eligible-parts, parts-eligible}
 
-fits-trans : (a b d : Resource) → fits_in a b ≡ true → fits_in b d ≡ true → fits_in a d ≡ true
-fits-trans a b d h k = grind (arith, nat_tests, h, k)
+-- what is shut in a room is shut in those that it covers
+pub covered : (c : Config) (s : State) (label : Label) (queue : Path) (noted : Option Resource) (room : Resource) → IfSome noted (IsShut c s label queue) → covers noted room ≡ true → IsShut c s label queue room
+covered c s label queue None room shut h item below fits = absurd (true≢false (sym h))
+covered c s label queue (Some r) room shut h item below fits = shut item below (fits-trans item.size room r fits h)
 
-module _ (c : Config) (s : State) (node : Node) (queue : Path) (place : Place) (is : IsPlace c s node.label (free s node) queue place) where
+module _ (c : Config) (s : State) (node : Node) where
   -- where no request below a queue is eligible, the queue is shut in its room
-  none-shut : place.headroom.is_open ≡ true → ((item : Item) → IsBelow (eligible c s node) queue item → ⊥) → IsShut c s node.label queue place.headroom.room
-  none-shut opens none item h fits = not-true (keeps_below c s node.label queue item) found
+  none-shut : (queue : Path) (place : Place) → IsPlace c s node.label (free s node) queue place → place.headroom.is_open ≡ true
+      → ((item : Item) → IsBelow (eligible c s node) queue item → ⊥) → IsShut c s node.label queue place.headroom.room
+  none-shut queue place is opens none item h fits = not-true (keeps_below c s node.label queue item) found
     where
       found : keeps_below c s node.label queue item ≡ true → ⊥
       found keeps =
@@ -44,40 +53,83 @@ module _ (c : Config) (s : State) (node : Node) (queue : Path) (place : Place) (
             within = h.within;
           })
 
-  -- where a queue is not open, or is shut in a room that holds its own, no request below it is eligible
-  shut-none : (room : Option Resource) → IfSome room (IsShut c s node.label queue)
-      → (not place.headroom.is_open || option_map_or (λ r. fits_in place.headroom.room r) room false) ≡ true
-      → (item : Item) → IsBelow (eligible c s node) queue item → ⊥
-  shut-none room shut closed item h =
+  -- what is eligible below a queue is a request there, which the queue takes, and which keeps what is to be kept below
+  record IsTaken (queue : Path) (item : Item) : Type 0 where
+    below : IsBelow (items_for s node.label) queue item
+    takes : can_take s node.label (free s node) queue item.size ≡ true
+    keeps : keeps_below c s node.label queue item ≡ true
+
+  taken : (queue : Path) (item : Item) → IsBelow (eligible c s node) queue item → IsTaken queue item
+  taken queue item h =
       let one = among-filter (is_eligible c s node) item (items_for s node.label) (among-contained item (eligible c s node) h.among) in
       let parts = eligible-parts c s node queue item h.within one.1 in
-      let opens = and_parts place.headroom.is_open (fits_in item.size place.headroom.room) (is.headroom item.size ∙ parts.0) in
-      go room shut place.headroom.is_open opens.0 closed (record { among = contained-among item (items_for s node.label) one.0; within = h.within }) opens.1 parts.1
-    where
-      go : (room : Option Resource) → IfSome room (IsShut c s node.label queue) → (b : Bool) → b ≡ true → (not b || option_map_or (λ r. fits_in place.headroom.room r) room false) ≡ true
-          → IsBelow (items_for s node.label) queue item → fits_in item.size place.headroom.room ≡ true → keeps_below c s node.label queue item ≡ true → ⊥
-      go room shut false opens closed there fits keeps = true≢false (sym opens)
-      go None shut true opens closed there fits keeps = true≢false (sym closed)
-      go (Some r) shut true opens closed there fits keeps = true≢false (sym keeps ∙ shut item there (fits-trans item.size place.headroom.room r fits closed))
+      record { below = record { among = contained-among item (items_for s node.label) one.0; within = h.within }; takes = parts.0; keeps = parts.1 }
 
-module _ (w : ClusterView) (p : ℕ) (node : Node) (there : node.label ≡ label_of w p) (place : Place)
-    (is : IsPlace w.config (state_in w) (label_of w p) (free (state_in w) node) (path_of w place.queue) place) where
-  at-label : IsPlace w.config (state_in w) node.label (free (state_in w) node) (path_of w place.queue) place
-  at-label = subst (λ (label : Label). IsPlace w.config (state_in w) label (free (state_in w) node) (path_of w place.queue) place) (sym there) is
+  -- nothing is below a queue that is closed where its parent was reached
+  closed-none : (parent : Path) (name : Name) (place : Place) → IsPlace c s node.label (free s node) parent place → IsClosed c s node.label place.headroom (below parent name)
+      → (item : Item) → IsBelow (eligible c s node) (below parent name) item → ⊥
+  closed-none parent name place is closed item h =
+      let its = taken (below parent name) item h in
+      let parts = and_parts (can_take s node.label (free s node) parent item.size) (keeps_maximum s node.label item.size (below parent name)) (sym (take-below s node.label (free s node) parent name item.size) ∙ its.takes) in
+      true≢false (sym its.keeps ∙ closed item its.below (is.headroom item.size ∙ parts.0) parts.1)
 
-  pub none-is-shut : place.headroom.is_open ≡ true → HasNone (own_scene w node) (path_of w place.queue) → IsShut w.config (state_in w) (label_of w p) (path_of w place.queue) place.headroom.room
-  none-is-shut opens none =
-      subst (λ (label : Label). IsShut w.config (state_in w) label (path_of w place.queue) place.headroom.room) there
-      (none-shut w.config (state_in w) node (path_of w place.queue) place at-label opens none)
+  -- nor below one that is shut in all that is free
+  shut-none : (queue : Path) → IsShut c s node.label queue (free s node) → (item : Item) → IsBelow (eligible c s node) queue item → ⊥
+  shut-none queue shut item h =
+      let its = taken queue item h in
+      true≢false (sym its.keeps ∙ shut item its.below (and_parts (fits_in item.size (free s node)) (list_all (keeps_maximum s node.label item.size) (root ∷ way_to queue)) its.takes).0)
 
-  pub shut-has-none : (notes : Notes) → AreShut w notes → IsCell w p place.queue → is_shut_in notes p place ≡ true → HasNone (own_scene w node) (path_of w place.queue)
-  shut-has-none notes shut cell closed =
-      shut-none w.config (state_in w) node (path_of w place.queue) place at-label (room_at notes p place.queue)
-      (subst (λ (label : Label). IfSome (room_at notes p place.queue) (IsShut w.config (state_in w) label (path_of w place.queue))) (sym there) (shut p place.queue cell)) closed
+module _ (w : ClusterView) (p : ℕ) (node : Node) (there : node.label ≡ label_of w p) where
+  module _ (place : Place) (is : IsPlace w.config (state_in w) (label_of w p) (free (state_in w) node) (path_of w place.queue) place) where
+    at-label : IsPlace w.config (state_in w) node.label (free (state_in w) node) (path_of w place.queue) place
+    at-label = subst (λ (label : Label). IsPlace w.config (state_in w) label (free (state_in w) node) (path_of w place.queue) place) (sym there) is
 
--- notes stay right where one more queue is shut
-pub noted-shut : (w : ClusterView) (p q : ℕ) (room : Resource) (old new : Notes) → AreShut w old → Changes (noted old p q room) old new → IsShut w.config (state_in w) (label_of w p) (path_of w q) room → AreShut w new
-noted-shut w p q room old new shut changes own r t cell =
+    pub none-is-shut : place.headroom.is_open ≡ true → HasNone (own_scene w node) (path_of w place.queue) → IsShutIn w p place.queue place.headroom.room
+    none-is-shut opens none =
+        subst (λ (label : Label). IsShut w.config (state_in w) label (path_of w place.queue) place.headroom.room) there
+        (none-shut w.config (state_in w) node (path_of w place.queue) place at-label opens none)
+
+    -- below a child that is closed there is none
+    pub closed-has-none : (q : ℕ) (name : Name) → path_of w q ≡ below (path_of w place.queue) name → IsClosedIn w p place.headroom q → HasNone (own_scene w node) (below (path_of w place.queue) name)
+    closed-has-none q name path closed =
+        closed-none w.config (state_in w) node (path_of w place.queue) name place at-label
+        (subst (λ (label : Label). IsClosed w.config (state_in w) label place.headroom (below (path_of w place.queue) name)) (sym there)
+        (subst (IsClosed w.config (state_in w) (label_of w p) place.headroom) path closed))
+
+  -- so it is below a queue that is shut in all that is free
+  pub shut-has-none : (q : ℕ) (room : Resource) → room ≡ free (state_in w) node → IsShutIn w p q room → HasNone (own_scene w node) (path_of w q)
+  shut-has-none q room is shut =
+      shut-none w.config (state_in w) node (path_of w q)
+      (subst (λ (label : Label). IsShut w.config (state_in w) label (path_of w q) (free (state_in w) node)) (sym there)
+      (subst (IsShut w.config (state_in w) (label_of w p) (path_of w q)) is shut))
+
+-- ---- a child that is closed
+
+module _ (w : ClusterView) (p q : ℕ) where
+  -- a queue that is shut in a room has none for which there is headroom, if that is no more
+  pub shut-closed : (h : Headroom) → IsShutIn w p q h.room → HasNoneIn w p h q
+  shut-closed h shut item below allowed = shut item below (and_parts h.is_open (fits_in item.size h.room) allowed).1
+
+  -- and is closed where its parent has no more
+  pub shut-above : (h : Headroom) → IsShutIn w p q h.room → IsClosedIn w p h q
+  shut-above h shut item below allowed keeps = shut item below (and_parts h.is_open (fits_in item.size h.room) allowed).1
+
+  -- nor has one without headroom
+  pub full-closed : (h : Headroom) → h.is_open ≡ false → HasNoneIn w p h q
+  full-closed h full item below allowed = absurd (true≢false (sym (and_parts h.is_open (fits_in item.size h.room) allowed).0 ∙ full))
+
+  -- nor has one whose requests do not fit
+  pub misfit-closed : (h : Headroom) → ((item : Item) → IsBelow (items_for (state_in w) (label_of w p)) (path_of w q) item → fits_in item.size h.room ≡ false) → HasNoneIn w p h q
+  misfit-closed h misfit item below allowed = absurd (true≢false (sym (and_parts h.is_open (fits_in item.size h.room) allowed).1 ∙ misfit item below))
+
+  -- where a queue has none for which there is headroom below its parent and in it, it is closed
+  pub none-closed : (above own : Headroom)
+      → ((size : Resource) → allows own size ≡ (allows above size && keeps_maximum (state_in w) (label_of w p) size (path_of w q))) → HasNoneIn w p own q → IsClosedIn w p above q
+  none-closed above own is none item below allowed keeps = none item below (is item.size ∙ and_from (allows above item.size) (keeps_maximum (state_in w) (label_of w p) item.size (path_of w q)) allowed keeps)
+
+-- rooms stay right where one more queue is shut
+noted-own : (w : ClusterView) (p q : ℕ) (room : Resource) (old new : Rooms) → AreOwnShut w old → Changes (noted old p q room) old new → IsShutIn w p q room → AreOwnShut w new
+noted-own w p q room old new shut changes own r t cell =
     subst (λ o. IfSome o (IsShut w.config (state_in w) (label_of w r) (path_of w t))) (sym (changes.room r t)) (go (nat_eq r p) (has_at old r t) (nat_eq t q) refl refl)
   where
     go : (one has two : Bool) → nat_eq r p ≡ one → nat_eq t q ≡ two → IfSome (cond (one && (has && two)) (Some room) (room_at old r t)) (IsShut w.config (state_in w) (label_of w r) (path_of w t))
@@ -88,3 +140,10 @@ noted-shut w p q room old new shut changes own r t cell =
         let same : p ≡ r = grind (arith, nat_tests, e) in
         let alike : q ≡ t = grind (arith, nat_tests, f) in
         subst (λ n. IsShut w.config (state_in w) (label_of w r) (path_of w n) room) alike (subst (λ n. IsShut w.config (state_in w) (label_of w n) (path_of w q) room) same own)
+
+-- and so do the notes
+pub noted-shut : (w : ClusterView) (p q : ℕ) (room : Resource) (old new : Notes) → AreShut w old → Changes (noted old.own p q room) old.own new.own → new.guests ≡ old.guests → IsShutIn w p q room → AreShut w new
+noted-shut w p q room old new shut changes same own = record {
+  own = noted-own w p q room old.own new.own shut.own changes own;
+  guests = subst (AreGuestsShut w) (sym same) shut.guests;
+}

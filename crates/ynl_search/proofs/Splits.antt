@@ -24,7 +24,7 @@ all-of-map p f (x ∷ xs) h =
     and_from (p (f x)) (list_all (λ x. p (f x)) xs) parts.0 (all-of-map p f xs parts.1)
 
 -- what holds of root and of each queue on the way to a leaf holds of each queue that the leaf is within
-on-way : (f : Path → Bool) (queue leaf : Path) → is_within queue leaf ≡ true → list_all f (root ∷ way_to leaf) ≡ true → f queue ≡ true
+pub on-way : (f : Path → Bool) (queue leaf : Path) → is_within queue leaf ≡ true → list_all f (root ∷ way_to leaf) ≡ true → f queue ≡ true
 on-way f [] leaf w h = (and_parts _ _ h).0
 on-way f (name ∷ queue) [] w h = absurd (true≢false (sym w))
 on-way f (name ∷ queue) (step ∷ leaf) w h =

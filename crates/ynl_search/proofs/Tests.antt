@@ -15,7 +15,7 @@ use Rattle.ynl_model.specs.declared.nodes.Node.{Node}
 use Rattle.ynl_model.specs.declared.proposals.What.{What}
 use Rattle.ynl_model.specs.declared.proposals.What.TheVariants.{Master, Ask as Asked}
 use Rattle.ynl_search.specs.declared.leaf.LeafTests.{LeafTests}
-use Rattle.ynl_search.specs.Leaves.{AreTests, TestsTell, keeps_limit, keeps_share, passes, passes_ask, passes_master}
+use Rattle.ynl_search.specs.Leaves.{AreLimits, AreTests, TestsTell, keeps_limit, keeps_share, passes, passes_ask, passes_master}
 use Rattle.ynl_search.specs.Places.{allows, can_take}
 
 module _ (c : Config) (s : State) (label : Label) (leaf : Path) (tests : LeafTests) where
@@ -65,6 +65,46 @@ module _ (c : Config) (s : State) (label : Label) (leaf : Path) (tests : LeafTes
     tested : passes tests used item ≡ is_eligible c s node item
     unfolding is_eligible
     tested = by-what item.what
+
+-- which keep the limits of their user and of the leaf's masters, and find headroom
+module _ (c : Config) (s : State) (label : Label) (leaf : Path) (tests : LeafTests) (are : AreLimits c s label leaf tests) where
+  -- whether a request does
+  abbrev pub is_within_limits : Item → Bool
+  is_within_limits item = allows tests.headroom item.size && within_user_limit c s label item && within_master_share c s label item.leaf item.what item.size
+
+  module _ (item : Item) (of : item.leaf ≡ leaf) where
+    limited : keeps_limit tests (user_used s leaf item.user label) item.size ≡ within_user_limit c s label item
+    unfolding within_user_limit
+    limited =
+        ap (fits_in (plus (user_used s leaf item.user label) item.size)) (are.limit item.size)
+        ∙ (λ i. fits_in (plus (user_used s (sym of i) item.user label) item.size) (user_limit c s (sym of i) label item.size))
+
+    swap : (a b : Bool) → (a || b) ≡ (b || a)
+    swap true true = refl
+    swap true false = refl
+    swap false true = refl
+    swap false false = refl
+
+    shared : keeps_share tests item.size ≡ within_master_share c s label item.leaf Master item.size
+    unfolding within_master_share
+    shared =
+        swap (not tests.has_master) (fits_in (plus tests.masters item.size) tests.master_limit)
+        ∙ (λ i. fits_in (plus (are.masters i) item.size) (are.master_limit i) || are.has_master i)
+        ∙ (λ i. fits_in (plus (masters_used s (sym of i) label) item.size) (master_limit c s (sym of i) label) || no_master_in s (sym of i) label)
+
+    by-kind : (what : What)
+        → cond (is_master_what what) (passes_master tests (user_used s leaf item.user label) item.size) (passes_ask tests (user_used s leaf item.user label) item.size)
+        ≡ (allows tests.headroom item.size && within_user_limit c s label item && within_master_share c s label item.leaf what item.size)
+    unfolding within_master_share
+    by-kind Master = λ i. allows tests.headroom item.size && limited i && shared i
+    by-kind (Asked asked priority) = (λ i. allows tests.headroom item.size && limited i) ∙ with-yes (allows tests.headroom item.size && within_user_limit c s label item)
+      where
+        with-yes : (b : Bool) → b ≡ (b && true)
+        with-yes true = refl
+        with-yes false = refl
+
+    pub tests-limit : passes tests (user_used s leaf item.user label) item ≡ is_within_limits item
+    tests-limit = by-kind item.what
 
 -- the tests of a leaf tell which of its requests are eligible
 pub tests-tell : TestsTell

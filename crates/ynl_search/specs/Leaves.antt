@@ -60,6 +60,13 @@ pub record AreTests (c : Config) (s : State) (label : Label) (free_there : Resou
   pub master_limit : tests.master_limit ≡ master_limit c s leaf label
   pub has_master : not tests.has_master ≡ no_master_in s leaf label
 
+-- the same of all but its headroom
+pub record AreLimits (c : Config) (s : State) (label : Label) (leaf : Path) (tests : LeafTests) : Type 0 where
+  pub limit : (size : Resource) → limit_of tests.limits size ≡ user_limit c s leaf label size
+  pub masters : tests.masters ≡ masters_used s leaf label
+  pub master_limit : tests.master_limit ≡ master_limit c s leaf label
+  pub has_master : not tests.has_master ≡ no_master_in s leaf label
+
 -- then they tell of each request of the leaf whether it is eligible on a node of the partition that has so much free
 abbrev pub TestsTell : Type 0
 TestsTell =

@@ -1,7 +1,7 @@
 -- A queue on the way of a search, and what the model says of it.
-use Rattle.std.specs.Prelude.{◌≡◌, Bool, ◌&&◌, ◌∷◌}
+use Rattle.std.specs.Prelude.{◌≡◌, Bool, true, ◌&&◌, ◌∷◌}
 use Rattle.std.specs.List.{list_all}
-use Rattle.ynl_resource.specs.Amounts.{fits_in}
+use Rattle.ynl_resource.specs.Amounts.{amount, fits_in}
 use Rattle.ynl_resource.specs.Names.{root, way_to}
 use Rattle.ynl_resource.specs.declared.amounts.Resource.{Resource}
 use Rattle.ynl_resource.specs.declared.labels.Label.{Label}
@@ -27,6 +27,19 @@ pub record IsPlace (c : Config) (s : State) (label : Label) (free : Resource) (q
   pub headroom : (size : Resource) → allows place.headroom size ≡ can_take s label free queue size
   pub guaranteed : place.guaranteed ≡ guaranteed c s queue label
   pub most : place.most ≡ maximum s queue label
+
+-- what it is guaranteed, and may use at most, is what the model says, whatever its headroom is
+pub record HasAmounts (c : Config) (s : State) (label : Label) (queue : Path) (place : Place) : Type 0 where
+  pub guaranteed : place.guaranteed ≡ guaranteed c s queue label
+  pub most : place.most ≡ maximum s queue label
+
+-- more room than any request needs
+abbrev pub any_room : Resource
+any_room = amount 0xffff_ffff_ffff_ffff 0xffff_ffff_ffff_ffff
+
+-- the place of the same queue where there is room for all that its own requests ask for
+abbrev pub in_any_room : Place → Place
+in_any_room place = record place { headroom = record { is_open = true; room = any_room } }
 
 -- its amounts are at most what the largest partition has
 pub record IsSmallPlace (place : Place) : Type 0 where

@@ -19,7 +19,7 @@ use Rattle.ynl_cluster.specs.Cluster.{ClusterView, label_of, path_of, state_in}
 use Rattle.ynl_search.specs.declared.found.Found.{Found}
 use Rattle.ynl_search.specs.declared.place.Place.{Place}
 use Rattle.ynl_search.specs.Laws.{item_asked, item_wanted}
-use Rattle.ynl_search.specs.Places.{IsPlace, IsSmallPlace}
+use Rattle.ynl_search.specs.Places.{HasAmounts, IsPlace, IsSmallPlace}
 
 -- a node that is not there
 abbrev pub no_node : Node
@@ -64,6 +64,10 @@ pub record IsReached (w : ClusterView) (place : Place) (children : List ℕ) : T
 -- what was worked out on the way is what the model says of it, where so much is free
 abbrev pub IsPlaceOf : ClusterView → ℕ → Resource → Place → Type 0
 IsPlaceOf w p room place = IsPlace w.config (state_in w) (label_of w p) room (path_of w place.queue) place
+
+-- and what it is guaranteed, and may use at most, is
+abbrev pub HasAmountsIn : ClusterView → ℕ → Place → Type 0
+HasAmountsIn w p place = HasAmounts w.config (state_in w) (label_of w p) (path_of w place.queue) place
 
 -- a node stands in a partition, and has so much free
 pub record IsNodeOf (w : ClusterView) (n p : ℕ) (room : Resource) : Type 0 where

@@ -1,10 +1,43 @@
 -- Queues that a search passes by.
-use Rattle.std.specs.Prelude.{ℕ, Bool, false, not, ◌||◌}
+use Rattle.std.specs.Prelude.{◌≡◌, ◌<◌, ℕ, Bool, true, false, List, length, slice_index_or, Option, Some}
 use Rattle.std.specs.Option.{option_map_or}
 use Rattle.ynl_resource.specs.Amounts.{fits_in}
-use Rattle.ynl_shut.specs.Notes.{Notes, room_at}
-use Rattle.ynl_search.specs.declared.place.Place.{Place}
+use Rattle.ynl_resource.specs.declared.amounts.Resource.{Resource}
+use Rattle.ynl_resource.specs.declared.labels.Label.{Label}
+use Rattle.ynl_resource.specs.declared.paths.Path.{Path}
+use Rattle.ynl_model.specs.Queues.{Config}
+use Rattle.ynl_model.specs.Cluster.{State}
+use Rattle.ynl_model.specs.Service.{Item, items_for}
+use Rattle.ynl_laws.specs.Descent.{IsBelow}
+use Rattle.ynl_cluster.specs.Cluster.{ClusterView, label_of, path_of, state_in}
+use Rattle.ynl_shut.specs.Notes.{Row, room_in}
+use Rattle.ynl_shut.specs.Shut.{IsShut, keeps_below, keeps_maximum}
+use Rattle.ynl_search.specs.declared.headroom.Headroom.{Headroom}
+use Rattle.ynl_search.specs.Places.{allows}
 
--- whether a queue can take nothing more, or is known to be shut in its room
-abbrev pub is_shut_in : Notes → ℕ → Place → Bool
-is_shut_in notes p place = not place.headroom.is_open || option_map_or (λ room. fits_in place.headroom.room room) (room_at notes p place.queue) false
+-- whether a room that is noted covers another: what fits in the other fits in it
+abbrev pub covers : Option Resource → Resource → Bool
+covers noted room = option_map_or (λ r. fits_in room r) noted false
+
+-- of the requests below a queue for which there is headroom none keeps what is to be kept below the queue
+abbrev pub HasNoneFor : Config → State → Label → Headroom → Path → Type 0
+HasNoneFor c s label h queue = (item : Item) → IsBelow (items_for s label) queue item → allows h item.size ≡ true → keeps_below c s label queue item ≡ false
+
+-- of those for which there is headroom above the queue, and with which the queue keeps its maximum, none does
+abbrev pub IsClosed : Config → State → Label → Headroom → Path → Type 0
+IsClosed c s label h queue =
+    (item : Item) → IsBelow (items_for s label) queue item → allows h item.size ≡ true → keeps_maximum s label item.size queue ≡ true → keeps_below c s label queue item ≡ false
+
+-- that a queue is shut, has none or is closed, of a queue of a cluster and on a partition
+abbrev pub IsShutIn : ClusterView → ℕ → ℕ → Resource → Type 0
+IsShutIn w p q room = IsShut w.config (state_in w) (label_of w p) (path_of w q) room
+
+abbrev pub HasNoneIn : ClusterView → ℕ → Headroom → ℕ → Type 0
+HasNoneIn w p h q = HasNoneFor w.config (state_in w) (label_of w p) h (path_of w q)
+
+abbrev pub IsClosedIn : ClusterView → ℕ → Headroom → ℕ → Type 0
+IsClosedIn w p h q = IsClosed w.config (state_in w) (label_of w p) h (path_of w q)
+
+-- a room is noted of each of some queues that so much fits in
+abbrev pub AreNotedAbove : Row → List ℕ → Resource → Type 0
+AreNotedAbove row queues least = (k : ℕ) → k < length queues → (room : Resource) × (room_in row (slice_index_or queues k 0) ≡ Some room) × (fits_in least room ≡ true)

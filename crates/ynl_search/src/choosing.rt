@@ -13,6 +13,7 @@ ghost use Rattle.ynl_search.specs.Choosing.{IsChosen, IsFirstGuestOn, IsFirstOwn
 
 use crate::found::Found;
 use crate::guest_tree::GuestTree;
+use crate::open_child::covers;
 use crate::own_tree::OwnTree;
 use crate::queues::{reach, root_at};
 use ynl_cluster::Cluster;
@@ -31,6 +32,9 @@ fn first_own_on(cluster: &Cluster, shut: &mut Shut, node: u32) -> Option<Found>
     let inventory = cluster.inventory();
     let partition = inventory.node(node).partition;
     let room = inventory.free(node);
+    if covers(shut.room(partition, 0), &room) {
+        return None;
+    }
     let tree = OwnTree {
         cluster,
         node,
@@ -42,13 +46,19 @@ fn first_own_on(cluster: &Cluster, shut: &mut Shut, node: u32) -> Option<Found>
     descend(&tree, shut, root, inventory.layout().len())
 }
 
-/// The first of all asks for DEFAULT for which a node has room, if there is one.
-fn first_guest_on(cluster: &Cluster, node: u32) -> Option<Found>
-    requires { IsLive node cluster.now.rows.nodes }
-    ensures { IsFirstGuestOn cluster.now node result }
+/// The first of all asks for DEFAULT for which a node has room, if there is one. Queues from below which none comes are
+/// noted.
+fn first_guest_on(cluster: &Cluster, shut: &mut Shut, node: u32) -> Option<Found>
+    requires node { IsLive node cluster.now.rows.nodes }
+    requires shut { AreShut cluster.now shut.old }
+    ensures shut { AreShut cluster.now shut.new }
+    ensures first { IsFirstGuestOn cluster.now node result }
 {
     let inventory = cluster.inventory();
     let room = inventory.free(node);
+    if covers(shut.guest_room(0), &room) {
+        return None;
+    }
     let tree = GuestTree {
         cluster,
         node,
@@ -56,8 +66,7 @@ fn first_guest_on(cluster: &Cluster, node: u32) -> Option<Found>
     };
     let place = root_at(cluster, 0, room);
     let root = reach(cluster, place);
-    let mut notes = ();
-    descend(&tree, &mut notes, root, inventory.layout().len())
+    descend(&tree, shut, root, inventory.layout().len())
 }
 
 /// What is placed next on a node: the first of the requests that are eligible there, or else the
@@ -79,7 +88,7 @@ pub fn choose(cluster: &Cluster, shut: &mut Shut, node: u32) -> Option<Found>
     if !inventory.takes_guests(partition) {
         return None;
     }
-    first_guest_on(cluster, node)
+    first_guest_on(cluster, shut, node)
 }
 
 /// Whether any request is eligible on a node.

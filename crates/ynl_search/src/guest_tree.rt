@@ -1,12 +1,14 @@
 //! The tree of queues in which guests are looked for.
 
 use crate::found::Found;
+use crate::guest_rooms::{guest_room_to_note, has_no_guest};
 use crate::leaves::first_guest_in_leaf;
 use crate::queues::{child_in, reach, standing_at};
 use crate::reached::Reached;
 use ynl_cluster::Cluster;
 use ynl_descent::{Standing, Tree};
 use ynl_resource::Resource;
+use ynl_shut::Shut;
 
 /// The tree of queues with the asks for DEFAULT for which a node has room.
 #[derive(Drop)]
@@ -18,6 +20,7 @@ pub(crate) struct GuestTree<'a> {
 
 impl<'a> Tree for GuestTree<'a> {
     ghost use Rattle.ynl_cluster.specs.Cluster.{path_of};
+    ghost use Rattle.ynl_shut.specs.Shut.{AreShut};
     ghost use Rattle.ynl_search.specs.Laws.{item_asked};
     ghost use Rattle.ynl_search.specs.Scenes.{branch_at, guest_scene, IsGuestQueue, node_at, queues_below};
 
@@ -25,7 +28,7 @@ impl<'a> Tree for GuestTree<'a> {
 
     type Found = Found;
 
-    type Notes = ();
+    type Notes = Shut;
 
     ghost is_queue = { λ t q. IsGuestQueue t.cluster.now t.node t.room q.place q.children.now };
 
@@ -37,15 +40,10 @@ impl<'a> Tree for GuestTree<'a> {
 
     ghost item = { λ t found. item_asked t.cluster.now.rows 0 found };
 
-    ghost are_notes = { λ t notes. Unit {0} };
+    ghost are_notes = { λ t notes. AreShut t.cluster.now notes };
 
     fn children(&self, queue: &Reached<'a>) -> usize {
         queue.children.len()
-    }
-
-    fn standing(&self, queue: &Reached<'a>, place: usize) -> Standing {
-        let child = child_in(self.cluster, 0, queue, place);
-        standing_at(self.cluster, 0, &child, place)
     }
 
     fn child(&self, queue: &Reached<'a>, place: usize) -> Reached<'a> {
@@ -53,16 +51,23 @@ impl<'a> Tree for GuestTree<'a> {
         reach(self.cluster, child)
     }
 
-    fn is_open(&self, _notes: &(), _queue: &Reached<'a>, _place: usize) -> bool {
-        true
+    fn look(&self, notes: &Shut, queue: &Reached<'a>, place: usize) -> Option<Standing> {
+        if has_no_guest(self.cluster, notes, queue.children[place], &self.room) {
+            return None;
+        }
+        let child = child_in(self.cluster, 0, queue, place);
+        Some(standing_at(self.cluster, 0, &child, place))
     }
 
-    fn first_in(&self, _notes: &mut (), leaf: &Reached<'a>) -> Option<Found> {
+    fn first_in(&self, _notes: &mut Shut, leaf: &Reached<'a>) -> Option<Found> {
         if leaf.place.queue == 0 {
             return None;
         }
         first_guest_in_leaf(self.cluster, leaf.place.queue, self.room)
     }
 
-    fn note(&self, _notes: &mut (), _queue: &Reached<'a>) {}
+    fn note(&self, notes: &mut Shut, queue: &Reached<'a>) {
+        let room = guest_room_to_note(self.cluster, notes, queue, self.room);
+        notes.note_guest(queue.place.queue, room);
+    }
 }

@@ -46,8 +46,9 @@ impl LeafTests {
     ghost use Rattle.ynl_model.specs.Queues.{Config};
     ghost use Rattle.ynl_model.specs.Cluster.{State};
     ghost use Rattle.ynl_uses.specs.Tallies.{IsSmallUse};
-    ghost use Rattle.ynl_search.specs.Leaves.{AreTests, IsLeafKept, keeps_limit, keeps_share, most_of, passes_ask, passes_master, room_of};
-    ghost use Rattle.ynl_search.specs.Places.{IsPlace, IsSmallPlace};
+    ghost use Rattle.ynl_limits.specs.Limits.{limit_of};
+    ghost use Rattle.ynl_search.specs.Leaves.{AreLimits, AreTests, IsLeafKept, keeps_limit, keeps_share, most_of, passes_ask, passes_master, room_of};
+    ghost use Rattle.ynl_search.specs.Places.{HasAmounts, IsPlace, IsSmallPlace};
 
     /// Those of a leaf where it was reached, by its settings, what it uses, and how many users share it, which are 1 or
     /// more.
@@ -55,10 +56,15 @@ impl LeafTests {
         requires place { IsSmallPlace place.now }
         requires kept { IsSmallUse kept.now }
         requires users { 1 ≤ users }
-        ensures { (c : Config) (s : State) (label : Label) (free : Amount) (leaf : Path)
+        ensures tests { (c : Config) (s : State) (label : Label) (free : Amount) (leaf : Path)
             → IsPlace c s label free leaf place.now
             → IsLeafKept c s label leaf settings.now kept.now users
             → AreTests c s label free leaf result }
+        ensures headroom { result.headroom ≡ place.now.headroom }
+        ensures limits { (c : Config) (s : State) (label : Label) (leaf : Path)
+            → HasAmounts c s label leaf place.now
+            → IsLeafKept c s label leaf settings.now kept.now users
+            → AreLimits c s label leaf result }
     {
         LeafTests {
             headroom: place.headroom,
@@ -95,6 +101,42 @@ impl LeafTests {
             memory: room.memory.min(LARGEST),
             vcores: room.vcores.min(LARGEST),
         })
+    }
+
+    /// The most that a user may use with a request of a size.
+    pub fn limit(&self, size: &Size) -> Resource
+        ensures { result ≡ limit_of self.now.limits size.now }
+    {
+        self.limits.limit(&size.amount())
+    }
+
+    /// What the limits of its users are made of.
+    pub fn limits(&self) -> Limits
+        ensures { result ≡ self.now.limits }
+    {
+        self.limits
+    }
+
+    /// What its masters use.
+    pub fn masters(&self) -> Resource
+        ensures value { result ≡ self.now.masters }
+        ensures small { IsTotal result }
+    {
+        self.masters
+    }
+
+    /// Whether it has a master.
+    pub fn has_master(&self) -> bool
+        ensures { result ≡ self.now.has_master }
+    {
+        self.has_master
+    }
+
+    /// The most that the masters of the leaf may use together.
+    pub fn master_limit(&self) -> Resource
+        ensures { result ≡ self.now.master_limit }
+    {
+        self.master_limit
     }
 
     /// Whether a user that uses so much keeps the user limit with so much more.

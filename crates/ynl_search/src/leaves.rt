@@ -1,6 +1,6 @@
 //! What a search reads of the queues of a cluster.
 
-ghost use Rattle.std.specs.Prelude.{◌≡◌, ◌<◌, ◌≤◌};
+ghost use Rattle.std.specs.Prelude.{◌≡◌, ◌<◌, ◌≤◌, IfNone, IsTrue};
 ghost use Rattle.ynl_model.specs.declared.nodes.Node.{Node};
 ghost use Rattle.ynl_model.specs.Cluster.{free};
 ghost use Rattle.ynl_model.specs.Limits.{users};
@@ -8,9 +8,10 @@ ghost use Rattle.ynl_resource.specs.declared.amounts.Resource.{Resource as Amoun
 ghost use Rattle.ynl_inventory.specs.Sound.{IsLeaf, IsSound};
 ghost use Rattle.ynl_cluster.specs.Cluster.{label_of, path_of, state_in, IsCell as IsThere};
 ghost use Rattle.ynl_search.specs.InLeaf.{IsLaneOf};
-ghost use Rattle.ynl_search.specs.Leaves.{AreTests};
-ghost use Rattle.ynl_search.specs.Places.{IsCell, IsPlace, IsSmallPlace};
-ghost use Rattle.ynl_search.specs.Scenes.{IsFirstGuest, IsFirstOwn, IsPlaceOf};
+ghost use Rattle.ynl_search.specs.Leaves.{AreLimits, AreTests};
+ghost use Rattle.ynl_search.specs.Places.{IsCell, IsPlace, IsSmallPlace, any_room};
+ghost use Rattle.ynl_search.specs.Scenes.{HasAmountsIn, IsFirstGuest, IsFirstOwn, IsPlaceOf};
+ghost use Rattle.ynl_search.specs.Shut.{HasNoneIn, IsShutIn};
 
 use crate::found::Found;
 use crate::guests::first_guest;
@@ -44,28 +45,32 @@ pub fn lane_of(cluster: &Cluster, p: u8, leaf: usize) -> &Lane
     cluster.lane(p, leaf)
 }
 
-/// How many users share a leaf's part of a partition, and 1 where there is none.
-fn users_of(cluster: &Cluster, p: u8, leaf: usize) -> u64
-    requires there { IsThere cluster.now p leaf }
-    requires leaf { IsLeaf cluster.now.rows leaf }
+/// How many users share a queue's part of a partition, and 1 where there is none. Only a leaf has
+/// any.
+fn users_of(cluster: &Cluster, p: u8, queue: usize) -> u64
+    requires { IsThere cluster.now p queue }
     ensures value { result ≡ users (state_in cluster.now)
-        (path_of cluster.now leaf) (label_of cluster.now p) }
+        (path_of cluster.now queue) (label_of cluster.now p) }
     ensures some { 1 ≤ result }
 {
-    let count = cluster.lane(p, leaf).users() as u64;
+    let count = cluster.lane(p, queue).users() as u64;
     1u64.max(count)
 }
 
-/// What the requests of a leaf on a partition are tested against where it was reached.
+/// What the requests of a leaf on a partition are tested against where it was reached. It says the
+/// same of the limits of a queue that is no leaf, which has no requests.
 pub fn tests_of(cluster: &Cluster, p: u8, place: &Place) -> LeafTests
     requires small { IsSmallPlace place.now }
     requires below_root { 0 < place.now.queue }
     requires there { IsThere cluster.now p place.now.queue }
-    requires leaf { IsLeaf cluster.now.rows place.now.queue }
-    ensures { (free : Amount) → IsPlace cluster.now.config (state_in cluster.now)
+    ensures tests { (free : Amount) → IsPlace cluster.now.config (state_in cluster.now)
         (label_of cluster.now p) free (path_of cluster.now place.now.queue) place.now
         → AreTests cluster.now.config (state_in cluster.now)
         (label_of cluster.now p) free (path_of cluster.now place.now.queue) result }
+    ensures headroom { result.headroom ≡ place.now.headroom }
+    ensures limits { HasAmountsIn cluster.now p place.now → AreLimits cluster.now.config
+        (state_in cluster.now) (label_of cluster.now p)
+        (path_of cluster.now place.now.queue) result }
 {
     let kept = cluster.used(p, place.queue);
     let users = users_of(cluster, p, place.queue);
@@ -79,13 +84,32 @@ pub fn first_in_leaf(cluster: &Cluster, p: u8, place: &Place) -> Option<Found>
     requires below_root { 0 < place.now.queue }
     requires there { IsThere cluster.now p place.now.queue }
     requires leaf { IsLeaf cluster.now.rows place.now.queue }
-    ensures { (node : Node) → node.label ≡ label_of cluster.now p
+    ensures first { (node : Node) → node.label ≡ label_of cluster.now p
         → IsPlaceOf cluster.now p (free (state_in cluster.now) node) place.now
         → IsFirstOwn cluster.now p node place.now.queue result }
+    ensures none { HasAmountsIn cluster.now p place.now → IfNone result
+        (HasNoneIn cluster.now p place.now.headroom place.now.queue) }
 {
     let lane = lane_of(cluster, p, place.queue);
     let tests = tests_of(cluster, p, place);
     first_own(cluster.inventory(), lane, p, &tests)
+}
+
+/// With more users a leaf is not searched for any room: the search may go through them all.
+const FEW_USERS: usize = 64;
+
+/// Whether no request of a leaf on a partition keeps the limits of its user and of the leaf's masters, so that none may be
+/// placed in any room. It is not found out of a leaf with many users.
+pub fn is_shut_leaf(cluster: &Cluster, p: u8, place: &Place) -> bool
+    requires small { IsSmallPlace place.now }
+    requires below_root { 0 < place.now.queue }
+    requires there { IsThere cluster.now p place.now.queue }
+    requires leaf { IsLeaf cluster.now.rows place.now.queue }
+    requires amounts { HasAmountsIn cluster.now p place.now }
+    ensures { IsTrue result → IsShutIn cluster.now p place.now.queue any_room }
+{
+    let users = lane_of(cluster, p, place.queue).users();
+    users <= FEW_USERS && first_in_leaf(cluster, p, &place.in_any_room()).is_none()
 }
 
 /// The first ask of a leaf for DEFAULT that a node with so much free may take as a guest.

@@ -1,11 +1,16 @@
 //! The tree of queues in which what is eligible is looked for.
 
-ghost use Rattle.std.specs.Prelude.{◌≡◌};
-ghost use Rattle.ynl_search.specs.Shut.{is_shut_in};
+ghost use Rattle.std.specs.Prelude.{◌<◌};
+ghost use Rattle.ynl_inventory.specs.Sound.{IsLeaf};
+ghost use Rattle.ynl_cluster.specs.Cluster.{IsCell};
+ghost use Rattle.ynl_shut.specs.Shut.{AreShut};
+ghost use Rattle.ynl_search.specs.Places.{IsSmallPlace};
+ghost use Rattle.ynl_search.specs.Scenes.{HasAmountsIn};
 
 use crate::found::Found;
-use crate::leaves::first_in_leaf;
-use crate::place::Place;
+use crate::leaves::{first_in_leaf, is_shut_leaf};
+use crate::open_child::{covers, open_child, room_to_note};
+use crate::place::{ANY, Place};
 use crate::queues::{child_in, reach, standing_at};
 use crate::reached::Reached;
 use ynl_cluster::Cluster;
@@ -23,22 +28,23 @@ pub(crate) struct OwnTree<'a> {
     pub(crate) room: Resource,
 }
 
-/// Whether a queue can take nothing more, or is known to be shut in its room.
-fn is_shut(shut: &Shut, p: u8, place: &Place) -> bool
-    ensures { result ≡ is_shut_in shut.now p place.now }
+/// A leaf is noted for any room, if none of its requests may be placed in any.
+fn note_leaf(cluster: &Cluster, notes: &mut Shut, p: u8, place: &Place)
+    requires notes { AreShut cluster.now notes.old }
+    requires small { IsSmallPlace place.now }
+    requires below_root { 0 < place.now.queue }
+    requires there { IsCell cluster.now p place.now.queue }
+    requires leaf { IsLeaf cluster.now.rows place.now.queue }
+    requires amounts { HasAmountsIn cluster.now p place.now }
+    ensures { AreShut cluster.now notes.new }
 {
-    if !place.headroom.is_open {
-        return true;
-    }
-    match shut.room(p, place.queue) {
-        Some(room) => place.headroom.room.fits_in(room),
-        None => false,
+    if is_shut_leaf(cluster, p, place) {
+        notes.note(p, place.queue, ANY);
     }
 }
 
 impl<'a> Tree for OwnTree<'a> {
     ghost use Rattle.ynl_cluster.specs.Cluster.{path_of};
-    ghost use Rattle.ynl_shut.specs.Shut.{AreShut};
     ghost use Rattle.ynl_search.specs.Laws.{item_wanted};
     ghost use Rattle.ynl_search.specs.Scenes.{branch_at, IsOwnQueue, node_at, own_scene, queues_below};
 
@@ -65,32 +71,41 @@ impl<'a> Tree for OwnTree<'a> {
         queue.children.len()
     }
 
-    fn standing(&self, queue: &Reached<'a>, place: usize) -> Standing {
-        let child = child_in(self.cluster, self.partition, queue, place);
-        standing_at(self.cluster, self.partition, &child, place)
-    }
-
     fn child(&self, queue: &Reached<'a>, place: usize) -> Reached<'a> {
         let child = child_in(self.cluster, self.partition, queue, place);
         reach(self.cluster, child)
     }
 
-    fn is_open(&self, notes: &Shut, queue: &Reached<'a>, place: usize) -> bool {
-        let child = child_in(self.cluster, self.partition, queue, place);
-        !is_shut(notes, self.partition, &child)
+    fn look(&self, notes: &Shut, queue: &Reached<'a>, place: usize) -> Option<Standing> {
+        match open_child(self.cluster, notes, self.partition, queue, place) {
+            Some(child) => Some(standing_at(self.cluster, self.partition, &child, place)),
+            None => None,
+        }
     }
 
-    fn first_in(&self, _notes: &mut Shut, leaf: &Reached<'a>) -> Option<Found> {
+    fn first_in(&self, notes: &mut Shut, leaf: &Reached<'a>) -> Option<Found> {
         if leaf.place.queue == 0 {
             return None;
         }
-        first_in_leaf(self.cluster, self.partition, &leaf.place)
+        let found = first_in_leaf(self.cluster, self.partition, &leaf.place);
+        if found.is_none() {
+            note_leaf(self.cluster, notes, self.partition, &leaf.place);
+        }
+        found
     }
 
     fn note(&self, notes: &mut Shut, queue: &Reached<'a>) {
         let place = &queue.place;
-        if place.headroom.is_open {
-            notes.note(self.partition, place.queue, place.headroom.room);
+        if !place.headroom.is_open {
+            return;
         }
+        if covers(
+            notes.room(self.partition, place.queue),
+            &place.headroom.room,
+        ) {
+            return;
+        }
+        let room = room_to_note(self.cluster, notes, self.partition, queue);
+        notes.note(self.partition, place.queue, room);
     }
 }

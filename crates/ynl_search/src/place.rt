@@ -1,16 +1,17 @@
 //! A queue on the way of a search.
 
-ghost use Rattle.std.specs.Prelude.{◌≡◌};
+ghost use Rattle.std.specs.Prelude.{◌≡◌, ◌&&◌};
 ghost use Rattle.ynl_resource.specs.Names.{root};
 ghost use Rattle.ynl_resource.specs.declared.amounts.Resource.{Resource as Amount};
 ghost use Rattle.ynl_resource.specs.declared.labels.Label.{Label};
 ghost use Rattle.ynl_resource.specs.declared.names.Name.{Name};
 ghost use Rattle.ynl_resource.specs.declared.paths.Path.{Path};
 ghost use Rattle.ynl_model.specs.Queues.{Config};
-ghost use Rattle.ynl_model.specs.Cluster.{State, total as total_of, used as used_of};
+ghost use Rattle.ynl_model.specs.Cluster.{State, maximum as maximum_of, total as total_of, used as used_of};
 ghost use Rattle.ynl_uses.specs.Tallies.{IsTotal};
 ghost use Rattle.ynl_laws.specs.Decided.{below};
-ghost use Rattle.ynl_search.specs.Places.{IsCell, IsPlace, IsSmallPlace};
+ghost use Rattle.ynl_shut.specs.Shut.{keeps_maximum};
+ghost use Rattle.ynl_search.specs.Places.{IsCell, IsPlace, IsSmallPlace, allows, in_any_room};
 
 use crate::headroom::Headroom;
 use ynl_queues::share_of;
@@ -25,6 +26,12 @@ pub struct Place {
     pub guaranteed: Resource,
     pub most: Resource,
 }
+
+/// More room than any request needs.
+pub const ANY: Resource = Resource {
+    memory: u64::MAX,
+    vcores: u64::MAX,
+};
 
 /// A queue on a partition: its shares of what its parent has, and what it uses.
 #[derive(Clone, Copy)]
@@ -59,6 +66,11 @@ impl Place {
             (path : Path) (name : Name) → IsPlace c s label free path self.now
             → IsCell c s label (below path name) cell.now
             → IsPlace c s label free (below path name) result }
+        ensures headroom { (c : Config) (s : State) (label : Label) (path : Path) (name : Name)
+            → self.now.most ≡ maximum_of s path label
+            → IsCell c s label (below path name) cell.now → (size : Amount)
+            → allows result.headroom size
+            ≡ (allows self.now.headroom size && keeps_maximum s label size (below path name)) }
         ensures small { IsSmallPlace result }
         ensures queue { result.queue ≡ queue }
     {
@@ -69,6 +81,21 @@ impl Place {
             headroom: self.headroom.and(&own),
             guaranteed: share_of(&self.guaranteed, &cell.capacity),
             most,
+        }
+    }
+
+    /// The same queue where there is room for all that its own requests ask for.
+    pub fn in_any_room(&self) -> Place
+        ensures { result ≡ in_any_room self.now }
+    {
+        Place {
+            queue: self.queue,
+            headroom: Headroom {
+                is_open: true,
+                room: ANY,
+            },
+            guaranteed: self.guaranteed,
+            most: self.most,
         }
     }
 }

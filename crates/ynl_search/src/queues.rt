@@ -1,12 +1,13 @@
 //! The queues of a cluster, as a search comes to them.
 
-ghost use Rattle.std.specs.Prelude.{◌≡◌, ◌<◌, length, slice_index_or};
+ghost use Rattle.std.specs.Prelude.{◌≡◌, ◌<◌, ◌&&◌, length, slice_index_or};
 ghost use Rattle.ynl_resource.specs.declared.amounts.Resource.{Resource as Amount};
-ghost use Rattle.ynl_model.specs.Cluster.{used};
+ghost use Rattle.ynl_model.specs.Cluster.{maximum, used};
 ghost use Rattle.ynl_layout.specs.Paths.{HasNumber, IsChild};
 ghost use Rattle.ynl_inventory.specs.Sound.{HasPartition};
 ghost use Rattle.ynl_cluster.specs.Cluster.{label_of, path_of, state_in, IsCell as IsThere};
-ghost use Rattle.ynl_search.specs.Places.{IsSmallPlace};
+ghost use Rattle.ynl_shut.specs.Shut.{keeps_maximum};
+ghost use Rattle.ynl_search.specs.Places.{IsSmallPlace, allows};
 ghost use Rattle.ynl_search.specs.Scenes.{IsPlaceOf, IsReached};
 
 use crate::leaves::cell_of;
@@ -33,6 +34,11 @@ pub fn child_at(cluster: &Cluster, p: u8, place: &Place, child: usize) -> Place
     requires child { IsChild cluster.now.rows.paths place.now.queue child }
     ensures place { (free : Amount) → IsPlaceOf cluster.now p free place.now
         → IsPlaceOf cluster.now p free result }
+    ensures headroom { place.now.most ≡ maximum (state_in cluster.now)
+        (path_of cluster.now place.now.queue) (label_of cluster.now p) → (size : Amount)
+        → allows result.headroom size ≡ (allows place.now.headroom size
+        && keeps_maximum (state_in cluster.now) (label_of cluster.now p) size
+        (path_of cluster.now result.queue)) }
     ensures small { IsSmallPlace result }
     ensures queue { result.queue ≡ child }
 {
@@ -63,6 +69,12 @@ pub fn child_in(cluster: &Cluster, p: u8, reached: &Reached<'_>, at: usize) -> P
     requires at { at < length reached.now.children.now }
     ensures place { (free : Amount) → IsPlaceOf cluster.now p free reached.now.place
         → IsPlaceOf cluster.now p free result }
+    ensures headroom { reached.now.place.most ≡ maximum (state_in cluster.now)
+        (path_of cluster.now reached.now.place.queue) (label_of cluster.now p)
+        → (size : Amount) → allows result.headroom size
+        ≡ (allows reached.now.place.headroom size
+        && keeps_maximum (state_in cluster.now) (label_of cluster.now p) size
+        (path_of cluster.now result.queue)) }
     ensures small { IsSmallPlace result }
     ensures queue { result.queue ≡ slice_index_or reached.now.children.now at 0 }
     ensures child { IsChild cluster.now.rows.paths reached.now.place.queue result.queue }

@@ -34,10 +34,10 @@ use Rattle.ynl_inventory.proofs.Submitted.{app-submission}
 use Rattle.ynl_requests.proofs.Running.{label-tells}
 use Rattle.ynl_requests.proofs.Tables.{tabled}
 use Rattle.ynl_cluster.specs.Cluster.{ClusterView, IsCell, label_of, maxima_in, path_of, state_in, stops_in}
-use Rattle.ynl_shut.specs.Notes.{Notes, room_at}
-use Rattle.ynl_shut.specs.Shut.{IsShut}
+use Rattle.ynl_shut.specs.Notes.{Rooms, room_at}
+use Rattle.ynl_shut.specs.Shut.{AreOwnShut, IsShut}
 use Rattle.ynl_shut.specs.Laws.{AreReadable, StaysShut}
-use Rattle.ynl_shut.specs.Upkeep.{AreForgotten, StayRight, changed_on, is_on}
+use Rattle.ynl_shut.specs.Upkeep.{AreForgotten, changed_on, is_on}
 use Rattle.ynl_shut.proofs.Facts.{known, once, owned, row-there}
 use Rattle.ynl_shut.proofs.Lasting.{stays-asking, stays-asking_elsewhere, stays-ending, stays-ending_elsewhere, stays-finishing, stays-placing, stays-placing_elsewhere, stays-submitting}
 
@@ -78,9 +78,9 @@ same-cells w u before after config = record {
     paths = after.paths ∙ ap paths_of config ∙ sym before.paths
 
 -- where what is left of what was noted stays right
-pub after-change : (w u : ClusterView) (leaf : ℕ) (only : Option ℕ) → HaveSameCells w u → (old forgot : Notes) → AreForgotten u leaf only old forgot
+pub after-change : (w u : ClusterView) (leaf : ℕ) (only : Option ℕ) → HaveSameCells w u → (old forgot : Rooms) → AreForgotten u leaf only old forgot
     → ((p q : ℕ) → IsCell w p q → (is_on only p && is_within (path_of w q) (path_of w leaf)) ≡ false → StaysShut w.config (state_in w) (state_in u) (label_of w p) (path_of w q))
-    → StayRight w u old forgot
+    → (AreOwnShut w old → AreOwnShut u forgot)
 after-change w u leaf only same old forgot left stays shut p q cell = go (room_at forgot p q) (left p q cell)
   where
     there : IsCell w p q
@@ -143,7 +143,7 @@ module _ (w u : ClusterView) (sound : IsSound w.rows) (after : IsSound u.rows) (
 
   module _ (p number : ℕ) (c : Container) (row : AppRow) (held : held_at w.rows p number ≡ Some c) (found : lookup (nat_eq c.app) w.rows.apps ≡ Some row)
       (is : state_in u ≡ end w.config (state_in w) (placed_of w.rows (label_of w p) c)) where
-    part : (part : PartitionRow) × (slice_get w.rows.partitions p ≡ Some part) × (lookup (nat_eq number) part.containers ≡ Some c)
+    pub part : (part : PartitionRow) × (slice_get w.rows.partitions p ≡ Some part) × (lookup (nat_eq number) part.containers ≡ Some c)
     part = go (slice_get w.rows.partitions p) refl held
       where
         go : (o : Option PartitionRow) → slice_get w.rows.partitions p ≡ o → option_and_then (λ row. lookup (nat_eq number) row.containers) o ≡ Some c
@@ -225,15 +225,15 @@ pub leaf-there : (w u : ClusterView) → IsSound w.rows → (app : ℕ) (row : A
 leaf-there w u sound app row found same = subst (λ paths. HasNumber paths row.leaf) (sym same) (app-submission w.rows sound app row found).there
 
 module _ (w u : ClusterView) (sound : IsSound w.rows) (after : IsSound u.rows) (working : IsWorking w.config (state_in w))
-    (before-for : IsFor w.config w.rows) (after-for : IsFor u.config u.rows) (config : u.config ≡ w.config) (old forgot : Notes) where
-  abbrev cells : HaveSameCells w u
+    (before-for : IsFor w.config w.rows) (after-for : IsFor u.config u.rows) (config : u.config ≡ w.config) (old forgot : Rooms) where
+  abbrev pub cells : HaveSameCells w u
   cells = same-cells w u before-for after-for config
 
   -- a container was placed
   pub place-right : (node app : ℕ) (role : Role) (size : Resource) (can : IsPlaceable w.rows node app role)
       → state_in u ≡ place w.config (node_of w.rows.partitions can.node_row) (item_of w.rows can.app_row role size) (state_in w)
       → (row : AppRow) → lookup (nat_eq app) w.rows.apps ≡ Some row → (nrow : NodeRow) → lookup (nat_eq node) w.rows.nodes ≡ Some nrow
-      → (only : Option ℕ) → only ≡ changed_on role nrow.partition → AreForgotten u row.leaf only old forgot → StayRight w u old forgot
+      → (only : Option ℕ) → only ≡ changed_on role nrow.partition → AreForgotten u row.leaf only old forgot → (AreOwnShut w old → AreOwnShut u forgot)
   place-right node app role size can is row found nrow nfound only which left =
       after-change w u row.leaf only cells old forgot left
       (λ p q cell apart. placing-stays w u sound after working node app role size can is p q cell
@@ -248,7 +248,7 @@ module _ (w u : ClusterView) (sound : IsSound w.rows) (after : IsSound u.rows) (
   -- one ended
   pub end-right : (p number : ℕ) (c : Container) (row : AppRow) → held_at w.rows p number ≡ Some c → lookup (nat_eq c.app) w.rows.apps ≡ Some row
       → state_in u ≡ end w.config (state_in w) (placed_of w.rows (label_of w p) c)
-      → (only : Option ℕ) → only ≡ changed_on c.role p → AreForgotten u row.leaf only old forgot → StayRight w u old forgot
+      → (only : Option ℕ) → only ≡ changed_on c.role p → AreForgotten u row.leaf only old forgot → (AreOwnShut w old → AreOwnShut u forgot)
   end-right p number c row held found is only which left =
       after-change w u row.leaf only cells old forgot left
       (λ r q cell apart. ending-stays w u sound after working p number c row held found is r q cell (ap (λ o. is_on o r && is_within (path_of w q) (path_of w row.leaf)) (sym which) ∙ apart))
@@ -256,18 +256,18 @@ module _ (w u : ClusterView) (sound : IsSound w.rows) (after : IsSound u.rows) (
   -- an application was submitted
   pub submit-right : (name : Name) (new : NewSubmission) → CanSubmit w.rows name new → (app : Application) → app.leaf ≡ path_of w new.leaf → app.name ≡ name
       → state_in u ≡ record (state_in w) { leaves = in_leaf app.leaf (submitted app) (state_in w).leaves }
-      → AreForgotten u new.leaf None old forgot → StayRight w u old forgot
+      → AreForgotten u new.leaf None old forgot → (AreOwnShut w old → AreOwnShut u forgot)
   submit-right name new can app at named is left = after-change w u new.leaf None cells old forgot left (submitting-stays w u sound after working name new can app at named is)
 
   -- one asked
   pub ask-right : (app : ℕ) (ask : Ask) (row : AppRow) → lookup (nat_eq app) w.rows.apps ≡ Some row → CanAsk w.rows app ask
       → state_in u ≡ record (state_in w) { leaves = in_leaf (path_of w row.leaf) (with_app (app_name w.rows.tenants row.tenant row.turn) (set_ask (ask_of w.rows.partitions ask))) (state_in w).leaves }
-      → AreForgotten u row.leaf (Some ask.partition) old forgot → StayRight w u old forgot
+      → AreForgotten u row.leaf (Some ask.partition) old forgot → (AreOwnShut w old → AreOwnShut u forgot)
   ask-right app ask row found can is left =
       after-change w u row.leaf (Some ask.partition) cells old forgot left
       (asking-stays w u sound after working app ask row found (subst (λ o. IfSome o (λ (r : AppRow). IsAskedOn r.home ask.partition)) found can.1) is)
 
   -- one finished
   pub finish-right : (app : ℕ) (row : AppRow) → lookup (nat_eq app) w.rows.apps ≡ Some row → state_in u ≡ app_finishes w.config (app_of w.rows (app, row)) (state_in w)
-      → AreForgotten u row.leaf None old forgot → StayRight w u old forgot
+      → AreForgotten u row.leaf None old forgot → (AreOwnShut w old → AreOwnShut u forgot)
   finish-right app row found is left = after-change w u row.leaf None cells old forgot left (finishing-stays w u sound after working app row found is)

@@ -5,6 +5,8 @@ mod Lasting
 mod Once
 mod Facts
 mod Keeping
+mod GuestsStay
+mod GuestKeeping
 mod Forgetting
 mod Rowwise
 mod Told

@@ -7,7 +7,7 @@ use Rattle.std.proofs.lemmas.Option.{slice_get-get_or}
 use Rattle.ynl_resource.specs.declared.amounts.Resource.{Resource}
 use Rattle.ynl_inventory.proofs.PartLists.{set-other, set-same}
 use Rattle.ynl_shut.specs.declared.row.Row.{Row as RowPart}
-use Rattle.ynl_shut.specs.Notes.{Changes, IsEmpty, Row, forgotten, has_at, has_in, noted, room_at, room_in, row_of}
+use Rattle.ynl_shut.specs.Notes.{Changes, AreEmpty, Row, forgotten, has_at, has_in, noted, room_at, room_in, row_of}
 
 abbrev Change : Type 0
 Change = ℕ → ℕ → Option Resource → Option Resource
@@ -108,9 +108,9 @@ up_to-all f rows b nothing h = changes-as (up_to (length rows) f) f (notes_of ro
 
 -- ---- new rows
 
-pub empty-more : (n queues : ℕ) (rows more : List RowPart) (row : RowPart) → IsEmpty n queues (notes_of rows) → length rows ≡ n → more ≡ rows ++ row ∷ []
-    → ((q : ℕ) → has_in (row_of row) q ≡ nat_lt q queues) → ((q : ℕ) → room_in (row_of row) q ≡ None) → IsEmpty (n + 1) queues (notes_of more)
-empty-more n queues rows more row h many is has room = subst (λ ms. IsEmpty (n + 1) queues (notes_of ms)) (sym is) (record { has = λ p q. has-go p q (nat_lt p n) refl; room = λ p q. room-go p q (nat_lt p n) refl })
+pub empty-more : (n queues : ℕ) (rows more : List RowPart) (row : RowPart) → AreEmpty n queues (notes_of rows) → length rows ≡ n → more ≡ rows ++ row ∷ []
+    → ((q : ℕ) → has_in (row_of row) q ≡ nat_lt q queues) → ((q : ℕ) → room_in (row_of row) q ≡ None) → AreEmpty (n + 1) queues (notes_of more)
+empty-more n queues rows more row h many is has room = subst (λ ms. AreEmpty (n + 1) queues (notes_of ms)) (sym is) (record { has = λ p q. has-go p q (nat_lt p n) refl; room = λ p q. room-go p q (nat_lt p n) refl })
   where
     at-last : (rows : List RowPart) (p : ℕ) → length rows ≡ p → slice_get (rows ++ row ∷ []) p ≡ Some row
     at-last [] zero e = refl

@@ -5,13 +5,15 @@ use Rattle.ynl_resource.specs.Amounts.{fits_in, plus}
 use Rattle.ynl_resource.specs.Names.{root, is_within, way_to}
 use Rattle.ynl_resource.specs.declared.amounts.Resource.{Resource}
 use Rattle.ynl_resource.specs.declared.labels.Label.{Label}
+use Rattle.ynl_resource.specs.declared.labels.Label.TheVariants.{Unlabelled}
 use Rattle.ynl_resource.specs.declared.paths.Path.{Path}
 use Rattle.ynl_model.specs.Queues.{Config}
 use Rattle.ynl_model.specs.Cluster.{State, maximum, used}
-use Rattle.ynl_model.specs.Service.{Item, items_for, within_master_share, within_user_limit}
+use Rattle.ynl_model.specs.Service.{Item, asks_for, items_for, within_master_share, within_user_limit}
 use Rattle.ynl_laws.specs.Descent.{IsBelow}
+use Rattle.ynl_layout.specs.Paths.{HasNumber}
 use Rattle.ynl_cluster.specs.Cluster.{ClusterView, IsCell, label_of, path_of, state_in}
-use Rattle.ynl_shut.specs.Notes.{Notes, room_at}
+use Rattle.ynl_shut.specs.Notes.{Notes, Rooms, Row, room_at, room_in}
 
 -- whether a queue stays within its maximum with so much more
 abbrev pub keeps_maximum : State → Label → Resource → Path → Bool
@@ -27,6 +29,18 @@ keeps_below c s label queue item =
 abbrev pub IsShut : Config → State → Label → Path → Resource → Type 0
 IsShut c s label queue room = (item : Item) → IsBelow (items_for s label) queue item → fits_in item.size room ≡ true → keeps_below c s label queue item ≡ false
 
+-- in a room no guest comes from below a queue: nothing that is asked for there on DEFAULT fits
+abbrev pub IsGuestShut : State → Path → Resource → Type 0
+IsGuestShut s queue room = (item : Item) → IsBelow (asks_for s Unlabelled) queue item → fits_in item.size room ≡ false
+
 -- each queue of a cluster is shut on each partition in the room that is noted of it there
-abbrev pub AreShut : ClusterView → Notes → Type 0
-AreShut w notes = (p q : ℕ) → IsCell w p q → IfSome (room_at notes p q) (IsShut w.config (state_in w) (label_of w p) (path_of w q))
+abbrev pub AreOwnShut : ClusterView → Rooms → Type 0
+AreOwnShut w rooms = (p q : ℕ) → IsCell w p q → IfSome (room_at rooms p q) (IsShut w.config (state_in w) (label_of w p) (path_of w q))
+
+-- and in the room that is noted of its guests none comes from there
+abbrev pub AreGuestsShut : ClusterView → Row → Type 0
+AreGuestsShut w row = (q : ℕ) → HasNumber w.rows.paths q → IfSome (room_in row q) (IsGuestShut (state_in w) (path_of w q))
+
+pub record AreShut (w : ClusterView) (notes : Notes) : Type 0 where
+  pub own : AreOwnShut w notes.own
+  pub guests : AreGuestsShut w notes.guests

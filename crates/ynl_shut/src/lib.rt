@@ -4,6 +4,7 @@
 pub use shut::Shut;
 pub use upkeep::{ask, end, finish, place, submit};
 
+mod room_table;
 mod row;
 mod shut;
 mod upkeep;

@@ -30,6 +30,16 @@ pub(crate) fn unknown(alloc: Global, queues: usize) -> Result<Row, AllocError>
     })
 }
 
+/// The room of a queue, if one is known.
+pub(crate) fn room_in(row: &Row, queue: usize) -> Option<Resource>
+    ensures { result ≡ room_in (row_of row.now) queue }
+{
+    if !row.known {
+        return None;
+    }
+    *row.rooms.get(queue)?
+}
+
 /// The room of a queue is set, if there is a place for it.
 fn put(rooms: &mut Vec<Option<Resource>>, queue: usize, room: Option<Resource>)
     ensures len { length rooms.new.items ≡ length rooms.old.items }

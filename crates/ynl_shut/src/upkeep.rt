@@ -14,7 +14,8 @@ ghost use Rattle.ynl_inventory.specs.Meaning.{app_name, app_of, ask_of, item_of,
 ghost use Rattle.ynl_inventory.specs.Parts.{CanPlace, LeavesRoom, containers_of, held_at};
 ghost use Rattle.ynl_inventory.specs.Sound.{CanAsk, CanSubmit, IsFor, IsPlaceable, IsSound};
 ghost use Rattle.ynl_cluster.specs.Cluster.{held_in, label_of, path_of, state_in};
-ghost use Rattle.ynl_shut.specs.Upkeep.{AreForgotten, StayRight, changed_on};
+ghost use Rattle.ynl_inventory.specs.Apps.{is_master_role};
+ghost use Rattle.ynl_shut.specs.Upkeep.{AreForgotten, AreGuestsForgotten, StayRight, changed_on};
 
 use crate::shut::Shut;
 use std::alloc::AllocError;
@@ -38,7 +39,8 @@ fn changed_on(role: Role, p: u8) -> Option<u8>
 /// Forgets what is noted of the queues on the way to a leaf, on a partition or on all.
 fn forget_way(cluster: &Cluster, shut: &mut Shut, leaf: u32, only: Option<u8>)
     requires { HasNumber cluster.now.rows.paths leaf }
-    ensures forgotten { AreForgotten cluster.now leaf only shut.old shut.new }
+    ensures forgotten { AreForgotten cluster.now leaf only shut.old.own shut.new.own }
+    ensures guests { shut.new.guests ≡ shut.old.guests }
     ensures sound { IsSound cluster.now.rows }
     ensures configured { IsFor cluster.now.config cluster.now.rows }
 {
@@ -47,6 +49,27 @@ fn forget_way(cluster: &Cluster, shut: &mut Shut, leaf: u32, only: Option<u8>)
     match only {
         Some(p) => shut.forget(p, line),
         None => shut.forget_on_all(line),
+    }
+}
+
+/// Whether an application begins to run with a container, so that what it asks for on DEFAULT may be a guest.
+fn begins(role: Role) -> bool
+    ensures { result ≡ is_master_role role }
+{
+    match role {
+        Role::Master => true,
+        Role::Ask { .. } => false,
+    }
+}
+
+/// Forgets what is noted of the guests of the queues on the way to a leaf, if more may come from there.
+fn forget_guests(cluster: &Cluster, shut: &mut Shut, leaf: u32, gone: bool)
+    requires { HasNumber cluster.now.rows.paths leaf }
+    ensures own { shut.new.own ≡ shut.old.own }
+    ensures guests { AreGuestsForgotten cluster.now leaf gone shut.old.guests shut.new.guests }
+{
+    if gone {
+        shut.forget_guests(cluster.inventory().layout().line(leaf as usize));
     }
 }
 
@@ -80,6 +103,7 @@ pub fn place(cluster: &mut Cluster, shut: &mut Shut, placed: &Placement) -> Plac
     let p = node.partition;
     let number = cluster.place(placed);
     forget_way(cluster, shut, leaf, changed_on(placed.role, p));
+    forget_guests(cluster, shut, leaf, begins(placed.role));
     cluster.inventory().placed(p, number)
 }
 
@@ -163,6 +187,7 @@ pub fn ask(cluster: &mut Cluster, shut: &mut Shut, app: u32, ask: Ask) -> Result
     let p = ask.partition;
     cluster.ask(app, ask)?;
     forget_way(cluster, shut, leaf, Some(p));
+    forget_guests(cluster, shut, leaf, p == 0);
     Ok(())
 }
 

@@ -1,33 +1,18 @@
-use Rattle.std.proofs.Common.{◌+◌, sym, subst, ◌∙◌}
-use Rattle.ynl_descent.specs.Turns.{HaveNone, better}
-use Rattle.ynl_descent.proofs.Turns.{Holds, IsBest, places-best, places-last, looked-at, none-more}
+use Rattle.std.proofs.Common.{◌+◌, sym, subst}
+use Rattle.ynl_descent.specs.Turns.{better_of}
+use Rattle.ynl_descent.proofs.Turns.{Holds, looked-over, places-best, places-last, places-looked}
 use Rattle.ynl_descent.proofs.descent.next_child.Goals as goal
-use Rattle.ynl_descent.proofs.descent.next_child.Goals.{then-is_open, else-is_open}
 
 pub loop-place-preserved : goal.loop-place-preserved
 loop-place-preserved g c =
     let b = g.T.Tree.branch c.args.tree.now c.args.queue.now in
     let last = c.args.last in
     let held = c.loop-place.best in
-    let place = c.loop-place.place in
     let at = c.loop-place.invariant in
-    elim c.if-is_open.branch [
-      | then-is_open w ↦
-          let s = w.standing.result in
-          let right = w.standing.ensures.standing in
-          let now : Holds b (place + 1) last (better b last held s) =
-          looked-at b place last held s at.best at.none right w.standing.ensures.place in
-          let e =
-          w.best-is
-          ∙ w.better-best.ensures b c.children-place-end.ensures.order (places-last b last c.requires.last) (places-best b last held at.best) right.there in
-          record {
-            best = subst (IsBest b last) (sym e) now.best;
-            none = subst (HaveNone b (place + 1) last) (sym e) now.none;
-          }
-      | else-is_open w ↦
-          record {
-            best = subst (IsBest b last) (sym w.best-is) at.best;
-            none = subst (HaveNone b (place + 1) last) (sym w.best-is)
-                (none-more b place last held at.none (λ left soon. c.is_open.ensures w.if-is_open.false));
-          }
-    ]
+    let look = c.look in
+    let now : Holds b (c.loop-place.place + 1) last (better_of b last held look.result) =
+    looked-over b c.loop-place.place last held look.result at.best at.none look.ensures.place look.ensures.standing look.ensures.none in
+    let is : Holds b (c.loop-place.place + 1) last c.better_of-best.result =
+    subst (Holds b (c.loop-place.place + 1) last)
+    (sym (c.better_of-best.ensures b c.children-place-end.ensures.order (places-last b last c.requires.last) (places-best b last held at.best) (places-looked b look.result look.ensures.standing))) now in
+    record { best = is.best; none = is.none }

@@ -33,7 +33,7 @@ returns-clause-choice c = λ row at.
     let h = c.inventory-inventory.ensures in
     guest-choice w own.ensures.sound c.args.node row at h.configured c.takes_guests.result
     (read-there w c.args.node c.inventory-inventory.result.now h.value (node_row c.node.result.now) c.node.ensures c.takes_guests.result c.takes_guests.ensures row at)
-    own.result (sym c.is_some.ensures ∙ c.if-is_some.false) (own.ensures.first row at) c.if-not-takes_guests.false c.first_guest_on.result (c.first_guest_on.ensures row at)
+    own.result (sym c.is_some.ensures ∙ c.if-is_some.false) (own.ensures.first row at) c.if-not-takes_guests.false c.first_guest_on.result (c.first_guest_on.ensures.first row at)
 
 pub returns-clause-placed : goal.returns-clause-placed
 returns-clause-placed c =
@@ -43,4 +43,4 @@ returns-clause-placed c =
     let live = live-found c.args.node w.rows.nodes c.requires.node in
     guest-may w own.ensures.sound c.args.node live.0 live.1 h.configured c.takes_guests.result
     (read-there w c.args.node c.inventory-inventory.result.now h.value (node_row c.node.result.now) c.node.ensures c.takes_guests.result c.takes_guests.ensures live.0 live.1)
-    own.result (sym c.is_some.ensures ∙ c.if-is_some.false) (own.ensures.first live.0 live.1) c.if-not-takes_guests.false c.first_guest_on.result (c.first_guest_on.ensures live.0 live.1)
+    own.result (sym c.is_some.ensures ∙ c.if-is_some.false) (own.ensures.first live.0 live.1) c.if-not-takes_guests.false c.first_guest_on.result (c.first_guest_on.ensures.first live.0 live.1)

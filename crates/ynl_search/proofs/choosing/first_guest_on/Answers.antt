@@ -1,15 +1,17 @@
 use Rattle.std.proofs.Common.{◌≡◌, List, ◌∷◌, length, ap, sym, subst, ◌∙◌, arith}
-use Rattle.std.specs.Prelude.{option_map}
+use Rattle.std.specs.Prelude.{IfSome, option_map}
 use Rattle.ynl_resource.specs.Names.{is_within, root}
 use Rattle.ynl_resource.specs.declared.paths.Path.{Path}
 use Rattle.ynl_model.specs.declared.nodes.Node.{Node}
-use Rattle.ynl_descent.specs.Scenes.{IsFirstBelow}
+use Rattle.ynl_descent.specs.Scenes.{HasNone, IsFirstBelow}
 use Rattle.ynl_inventory.specs.Parts.{Held, free_of}
 use Rattle.ynl_inventory.proofs.Lookups.{live-found}
-use Rattle.ynl_cluster.specs.Cluster.{path_of}
+use Rattle.ynl_cluster.specs.Cluster.{path_of, state_in}
+use Rattle.ynl_shut.specs.Shut.{IsGuestShut}
 use Rattle.ynl_search.specs.declared.place.Place.{Place}
 use Rattle.ynl_search.specs.Laws.{item_asked}
 use Rattle.ynl_search.specs.Scenes.{IsGuestQueue, guest_scene, node_at}
+use Rattle.ynl_search.proofs.GuestShut.{covered-guests, guestless-none}
 use Rattle.ynl_search.proofs.NodeIs.{few-pass, free-at, row-is}
 use Rattle.ynl_search.proofs.choosing.first_guest_on.Goals as goal
 
@@ -17,7 +19,7 @@ pub descend-requires-clause-queue : goal.descend-requires-clause-queue
 descend-requires-clause-queue c =
     let w = c.args.cluster.now in
     let h = c.inventory-inventory.ensures in
-    let live = live-found c.args.node w.rows.nodes c.requires in
+    let live = live-found c.args.node w.rows.nodes c.requires.node in
     subst (λ (place : Place). IsGuestQueue w c.args.node c.free-room.result place c.reach-root.result.children.now) (sym c.reach-root.ensures.place)
     (record {
       reached = c.reach-root.ensures.reached;
@@ -32,9 +34,20 @@ descend-requires-clause-height c =
     let many : c.len.result ≡ length (root ∷ w.rows.paths) = c.len.ensures.value ∙ ap (λ (paths : List Path). length (root ∷ paths)) (c.layout.ensures ∙ ap (λ (h : Held). h.rows.paths) c.inventory-inventory.ensures.value) in
     omega (arith, few, many)
 
-pub returns : goal.returns
-returns c = λ row at.
+pub returns-clause-first : goal.returns-clause-first
+returns-clause-first c = λ row at.
     let w = c.args.cluster.now in
     subst (λ (node : Node). IsFirstBelow (guest_scene w node) root (option_map (item_asked w.rows 0) c.descend.result)) (row-is w c.inventory-inventory.ensures.sound c.args.node row at)
     (subst (λ q. IsFirstBelow (guest_scene w (node_at w c.args.node)) (path_of w q) (option_map (item_asked w.rows 0) c.descend.result))
     (ap (λ (place : Place). place.queue) c.reach-root.ensures.place ∙ c.root_at-place.ensures.queue) c.descend.ensures.found)
+
+pub returns-then-covers-clause-first : goal.returns-then-covers-clause-first
+returns-then-covers-clause-first c = λ row at.
+    let w = c.args.cluster.now in
+    let h = c.inventory-inventory.ensures in
+    let room = c.free-room.result in
+    let is = free-at w h.sound c.args.node row at room (c.free-room.ensures ∙ ap (λ (h : Held). free_of h.rows c.args.node) h.value) in
+    let shut : IfSome c.guest_room.result (IsGuestShut (state_in w) root) =
+    subst (λ o. IfSome o (IsGuestShut (state_in w) root)) (sym c.guest_room.ensures) (c.requires.shut.guests 0 (omega arith)) in
+    subst (λ (node : Node). HasNone (guest_scene w node) root) (row-is w h.sound c.args.node row at)
+    (guestless-none w (node_at w c.args.node) room is root (covered-guests (state_in w) root c.guest_room.result room shut (sym c.covers.ensures ∙ c.if-covers.true)))

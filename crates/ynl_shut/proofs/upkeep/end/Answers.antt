@@ -6,6 +6,7 @@ use Rattle.std.proofs.lemmas.Option.{same_Some}
 use Rattle.ynl_container_table.specs.declared.container.Container.{Container}
 use Rattle.ynl_inventory.specs.Sound.{IsSound}
 use Rattle.ynl_ledger.proofs.Calls.{stands-there}
+use Rattle.ynl_shut.proofs.GuestKeeping.{end-guests, kept-guests}
 use Rattle.ynl_shut.proofs.Keeping.{end-right, leaf-there}
 use Rattle.ynl_shut.proofs.upkeep.end.Goals as goal
 
@@ -20,12 +21,23 @@ forget_way-requires c =
     (ap (λ (w : ClusterView). w.rows.paths) c.end-ended.ensures.rows)
 
 pub returns-clause-shut : goal.returns-clause-shut
-returns-clause-shut c =
+returns-clause-shut c = λ shut.
+    let w = c.args.cluster.now in
+    let u = c.end-ended.new.self in
+    let sound = c.inventory-inventory.ensures.sound in
+    let row = app_row c.app-app.result.now in
+    let config = ap (λ (w : ClusterView). w.config) c.end-ended.ensures.rows in
     let held : c.container-held.result ≡ c.end-ended.result = same_Some c.container-held.result c.end-ended.result
     (sym (subst (λ (h : Held). held_at h.rows c.args.p c.args.number ≡ Some c.container-held.result) c.inventory-inventory.ensures.value c.container-held.ensures) ∙ c.end-ended.ensures.value) in
-    end-right c.args.cluster.now c.end-ended.new.self c.inventory-inventory.ensures.sound c.forget_way.ensures.sound c.requires.working c.inventory-inventory.ensures.configured c.forget_way.ensures.configured
-    (ap (λ (w : ClusterView). w.config) c.end-ended.ensures.rows) c.args.shut.now c.forget_way.new.shut
-    c.args.p c.args.number c.end-ended.result (app_row c.app-app.result.now) c.end-ended.ensures.value
-    (subst (λ (x : Container). lookup (nat_eq x.app) c.args.cluster.now.rows.apps ≡ Some (app_row c.app-app.result.now)) held
-    (subst (λ (h : Held). lookup (nat_eq c.container-held.result.app) h.rows.apps ≡ Some (app_row c.app-app.result.now)) c.inventory-inventory.ensures.value c.app-app.ensures))
-    c.end-ended.ensures.state c.changed_on.result c.changed_on.ensures c.forget_way.ensures.forgotten
+    let found : lookup (nat_eq c.end-ended.result.app) w.rows.apps ≡ Some (app_row c.app-app.result.now) =
+    subst (λ (x : Container). lookup (nat_eq x.app) w.rows.apps ≡ Some (app_row c.app-app.result.now)) held
+    (subst (λ (h : Held). lookup (nat_eq c.container-held.result.app) h.rows.apps ≡ Some (app_row c.app-app.result.now)) c.inventory-inventory.ensures.value c.app-app.ensures) in
+    record {
+      own =
+          end-right w u sound c.forget_way.ensures.sound c.requires.working c.inventory-inventory.ensures.configured c.forget_way.ensures.configured config c.args.shut.now.own c.forget_way.new.shut.own
+          c.args.p c.args.number c.end-ended.result row c.end-ended.ensures.value found c.end-ended.ensures.state c.changed_on.result c.changed_on.ensures c.forget_way.ensures.forgotten shut.own;
+      guests =
+          end-guests w u sound c.forget_way.ensures.sound c.requires.working c.inventory-inventory.ensures.configured c.forget_way.ensures.configured config c.args.shut.now.guests c.forget_way.new.shut.guests
+          c.args.p c.args.number c.end-ended.result row c.end-ended.ensures.value found c.end-ended.ensures.state
+          (kept-guests u row.leaf c.args.shut.now.guests c.forget_way.new.shut.guests c.forget_way.ensures.guests) shut.guests;
+    }

@@ -7,12 +7,22 @@ use Rattle.std.specs.Prelude.{IfSome, IsSome}
 use Rattle.std.specs.Option.{option_map_or}
 use Rattle.ynl_inventory.specs.Changes.{partition_of_node}
 use Rattle.ynl_inventory.specs.Meaning.{label_at, placed_of}
+use Rattle.ynl_shut.specs.Notes.{Row}
+use Rattle.ynl_shut.specs.Shut.{AreOwnShut}
+use Rattle.ynl_shut.specs.Upkeep.{AreGuestsForgotten}
+use Rattle.ynl_shut.proofs.GuestKeeping.{place-guests}
 use Rattle.ynl_shut.proofs.Keeping.{leaf-there, place-right}
 use Rattle.ynl_shut.proofs.Told.{there, told-in}
 use Rattle.ynl_shut.proofs.upkeep.place.Goals as goal
 
 pub forget_way-requires : goal.forget_way-requires
 forget_way-requires c =
+    leaf-there c.args.cluster.now c.place-number.new.self c.inventory-inventory.ensures.sound c.args.placed.now.app (app_row c.app-app.result.now)
+    (subst (λ (h : Held). lookup (nat_eq c.args.placed.now.app) h.rows.apps ≡ Some (app_row c.app-app.result.now)) c.inventory-inventory.ensures.value c.app-app.ensures)
+    (ap (λ (w : ClusterView). w.rows.paths) c.place-number.ensures.rows)
+
+pub forget_guests-requires : goal.forget_guests-requires
+forget_guests-requires c =
     leaf-there c.args.cluster.now c.place-number.new.self c.inventory-inventory.ensures.sound c.args.placed.now.app (app_row c.app-app.result.now)
     (subst (λ (h : Held). lookup (nat_eq c.args.placed.now.app) h.rows.apps ≡ Some (app_row c.app-app.result.now)) c.inventory-inventory.ensures.value c.app-app.ensures)
     (ap (λ (w : ClusterView). w.rows.paths) c.place-number.ensures.rows)
@@ -36,10 +46,25 @@ returns-clause-told c can =
     c.inventory.ensures.value c.placed.ensures)
 
 pub returns-clause-shut : goal.returns-clause-shut
-returns-clause-shut c =
-    place-right c.args.cluster.now c.place-number.new.self c.inventory-inventory.ensures.sound c.forget_way.ensures.sound c.requires.working c.inventory-inventory.ensures.configured c.forget_way.ensures.configured
-    (ap (λ (w : ClusterView). w.config) c.place-number.ensures.rows) c.args.shut.now c.forget_way.new.shut
-    c.args.placed.now.node c.args.placed.now.app c.args.placed.now.role c.args.placed.now.size c.requires.can.placeable (c.place-number.ensures.state c.requires.can.placeable)
-    (app_row c.app-app.result.now) (subst (λ (h : Held). lookup (nat_eq c.args.placed.now.app) h.rows.apps ≡ Some (app_row c.app-app.result.now)) c.inventory-inventory.ensures.value c.app-app.ensures)
-    (node_row c.node-node.result.now) (subst (λ (h : Held). lookup (nat_eq c.args.placed.now.node) h.rows.nodes ≡ Some (node_row c.node-node.result.now)) c.inventory-inventory.ensures.value c.node-node.ensures)
-    c.changed_on.result c.changed_on.ensures c.forget_way.ensures.forgotten
+returns-clause-shut c = λ shut.
+    let w = c.args.cluster.now in
+    let u = c.place-number.new.self in
+    let placed = c.args.placed.now in
+    let sound = c.inventory-inventory.ensures.sound in
+    let can = c.requires.can.placeable in
+    let row = app_row c.app-app.result.now in
+    let config = ap (λ (w : ClusterView). w.config) c.place-number.ensures.rows in
+    let found : lookup (nat_eq placed.app) w.rows.apps ≡ Some (app_row c.app-app.result.now) =
+    subst (λ (h : Held). lookup (nat_eq placed.app) h.rows.apps ≡ Some (app_row c.app-app.result.now)) c.inventory-inventory.ensures.value c.app-app.ensures in
+    record {
+      own =
+          subst (AreOwnShut u) (sym c.forget_guests.ensures.own)
+          (place-right w u sound c.forget_way.ensures.sound c.requires.working c.inventory-inventory.ensures.configured c.forget_way.ensures.configured config c.args.shut.now.own c.forget_way.new.shut.own
+          placed.node placed.app placed.role placed.size can (c.place-number.ensures.state can) row found
+          (node_row c.node-node.result.now) (subst (λ (h : Held). lookup (nat_eq placed.node) h.rows.nodes ≡ Some (node_row c.node-node.result.now)) c.inventory-inventory.ensures.value c.node-node.ensures)
+          c.changed_on.result c.changed_on.ensures c.forget_way.ensures.forgotten shut.own);
+      guests =
+          place-guests w u sound c.forget_way.ensures.sound c.requires.working c.inventory-inventory.ensures.configured c.forget_way.ensures.configured config c.args.shut.now.guests c.forget_guests.new.shut.guests
+          placed.node placed.app placed.role placed.size can (c.place-number.ensures.state can) row found c.begins.result c.begins.ensures
+          (subst (λ (g : Row). AreGuestsForgotten u row.leaf c.begins.result g c.forget_guests.new.shut.guests) c.forget_way.ensures.guests c.forget_guests.ensures.guests) shut.guests;
+    }

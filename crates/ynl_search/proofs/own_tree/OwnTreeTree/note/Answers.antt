@@ -5,12 +5,18 @@ use Rattle.ynl_search.proofs.NodeIs.{label-is}
 use Rattle.ynl_search.proofs.ShutBelow.{none-is-shut, noted-shut}
 use Rattle.ynl_search.proofs.own_tree.OwnTreeTree.note.Goals as goal
 
-pub returns-then-place : goal.returns-then-place
-returns-then-place c =
+pub room_to_note-room-requires-clause-amounts : goal.room_to_note-room-requires-clause-amounts
+room_to_note-room-requires-clause-amounts c =
+    let way = c.requires.queue.way in
+    record { guaranteed = way.guaranteed; most = way.most }
+
+pub returns : goal.returns
+returns c =
     let t = c.args.self.now in
     let w = t.cluster.now in
     let place = c.args.queue.now.place in
     let is = c.requires.queue in
-    noted-shut w t.partition place.queue place.headroom.room c.args.notes.now c.note.new.self c.requires.notes c.note.ensures
+    noted-shut w t.partition place.queue c.room_to_note-room.result c.args.notes.now c.note.new.self c.requires.notes c.note.ensures.own c.note.ensures.guests
+    (c.room_to_note-room.ensures
     (none-is-shut w t.partition (node_at w t.node) (label-is w t.node t.partition t.room is.node) place
-    (subst (λ (room : Resource). IsPlaceOf w t.partition room place) is.node.free_is is.way) c.if-place.true c.requires.none)
+    (subst (λ (room : Resource). IsPlaceOf w t.partition room place) is.node.free_is is.way) c.if-not-place.false c.requires.none))

@@ -1,0 +1,144 @@
+//! The look at a queue before a search goes down there.
+
+ghost use Rattle.std.specs.Prelude.{◌≡◌, ◌<◌, IfNone, IfSome, IsTrue, false, length, slice_index_or};
+ghost use Rattle.ynl_resource.specs.Amounts.{fits_in};
+ghost use Rattle.ynl_resource.specs.declared.amounts.Resource.{Resource as Amount};
+ghost use Rattle.ynl_model.specs.Cluster.{maximum};
+ghost use Rattle.ynl_model.specs.Service.{Item, items_for};
+ghost use Rattle.ynl_laws.specs.Descent.{IsBelow};
+ghost use Rattle.ynl_inventory.specs.Sound.{HasPartition};
+ghost use Rattle.ynl_cluster.specs.Cluster.{label_of, path_of, state_in, IsCell as IsThere};
+ghost use Rattle.ynl_shut.specs.Shut.{AreShut};
+ghost use Rattle.ynl_search.specs.Places.{IsSmallPlace, any_room};
+ghost use Rattle.ynl_search.specs.Scenes.{HasAmountsIn, IsPlaceOf, IsReached};
+ghost use Rattle.ynl_search.specs.Shut.{HasNoneIn, IsClosedIn, IsShutIn, covers};
+
+use crate::leaves::lane_of;
+use crate::place::{ANY, Place};
+use crate::queues::{child_in, reach};
+use crate::reached::Reached;
+use ynl_cluster::Cluster;
+use ynl_lane::Kind;
+use ynl_resource::Resource;
+use ynl_shut::Shut;
+
+/// Whether a room that is noted of a queue covers another: what fits in the other fits in it.
+pub(crate) fn covers(noted: Option<Resource>, room: &Resource) -> bool
+    ensures { result ≡ covers noted room.now }
+{
+    match noted {
+        Some(noted) => room.fits_in(noted),
+        None => false,
+    }
+}
+
+/// Whether a queue below root is a leaf in which nothing that waits fits in a room.
+fn has_too_large(cluster: &Cluster, p: u8, place: &Place) -> bool
+    requires small { IsSmallPlace place.now }
+    requires below_root { 0 < place.now.queue }
+    requires there { IsThere cluster.now p place.now.queue }
+    ensures { IsTrue result → (item : Item)
+        → IsBelow (items_for (state_in cluster.now) (label_of cluster.now p))
+        (path_of cluster.now place.now.queue) item
+        → fits_in item.size place.now.headroom.room ≡ false }
+{
+    if reach(cluster, *place).children.len() > 0 {
+        return false;
+    }
+    let lane = lane_of(cluster, p, place.queue);
+    let room = &place.headroom.room;
+    !lane.least(Kind::Ask).fits(room) && !lane.least(Kind::Master).fits(room)
+}
+
+/// Whether nothing below a queue may be placed for which there is headroom: by what is noted of the queue, or by what
+/// waits in it if it is a leaf.
+fn has_none(cluster: &Cluster, noted: Option<Resource>, p: u8, place: &Place) -> bool
+    requires small { IsSmallPlace place.now }
+    requires below_root { 0 < place.now.queue }
+    requires there { IsThere cluster.now p place.now.queue }
+    requires noted { IfSome noted (IsShutIn cluster.now p place.now.queue) }
+    ensures { IsTrue result
+        → HasNoneIn cluster.now p place.now.headroom place.now.queue }
+{
+    if !place.headroom.is_open {
+        return true;
+    }
+    if covers(noted, &place.headroom.room) {
+        return true;
+    }
+    has_too_large(cluster, p, place)
+}
+
+/// The queue in a place just below one, or nothing where nothing below it may be placed for which there is headroom. What
+/// is noted of it may say so before anything is worked out.
+pub(crate) fn open_child(
+    cluster: &Cluster,
+    notes: &Shut,
+    p: u8,
+    queue: &Reached<'_>,
+    at: usize,
+) -> Option<Place>
+    requires partition { HasPartition cluster.now.rows p }
+    requires notes { AreShut cluster.now notes.now }
+    requires reached { IsReached cluster.now queue.now.place queue.now.children.now }
+    requires at { at < length queue.now.children.now }
+    requires most { queue.now.place.most ≡ maximum (state_in cluster.now)
+        (path_of cluster.now queue.now.place.queue) (label_of cluster.now p) }
+    ensures place { IfSome result (λ child. (free : Amount)
+        → IsPlaceOf cluster.now p free queue.now.place → IsPlaceOf cluster.now p free child) }
+    ensures queue { IfSome result
+        (λ child. child.queue ≡ slice_index_or queue.now.children.now at 0) }
+    ensures there { IfSome result (λ child. IsThere cluster.now p child.queue) }
+    ensures none { IfNone result (IsClosedIn cluster.now p queue.now.place.headroom
+        (slice_index_or queue.now.children.now at 0)) }
+{
+    let noted = notes.room(p, queue.children[at]);
+    if covers(noted, &queue.place.headroom.room) {
+        return None;
+    }
+    let child = child_in(cluster, p, queue, at);
+    if has_none(cluster, noted, p, &child) {
+        return None;
+    }
+    Some(child)
+}
+
+/// Whether nothing below a queue that has others below it may be placed in any room: each of those just below it shows so
+/// at once.
+fn is_shut_in_any_room(cluster: &Cluster, notes: &Shut, p: u8, queue: &Reached<'_>) -> bool
+    requires partition { HasPartition cluster.now.rows p }
+    requires notes { AreShut cluster.now notes.now }
+    requires reached { IsReached cluster.now queue.now.place queue.now.children.now }
+    requires amounts { HasAmountsIn cluster.now p queue.now.place }
+    ensures { IsTrue result → IsShutIn cluster.now p queue.now.place.queue any_room }
+{
+    if queue.children.len() == 0 {
+        return false;
+    }
+    let any = Reached {
+        place: queue.place.in_any_room(),
+        children: queue.children,
+    };
+    for at in 0..queue.children.len() {
+        if open_child(cluster, notes, p, &any, at).is_some() {
+            return false;
+        }
+    }
+    true
+}
+
+/// The room that is noted of a queue which is shut in its own: any, if it is shut in any.
+pub(crate) fn room_to_note(cluster: &Cluster, notes: &Shut, p: u8, queue: &Reached<'_>) -> Resource
+    requires partition { HasPartition cluster.now.rows p }
+    requires notes { AreShut cluster.now notes.now }
+    requires reached { IsReached cluster.now queue.now.place queue.now.children.now }
+    requires amounts { HasAmountsIn cluster.now p queue.now.place }
+    ensures { IsShutIn cluster.now p queue.now.place.queue queue.now.place.headroom.room
+        → IsShutIn cluster.now p queue.now.place.queue result }
+{
+    if is_shut_in_any_room(cluster, notes, p, queue) {
+        ANY
+    } else {
+        queue.place.headroom.room
+    }
+}
