@@ -1,11 +1,11 @@
 mod Accessing
-mod Along
 mod Beaten
 mod Beats
+mod Checked
 mod Going
 mod Limiting
 mod Nexts
-mod Proposed
+mod Proposals
 mod Reasons
 mod Requested
 mod Wanted

@@ -1,2 +1,3 @@
 pub mod Serving
 pub mod Checking
+pub mod Proposals

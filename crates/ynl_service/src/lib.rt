@@ -2,9 +2,12 @@
 #![tactic(auto)]
 
 pub use checking::check;
+pub use limits::{place_of, used_by};
+pub use proposing::proposed;
 pub use serving::serve;
 
 mod access;
 mod checking;
 mod limits;
+mod proposing;
 mod serving;

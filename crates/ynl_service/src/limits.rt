@@ -28,7 +28,7 @@ use ynl_search::{LeafTests, Place, child_at, lane_of, root_at, tests_of, ticket_
 
 /// The place of a queue on a partition where so much is free: the queues on the way to it are gone
 /// through from root.
-fn place_of(cluster: &Cluster, p: u8, queue: usize, room: Resource) -> Place
+pub fn place_of(cluster: &Cluster, p: u8, queue: usize, room: Resource) -> Place
     requires partition { HasPartition cluster.now.rows p }
     requires there { HasNumber cluster.now.rows.paths queue }
     ensures place { IsPlaceOf cluster.now p room result }
@@ -45,7 +45,7 @@ fn place_of(cluster: &Cluster, p: u8, queue: usize, room: Resource) -> Place
 }
 
 /// What the user of an application uses of its leaf's part of a partition that it shares.
-fn used_by(cluster: &Cluster, p: u8, app: u32) -> Resource
+pub fn used_by(cluster: &Cluster, p: u8, app: u32) -> Resource
     requires live { IsLive app cluster.now.rows.apps }
     requires partition { HasPartition cluster.now.rows p }
     requires shares { IfSome (lookup (nat_eq app) cluster.now.rows.apps)

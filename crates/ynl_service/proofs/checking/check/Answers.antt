@@ -2,7 +2,7 @@
 use Rattle.std.proofs.Common.{is_some, rules, sym, ap, ◌∙◌}
 use Rattle.ynl_inventory.specs.Parts.{node_row}
 use Rattle.ynl_cluster.specs.Cluster.{state_in}
-use Rattle.ynl_service.proofs.Proposed.{told-closed, told-first, told-no-application, told-placeable, told-proposed, told-stale, told-unwanted}
+use Rattle.ynl_service.proofs.Checked.{told-closed, told-first, told-no-application, told-placeable, told-proposed, told-stale, told-unwanted}
 use Rattle.ynl_service.proofs.Reasons.{nothing-placed}
 use Rattle.ynl_service.proofs.checking.check.Goals as goal
 

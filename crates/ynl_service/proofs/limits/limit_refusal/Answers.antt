@@ -15,11 +15,6 @@ pub place_of-place-requires-clause-there : goal.place_of-place-requires-clause-t
 place_of-place-requires-clause-there c =
     (leaf-is c.args.cluster.now c.inventory.ensures.sound c.args.placed.now.app (app_row c.app-row.result.now) (rw c.inventory.ensures.value at c.app-row.ensures)).there
 
-pub tests_of-tests-requires-clause-leaf : goal.tests_of-tests-requires-clause-leaf
-tests_of-tests-requires-clause-leaf c =
-    subst (IsLeaf c.args.cluster.now.rows) (sym c.place_of-place.ensures.queue)
-    (leaf-is c.args.cluster.now c.inventory.ensures.sound c.args.placed.now.app (app_row c.app-row.result.now) (rw c.inventory.ensures.value at c.app-row.ensures))
-
 pub tests_of-tests-requires-clause-below_root : goal.tests_of-tests-requires-clause-below_root
 tests_of-tests-requires-clause-below_root c =
     leaf-below c.args.cluster.now c.inventory.ensures.sound c.place_of-place.result.queue
@@ -40,7 +35,7 @@ returns-then-not-allows c =
     let placed = c.args.placed.now in
     let mine = app_row c.app-row.result.now in
     limits-read w c.inventory.ensures.sound placed.app mine (rw c.inventory.ensures.value at c.app-row.ensures) c.args.p c.requires.partition
-    c.args.room c.place_of-place.result c.place_of-place.ensures.queue c.place_of-place.ensures.place c.tests_of-tests.result c.tests_of-tests.ensures placed.role placed.size c.requires.fits
+    c.args.room c.place_of-place.result c.place_of-place.ensures.queue c.place_of-place.ensures.place c.tests_of-tests.result c.tests_of-tests.ensures.tests placed.role placed.size c.requires.fits
     false _ _ (ap (allows c.place_of-place.result.headroom) (sym c.amount-size.ensures.value) ∙ sym c.allows.ensures ∙ c.if-not-allows.true) refl refl
 
 pub returns-then-not-keeps_limit : goal.returns-then-not-keeps_limit
@@ -50,7 +45,7 @@ returns-then-not-keeps_limit c =
     let mine = app_row c.app-row.result.now in
     let found : lookup (nat_eq placed.app) w.rows.apps ≡ Some mine = rw c.inventory.ensures.value at c.app-row.ensures in
     limits-read w c.inventory.ensures.sound placed.app mine found c.args.p c.requires.partition
-    c.args.room c.place_of-place.result c.place_of-place.ensures.queue c.place_of-place.ensures.place c.tests_of-tests.result c.tests_of-tests.ensures placed.role placed.size c.requires.fits
+    c.args.room c.place_of-place.result c.place_of-place.ensures.queue c.place_of-place.ensures.place c.tests_of-tests.result c.tests_of-tests.ensures.tests placed.role placed.size c.requires.fits
     true false _ (ap (allows c.place_of-place.result.headroom) (sym c.amount-size.ensures.value) ∙ sym c.allows.ensures ∙ c.if-not-allows.false)
     (ap (λ (used : Resource). keeps_limit c.tests_of-tests.result used placed.size) (sym (c.used_by-used.ensures.value mine found)) ∙ sym c.keeps_limit.ensures ∙ c.if-not-keeps_limit.true) refl
 
@@ -61,7 +56,7 @@ returns-then-not-keeps_share c =
     let mine = app_row c.app-row.result.now in
     let found : lookup (nat_eq placed.app) w.rows.apps ≡ Some mine = rw c.inventory.ensures.value at c.app-row.ensures in
     limits-read w c.inventory.ensures.sound placed.app mine found c.args.p c.requires.partition
-    c.args.room c.place_of-place.result c.place_of-place.ensures.queue c.place_of-place.ensures.place c.tests_of-tests.result c.tests_of-tests.ensures placed.role placed.size c.requires.fits
+    c.args.room c.place_of-place.result c.place_of-place.ensures.queue c.place_of-place.ensures.place c.tests_of-tests.result c.tests_of-tests.ensures.tests placed.role placed.size c.requires.fits
     true true false (ap (allows c.place_of-place.result.headroom) (sym c.amount-size.ensures.value) ∙ sym c.allows.ensures ∙ c.if-not-allows.false)
     (ap (λ (used : Resource). keeps_limit c.tests_of-tests.result used placed.size) (sym (c.used_by-used.ensures.value mine found)) ∙ sym c.keeps_limit.ensures ∙ c.if-not-keeps_limit.false)
     (sym c.keeps_share.ensures ∙ c.if-not-keeps_share.true)
@@ -73,7 +68,7 @@ returns c =
     let mine = app_row c.app-row.result.now in
     let found : lookup (nat_eq placed.app) w.rows.apps ≡ Some mine = rw c.inventory.ensures.value at c.app-row.ensures in
     limits-read w c.inventory.ensures.sound placed.app mine found c.args.p c.requires.partition
-    c.args.room c.place_of-place.result c.place_of-place.ensures.queue c.place_of-place.ensures.place c.tests_of-tests.result c.tests_of-tests.ensures placed.role placed.size c.requires.fits
+    c.args.room c.place_of-place.result c.place_of-place.ensures.queue c.place_of-place.ensures.place c.tests_of-tests.result c.tests_of-tests.ensures.tests placed.role placed.size c.requires.fits
     true true true (ap (allows c.place_of-place.result.headroom) (sym c.amount-size.ensures.value) ∙ sym c.allows.ensures ∙ c.if-not-allows.false)
     (ap (λ (used : Resource). keeps_limit c.tests_of-tests.result used placed.size) (sym (c.used_by-used.ensures.value mine found)) ∙ sym c.keeps_limit.ensures ∙ c.if-not-keeps_limit.false)
     (sym c.keeps_share.ensures ∙ c.if-not-keeps_share.false)
