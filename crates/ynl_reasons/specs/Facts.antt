@@ -1,15 +1,18 @@
 -- What is read of a cluster.
-use Rattle.std.specs.Prelude.{List, [], ◌∷◌, map, filter, if◌then◌else◌}
+use Rattle.std.specs.Prelude.{◌≡◌, ◌⊎◌, List, [], ◌∷◌, map, filter, Some, if◌then◌else◌}
+use Rattle.std.specs.List.{Contains}
+use Rattle.ynl_resource.specs.declared.names.Name.{Name}
 use Rattle.ynl_resource.specs.declared.labels.Label.{Label}
 use Rattle.ynl_model.specs.declared.proposals.What.{What}
 use Rattle.ynl_model.specs.declared.proposals.What.TheVariants.{Master}
 use Rattle.ynl_model.specs.Queues.{Config}
 use Rattle.ynl_model.specs.Check.{comes_as_guest}
-use Rattle.ynl_model.specs.Applications.{Application}
+use Rattle.ynl_model.specs.Applications.{Application, find_app}
 use Rattle.ynl_model.specs.Events.{pending_on}
 use Rattle.ynl_model.specs.declared.replies.Pending.{Pending}
 use Rattle.ynl_model.specs.Cluster.{State}
-use Rattle.ynl_waits.specs.Grounds.{ground, has_nodes}
+use Rattle.ynl_waits.specs.Grounds.{IsSpot, ground, has_nodes}
+use Rattle.ynl_waits.specs.declared.grounds.Spot.{Spot}
 use Rattle.ynl_waits.specs.declared.grounds.Ground.{Ground}
 use Rattle.ynl_waits.specs.declared.waits.Applicant.{Applicant}
 use Rattle.ynl_waits.specs.declared.waits.Request.{Request}
@@ -40,3 +43,29 @@ ask_wait c s app label ask = wait c s app (ask_request label ask)
 -- all that an application asks for under a label, with their reasons
 abbrev pub asks_waiting : Config → State → Applicant → Application → Label → List Wait
 asks_waiting c s app live label = map (ask_wait c s app label) (pending_on label live)
+
+-- an application that is live has its home on a partition, or asks there
+pub record IsAsking (s : State) (app : Applicant) (label : Label) : Type 0 where
+  pub tenant : Name
+  pub name : Name
+  pub live : Application
+  pub found : find_app s.leaves tenant name ≡ Some live
+  pub is : app ≡ applicant s live
+  pub asks : (live.home ≡ label) ⊎ Contains (map (λ ask. ask.label) live.asks) label
+
+-- a node of the cluster, with what is free on it
+pub record IsSpotOf (s : State) (spot : Spot) : Type 0 where
+  pub free : IsSpot s spot
+  pub node : Contains s.nodes spot.node
+
+-- a tenant and a name have this live application
+pub record IsApplicant (s : State) (tenant name : Name) (app : Applicant) : Type 0 where
+  pub live : Application
+  pub found : find_app s.leaves tenant name ≡ Some live
+  pub is : app ≡ applicant s live
+
+-- the same, with what is wanted for its master
+pub record IsFound (s : State) (tenant name : Name) (found : Found) : Type 0 where
+  pub live : Application
+  pub named : find_app s.leaves tenant name ≡ Some live
+  pub is : found ≡ found_of s live

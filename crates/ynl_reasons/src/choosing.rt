@@ -4,8 +4,8 @@ ghost use Rattle.std.specs.Prelude.{◌≡◌, IfOk, filter};
 ghost use Rattle.std.specs.List.{AllByRecursion};
 ghost use Rattle.ynl_model.specs.Check.{proposed};
 ghost use Rattle.ynl_waits.specs.Choices.{AreChoices};
-ghost use Rattle.ynl_waits.specs.Grounds.{IsSpot};
 ghost use Rattle.ynl_waits.specs.Waits.{is_chosen_on};
+ghost use Rattle.ynl_reasons.specs.Facts.{IsSpotOf};
 
 use crate::facts::Facts;
 use std::alloc::{AllocError, Global};
@@ -19,7 +19,7 @@ pub(crate) fn choice_on<F: Facts>(
     spot: &Spot,
 ) -> Result<Option<Proposal>, AllocError>
     requires known { AreChoices (F.config facts.now) (F.state facts.now) known.old }
-    requires spot { IsSpot (F.state facts.now) spot.now }
+    requires spot { IsSpotOf (F.state facts.now) spot.now }
     ensures choice { IfOk result (λ choice. choice ≡ proposed (F.config facts.now) (F.state facts.now) spot.now.node) }
     ensures known { AreChoices (F.config facts.now) (F.state facts.now) known.new }
 {
@@ -41,7 +41,7 @@ fn is_chosen_on<F: Facts>(
     spot: &Spot,
 ) -> Result<bool, AllocError>
     requires known { AreChoices (F.config facts.now) (F.state facts.now) known.old }
-    requires spot { IsSpot (F.state facts.now) spot.now }
+    requires spot { IsSpotOf (F.state facts.now) spot.now }
     ensures chosen { IfOk result (λ chosen. chosen ≡ is_chosen_on (F.config facts.now) (F.state facts.now) app.now request.now spot.now) }
     ensures known { AreChoices (F.config facts.now) (F.state facts.now) known.new }
 {
@@ -61,7 +61,7 @@ pub(crate) fn chosen_among<F: Facts>(
     there: &[Spot],
 ) -> Result<Vec<Spot>, AllocError>
     requires known { AreChoices (F.config facts.now) (F.state facts.now) known.old }
-    requires spots { AllByRecursion (IsSpot (F.state facts.now)) there.now }
+    requires spots { AllByRecursion (IsSpotOf (F.state facts.now)) there.now }
     ensures chosen { IfOk result (λ chosen. chosen.items ≡ filter (is_chosen_on (F.config facts.now) (F.state facts.now) app.now request.now) there.now) }
     ensures known { AreChoices (F.config facts.now) (F.state facts.now) known.new }
 {

@@ -8,7 +8,7 @@ ghost use Rattle.ynl_waits.specs.Choices.{AreChoices};
 ghost use Rattle.ynl_waits.specs.Grounds.{all_spots, ground, guest_grounds};
 ghost use Rattle.ynl_waits.specs.Waits.{applicant, explained_of, requests, wait};
 ghost use Rattle.ynl_model.specs.declared.proposals.What.TheVariants.{Ask};
-ghost use Rattle.ynl_reasons.specs.Facts.{ask_wait, asks_waiting, found_of, masters_waiting};
+ghost use Rattle.ynl_reasons.specs.Facts.{ask_wait, asks_waiting, found_of, masters_waiting, IsApplicant, IsAsking, IsFound};
 
 use crate::facts::{Facts, Found};
 use crate::grounds::{ground_of, guests_of};
@@ -29,6 +29,8 @@ fn add_wait<F: Facts>(
     requires known { AreChoices (F.config facts.now) (F.state facts.now) known.old }
     requires own { asked.now.own.now ≡ ground (F.config facts.now) (F.state facts.now) asked.now.request.now.label }
     requires guests { asked.now.guests.now ≡ guest_grounds (F.config facts.now) (F.state facts.now) asked.now.request.now.what }
+    requires asks { IsAsking (F.state facts.now)
+        asked.now.app.now asked.now.request.now.label }
     ensures waits { OnOk result (waits.new.items ≡ waits.old.items ++ wait (F.config facts.now) (F.state facts.now) asked.now.app.now asked.now.request.now ∷ []) }
     ensures known { AreChoices (F.config facts.now) (F.state facts.now) known.new }
 {
@@ -61,6 +63,8 @@ fn add_master<F: Facts>(
 ) -> Result<(), AllocError>
     requires known { AreChoices (F.config facts.now) (F.state facts.now) known.old }
     requires spots { query.now.spots.now ≡ all_spots (F.state facts.now) }
+    requires found { IsFound (F.state facts.now)
+        query.now.tenant.now query.now.name.now found.now }
     ensures waits { OnOk result (waits.new.items ≡ waits.old.items ++ masters_waiting (F.config facts.now) (F.state facts.now) found.now) }
     ensures known { AreChoices (F.config facts.now) (F.state facts.now) known.new }
 {
@@ -105,6 +109,7 @@ fn add_asks<F: Facts>(
     requires known { AreChoices (F.config facts.now) (F.state facts.now) known.old }
     requires own { under.now.own.now ≡ ground (F.config facts.now) (F.state facts.now) under.now.label.now }
     requires guests { under.now.guests.now ≡ guest_grounds (F.config facts.now) (F.state facts.now) (Ask under.now.label.now 0) }
+    requires asks { IsAsking (F.state facts.now) query.now.app.now under.now.label.now }
     ensures waits { OnOk result (waits.new.items ≡ waits.old.items ++ map (ask_wait (F.config facts.now) (F.state facts.now) query.now.app.now under.now.label.now) under.now.asks.now) }
     ensures known { AreChoices (F.config facts.now) (F.state facts.now) known.new }
 {
@@ -136,6 +141,8 @@ fn add_label<F: Facts>(
 ) -> Result<(), AllocError>
     requires known { AreChoices (F.config facts.now) (F.state facts.now) known.old }
     requires spots { query.now.spots.now ≡ all_spots (F.state facts.now) }
+    requires app { IsApplicant (F.state facts.now)
+        query.now.tenant.now query.now.name.now query.now.app.now }
     ensures waits { OnOk result ((live : Application) → find_app (F.state facts.now).leaves query.now.tenant.now query.now.name.now ≡ Some live → waits.new.items ≡ waits.old.items ++ asks_waiting (F.config facts.now) (F.state facts.now) query.now.app.now live label.now) }
     ensures known { AreChoices (F.config facts.now) (F.state facts.now) known.new }
 {
@@ -165,6 +172,8 @@ fn add_labels<F: Facts>(
 ) -> Result<(), AllocError>
     requires known { AreChoices (F.config facts.now) (F.state facts.now) known.old }
     requires spots { query.now.spots.now ≡ all_spots (F.state facts.now) }
+    requires app { IsApplicant (F.state facts.now)
+        query.now.tenant.now query.now.name.now query.now.app.now }
     ensures waits { OnOk result ((live : Application) → find_app (F.state facts.now).leaves query.now.tenant.now query.now.name.now ≡ Some live → waits.new.items ≡ waits.old.items ++ flat_map (asks_waiting (F.config facts.now) (F.state facts.now) query.now.app.now live) labels.now) }
     ensures known { AreChoices (F.config facts.now) (F.state facts.now) known.new }
 {
@@ -182,6 +191,7 @@ fn waits_of<F: Facts>(
     name: &Name,
     found: &Found,
 ) -> Result<Vec<Wait>, AllocError>
+    requires { IsFound (F.state facts.now) tenant.now name.now found.now }
     ensures { IfOk result (λ waits. (live : Application) → find_app (F.state facts.now).leaves tenant.now name.now ≡ Some live → found.now ≡ found_of (F.state facts.now) live → waits.items ≡ map (wait (F.config facts.now) (F.state facts.now) (applicant (F.state facts.now) live)) (requests (F.config facts.now) (F.state facts.now) live)) }
 {
     let mut known = Choices::new(alloc);

@@ -1,6 +1,7 @@
 //! What an explanation reads of a cluster.
 
-ghost use Rattle.std.specs.Prelude.{◌≡◌, IfOk, Some, option_map};
+ghost use Rattle.std.specs.Prelude.{◌≡◌, ◌≤◌, IfOk, Some, length, option_map, take};
+ghost use Rattle.std.specs.List.{Contains};
 ghost use Rattle.ynl_model.specs.Applications.{Application, find_app};
 ghost use Rattle.ynl_model.specs.Check.{proposed};
 ghost use Rattle.ynl_model.specs.Cluster.{State, guaranteed, is_spent, masters_used, maximum, used, user_used};
@@ -10,11 +11,11 @@ ghost use Rattle.ynl_model.specs.Nodes.{partition_labels};
 ghost use Rattle.ynl_model.specs.Queues.{Config};
 ghost use Rattle.ynl_model.specs.Service.{no_master_in, takes_guests};
 ghost use Rattle.ynl_waits.specs.Grounds.{all_spots};
-ghost use Rattle.ynl_reasons.specs.Facts.{found_of};
+ghost use Rattle.ynl_reasons.specs.Facts.{found_of, IsAsking};
 
 use std::alloc::{AllocError, Global};
 use ynl_model::{Node, Pending, Proposal};
-use ynl_resource::{Label, Name, Path, Resource, Size};
+use ynl_resource::{Label, Name, Resource, Size};
 use ynl_waits::{Applicant, Spot};
 
 /// A live application, with what is wanted for its master.
@@ -61,39 +62,52 @@ pub trait Facts {
     fn spots(&self, alloc: Global) -> Result<Vec<Spot>, AllocError>
         ensures { IfOk result (λ spots. spots.items ≡ all_spots (state self.now)) };
 
-    /// The choice on a node, as a proposal.
+    /// The choice on one of the nodes, as a proposal.
     fn choice_on(&self, node: &Node) -> Option<Proposal>
+        requires { Contains (state self.now).nodes node.now }
         ensures { result ≡ proposed (config self.now) (state self.now) node.now };
 
-    /// What a queue uses of a partition.
-    fn used(&self, queue: &[Name], label: &Label) -> Resource
-        ensures { result ≡ used (state self.now) queue.now label.now };
+    /// What a queue on the way to an application's leaf uses of a partition.
+    fn used(&self, app: &Applicant, depth: usize, label: &Label) -> Resource
+        requires asks { IsAsking (state self.now) app.now label.now }
+        requires depth { depth ≤ length app.now.leaf }
+        ensures { result ≡ used (state self.now) (take depth app.now.leaf) label.now };
 
-    /// The most that a queue may use of a partition.
-    fn maximum(&self, queue: &[Name], label: &Label) -> Resource
-        ensures { result ≡ maximum (state self.now) queue.now label.now };
+    /// The most that a queue on the way to an application's leaf may use of a partition.
+    fn maximum(&self, app: &Applicant, depth: usize, label: &Label) -> Resource
+        requires asks { IsAsking (state self.now) app.now label.now }
+        requires depth { depth ≤ length app.now.leaf }
+        ensures { result ≡ maximum (state self.now) (take depth app.now.leaf) label.now };
 
-    /// What a leaf is guaranteed of a partition.
-    fn guaranteed(&self, leaf: &Path, label: &Label) -> Resource
-        ensures { result ≡ guaranteed (config self.now) (state self.now) leaf.now label.now };
+    /// What an application's leaf is guaranteed of a partition.
+    fn guaranteed(&self, app: &Applicant, label: &Label) -> Resource
+        requires { IsAsking (state self.now) app.now label.now }
+        ensures { result ≡ guaranteed (config self.now) (state self.now) app.now.leaf label.now };
 
-    /// What a user uses of a partition in a leaf.
-    fn user_used(&self, leaf: &Path, user: &Name, label: &Label) -> Resource
-        ensures { result ≡ user_used (state self.now) leaf.now user.now label.now };
+    /// What an application's user uses of a partition in its leaf.
+    fn user_used(&self, app: &Applicant, label: &Label) -> Resource
+        requires { IsAsking (state self.now) app.now label.now }
+        ensures { result ≡ user_used (state self.now) app.now.leaf app.now.user label.now };
 
-    /// The user limit of a leaf on a partition, for a request of a size.
-    fn user_limit(&self, leaf: &Path, label: &Label, size: &Size) -> Resource
-        ensures { result ≡ user_limit (config self.now) (state self.now) leaf.now label.now size.now };
+    /// The user limit of an application's leaf on a partition, for a request of a size.
+    fn user_limit(&self, app: &Applicant, label: &Label, size: &Size) -> Resource
+        requires { IsAsking (state self.now) app.now label.now }
+        ensures { result ≡ user_limit (config self.now) (state self.now)
+            app.now.leaf label.now size.now };
 
-    /// What the masters of a leaf use of a partition.
-    fn masters_used(&self, leaf: &Path, label: &Label) -> Resource
-        ensures { result ≡ masters_used (state self.now) leaf.now label.now };
+    /// What the masters of an application's leaf use of a partition.
+    fn masters_used(&self, app: &Applicant, label: &Label) -> Resource
+        requires { IsAsking (state self.now) app.now label.now }
+        ensures { result ≡ masters_used (state self.now) app.now.leaf label.now };
 
-    /// The master limit of a leaf on a partition.
-    fn master_limit(&self, leaf: &Path, label: &Label) -> Resource
-        ensures { result ≡ master_limit (config self.now) (state self.now) leaf.now label.now };
+    /// The master limit of an application's leaf on a partition.
+    fn master_limit(&self, app: &Applicant, label: &Label) -> Resource
+        requires { IsAsking (state self.now) app.now label.now }
+        ensures { result ≡ master_limit (config self.now) (state self.now)
+            app.now.leaf label.now };
 
-    /// Whether no master of a leaf holds a container on a partition.
-    fn has_no_master(&self, leaf: &Path, label: &Label) -> bool
-        ensures { result ≡ no_master_in (state self.now) leaf.now label.now };
+    /// Whether no master of an application's leaf holds a container on a partition.
+    fn has_no_master(&self, app: &Applicant, label: &Label) -> bool
+        requires { IsAsking (state self.now) app.now label.now }
+        ensures { result ≡ no_master_in (state self.now) app.now.leaf label.now };
 }

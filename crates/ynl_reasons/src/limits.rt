@@ -3,27 +3,28 @@
 ghost use Rattle.std.specs.Prelude.{◌≡◌, ◌≤◌, ◌++◌, OnOk, length, take};
 ghost use Rattle.ynl_model.specs.Service.{within_master_share, within_maximum, within_user_limit};
 ghost use Rattle.ynl_waits.specs.Waits.{item, keeps_maximum, limits_told, master_share_told, maximum_of_told, maximum_told, passes, user_limit_told};
+ghost use Rattle.ynl_reasons.specs.Facts.{IsAsking};
 
 use crate::facts::Facts;
 use std::alloc::AllocError;
 use ynl_model::What;
-use ynl_queues::step_at;
 use ynl_waits::{Applicant, Ground, Reason, Request, Step, add, fits_on_top, has_nodes, is_ready};
 
 /// Whether the queue so many steps below root stays within its maximum.
 fn keeps_maximum<F: Facts>(facts: &F, app: &Applicant, request: &Request, depth: usize) -> bool
-    requires { depth ≤ length app.now.leaf }
+    requires asks { IsAsking (F.state facts.now) app.now request.now.label }
+    requires depth { depth ≤ length app.now.leaf }
     ensures { result ≡ keeps_maximum (F.state facts.now) request.now (take depth app.now.leaf) }
 {
-    let queue = step_at(app.leaf.names(), depth);
-    let used = facts.used(queue, &request.label);
-    let maximum = facts.maximum(queue, &request.label);
+    let used = facts.used(app, depth, &request.label);
+    let maximum = facts.maximum(app, depth, &request.label);
     fits_on_top(&used, &request.size.amount(), &maximum)
 }
 
 /// Whether each queue from root to the leaf does.
 #[tactic(auto, unfolding(ynl_model::specs::Service::within_maximum))]
 fn within_maxima<F: Facts>(facts: &F, app: &Applicant, request: &Request) -> bool
+    requires { IsAsking (F.state facts.now) app.now request.now.label }
     ensures { result ≡ within_maximum (F.state facts.now) request.now.label (item app.now request.now) }
 {
     let mut within = keeps_maximum(facts, app, request, 0);
@@ -41,19 +42,19 @@ fn add_maximum<F: Facts>(
     depth: usize,
     told: &mut Vec<Reason>,
 ) -> Result<(), AllocError>
-    requires { depth ≤ length app.now.leaf }
+    requires asks { IsAsking (F.state facts.now) app.now request.now.label }
+    requires depth { depth ≤ length app.now.leaf }
     ensures { OnOk result (told.new.items ≡ told.old.items ++ maximum_of_told (F.state facts.now) app.now request.now (take depth app.now.leaf)) }
 {
     if keeps_maximum(facts, app, request, depth) {
         return Ok(());
     }
-    let queue = step_at(app.leaf.names(), depth);
     let step = Step {
         leaf: app.leaf,
         depth,
     };
-    let used = facts.used(queue, &request.label);
-    let maximum = facts.maximum(queue, &request.label);
+    let used = facts.used(app, depth, &request.label);
+    let maximum = facts.maximum(app, depth, &request.label);
     add(
         told,
         Reason::Maximum {
@@ -72,6 +73,7 @@ fn add_maxima<F: Facts>(
     request: &Request,
     told: &mut Vec<Reason>,
 ) -> Result<(), AllocError>
+    requires { IsAsking (F.state facts.now) app.now request.now.label }
     ensures { OnOk result (told.new.items ≡ told.old.items ++ maximum_told (F.state facts.now) app.now request.now) }
 {
     add_maximum(facts, app, request, 0, told)?;
@@ -83,10 +85,11 @@ fn add_maxima<F: Facts>(
 
 #[tactic(auto, unfolding(ynl_model::specs::Service::within_user_limit))]
 fn keeps_user_limit<F: Facts>(facts: &F, app: &Applicant, request: &Request) -> bool
+    requires { IsAsking (F.state facts.now) app.now request.now.label }
     ensures { result ≡ within_user_limit (F.config facts.now) (F.state facts.now) request.now.label (item app.now request.now) }
 {
-    let used = facts.user_used(&app.leaf, &app.user, &request.label);
-    let limit = facts.user_limit(&app.leaf, &request.label, &request.size);
+    let used = facts.user_used(app, &request.label);
+    let limit = facts.user_limit(app, &request.label, &request.size);
     fits_on_top(&used, &request.size.amount(), &limit)
 }
 
@@ -97,14 +100,15 @@ fn add_user_limit<F: Facts>(
     request: &Request,
     told: &mut Vec<Reason>,
 ) -> Result<(), AllocError>
+    requires { IsAsking (F.state facts.now) app.now request.now.label }
     ensures { OnOk result (told.new.items ≡ told.old.items ++ user_limit_told (F.config facts.now) (F.state facts.now) app.now request.now) }
 {
     if keeps_user_limit(facts, app, request) {
         return Ok(());
     }
-    let used = facts.user_used(&app.leaf, &app.user, &request.label);
-    let limit = facts.user_limit(&app.leaf, &request.label, &request.size);
-    let guaranteed = facts.guaranteed(&app.leaf, &request.label);
+    let used = facts.user_used(app, &request.label);
+    let limit = facts.user_limit(app, &request.label, &request.size);
+    let guaranteed = facts.guaranteed(app, &request.label);
     add(
         told,
         Reason::UserLimit {
@@ -118,14 +122,15 @@ fn add_user_limit<F: Facts>(
 
 #[tactic(auto, unfolding(ynl_model::specs::Service::within_master_share))]
 fn keeps_master_share<F: Facts>(facts: &F, app: &Applicant, request: &Request) -> bool
+    requires { IsAsking (F.state facts.now) app.now request.now.label }
     ensures { result ≡ within_master_share (F.config facts.now) (F.state facts.now) request.now.label app.now.leaf request.now.what request.now.size }
 {
     match &request.what {
         What::Master => {
-            let used = facts.masters_used(&app.leaf, &request.label);
-            let limit = facts.master_limit(&app.leaf, &request.label);
+            let used = facts.masters_used(app, &request.label);
+            let limit = facts.master_limit(app, &request.label);
             fits_on_top(&used, &request.size.amount(), &limit)
-                || facts.has_no_master(&app.leaf, &request.label)
+                || facts.has_no_master(app, &request.label)
         }
         What::Ask(_, _) => true,
     }
@@ -138,19 +143,21 @@ fn add_master_share<F: Facts>(
     request: &Request,
     told: &mut Vec<Reason>,
 ) -> Result<(), AllocError>
+    requires { IsAsking (F.state facts.now) app.now request.now.label }
     ensures { OnOk result (told.new.items ≡ told.old.items ++ master_share_told (F.config facts.now) (F.state facts.now) app.now request.now) }
 {
     if keeps_master_share(facts, app, request) {
         return Ok(());
     }
-    let used = facts.masters_used(&app.leaf, &request.label);
-    let limit = facts.master_limit(&app.leaf, &request.label);
+    let used = facts.masters_used(app, &request.label);
+    let limit = facts.master_limit(app, &request.label);
     add(told, Reason::MasterShare { used, limit })
 }
 
 /// Whether a request passes every test of its own partition but that for room.
 #[tactic(auto, unfolding(ynl_waits::specs::Waits::passes))]
 pub(crate) fn passes<F: Facts>(facts: &F, app: &Applicant, request: &Request) -> bool
+    requires { IsAsking (F.state facts.now) app.now request.now.label }
     ensures { result ≡ passes (F.config facts.now) (F.state facts.now) app.now request.now }
 {
     is_ready(app, &request.what)
@@ -168,6 +175,7 @@ pub(crate) fn add_limits<F: Facts>(
     own: &Ground,
     told: &mut Vec<Reason>,
 ) -> Result<(), AllocError>
+    requires { IsAsking (F.state facts.now) app.now request.now.label }
     ensures { OnOk result (told.new.items ≡ told.old.items ++ limits_told (F.config facts.now) (F.state facts.now) app.now request.now own.now) }
 {
     if has_nodes(own) {

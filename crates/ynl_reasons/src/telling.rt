@@ -3,8 +3,9 @@
 ghost use Rattle.std.specs.Prelude.{◌≡◌, ◌++◌, IfOk, OnOk};
 ghost use Rattle.std.specs.List.{AllByRecursion};
 ghost use Rattle.ynl_waits.specs.Choices.{AreChoices};
-ghost use Rattle.ynl_waits.specs.Grounds.{IsSpot, ground, guest_grounds};
+ghost use Rattle.ynl_waits.specs.Grounds.{ground, guest_grounds};
 ghost use Rattle.ynl_waits.specs.Waits.{held_back, reasons, told_by, turn_told};
+ghost use Rattle.ynl_reasons.specs.Facts.{IsAsking, IsSpotOf};
 
 use crate::choosing::{choice_on, chosen_among};
 use crate::facts::Facts;
@@ -31,6 +32,8 @@ fn add_held_back<F: Facts>(
     asked: &Asked<'_>,
     told: &mut Vec<Reason>,
 ) -> Result<(), AllocError>
+    requires { IsAsking (F.state facts.now)
+        asked.now.app.now asked.now.request.now.label }
     ensures { OnOk result (told.new.items ≡ told.old.items ++ held_back (F.config facts.now) (F.state facts.now) asked.now.app.now asked.now.request.now asked.now.own.now asked.now.guests.now) }
 {
     add_where(told, asked.app, asked.request, asked.own, asked.guests)?;
@@ -46,7 +49,7 @@ fn add_turn_on<F: Facts>(
     told: &mut Vec<Reason>,
 ) -> Result<(), AllocError>
     requires known { AreChoices (F.config facts.now) (F.state facts.now) known.old }
-    requires spots { AllByRecursion (IsSpot (F.state facts.now)) there.now }
+    requires spots { AllByRecursion (IsSpotOf (F.state facts.now)) there.now }
     ensures told { OnOk result (told.new.items ≡ told.old.items ++ turn_told (F.config facts.now) (F.state facts.now) there.now) }
     ensures known { AreChoices (F.config facts.now) (F.state facts.now) known.new }
 {
@@ -69,7 +72,9 @@ fn told_by<F: Facts>(
     there: &[Spot],
 ) -> Result<Vec<Reason>, AllocError>
     requires known { AreChoices (F.config facts.now) (F.state facts.now) known.old }
-    requires spots { AllByRecursion (IsSpot (F.state facts.now)) there.now }
+    requires spots { AllByRecursion (IsSpotOf (F.state facts.now)) there.now }
+    requires asks { IsAsking (F.state facts.now)
+        asked.now.app.now asked.now.request.now.label }
     ensures told { IfOk result (λ told. told.items ≡ told_by (F.config facts.now) (F.state facts.now) asked.now.app.now asked.now.request.now asked.now.own.now asked.now.guests.now there.now) }
     ensures known { AreChoices (F.config facts.now) (F.state facts.now) known.new }
 {
@@ -94,6 +99,8 @@ pub(crate) fn reasons_of<F: Facts>(
     requires known { AreChoices (F.config facts.now) (F.state facts.now) known.old }
     requires own { asked.now.own.now ≡ ground (F.config facts.now) (F.state facts.now) asked.now.request.now.label }
     requires guests { asked.now.guests.now ≡ guest_grounds (F.config facts.now) (F.state facts.now) asked.now.request.now.what }
+    requires asks { IsAsking (F.state facts.now)
+        asked.now.app.now asked.now.request.now.label }
     ensures told { IfOk result (λ told. told.items ≡ reasons (F.config facts.now) (F.state facts.now) asked.now.app.now asked.now.request.now) }
     ensures known { AreChoices (F.config facts.now) (F.state facts.now) known.new }
 {

@@ -1,5 +1,5 @@
--- On the nodes of partitions is free what is said to be.
-use Rattle.std.proofs.Common.{Bool, true, false, List, [], ◌∷◌, ◌++◌, refl, map, filter, if◌then◌else◌}
+-- What holds of all nodes holds of those of partitions.
+use Rattle.std.proofs.Common.{Bool, true, false, List, [], ◌∷◌, ◌++◌, map, filter, if◌then◌else◌}
 use Rattle.std.specs.Prelude.{flat_map}
 use Rattle.std.specs.List.{AllByRecursion}
 use Rattle.ynl_resource.specs.Amounts.{fits_in}
@@ -9,7 +9,7 @@ use Rattle.ynl_resource.specs.declared.labels.Label.{Label}
 use Rattle.ynl_model.specs.declared.proposals.What.{What}
 use Rattle.ynl_model.specs.Queues.{Config}
 use Rattle.ynl_model.specs.Cluster.{State}
-use Rattle.ynl_waits.specs.Grounds.{Spot, Ground, IsSpot, spot, all_spots, ground, guest_labels, guest_grounds, has_nodes, open_spots}
+use Rattle.ynl_waits.specs.Grounds.{Spot, Ground, all_spots, ground, guest_labels, guest_grounds, has_nodes, open_spots}
 use Rattle.ynl_waits.specs.Waits.{Applicant, Request, places}
 
 module _ {X : Type 0} (P : X → Type 0) where
@@ -41,26 +41,27 @@ all_weaker : {X : Type 0} (P Q : X → Type 0) (xs : List X) → ((x : X) → P 
 all_weaker P Q [] w p = tt
 all_weaker P Q (x ∷ xs) w p = (w x p.0, all_weaker P Q xs w p.1)
 
-module _ (c : Config) (s : State) where
+-- what holds of all nodes with what is free on them
+module _ (c : Config) (s : State) (P : Spot → Type 0) (all : AllByRecursion P (all_spots s)) where
   abbrev AreSpots : Ground → Type 0
-  AreSpots there = AllByRecursion (IsSpot s) there.spots
+  AreSpots there = AllByRecursion P there.spots
 
   ground-spots : (label : Label) → AreSpots (ground c s label)
   unfolding ground
-  ground-spots label = all_filtered (IsSpot s) (λ (there : Spot). same_label there.node.label label) (all_spots s) (all_mapped (IsSpot s) (spot s) s.nodes (λ node. refl))
+  ground-spots label = all_filtered P (λ (there : Spot). same_label there.node.label label) (all_spots s) all
 
   guest-spots : (what : What) → AllByRecursion AreSpots (guest_grounds c s what)
   unfolding guest_grounds
   guest-spots what = all_filtered AreSpots has_nodes (map (ground c s) (guest_labels c what)) (all_mapped AreSpots (ground c s) (guest_labels c what) ground-spots)
 
-  open-spots : (size : Resource) (there : Ground) → AreSpots there → AllByRecursion (IsSpot s) (open_spots size there)
-  open-spots size there p = all_unless (IsSpot s) there.is_spent _ (all_filtered (IsSpot s) (λ (spot : Spot). fits_in size spot.free) there.spots p)
+  open-spots : (size : Resource) (there : Ground) → AreSpots there → AllByRecursion P (open_spots size there)
+  open-spots size there p = all_unless P there.is_spent _ (all_filtered P (λ (spot : Spot). fits_in size spot.free) there.spots p)
 
-  -- so of those on which a request may be placed
-  pub places-are : (app : Applicant) (request : Request) (passes : Bool) → AllByRecursion (IsSpot s) (places app request passes (ground c s request.label) (guest_grounds c s request.what))
+  -- holds of those on which a request may be placed
+  pub places-are : (app : Applicant) (request : Request) (passes : Bool) → AllByRecursion P (places app request passes (ground c s request.label) (guest_grounds c s request.what))
   unfolding places
   places-are app request passes =
-      all_joined (IsSpot s) _ _ (all_if (IsSpot s) passes _ (open-spots request.size (ground c s request.label) (ground-spots request.label)))
-      (all_if (IsSpot s) app.runs _
-      (all_flat (IsSpot s) (open_spots request.size) (guest_grounds c s request.what)
-      (all_weaker AreSpots (λ there. AllByRecursion (IsSpot s) (open_spots request.size there)) (guest_grounds c s request.what) (open-spots request.size) (guest-spots request.what))))
+      all_joined P _ _ (all_if P passes _ (open-spots request.size (ground c s request.label) (ground-spots request.label)))
+      (all_if P app.runs _
+      (all_flat P (open_spots request.size) (guest_grounds c s request.what)
+      (all_weaker AreSpots (λ there. AllByRecursion P (open_spots request.size there)) (guest_grounds c s request.what) (open-spots request.size) (guest-spots request.what))))
