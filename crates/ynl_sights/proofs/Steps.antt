@@ -6,8 +6,7 @@ use Rattle.ynl_resource.specs.declared.paths.Path.{Path}
 use Rattle.ynl_resource.specs.Names.{way_to}
 use Rattle.ynl_queues.proofs.Prefixes.{way_more}
 use Rattle.ynl_model.specs.Service.{Standing, last_name, standing}
-use Rattle.ynl_choice.specs.Choosing.{state_in}
-use Rattle.ynl_choice.specs.declared.scenes.Scene.{Scene}
+use Rattle.ynl_cluster.specs.Cluster.{ClusterView, label_of, state_in}
 use Rattle.ynl_sights.specs.Copying.{AreQueuesTo, IsQueueOf}
 use Rattle.ynl_sights.specs.Rows.{reach_of_queue, standing_in}
 use Rattle.ynl_sights.specs.Sights.{reach_of}
@@ -35,14 +34,14 @@ pushed-on f g leaf k olds news row at pushed so_far is =
     ∙ ap (map g) (sym (way_more leaf k at))
 
 -- one queue more
-pub queues-more : (scene : Scene) (leaf : Path) (k : ℕ) (olds news : List QueueSight) (row : QueueSight) → k < length leaf → news ≡ olds ++ row ∷ []
-    → AreQueuesTo scene leaf k olds → IsQueueOf scene (take (k + 1) leaf) row → AreQueuesTo scene leaf (k + 1) news
-queues-more scene leaf k olds news row at pushed so_far is = record {
+pub queues-more : (w : ClusterView) (p : ℕ) (leaf : Path) (k : ℕ) (olds news : List QueueSight) (row : QueueSight) → k < length leaf → news ≡ olds ++ row ∷ []
+    → AreQueuesTo w p leaf k olds → IsQueueOf w p (take (k + 1) leaf) row → AreQueuesTo w p leaf (k + 1) news
+queues-more w p leaf k olds news row at pushed so_far is = record {
   names =
       ap (map (λ (r : QueueSight). r.name)) pushed
       ∙ map_push (λ (r : QueueSight). r.name) olds row
       ∙ (λ i. so_far.names i ++ (ap (λ (s : Standing). s.name) is.stands ∙ last-taken leaf k [] at) i ∷ [])
       ∙ sym (take_more leaf k [] at);
-  stand = pushed-on standing_in (standing scene.config.now (state_in scene) scene.label) leaf k olds news row at pushed so_far.stand is.stands;
-  reach = pushed-on reach_of_queue (reach_of (state_in scene) scene.label) leaf k olds news row at pushed so_far.reach is.reach;
+  stand = pushed-on standing_in (standing w.config (state_in w) (label_of w p)) leaf k olds news row at pushed so_far.stand is.stands;
+  reach = pushed-on reach_of_queue (reach_of (state_in w) (label_of w p)) leaf k olds news row at pushed so_far.reach is.reach;
 }

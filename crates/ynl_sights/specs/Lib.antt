@@ -2,5 +2,4 @@ pub mod Sights
 pub mod Rows
 pub mod SightFields
 pub mod Copying
-pub mod Sources
 pub mod Planning

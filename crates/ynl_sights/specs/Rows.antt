@@ -7,7 +7,7 @@ use Rattle.ynl_resource.specs.declared.paths.Path.{Path}
 use Rattle.ynl_model.specs.declared.proposals.What.{What}
 use Rattle.ynl_model.specs.declared.proposals.What.TheVariants.{Master, Ask as Asked}
 use Rattle.ynl_model.specs.Service.{Item, Key, Standing, rank}
-use Rattle.ynl_choice.specs.LeafUses.{limit_for}
+use Rattle.ynl_limits.specs.Limits.{limit_of}
 use Rattle.ynl_sights.specs.Sights.{Reach, Tests, Bid, Offer}
 use Rattle.ynl_sights.specs.declared.rows.Margin.{Margin}
 use Rattle.ynl_sights.specs.declared.rows.QueueSight.{QueueSight}
@@ -34,7 +34,7 @@ leaf_of way = map (λ queue. queue.name) way.queues.items
 
 -- the user limit for a size
 abbrev pub user_limit_in : Limits → Resource → Resource
-user_limit_in limits size = limit_for limits.used limits.guaranteed limits.users limits.minimum_user_limit_percent limits.user_cap size
+user_limit_in limits size = limit_of limits.users size
 
 abbrev pub item_in : Way → What → Wanted → Item
 item_in way what wanted = record { leaf = leaf_of way; app = wanted.app; user = wanted.user; what = what; size = wanted.size }

@@ -1,201 +1,203 @@
 //! What is wanted of a leaf, as it is copied.
 
-ghost use Rattle.std.specs.Prelude.{◌≡◌, [], ◌∷◌, ◌++◌, IfOk, OnOk};
-ghost use Rattle.ynl_model.specs.Service.{item_of, place_in_leaf};
-ghost use Rattle.ynl_tables.specs.Marked.{IsMarkedApp};
-ghost use Rattle.ynl_tables.specs.Tables.{app_of};
-ghost use Rattle.ynl_choice.specs.Choosing.{state_in, masters_of as masters_there, asks_in as asks_there, wanted_of};
-ghost use Rattle.ynl_sights.specs.Rows.{offer_by};
-ghost use Rattle.ynl_sights.specs.Sources.{asks_from, bids_to_see, guests_from, masters_from, offer_to_see, offers_to_see, IsGuestSource, IsSource};
+ghost use Rattle.std.specs.Prelude.{◌≡◌, [], ◌∷◌, ◌++◌, true, map, nat_eq, IfOk, IfSome, OnOk, Some};
+ghost use Rattle.std.specs.Bool.{OnTrue};
+ghost use Rattle.std.specs.Map.{lookup};
+ghost use Rattle.ynl_slots.specs.Slots.{IsLive};
+ghost use Rattle.ynl_lane.specs.Rows.{IsUse};
+ghost use Rattle.ynl_inventory.specs.Rows.{AppRow};
+ghost use Rattle.ynl_inventory.specs.Sound.{HasPartition, IsAskedOn};
+ghost use Rattle.ynl_requests.specs.Laws.{in_leaf};
+ghost use Rattle.ynl_seating.specs.Seating.{shares, user_use};
+ghost use Rattle.ynl_cluster.specs.Cluster.{IsCell};
+ghost use Rattle.ynl_leaf_apps.specs.Apps.{AreAppsOf};
+ghost use Rattle.ynl_sights.specs.Copying.{asked_shown, asks_shown, items_in, kind_wanted, master_shown, one_by_one, shown, shown_as};
 
 use crate::rows::{Offered, Wanted};
-use crate::sources::{GuestSource, LeafSource};
 use std::alloc::{AllocError, Global};
-use ynl_choice::{find_use, has_no_asks, has_no_masters, parts_of};
-use ynl_model::{AskRow, What};
-use ynl_resource::Size;
-use ynl_tables::{App, is_same, runs};
+use ynl_app_table::Ask;
+use ynl_cluster::Cluster;
+use ynl_lane::Kind;
+use ynl_lanes::Low;
+use ynl_resource::{Resource, Size};
+use ynl_search::ticket_of;
 
-/// A request of an application, with what its user uses of the leaf.
-fn offered_of(
-    source: &LeafSource<'_>,
-    app: &App,
-    place: u64,
-    what: &What,
-    priority: u32,
-    size: &Size,
-) -> Offered
-    requires source { IsSource source.now }
-    requires place { place ≡ place_in_leaf (state_in source.now.scene.now) source.now.row.now.path app.now.name }
-    ensures priority { result.wanted.priority ≡ priority }
-    ensures offer { offer_by source.now.way.now source.now.limits.now what.now result ≡ offer_to_see source.now.scene.now (item_of (app_of source.now.row.now.path app.now) what.now size.now) }
+/// What the user of an application uses of its leaf's part of a partition that it shares.
+fn used_by(cluster: &Cluster, p: u8, app: u32) -> Resource
+    requires live { IsLive app cluster.now.rows.apps }
+    requires partition { HasPartition cluster.now.rows p }
+    requires shares { IfSome (lookup (nat_eq app) cluster.now.rows.apps)
+        (λ row. shares p row ≡ true) }
+    ensures value { (row : AppRow) → lookup (nat_eq app) cluster.now.rows.apps ≡ Some row
+        → result ≡ user_use cluster.now.rows p row.leaf row.user }
+    ensures small { IsUse result }
 {
-    let scene = source.scene;
-    let request = parts_of(source.row, app, what, size);
-    let user_used = find_use(scene.tables, &scene.label, source.leaf_use, &request);
+    let row = cluster.inventory().app(app);
+    let lane = cluster.lane(p, row.leaf as usize);
+    let Some(ticket) = ticket_of(row, p) else {
+        unreachable!()
+    };
+    let Some(used) = lane.find_used(ticket) else {
+        unreachable!()
+    };
+    used
+}
+
+/// Whether nothing of a kind waits in a leaf's lane on a partition, so that nothing of it is wanted.
+pub(crate) fn none_waits(cluster: &Cluster, p: u8, leaf: usize, kind: Kind) -> bool
+    requires { IsCell cluster.now p leaf }
+    ensures { OnTrue result
+        (items_in cluster.now.rows (kind_wanted kind cluster.now.rows p) leaf ≡ []) }
+{
+    let least = cluster.lane(p, leaf).least(kind);
+    Low::NONE.fits(&least.amount())
+}
+
+/// A request of an application that stands in this place in its leaf, with what its user uses of
+/// the leaf's part of a partition.
+fn offered_of(cluster: &Cluster, p: u8, app: u32, place: u64, size: Size, priority: u32) -> Offered
+    requires live { IsLive app cluster.now.rows.apps }
+    requires partition { HasPartition cluster.now.rows p }
+    requires shares { IfSome (lookup (nat_eq app) cluster.now.rows.apps)
+        (λ row. shares p row ≡ true) }
+    ensures { (row : AppRow) → lookup (nat_eq app) cluster.now.rows.apps ≡ Some row
+        → shown result ≡ shown_as cluster.now.rows p place row size priority }
+{
+    let user_used = used_by(cluster, p, app);
+    let inventory = cluster.inventory();
+    let row = inventory.app(app);
     Offered {
         user_used,
         wanted: Wanted {
             place,
-            size: *size,
+            size,
             priority,
-            app: app.name,
-            user: app.user,
+            app: *inventory.app_name(app),
+            user: *inventory.user_name(row.user),
         },
     }
 }
 
 /// Adds an application's master, if it is wanted on the partition.
 fn add_master(
-    source: &LeafSource<'_>,
-    app: &App,
+    cluster: &Cluster,
+    p: u8,
+    app: u32,
     place: u64,
     out: &mut Vec<Offered>,
 ) -> Result<(), AllocError>
-    requires source { IsSource source.now }
-    requires place { place ≡ place_in_leaf (state_in source.now.scene.now) source.now.row.now.path app.now.name }
-    requires marked { IsMarkedApp (state_in source.now.scene.now) source.now.row.now.path app.now }
-    ensures { OnOk result (masters_from source.now out.new.items ≡ masters_from source.now out.old.items ++ offers_to_see source.now.scene.now (masters_there source.now.scene.now source.now.row.now.path (app.now ∷ []))) }
+    requires live { IsLive app cluster.now.rows.apps }
+    requires partition { HasPartition cluster.now.rows p }
+    ensures { OnOk result ((row : AppRow)
+        → lookup (nat_eq app) cluster.now.rows.apps ≡ Some row
+        → map shown out.new.items
+        ≡ map shown out.old.items ++ master_shown cluster.now.rows p place app row) }
 {
-    let scene = source.scene;
-    if is_same(&app.home, &scene.label) && !runs(scene.tables, &source.row.path, app) {
-        out.push(offered_of(source, app, place, &What::Master, 0, &app.master))?;
+    let inventory = cluster.inventory();
+    let row = inventory.app(app);
+    if row.home == p && !inventory.runs(app) {
+        out.push(offered_of(cluster, p, app, place, row.master_size, 0))?;
     }
     Ok(())
 }
 
 /// The masters that are wanted of a leaf.
-pub(crate) fn masters_of(alloc: Global, source: &LeafSource<'_>) -> Result<Vec<Offered>, AllocError>
-    requires { IsSource source.now }
-    ensures { IfOk result (λ masters. masters_from source.now masters.items ≡ offers_to_see source.now.scene.now (masters_there source.now.scene.now source.now.row.now.path source.now.row.now.apps.items)) }
+pub(crate) fn masters_of(
+    alloc: Global,
+    cluster: &Cluster,
+    p: u8,
+    leaf: usize,
+    apps: &[u32],
+) -> Result<Vec<Offered>, AllocError>
+    requires apps { AreAppsOf cluster.now.rows leaf apps.now }
+    requires partition { HasPartition cluster.now.rows p }
+    ensures { IfOk result (λ masters. map shown masters.items
+        ≡ one_by_one (master_shown cluster.now.rows p) 0 (in_leaf leaf cluster.now.rows.apps)) }
 {
+    // Opens the inventory, whose rows are sound.
+    let _ = cluster.inventory();
     let mut masters = Vec::new(alloc);
-    let row = source.row;
-    if has_no_masters(source.scene, row) {
-        return Ok(masters);
-    }
-    for i in 0..row.apps.len() {
-        add_master(source, &row.apps[i], i as u64, &mut masters)?;
+    for i in 0..apps.len() {
+        add_master(cluster, p, apps[i], i as u64, &mut masters)?;
     }
     Ok(masters)
 }
 
-/// Adds an ask, if it is for the partition and its application runs.
+/// Adds an ask of an application, if it is for the partition.
 fn add_ask(
-    source: &LeafSource<'_>,
-    app: &App,
+    cluster: &Cluster,
+    p: u8,
+    app: u32,
     place: u64,
-    ask: &AskRow,
+    ask: &Ask,
     out: &mut Vec<Offered>,
 ) -> Result<(), AllocError>
-    requires source { IsSource source.now }
-    requires place { place ≡ place_in_leaf (state_in source.now.scene.now) source.now.row.now.path app.now.name }
-    requires marked { IsMarkedApp (state_in source.now.scene.now) source.now.row.now.path app.now }
-    ensures { OnOk result (asks_from source.now out.new.items ≡ asks_from source.now out.old.items ++ offers_to_see source.now.scene.now (wanted_of source.now.scene.now (app_of source.now.row.now.path app.now) (ask.now ∷ []))) }
+    requires live { IsLive app cluster.now.rows.apps }
+    requires partition { HasPartition cluster.now.rows p }
+    requires asked { IfSome (lookup (nat_eq app) cluster.now.rows.apps)
+        (λ row. IsAskedOn row.home ask.now.partition) }
+    ensures { OnOk result ((row : AppRow)
+        → lookup (nat_eq app) cluster.now.rows.apps ≡ Some row
+        → map shown out.new.items
+        ≡ map shown out.old.items ++ asks_shown cluster.now.rows p place row (ask.now ∷ [])) }
 {
-    let scene = source.scene;
-    if is_same(&ask.label, &scene.label)
-        && ask.count > 0
-        && runs(scene.tables, &source.row.path, app)
-    {
-        let what = What::Ask(ask.label, ask.priority);
-        out.push(offered_of(source, app, place, &what, ask.priority, &ask.size))?;
+    if ask.partition == p {
+        out.push(offered_of(cluster, p, app, place, ask.size, ask.priority))?;
     }
     Ok(())
 }
 
 /// Adds what an application asks for on the partition, if it runs.
-fn add_asks_of(
-    source: &LeafSource<'_>,
-    app: &App,
+fn add_asks(
+    cluster: &Cluster,
+    p: u8,
+    app: u32,
     place: u64,
     out: &mut Vec<Offered>,
 ) -> Result<(), AllocError>
-    requires source { IsSource source.now }
-    requires place { place ≡ place_in_leaf (state_in source.now.scene.now) source.now.row.now.path app.now.name }
-    requires marked { IsMarkedApp (state_in source.now.scene.now) source.now.row.now.path app.now }
-    ensures { OnOk result (asks_from source.now out.new.items ≡ asks_from source.now out.old.items ++ offers_to_see source.now.scene.now (asks_there source.now.scene.now source.now.row.now.path (app.now ∷ []))) }
+    requires live { IsLive app cluster.now.rows.apps }
+    requires partition { HasPartition cluster.now.rows p }
+    ensures { OnOk result ((row : AppRow)
+        → lookup (nat_eq app) cluster.now.rows.apps ≡ Some row
+        → map shown out.new.items
+        ≡ map shown out.old.items ++ asked_shown cluster.now.rows p place app row) }
 {
-    let asks = app.asks.as_slice();
+    let inventory = cluster.inventory();
+    if !inventory.runs(app) {
+        return Ok(());
+    }
+    let asks = inventory.app(app).asks.as_slice();
     for ask in asks {
-        add_ask(source, app, place, ask, out)?;
+        add_ask(cluster, p, app, place, ask, out)?;
     }
     Ok(())
 }
 
 /// What is asked for in a leaf on the partition.
-pub(crate) fn asks_of(alloc: Global, source: &LeafSource<'_>) -> Result<Vec<Offered>, AllocError>
-    requires { IsSource source.now }
-    ensures { IfOk result (λ asks. asks_from source.now asks.items ≡ offers_to_see source.now.scene.now (asks_there source.now.scene.now source.now.row.now.path source.now.row.now.apps.items)) }
+pub(crate) fn asks_of(
+    alloc: Global,
+    cluster: &Cluster,
+    p: u8,
+    leaf: usize,
+    apps: &[u32],
+) -> Result<Vec<Offered>, AllocError>
+    requires apps { AreAppsOf cluster.now.rows leaf apps.now }
+    requires partition { HasPartition cluster.now.rows p }
+    ensures { IfOk result (λ asks. map shown asks.items
+        ≡ one_by_one (asked_shown cluster.now.rows p) 0 (in_leaf leaf cluster.now.rows.apps)) }
 {
+    // Opens the inventory, whose rows are sound.
+    let _ = cluster.inventory();
     let mut asks = Vec::new(alloc);
-    let row = source.row;
-    if has_no_asks(source.scene, row) {
-        return Ok(asks);
-    }
-    for i in 0..row.apps.len() {
-        add_asks_of(source, &row.apps[i], i as u64, &mut asks)?;
+    for i in 0..apps.len() {
+        add_asks(cluster, p, apps[i], i as u64, &mut asks)?;
     }
     Ok(asks)
 }
 
-/// Adds an ask as a guest, if it is for the partition and its application runs.
-fn add_guest(
-    source: &GuestSource<'_>,
-    app: &App,
-    place: u64,
-    ask: &AskRow,
-    out: &mut Vec<Wanted>,
-) -> Result<(), AllocError>
-    requires source { IsGuestSource source.now }
-    requires place { place ≡ place_in_leaf (state_in source.now.scene.now) source.now.row.now.path app.now.name }
-    requires marked { IsMarkedApp (state_in source.now.scene.now) source.now.row.now.path app.now }
-    ensures { OnOk result (guests_from source.now out.new.items ≡ guests_from source.now out.old.items ++ bids_to_see source.now.scene.now (wanted_of source.now.scene.now (app_of source.now.row.now.path app.now) (ask.now ∷ []))) }
+/// Requests without what their users use.
+pub(crate) fn wanted_in(alloc: Global, offered: &[Offered]) -> Result<Vec<Wanted>, AllocError>
+    ensures { IfOk result (λ asks. asks.items ≡ map (λ one. one.wanted) offered.now) }
 {
-    let scene = source.scene;
-    if is_same(&ask.label, &scene.label)
-        && ask.count > 0
-        && runs(scene.tables, &source.row.path, app)
-    {
-        out.push(Wanted {
-            place,
-            size: ask.size,
-            priority: ask.priority,
-            app: app.name,
-            user: app.user,
-        })?;
-    }
-    Ok(())
-}
-
-/// Adds what an application asks for on the partition as guests, if it runs.
-fn add_guests_of(
-    source: &GuestSource<'_>,
-    app: &App,
-    place: u64,
-    out: &mut Vec<Wanted>,
-) -> Result<(), AllocError>
-    requires source { IsGuestSource source.now }
-    requires place { place ≡ place_in_leaf (state_in source.now.scene.now) source.now.row.now.path app.now.name }
-    requires marked { IsMarkedApp (state_in source.now.scene.now) source.now.row.now.path app.now }
-    ensures { OnOk result (guests_from source.now out.new.items ≡ guests_from source.now out.old.items ++ bids_to_see source.now.scene.now (asks_there source.now.scene.now source.now.row.now.path (app.now ∷ []))) }
-{
-    let asks = app.asks.as_slice();
-    for ask in asks {
-        add_guest(source, app, place, ask, out)?;
-    }
-    Ok(())
-}
-
-/// What is asked for in a leaf on the partition, as guests.
-pub(crate) fn guests_of(alloc: Global, source: &GuestSource<'_>) -> Result<Vec<Wanted>, AllocError>
-    requires { IsGuestSource source.now }
-    ensures { IfOk result (λ asks. guests_from source.now asks.items ≡ bids_to_see source.now.scene.now (asks_there source.now.scene.now source.now.row.now.path source.now.row.now.apps.items)) }
-{
-    let mut asks = Vec::new(alloc);
-    let row = source.row;
-    for i in 0..row.apps.len() {
-        add_guests_of(source, &row.apps[i], i as u64, &mut asks)?;
-    }
-    Ok(asks)
+    offered.iter().map(|one| one.wanted).collect(alloc)
 }

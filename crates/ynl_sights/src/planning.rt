@@ -9,29 +9,18 @@ ghost use Rattle.ynl_model.specs.Cluster.{State};
 ghost use Rattle.ynl_model.specs.Queues.{Config};
 ghost use Rattle.ynl_model.specs.Service.{key_order, standing_order as by_standing};
 ghost use Rattle.ynl_model.specs.declared.nodes.Node.{Node as Noded};
-ghost use Rattle.ynl_choice.specs.Candidates.{stands_of};
 ghost use Rattle.ynl_sights.specs.Sights.{chosen, first_bid, has_room, keeps_share, open_bids, passes, planned, sighted, stays_within};
 ghost use Rattle.ynl_sights.specs.Rows.{bid_in, offer_in, tests_in, reach_in, reach_of_queue, standing_in, masters_in, asks_in, guest_bids_in};
 ghost use Rattle.ynl_sights.specs.declared.rows.Offered.{Offered as Offering};
 ghost use Rattle.ynl_sights.specs.declared.rows.Way.{Way as Road};
 ghost use Rattle.ynl_sights.specs.Planning.{bid_of, overtakes, HoldsFirst, open_in};
 
+use crate::order::{rank_order, standing_order};
 use crate::rows::{GuestSight, LeafSight, Limits, Margin, Offered, QueueSight, Wanted, Way};
 use crate::sights::Sight;
 use std::cmp::Ordering;
-use ynl_choice::{Standing, limit_for, rank_order, standing_order};
 use ynl_model::{Node, Proposal, What};
 use ynl_resource::{Label, Resource};
-
-fn standing_of(queue: &QueueSight) -> Standing<'_>
-    ensures { stands_of result ≡ standing_in queue.now }
-{
-    Standing {
-        used: queue.margin.used.memory,
-        guaranteed: queue.guaranteed,
-        name: &queue.name,
-    }
-}
 
 /// The order of two leaves, by how the queues on their ways stand.
 fn ways_order(a: &[QueueSight], b: &[QueueSight]) -> Ordering
@@ -41,7 +30,7 @@ fn ways_order(a: &[QueueSight], b: &[QueueSight]) -> Ordering
         (None, None) => Ordering::Equal,
         (None, Some(_)) => Ordering::Less,
         (Some(_), None) => Ordering::Greater,
-        (Some((x, xs)), Some((y, ys))) => match standing_order(&standing_of(x), &standing_of(y)) {
+        (Some((x, xs)), Some((y, ys))) => match standing_order(x, y) {
             Ordering::Equal => ways_order(xs, ys),
             other => other,
         },
@@ -125,15 +114,8 @@ fn passes(free: &Resource, leaf: &LeafSight, what: &What, offered: &Offered) -> 
     if !stays_within(&limits.root, &size) || !stay_within(leaf.way.queues.as_slice(), &size) {
         return false;
     }
-    let limit = limit_for(
-        &limits.used,
-        &limits.guaranteed,
-        limits.users,
-        limits.minimum_user_limit_percent,
-        &limits.user_cap,
-        &size,
-    );
-    offered.user_used.add(size).fits_in(limit) && keeps_share(limits, what, &size)
+    let with = offered.user_used.add(size);
+    limits.users.keeps(&with, &size) && keeps_share(limits, what, &size)
 }
 
 /// A request that comes up is held if it is before the one that is.

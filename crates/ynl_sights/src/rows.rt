@@ -1,10 +1,11 @@
 //! The rows of a sight: leaves of which something is wanted on a partition, the queues on the way to each, and its requests.
 
-ghost use Rattle.std.specs.Prelude.{◌≡◌, ◌≤◌, map};
+ghost use Rattle.std.specs.Prelude.{◌≡◌, map};
 ghost use Rattle.ynl_resource.specs.Names.{tenant_of};
-ghost use Rattle.ynl_resource.specs.Ranges.{whole};
-ghost use Rattle.ynl_tables.specs.Bounds.{IsTotal};
+ghost use Rattle.ynl_lane.specs.Rows.{IsUse};
+ghost use Rattle.ynl_uses.specs.Tallies.{IsTotal};
 
+use ynl_limits::Limits as UserLimits;
 use ynl_resource::{Name, Resource, Size};
 
 /// What a queue uses of the partition, and the most that it may use.
@@ -31,22 +32,16 @@ pub(crate) struct Way {
     ghost of_tenant: { tenant ≡ tenant_of (map (λ queue. queue.name) queues.items) },
 }
 
-/// What the requests of a leaf are tested against, besides the margins on its way: root's margin, and what the limits of its
-/// users and masters are made of.
+/// What the requests of a leaf are tested against, besides the margins on its way: root's margin, the limits of its users, and
+/// what its masters use and may use.
 #[derive(Clone, Copy)]
 pub(crate) struct Limits {
     pub root: Margin,
-    pub used: Resource,
-    pub guaranteed: Resource,
-    pub users: u64,
-    pub minimum_user_limit_percent: u64,
-    pub user_cap: Resource,
+    pub users: UserLimits,
     pub masters: Resource,
     pub master_limit: Resource,
     pub no_master: bool,
-    ghost small: { (IsTotal used) × (IsTotal guaranteed) × (IsTotal masters) },
-    ghost some_users: { 1 ≤ users },
-    ghost percent: { minimum_user_limit_percent ≤ whole },
+    ghost small: { IsTotal masters },
 }
 
 /// A request of an application, with the application's place in the leaf. The priority is an ask's; of a master it says
@@ -65,7 +60,7 @@ pub(crate) struct Wanted {
 pub(crate) struct Offered {
     pub user_used: Resource,
     pub wanted: Wanted,
-    ghost small: { IsTotal user_used },
+    ghost small: { IsUse user_used },
 }
 
 /// A leaf with what is wanted of it on the node's partition.

@@ -1,47 +1,44 @@
-use Rattle.std.proofs.Common.{◌≡◌, ◌+◌, ◌<◌, Bool, List, Vec, [], length, take, take_all, ap, subst, ◌∙◌, arith}
-use Rattle.std.specs.Bool.{OnTrue}
+use Rattle.std.proofs.Common.{◌≡◌, [], true, cond, Vec, map, sym, ap, subst, ◌∙◌, arith}
 use Rattle.std.specs.Prelude.{flat_map}
 use Rattle.std.specs.declared.alloc.Global.{Global}
-use Rattle.ynl_model.specs.Service.{Item, asks_for}
-use Rattle.ynl_tables.specs.declared.rows.LeafRow.{LeafRow}
-use Rattle.ynl_choice.specs.Choosing.{all_asks, asks_in as asks_there}
-use Rattle.ynl_sights.specs.Sights.{Bid}
-use Rattle.ynl_sights.specs.Sources.{bid_to_see, bids_to_see}
-use Rattle.ynl_sights.specs.Rows.{guests_on}
-use Rattle.ynl_sights.specs.declared.rows.GuestSight.{GuestSight}
-use Rattle.ynl_sights.proofs.Leaves.{asks-taken, one-more, none-more, picked}
-use Rattle.ynl_sights.proofs.copying.guest_sights.Goals.{then-not-asks_for_nothing_at+in_ok-guest_sight_at+in_ok-push, else-not-asks_for_nothing_at}
+use Rattle.ynl_model.specs.Service.{asks_for, takes_guests}
+use Rattle.ynl_layout.specs.Paths.{HasNumber}
+use Rattle.ynl_inventory.specs.Meaning.{leaf_numbers}
+use Rattle.ynl_leaf_apps.specs.Apps.{AreAppsOf}
+use Rattle.ynl_requests.specs.Requests.{asked}
+use Rattle.ynl_cluster.specs.Cluster.{label_of, state_in}
+use Rattle.ynl_sights.specs.Sights.{bid_of}
+use Rattle.ynl_sights.specs.Rows.{guest_bids_in}
+use Rattle.ynl_sights.specs.Copying.{bids_at, items_in}
+use Rattle.ynl_sights.proofs.Leaves.{all-before, none-there, one-more, takes-told}
+use Rattle.ynl_sights.proofs.Listed.{asks-listed, map-flat}
 use Rattle.ynl_sights.proofs.copying.guest_sights.Goals as goal
 
-pub loop-place-preserved : goal.loop-place-preserved
-loop-place-preserved c =
-    let scene = c.args.scene.now in
-    let rows = scene.tables.now.leaves.items in
-    let place = c.loop-place.place in
-    let inside : place < length rows = omega (arith, c.loop-place-test.true, c.len-place-end.ensures, scene.tables.now.leaves.ok) in
-    let at = picked rows place inside in
-    let row : LeafRow = at.0 in
-    let before = take place rows in
-    let taken = take (place + 1) rows in
-    let done = c.loop-place.leaves.items in
-    let see : Item → Bid = bid_to_see scene in
-    let asked : List Item = asks_there scene row.path row.apps.items in
-    let asks = asks-taken scene before taken row at.2 in
-    elim c.if-not-asks_for_nothing_at.branch [
-      | then-not-asks_for_nothing_at+in_ok-guest_sight_at+in_ok-push w ↦
-          ap (λ (v : Vec GuestSight Global). flat_map (guests_on scene.label) v.items) w.leaves-is
-          ∙ one-more see (guests_on scene.label) done w.push.new.self.items w.in_ok-guest_sight_at.field-0 (all_asks scene before) asked (all_asks scene taken) w.in_ok-push.ensures.items asks c.loop-place.invariant (w.in_ok-guest_sight_at.ensures row at.1)
-      | else-not-asks_for_nothing_at w ↦
-          let none_asked : asked ≡ [] = subst (λ (b : Bool). OnTrue b (asked ≡ [])) w.if-not-asks_for_nothing_at.false (c.asks_for_nothing_at.ensures row at.1) in
-          ap (λ (v : Vec GuestSight Global). flat_map (guests_on scene.label) v.items) w.leaves-is
-          ∙ none-more see (guests_on scene.label) done (all_asks scene before) asked (all_asks scene taken) asks none_asked c.loop-place.invariant
-    ]
+pub add_guest_sight-requires-clause-apps : goal.add_guest_sight-requires-clause-apps
+add_guest_sight-requires-clause-apps c =
+    let v = c.args.cluster.now.rows in
+    let queue = c.loop-queue.queue in
+    subst (AreAppsOf v queue) (ap (λ (list : Vec _ Global). list.items) (sym c.index-apps-queue.is) ∙ sym c.deref.ensures.value)
+    (c.requires.apps.each queue c.index-apps-queue.result (omega (arith, c.loop-queue-test.true, c.requires.apps.many)))
+
+pub loop-queue-preserved : goal.loop-queue-preserved
+loop-queue-preserved c =
+    let w = c.args.cluster.now in
+    let queue = c.loop-queue.queue in
+    let there : HasNumber w.rows.paths queue = omega (arith, c.loop-queue-test.true, c.requires.apps.many) in
+    let see = bid_of w.config (state_in w) (label_of w 0) in
+    one-more guest_bids_in (bids_at w 0 (asked w.rows 0)) w.rows.paths queue c.loop-queue.auto.queue there (λ inner. ap (map see) (none-there w.rows c.inventory.ensures.sound (asked w.rows 0) queue inner))
+    c.loop-queue.sights.items c.add_guest_sight.new.out.items c.loop-queue.invariant c.in_ok-add_guest_sight.ensures
 
 pub returns : goal.returns
-unfolding asks_for
 returns c =
-    let scene = c.args.scene.now in
-    let rows = scene.tables.now.leaves.items in
-    let place = c.loop-place.place in
-    let all : take place rows ≡ rows = take_all place rows (omega (arith, c.loop-place-test.false, c.len-place-end.ensures, scene.tables.now.leaves.ok)) in
-    c.loop-place.invariant ∙ ap (λ (rs : List LeafRow). bids_to_see scene (all_asks scene rs)) all
+    let w = c.args.cluster.now in
+    let is = c.inventory.ensures in
+    let see = bid_of w.config (state_in w) in
+    let takes : takes_guests w.config (label_of w c.args.p) ≡ true =
+    sym (takes-told w.config w.rows.partitions is.configured.guests c.args.p c.requires.partition c.takes_guests.result (rw is.value at c.takes_guests.ensures)) ∙ c.if-not-takes_guests.false in
+    c.loop-queue.invariant
+    ∙ ap (flat_map (bids_at w 0 (asked w.rows 0))) (all-before w.rows.paths c.loop-queue.queue (omega (arith, c.loop-queue-test.false, c.requires.apps.many)))
+    ∙ sym (map-flat (see (label_of w 0)) (items_in w.rows (asked w.rows 0)) (leaf_numbers w.rows.paths))
+    ∙ ap (map (see (label_of w 0))) (sym (asks-listed w is.sound 0 is.sound.some))
+    ∙ (λ i. cond (sym takes i) (map (see (is.sound.default i)) (asks_for (state_in w) (is.sound.default i))) [])

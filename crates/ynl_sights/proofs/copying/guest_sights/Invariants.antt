@@ -1,9 +1,10 @@
-use Rattle.std.proofs.Common.{◌≡◌, take}
+use Rattle.std.proofs.Common.{◌≡◌}
 use Rattle.std.specs.Prelude.{flat_map}
-use Rattle.ynl_choice.specs.Choosing.{all_asks}
-use Rattle.ynl_sights.specs.Rows.{guests_on}
-use Rattle.ynl_sights.specs.Sources.{bids_to_see}
+use Rattle.ynl_requests.specs.Requests.{asked}
+use Rattle.ynl_sights.specs.Copying.{bids_at}
+use Rattle.ynl_sights.specs.Rows.{guest_bids_in}
+use Rattle.ynl_sights.proofs.Leaves.{leaves_before}
 use Rattle.ynl_sights.proofs.copying.guest_sights.Given as goal
 
-abbrev pub invariant-loop-place : goal.invariant-loop-place
-invariant-loop-place l = flat_map (guests_on l.scene.label) l.leaves.items ≡ bids_to_see l.scene (all_asks l.scene (take l.place l.scene.tables.now.leaves.items))
+abbrev pub invariant-loop-queue : goal.invariant-loop-queue
+invariant-loop-queue l = flat_map guest_bids_in l.sights.items ≡ flat_map (bids_at l.cluster 0 (asked l.cluster.rows 0)) (leaves_before l.cluster.rows.paths l.queue)

@@ -1,65 +1,53 @@
-use Rattle.std.proofs.Common.{◌≡◌, ◌+◌, ◌<◌, Bool, List, Vec, [], ◌++◌, length, take, take_all, sym, ap, subst, ◌∙◌, arith}
-use Rattle.std.proofs.lemmas.List.{map-append}
-use Rattle.std.specs.Bool.{OnTrue}
+use Rattle.std.proofs.Common.{◌++◌, Vec, map, sym, ap, subst, ◌∙◌, arith}
 use Rattle.std.specs.Prelude.{flat_map}
 use Rattle.std.specs.declared.alloc.Global.{Global}
-use Rattle.ynl_model.specs.Service.{Item, items_for, asks_for}
-use Rattle.ynl_tables.specs.declared.rows.LeafRow.{LeafRow}
-use Rattle.ynl_choice.specs.Choosing.{all_masters, all_asks, masters_of, asks_in as asks_there}
-use Rattle.ynl_sights.specs.Sights.{Offer}
-use Rattle.ynl_sights.specs.Sources.{offer_to_see, offers_to_see}
-use Rattle.ynl_sights.specs.Rows.{masters_in, asks_in}
-use Rattle.ynl_sights.specs.declared.rows.LeafSight.{LeafSight}
-use Rattle.ynl_sights.proofs.Leaves.{masters-taken, asks-taken, one-more, none-more, picked}
-use Rattle.ynl_sights.proofs.copying.leaf_sights.Goals.{then-not-is_idle_at+in_ok-leaf_sight_at+in_ok-push, else-not-is_idle_at}
+use Rattle.std.proofs.lemmas.List.{map-append}
+use Rattle.ynl_layout.specs.Paths.{HasNumber}
+use Rattle.ynl_inventory.specs.Meaning.{leaf_numbers}
+use Rattle.ynl_leaf_apps.specs.Apps.{AreAppsOf}
+use Rattle.ynl_requests.specs.Requests.{asked, master_wanted}
+use Rattle.ynl_cluster.specs.Cluster.{label_of, state_in}
+use Rattle.ynl_sights.specs.Sights.{offer_of}
+use Rattle.ynl_sights.specs.Rows.{asks_in, masters_in}
+use Rattle.ynl_sights.specs.Copying.{items_in, offers_at}
+use Rattle.ynl_sights.proofs.Leaves.{all-before, none-there, one-more}
+use Rattle.ynl_sights.proofs.Listed.{items-listed, map-flat}
 use Rattle.ynl_sights.proofs.copying.leaf_sights.Goals as goal
 
-pub loop-place-preserved : goal.loop-place-preserved
-loop-place-preserved c =
-    let scene = c.args.scene.now in
-    let rows = scene.tables.now.leaves.items in
-    let place = c.loop-place.place in
-    let inside : place < length rows = omega (arith, c.loop-place-test.true, c.len-place-end.ensures, scene.tables.now.leaves.ok) in
-    let at = picked rows place inside in
-    let row : LeafRow = at.0 in
-    let before = take place rows in
-    let taken = take (place + 1) rows in
-    let done = c.loop-place.leaves.items in
-    let so_far = c.loop-place.invariant in
-    let see : Item → Offer = offer_to_see scene in
-    let wanted : List Item = masters_of scene row.path row.apps.items in
-    let asked : List Item = asks_there scene row.path row.apps.items in
-    let masters = masters-taken scene before taken row at.2 in
-    let asks = asks-taken scene before taken row at.2 in
-    elim c.if-not-is_idle_at.branch [
-      | then-not-is_idle_at+in_ok-leaf_sight_at+in_ok-push w ↦
-          let leaf = w.in_ok-leaf_sight_at.field-0 in
-          let longer = w.push.new.self.items in
-          let grown = w.in_ok-push.ensures.items in
-          record {
-            masters = ap (λ (v : Vec LeafSight Global). flat_map masters_in v.items) w.leaves-is
-                ∙ one-more see masters_in done longer leaf (all_masters scene before) wanted (all_masters scene taken) grown masters so_far.masters (w.in_ok-leaf_sight_at.ensures.masters row at.1);
-            asks = ap (λ (v : Vec LeafSight Global). flat_map (asks_in scene.label) v.items) w.leaves-is
-                ∙ one-more see (asks_in scene.label) done longer leaf (all_asks scene before) asked (all_asks scene taken) grown asks so_far.asks (w.in_ok-leaf_sight_at.ensures.asks row at.1);
-          }
-      | else-not-is_idle_at w ↦
-          let none_wanted : wanted ≡ [] = subst (λ (b : Bool). OnTrue b (wanted ≡ [])) w.if-not-is_idle_at.false (c.is_idle_at.ensures.masters row at.1) in
-          let none_asked : asked ≡ [] = subst (λ (b : Bool). OnTrue b (asked ≡ [])) w.if-not-is_idle_at.false (c.is_idle_at.ensures.asks row at.1) in
-          record {
-            masters = ap (λ (v : Vec LeafSight Global). flat_map masters_in v.items) w.leaves-is
-                ∙ none-more see masters_in done (all_masters scene before) wanted (all_masters scene taken) masters none_wanted so_far.masters;
-            asks = ap (λ (v : Vec LeafSight Global). flat_map (asks_in scene.label) v.items) w.leaves-is
-                ∙ none-more see (asks_in scene.label) done (all_asks scene before) asked (all_asks scene taken) asks none_asked so_far.asks;
-          }
-    ]
+pub add_leaf_sight-requires-clause-apps : goal.add_leaf_sight-requires-clause-apps
+add_leaf_sight-requires-clause-apps c =
+    let v = c.args.cluster.now.rows in
+    let queue = c.loop-queue.queue in
+    subst (AreAppsOf v queue) (ap (λ (list : Vec _ Global). list.items) (sym c.index-apps-queue.is) ∙ sym c.deref.ensures.value)
+    (c.requires.apps.each queue c.index-apps-queue.result (omega (arith, c.loop-queue-test.true, c.requires.apps.many)))
+
+pub loop-queue-preserved : goal.loop-queue-preserved
+loop-queue-preserved c =
+    let w = c.args.cluster.now in
+    let p = c.args.p in
+    let queue = c.loop-queue.queue in
+    let there : HasNumber w.rows.paths queue = omega (arith, c.loop-queue-test.true, c.requires.apps.many) in
+    let masters = offers_at w p (master_wanted w.rows p) in
+    let asks = offers_at w p (asked w.rows p) in
+    let see = offer_of w.config (state_in w) (label_of w p) in
+    record {
+      masters =
+          one-more masters_in masters w.rows.paths queue c.loop-queue.auto.queue there (λ inner. ap (map see) (none-there w.rows c.inventory.ensures.sound (master_wanted w.rows p) queue inner))
+          c.loop-queue.sights.items c.add_leaf_sight.new.out.items c.loop-queue.invariant.masters c.in_ok-add_leaf_sight.ensures.masters;
+      asks =
+          one-more (asks_in (label_of w p)) asks w.rows.paths queue c.loop-queue.auto.queue there (λ inner. ap (map see) (none-there w.rows c.inventory.ensures.sound (asked w.rows p) queue inner))
+          c.loop-queue.sights.items c.add_leaf_sight.new.out.items c.loop-queue.invariant.asks c.in_ok-add_leaf_sight.ensures.asks;
+    }
 
 pub returns : goal.returns
-unfolding items_for asks_for
 returns c =
-    let scene = c.args.scene.now in
-    let rows = scene.tables.now.leaves.items in
-    let place = c.loop-place.place in
-    let so_far = c.loop-place.invariant in
-    let all : take place rows ≡ rows = take_all place rows (omega (arith, c.loop-place-test.false, c.len-place-end.ensures, scene.tables.now.leaves.ok)) in
-    (λ i. (so_far.masters ∙ ap (λ (rs : List LeafRow). offers_to_see scene (all_masters scene rs)) all) i ++ (so_far.asks ∙ ap (λ (rs : List LeafRow). offers_to_see scene (all_asks scene rs)) all) i)
-    ∙ sym (map-append (offer_to_see scene) (all_masters scene rows) (all_asks scene rows))
+    let w = c.args.cluster.now in
+    let p = c.args.p in
+    let see = offer_of w.config (state_in w) (label_of w p) in
+    let leaves = leaf_numbers w.rows.paths in
+    let all = all-before w.rows.paths c.loop-queue.queue (omega (arith, c.loop-queue-test.false, c.requires.apps.many)) in
+    (λ i.
+    (c.loop-queue.invariant.masters ∙ ap (flat_map (offers_at w p (master_wanted w.rows p))) all ∙ sym (map-flat see (items_in w.rows (master_wanted w.rows p)) leaves)) i
+    ++ (c.loop-queue.invariant.asks ∙ ap (flat_map (offers_at w p (asked w.rows p))) all ∙ sym (map-flat see (items_in w.rows (asked w.rows p)) leaves)) i)
+    ∙ sym (map-append see (flat_map (items_in w.rows (master_wanted w.rows p)) leaves) (flat_map (items_in w.rows (asked w.rows p)) leaves))
+    ∙ ap (map see) (sym (items-listed w c.inventory.ensures.sound p c.requires.partition))

@@ -1,12 +1,14 @@
-use Rattle.std.proofs.Common.{◌≡◌, take}
+use Rattle.std.proofs.Common.{◌≡◌}
 use Rattle.std.specs.Prelude.{flat_map}
-use Rattle.ynl_choice.specs.Choosing.{all_masters, all_asks}
-use Rattle.ynl_sights.specs.Rows.{masters_in, asks_in}
-use Rattle.ynl_sights.specs.Sources.{offers_to_see}
+use Rattle.ynl_cluster.specs.Cluster.{label_of}
+use Rattle.ynl_requests.specs.Requests.{asked, master_wanted}
+use Rattle.ynl_sights.specs.Copying.{offers_at}
+use Rattle.ynl_sights.specs.Rows.{asks_in, masters_in}
+use Rattle.ynl_sights.proofs.Leaves.{leaves_before}
 use Rattle.ynl_sights.proofs.copying.leaf_sights.Given as goal
 
-abbrev pub invariant-loop-place : goal.invariant-loop-place
-invariant-loop-place l = record {
-  masters : flat_map masters_in l.leaves.items ≡ offers_to_see l.scene (all_masters l.scene (take l.place l.scene.tables.now.leaves.items));
-  asks : flat_map (asks_in l.scene.label) l.leaves.items ≡ offers_to_see l.scene (all_asks l.scene (take l.place l.scene.tables.now.leaves.items));
+abbrev pub invariant-loop-queue : goal.invariant-loop-queue
+invariant-loop-queue l = record {
+  masters : flat_map masters_in l.sights.items ≡ flat_map (offers_at l.cluster l.p (master_wanted l.cluster.rows l.p)) (leaves_before l.cluster.rows.paths l.queue);
+  asks : flat_map (asks_in (label_of l.cluster l.p)) l.sights.items ≡ flat_map (offers_at l.cluster l.p (asked l.cluster.rows l.p)) (leaves_before l.cluster.rows.paths l.queue);
 }

@@ -1,7 +1,7 @@
-use Rattle.std.proofs.Common.{◌≡◌, take}
-use Rattle.ynl_choice.specs.Choosing.{masters_of}
-use Rattle.ynl_sights.specs.Sources.{masters_from, offers_to_see}
+use Rattle.std.proofs.Common.{◌≡◌, map, take}
+use Rattle.ynl_requests.specs.Laws.{in_leaf}
+use Rattle.ynl_sights.specs.Copying.{master_shown, one_by_one, shown}
 use Rattle.ynl_sights.proofs.gathering.masters_of.Given as goal
 
 abbrev pub invariant-loop-i : goal.invariant-loop-i
-invariant-loop-i l = masters_from l.source l.masters.items ≡ offers_to_see l.source.scene.now (masters_of l.source.scene.now l.source.row.now.path (take l.i l.source.row.now.apps.items))
+invariant-loop-i l = map shown l.masters.items ≡ one_by_one (master_shown l.cluster.rows l.p) 0 (take l.i (in_leaf l.leaf l.cluster.rows.apps))

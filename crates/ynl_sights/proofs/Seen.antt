@@ -1,0 +1,234 @@
+-- What is copied of the requests of a leaf is what there is to see of them.
+use Rattle.std.proofs.Common.{◌≡◌, ◌≤◌, ℕ, zero, suc, ◌+◌, Bool, true, false, not, ◌&&◌, cond, nat_eq, List, [], ◌∷◌, ◌++◌, length, map, filter, flat_map, take_all, slice_get, Some, refl, sym, ap, subst, ◌∙◌, arith}
+use Rattle.std.specs.Map.{lookup}
+use Rattle.std.specs.Prelude.{option_map}
+use Rattle.std.proofs.lemmas.Bool.Decides.{nat_tests}
+use Rattle.std.proofs.lemmas.List.{map-append}
+use Rattle.std.proofs.lemmas.Option.{same_Some, slice_get-map}
+use Rattle.ynl_resource.specs.Names.{way_to}
+use Rattle.ynl_resource.specs.declared.amounts.Resource.{Resource}
+use Rattle.ynl_resource.specs.declared.labels.Label.{Label}
+use Rattle.ynl_resource.specs.declared.paths.Path.{Path}
+use Rattle.ynl_model.specs.declared.proposals.What.{What}
+use Rattle.ynl_model.specs.declared.proposals.What.TheVariants.{Master, Ask as Asked}
+use Rattle.ynl_model.specs.Cluster.{State, user_used}
+use Rattle.ynl_model.specs.Service.{Item, key, place_in_leaf, rank, standing}
+use Rattle.ynl_queues.proofs.Prefixes.{way_end}
+use Rattle.ynl_app_table.specs.declared.asks.Ask.{Ask}
+use Rattle.ynl_inventory.specs.Rows.{AppRow}
+use Rattle.ynl_inventory.specs.Apps.{runs_at}
+use Rattle.ynl_inventory.specs.Meaning.{app_of}
+use Rattle.ynl_inventory.specs.Sound.{HasPartition, IsLeaf, IsSound}
+use Rattle.ynl_inventory.proofs.Submitted.{app-submission}
+use Rattle.ynl_requests.specs.Laws.{in_leaf}
+use Rattle.ynl_requests.specs.Requests.{ask_request, asked, item_for, master_request, master_wanted}
+use Rattle.ynl_seating.specs.Seating.{user_use}
+use Rattle.ynl_seating.proofs.Turns.{in-order}
+use Rattle.ynl_seating.proofs.UserUse.{is-user_use}
+use Rattle.ynl_leaf_apps.specs.Apps.{IsAppAt}
+use Rattle.ynl_leaf_apps.proofs.Places.{app-at, place-at}
+use Rattle.ynl_cluster.specs.Cluster.{ClusterView, label_of, maxima_in, path_of, state_in, stops_in}
+use Rattle.ynl_sights.specs.declared.rows.Way.{Way}
+use Rattle.ynl_sights.specs.declared.rows.Limits.{Limits}
+use Rattle.ynl_sights.specs.declared.rows.Wanted.{Wanted}
+use Rattle.ynl_sights.specs.declared.rows.Offered.{Offered}
+use Rattle.ynl_sights.specs.Sights.{Bid, Offer, bid_of, offer_of, reach_of}
+use Rattle.ynl_sights.specs.Rows.{asks_by, bid_in, bids_by, leaf_of, masters_by, offer_by, reach_in, reach_of_queue, standing_in, user_limit_in}
+use Rattle.ynl_sights.specs.Copying.{asked_shown, asks_shown, bids_at, items_in, master_shown, offers_at, one_by_one, shown, shown_as, wanted_as, AreLimitsOf, IsWayOf}
+use Rattle.ynl_sights.proofs.Listed.{map-flat}
+
+-- ---- of applications one after another
+
+-- what is made of all is made of one after another
+met : {X Y : Type 0} (g : X → Y) (each : ℕ → ℕ → AppRow → List X) (made : ℕ × AppRow → List Y) (P : ℕ → ℕ × AppRow → Type 0) → ((k : ℕ) (e : ℕ × AppRow) → P k e → map g (each k e.0 e.1) ≡ made e)
+    → (k : ℕ) (apps : List (ℕ × AppRow)) → ((i : ℕ) (e : ℕ × AppRow) → slice_get apps i ≡ Some e → P (k + i) e) → map g (one_by_one each k apps) ≡ flat_map made apps
+met g each made P same k [] at = refl
+met g each made P same k (e ∷ apps) at =
+    let here : k + zero ≡ k = omega arith in
+    map-append g (each k e.0 e.1) (one_by_one each (k + 1) apps)
+    ∙ (λ j. same k e (subst (λ n. P n e) here (at zero e refl)) j ++ met g each made P same (k + 1) apps (λ i f there. let next : k + suc i ≡ k + 1 + i = omega arith in subst (λ n. P n f) next (at (suc i) f there)) j)
+
+module _ (w : ClusterView) (sound : IsSound w.rows) (p : ℕ) (has : HasPartition w.rows p) (q : ℕ) where
+  abbrev s : State
+  s = state_in w
+
+  abbrev label : Label
+  label = label_of w p
+
+  abbrev path : Path
+  path = path_of w q
+
+  -- an application of the leaf stands in this place there
+  record StandsAt (k : ℕ) (e : ℕ × AppRow) : Type 0 where
+    found : lookup (nat_eq e.0) w.rows.apps ≡ Some e.1
+    own : e.1.leaf ≡ q
+    place : place_in_leaf s path (app_of w.rows e).name ≡ k
+
+  leaf-is : (n : ℕ) (row : AppRow) → lookup (nat_eq n) w.rows.apps ≡ Some row → row.leaf ≡ q → IsLeaf w.rows q
+  leaf-is n row found own = let s = app-submission w.rows sound n row found in subst (IsLeaf w.rows) own (record { there = s.there; none_below = s.leaf })
+
+  stands : (i : ℕ) (e : ℕ × AppRow) → slice_get (in_leaf q w.rows.apps) i ≡ Some e → StandsAt i e
+  stands i e there = subst (StandsAt i) (same_Some (e.0, at.row) e (sym at.place ∙ there)) (record { found = at.found; own = at.own; place = place-at w.rows sound (stops_in w) (maxima_in w) q (leaf-is e.0 at.row at.found at.own) i e.0 at })
+    where
+      at : IsAppAt w.rows q i e.0
+      at =
+          app-at w.rows sound q (map (λ (e : ℕ × AppRow). e.0) (in_leaf q w.rows.apps)) (record { rows = refl; apps = sym (in-order w.rows q sound) }) i e.0
+          (slice_get-map (λ (e : ℕ × AppRow). e.0) (in_leaf q w.rows.apps) i ∙ ap (option_map (λ (e : ℕ × AppRow). e.0)) there)
+
+  from-first : (i : ℕ) (e : ℕ × AppRow) → slice_get (in_leaf q w.rows.apps) i ≡ Some e → StandsAt (0 + i) e
+  from-first i e there = let here : i ≡ 0 + i = omega arith in subst (λ k. StandsAt k e) here (stands i e there)
+
+  module _ (way : Way) (is : IsWayOf w p q way) where
+    whole : length path ≤ length path
+    whole = omega arith
+
+    way-leaf : leaf_of way ≡ path
+    way-leaf = is.names ∙ take_all (length path) path whole
+
+    way-stands : map standing_in way.queues.items ≡ map (standing w.config s label) (way_to path)
+    way-stands = is.stand ∙ ap (map (standing w.config s label)) (way_end path (length path) whole)
+
+    way-reaches : map reach_of_queue way.queues.items ≡ map (reach_of s label) (way_to path)
+    way-reaches = is.reach ∙ ap (map (reach_of s label)) (way_end path (length path) whole)
+
+    -- the request of a row that is copied so
+    abbrev item_at : Path → What → Wanted → Item
+    item_at leaf what wanted = record { leaf = leaf; app = wanted.app; user = wanted.user; what = what; size = wanted.size }
+
+    bid-is : (what : What) (wanted : Wanted) → wanted.place ≡ place_in_leaf s path wanted.app → bid_in way what wanted ≡ bid_of w.config s label (item_at path what wanted)
+    unfolding key
+    bid-is what wanted at = λ i. record {
+      item = item_at (way-leaf i) what wanted;
+      key = record { standings = way-stands i; turn = at i ∷ rank what };
+    }
+
+    bid-seen : (k : ℕ) (e : ℕ × AppRow) → StandsAt k e → (what : What) (size : Resource) (priority : ℕ)
+        → bid_in way what (wanted_as w.rows k e.1 size priority) ≡ bid_of w.config s label (item_at (path_of w e.1.leaf) what (wanted_as w.rows k e.1 size priority))
+    bid-seen k e at what size priority =
+        bid-is what (wanted_as w.rows k e.1 size priority) (sym at.place)
+        ∙ ap (λ leaf. bid_of w.config s label (item_at leaf what (wanted_as w.rows k e.1 size priority))) (ap (path_of w) (sym at.own))
+
+    -- ---- asks, by any meaning of one
+
+    module _ {Y : Type 0} (show : Resource × Wanted → Y) (see : Item → Y)
+        (one : (k : ℕ) (e : ℕ × AppRow) → StandsAt k e → (size : Resource) (priority : ℕ)
+        → show (shown_as w.rows p k e.1 size priority) ≡ see (item_at (path_of w e.1.leaf) (Asked label priority) (wanted_as w.rows k e.1 size priority))) where
+      asks-one : (k : ℕ) (e : ℕ × AppRow) → StandsAt k e → (asks : List Ask)
+          → map show (asks_shown w.rows p k e.1 asks) ≡ map see (map (item_for w.rows e.1) (map ask_request (filter (λ ask. nat_eq ask.partition p) asks)))
+      asks-one k e at [] = refl
+      asks-one k e at (ask ∷ asks) = go (nat_eq ask.partition p) refl (asks-one k e at asks)
+        where
+          others : List Ask
+          others = filter (λ ask. nat_eq ask.partition p) asks
+
+          go : (b : Bool) → nat_eq ask.partition p ≡ b → map show (asks_shown w.rows p k e.1 asks) ≡ map see (map (item_for w.rows e.1) (map ask_request others))
+              → map show (map (λ ask. shown_as w.rows p k e.1 ask.size ask.priority) (cond b (ask ∷ others) others)) ≡ map see (map (item_for w.rows e.1) (map ask_request (cond b (ask ∷ others) others)))
+          go true own rest =
+              let there : p ≡ ask.partition = grind (arith, nat_tests, own) in
+              λ i.
+              (one k e at ask.size ask.priority ∙ ap (λ n. see (item_at (path_of w e.1.leaf) (Asked (label_of w n) ask.priority) (wanted_as w.rows k e.1 ask.size ask.priority))) there) i
+              ∷ rest i
+          go false own rest = rest
+
+      asked-one : (k : ℕ) (e : ℕ × AppRow) → StandsAt k e → map show (asked_shown w.rows p k e.0 e.1) ≡ map see (map (item_for w.rows e.1) (asked w.rows p e.0 e.1))
+      asked-one k e at = go (runs_at w.rows e.0 e.1)
+        where
+          go : (b : Bool) → map show (cond b (asks_shown w.rows p k e.1 e.1.asks) [])
+              ≡ map see (map (item_for w.rows e.1) (cond b (map ask_request (filter (λ ask. nat_eq ask.partition p) e.1.asks)) []))
+          go true = asks-one k e at e.1.asks
+          go false = refl
+
+      asked-all : map show (one_by_one (asked_shown w.rows p) 0 (in_leaf q w.rows.apps)) ≡ map see (items_in w.rows (asked w.rows p) q)
+      asked-all =
+          met show (asked_shown w.rows p) (λ e. map see (map (item_for w.rows e.1) (asked w.rows p e.0 e.1))) StandsAt asked-one 0 (in_leaf q w.rows.apps) from-first
+          ∙ sym (map-flat see (λ (e : ℕ × AppRow). map (item_for w.rows e.1) (asked w.rows p e.0 e.1)) (in_leaf q w.rows.apps))
+
+    -- ---- guests
+
+    abbrev bid_shown : Resource × Wanted → Bid
+    bid_shown one = bid_in way (Asked label one.1.priority) one.1
+
+    bids-shown : (offered : List Offered) → bids_by label way (map (λ one. one.wanted) offered) ≡ map bid_shown (map shown offered)
+    bids-shown [] = refl
+    bids-shown (one ∷ offered) = ap (λ rest. bid_in way (Asked label one.wanted.priority) one.wanted ∷ rest) (bids-shown offered)
+
+    pub bids-seen : (offered : List Offered) → map shown offered ≡ one_by_one (asked_shown w.rows p) 0 (in_leaf q w.rows.apps) → (asks : List Wanted) → asks ≡ map (λ one. one.wanted) offered
+        → bids_by label way asks ≡ bids_at w p (asked w.rows p) q
+    bids-seen offered are_shown asks are_wanted =
+        ap (bids_by label way) are_wanted ∙ bids-shown offered ∙ ap (map bid_shown) are_shown
+        ∙ asked-all bid_shown (bid_of w.config s label) (λ k e at size priority. bid-seen k e at (Asked label priority) size priority)
+
+    -- ---- what is wanted on the partition
+
+    module _ (limits : Limits) (are : AreLimitsOf w p q limits) where
+      abbrev offer_shown : (Wanted → What) → Resource × Wanted → Offer
+      offer_shown what one = record {
+        bid = bid_in way (what one.1) one.1;
+        tests = record {
+          way = reach_in limits.root ∷ map reach_of_queue way.queues.items;
+          user_used = one.0;
+          user_limit = user_limit_in limits one.1.size;
+          masters_used = limits.masters;
+          master_limit = limits.master_limit;
+          no_master = limits.no_master;
+        };
+      }
+
+      offer-seen : (k : ℕ) (e : ℕ × AppRow) → StandsAt k e → (what : Wanted → What) (size : Resource) (priority : ℕ)
+          → offer_shown what (shown_as w.rows p k e.1 size priority)
+          ≡ offer_of w.config s label (item_at (path_of w e.1.leaf) (what (wanted_as w.rows k e.1 size priority)) (wanted_as w.rows k e.1 size priority))
+      offer-seen k e at what size priority =
+          (λ i. record {
+            bid = bid-is (what one) one (sym at.place) i;
+            tests = record {
+              way = are.root i ∷ way-reaches i;
+              user_used = used i;
+              user_limit = are.user_limit size i;
+              masters_used = are.masters i;
+              master_limit = are.master_limit i;
+              no_master = are.no_master i;
+            };
+          })
+          ∙ ap (λ leaf. offer_of w.config s label (item_at leaf (what one) one)) (ap (path_of w) (sym at.own))
+        where
+          one : Wanted
+          one = wanted_as w.rows k e.1 size priority
+
+          used : user_use w.rows p e.1.leaf e.1.user ≡ user_used s path one.user label
+          used =
+              ap (λ l. user_use w.rows p l e.1.user) at.own
+              ∙ sym (is-user_use w.rows sound p q e.1.user has (leaf-is e.0 e.1 at.found at.own) (sound.apps e.0 e.1 at.found).user (stops_in w) (maxima_in w))
+
+      abbrev see : Item → Offer
+      see = offer_of w.config s label
+
+      abbrev as_master : Wanted → What
+      as_master one = Master
+
+      master-one : (k : ℕ) (e : ℕ × AppRow) → StandsAt k e → map (offer_shown as_master) (master_shown w.rows p k e.0 e.1) ≡ map see (map (item_for w.rows e.1) (master_wanted w.rows p e.0 e.1))
+      master-one k e at = go (not (runs_at w.rows e.0 e.1) && nat_eq e.1.home p)
+        where
+          go : (b : Bool) → map (offer_shown as_master) (cond b (shown_as w.rows p k e.1 e.1.master 0 ∷ []) []) ≡ map see (map (item_for w.rows e.1) (cond b (master_request e.1 ∷ []) []))
+          go true = ap (λ offer. offer ∷ []) (offer-seen k e at as_master e.1.master 0)
+          go false = refl
+
+      masters-shown : (offered : List Offered) → masters_by way limits offered ≡ map (offer_shown as_master) (map shown offered)
+      masters-shown [] = refl
+      masters-shown (one ∷ offered) = ap (λ rest. offer_by way limits Master one ∷ rest) (masters-shown offered)
+
+      pub masters-seen : (offered : List Offered) → map shown offered ≡ one_by_one (master_shown w.rows p) 0 (in_leaf q w.rows.apps) → masters_by way limits offered ≡ offers_at w p (master_wanted w.rows p) q
+      masters-seen offered are_shown =
+          masters-shown offered ∙ ap (map (offer_shown as_master)) are_shown
+          ∙ met (offer_shown as_master) (master_shown w.rows p) (λ e. map see (map (item_for w.rows e.1) (master_wanted w.rows p e.0 e.1))) StandsAt master-one 0 (in_leaf q w.rows.apps) from-first
+          ∙ sym (map-flat see (λ (e : ℕ × AppRow). map (item_for w.rows e.1) (master_wanted w.rows p e.0 e.1)) (in_leaf q w.rows.apps))
+
+      abbrev as_ask : Wanted → What
+      as_ask one = Asked label one.priority
+
+      asks-shown : (offered : List Offered) → asks_by label way limits offered ≡ map (offer_shown as_ask) (map shown offered)
+      asks-shown [] = refl
+      asks-shown (one ∷ offered) = ap (λ rest. offer_by way limits (Asked label one.wanted.priority) one ∷ rest) (asks-shown offered)
+
+      pub asks-seen : (offered : List Offered) → map shown offered ≡ one_by_one (asked_shown w.rows p) 0 (in_leaf q w.rows.apps) → asks_by label way limits offered ≡ offers_at w p (asked w.rows p) q
+      asks-seen offered are_shown =
+          asks-shown offered ∙ ap (map (offer_shown as_ask)) are_shown ∙ asked-all (offer_shown as_ask) see (λ k e at size priority. offer-seen k e at as_ask size priority)

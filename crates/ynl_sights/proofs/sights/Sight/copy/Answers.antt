@@ -1,0 +1,31 @@
+use Rattle.std.proofs.Common.{◌≡◌, nat_eq, map, Some, sym, ap, ◌∙◌}
+use Rattle.std.specs.Map.{lookup}
+use Rattle.std.proofs.lemmas.Option.{same_Some}
+use Rattle.ynl_resource.specs.declared.labels.Label.{Label}
+use Rattle.ynl_model.specs.declared.nodes.Node.{Node}
+use Rattle.ynl_model.specs.Service.{items_for}
+use Rattle.ynl_inventory.specs.Rows.{NodeRow}
+use Rattle.ynl_inventory.specs.Meaning.{node_of}
+use Rattle.ynl_inventory.specs.Parts.{Held, free_of, node_row}
+use Rattle.ynl_cluster.specs.Cluster.{label_of, maxima_in, state_in, stops_in}
+use Rattle.ynl_search.proofs.FreeMeans.{free-means}
+use Rattle.ynl_sights.specs.Rows.{offers_in}
+use Rattle.ynl_sights.specs.Sights.{guests_in, offer_of}
+use Rattle.ynl_sights.proofs.sights.Sight.copy.Goals as goal
+
+pub returns : goal.returns
+returns c = λ row at.
+    let w = c.args.cluster.now in
+    let s = state_in w in
+    let is = c.inventory-inventory.ensures in
+    let mine = node_row c.node.result.now in
+    let found : lookup (nat_eq c.args.node) w.rows.nodes ≡ Some mine = rw is.value at c.node.ensures in
+    let same : mine ≡ row = same_Some mine row (sym found ∙ at) in
+    let label : label_of w c.node.result.now.partition ≡ label_of w row.partition = ap (λ (r : NodeRow). label_of w r.partition) same in
+    let node : c.node_at.result ≡ node_of w.rows.partitions row = c.node_at.ensures row at in
+    let room = c.free.ensures ∙ ap (λ (h : Held). free_of h.rows c.args.node) is.value ∙ sym (free-means w.rows is.sound c.args.node row at (stops_in w) (maxima_in w)) in
+    let own = c.in_ok-leaves.leaves.items in
+    let offers =
+    ap (λ (l : Label). offers_in l own) (ap (λ (n : Node). n.label) node ∙ sym label) ∙ c.in_ok-leaves.ensures ∙ ap (λ (l : Label). map (offer_of w.config s l) (items_for s l)) label in
+    let guests = c.in_ok-guests.ensures ∙ ap (guests_in w.config s) label in
+    λ i. record { node = node i; free = room i; offers = offers i; guests = guests i }
