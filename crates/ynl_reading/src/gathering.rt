@@ -1,67 +1,28 @@
-//! What is gathered of the tables.
+//! Partitions and nodes, and what is chosen on a node.
 
-ghost use Rattle.std.specs.Prelude.{◌≡◌, IfOk, Some, map, option_map};
-ghost use Rattle.ynl_model.specs.Applications.{Application, find_app};
-ghost use Rattle.ynl_model.specs.Events.{pending_on};
+ghost use Rattle.std.specs.Prelude.{◌≡◌, ◌++◌, ◌∷◌, [], nat_eq, IfOk, OnOk, Some};
+ghost use Rattle.std.specs.List.{Contains};
+ghost use Rattle.std.specs.Map.{lookup};
+ghost use Rattle.ynl_model.specs.Check.{proposed};
+ghost use Rattle.ynl_model.specs.Cluster.{is_spent};
 ghost use Rattle.ynl_model.specs.Nodes.{partition_labels};
-ghost use Rattle.ynl_tables.specs.Bounds.{IsReadable};
-ghost use Rattle.ynl_tables.specs.Marked.{IsMarkedApp};
-ghost use Rattle.ynl_tables.specs.Tables.{app_of, state_of};
+ghost use Rattle.ynl_model.specs.Service.{takes_guests};
+ghost use Rattle.ynl_slots.specs.Slots.{IsLive};
+ghost use Rattle.ynl_inventory.specs.Rows.{NodeRow};
+ghost use Rattle.ynl_inventory.specs.Meaning.{node_of};
+ghost use Rattle.ynl_cluster.specs.Cluster.{state_in};
 ghost use Rattle.ynl_waits.specs.Grounds.{all_spots, spot};
-ghost use Rattle.ynl_reasons.specs.Facts as spec;
+ghost use Rattle.ynl_reading.specs.Readings.{IsNodeHere};
 
 use std::alloc::{AllocError, Global};
-use ynl_model::{Node, Pending};
+use ynl_admission::{node_named, partition_of};
+use ynl_cluster::Cluster;
+use ynl_model::{Node, Proposal};
 use ynl_queues::Config;
-use ynl_reasons::Found;
-use ynl_resource::{Label, Name};
-use ynl_tables::{Live, Tables, free, live_at, pending_on, runs};
-use ynl_waits::{Applicant, Spot};
-
-/// A live application, with what is wanted for its master.
-fn found_of(tables: &Tables, live: Live<'_>) -> Found
-    requires { IsMarkedApp (state_of tables.now) live.leaf.now live.app.now }
-    ensures { result ≡ spec.found_of (state_of tables.now) (app_of live.entry.leaf.now live.entry.app.now) }
-{
-    Found {
-        applicant: Applicant {
-            leaf: *live.leaf,
-            name: live.app.name,
-            user: live.app.user,
-            runs: runs(tables, live.leaf, live.app),
-        },
-        home: live.app.home,
-        master: live.app.master,
-    }
-}
-
-/// The live application of a tenant and a name, with what is wanted for its master.
-pub(crate) fn found_in(tables: &Tables, tenant: &Name, name: &Name) -> Option<Found>
-    requires { IsReadable tables.now }
-    ensures { result ≡ option_map (spec.found_of (state_of tables.now)) (find_app (state_of tables.now).leaves tenant.now name.now) }
-{
-    match live_at(&tables.numbers, &tables.leaves, tenant, name) {
-        Some(live) => Some(found_of(tables, live)),
-        None => None,
-    }
-}
-
-/// What a live application asks for under a label, by priority.
-pub(crate) fn asks_in(
-    alloc: Global,
-    tables: &Tables,
-    tenant: &Name,
-    name: &Name,
-    label: &Label,
-) -> Result<Vec<Pending>, AllocError>
-    requires { IsReadable tables.now }
-    ensures { IfOk result (λ asks. (app : Application) → find_app (state_of tables.now).leaves tenant.now name.now ≡ Some app → asks.items ≡ pending_on label.now app) }
-{
-    match live_at(&tables.numbers, &tables.leaves, tenant, name) {
-        Some(live) => pending_on(alloc, live.app, label),
-        None => Ok(Vec::new(alloc)),
-    }
-}
+use ynl_resource::Label;
+use ynl_service::proposed;
+use ynl_shut::Shut;
+use ynl_waits::Spot;
 
 /// The labels of all partitions: DEFAULT first, then as configured.
 pub(crate) fn labels_of(alloc: Global, config: &Config) -> Result<Vec<Label>, AllocError>
@@ -75,26 +36,94 @@ pub(crate) fn labels_of(alloc: Global, config: &Config) -> Result<Vec<Label>, Al
     Ok(labels)
 }
 
-/// Nodes, each with what is free on it.
-fn spots_among(alloc: Global, tables: &Tables, nodes: &[Node]) -> Result<Vec<Spot>, AllocError>
-    requires { IsReadable tables.now }
-    ensures { IfOk result (λ spots. spots.items ≡ map (spot (state_of tables.now)) nodes.now) }
+/// Whether a partition takes guests: it is not exclusive, and not DEFAULT.
+pub(crate) fn takes_guests(config: &Config, label: &Label) -> bool
+    ensures { result ≡ takes_guests config.now label.now }
 {
+    match label {
+        Label::Unlabelled => false,
+        Label::Named(_) => !config.labels().exclusive(label),
+    }
+}
+
+/// Whether the clock of a partition stands at its limit. That of an unknown label is 0.
+pub(crate) fn is_spent(cluster: &Cluster, label: &Label) -> bool
+    ensures { result ≡ is_spent cluster.now.config.labels (state_in cluster.now) label.now }
+{
+    let inventory = cluster.inventory();
+    match partition_of(cluster, label) {
+        Some(p) => inventory.is_spent(p),
+        None => true,
+    }
+}
+
+/// A node, with what is free on it.
+fn spot_of(cluster: &Cluster, node: u32) -> Spot
+    requires { IsLive node cluster.now.rows.nodes }
+    ensures { (row : NodeRow) → lookup (nat_eq node) cluster.now.rows.nodes ≡ Some row
+        → result ≡ spot (state_in cluster.now) (node_of cluster.now.rows.partitions row) }
+{
+    let inventory = cluster.inventory();
+    let row = inventory.node(node);
+    Spot {
+        node: Node {
+            name: row.name,
+            label: *inventory.label(row.partition),
+            size: row.size,
+            stamp: row.stamp,
+        },
+        free: inventory.free(node),
+    }
+}
+
+/// A node comes last.
+fn add(spots: &mut Vec<Spot>, spot: &Spot) -> Result<(), AllocError>
+    ensures { OnOk result (spots.new.items ≡ spots.old.items ++ spot.now ∷ []) }
+{
+    spots.push(Spot {
+        node: Node {
+            name: spot.node.name,
+            label: spot.node.label,
+            size: spot.node.size,
+            stamp: spot.node.stamp,
+        },
+        free: spot.free,
+    })?;
+    Ok(())
+}
+
+/// All nodes, each with what is free on it. It fails if memory is refused.
+pub(crate) fn spots_of(alloc: Global, cluster: &Cluster) -> Result<Vec<Spot>, AllocError>
+    ensures { IfOk result (λ spots. spots.items ≡ all_spots (state_in cluster.now)) }
+{
+    let inventory = cluster.inventory();
+    let nodes = inventory.live_nodes(alloc)?;
     let mut spots = Vec::new(alloc);
-    for node in nodes {
-        spots.push(Spot {
-            node: *node,
-            free: free(tables, node),
-        })?;
+    for i in 0..nodes.len() {
+        add(&mut spots, &spot_of(cluster, nodes[i]))?;
     }
     Ok(spots)
 }
 
-/// All nodes, each with what is free on it.
-pub(crate) fn spots_of(alloc: Global, tables: &Tables) -> Result<Vec<Spot>, AllocError>
-    requires { IsReadable tables.now }
-    ensures { IfOk result (λ spots. spots.items ≡ all_spots (state_of tables.now)) }
+/// The number of one of the nodes.
+fn number_of(cluster: &Cluster, node: &Node) -> u32
+    requires { Contains (state_in cluster.now).nodes node.now }
+    ensures { IsNodeHere cluster.now node.now result }
 {
-    let nodes = tables.nodes.all(alloc)?;
-    spots_among(alloc, tables, &nodes)
+    // Opens the inventory, whose rows are sound.
+    let _ = cluster.inventory();
+    let Some(number) = node_named(cluster, &node.name) else {
+        unreachable!()
+    };
+    number
+}
+
+/// The choice on one of the nodes, as a proposal.
+pub(crate) fn choice_on(alloc: Global, cluster: &Cluster, node: &Node) -> Option<Proposal>
+    requires { Contains (state_in cluster.now).nodes node.now }
+    ensures { result ≡ proposed cluster.now.config (state_in cluster.now) node.now }
+{
+    let number = number_of(cluster, node);
+    let mut shut = Shut::none(alloc);
+    proposed(cluster, &mut shut, number)
 }

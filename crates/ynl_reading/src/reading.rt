@@ -1,37 +1,34 @@
-//! What an explanation reads of the tables.
+//! What an explanation reads of a cluster.
 
 ghost use Rattle.std.specs.Prelude.{◌≡◌, IfOk};
-ghost use Rattle.ynl_tables.specs.Bounds.{IsReadable};
-ghost use Rattle.ynl_tables.specs.Numbers.{AreQueuesOf};
-ghost use Rattle.ynl_tables.specs.Tables.{state_of};
+ghost use Rattle.ynl_cluster.specs.Cluster.{state_in};
 ghost use Rattle.ynl_waits.specs.Waits.{explained_of};
 
-use crate::gathering::{asks_in, found_in, labels_of, spots_of};
+use crate::asking::{asks_in, found_in, user_used_at};
+use crate::cells::{leaf_guaranteed, leaf_used, maximum_at, used_at};
+use crate::gathering::{choice_on, is_spent, labels_of, spots_of, takes_guests};
+use crate::limits::{master_limit_of, user_limit_of};
 use std::alloc::{AllocError, Global};
 use std::marker::Model;
-use ynl_choice::{Lulls, master_limit_of, propose, takes_guests, user_limit_of};
+use ynl_cluster::Cluster;
 use ynl_model::{Node, Pending, Proposal};
-use ynl_queues::Config;
 use ynl_reasons::{Facts, Found, explain as explain_by};
-use ynl_resource::{Label, Name, Path, Resource, Size};
-use ynl_tables::{Tables, is_spent, masters_used, no_master_in, used, user_used};
-use ynl_waits::{Explained, Spot};
+use ynl_resource::{Label, Name, Resource, Size};
+use ynl_waits::{Applicant, Explained, Spot};
 
-/// The tables of a cluster. A contract sees the configuration and the state.
+/// A cluster that is read. A contract sees the configuration and the state.
 #[derive(Drop)]
 struct Reading<'a> {
-    config: &'a Config,
-    tables: &'a Tables,
+    alloc: Global,
+    cluster: &'a Cluster,
 }
 
 impl<'a> Model for Reading<'a> {
-    ghost use Rattle.ynl_reading.specs.Readings.{Seen, seen_of, IsReading};
+    ghost use Rattle.ynl_reading.specs.Seen.{Seen, seen_of};
 
     ghost Value = { Seen };
 
     ghost view = { seen_of };
-
-    ghost invariant = { IsReading };
 }
 
 impl<'a> Facts for Reading<'a> {
@@ -40,7 +37,7 @@ impl<'a> Facts for Reading<'a> {
     ghost state = { λ r. r.state };
 
     fn find(&self, tenant: &Name, name: &Name) -> Option<Found> {
-        found_in(self.tables, tenant, name)
+        found_in(self.cluster, tenant, name)
     }
 
     fn asks(
@@ -50,79 +47,72 @@ impl<'a> Facts for Reading<'a> {
         name: &Name,
         label: &Label,
     ) -> Result<Vec<Pending>, AllocError> {
-        asks_in(alloc, self.tables, tenant, name, label)
+        asks_in(alloc, self.cluster, tenant, name, label)
     }
 
     fn labels(&self, alloc: Global) -> Result<Vec<Label>, AllocError> {
-        labels_of(alloc, self.config)
+        labels_of(alloc, self.cluster.config())
     }
 
     fn takes_guests(&self, label: &Label) -> bool {
-        takes_guests(self.config, label)
+        takes_guests(self.cluster.config(), label)
     }
 
     fn is_spent(&self, label: &Label) -> bool {
-        is_spent(self.config, self.tables, label)
+        is_spent(self.cluster, label)
     }
 
     fn spots(&self, alloc: Global) -> Result<Vec<Spot>, AllocError> {
-        spots_of(alloc, self.tables)
+        spots_of(alloc, self.cluster)
     }
 
     fn choice_on(&self, node: &Node) -> Option<Proposal> {
-        let mut lulls = Lulls::none(*self.tables.leaves.allocator());
-        propose(self.config, self.tables, &mut lulls, node)
+        choice_on(self.alloc, self.cluster, node)
     }
 
-    fn used(&self, queue: &[Name], label: &Label) -> Resource {
-        used(self.tables, queue, label)
+    fn used(&self, app: &Applicant, depth: usize, label: &Label) -> Resource {
+        used_at(self.cluster, app, depth, label).used
     }
 
-    #[tactic(auto, unfolding(ynl_model::specs::Cluster::maximum))]
-    fn maximum(&self, queue: &[Name], label: &Label) -> Resource {
-        let total = self.tables.nodes.total(label);
-        self.tables.maxima.maximum(queue, label, &total)
+    fn maximum(&self, app: &Applicant, depth: usize, label: &Label) -> Resource {
+        maximum_at(self.cluster, app, depth, label)
     }
 
-    #[tactic(auto, unfolding(ynl_model::specs::Cluster::guaranteed))]
-    fn guaranteed(&self, leaf: &Path, label: &Label) -> Resource {
-        let total = self.tables.nodes.total(label);
-        self.config.guaranteed(leaf.names(), label, &total)
+    fn guaranteed(&self, app: &Applicant, label: &Label) -> Resource {
+        leaf_guaranteed(self.cluster, app, label)
     }
 
-    fn user_used(&self, leaf: &Path, user: &Name, label: &Label) -> Resource {
-        user_used(self.tables, 0, leaf.names(), user, label)
+    fn user_used(&self, app: &Applicant, label: &Label) -> Resource {
+        user_used_at(self.cluster, app, label)
     }
 
-    fn user_limit(&self, leaf: &Path, label: &Label, size: &Size) -> Resource {
-        user_limit_of(self.config, self.tables, leaf, label, size)
+    fn user_limit(&self, app: &Applicant, label: &Label, size: &Size) -> Resource {
+        user_limit_of(self.cluster, &app.leaf, label, size)
     }
 
-    fn masters_used(&self, leaf: &Path, label: &Label) -> Resource {
-        masters_used(self.tables, leaf.names(), label)
+    fn masters_used(&self, app: &Applicant, label: &Label) -> Resource {
+        leaf_used(self.cluster, app, label).masters
     }
 
-    fn master_limit(&self, leaf: &Path, label: &Label) -> Resource {
-        master_limit_of(self.config, self.tables, leaf, label)
+    fn master_limit(&self, app: &Applicant, label: &Label) -> Resource {
+        master_limit_of(self.cluster, &app.leaf, label)
     }
 
-    fn has_no_master(&self, leaf: &Path, label: &Label) -> bool {
-        no_master_in(self.tables, leaf.names(), label)
+    fn has_no_master(&self, app: &Applicant, label: &Label) -> bool {
+        leaf_used(self.cluster, app, label).master_count == 0
     }
 }
 
-/// Why the requests of a tenant's application wait.
+/// Why the requests of a tenant's application wait. It fails if memory is refused.
 pub fn explain(
     alloc: Global,
-    config: &Config,
-    tables: &Tables,
+    cluster: &Cluster,
     tenant: &Name,
     app: &Name,
 ) -> Result<Explained, AllocError>
-    requires readable { IsReadable tables.now }
-    requires numbered { AreQueuesOf config.now tables.now.numbers }
-    ensures { IfOk result (λ explained. explained ≡ explained_of config.now (state_of tables.now) tenant.now app.now) }
+    ensures { IfOk result (λ explained.
+        explained ≡ explained_of cluster.now.config (state_in cluster.now) tenant.now app.now) }
 {
-    let reading = Reading { config, tables };
+    let reading = Reading { alloc, cluster };
     explain_by(alloc, &reading, tenant, app)
 }
