@@ -160,29 +160,6 @@ pub reindexed : (f g : Name → Option ℕ) → ((q : Name) → g q ≡ f q) →
 reindexed f g same entries new top after h e t =
     subst (λ es. Ix g es after) (sym e) (subst (Ix g entries) (sym t) (subst (λ k. Ix k entries top) (λ i q. sym (same q) i) h))
 
--- the same under another index that finds the same
-reindexed_by : (f : Name → Option ℕ) (entries new : List (ℕ × Node)) (top after : ℕ) → Ix f entries top → new ≡ entries → after ≡ top → Ix f new after
-reindexed_by f entries new top after h e t = reindexed f f (λ q. refl) entries new top after h e t
-
--- ---- a node is set in its place
-
-module _ (f : Name → Option ℕ) (name : Name) (n : ℕ) (at : f name ≡ Some n) (node : Node) (called : node.name ≡ name) where
-  set_known : (entries : List (ℕ × Node)) → Known f entries → Known f (with_at n node entries)
-  set_known [] known = tt
-  set_known (e ∷ entries) known = (go (eqb n e.0), set_known entries known.1)
-    where
-      go : (b : Bool) → f (cond b (n, node) e).1.name ≡ Some (cond b (n, node) e).0
-      go true = ap f called ∙ at
-      go false = known.0
-
-  set_owns : (q : Name) (m : ℕ) (entries : List (ℕ × Node)) → Known f entries → f q ≡ Some m → (n ≡ m → name ≡ q) → Owns q m entries → Owns q m (with_at n node entries)
-  set_owns q m [] known to same own = tt
-  set_owns q m (e ∷ entries) known to same own = (go (eqb n e.0), set_owns q m entries known.1 to same own.1)
-    where
-      go : (b : Bool) → (cond b (n, node) e).0 ≡ m → (cond b (n, node) e).1.name ≡ q
-      go true k = called ∙ same k
-      go false k = own.0 k
-
 -- ---- a name leads to nothing that is there
 
 module _ (f : Name → Option ℕ) (name : Name) where
@@ -219,19 +196,3 @@ rejoined_index f g name n m at come entries new row top after h called below abo
     go : (q : Name) (b : Bool) → cond b (Some m) (f q) ≡ cond b (Some m) (cond b None (f q))
     go q true = refl
     go q false = refl
-
--- the index stays where a node of the same name is set in its place
-pub set_index : (f : Name → Option ℕ) (name : Name) (n : ℕ) (node : Node) → f name ≡ Some n → node.name ≡ name → (entries new : List (ℕ × Node)) (top after : ℕ) → (there : lookup (nat_eq n) entries ≢ None) → Ix f entries top → new ≡ with_at n node entries → after ≡ top → Ix f new after
-set_index f name n node at called entries new top after there h e t =
-    reindexed_by f (with_at n node entries) new top after (record {
-      known = set_known f name n at node called entries h.known;
-      named = λ q m to. ((h.named q m to).0, set_owns f name n at node called q m entries h.known to (λ k. same_owner entries there h.known (h.named name n at).1 (subst (λ l. Owns q l entries) (sym k) (h.named q m to).1)) (h.named q m to).1);
-    }) e t
-  where
-    same_owner : {q : Name} (entries : List (ℕ × Node)) → lookup (nat_eq n) entries ≢ None → Known f entries → Owns name n entries → Owns q n entries → name ≡ q
-    same_owner [] some known own other = absurd (some refl)
-    same_owner {q = q} (e ∷ entries) some known own other = go (eqb n e.0) refl (λ k. same_owner entries k known.1 own.1 other.1)
-      where
-        go : (b : Bool) → eqb n e.0 ≡ b → (lookup (nat_eq n) entries ≢ None → name ≡ q) → name ≡ q
-        go true p rest = let here : e.0 ≡ n = grind (arith, nat_tests) in sym (own.0 here) ∙ other.0 here
-        go false p rest = rest (λ k. some (ap (λ b. cond b (Some e.1) (lookup (nat_eq n) entries)) p ∙ k))

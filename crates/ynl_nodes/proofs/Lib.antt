@@ -2,4 +2,3 @@ pub mod Indexed
 pub mod Places
 pub mod Summed
 pub mod Whole
-pub mod Resting

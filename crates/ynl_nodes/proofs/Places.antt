@@ -34,16 +34,6 @@ module _ (n : ℕ) (test : Node → Bool) where
       go true b q k = k ∙ ap (λ c. cond (not c) (e.1 ∷ without test (map (λ e. e.1) entries)) (without test (map (λ e. e.1) entries))) q
       go false b q k = ap (λ rs. e.1 ∷ rs) k ∙ ap (λ c. cond (not c) (e.1 ∷ without test (map (λ e. e.1) entries)) (without test (map (λ e. e.1) entries))) q
 
-  pub set_by : (node : Node) (change : Node → Node) (entries : List (ℕ × Node)) → Agrees n test entries → IsOnly n node entries → map (λ e. e.1) (with_at n (change node) entries) ≡ update test change (map (λ e. e.1) entries)
-  set_by node change [] h only = refl
-  set_by node change (e ∷ entries) h only = let first = go (eqb n e.0) refl h.0 in let rest = set_by node change entries h.1 only.1 in λ i. first i ∷ rest i
-    where
-      go : (b : Bool) → eqb n e.0 ≡ b → b ≡ test e.1 → (cond b (n, change node) e).1 ≡ cond (test e.1) (change e.1) e.1
-      go true p q =
-          let here : e.0 ≡ n = grind (arith, nat_tests) in
-          ap change (sym (only.0 here)) ∙ ap (λ c. cond c (change e.1) e.1) q
-      go false p q = ap (λ c. cond c (change e.1) e.1) q
-
 module _ (test : Node → Bool) where
   pub none_by : (entries : List (ℕ × Node)) → Nowhere test entries → None ≡ find test (map (λ e. e.1) entries)
   none_by [] h = refl
@@ -52,10 +42,6 @@ module _ (test : Node → Bool) where
   pub stays_by : (entries : List (ℕ × Node)) → Nowhere test entries → map (λ e. e.1) entries ≡ without test (map (λ e. e.1) entries)
   stays_by [] h = refl
   stays_by (e ∷ entries) h = ap (λ rs. e.1 ∷ rs) (stays_by entries h.1) ∙ sym (ap (λ b. cond (not b) (e.1 ∷ without test (map (λ e. e.1) entries)) (without test (map (λ e. e.1) entries))) h.0)
-
-  pub same_by : (change : Node → Node) (entries : List (ℕ × Node)) → Nowhere test entries → map (λ e. e.1) entries ≡ update test change (map (λ e. e.1) entries)
-  same_by change [] h = refl
-  same_by change (e ∷ entries) h = let first = sym (ap (λ b. cond b (change e.1) e.1) h.0) in let rest = same_by change entries h.1 in λ i. first i ∷ rest i
 
 module _ (f : Name → Option ℕ) (name : Name) (n : ℕ) (at : f name ≡ Some n) where
   pub agrees_name : (entries : List (ℕ × Node)) → Known f entries → Owns name n entries → Agrees n (λ m. same_name m.name name) entries

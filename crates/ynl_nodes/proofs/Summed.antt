@@ -273,22 +273,6 @@ summed_left rows new n node label entries after h there place first all made = r
         go true k = k
         go false k = (h.0, k)
 
--- once one has a stamp
-pub summed_stamped : (rows : List SumRow) (n : ℕ) (x y : Node) → x.label ≡ y.label → x.size ≡ y.size → (entries after : List (ℕ × Node)) → AreSummed rows (map (λ e. e.1) entries) → lookup (nat_eq n) entries ≡ Some y → IsOnly n y entries → after ≡ with_at n x entries → AreSummed rows (map (λ e. e.1) after)
-summed_stamped rows n x y place size entries after h there only e = subst (λ es. AreSummed rows (map (λ (e : ℕ × Node). e.1) es)) (sym e) (record {
-  sums = λ p. h.sums p ∙ sym (sum-stamped n x y place size entries only p);
-  few = λ p. subst (λ (sum : Sum). sum.count ≤ most_nodes) (sym (sum-stamped n x y place size entries only p)) (h.few p);
-  sized = sized_set entries only h.sized;
-})
-  where
-    sized_set : (es : List (ℕ × Node)) → IsOnly n y es → AllByRecursion (λ x. IsSize x.size) (map (λ (e : ℕ × Node). e.1) es) → AllByRecursion (λ x. IsSize x.size) (map (λ (e : ℕ × Node). e.1) (with_at n x es))
-    sized_set [] only h = tt
-    sized_set (e ∷ es) only h = (go (eqb n e.0) refl, sized_set es only.1 h.1)
-      where
-        go : (b : Bool) → eqb n e.0 ≡ b → IsSize (cond b (n, x) e).1.size
-        go true q = let is : e.0 ≡ n = grind (arith, nat_tests) in subst IsSize (ap (λ (z : Node). z.size) (only.0 is) ∙ sym size) h.0
-        go false q = h.0
-
 -- other rows that have the same of each label
 pub summed_opened : (rows new : List SumRow) (nodes : List Node) → AreSummed rows nodes → ((p : Label) → sum_at new p ≡ sum_at rows p) → AreSummed new nodes
 summed_opened rows new nodes h same = record { sums = λ p. same p ∙ h.sums p; few = h.few; sized = h.sized }

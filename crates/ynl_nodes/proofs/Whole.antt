@@ -7,13 +7,13 @@ use Rattle.std.proofs.lemmas.List.{map_push}
 use Rattle.ynl_resource.specs.declared.names.Name.{Name}
 use Rattle.ynl_resource.specs.declared.labels.Label.{Label}
 use Rattle.ynl_resource.specs.Names.{same_name, same_label, name_order}
-use Rattle.ynl_resource.specs.Tables.{without, update}
+use Rattle.ynl_resource.specs.Tables.{without}
 use Rattle.ynl_model.specs.declared.nodes.Node.{Node}
 use Rattle.ynl_model.specs.Nodes.{is_at}
-use Rattle.ynl_roster.specs.Roster.{Numbered, with_at}
+use Rattle.ynl_roster.specs.Roster.{Numbered}
 use Rattle.ynl_nodes.specs.Nodes.{AreIndexed, IsSpot}
-use Rattle.ynl_nodes.proofs.Indexed.{Owns, Absent, set_index}
-use Rattle.ynl_nodes.proofs.Places.{found_by, gone_by, set_by, none_by, stays_by, same_by, agrees_name, agrees_at, nowhere_at, nowhere_absent}
+use Rattle.ynl_nodes.proofs.Indexed.{Owns, Absent}
+use Rattle.ynl_nodes.proofs.Places.{found_by, gone_by, none_by, stays_by, agrees_name, agrees_at, nowhere_at, nowhere_absent}
 
 -- what is under the number of a name has the name
 called_at : (name : Name) (n : ℕ) (node : Node) (entries : List (ℕ × Node)) → lookup (nat_eq n) entries ≡ Some node → Owns name n entries → node.name ≡ name
@@ -53,26 +53,11 @@ module _ (numbers : BTreeMap Name ℕ) (roster : Numbered Node) (h : AreIndexed 
           ∙ gone_by n (is_at name label) roster.entries (agrees_at (λ q. get name_order numbers q) name n spot.leads node label place roster.entries h.known (h.named name n spot.leads).1 spot.only)
           ∙ ap (without (is_at name label)) view
 
-      pub spot_set : same_label node.label label ≡ true → (change : Node → Node) → (new : List (ℕ × Node)) → new ≡ with_at n (change node) roster.entries → map (λ e. e.1) new ≡ update (is_at name label) change v
-      spot_set place change new e =
-          ap (map (λ (x : ℕ × Node). x.1)) e
-          ∙ set_by n (is_at name label) node change roster.entries (agrees_at (λ q. get name_order numbers q) name n spot.leads node label place roster.entries h.known (h.named name n spot.leads).1 spot.only) spot.only
-          ∙ ap (update (is_at name label) change) view
-
       pub away_left : same_label node.label label ≡ false → v ≡ without (is_at name label) v
       away_left away =
           sym view
           ∙ stays_by (is_at name label) roster.entries (nowhere_at (λ q. get name_order numbers q) name n spot.leads node label away roster.entries h.known (h.named name n spot.leads).1 spot.only)
           ∙ ap (without (is_at name label)) view
-
-      pub away_set : same_label node.label label ≡ false → (change : Node → Node) → v ≡ update (is_at name label) change v
-      away_set away change =
-          sym view
-          ∙ same_by (is_at name label) change roster.entries (nowhere_at (λ q. get name_order numbers q) name n spot.leads node label away roster.entries h.known (h.named name n spot.leads).1 spot.only)
-          ∙ ap (update (is_at name label) change) view
-
-    pub spot_index : (x : Node) → x.name ≡ name → (new : Numbered Node) → new.entries ≡ with_at n x roster.entries → new.top ≡ roster.top → AreIndexed numbers new
-    spot_index x is new e t = set_index (λ q. get name_order numbers q) name n x spot.leads is roster.entries new.entries roster.top new.top (λ none. let both : None ≡ Some node = sym none ∙ spot.there in absurd (cc)) h e t
 
   module _ (none : Absent name roster.entries) where
     pub none_found : None ≡ find (λ m. same_name m.name name) v
@@ -80,6 +65,3 @@ module _ (numbers : BTreeMap Name ℕ) (roster : Numbered Node) (h : AreIndexed 
 
     pub none_left : (label : Label) → v ≡ without (is_at name label) v
     none_left label = sym view ∙ stays_by (is_at name label) roster.entries (nowhere_absent name label roster.entries none) ∙ ap (without (is_at name label)) view
-
-    pub none_set : (label : Label) (change : Node → Node) → v ≡ update (is_at name label) change v
-    none_set label change = sym view ∙ same_by (is_at name label) change roster.entries (nowhere_absent name label roster.entries none) ∙ ap (update (is_at name label) change) view

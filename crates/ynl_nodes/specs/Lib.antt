@@ -1,7 +1,3 @@
 pub mod Sums
 pub mod Nodes
-pub mod Members
-pub mod Presences
-pub mod Marks
-pub mod Wakings
 pub mod NodeFields

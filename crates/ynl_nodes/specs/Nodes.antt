@@ -22,7 +22,3 @@ pub record IsSpot (numbers : BTreeMap Name ℕ) (roster : Numbered Node) (name :
   pub leads : get name_order numbers name ≡ Some number
   pub there : lookup (nat_eq number) roster.entries ≡ Some node
   pub only : IsOnly number node roster.entries
-
--- whatever map leads to the nodes leads from a name to a number under which the node is
-abbrev pub IsLedTo : Numbered Node → Name → ℕ → Node → Type 0
-IsLedTo roster name number node = (numbers : BTreeMap Name ℕ) → AreIndexed numbers roster → IsSpot numbers roster name number node

@@ -1,7 +1,7 @@
-//! The nodes of a cluster in the order of joining: found by name, and summed by label.
+//! Nodes in the order of joining: found by name, and counted by label.
 #![tactic(auto)]
 
-pub use nodes::{Nodes, Presence};
+pub use nodes::Nodes;
 
 mod nodes;
 mod spots;

@@ -27,7 +27,7 @@ impl Model for Track {
 
     ghost Value = { List Tracked };
 
-    ghost view = { λ t. map without_stamp t.nodes.list };
+    ghost view = { λ t. map without_stamp t.nodes };
 }
 
 /// The stamp of each node here, which no contract sees.

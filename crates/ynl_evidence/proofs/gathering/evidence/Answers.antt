@@ -7,7 +7,7 @@ use Rattle.ynl_evidence.proofs.Gathered.{gathered}
 use Rattle.ynl_evidence.proofs.Passing.{evidence_passes}
 use Rattle.ynl_evidence.proofs.gathering.evidence.Goals as goal
 
-found : (c : goal.After-drop-track-inside-6) → c.loop-i.found.items ≡ evidence_of c.args.config.now c.args.entries.now c.args.tenant.now c.args.label.now
+found : (c : goal.After-drop-track-inside-4) → c.loop-i.found.items ≡ evidence_of c.args.config.now c.args.entries.now c.args.tenant.now c.args.label.now
 found c =
     let config = c.args.config.now in
     let tenant = c.args.tenant.now in

@@ -7,13 +7,11 @@ use Rattle.ynl_resource.specs.Ranges.{most_nodes}
 use Rattle.ynl_resource.specs.Tables.{without}
 use Rattle.ynl_model.specs.Nodes.{is_full, joined, left}
 use Rattle.ynl_model.specs.declared.nodes.Node.{Node}
-use Rattle.ynl_nodes.specs.Members.{Members, is_among}
-use Rattle.ynl_nodes.specs.NodeFields.{AreSummed, resting_of}
+use Rattle.ynl_nodes.specs.NodeFields.{AreSummed}
 use Rattle.ynl_nodes.specs.Nodes.{IsSpot}
 use Rattle.ynl_nodes.specs.Sums.{sum_at, sum_of, raised, lowered}
 use Rattle.ynl_nodes.proofs.Indexed.{absent_left, rejoined_index}
 use Rattle.ynl_nodes.proofs.Summed.{label_self, small_at, fewer_left, not_full, summed_opened, summed_left, summed_joined}
-use Rattle.ynl_nodes.proofs.Resting.{Below, below_less, below_more, joined_rests, left_rests, absent_awake}
 use Rattle.ynl_nodes.proofs.Whole.{pushed_nodes, spot_same, spot_left}
 use Rattle.ynl_nodes.proofs.nodes.Nodes.rejoin.Goals.{After-lower}
 use Rattle.ynl_nodes.proofs.nodes.Nodes.rejoin.Goals as goal
@@ -21,15 +19,11 @@ use Rattle.ynl_nodes.proofs.nodes.Nodes.rejoin.Goals as goal
 -- the node that is found by the name is the one that leaves its place
 found : (c : After-lower) → IsSpot c.self.inside.numbers c.self.inside.roster c.args.node.now.name c.in-Some.spot.number c.args.node.now
 found c =
-    spot_same c.self.inside.numbers c.self.inside.roster c.self.invariant.indexed c.args.self.now.list (ap (λ (m : Members). m.list) c.self.view_is) c.args.node.now.name c.in-Some.spot.number c.in-Some.spot.node.now c.in-Some.ensures.found c.args.node.now c.requires.here
+    spot_same c.self.inside.numbers c.self.inside.roster c.self.invariant.indexed c.args.self.now c.self.view_is c.args.node.now.name c.in-Some.spot.number c.in-Some.spot.node.now c.in-Some.ensures.found c.args.node.now c.requires.here
 
 -- the others stay
 others : (c : After-lower) → c.remove-node.new.self.entries ≡ without (λ e. nat_eq c.in-Some.spot.number e.0) c.self.inside.roster.entries
 others c = c.remove-node.ensures.entries ∙ ap (λ es. without (λ e. nat_eq c.in-Some.spot.number e.0) es) c.reserve.ensures.entries
-
--- and so do their marks
-marks_of_others : (c : After-lower) → c.remove-mark.new.self.entries ≡ without (λ e. nat_eq c.in-Some.spot.number e.0) c.self.inside.marks.entries
-marks_of_others c = c.remove-mark.ensures.entries ∙ ap (λ es. without (λ e. nat_eq c.in-Some.spot.number e.0) es) c.reserve-2.ensures.entries
 
 -- what they come to is kept, and there is room beside them
 room_beside : (c : After-lower) → AreSummed c.lower.new.rows.items (map (λ e. e.1) c.remove-node.new.self.entries) × ((sum_of (map (λ e. e.1) c.remove-node.new.self.entries) c.args.label.now).count < most_nodes)
@@ -44,7 +38,7 @@ room_beside c =
     let first = c.remove-node.ensures.first ∙ ap (λ es. remove_entry (nat_eq n) es) c.reserve.ensures.entries in (
       summed_left opened c.lower.new.rows.items n node node.label roster.entries entries (summed_opened c.self.inside.sums.items opened (map (λ e. e.1) roster.entries) c.self.invariant.summed c.open_row.ensures.sums) (found c).there (label_self node.label) first (others c)
           (λ p. c.lower.ensures.sums p ∙ (λ i. cond (same_label node.label p) (lowered (c.amount-size.ensures.value i) (sum_at opened p)) (sum_at opened p))),
-      fewer_left n node roster.entries entries (found c).there first label (not_full (map (λ e. e.1) roster.entries) label (rw (ap (λ (m : Members). m.list) c.self.view_is) c.requires.room)),
+      fewer_left n node roster.entries entries (found c).there first label (not_full (map (λ e. e.1) roster.entries) label (rw c.self.view_is c.requires.room)),
     )
 
 -- the node on its other partition
@@ -74,12 +68,6 @@ invariant_of-self-in-Ok c =
       summed = summed_joined rows c.raise.new.rows.items (map (λ e. e.1) entries) (map (λ e. e.1) c.push_reserved.new.self.entries) next beside.0 c.amount-size.ensures.range beside.1
           (pushed_nodes entries c.push_reserved.new.self.entries number next (map (λ e. e.1) entries) pushed refl)
           (λ p. c.raise.ensures p ∙ (λ i. cond (same_label next.label p) (raised (c.amount-size.ensures.value i) (sum_at rows p)) (sum_at rows p)));
-      marks = record {
-        counted = c.self.invariant.marks.counted;
-        below = subst (Below c.self.inside.wakings) (sym (c.push_reserved-in-Ok.ensures.entries ∙ ap (λ es. es ++ (number, 0) ∷ []) (marks_of_others before)))
-            (below_more c.self.inside.wakings number (without (λ e. nat_eq n e.0) c.self.inside.marks.entries) (below_less c.self.inside.wakings (λ e. not (nat_eq n e.0)) c.self.inside.marks.entries c.self.invariant.marks.below));
-        tops = (let same = c.push_reserved.ensures.top in let own = c.push_reserved-in-Ok.ensures.top in omega (arith, same, own));
-      };
     }
 
 pub returns-in-Ok-clause-ok : goal.returns-in-Ok-clause-ok
@@ -87,29 +75,5 @@ unfolding left joined
 returns-in-Ok-clause-ok c =
     let before = (goal.at.returns-in-Ok-clause-ok c).After-lower in
     let node = c.args.node.now in
-    pushed_nodes c.remove-node.new.self.entries c.push_reserved.new.self.entries c.in-Some-checked_add.number (moved before) (left node c.args.self.now.list) c.push_reserved.ensures.entries
-    (spot_left c.self.inside.numbers c.self.inside.roster c.self.invariant.indexed c.args.self.now.list (ap (λ (m : Members). m.list) c.self.view_is) node.name c.in-Some.spot.number node (found before) node.label (label_self node.label) c.remove-node.new.self.entries (others before))
-
--- those rest that did, without the node that leaves its place
-rests_as_left : (c : After-lower) → resting_of c.self.inside.wakings c.push_reserved-in-Ok.new.self.entries c.push_reserved.new.self.entries
-    ≡ resting_of c.self.inside.wakings (without (λ e. nat_eq c.in-Some.spot.number e.0) c.self.inside.marks.entries) (without (λ e. nat_eq c.in-Some.spot.number e.0) c.self.inside.roster.entries)
-rests_as_left c =
-    let n = c.in-Some.spot.number in
-    let number = c.in-Some-checked_add.number in
-    joined_rests c.self.inside.wakings number (moved c) (without (λ e. nat_eq n e.0) c.self.inside.marks.entries) c.push_reserved-in-Ok.new.self.entries (without (λ e. nat_eq n e.0) c.self.inside.roster.entries) c.push_reserved.new.self.entries c.self.invariant.marks.counted
-    (c.push_reserved-in-Ok.ensures.entries ∙ ap (λ es. es ++ (number, 0) ∷ []) (marks_of_others c)) c.push_reserved-in-Ok.ensures.only (c.push_reserved.ensures.entries ∙ ap (λ es. es ++ (number, moved c) ∷ []) (others c))
-
-pub returns-in-Ok-clause-resting : goal.returns-in-Ok-clause-resting
-returns-in-Ok-clause-resting c = λ other h.
-    subst (λ (m : Members). is_among m.resting other ≡ true) c.self.view_is
-    (left_rests c.self.inside.wakings c.in-Some.spot.number c.self.inside.marks.entries _ c.self.inside.roster.entries _ other refl refl (sym (ap (λ names. is_among names other) (rests_as_left (goal.at.returns-in-Ok-clause-resting c).After-lower)) ∙ h))
-
-pub returns-in-Ok-clause-awake : goal.returns-in-Ok-clause-awake
-returns-in-Ok-clause-awake c =
-    let name = c.args.node.now.name in
-    let n = c.in-Some.spot.number in
-    let entries = c.self.inside.roster.entries in
-    let leads = c.in-Some.ensures.found.leads in
-    let index = c.self.invariant.indexed in
-    ap (λ names. is_among names name) (rests_as_left (goal.at.returns-in-Ok-clause-awake c).After-lower)
-    ∙ absent_awake c.self.inside.wakings (without (λ e. nat_eq n e.0) c.self.inside.marks.entries) name (without (λ e. nat_eq n e.0) entries) (absent_left (λ q. get name_order c.self.inside.numbers q) name n leads entries index.known (index.named name n leads).1)
+    pushed_nodes c.remove-node.new.self.entries c.push_reserved.new.self.entries c.in-Some-checked_add.number (moved before) (left node c.args.self.now) c.push_reserved.ensures.entries
+    (spot_left c.self.inside.numbers c.self.inside.roster c.self.invariant.indexed c.args.self.now c.self.view_is node.name c.in-Some.spot.number node (found before) node.label (label_self node.label) c.remove-node.new.self.entries (others before))

@@ -10,4 +10,4 @@ returns c =
     let of_nodes : List Node → List Name = λ nodes. map (λ node. node.name) nodes in
     let of_view : List Tracked → List Name = λ nodes. map (λ node. node.name) nodes in
     subst (λ (all : List Name). IfOk c.names_of.result (λ names. names.items ≡ all))
-    (ap of_nodes (c.deref.ensures.value ∙ c.in_ok-nodes.ensures) ∙ names_is c.self.inside.nodes.list ∙ ap of_view c.self.view_is) c.names_of.ensures
+    (ap of_nodes (c.deref.ensures.value ∙ c.in_ok-nodes.ensures) ∙ names_is c.self.inside.nodes ∙ ap of_view c.self.view_is) c.names_of.ensures

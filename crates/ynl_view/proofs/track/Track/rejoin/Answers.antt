@@ -10,15 +10,15 @@ use Rattle.ynl_view.proofs.track.Track.rejoin.Goals as goal
 
 pub rejoin-requires-clause-here : goal.rejoin-requires-clause-here
 rejoin-requires-clause-here c =
-    let nodes = c.self.inside.nodes.list in
+    let nodes = c.self.inside.nodes in
     ap (find_node nodes) (named nodes c.args.self.now c.self.view_is c.args.name.now c.in-Some.node c.in-Some.ensures) ∙ sym c.in-Some.ensures
 
 pub rejoin-requires-clause-room : goal.rejoin-requires-clause-room
-rejoin-requires-clause-room c = not_full c.self.inside.nodes.list c.args.self.now c.self.view_is c.args.label.now c.requires
+rejoin-requires-clause-room c = not_full c.self.inside.nodes c.args.self.now c.self.view_is c.args.label.now c.requires
 
 pub returns-in-Some-clause-ok : goal.returns-in-Some-clause-ok
 returns-in-Some-clause-ok c =
-    let nodes = c.self.inside.nodes.list in
+    let nodes = c.self.inside.nodes in
     let view = c.args.self.now in
     let name = c.args.name.now in
     let label = c.args.label.now in
@@ -33,4 +33,4 @@ returns-in-Some-clause-ok c =
 pub returns-in-None-clause-ok : goal.returns-in-None-clause-ok
 returns-in-None-clause-ok c =
     let view = c.args.self.now in
-    sym (ap (λ found. option_map_or (λ other. joined (dropped view other) c.args.name.now c.args.label.now other.size) found view) (found_is c.self.inside.nodes.list view c.self.view_is c.args.name.now None c.in-None.ensures))
+    sym (ap (λ found. option_map_or (λ other. joined (dropped view other) c.args.name.now c.args.label.now other.size) found view) (found_is c.self.inside.nodes view c.self.view_is c.args.name.now None c.in-None.ensures))

@@ -2,7 +2,7 @@ use Rattle.std.proofs.Common.{sym}
 use Rattle.std.specs.BTreeMap.{get}
 use Rattle.ynl_resource.specs.Names.{name_order}
 use Rattle.ynl_nodes.proofs.Indexed.{absent_none, absent_missed}
-use Rattle.ynl_nodes.proofs.spots.spot_named.Goals as goal
+use Rattle.ynl_nodes.proofs.spots.spot_of.Goals as goal
 
 pub returns-in_default-clause-none : goal.returns-in_default-clause-none
 returns-in_default-clause-none c = absent_none (λ q. get name_order c.args.numbers.now q) c.args.name.now (sym c.in_default.ensures.value) c.args.roster.now.entries c.requires.known
