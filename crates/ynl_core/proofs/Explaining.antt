@@ -1,46 +1,60 @@
--- What the laws of an explanation rest on, by what a core keeps.
-use Rattle.std.proofs.Common.{◌≡◌, true, not, List, [], ◌∷◌, map, sym, subst}
-use Rattle.std.specs.List.{AllByRecursion, list_all}
-use Rattle.std.proofs.lemmas.Bool.{and_parts}
-use Rattle.ynl_resource.specs.declared.paths.Path.{Path}
-use Rattle.ynl_model.specs.declared.applications.AskRow.{AskRow}
-use Rattle.ynl_model.specs.Applications.{is_ask_of}
+-- What the laws of an explanation rest on, by the rows of a cluster.
+use Rattle.std.proofs.Common.{◌≡◌, ◌<◌, nat_lt, true, List, [], ◌∷◌, map, inl, inr, refl, sym, subst, ◌∙◌, arith}
+use Rattle.std.specs.List.{AllByRecursion}
+use Rattle.std.proofs.lemmas.Bool.Decides.{nat_tests}
+use Rattle.ynl_model.specs.Applications.{Application, LeafApps, all_apps}
+use Rattle.ynl_model.specs.Cluster.{Partition, State}
 use Rattle.ynl_model.specs.Queues.{Config}
-use Rattle.ynl_model.specs.Cluster.{State}
-use Rattle.ynl_laws.specs.Untied.{Differs, Distinct, AllDistinct}
-use Rattle.ynl_laws.specs.Working.{Pairs}
-use Rattle.ynl_laws.proofs.Lists.{Each-weaker, each-of}
-use Rattle.ynl_laws.proofs.Logic.{not-true}
-use Rattle.ynl_tables.specs.declared.rows.App.{App}
-use Rattle.ynl_tables.specs.declared.rows.LeafRow.{LeafRow}
-use Rattle.ynl_tables.specs.Queued.{are_apart}
-use Rattle.ynl_tables.specs.Tables.{app_of, leaves_of, state_of}
-use Rattle.ynl_waits.specs.Laws.{OfEach}
+use Rattle.ynl_laws.specs.Working.{IsWorking}
+use Rattle.ynl_laws.proofs.Lists.{Each-map}
+use Rattle.ynl_waits.specs.Laws.{AreWanted, OfEach}
 use Rattle.ynl_waits.specs.declared.waits.Explained.{Explained}
 use Rattle.ynl_waits.specs.declared.waits.Wait.{Wait}
 use Rattle.ynl_waits.proofs.Following.{IsKnown}
-use Rattle.ynl_core.specs.declared.cluster.Core.TheInside.{Inside}
-use Rattle.ynl_core.specs.CoreFields.{world_of, IsWorkingCore}
+use Rattle.ynl_app_table.specs.declared.asks.Ask.{Ask}
+use Rattle.ynl_inventory.specs.Meaning.{ask_of, partition_of}
+use Rattle.ynl_inventory.specs.Rows.{PartitionRow}
+use Rattle.ynl_inventory.specs.Sound.{IsFor, IsSound}
+use Rattle.ynl_requests.proofs.Live.{among-live}
+use Rattle.ynl_requests.proofs.Members.{Among, flat-among}
+use Rattle.ynl_requests.proofs.Tables.{distinct, tabled}
+use Rattle.ynl_cluster.specs.Cluster.{ClusterView, maxima_in, state_in, stops_in}
 use Rattle.ynl_core.specs.World.{World}
+use Rattle.ynl_core.proofs.Stepping.{world_in}
 
--- the asks of an application differ, and so those of each in some leaves
-asks_differ : (asks : List AskRow) → are_apart asks ≡ true → Pairs Differs asks
-asks_differ [] h = tt
-asks_differ (ask ∷ asks) h =
-    let parts = and_parts _ _ h in
-    (Each-weaker (λ (other : AskRow). not (is_ask_of other.label other.priority ask) ≡ true) (Differs ask) (λ other off. not-true _ off) asks (each-of (λ (other : AskRow). not (is_ask_of other.label other.priority ask)) asks parts.0), asks_differ asks parts.1)
+-- what holds of each that is among a list holds of all
+all-among : {X : Type 0} (P : X → Type 0) (xs : List X) → ((x : X) → Among x xs → P x) → AllByRecursion P xs
+all-among P [] h = tt
+all-among P (x ∷ xs) h = (h x (inl refl), all-among P xs (λ y there. h y (inr there)))
 
-apps_differ : (leaf : Path) (apps : List App) → list_all (λ app. are_apart app.asks.items) apps ≡ true → AllByRecursion Distinct (map (app_of leaf) apps)
-apps_differ leaf [] h = tt
-apps_differ leaf (app ∷ apps) h = let parts = and_parts _ _ h in (asks_differ app.asks.items parts.0, apps_differ leaf apps parts.1)
+mapped : (rows : List PartitionRow) (f : PartitionRow → Partition) → ((row : PartitionRow) → (f row).label ≡ row.label) → map (λ (p : Partition). p.label) (map f rows) ≡ map (λ row. row.label) rows
+mapped [] f h = refl
+mapped (row ∷ rows) f h = λ i. h row i ∷ mapped rows f h i
 
-rows_differ : (rows : List LeafRow) → AllDistinct (leaves_of rows)
-rows_differ [] = tt
-rows_differ (row ∷ rows) = (apps_differ row.path row.apps.items row.apart, rows_differ rows)
+module _ (w : ClusterView) (sound : IsSound w.rows) where
+  -- each ask is for some containers
+  asks-wanted : (app : Application) → Among app (all_apps (state_in w).leaves) → AllByRecursion (λ ask. nat_lt 0 ask.count ≡ true) app.asks
+  asks-wanted app there =
+      let live = among-live w.rows sound app there in
+      subst (λ (a : Application). AllByRecursion (λ ask. nat_lt 0 ask.count ≡ true) a.asks) (sym live.is)
+      (Each-map (λ (ask : Ask). 0 < ask.count) (λ ask. nat_lt 0 ask.count ≡ true) (ask_of w.rows.partitions) (λ ask some. grind (arith, nat_tests, some)) live.row.asks
+      (sound.apps live.number live.row live.found).asks.counted)
 
-pub known : (a : Inside) → IsWorkingCore a → IsKnown a.config (state_of a.tables)
-known a h = record { working = h.sound.working; tabled = h.sound.tabled; formed = h.sound.formed; distinct = rows_differ a.tables.leaves.items }
+  wanted : AreWanted (state_in w).leaves
+  wanted =
+      all-among (λ row. AllByRecursion (λ app. AllByRecursion (λ ask. nat_lt 0 ask.count ≡ true) app.asks) row.apps) (state_in w).leaves
+      (λ row there. all-among (λ app. AllByRecursion (λ ask. nat_lt 0 ask.count ≡ true) app.asks) row.apps
+      (λ app own. asks-wanted app (flat-among (λ (r : LeafApps). r.apps) row app (state_in w).leaves there own)))
 
--- a law of what is explained by what a core keeps is one of what the core explains
-pub as_seen : (law : Config → State → Wait → Type 0) (a : Inside) (core : World) (kept seen : Explained) → world_of a ≡ core → seen ≡ kept → OfEach (law a.config (state_of a.tables)) kept → OfEach (law core.config core.state) seen
-as_seen law a core kept seen same is h = subst (λ (w : World). OfEach (law w.config w.state) seen) same (subst (OfEach (law a.config (state_of a.tables))) (sym is) h)
+  pub known : IsFor w.config w.rows → IsWorking w.config (state_in w) → IsKnown w.config (state_in w)
+  known configured working = record {
+    working = working;
+    tabled = tabled w.rows sound (stops_in w) (maxima_in w);
+    formed = record { wanted = wanted; partitions = mapped w.rows.partitions (partition_of w.rows) (λ row. refl) ∙ configured.labels };
+    distinct = distinct w.rows sound (stops_in w) (maxima_in w);
+  }
+
+-- a law of what is explained of a cluster is one of what the core explains
+pub as-seen : (law : Config → State → Wait → Type 0) (w : ClusterView) (core : World) (kept seen : Explained) → world_in w ≡ core → seen ≡ kept
+    → OfEach (law w.config (state_in w)) kept → OfEach (law core.config core.state) seen
+as-seen law w core kept seen same is h = subst (λ (v : World). OfEach (law v.config v.state) seen) same (subst (OfEach (law w.config (state_in w))) (sym is) h)

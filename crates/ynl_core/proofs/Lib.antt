@@ -1,9 +1,7 @@
-pub mod Idle
-pub mod Stepping
-pub mod Changed
+mod Stepping
+mod Accepted
+mod Known
+mod Explaining
+mod Sighting
 pub mod RunMore
-pub mod Alone
-pub mod Reserved
-pub mod Lulled
-pub mod Sighting
-pub mod Explaining
+mod Alone

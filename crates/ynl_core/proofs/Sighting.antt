@@ -13,7 +13,7 @@ use Rattle.ynl_model.specs.Events.{Outcome, answered, reasons, accepted, step}
 use Rattle.ynl_sights.specs.Sights.{Seen, sighted, planned}
 use Rattle.ynl_sights.proofs.Decide.{sights_decide}
 use Rattle.ynl_core.specs.World.{World, Answers}
-use Rattle.ynl_core.proofs.Stepping.{refused, taken_in}
+use Rattle.ynl_core.proofs.Stepping.{accepts, refuses}
 
 told-by : (w : World) (name : Name) (outcome : Outcome) → step w.config w.state (Propose name) ≡ outcome → outcome.state ≡ w.state → Answers w (Propose name) w outcome.reply
 told-by w name outcome e same = record {
@@ -22,12 +22,12 @@ told-by w name outcome e same = record {
 }
 
 pub told-refused : (w : World) (name : Name) (refusal : Refusal) → first_that_holds (reasons w.config w.state (Propose name)) ≡ Some refusal → Answers w (Propose name) w (reply.Refused refusal)
-told-refused w name refusal e = told-by w name (answered w.state (reply.Refused refusal)) (refused w.config w.state (Propose name) refusal (sym e)) (λ i. w.state)
+told-refused w name refusal e = told-by w name (answered w.state (reply.Refused refusal)) (refuses w.config w.state (Propose name) refusal e) (λ i. w.state)
 
 seen-step : (w : World) (name : Name) (node : Node) → first_that_holds (reasons w.config w.state (Propose name)) ≡ None → node_of w.state name ≡ Some node → step w.config w.state (Propose name) ≡ answered w.state (reply.Proposed (proposed w.config w.state node))
 unfolding accepted
 seen-step w name node free there =
-    taken_in w.config w.state (Propose name) free
+    accepts w.config w.state (Propose name) free
     ∙ ap (λ (o : Option Node). option_map_or (λ (n : Node). answered w.state (reply.Proposed (proposed w.config w.state n))) o (answered w.state reply.Done)) there
 
 pub told-seen : (w : World) (name : Name) (node : Node) (seen : Seen) → first_that_holds (reasons w.config w.state (Propose name)) ≡ None → node_of w.state name ≡ Some node → seen ≡ sighted w.config w.state node → Answers w (Propose name) w (reply.Proposed (planned seen))

@@ -1,37 +1,71 @@
--- A step, by the first reason that holds.
-use Rattle.std.proofs.Common.{◌≡◌, List, [], Some, None, sym, ap, subst}
-use mathlib.Core.Bool.{true≢false}
+-- What an event leaves of an engine.
+use Rattle.std.proofs.Common.{◌≡◌, ℕ, true, None, Some, sym, ap, subst, ◌∙◌}
+use Rattle.std.specs.Prelude.{IfSome}
 use Rattle.std.specs.Option.{option_map_or}
 use Rattle.ynl_resource.specs.Refusals.{first_that_holds}
 use Rattle.ynl_resource.specs.declared.refusals.Refusal.{Refusal}
-use Rattle.ynl_resource.specs.declared.names.Name.{Name}
 use Rattle.ynl_model.specs.declared.events.Event.{Event}
+use Rattle.ynl_model.specs.declared.replies.Reply.{Reply}
 use Rattle.ynl_model.specs.declared.replies.Reply.TheVariants.{Refused}
 use Rattle.ynl_model.specs.Queues.{Config}
 use Rattle.ynl_model.specs.Cluster.{State}
-use Rattle.ynl_model.specs.Events.{answered, reasons, accepted, step}
+use Rattle.ynl_model.specs.Events.{Outcome, accepted, answered, reasons, step}
 use Rattle.ynl_laws.specs.Working.{IsRanged, IsWorking}
-use Rattle.ynl_laws.specs.Tabled.{Tabled}
 use Rattle.ynl_laws.proofs.Soundness.Working.{working-step}
-use Rattle.ynl_laws.proofs.Totals.Tabling.{tabled-step}
-use Rattle.ynl_waits.specs.Laws.{IsWellFormed}
-use Rattle.ynl_waits.proofs.WellFormed.{well-formed-step}
-use Rattle.ynl_core.specs.CoreFields.{IsSound}
+use Rattle.ynl_cluster.specs.Cluster.{ClusterView, label_of, path_of, state_in}
+use Rattle.ynl_shut.specs.Notes.{Changes, IsEmpty, Notes, forgotten, room_in}
+use Rattle.ynl_shut.specs.Shut.{AreShut, IsGuestShut, IsShut}
+use Rattle.ynl_core.specs.World.{Answers, World}
 
-pub refused : (c : Config) (s : State) (event : Event) (refusal : Refusal) → Some refusal ≡ first_that_holds (reasons c s event) → step c s event ≡ answered s (Refused refusal)
+-- the cluster as a contract sees it
+abbrev pub world_in : ClusterView → World
+world_in w = record { config = w.config; state = state_in w }
+
+-- where all is forgotten what is noted is right
+pub none-shut : (w : ClusterView) (old new : Notes) → Changes (forgotten (λ r t. true)) old.own new.own → ((q : ℕ) → room_in new.guests q ≡ None) → AreShut w new
+none-shut w old new changes none = record {
+  own = λ p q cell. subst (λ o. IfSome o (IsShut w.config (state_in w) (label_of w p) (path_of w q))) (sym (changes.room p q)) tt;
+  guests = λ q there. subst (λ o. IfSome o (IsGuestShut (state_in w) (path_of w q))) (sym (none q)) tt;
+}
+
+-- so it is where nothing was noted yet
+pub empty-shut : (w : ClusterView) (notes : Notes) (partitions queues : ℕ) → IsEmpty partitions queues notes → AreShut w notes
+empty-shut w notes partitions queues empty = record {
+  own = λ p q cell. subst (λ o. IfSome o (IsShut w.config (state_in w) (label_of w p) (path_of w q))) (sym (empty.own.room p q)) tt;
+  guests = λ q there. subst (λ o. IfSome o (IsGuestShut (state_in w) (path_of w q))) (sym (empty.guests q)) tt;
+}
+
+-- an event that is refused changes nothing
+pub refuses : (c : Config) (s : State) (event : Event) (refusal : Refusal) → first_that_holds (reasons c s event) ≡ Some refusal → step c s event ≡ answered s (Refused refusal)
 unfolding step
-refused c s event refusal e = ap (λ o. option_map_or (λ r. answered s (Refused r)) o (accepted c s event)) (sym e)
+refuses c s event refusal first = ap (λ o. option_map_or (λ (r : Refusal). answered s (Refused r)) o (accepted c s event)) first
 
-pub taken_in : (c : Config) (s : State) (event : Event) → first_that_holds (reasons c s event) ≡ None → step c s event ≡ accepted c s event
+-- one that is not does what it is for
+pub accepts : (c : Config) (s : State) (event : Event) → first_that_holds (reasons c s event) ≡ None → step c s event ≡ accepted c s event
 unfolding step
-taken_in c s event e = ap (λ o. option_map_or (λ r. answered s (Refused r)) o (accepted c s event)) e
+accepts c s event first = ap (λ o. option_map_or (λ (r : Refusal). answered s (Refused r)) o (accepted c s event)) first
 
--- after a change no node rests
-pub none_rests : (c : Config) (s : State) (names : List Name) → names ≡ [] → IsWorking c s → Tabled s → IsWellFormed c s → IsSound c s names
-none_rests c s names e w tabled formed = subst (IsSound c s) (sym e) (record { working = w; tabled = tabled; formed = formed; resting = λ name on. absurd (true≢false (sym on)) })
+-- the answer to an event that is refused
+pub refused-answers : (w : World) (event : Event) (refusal : Refusal) → first_that_holds (reasons w.config w.state event) ≡ Some refusal → Answers w event w (Refused refusal)
+refused-answers w event refusal first = record {
+  told = sym (ap (λ (o : Outcome). o.reply) (refuses w.config w.state event refusal first));
+  left = λ i. record { config = w.config; state = sym (ap (λ (o : Outcome). o.state) (refuses w.config w.state event refusal first)) i };
+}
 
--- and so after an event
-pub sound_after : (c : Config) (s new : State) (event : Event) (old names : List Name) → names ≡ [] → IsRanged event → (step c s event).state ≡ new → IsSound c s old → IsSound c new names
-sound_after c s new event old names none ranged same h =
-    none_rests c new names none (subst (IsWorking c) same (working-step c s event ranged h.working)) (subst Tabled same (tabled-step c s event h.working.kept h.tabled))
-    (subst (IsWellFormed c) same (well-formed-step c s event h.working.kept h.tabled h.formed))
+module _ (w u : ClusterView) (event : Event) (reply : Reply) (free : first_that_holds (reasons w.config (state_in w) event) ≡ None) (config : u.config ≡ w.config)
+    (does : accepted w.config (state_in w) event ≡ record { state = state_in u; reply = reply }) where
+  stepped-is : step w.config (state_in w) event ≡ record { state = state_in u; reply = reply }
+  stepped-is = accepts w.config (state_in w) event free ∙ does
+
+  -- the answer to one that is not
+  pub answers : Answers (world_in w) event (world_in u) reply
+  answers = record {
+    told = sym (ap (λ (o : Outcome). o.reply) stepped-is);
+    left = λ i. record { config = config i; state = sym (ap (λ (o : Outcome). o.state) stepped-is) i };
+  }
+
+  -- and the state works that it leaves
+  pub works : IsRanged event → IsWorking w.config (state_in w) → IsWorking u.config (state_in u)
+  works ranged h =
+      subst (λ c. IsWorking c (state_in u)) (sym config)
+      (subst (IsWorking w.config) (ap (λ (o : Outcome). o.state) stepped-is) (working-step w.config (state_in w) event ranged h))

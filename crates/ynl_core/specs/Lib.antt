@@ -1,5 +1,3 @@
-pub mod Resting
-pub mod Ready
 pub mod CoreFields
 pub mod World
 pub mod Sure

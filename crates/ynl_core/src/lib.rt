@@ -7,9 +7,12 @@ pub use running::run;
 pub use runs::{Answer, Run};
 pub use sightings::Sighted;
 
+mod applications;
 mod cluster;
+mod containers;
 mod memory;
-mod refusals;
+mod nodes;
+mod queues;
 mod running;
 mod runs;
 mod sightings;

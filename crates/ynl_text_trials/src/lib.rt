@@ -1,4 +1,4 @@
-//! Tests of what no text shows of the lower crates: rosters, slots, firsts, lanes, limits, amounts and paths, labels, queues, what an operator sets,
+//! Tests of what no text shows of the lower crates: rosters, slots, firsts, lanes, limits, amounts and paths, labels, queues,
 //! configurations, and lines and their numbers, most of them with memory refused. The crates themselves have none, since a crate with tests is proved twice.
 #![tactic(auto)]
 
@@ -8,8 +8,6 @@ mod apps;
 mod configurations;
 #[cfg(test)]
 mod containers;
-#[cfg(test)]
-mod controls;
 #[cfg(test)]
 mod firsts;
 #[cfg(test)]

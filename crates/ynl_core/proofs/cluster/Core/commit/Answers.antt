@@ -1,47 +1,63 @@
-use Rattle.std.proofs.Common.{List, rules, refl, subst}
-use Rattle.ynl_resource.specs.declared.paths.Path.{Path}
-use Rattle.ynl_tables.specs.Numbers.{AreNumbered}
-use Rattle.ynl_choice.specs.Lulls.{AreLulls}
-use Rattle.ynl_core.proofs.Lulled.{lulls_committed}
+use Rattle.std.proofs.Common.{◌≡◌, None, ap, subst, ◌∙◌}
+use Rattle.ynl_resource.specs.Refusals.{first_that_holds}
 use Rattle.ynl_model.specs.declared.events.Event.TheVariants.{Commit}
-use Rattle.ynl_model.specs.Check.{commit_reasons}
-use Rattle.ynl_model.specs.Events.{reasons, step, accepted}
-use Rattle.ynl_tables.specs.Tables.{state_of}
-use Rattle.ynl_changes.proofs.Summing.{readable}
-use Rattle.ynl_core.proofs.Reserved.{reserved, placeable_reserved}
-use Rattle.ynl_core.proofs.Changed.{woken, unchanged}
+use Rattle.ynl_model.specs.declared.replies.Reply.TheVariants.{Committed}
+use Rattle.ynl_model.specs.Changes.{container_of, place}
+use Rattle.ynl_model.specs.Events.{accepted, reasons}
+use Rattle.ynl_inventory.specs.Meaning.{item_of, node_of}
+use Rattle.ynl_inventory.specs.Sound.{IsPlaceable}
+use Rattle.ynl_cluster.specs.Cluster.{ClusterView, state_in}
+use Rattle.ynl_core.specs.World.{Answers, World}
+use Rattle.ynl_core.proofs.Accepted as does
+use Rattle.ynl_core.proofs.Known.{shut-stays}
+use Rattle.ynl_core.proofs.Stepping.{answers, works, world_in}
 use Rattle.ynl_core.proofs.cluster.Core.commit.Goals as goal
 
-pub refuse_commit-requires-clause-readable : goal.refuse_commit-requires-clause-readable
-refuse_commit-requires-clause-readable c = readable c.self.inside.config c.self.inside.tables c.self.invariant.sound.working c.self.invariant.sound.tabled c.self.invariant.kept
+module _ (c : goal.After-place-placed) where
+  abbrev w : ClusterView
+  w = c.self.inside.cluster
 
--- what is known of leaves is right once the request is placed
-known : (c : goal.After-wake) → AreLulls c.self.inside.config (state_of c.place-container.new.tables) c.fade_leaf_for.new.lulls
-unfolding commit_reasons reasons
-known c =
-    lulls_committed c.self.inside.config c.self.inside.tables c.reserve_containers.new.rows.items (state_of c.place-container.new.tables) c.args.proposal.now c.in-Ok.checked.node c.in-Ok.checked.request c.self.inside.lulls c.fade_leaf_for.new.lulls c.reserve_containers.ensures.meaning c.self.invariant.sound.working
-    c.self.invariant.sound.tabled c.in-Ok.ensures.free c.in-Ok.ensures.node c.in-Ok.ensures.request c.place-container.ensures.state c.self.invariant.kept.amounts.numbered
-    (subst (λ (queues : List Path). AreNumbered queues (state_of c.place-container.new.tables).leaves) c.place-container.ensures.numbers c.place-container.ensures.kept.amounts.numbered) c.self.invariant.lulls c.fade_leaf_for.ensures.fewer c.fade_leaf_for.ensures.faded
+  -- there may be more room in it
+  abbrev roomy : ClusterView
+  roomy = c.reserve_for.new.self
+
+  abbrev u : ClusterView
+  u = c.place-placed.new.cluster
+
+  config : u.config ≡ w.config
+  config = ap (λ (v : ClusterView). v.config) c.place-placed.ensures.rows.1 ∙ ap (λ (v : ClusterView). v.config) c.reserve_for.ensures.rows
+
+  state : state_in u ≡ place w.config (node_of w.rows.partitions c.in-Ok.ensures.placement.placeable.node_row)
+      (item_of w.rows c.in-Ok.ensures.placement.placeable.app_row c.in-Ok.placement.role c.in-Ok.placement.size) (state_in w)
+  state =
+      subst (λ (v : ClusterView). (can : IsPlaceable v.rows c.in-Ok.placement.node c.in-Ok.placement.app c.in-Ok.placement.role)
+      → state_in u ≡ place v.config (node_of v.rows.partitions can.node_row) (item_of v.rows can.app_row c.in-Ok.placement.role c.in-Ok.placement.size) (state_in v)) c.reserve_for.ensures.rows
+      c.place-placed.ensures.state c.in-Ok.ensures.placement.placeable
+
+  told : c.place-placed.result ≡ container_of w.config (state_in w) (node_of w.rows.partitions c.in-Ok.ensures.placement.placeable.node_row)
+      (item_of w.rows c.in-Ok.ensures.placement.placeable.app_row c.in-Ok.placement.role c.in-Ok.placement.size)
+  told =
+      subst (λ (v : ClusterView). (can : IsPlaceable v.rows c.in-Ok.placement.node c.in-Ok.placement.app c.in-Ok.placement.role)
+      → c.place-placed.result ≡ container_of v.config (state_in v) (node_of v.rows.partitions can.node_row) (item_of v.rows can.app_row c.in-Ok.placement.role c.in-Ok.placement.size)) c.reserve_for.ensures.rows
+      c.place-placed.ensures.told c.in-Ok.ensures.placement.placeable
+
+  does-it : accepted w.config (state_in w) (Commit c.args.proposal.now) ≡ record { state = state_in u; reply = Committed c.place-placed.result }
+  does-it = does.committed w u c.args.proposal.now c.in-Ok.placement c.in-Ok.ensures.placement c.place-placed.result state told
+
+  free : first_that_holds (reasons w.config (state_in w) (Commit c.args.proposal.now)) ≡ None
+  unfolding reasons
+  free = c.in-Ok.ensures.free
 
 pub invariant_of-self-2 : goal.invariant_of-self-2
-unfolding step accepted
-invariant_of-self-2 c = woken c.self.inside c.place-container.new.tables c.wake.new.tables c.fade_leaf_for.new.lulls (Commit c.args.proposal.now) c.self.invariant c.amount-sized.ensures.range (search rules) c.place-container.ensures.kept c.place-container.ensures.numbers c.wake.ensures.before c.wake.ensures.resting (known c)
+invariant_of-self-2 c = record {
+  working = works (w c) (u c) (Commit c.args.proposal.now) (Committed c.place-placed.result) (free c) (config c) (does-it c) c.amount-sized.ensures.range c.self.invariant.working;
+  shut =
+      c.place-placed.ensures.shut
+      (shut-stays (w c) (roomy c) c.check.new.shut (ap (λ (v : ClusterView). v.config) c.reserve_for.ensures.rows) (ap state_in c.reserve_for.ensures.rows) (ap (λ (v : ClusterView). v.rows.partitions) c.reserve_for.ensures.rows)
+      (ap (λ (v : ClusterView). v.rows.paths) c.reserve_for.ensures.rows) c.check.ensures.shut);
+}
 
--- where memory is refused all is as it was
-pub invariant_of-self : goal.invariant_of-self
-invariant_of-self c =
-    let tables = c.self.inside.tables in
-    unchanged c.self.inside (record tables { partitions = c.reserve_containers.new.rows }) c.self.invariant (λ i. record (state_of tables) { partitions = c.reserve_containers.ensures.meaning i }) refl
-    (reserved tables c.reserve_containers.new.rows c.reserve_containers.ensures.meaning c.reserve_containers.ensures.summed c.self.invariant.kept) refl
-
-pub place-container-requires-clause-kept : goal.place-container-requires-clause-kept
-place-container-requires-clause-kept c = reserved c.self.inside.tables c.reserve_containers.new.rows c.reserve_containers.ensures.meaning c.reserve_containers.ensures.summed c.self.invariant.kept
-
-pub place-container-requires-clause-placeable : goal.place-container-requires-clause-placeable
-unfolding commit_reasons reasons
-place-container-requires-clause-placeable c =
-    placeable_reserved c.self.inside.config c.self.inside.tables c.reserve_containers.new.rows.items c.args.proposal.now c.in-Ok.checked.node c.in-Ok.checked.request c.reserve_containers.ensures.meaning c.self.invariant.sound.working c.self.invariant.sound.tabled
-    c.in-Ok.ensures.free c.in-Ok.ensures.node c.in-Ok.ensures.request
-
-pub fade_leaf_for-requires : goal.fade_leaf_for-requires
-fade_leaf_for-requires c = c.self.invariant.kept.amounts.numbered
+pub returns-clause-ok : goal.returns-clause-ok
+returns-clause-ok c =
+    subst (λ (v : World). Answers v (Commit c.args.proposal.now) (world_in (u c)) (Committed c.place-placed.result)) c.self.view_is
+    (answers (w c) (u c) (Commit c.args.proposal.now) (Committed c.place-placed.result) (free c) (config c) (does-it c))

@@ -1,18 +1,14 @@
-use Rattle.std.proofs.Common.{[], sym, subst}
+use Rattle.std.proofs.Common.{sym, subst}
 use Rattle.ynl_laws.specs.Working.{IsWorking}
-use Rattle.ynl_laws.specs.Tabled.{Tabled}
-use Rattle.ynl_laws.proofs.Totals.Tabling.{are-tabled}
 use Rattle.ynl_laws.proofs.Soundness.Working.{working-opening}
-use Rattle.ynl_waits.specs.Laws.{IsWellFormed}
-use Rattle.ynl_waits.proofs.WellFormed.{well-formed-opening}
-use Rattle.ynl_core.proofs.Stepping.{none_rests}
+use Rattle.ynl_model.specs.Cluster.{opening}
+use Rattle.ynl_core.proofs.Stepping.{empty-shut}
 use Rattle.ynl_core.proofs.cluster.Core.open.Goals as goal
 
 pub invariant_of-result : goal.invariant_of-result
 invariant_of-result c = record {
-  sound = none_rests c.args.config _ _ c.in_ok-tables.ensures.resting (subst (IsWorking c.args.config) (sym c.in_ok-tables.ensures.state) (working-opening c.args.config)) (subst Tabled (sym c.in_ok-tables.ensures.state) (are-tabled c.args.config []))
-      (subst (IsWellFormed c.args.config) (sym c.in_ok-tables.ensures.state) (well-formed-opening c.args.config));
-  kept = c.in_ok-tables.ensures.kept;
-  numbered = c.in_ok-tables.ensures.numbered;
-  lulls = c.in_ok-lulls.ensures c.args.config _;
+  working =
+      subst (IsWorking c.in_ok-cluster.cluster.config) (sym c.in_ok-cluster.ensures.state)
+      (subst (λ config. IsWorking config (opening c.args.config)) (sym c.in_ok-cluster.ensures.config) (working-opening c.args.config));
+  shut = empty-shut c.in_ok-cluster.cluster c.in_ok-shut.shut _ _ c.in_ok-shut.ensures;
 }

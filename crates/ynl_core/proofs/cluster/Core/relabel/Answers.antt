@@ -1,18 +1,25 @@
-use Rattle.std.proofs.Common.{rules}
+use Rattle.std.proofs.Common.{ap, subst}
 use Rattle.ynl_model.specs.declared.events.Event.TheVariants.{Relabel}
-use Rattle.ynl_model.specs.Events.{step, accepted}
-use Rattle.ynl_choice.proofs.Known.{none_known}
-use Rattle.ynl_tables.specs.Tables.{state_of}
-use Rattle.ynl_core.proofs.Changed.{woken, unchanged}
+use Rattle.ynl_model.specs.declared.replies.Reply.TheVariants.{Done}
+use Rattle.ynl_cluster.specs.Cluster.{ClusterView}
+use Rattle.ynl_core.specs.World.{Answers, World}
+use Rattle.ynl_core.proofs.Accepted as does
+use Rattle.ynl_core.proofs.Stepping.{answers, none-shut, works, world_in}
 use Rattle.ynl_core.proofs.cluster.Core.relabel.Goals as goal
 
 pub invariant_of-self-2 : goal.invariant_of-self-2
-unfolding step accepted
-invariant_of-self-2 c = woken c.self.inside c.relabel.new.tables c.wake.new.tables c.forget_all.new.self (Relabel c.args.name.now c.args.label.now) c.self.invariant tt (search rules) c.relabel.ensures.kept c.relabel.ensures.numbers c.wake.ensures.before c.wake.ensures.resting (none_known c.self.inside.config (state_of c.relabel.new.tables) c.forget_all.new.self c.forget_all.ensures.gone)
+invariant_of-self-2 c =
+    let node = c.in-Ok.ensures.moves.node in
+    record {
+      working =
+          works c.self.inside.cluster c.relabel-2.new.self (Relabel c.args.name.now c.args.label.now) Done c.in-Ok.ensures.free (ap (λ (w : ClusterView). w.config) (c.in_ok-relabel.ensures.rows node.row node.found))
+          (does.relabelled c.self.inside.cluster c.relabel-2.new.self c.args.name.now c.args.label.now c.in-Ok.moved c.in-Ok.ensures.moves (c.in_ok-relabel.ensures.state node.row node.found)) tt c.self.invariant.working;
+      shut = none-shut c.relabel-2.new.self c.self.inside.shut c.forget_all.new.self c.forget_all.ensures.own c.forget_all.ensures.guests;
+    }
 
--- where memory is refused all is as it was
-pub invariant_of-self : goal.invariant_of-self
-invariant_of-self c = unchanged c.self.inside c.relabel.new.tables c.self.invariant c.in_err-relabel.ensures.err c.in_err-relabel.ensures.resting c.relabel.ensures.kept c.relabel.ensures.numbers
-
-pub relabel-requires-clause-found : goal.relabel-requires-clause-found
-relabel-requires-clause-found c = c.self.invariant.sound.tabled.finds
+pub returns-clause-ok : goal.returns-clause-ok
+returns-clause-ok c =
+    let node = c.in-Ok.ensures.moves.node in
+    subst (λ (v : World). Answers v (Relabel c.args.name.now c.args.label.now) (world_in c.relabel-2.new.self) Done) c.self.view_is
+    (answers c.self.inside.cluster c.relabel-2.new.self (Relabel c.args.name.now c.args.label.now) Done c.in-Ok.ensures.free (ap (λ (w : ClusterView). w.config) (c.in_ok-relabel.ensures.rows node.row node.found))
+    (does.relabelled c.self.inside.cluster c.relabel-2.new.self c.args.name.now c.args.label.now c.in-Ok.moved c.in-Ok.ensures.moves (c.in_ok-relabel.ensures.state node.row node.found)))

@@ -1,4 +1,0 @@
-use Rattle.ynl_changes.proofs.finishing.raise_clock.Goals as goal
-
-pub returns-clause-kept : goal.returns-clause-kept
-returns-clause-kept c = λ h. record { numbered = h.numbered; summed = c.set_clock.ensures.summed _ _ h.summed }

@@ -1,0 +1,86 @@
+//! What happens to containers, and what is proposed and committed.
+
+ghost use Rattle.std.specs.Prelude.{◌≡◌, IfOk, IsOk, IsTrue, OnErr};
+ghost use Rattle.ynl_model.specs.declared.events.Event.TheVariants.{Commit, Exited, Propose, Release};
+ghost use Rattle.ynl_core.specs.Sure.{is_refused};
+ghost use Rattle.ynl_core.specs.World.{Answers};
+
+use crate::cluster::Core;
+use crate::memory::NoMemory;
+use ynl_admission as admission;
+use ynl_model::{Proposal, Reply};
+use ynl_resource::{Id, Name};
+use ynl_service::{check, proposed};
+use ynl_shut::{end, place};
+
+impl Core {
+    /// A container ended by itself.
+    #[tactic(auto, unfolding(ynl_model::specs::Events::step, ynl_model::specs::Events::accepted))]
+    #[inline(never)]
+    pub(crate) fn exited(&mut self, name: &Name, id: &Id) -> Reply
+        ensures { Answers self.old (Exited name.now id.now) self.new result }
+    {
+        let held = match admission::exited(&self.cluster, name, id) {
+            Ok(held) => held,
+            Err(refusal) => return Reply::Refused(refusal),
+        };
+        end(
+            &mut self.cluster,
+            &mut self.shut,
+            held.partition,
+            held.number,
+        );
+        Reply::Done
+    }
+
+    /// A tenant gives a container back.
+    #[tactic(auto, unfolding(ynl_model::specs::Events::step, ynl_model::specs::Events::accepted))]
+    #[inline(never)]
+    pub(crate) fn release(&mut self, tenant: &Name, id: &Id) -> Reply
+        ensures { Answers self.old (Release tenant.now id.now) self.new result }
+    {
+        let held = match admission::release(&self.cluster, tenant, id) {
+            Ok(held) => held,
+            Err(refusal) => return Reply::Refused(refusal),
+        };
+        end(
+            &mut self.cluster,
+            &mut self.shut,
+            held.partition,
+            held.number,
+        );
+        Reply::Done
+    }
+
+    /// What would be placed next on a node is proposed.
+    #[tactic(auto, unfolding(ynl_model::specs::Events::step, ynl_model::specs::Events::accepted))]
+    #[inline(never)]
+    pub(crate) fn propose(&mut self, name: &Name) -> Reply
+        ensures { Answers self.old (Propose name.now) self.new result }
+    {
+        let node = match admission::placing(&self.cluster, name) {
+            Ok(node) => node,
+            Err(refusal) => return Reply::Refused(refusal),
+        };
+        Reply::Proposed(proposed(&self.cluster, &mut self.shut, node))
+    }
+
+    /// What was proposed is placed.
+    #[tactic(auto, unfolding(ynl_model::specs::Events::step, ynl_model::specs::Events::accepted, ynl_model::specs::Events::reasons))]
+    #[inline(never)]
+    pub(crate) fn commit(&mut self, proposal: &Proposal) -> Result<Reply, NoMemory>
+        ensures ok { IfOk result (λ reply. Answers self.old (Commit proposal.now) self.new reply) }
+        ensures err { OnErr result (self.new ≡ self.old) }
+        ensures sure { IsTrue (is_refused self.old (Commit proposal.now)) → IsOk result }
+    {
+        let placement = match check(&self.cluster, &mut self.shut, proposal) {
+            Ok(placement) => placement,
+            Err(refusal) => return Ok(Reply::Refused(refusal)),
+        };
+        let _sized = proposal.size.amount();
+        let p = self.cluster.inventory().node(placement.node).partition;
+        self.cluster.reserve_for(p, 1)?;
+        let placed = place(&mut self.cluster, &mut self.shut, &placement);
+        Ok(Reply::Committed(placed))
+    }
+}

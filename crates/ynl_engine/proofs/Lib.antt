@@ -1,4 +1,0 @@
-mod Stepping
-mod Accepted
-mod Known
-mod Proposals

@@ -1,4 +1,0 @@
-pub mod World
-pub mod Sure
-pub mod EngineFields
-pub mod Proposals

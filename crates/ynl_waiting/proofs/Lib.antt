@@ -1,5 +1,0 @@
-pub mod Having
-mod Keyed
-mod Levels
-pub mod Loops
-mod Places
