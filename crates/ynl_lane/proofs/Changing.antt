@@ -1,8 +1,9 @@
 -- What is kept of the rows where some change.
-use Rattle.std.proofs.Common.{◌≡◌, ◌≢◌, ℕ, ⊎_elim, List, [], get_or, set, length, Some, option_map, nat_eq, refl, sym, ap, subst, ◌∙◌, length-set, get_or-set_same, get_or-set_other}
+use Rattle.std.proofs.Common.{◌≡◌, ◌≢◌, ℕ, true, ◌&&◌, arith, ⊎_elim, List, [], get_or, set, length, Some, option_map, nat_eq, refl, sym, ap, subst, ◌∙◌, length-set, get_or-set_same, get_or-set_other}
 use Rattle.std.specs.Map.{lookup}
 use Rattle.std.specs.Option.{option_map_or}
-use Rattle.std.proofs.lemmas.Bool.{cases_eq}
+use Rattle.std.proofs.lemmas.Bool.{and_parts, cases_eq}
+use Rattle.std.proofs.lemmas.Bool.Decides.{nat_tests}
 use Rattle.std.proofs.lemmas.Option.{same_Some}
 use Rattle.ynl_resource.specs.declared.amounts.Resource.{Resource}
 use Rattle.ynl_resource.specs.Amounts.{nothing}
@@ -17,14 +18,14 @@ use Rattle.ynl_lane.specs.declared.levels.Level.TheVariants.{Lane, User}
 use Rattle.ynl_lane.specs.declared.rows.SeatRow.{SeatRow}
 use Rattle.ynl_lane.specs.declared.rows.UserRow.{UserRow}
 use Rattle.ynl_lane.specs.declared.rows.Rows.{Rows}
-use Rattle.ynl_lane.specs.Changes.{SetsValues, SetsUsed, shown, ShowSame, ShowsOther}
+use Rattle.ynl_lane.specs.Changes.{SetsWaits, SetsValues, SetsUsed, shown, ShowSame, ShowsOther}
 use Rattle.ynl_lane.specs.Kinds.{of_kind}
 use Rattle.ynl_lane.specs.Levels.{slot_in, IsIn, IsBefore, AreIn}
 use Rattle.ynl_lane.specs.Lines.{values_of, IsLine}
 use Rattle.ynl_lane.specs.Found.{EachSeat}
 use Rattle.ynl_lane.specs.Rows.{of_user, own_tickets, own_values, used_by, tickets_in, HasWaits, EachUser, IsUse, IsUserRow, IsSeated, IsStood, AreStoodBut, IsKept}
 use Rattle.ynl_lane.specs.Waiting.{IsWaiting}
-use Rattle.ynl_lane.proofs.Lists.{found_written, found_other, each_written, all_written, ordered_written, distinct_with_row}
+use Rattle.ynl_lane.proofs.Lists.{found_written, found_other, each_written, all_written, ordered_written, distinct_with_row, with_row-same}
 use Rattle.ynl_lane.proofs.Found.{one_at}
 use Rattle.ynl_lane.proofs.Searching.{own_slot-in, own_line, own_value}
 use Rattle.ynl_lane.proofs.Stood.{line_changed}
@@ -188,3 +189,27 @@ module _ (rows new : Rows) (kept : IsKept rows) (user : ℕ) (used : Resource) (
     own = ap (λ us. option_map shown (lookup (nat_eq user) us)) sets.entries ∙ ap (option_map shown) (found_written user (record sets.row { used = used }) sets.row rows.users.entries sets.found) ∙ sym (ap (option_map (λ row. record (shown row) { used = used })) sets.found);
     others = λ other apart. ap (λ us. option_map shown (lookup (nat_eq other) us)) sets.entries ∙ ap (option_map shown) (found_other other user (record sets.row { used = used }) rows.users.entries apart);
   }
+
+-- ---- what waited already
+
+both-same : (a b : Both Resource) → ((nat_eq a.master.memory b.master.memory && nat_eq a.master.vcores b.master.vcores) ≡ true) → ((nat_eq a.ask.memory b.ask.memory && nat_eq a.ask.vcores b.ask.vcores) ≡ true) → a ≡ b
+both-same a b master ask = λ i. record { master = amount-same a.master b.master master i; ask = amount-same a.ask b.ask ask i }
+  where
+    amount-same : (x y : Resource) → (nat_eq x.memory y.memory && nat_eq x.vcores y.vcores) ≡ true → x ≡ y
+    amount-same x y h =
+        let parts = and_parts (nat_eq x.memory y.memory) (nat_eq x.vcores y.vcores) h in
+        let memory = parts.0 in
+        let vcores = parts.1 in
+        let m : x.memory ≡ y.memory = grind (arith, nat_tests) in
+        let v : x.vcores ≡ y.vcores = grind (arith, nat_tests) in
+        λ i. record { memory = m i; vcores = v i }
+
+-- where the same is entered that waits at a seat, the seats are as before
+pub waits-same : (ticket : ℕ) (row : SeatRow) (waits : Both Resource) (es : List (ℕ × SeatRow)) → HasDistinctNumbers es → lookup (nat_eq ticket) es ≡ Some row
+    → ((nat_eq row.waits.master.memory waits.master.memory && nat_eq row.waits.master.vcores waits.master.vcores) ≡ true)
+    → ((nat_eq row.waits.ask.memory waits.ask.memory && nat_eq row.waits.ask.vcores waits.ask.vcores) ≡ true) → SetsWaits ticket waits es es
+waits-same ticket row waits es distinct found master ask = record {
+  row = row;
+  found = found;
+  entries = sym (ap (λ w. with_row ticket (record row { waits = w }) es) (sym (both-same row.waits waits master ask)) ∙ with_row-same ticket row es (only_from_distinct ticket row es distinct found));
+}

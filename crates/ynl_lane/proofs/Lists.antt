@@ -229,3 +229,15 @@ module _ {X : Type 0} where
       go : (b : Bool) → HasDistinctNumbers (without m es) → HasDistinctNumbers (cond (not b) (e ∷ without m es) (without m es))
       go true k = k
       go false k = (all_without (λ f. f.0 ≢ e.0) m es h.0, k)
+
+-- the row that is under a number is written there
+module _ {X : Type 0} where
+  pub with_row-same : (number : ℕ) (row : X) (es : List (ℕ × X)) → IsOnly number row es → with_row number row es ≡ es
+  with_row-same number row [] only = refl
+  with_row-same number row (e ∷ es) only = λ i. one (nat_eq number e.0) refl i ∷ with_row-same number row es only.1 i
+    where
+      one : (b : Bool) → nat_eq number e.0 ≡ b → cond b (e.0, row) e ≡ e
+      one true is =
+          let same : e.0 ≡ number = grind (arith, nat_tests) in
+          λ i. (e.0, sym (only.0 same) i)
+      one false is = refl

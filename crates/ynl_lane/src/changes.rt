@@ -1,8 +1,8 @@
 //! How the rows of a lane change.
 
-ghost use Rattle.std.specs.Prelude.{◌≡◌, ◌≢◌, ◌<◌, ◌+◌, ◌-◌, option_map, length, Some, nat_eq};
+ghost use Rattle.std.specs.Prelude.{◌≡◌, ◌≢◌, ◌<◌, ◌+◌, ◌-◌, IsTrue, option_map, length, Some, nat_eq};
 ghost use Rattle.std.specs.Map.{lookup};
-ghost use Rattle.ynl_slots.specs.Slots.{IsLive, with_row, without};
+ghost use Rattle.ynl_slots.specs.Slots.{HasDistinctNumbers, IsLive, with_row, without};
 ghost use Rattle.ynl_lane.specs.Changes.{SetsWaits, SetsValues, SetsUsed, PushesOwn, PushesSeat, IsOwnRoom, IsPulled, ShowSame, ShowsOther};
 ghost use Rattle.ynl_lane.specs.Found.{EachSeat};
 ghost use Rattle.ynl_lane.specs.Lines.{HasRoom};
@@ -14,6 +14,16 @@ use crate::rows::{Rows, SeatRow, UserRow};
 use ynl_lanes::Low;
 use ynl_resource::Resource;
 use ynl_slots::Slots;
+
+/// Whether just these things wait at a seat.
+fn has_waits(seats: &Slots<SeatRow>, ticket: u32, waits: &Both<Low>) -> bool
+    requires live { IsLive ticket seats.now.entries }
+    requires distinct { HasDistinctNumbers seats.now.entries }
+    ensures { IsTrue result → SetsWaits ticket waits.now seats.now.entries seats.now.entries }
+{
+    let row = &seats[ticket];
+    row.waits.master == waits.master && row.waits.ask == waits.ask
+}
 
 /// Other things wait at a seat. It returns the row.
 fn set_waits(seats: &mut Slots<SeatRow>, ticket: u32, waits: &Both<Low>) -> SeatRow
@@ -77,6 +87,9 @@ impl Rows {
         ensures seats { SetsWaits ticket waits.now self.old.seats.entries self.new.seats.entries }
         ensures users { ShowSame self.old.users.entries self.new.users.entries }
     {
+        if has_waits(&self.seats, ticket, waits) {
+            return;
+        }
         let row = set_waits(&mut self.seats, ticket, waits);
         set_values(&mut self.users, row.user, row.own_slot as usize, waits);
         self.stand_anew(row.user);

@@ -42,8 +42,8 @@ impl<T: Least> Line<T> {
             && count < u32::MAX as usize
     }
 
-    /// Makes room for as many tickets more as there are, and two. It fails if memory is refused, and at
-    /// 2^32 - 1 tickets.
+    /// Makes room for twice as many tickets as there are, or for two. It fails if memory is refused, and at 2^32 - 1
+    /// tickets.
     pub(crate) fn reserve(&mut self) -> Result<(), AllocError>
         ensures tickets { self.new.tickets.items ≡ self.old.tickets.items }
         ensures masters { IsFilledUp T.none self.old.masters self.new.masters }
@@ -54,9 +54,10 @@ impl<T: Least> Line<T> {
         if count >= u32::MAX as usize {
             return Err(AllocError);
         }
-        self.tickets.reserve(count + 2)?;
-        self.masters.reserve(2 * count + 2)?;
-        self.asks.reserve(2 * count + 2)
+        let places = (2 * count).max(2);
+        self.tickets.reserve(places - count)?;
+        self.masters.reserve(places)?;
+        self.asks.reserve(places)
     }
 
     /// A ticket in a new slot, where nothing waits.
