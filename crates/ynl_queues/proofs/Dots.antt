@@ -1,6 +1,7 @@
 -- Texts with dots.
-use Rattle.std.proofs.Common.{◌≡◌, ℕ, Bool, true, false, cond, ◌||◌, List, [], ◌∷◌, ◌++◌, refl, ap, ◌∙◌}
+use Rattle.std.proofs.Common.{◌≡◌, ℕ, ◌+◌, ◌<◌, get_or, take, length, Bool, true, false, cond, ◌||◌, List, [], ◌∷◌, ◌++◌, refl, ap, ◌∙◌}
 use Rattle.std.specs.List.{list_any}
+use Rattle.std.proofs.lemmas.List.{take_more}
 use Rattle.std.proofs.lemmas.List.Folds.{list_any-append}
 use Rattle.ynl_resource.specs.Texts.{is_dot}
 use Rattle.ynl_queues.specs.Written.{above}
@@ -26,3 +27,11 @@ above-other (x ∷ text) b other =
     or-false : (a : Bool) → (a || false) ≡ a
     or-false true = refl
     or-false false = refl
+
+-- the first bytes of a text, the last of which is a dot
+pub above_at_dot : (text : List ℕ) (i end : ℕ) → end ≡ i + 1 → i < length text → is_dot (get_or text i 0) ≡ true → above (take end text) ≡ take i text
+above_at_dot text i end next within dot = rw (next, take_more text i 0 within) (above-dot (take i text) (get_or text i 0) dot)
+
+-- the first bytes of a text, the last of which is no dot
+pub above_at_other : (text : List ℕ) (i end : ℕ) → end ≡ i + 1 → i < length text → is_dot (get_or text i 0) ≡ false → above (take end text) ≡ above (take i text)
+above_at_other text i end next within other = rw (next, take_more text i 0 within) (above-other (take i text) (get_or text i 0) other)

@@ -9,6 +9,7 @@ pub mod PlaceMaps
 pub mod Places
 pub mod Prefixes
 pub mod Shares
+pub mod Together
 pub mod Told
 pub mod Totals
 pub mod Trees

@@ -16,6 +16,7 @@ pub use written::WrittenQueue;
 
 mod access;
 mod amounts;
+mod buckets;
 mod building;
 mod checks;
 mod children;
