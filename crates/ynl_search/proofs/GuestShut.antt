@@ -1,5 +1,5 @@
 -- Rooms in which no guest comes from below a queue.
-use Rattle.std.proofs.Common.{◌≡◌, ◌<◌, ◌+◌, ℕ, Bool, true, false, ◌&&◌, cond, nat_eq, List, [], length, get_or, Contains, Option, None, Some, refl, sym, ap, subst, ◌∙◌, arith, true≢false}
+use Rattle.std.proofs.Common.{◌≡◌, ◌<◌, ◌+◌, ℕ, Bool, true, false, ◌&&◌, cond, nat_eq, List, [], length, get_or, Contains, Option, None, Some, is_some, refl, sym, ap, subst, ◌∙◌, arith, true≢false}
 use Rattle.std.specs.Prelude.{IfSome}
 use Rattle.std.proofs.lemmas.Bool.Decides.{nat_tests}
 use Rattle.std.proofs.lemmas.List.{get_or_default, length-map}
@@ -20,13 +20,13 @@ use Rattle.ynl_descent.specs.Scenes.{HasNone, Scene}
 use Rattle.ynl_inventory.proofs.Finding.{not-true}
 use Rattle.ynl_requests.proofs.Members.{among-contained, among-filter, contained-among, filter-among}
 use Rattle.ynl_cluster.specs.Cluster.{ClusterView, label_of, path_of, state_in}
-use Rattle.ynl_shut.specs.Notes.{Notes, Row, has_in, room_in}
-use Rattle.ynl_shut.specs.Shut.{AreGuestsShut, AreOwnShut, AreShut, IsGuestShut}
+use Rattle.ynl_shut.specs.Notes.{Notes, has_in, room_in}
+use Rattle.ynl_shut.specs.Shut.{AreOwnShut, AreShut, IsGuestShut}
 use Rattle.ynl_search.specs.declared.place.Place.{Place}
 use Rattle.ynl_search.specs.Scenes.{IsReached, guest_scene}
-use Rattle.ynl_search.specs.Shut.{AreNotedAbove, covers}
+use Rattle.ynl_search.specs.Shut.{AreGuestless, covers}
 use Rattle.ynl_search.proofs.Below.{asks-stand}
-use Rattle.ynl_search.proofs.Trees.{all-of, child-at, path-there}
+use Rattle.ynl_search.proofs.Trees.{all-of, path-there}
 
 -- where none comes in a room, none comes in those that it covers
 pub covered-guests : (s : State) (queue : Path) (noted : Option Resource) (room : Resource) → IfSome noted (IsGuestShut s queue) → covers noted room ≡ true → IsGuestShut s queue room
@@ -73,10 +73,19 @@ noted-guest w q room old new shut same rooms own = record {
 
 -- ---- the least of some rooms
 
-pub least-more : (row : Row) (queues : List ℕ) (n : ℕ) (least room : Resource) → ((k : ℕ) → k < n → (r : Resource) × (room_in row (get_or queues k 0) ≡ Some r) × (fits_in least r ≡ true))
-    → room_in row (get_or queues n 0) ≡ Some room
-    → (k : ℕ) → k < n + 1 → (r : Resource) × (room_in row (get_or queues k 0) ≡ Some r) × (fits_in (smaller_of least room) r ≡ true)
-least-more row queues n least room before here k below = go (nat_eq k n) refl
+-- where none comes in a room, none comes in one that fits in it
+pub less-guests : (s : State) (queue : Path) (room less : Resource) → fits_in less room ≡ true → IsGuestShut s queue room → IsGuestShut s queue less
+less-guests s queue room less inside shut = covered-guests s queue (Some room) less shut inside
+
+-- and so it is where a room is told that so much fits in
+pub told-guests : (s : State) (queue : Path) (told : Option Resource) (room : Resource) → IfSome told (λ large. fits_in room large ≡ true) → IfSome told (IsGuestShut s queue) → is_some told ≡ true → IsGuestShut s queue room
+told-guests s queue None room covers shut e = absurd (true≢false (sym e))
+told-guests s queue (Some large) room covers shut e = less-guests s queue large room covers shut
+
+-- one more room, that of one more queue
+pub least-more : (w : ClusterView) (queues : List ℕ) (n : ℕ) (least room : Resource) → ((k : ℕ) → k < n → IsGuestShut (state_in w) (path_of w (get_or queues k 0)) least)
+    → IsGuestShut (state_in w) (path_of w (get_or queues n 0)) room → (k : ℕ) → k < n + 1 → IsGuestShut (state_in w) (path_of w (get_or queues k 0)) (smaller_of least room)
+least-more w queues n least room before here k below = go (nat_eq k n) refl
   where
     first : (a b : Resource) → fits_in (smaller_of a b) a ≡ true
     first a b = grind (arith, nat_tests)
@@ -84,20 +93,22 @@ least-more row queues n least room before here k below = go (nat_eq k n) refl
     second : (a b : Resource) → fits_in (smaller_of a b) b ≡ true
     second a b = grind (arith, nat_tests)
 
-    go : (b : Bool) → nat_eq k n ≡ b → (r : Resource) × (room_in row (get_or queues k 0) ≡ Some r) × (fits_in (smaller_of least room) r ≡ true)
-    go true e = let same : k ≡ n = grind (arith, nat_tests, e) in (room, ap (λ m. room_in row (get_or queues m 0)) same ∙ here, second least room)
-    go false e =
-        let its = before k (grind (arith, nat_tests, e, below)) in
-        (its.0, its.1, fits-trans (smaller_of least room) least its.0 (first least room) its.2)
+    at : ℕ → Path
+    at k = path_of w (get_or queues k 0)
+
+    go : (b : Bool) → nat_eq k n ≡ b → IsGuestShut (state_in w) (at k) (smaller_of least room)
+    go true e =
+        let same : n ≡ k = grind (arith, nat_tests, e) in
+        subst (λ m. IsGuestShut (state_in w) (at m) (smaller_of least room)) same (less-guests (state_in w) (at n) room (smaller_of least room) (second least room) here)
+    go false e = less-guests (state_in w) (at k) least (smaller_of least room) (first least room) (before k (grind (arith, nat_tests, e, below)))
 
 -- the place of a name among names
 placed : (some : List Name) (name : Name) → Contains some name → (place : ℕ) × (place < length some) × (get_or some place [] ≡ name)
 placed some name there = (there.0, there.1, get_or_default some there.0 [] name there.1 ∙ there.2)
 
--- where a room is noted of each child of a queue that so much fits in, no guest comes from the queue in so much
-pub least-guests : (w : ClusterView) (place : Place) (children : List ℕ) → IsReached w place children → (row : Row) → AreGuestsShut w row → (least : Resource) → AreNotedAbove row children least → 0 < length children
-    → IsGuestShut (state_in w) (path_of w place.queue) least
-least-guests w place children r row shut least noted some item h =
+-- where no guest comes from any child of a queue in a room, none comes from the queue
+pub least-guests : (w : ClusterView) (place : Place) (children : List ℕ) → IsReached w place children → (least : Resource) → AreGuestless w children least → 0 < length children → IsGuestShut (state_in w) (path_of w place.queue) least
+least-guests w place children r least none some item h =
     found (all-of w place children r scene (asks-stand w r.sound) some item (record { among = subst (λ (label : Label). Contains (asks_for (state_in w) label) item) (sym r.sound.default) h.among; within = h.within }))
   where
     scene : Scene
@@ -107,13 +118,6 @@ least-guests w place children r row shut least noted some item h =
     found its =
         let at = placed (names_of w.rows.paths children) its.child its.there in
         let path : path_of w (get_or children at.0 0) ≡ below (path_of w place.queue) its.child = path-there w place children r at.0 at.1 ∙ ap (below (path_of w place.queue)) at.2 in
-        let room = noted at.0 (subst (λ n. at.0 < n) (length-map children (λ n. last_name (path_at w.rows.paths n))) at.1) in
-        let own : IsGuestShut (state_in w) (path_of w (get_or children at.0 0)) room.0 =
-        subst (λ o. IfSome o (IsGuestShut (state_in w) (path_of w (get_or children at.0 0)))) room.1 (shut (get_or children at.0 0) (child-at w place children r at.0 at.1).there) in
-        not-true (fits_in item.size least)
-        (λ fits.
-        true≢false
-        (sym (fits-trans item.size least room.0 fits room.2)
-        ∙ own item
+        none at.0 (subst (λ n. at.0 < n) (length-map children (λ n. last_name (path_at w.rows.paths n))) at.1) item
         (subst (λ (q : Path). IsBelow (asks_for (state_in w) Unlabelled) q item) (sym path)
-        (subst (λ (label : Label). IsBelow (asks_for (state_in w) label) (below (path_of w place.queue) its.child) item) r.sound.default its.stands))))
+        (subst (λ (label : Label). IsBelow (asks_for (state_in w) label) (below (path_of w place.queue) its.child) item) r.sound.default its.stands))

@@ -3,6 +3,7 @@ pub mod Steps
 pub mod Tests
 pub mod LowestAsk
 pub mod FirstOver
+pub mod OwnFirst
 pub mod SeatGiven
 pub mod FirstIn
 pub mod LeafFirst

@@ -110,14 +110,6 @@ module _ (w : ClusterView) (p q : ℕ) where
   pub shut-closed : (h : Headroom) → IsShutIn w p q h.room → HasNoneIn w p h q
   shut-closed h shut item below allowed = shut item below (and_parts h.is_open (fits_in item.size h.room) allowed).1
 
-  -- and is closed where its parent has no more
-  pub shut-above : (h : Headroom) → IsShutIn w p q h.room → IsClosedIn w p h q
-  shut-above h shut item below allowed keeps = shut item below (and_parts h.is_open (fits_in item.size h.room) allowed).1
-
-  -- nor has one without headroom
-  pub full-closed : (h : Headroom) → h.is_open ≡ false → HasNoneIn w p h q
-  full-closed h full item below allowed = absurd (true≢false (sym (and_parts h.is_open (fits_in item.size h.room) allowed).0 ∙ full))
-
   -- nor has one whose requests do not fit
   pub misfit-closed : (h : Headroom) → ((item : Item) → IsBelow (items_for (state_in w) (label_of w p)) (path_of w q) item → fits_in item.size h.room ≡ false) → HasNoneIn w p h q
   misfit-closed h misfit item below allowed = absurd (true≢false (sym (and_parts h.is_open (fits_in item.size h.room) allowed).1 ∙ misfit item below))

@@ -1,6 +1,5 @@
 -- What a descent asks of the queues that it comes to.
-use Rattle.std.proofs.Common.{◌≡◌, ◌≢◌, ◌<◌, ℕ, List, [], length, get_or, refl, sym, ap, subst, ◌∙◌, arith}
-use Rattle.std.proofs.lemmas.Bool.Decides.{nat_tests}
+use Rattle.std.proofs.Common.{◌≡◌, ◌≢◌, ◌<◌, ℕ, List, [], length, get_or, sym, ap, subst, ◌∙◌, arith}
 use Rattle.std.proofs.lemmas.List.{length-map}
 use Rattle.ynl_resource.specs.declared.amounts.Resource.{Resource}
 use Rattle.ynl_resource.specs.declared.labels.Label.{Label}
@@ -11,13 +10,13 @@ use Rattle.ynl_model.specs.Service.{Item, last_name}
 use Rattle.ynl_laws.specs.Decided.{below}
 use Rattle.ynl_layout.specs.Paths.{IsChild, names_of, path_at}
 use Rattle.ynl_descent.specs.declared.standing.Standing.{Standing}
-use Rattle.ynl_descent.specs.Scenes.{AreAllBelow, HasNone, IsChildAt, Scene}
+use Rattle.ynl_descent.specs.Scenes.{AreAllBelow, HasNone, Scene}
 use Rattle.ynl_descent.specs.Turns.{IsStanding}
 use Rattle.ynl_inventory.specs.Sound.{IsLeaf}
 use Rattle.ynl_cluster.specs.Cluster.{ClusterView, label_of, path_of, state_in}
 use Rattle.ynl_search.specs.declared.place.Place.{Place}
 use Rattle.ynl_search.specs.Scenes.{IsPlaceOf, IsReached, branch_at, queues_below}
-use Rattle.ynl_search.proofs.Below.{HaveLeaves, all-below, child-number, fewer-below, is-leaf, last-at, no-request, path-below}
+use Rattle.ynl_search.proofs.Below.{HaveLeaves, all-below, fewer-below, is-leaf, last-at, no-request, path-below}
 
 module _ (w : ClusterView) (place : Place) (children : List ℕ) (r : IsReached w place children) where
   abbrev names : List Name
@@ -39,11 +38,6 @@ module _ (w : ClusterView) (place : Place) (children : List ℕ) (r : IsReached 
   pub child-at : (at : ℕ) → at < length names → IsChild w.rows.paths place.queue (get_or children at 0)
   child-at at inside = r.all.each at 0 (omega (arith, inside, many))
 
-  pub child-below : (at : ℕ) → at < length names → 0 < get_or children at 0
-  child-below at inside =
-      let apart = child-number w.rows r.sound.tree place.queue r.queue children r.all r.cover (get_or children at 0) (child-at at inside) in
-      grind (arith, nat_tests, apart)
-
   -- the path of a child, by its number
   pub path-there : (at : ℕ) → at < length names → path_of w (get_or children at 0) ≡ below (path_of w place.queue) (get_or names at [])
   path-there at inside = sym (path-below w.rows r.sound.tree place.queue r.queue children r.all r.cover at (omega (arith, inside, many)))
@@ -54,9 +48,6 @@ module _ (w : ClusterView) (place : Place) (children : List ℕ) (r : IsReached 
 
     pub child-path : path_of w child.queue ≡ below (path_of w place.queue) (get_or names at [])
     child-path = ap (path_of w) is ∙ sym (path-below w.rows r.sound.tree place.queue r.queue children r.all r.cover at within)
-
-    pub child-is : (scene : Scene) (further : List ℕ) → IsChildAt (branch_at w scene place.queue children) at (branch_at w scene child.queue further)
-    child-is scene further = record { scene = refl; path = child-path }
 
     pub child-lower : queues_below w.rows.paths (path_of w child.queue) < queues_below w.rows.paths (path_of w place.queue)
     child-lower =

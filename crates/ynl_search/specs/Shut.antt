@@ -1,5 +1,5 @@
 -- Queues that a search passes by.
-use Rattle.std.specs.Prelude.{◌≡◌, ◌<◌, ℕ, Bool, true, false, List, length, slice_index_or, Option, Some}
+use Rattle.std.specs.Prelude.{◌≡◌, ◌<◌, ℕ, Bool, true, false, List, length, slice_index_or, Option}
 use Rattle.std.specs.Option.{option_map_or}
 use Rattle.ynl_resource.specs.Amounts.{fits_in}
 use Rattle.ynl_resource.specs.declared.amounts.Resource.{Resource}
@@ -10,8 +10,7 @@ use Rattle.ynl_model.specs.Cluster.{State}
 use Rattle.ynl_model.specs.Service.{Item, items_for}
 use Rattle.ynl_laws.specs.Descent.{IsBelow}
 use Rattle.ynl_cluster.specs.Cluster.{ClusterView, label_of, path_of, state_in}
-use Rattle.ynl_shut.specs.Notes.{Row, room_in}
-use Rattle.ynl_shut.specs.Shut.{IsShut, keeps_below, keeps_maximum}
+use Rattle.ynl_shut.specs.Shut.{IsGuestShut, IsShut, keeps_below, keeps_maximum}
 use Rattle.ynl_search.specs.declared.headroom.Headroom.{Headroom}
 use Rattle.ynl_search.specs.Places.{allows}
 
@@ -38,6 +37,6 @@ HasNoneIn w p h q = HasNoneFor w.config (state_in w) (label_of w p) h (path_of w
 abbrev pub IsClosedIn : ClusterView → ℕ → Headroom → ℕ → Type 0
 IsClosedIn w p h q = IsClosed w.config (state_in w) (label_of w p) h (path_of w q)
 
--- a room is noted of each of some queues that so much fits in
-abbrev pub AreNotedAbove : Row → List ℕ → Resource → Type 0
-AreNotedAbove row queues least = (k : ℕ) → k < length queues → (room : Resource) × (room_in row (slice_index_or queues k 0) ≡ Some room) × (fits_in least room ≡ true)
+-- in a room no guest comes from any of some queues
+abbrev pub AreGuestless : ClusterView → List ℕ → Resource → Type 0
+AreGuestless w queues room = (k : ℕ) → k < length queues → IsGuestShut (state_in w) (path_of w (slice_index_or queues k 0)) room

@@ -1,7 +1,7 @@
 //! The tree of queues in which guests are looked for.
 
 use crate::found::Found;
-use crate::guest_rooms::{guest_room_to_note, has_no_guest};
+use crate::guest_rooms::{guest_room_to_note, guestless_room};
 use crate::leaves::first_guest_in_leaf;
 use crate::queues::{child_in, reach, standing_at};
 use crate::reached::Reached;
@@ -52,7 +52,7 @@ impl<'a> Tree for GuestTree<'a> {
     }
 
     fn look(&self, notes: &Shut, queue: &Reached<'a>, place: usize) -> Option<Standing> {
-        if has_no_guest(self.cluster, notes, queue.children[place], &self.room) {
+        if guestless_room(self.cluster, notes, queue.children[place], &self.room).is_some() {
             return None;
         }
         let child = child_in(self.cluster, 0, queue, place);

@@ -15,7 +15,7 @@ ghost use Rattle.ynl_search.specs.Shut.{HasNoneIn, IsClosedIn, IsShutIn, covers}
 
 use crate::leaves::lane_of;
 use crate::place::{ANY, Place};
-use crate::queues::{child_in, reach};
+use crate::queues::{child_in, is_leaf};
 use crate::reached::Reached;
 use ynl_cluster::Cluster;
 use ynl_lane::Kind;
@@ -33,20 +33,17 @@ pub(crate) fn covers(noted: Option<Resource>, room: &Resource) -> bool
 }
 
 /// Whether a queue below root is a leaf in which nothing that waits fits in a room.
-fn has_too_large(cluster: &Cluster, p: u8, place: &Place) -> bool
-    requires small { IsSmallPlace place.now }
-    requires below_root { 0 < place.now.queue }
-    requires there { IsThere cluster.now p place.now.queue }
+fn has_too_large(cluster: &Cluster, p: u8, queue: usize, room: &Resource) -> bool
+    requires below_root { 0 < queue }
+    requires there { IsThere cluster.now p queue }
     ensures { IsTrue result → (item : Item)
         → IsBelow (items_for (state_in cluster.now) (label_of cluster.now p))
-        (path_of cluster.now place.now.queue) item
-        → fits_in item.size place.now.headroom.room ≡ false }
+        (path_of cluster.now queue) item → fits_in item.size room.now ≡ false }
 {
-    if reach(cluster, *place).children.len() > 0 {
+    if !is_leaf(cluster, queue) {
         return false;
     }
-    let lane = lane_of(cluster, p, place.queue);
-    let room = &place.headroom.room;
+    let lane = lane_of(cluster, p, queue);
     !lane.least(Kind::Ask).fits(room) && !lane.least(Kind::Master).fits(room)
 }
 
@@ -66,7 +63,7 @@ fn has_none(cluster: &Cluster, noted: Option<Resource>, p: u8, place: &Place) ->
     if covers(noted, &place.headroom.room) {
         return true;
     }
-    has_too_large(cluster, p, place)
+    has_too_large(cluster, p, place.queue, &place.headroom.room)
 }
 
 /// The queue in a place just below one, or nothing where nothing below it may be placed for which there is headroom. What

@@ -104,46 +104,6 @@ impl Request<Found> for Asks<'_> {
     }
 }
 
-/// The first seat of a lane whose application is given its master, within a room.
-fn first_master<'a>(
-    inventory: &'a Inventory,
-    lane: &'a Lane,
-    partition: u8,
-    tests: &'a LeafTests,
-    room: Resource,
-) -> Option<(u32, Found)>
-    ensures { result ≡ first_master inventory.now.rows lane.now.seats partition tests.now room }
-{
-    let masters = Masters {
-        inventory,
-        lane,
-        partition,
-        tests,
-    };
-    lane.first(Kind::Master, room, tests.most(), &masters, None)
-}
-
-/// The first seat of a lane, before another if there is one, whose application is given an ask, within a room.
-fn first_ask<'a>(
-    inventory: &'a Inventory,
-    lane: &'a Lane,
-    partition: u8,
-    tests: &'a LeafTests,
-    room: Resource,
-    before: Option<u32>,
-) -> Option<(u32, Found)>
-    requires { IfSome before (λ ticket. IsSeat ticket lane.now.seats) }
-    ensures { result ≡ first_ask inventory.now.rows lane.now.seats partition tests.now room before }
-{
-    let asks = Asks {
-        inventory,
-        lane,
-        partition,
-        tests,
-    };
-    lane.first(Kind::Ask, room, tests.most(), &asks, before)
-}
-
 /// The ticket of what was found.
 fn ticket(found: &Option<(u32, Found)>) -> Option<u32>
     ensures { result ≡ option_map (λ e. e.0) found.now }
@@ -165,9 +125,22 @@ pub(crate) fn first_own(
     ensures { result ≡ first_own inventory.now.rows lane.now.seats partition tests.now }
 {
     let room = tests.room()?;
-    let master = first_master(inventory, lane, partition, tests, room);
+    let most = tests.most();
+    let masters = Masters {
+        inventory,
+        lane,
+        partition,
+        tests,
+    };
+    let master = lane.first(Kind::Master, room, most, &masters, None);
     let before = ticket(&master);
-    if let Some((_, ask)) = first_ask(inventory, lane, partition, tests, room, before) {
+    let asks = Asks {
+        inventory,
+        lane,
+        partition,
+        tests,
+    };
+    if let Some((_, ask)) = lane.first(Kind::Ask, room, most, &asks, before) {
         return Some(ask);
     }
     let (_, found) = master?;

@@ -1,10 +1,10 @@
 //! The queues of a cluster, as a search comes to them.
 
-ghost use Rattle.std.specs.Prelude.{◌≡◌, ◌<◌, ◌&&◌, length, slice_index_or};
+ghost use Rattle.std.specs.Prelude.{◌≡◌, ◌<◌, ◌&&◌, IsTrue, length, slice_index_or};
 ghost use Rattle.ynl_resource.specs.declared.amounts.Resource.{Resource as Amount};
 ghost use Rattle.ynl_model.specs.Cluster.{maximum, used};
 ghost use Rattle.ynl_layout.specs.Paths.{HasNumber, IsChild};
-ghost use Rattle.ynl_inventory.specs.Sound.{HasPartition};
+ghost use Rattle.ynl_inventory.specs.Sound.{HasPartition, IsLeaf};
 ghost use Rattle.ynl_cluster.specs.Cluster.{label_of, path_of, state_in, IsCell as IsThere};
 ghost use Rattle.ynl_shut.specs.Shut.{keeps_maximum};
 ghost use Rattle.ynl_search.specs.Places.{IsSmallPlace, allows};
@@ -60,6 +60,15 @@ pub fn reach(cluster: &Cluster, place: Place) -> Reached<'_>
         place,
         children: inventory.layout().children(place.queue),
     }
+}
+
+/// Whether a queue below root has none below it.
+pub(crate) fn is_leaf(cluster: &Cluster, queue: usize) -> bool
+    requires below_root { 0 < queue }
+    requires there { HasNumber cluster.now.rows.paths queue }
+    ensures { IsTrue result → IsLeaf cluster.now.rows queue }
+{
+    cluster.inventory().layout().children(queue).len() == 0
 }
 
 /// The queue in a place just below one that was reached.

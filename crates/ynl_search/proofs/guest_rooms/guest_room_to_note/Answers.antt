@@ -5,4 +5,4 @@ use Rattle.ynl_search.proofs.guest_rooms.guest_room_to_note.Goals as goal
 pub returns-in-Some : goal.returns-in-Some
 returns-in-Some c = λ shut.
     let q = c.args.queue.now in
-    least-guests c.args.cluster.now q.place q.children.now c.requires.reached c.args.notes.now.guests c.requires.notes.guests c.in-Some.least c.in-Some.ensures (omega (arith, c.if-queue-eq0.false))
+    least-guests c.args.cluster.now q.place q.children.now c.requires.reached c.in-Some.least c.in-Some.ensures (omega (arith, c.if-queue-eq0.false))

@@ -1,13 +1,28 @@
--- What was found first has the ticket of a seat.
-use Rattle.std.proofs.Common.{ℕ, Option, IfSome, sym, subst}
+-- What was found first has the ticket of a seat, and what stands first of both kinds is found in the leaf.
+use Rattle.std.proofs.Common.{◌≡◌, ℕ, Option, Some, IfSome, sym, subst, ap, ◌∙◌, option_map}
+use Rattle.std.specs.Option.{option_or}
 use Rattle.ynl_lane.specs.declared.kinds.Kind.TheVariants as kind
 use Rattle.ynl_lane.specs.Seats.{IsSeat, given}
+use Rattle.ynl_search.specs.declared.found.Found.{Found}
 use Rattle.ynl_search.specs.InLeaf.{gives_master}
-use Rattle.ynl_search.specs.Leaves.{most_of}
 use Rattle.ynl_search.proofs.FirstOver.{seat-found}
+use Rattle.ynl_search.proofs.OwnFirst.{first-told}
 use Rattle.ynl_search.proofs.own.first_own.Goals as goal
 
-pub first_ask-requires : goal.first_ask-requires
-first_ask-requires c =
+pub first-requires : goal.first-requires
+first-requires c =
     subst (λ (o : Option ℕ). IfSome o (λ ticket. IsSeat ticket c.args.lane.now.seats)) (sym c.ticket-before.ensures)
-    (seat-found (given kind.Master c.in_ok-room.room (most_of c.args.tests.now) (gives_master c.args.inventory.now.rows c.args.lane.now.seats c.args.partition c.args.tests.now)) c.args.lane.now.seats c.first_master-master.result (sym c.first_master-master.ensures))
+    (seat-found (given kind.Master c.in_ok-room.room c.most-most.result (gives_master c.args.inventory.now.rows c.args.lane.now.seats c.args.partition c.args.tests.now)) c.args.lane.now.seats c.first-master.result (sym c.first-master.ensures))
+
+pub returns-in-Some : goal.returns-in-Some
+returns-in-Some c =
+    sym (ap (λ o. option_or (option_map (λ (e : ℕ × Found). e.1) o) (option_map (λ (e : ℕ × Found). e.1) c.first-master.result)) c.in-Some.is)
+    ∙ first-told c.args.inventory.now.rows c.args.lane.now.seats c.args.partition c.args.tests.now c.in_ok-room.room c.most-most.result c.ticket-before.result c.first-master.result c.first.result (sym c.room.ensures ∙ c.in_ok-room.was)
+    c.most-most.ensures c.first-master.ensures c.ticket-before.ensures c.first.ensures
+
+pub returns : goal.returns
+returns c =
+    let master : c.first-master.result ≡ Some (c.in_ok-found.field-0-0, c.in_ok-found.found) = c.in_ok-found.was in
+    sym (λ i. option_or (option_map (λ (e : ℕ × Found). e.1) (c.in_default.is i)) (option_map (λ (e : ℕ × Found). e.1) (master i)))
+    ∙ first-told c.args.inventory.now.rows c.args.lane.now.seats c.args.partition c.args.tests.now c.in_ok-room.room c.most-most.result c.ticket-before.result c.first-master.result c.first.result (sym c.room.ensures ∙ c.in_ok-room.was)
+    c.most-most.ensures c.first-master.ensures c.ticket-before.ensures c.first.ensures
