@@ -1,9 +1,8 @@
 -- What is tested of an ask by numbers is what the model tests.
-use Rattle.std.proofs.Common.{◌≡◌, ℕ, Bool, true, false, cond, not, ◌+◌, ◌&&◌, nat_eq, nat_le, nat_lt, is_some, IfSome, List, [], ◌∷◌, map, find, count_by, Option, Some, refl, sym, ap, subst, ◌∙◌, arith, inl, inr, true≢false}
+use Rattle.std.proofs.Common.{◌≡◌, ℕ, Bool, true, false, cond, not, ◌+◌, ◌&&◌, nat_eq, nat_le, nat_lt, is_some, List, [], ◌∷◌, map, find, count_by, Some, refl, sym, ap, ◌∙◌}
 use Rattle.std.specs.List.{AllByRecursion}
 use Rattle.std.specs.Map.{lookup}
 use Rattle.std.specs.Option.{option_map_or}
-use Rattle.std.proofs.lemmas.Bool.Decides.{nat_tests}
 use Rattle.std.proofs.lemmas.List.Sums.{sum_by-cons}
 use Rattle.std.proofs.lemmas.Option.{same_Some}
 use Rattle.ynl_resource.specs.Names.{is_default, same_label}
@@ -19,11 +18,10 @@ use Rattle.ynl_slots.proofs.Lists.{all_from}
 use Rattle.ynl_app_table.specs.declared.asks.Ask.{Ask}
 use Rattle.ynl_app_table.specs.Asks.{find_ask, is_ask_of}
 use Rattle.ynl_inventory.specs.Rows.{AppRow}
-use Rattle.ynl_inventory.specs.Meaning.{app_of, ask_of, label_at}
-use Rattle.ynl_inventory.specs.Sound.{CanAsk, HasPartition, IsAskedOn, IsSound}
+use Rattle.ynl_inventory.specs.Meaning.{app_of, ask_of}
+use Rattle.ynl_inventory.specs.Sound.{HasPartition, IsSound}
 use Rattle.ynl_inventory.proofs.Asked.{asked-there}
 use Rattle.ynl_inventory.proofs.Asking.{same-ask, same-label}
-use Rattle.ynl_inventory.proofs.Lookups.{found-live}
 use Rattle.ynl_cluster.specs.Cluster.{ClusterView, label_of, state_in}
 use Rattle.ynl_admission.specs.Asks.{is_foreign_at, is_one_too_many_at}
 use Rattle.ynl_admission.specs.Named.{IsAppNamed, IsPartitionOf}
@@ -94,16 +92,3 @@ module _ (w : ClusterView) (sound : IsSound w.rows) (tenant name : Name) (app : 
       that-is (is_one_too_many label priority count)
       ∙ ap (λ (label : Label). is_one_too_many label priority count (app_of w.rows (app, row))) (sym on.own)
       ∙ (λ i. nat_lt 0 count && not (found-alike w sound p on.there row.asks asked priority i) && nat_le most_asks (count-alike w sound p on.there row.asks asked i))
-
-  -- an application asks on its home partition or on DEFAULT
-  pub may-ask : (ask : Ask) → ask.partition ≡ p → is_foreign_at p row.home ≡ false → CanAsk w.rows app ask
-  may-ask ask same own = (found-live app row w.rows.apps found, subst (λ (o : Option AppRow). IfSome o (λ row. IsAskedOn row.home ask.partition)) (sym found) (subst (IsAskedOn row.home) (sym same) (go (nat_eq p 0) refl (nat_eq row.home p) refl own)))
-    where
-      go : (a : Bool) → nat_eq p 0 ≡ a → (b : Bool) → nat_eq row.home p ≡ b → (not a && not b) ≡ false → IsAskedOn row.home p
-      go true default b home k = inr (grind (arith, nat_tests, default))
-      go false default true home k = inl (grind (arith, nat_tests, home))
-      go false default false home k = absurd (true≢false k)
-
-  pub ask-means : (ask : Ask) (wanted : AskRow) → ask.partition ≡ p → ask.priority ≡ wanted.priority → ask.count ≡ wanted.count → ask.size ≡ wanted.size → wanted.label ≡ label → ask_of w.rows.partitions ask ≡ wanted
-  ask-means ask wanted partition priority count size named =
-      λ i. record { label = (ap (label_at w.rows.partitions) partition ∙ on.own ∙ sym named) i; priority = priority i; count = count i; size = size i }

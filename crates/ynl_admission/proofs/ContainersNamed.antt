@@ -64,14 +64,6 @@ module _ (w : ClusterView) (sound : IsSound w.rows) (p : ℕ) (has : HasPartitio
     pub held-there : (n : ℕ) → o ≡ Some n → IsSome (held_at w.rows p n)
     held-there n is = ap is_some (held-is n ∙ (clocked clock its.0.containers n (sound.partitions p its.0 its.1).numbers (sym read-is ∙ is)).1)
 
-    -- the container of the clock is the one under that number
-    pub clock-some : (n : ℕ) → o ≡ Some n → held_at w.rows p n ≡ of_clock
-    clock-some n is = held-is n ∙ sym (ap (option_and_then (λ n. lookup (nat_eq n) its.0.containers)) (sym read-is ∙ is)) ∙ with-is
-
-    -- and there is none where there is no number
-    pub clock-none : o ≡ None → of_clock ≡ None
-    clock-none is = sym with-is ∙ ap (option_and_then (λ n. lookup (nat_eq n) its.0.containers)) (sym read-is ∙ is)
-
   -- the container, if it passes
   abbrev pub if_passes : (Container → Bool) → Container → Option Placed
   if_passes passes c = cond (passes c) (Some (placed_of w.rows (label_of w p) c)) None

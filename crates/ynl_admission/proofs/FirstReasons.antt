@@ -1,13 +1,13 @@
 -- The first reason for which an event is refused, by what its tests tell.
 use Rattle.std.proofs.Common.{◌≡◌, Bool, not, [], ◌∷◌, ℕ, Option}
 use Rattle.ynl_resource.specs.Amounts.{fits_in}
-use Rattle.ynl_resource.specs.Names.{root, same_label, same_path, tenant_of}
+use Rattle.ynl_resource.specs.Names.{tenant_of}
 use Rattle.ynl_resource.specs.Refusals.{first_that_holds}
 use Rattle.ynl_resource.specs.declared.amounts.Resource.{Resource}
 use Rattle.ynl_resource.specs.declared.labels.Label.{Label}
 use Rattle.ynl_resource.specs.declared.names.Name.{Name}
 use Rattle.ynl_resource.specs.declared.paths.Path.{Path}
-use Rattle.ynl_resource.specs.declared.refusals.Refusal.TheVariants.{ClockSpent, LabelMismatch, LabelNotAccessible, NameUsed, NoSuchApplication, NoSuchLabel, NoSuchNode, NoSuchQueue, NodeExists, NotALeaf, PartitionFull, QueueStopped, RootQueue, SameLabel, TooLarge, TooManyApplications, TooManyAsks}
+use Rattle.ynl_resource.specs.declared.refusals.Refusal.TheVariants.{ClockSpent, LabelMismatch, LabelNotAccessible, NameUsed, NoSuchApplication, NoSuchLabel, NoSuchNode, NoSuchQueue, NodeExists, NotALeaf, PartitionFull, QueueStopped, TooLarge, TooManyApplications, TooManyAsks}
 use Rattle.ynl_model.specs.Applications.{is_used}
 use Rattle.ynl_model.specs.Check.{app_that, has_app, has_node, node_that}
 use Rattle.ynl_model.specs.Cluster.{State, is_spent}
@@ -23,12 +23,6 @@ module _ (c : Config) (s : State) where
       → first_that_holds (reasons c s (event.Register name label size)) ≡ first_that_holds ((NoSuchLabel, not known) ∷ (NodeExists, there) ∷ (PartitionFull, full) ∷ [])
   unfolding reasons
   first-register name label size known there full a b d = λ i. first_that_holds ((NoSuchLabel, not (a i)) ∷ (NodeExists, b i) ∷ (PartitionFull, d i) ∷ [])
-
-  pub first-relabel : (name : Name) (label : Label) (known there same full : Bool) → has_label c.labels label ≡ known → has_node s name ≡ there
-      → node_that s name (λ node. same_label node.label label) ≡ same → is_full s.nodes label ≡ full
-      → first_that_holds (reasons c s (event.Relabel name label)) ≡ first_that_holds ((NoSuchLabel, not known) ∷ (NoSuchNode, not there) ∷ (SameLabel, same) ∷ (PartitionFull, full) ∷ [])
-  unfolding reasons
-  first-relabel name label known there same full a b d e = λ i. first_that_holds ((NoSuchLabel, not (a i)) ∷ (NoSuchNode, not (b i)) ∷ (SameLabel, d i) ∷ (PartitionFull, e i) ∷ [])
 
   pub first-heartbeat : (name : Name) (there spent : Bool) → has_node s name ≡ there → node_that s name (λ node. is_spent c.labels s node.label) ≡ spent
       → first_that_holds (reasons c s (event.Heartbeat name)) ≡ first_that_holds ((NoSuchNode, not there) ∷ (ClockSpent, spent) ∷ [])
@@ -51,16 +45,6 @@ module _ (c : Config) (s : State) where
       λ i. first_that_holds ((NoSuchApplication, not (a i)) ∷ (NoSuchLabel, not (b i)) ∷ (LabelMismatch, d i) ∷ (TooLarge, e i) ∷ (TooManyAsks, f i) ∷ [])
 
   -- ---- queues
-
-  pub first-stop : (queue : Path) (there top : Bool) → is_queue c queue ≡ there → same_path queue root ≡ top
-      → first_that_holds (reasons c s (event.Stop queue)) ≡ first_that_holds ((NoSuchQueue, not there) ∷ (RootQueue, top) ∷ [])
-  unfolding reasons
-  first-stop queue there top a b = λ i. first_that_holds ((NoSuchQueue, not (a i)) ∷ (RootQueue, b i) ∷ [])
-
-  pub first-start : (queue : Path) (there top : Bool) → is_queue c queue ≡ there → same_path queue root ≡ top
-      → first_that_holds (reasons c s (event.Start queue)) ≡ first_that_holds ((NoSuchQueue, not there) ∷ (RootQueue, top) ∷ [])
-  unfolding reasons
-  first-start queue there top a b = λ i. first_that_holds ((NoSuchQueue, not (a i)) ∷ (RootQueue, b i) ∷ [])
 
   -- ---- submissions
 

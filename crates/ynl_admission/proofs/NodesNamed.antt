@@ -4,21 +4,18 @@ use Rattle.std.specs.Map.{lookup}
 use Rattle.std.specs.Option.{option_map_or, option_and_then}
 use Rattle.std.proofs.lemmas.Bool.Decides.{nat_tests}
 use Rattle.std.proofs.lemmas.Option.{same_Some}
-use Rattle.ynl_resource.specs.Names.{same_label}
 use Rattle.ynl_resource.specs.declared.names.Name.{Name}
-use Rattle.ynl_resource.specs.declared.labels.Label.{Label}
 use Rattle.ynl_model.specs.Check.{node_that}
 use Rattle.ynl_model.specs.Cluster.{is_spent, node_of}
 use Rattle.ynl_model.specs.declared.nodes.Node.{Node}
 use Rattle.ynl_model.specs.Nodes.{find_node}
 use Rattle.ynl_inventory.specs.Rows.{NodeRow, PartitionRow}
-use Rattle.ynl_inventory.specs.Meaning.{label_at, node_number, node_of as node_of_row}
+use Rattle.ynl_inventory.specs.Meaning.{node_number, node_of as node_of_row}
 use Rattle.ynl_inventory.specs.Sound.{HasPartition, IsFor, IsSound}
-use Rattle.ynl_inventory.proofs.Asking.{same-label}
 use Rattle.ynl_inventory.proofs.Finding.{find-node, named, node-of-name, own-label, spent-at}
 use Rattle.ynl_inventory.proofs.Lookups.{place-there}
 use Rattle.ynl_cluster.specs.Cluster.{ClusterView, maxima_in, state_in, stops_in}
-use Rattle.ynl_admission.specs.Named.{IsNodeNamed, IsPartitionOf}
+use Rattle.ynl_admission.specs.Named.{IsNodeNamed}
 use Rattle.ynl_admission.specs.Admitted.{CanPlaceOn}
 
 module _ (w : ClusterView) (sound : IsSound w.rows) (name : Name) where
@@ -54,12 +51,6 @@ module _ (w : ClusterView) (sound : IsSound w.rows) (name : Name) (n : ℕ) (its
   -- what is tested of it is tested of the row
   that-is : (test : Node → Bool) → node_that (state_in w) name test ≡ test (node_of_row w.rows.partitions row)
   that-is test = ap (λ o. option_map_or test o false) its.named ∙ ap (λ (row : NodeRow). test (node_of_row w.rows.partitions row)) row-is
-
-  -- it has a partition's label where it stands in that partition
-  pub stands-on : (label : Label) (p : ℕ) → IsPartitionOf w label p → node_that (state_in w) name (λ node. same_label node.label label) ≡ nat_eq row.partition p
-  stands-on label p on =
-      that-is (λ node. same_label node.label label) ∙ ap (same_label (label_at w.rows.partitions row.partition)) (sym on.own)
-      ∙ same-label w.rows sound row.partition p stands on.there
 
   -- the clock of its partition is spent where the partition's row says so
   module _ (is : IsFor w.config w.rows) (spent : Bool) (read : IfSome (slice_get w.rows.partitions row.partition) (λ part. spent ≡ nat_le part.limit part.clock)) where

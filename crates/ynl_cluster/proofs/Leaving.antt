@@ -157,9 +157,6 @@ none-left v sound node p place none q row at =
 
 -- what is left where the node has gone too
 module _ (node p : ℕ) (old now after : ClusterView) (leaving : IsLeaving node p old now) (none : HasNoContainers now.rows node) (gone : after ≡ record now { rows = with_node_gone node now.rows }) where
-  left-rows : after.rows ≡ with_left node old.rows
-  left-rows = ap (λ (w : ClusterView). w.rows) gone ∙ sym (gone-left now.rows node none) ∙ leaving.left
-
   pub all-left : after ≡ record old { rows = with_left node old.rows; rooms = after.rooms }
   all-left = gone ∙ (λ i. record (leaving.same i) { rows = (sym (gone-left now.rows node none) ∙ leaving.left) i; rooms = ap (λ (w : ClusterView). w.rooms) (sym gone) i })
 

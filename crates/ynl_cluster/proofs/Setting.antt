@@ -1,7 +1,6 @@
 -- What is set of queues is set in the model.
-use Rattle.std.proofs.Common.{◌≡◌, ℕ, zero, suc, ◌-◌, ◌<◌, Bool, List, [], ◌∷◌, length, refl, sym, ap, subst, ◌∙◌, arith}
+use Rattle.std.proofs.Common.{◌≡◌, ℕ, zero, suc, ◌-◌, ◌<◌, Bool, List, [], ◌∷◌, length, refl, sym, ap, subst, ◌∙◌}
 use Rattle.std.specs.Prelude.{slice_set}
-use Rattle.std.proofs.lemmas.List.{length-set}
 use Rattle.ynl_model.specs.declared.queues.StopRow.{StopRow}
 use Rattle.ynl_model.specs.declared.queues.MaximumRow.{MaximumRow}
 use Rattle.ynl_model.specs.Nodes.{partition_labels}
@@ -29,10 +28,6 @@ row-with zero q change (row ∷ rows) (suc r) = refl
 row-with (suc p) q change (row ∷ rows) zero = refl
 row-with (suc p) q change (row ∷ rows) (suc r) = row-with p q change rows r
 
--- the settings go on where a mark is set
-pub stopped-settings : (c : Config) (shares : List (List Share)) (stops : List Bool) (place : ℕ) (stopped : Bool) → AreSettings c shares stops → AreSettings c shares (slice_set stops place stopped)
-stopped-settings c shares stops place stopped is = record { cells = is.cells; capacities = is.capacities; marks = length-set stops place stopped ∙ is.marks }
-
 -- and where a maximum is
 pub maximum-settings : (c : Config) (shares : List (List Share)) (stops : List Bool) (p q share : ℕ) → HasCell shares p q → AreSettings c shares stops → AreSettings c (with_maximum p q share shares) stops
 maximum-settings c shares stops p q share cell is = record {
@@ -45,10 +40,6 @@ maximum-settings c shares stops p q share cell is = record {
 }
 
 module _ (a : Inside) (is : IsCluster a) (w : ClusterView) (view : view_of a ≡ w) (q : ℕ) (above : 0 < q) (has : HasNumber w.rows.paths q) where
-  -- the queue has a mark
-  pub mark-there : q - 1 < length a.stops
-  mark-there = omega (arith, above, in-paths a is w view q has, is.settings.marks)
-
   -- the model's mark is set
   pub stopped-means : (stopped : Bool) → state_in (record (view_of a) { stops = slice_set a.stops (q - 1) stopped }) ≡ record (state_in w) { stops = set_stop (path_of w q) stopped (state_in w).stops }
   stopped-means stopped =

@@ -40,10 +40,6 @@ module _ {X Y : Type 0} (f : X → Y) where
   unused_of_rows n [] h = tt
   unused_of_rows n (e ∷ es) h = (h.0, unused_of_rows n es h.1)
 
-  pub unused_from_rows : (n : ℕ) (es : List (ℕ × X)) → IsUnused n (of_rows f es) → IsUnused n es
-  unused_from_rows n [] h = tt
-  unused_from_rows n (e ∷ es) h = (h.0, unused_from_rows n es h.1)
-
   pub distinct_of_rows : (es : List (ℕ × X)) → HasDistinctNumbers es → HasDistinctNumbers (of_rows f es)
   distinct_of_rows [] h = tt
   distinct_of_rows (e ∷ es) h = (unused_of_rows e.0 es h.0, distinct_of_rows es h.1)

@@ -45,13 +45,6 @@ pub accepts : (c : Config) (s : State) (event : Event) → first_that_holds (rea
 unfolding step
 accepts c s event first = ap (λ o. option_map_or (λ (r : Refusal). answered s (Refused r)) o (accepted c s event)) first
 
--- the answer to an event that is refused
-pub refused-answers : (w : World) (event : Event) (refusal : Refusal) → first_that_holds (reasons w.config w.state event) ≡ Some refusal → Answers w event w (Refused refusal)
-refused-answers w event refusal first = record {
-  told = sym (ap (λ (o : Outcome). o.reply) (refuses w.config w.state event refusal first));
-  left = λ i. record { config = w.config; state = sym (ap (λ (o : Outcome). o.state) (refuses w.config w.state event refusal first)) i };
-}
-
 module _ (w u : ClusterView) (event : Event) (reply : Reply) (free : first_that_holds (reasons w.config (state_in w) event) ≡ None) (config : u.config ≡ w.config)
     (does : accepted w.config (state_in w) event ≡ record { state = state_in u; reply = reply }) where
   stepped-is : step w.config (state_in w) event ≡ record { state = state_in u; reply = reply }

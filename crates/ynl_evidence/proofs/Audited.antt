@@ -1,5 +1,5 @@
 -- The audit of evidence, one entry after another.
-use Rattle.std.proofs.Common.{◌≡◌, ℕ, ◌+◌, ◌<◌, Bool, true, false, cond, ◌&&◌, List, [], ◌∷◌, ◌++◌, length, get_or, take, drop, Option, Some, None, Ok, Err, refl, sym, ap, ◌∙◌, arith, length-take}
+use Rattle.std.proofs.Common.{◌≡◌, ℕ, ◌+◌, ◌<◌, Bool, true, false, ◌&&◌, List, [], ◌∷◌, ◌++◌, length, get_or, take, drop, Option, Some, None, Ok, Err, refl, sym, ap, ◌∙◌, arith, length-take}
 use Rattle.std.specs.Prelude.{nat_lt}
 use Rattle.std.proofs.lemmas.Bool.Decides.{nat_tests}
 use Rattle.std.proofs.lemmas.List.{drop_more, take_more, map-append}
@@ -15,7 +15,6 @@ use Rattle.ynl_journal.specs.Journal.{replayed}
 use Rattle.ynl_journal.specs.Same.{fits_reply}
 use Rattle.ynl_journal.proofs.Longer.{known_reply, replayed_push}
 use Rattle.ynl_evidence.specs.declared.flaws.Flaw.{Flaw}
-use Rattle.ynl_evidence.specs.declared.flaws.Flaw.TheVariants.{NotKept, Differs}
 use Rattle.ynl_evidence.specs.declared.trial.Trial.{Trial}
 use Rattle.ynl_evidence.specs.Evidence.{Placed, entries_in, events_placed}
 use Rattle.ynl_evidence.specs.Flaws.{comes_behind, may_follow, reply_alone, taken, unless_flawed, flaw_from, flaw_of}
@@ -27,23 +26,12 @@ use Rattle.ynl_evidence.proofs.Passing.{takes}
 module _ (c : Config) (t : Name) (p : Label) (before : List Placed) (old : Trial) (x : Placed) (is : IsTrialOf c t before old) where
   -- ---- what is found of the next entry
 
-  pub unkept-place : is_behind old.last x.0 ≡ false → taken c t p before x ≡ Err NotKept
-  unkept-place off = let no : comes_behind before x.0 ≡ false = is.last x.0 ∙ off in λ i. cond (no i && is_kept c t p (track c (events_placed before)) x.1.event) (cond (fits_reply x.1 (reply_alone c t before x.1.event)) (Ok (before ++ x ∷ [])) (Err Differs)) (Err NotKept)
-
   may-follow : is_behind old.last x.0 ≡ true → (b : Bool) → is_kept c t p old.track x.1.event ≡ b → may_follow c t p before x ≡ b
   may-follow on b kept = let yes : comes_behind before x.0 ≡ true = is.last x.0 ∙ on in λ i. yes i && (ap (λ nodes. is_kept c t p nodes x.1.event) (sym is.track) ∙ kept) i
-
-  pub unkept-event : is_behind old.last x.0 ≡ true → is_kept c t p old.track x.1.event ≡ false → taken c t p before x ≡ Err NotKept
-  unkept-event on kept = λ i. cond (may-follow on false kept i) (cond (fits_reply x.1 (reply_alone c t before x.1.event)) (Ok (before ++ x ∷ [])) (Err Differs)) (Err NotKept)
 
   -- what was compared is the reply of the tenant's own cluster
   compared : (new : World) (r : Reply) → Answers old.core x.1.event new r → r ≡ reply_alone c t before x.1.event
   compared new r told = known_reply (restrict c t) (entries_in before) old.core new x.1.event r is.core told
-
-  pub unlike : is_behind old.last x.0 ≡ true → is_kept c t p old.track x.1.event ≡ true → (new : World) (r : Reply) → Answers old.core x.1.event new r → fits_reply x.1 r ≡ false → taken c t p before x ≡ Err Differs
-  unlike on kept new r told off =
-      let no : fits_reply x.1 (reply_alone c t before x.1.event) ≡ false = ap (fits_reply x.1) (sym (compared new r told)) ∙ off in
-      λ i. cond (may-follow on true kept i) (cond (no i) (Ok (before ++ x ∷ [])) (Err Differs)) (Err NotKept)
 
   pub taken-next : is_behind old.last x.0 ≡ true → is_kept c t p old.track x.1.event ≡ true → (new : World) (r : Reply) → Answers old.core x.1.event new r → fits_reply x.1 r ≡ true → taken c t p before x ≡ Ok (before ++ x ∷ [])
   taken-next on kept new r told fits = takes c t p before x (may-follow on true kept) (ap (fits_reply x.1) (sym (compared new r told)) ∙ fits)

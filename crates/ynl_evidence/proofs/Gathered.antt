@@ -1,8 +1,7 @@
 -- The evidence of a journal, one entry after another.
-use Rattle.std.proofs.Common.{◌≡◌, ℕ, ◌+◌, ◌<◌, List, [], ◌∷◌, ◌++◌, map, length, get_or, drop, Option, Some, None, refl, sym, ap, subst, ◌∙◌, append_assoc, length-append}
+use Rattle.std.proofs.Common.{◌≡◌, ℕ, ◌+◌, List, [], ◌∷◌, ◌++◌, map, length, Option, Some, None, refl, ap, subst, append_assoc, length-append}
 use Rattle.std.specs.Prelude.{slice_get}
 use Rattle.std.specs.Option.{option_and_then}
-use Rattle.std.proofs.lemmas.List.{drop_more}
 use Rattle.ynl_resource.specs.declared.names.Name.{Name}
 use Rattle.ynl_resource.specs.declared.labels.Label.{Label}
 use Rattle.ynl_model.specs.declared.entries.Entry.{Entry}
@@ -41,24 +40,3 @@ module _ (t : Name) (p : Label) (c : Config) where
 
 pub gathered : (c : Config) (entries : List Entry) (t : Name) (p : Label) → evidence_of c entries t p ≡ evidence_from t p c 0 [] entries
 gathered c entries t p = gathers t p c [] [] entries
-
--- ---- as it is gathered
-
--- the evidence from a place on, by the entry that stands there
-pub gathered-more : (t : Name) (p : Label) (c : Config) (i : ℕ) (nodes next : List Tracked) (entries : List Entry) (e : Entry) → i < length entries → e ≡ get_or entries i e → next ≡ track_step c nodes e.event
-    → evidence_from t p c i nodes (drop i entries) ≡ noted i (seen_of t p c nodes e.event) e.reply ++ evidence_from t p c (i + 1) next (drop (i + 1) entries)
-gathered-more t p c i nodes next entries e inside is step =
-    ap (evidence_from t p c i nodes) (drop_more entries i e inside ∙ ap (λ (x : Entry). x ∷ drop (i + 1) entries) (sym is))
-    ∙ ap (λ track. noted i (seen_of t p c nodes e.event) e.reply ++ evidence_from t p c (i + 1) track (drop (i + 1) entries)) (sym step)
-
--- an event that is seen comes last
-pub noted-last : (place : ℕ) (event : Event) (found : Option Event) (reply kept : Option Reply) (now rest xs ys all : List Placed) → found ≡ Some event → now ≡ noted place found reply ++ rest → kept ≡ reply
-    → ys ≡ xs ++ (place, entry event kept) ∷ [] → xs ++ now ≡ all → ys ++ rest ≡ all
-noted-last place event found reply kept now rest xs ys all is more same new so_far =
-    ap (λ zs. zs ++ rest) new ∙ append_assoc xs ((place, entry event kept) ∷ []) rest
-    ∙ (λ i. xs ++ (noted place (sym is i) (same i) ++ rest)) ∙ ap (λ zs. xs ++ zs) (sym more) ∙ so_far
-
--- an event that is not seen leaves what there is
-pub noted-none : (place : ℕ) (found : Option Event) (reply : Option Reply) (now rest xs ys all : List Placed) → found ≡ None → now ≡ noted place found reply ++ rest → ys ≡ xs → xs ++ now ≡ all → ys ++ rest ≡ all
-noted-none place found reply now rest xs ys all is more same so_far =
-    (λ i. same i ++ (noted place (sym is i) reply ++ rest)) ∙ ap (λ zs. xs ++ zs) (sym more) ∙ so_far

@@ -1,5 +1,5 @@
 -- What a tenant and a name find among the leaves of sound rows.
-use Rattle.std.proofs.Common.{◌≡◌, ◌≢◌, ℕ, zero, suc, ◌+◌, Bool, true, false, cond, ◌&&◌, ◌||◌, nat_eq, List, [], ◌∷◌, ◌++◌, map, find, slice_get, Option, None, Some, option_map, refl, sym, ap, subst, ◌∙◌, arith, true≢false}
+use Rattle.std.proofs.Common.{◌≡◌, ℕ, zero, suc, ◌+◌, Bool, true, false, cond, ◌&&◌, ◌||◌, nat_eq, List, [], ◌∷◌, ◌++◌, map, find, slice_get, Option, None, Some, option_map, refl, sym, ap, subst, ◌∙◌, arith, true≢false}
 use Rattle.std.specs.Prelude.{position}
 use Rattle.std.specs.List.{AllByRecursion, filter_map, list_any}
 use Rattle.std.specs.Map.{lookup}
@@ -166,7 +166,3 @@ module _ (v : Rows) (h : IsSound v) where
   no-submission t tenant name at none =
       no-row tenant name
       (λ q inside same. subst (λ (n : ℕ). list_any (same_name name) (map name_of (in_leaf q (submitted_to v.tenants n))) ≡ false) (sym (at q inside same)) (none-in_leaf q name (submitted_to v.tenants t) (none-named name (submitted_to v.tenants t) none)))
-
-  -- and where there is no such tenant
-  pub no-tenant : (tenant name : Name) → ((q : ℕ) → HasNumber v.paths q → tenant_of (path_at v.paths q) ≢ tenant) → row_of leaves tenant name ≡ None
-  no-tenant tenant name none = no-row tenant name (λ q inside same. absurd (none q inside same))

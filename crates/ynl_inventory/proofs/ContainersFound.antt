@@ -1,5 +1,5 @@
 -- The containers that ids find, and those of their clocks.
-use Rattle.std.proofs.Common.{◌≡◌, ◌≢◌, ◌==◌, ◌&&◌, ℕ, Bool, true, false, cond, List, [], ◌∷◌, map, find, slice_get, Option, Some, None, option_map, nat_eq, refl, sym, ap, ◌∙◌, arith, inl, inr}
+use Rattle.std.proofs.Common.{◌≡◌, ◌≢◌, ◌==◌, ◌&&◌, ℕ, Bool, true, false, cond, List, [], ◌∷◌, map, find, slice_get, Option, Some, None, nat_eq, refl, sym, ap, ◌∙◌, arith, inl, inr}
 use Rattle.std.specs.List.{AllByRecursion}
 use Rattle.std.specs.Map.{lookup}
 use Rattle.std.specs.Option.{option_map_or, option_and_then}
@@ -25,11 +25,11 @@ use Rattle.ynl_slots.proofs.Entries.{itself}
 use Rattle.ynl_container_table.specs.declared.container.Container.{Container}
 use Rattle.ynl_container_table.specs.Table.{number_at}
 use Rattle.ynl_inventory.specs.Rows.{Rows, PartitionRow, NodeRow, AppRow}
-use Rattle.ynl_inventory.specs.Meaning.{label_at, owner_of, placed_of, partition_of, node_of, node_number, container_with, state_of}
+use Rattle.ynl_inventory.specs.Meaning.{label_at, owner_of, placed_of, partition_of, container_with, state_of}
 use Rattle.ynl_inventory.specs.Sound.{IsContainer, IsPartition, IsSound}
 use Rattle.ynl_inventory.proofs.Updates.{find-number, each-number, head-found, later-found, unused-apart}
 use Rattle.ynl_inventory.proofs.Clocks.{rising-numbers}
-use Rattle.ynl_inventory.proofs.Finding.{not-true, own-label, containers-at, find-node, name-tells, node-of-name}
+use Rattle.ynl_inventory.proofs.Finding.{not-true, own-label, containers-at, find-node, name-tells}
 use Rattle.ynl_inventory.proofs.Lookups.{each-place, live-found}
 use Rattle.ynl_inventory.proofs.Submitted.{app-submission}
 use Rattle.ynl_inventory.proofs.Tenants.{owner-named, tenant-number, tenant-top, tenant-tells}
@@ -206,9 +206,3 @@ no-partition v label none stops maxima =
     (find-nothing (is_partition label) (map (partition_of v) v.partitions)
     (Each-map (λ row. same_label row.label label ≡ false) (λ row. is_partition label row ≡ false) (partition_of v) (λ row h. h) v.partitions
     (each-place (λ row. same_label row.label label ≡ false) v.partitions none)))
-
--- and so does a node that is not there
-pub no-node : (v : Rows) → IsSound v → (name : Name) (id : Id) → node_number name v.nodes ≡ None → (stops : List StopRow) (maxima : List MaximumRow) → container_at (state_of v stops maxima) name id ≡ None
-no-node v sound name id none stops maxima =
-    ap (option_and_then (λ (n : Node). find (λ x. same_id x.id id && same_name x.node name) (containers_on (state_of v stops maxima) n.label)))
-    (node-of-name v sound name ∙ ap (λ o. option_map (node_of v.partitions) (option_and_then (λ n. lookup (nat_eq n) v.nodes) o)) none)

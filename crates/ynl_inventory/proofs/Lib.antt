@@ -48,5 +48,4 @@ pub mod NamesRead
 pub mod PlacedRead
 pub mod Results
 pub mod FreeRead
-pub mod MastersTell
 pub mod Rejoining

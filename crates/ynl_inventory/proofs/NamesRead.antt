@@ -1,8 +1,8 @@
 -- The names of applications are read from the lists of their tenants.
-use Rattle.std.proofs.Common.{◌≡◌, ◌<◌, IfSome, ℕ, List, [], length, slice_get, Option, Some, None, option_map, nat_eq, refl, sym, ap, subst, ◌∙◌}
+use Rattle.std.proofs.Common.{◌≡◌, IfSome, ℕ, [], slice_get, Option, Some, None, option_map, nat_eq, sym, ap, subst, ◌∙◌}
 use Rattle.std.specs.Map.{lookup}
 use Rattle.std.specs.Option.{option_map_or}
-use Rattle.std.proofs.lemmas.Option.{none-some, same_Some, slice_get_within}
+use Rattle.std.proofs.lemmas.Option.{none-some, same_Some}
 use Rattle.ynl_resource.specs.declared.names.Name.{Name}
 use Rattle.ynl_app_table.specs.declared.app.AppRow.{AppRow as AppPart}
 use Rattle.ynl_container_table.proofs.Rows.{lookup-of_rows}
@@ -18,14 +18,6 @@ use Rattle.ynl_inventory.proofs.AppParts.{its-tenant}
 name-there : (o : Option (Name × Submission)) (name : Name) → option_map (λ e. e.0) o ≡ Some name → option_map_or (λ e. e.0) o [] ≡ name
 name-there None name h = absurd (none-some name h)
 name-there (Some e) name h = same_Some e.0 name h
-
--- a turn that has a name is one of those so far
-pub turn-within : (es : List (Name × Submission)) (turn : ℕ) (name : Name) → option_map (λ e. e.0) (slice_get es turn) ≡ Some name → turn < length es
-turn-within es turn name h = go (slice_get es turn) refl h
-  where
-    go : (o : Option (Name × Submission)) → slice_get es turn ≡ o → option_map (λ e. e.0) o ≡ Some name → turn < length es
-    go None is k = absurd (none-some name k)
-    go (Some e) is k = slice_get_within es turn e is
 
 module _ (a : Inside) (h : Held) (view : held_of a ≡ h) (inv : IsInventory a) (app : ℕ) (part : AppPart) (found : lookup (nat_eq app) a.apps.entries ≡ Some part)
     (list : Listing) (there : slice_get a.tenants.items part.tenant ≡ Some list) (name : Name) (read : option_map (λ e. e.0) (slice_get list.entries part.turn) ≡ Some name) where

@@ -1,5 +1,5 @@
 -- The names of numbers stay while rows change.
-use Rattle.std.proofs.Common.{◌≡◌, ◌≢◌, ◌<◌, ℕ, zero, suc, Bool, true, false, cond, List, [], ◌∷◌, ◌++◌, map, length, slice_get, Option, Some, None, option_map, nat_eq, refl, ap, ◌∙◌, arith}
+use Rattle.std.proofs.Common.{◌≡◌, ◌≢◌, ◌<◌, ℕ, zero, suc, List, [], ◌∷◌, ◌++◌, map, length, slice_get, Option, Some, None, option_map, nat_eq, refl, ap, ◌∙◌, arith}
 use Rattle.std.specs.Prelude.{slice_index_or}
 use Rattle.std.specs.List.{AllByRecursion}
 use Rattle.std.specs.Map.{lookup}
@@ -18,7 +18,6 @@ use Rattle.ynl_container_table.specs.declared.container.Role.{Role}
 use Rattle.ynl_container_table.specs.declared.container.Role.TheVariants as role
 use Rattle.ynl_submissions.specs.declared.submissions.Submission.{Submission}
 use Rattle.ynl_submissions.specs.Submissions.{with_finished}
-use Rattle.ynl_app_table.proofs.Rows.{lookup-with_change}
 use Rattle.ynl_inventory.specs.Rows.{Rows, PartitionRow, NodeRow, AppRow}
 use Rattle.ynl_inventory.specs.Meaning.{label_at, node_name, submitted_to, app_name, tenant_name, what_of, owner_of, placed_of, partition_of, node_of, ask_of, application_of, live_of}
 use Rattle.ynl_inventory.specs.Changes.{with_at, with_taken}
@@ -182,22 +181,6 @@ partition-same v w row all = λ i. record { label = row.label; clock = row.clock
     each : (es : List (ℕ × Container)) → AllByRecursion (λ e. placed_of w row.label e.1 ≡ placed_of v row.label e.1) es → map (λ e. placed_of w row.label e.1) es ≡ map (λ e. placed_of v row.label e.1) es
     each [] h = refl
     each (e ∷ es) h = λ i. h.0 i ∷ each es h.1 i
-
--- a change that leaves what an application means leaves what is live of each submission
-pub live-changed : (v : Rows) (n : ℕ) (change : AppRow → AppRow) → ((name : Name) (row : AppRow) → application_of v name (change row) ≡ application_of v name row) → (e : Name × Submission)
-    → live_of (record v { apps = with_change n change v.apps }) e ≡ live_of v e
-live-changed v n change means e = at e.1.app
-  where
-    go : (b : Bool) (o : Option AppRow) → option_map (application_of v e.0) (cond b (option_map change o) o) ≡ option_map (application_of v e.0) o
-    go true None = refl
-    go true (Some row) = ap (λ app. Some app) (means e.0 row)
-    go false o = refl
-
-    at : (app : Option ℕ)
-        → option_map (application_of v e.0) (option_and_then (λ m. lookup (nat_eq m) (with_change n change v.apps)) app)
-        ≡ option_map (application_of v e.0) (option_and_then (λ m. lookup (nat_eq m) v.apps) app)
-    at None = refl
-    at (Some m) = ap (option_map (application_of v e.0)) (lookup-with_change m n change v.apps) ∙ go (nat_eq m n) (lookup (nat_eq m) v.apps)
 
 -- one more user leaves the names of those before
 pub user-push : (name : Name) (users : List Name) (u : ℕ) → u < length users → slice_index_or (users ++ name ∷ []) u [] ≡ slice_index_or users u []

@@ -31,14 +31,6 @@ use Rattle.ynl_inventory.proofs.PartLists.{unmapped}
 
 -- ---- lists
 
--- one more of the same
-pub replicate-more : {X : Type 0} (n : ℕ) (x : X) → replicate n x ++ x ∷ [] ≡ replicate (n + 1) x
-replicate-more zero x = refl
-replicate-more (suc n) x = ap (λ xs. x ∷ xs) (replicate-more n x) ∙ ap (λ m. replicate m x) last
-  where
-    last : suc (n + 1) ≡ suc n + 1
-    last = omega arith
-
 -- where all are the same, so is each
 replicate-at : {X : Type 0} (n t : ℕ) (x : X) → get_or (replicate n x) t x ≡ x
 replicate-at zero t x = refl

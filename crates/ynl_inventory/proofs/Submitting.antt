@@ -35,9 +35,6 @@ use Rattle.ynl_inventory.proofs.AppChange.{made-same}
 use Rattle.ynl_inventory.proofs.Leaves.{one-leaf}
 use Rattle.ynl_inventory.proofs.Submitted.{each-submitted, submission}
 
-Entry : Type 0
-Entry = Name × Submission
-
 -- ---- lists of submissions
 
 -- the submissions of the tenant, and of others

@@ -506,14 +506,6 @@ impl Inventory {
         self.users.name(user)
     }
 
-    /// The number of the user of a name, if there is one.
-    pub fn find_user(&self, name: &Name) -> Option<u32>
-        ensures own { IfSome result (λ n. slice_get self.now.rows.users n ≡ Some name.now) }
-        ensures none { IfNone result (IsNew name.now self.now.rows.users) }
-    {
-        self.users.find(name)
-    }
-
     /// The first container of a node, in the order of placement, if there is one.
     pub fn first_of_node(&self, node: u32) -> Option<u32>
         requires { IsLive node self.now.rows.nodes }

@@ -52,15 +52,6 @@ slot_in-at (User user) slot from row h = go (nat_eq row.user user) refl h
     go true q k = rw q refl
     go false q k = absurd (none-some from k)
 
--- it stands in the line if it did
-pub slot_in-was : (level : Level) (slot at : ℕ) (row : SeatRow) → slot_in level (at_slot level slot row) ≡ Some at → (from : ℕ) × slot_in level row ≡ Some from
-slot_in-was Lane slot at row h = (row.slot, refl)
-slot_in-was (User user) slot at row h = go (nat_eq row.user user) refl h
-  where
-    go : (b : Bool) → nat_eq row.user user ≡ b → slot_in (User user) (cond b (record row { own_slot = slot }) row) ≡ Some at → (from : ℕ) × cond b (Some row.own_slot) None ≡ Some from
-    go true q k = (row.own_slot, refl)
-    go false q k = absurd (none-some at (rw q at k))
-
 -- where it moves twice, the last slot counts
 pub at_slot-twice : (level : Level) (m n : ℕ) (row : SeatRow) → at_slot level n (at_slot level m row) ≡ at_slot level n row
 at_slot-twice Lane m n row = refl

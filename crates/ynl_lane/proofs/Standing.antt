@@ -1,5 +1,5 @@
 -- The search of a lane: from user to user, as they stand.
-use Rattle.std.proofs.Common.{◌≡◌, ℕ, ◌+◌, ◌<◌, ◌≤◌, ⊎_elim, true, [], get_or, length, Option, Some, None, IsSome, IfSome, IfNone, is_some, nat_eq, refl, sym, ap, subst, ◌∙◌, arith}
+use Rattle.std.proofs.Common.{◌≡◌, ℕ, ◌<◌, ◌≤◌, ⊎_elim, true, [], get_or, length, Option, Some, None, IsSome, IfSome, IfNone, is_some, nat_eq, refl, sym, ap, subst, ◌∙◌, arith}
 use Rattle.std.specs.List.{slice_get}
 use Rattle.std.specs.Map.{lookup}
 use Rattle.std.specs.Option.{option_map_or}
@@ -179,40 +179,3 @@ module _ (rows : Rows) (kept : IsKept rows) {F : Type 0} (kind : Kind) (test : W
   finish_behind best least from stand h first behind = finish best least from h (ends least from h.passed (λ m s there on low passes.
       let before : s.slot < stand = omega (arith, low, behind) in
       first.before s.slot no_user on before passes))
-
-  -- a user who stands there and has no seat before the least found is passed
-  passed_more : (least from stand : ℕ) → HavePassed rows kind test gives least from → IsFirst (IsWithinLimit test) (values_of kind rows.line) from stand → NoneBefore (IsStandWithin stand kind test rows.seats.entries rows.users.entries) gives rows.seats.entries least → HavePassed rows kind test gives least (stand + 1)
-  passed_more least from stand passed first none m s there low passes n e also same within given =
-      ⊎_elim
-      (λ before. passed m s there before passes n e also same within given)
-      (λ on. ⊎_elim
-      (λ before. absurd (first.before s.slot no_user on before passes))
-      (λ behind. (let is : s.slot ≡ stand = omega (arith, low, behind) in none n e also (m, s, there, is, record { own = same; within = within }) given))
-      (cases_lt s.slot stand))
-      (cases_lt s.slot from)
-
-  pub pass_none : (best : Option (Found F)) (least from stand : ℕ) → IsSearching rows kind test gives limit best least from → IsFirst (IsWithinLimit test) (values_of kind rows.line) from stand → NoneBefore (IsStandWithin stand kind test rows.seats.entries rows.users.entries) gives rows.seats.entries least → IsSearching rows kind test gives limit best least (stand + 1)
-  pass_none best least from stand h first none = record { none = h.none; some = h.some; passed = passed_more least from stand h.passed first none }
-
-  -- the least that can be is the limit
-  least_le : (best : Option (Found F)) (least from : ℕ) → IsSearching rows kind test gives limit best least from → least ≤ limit
-  least_le None least from h = (let is : least ≡ limit = h.none in omega (arith, is))
-  least_le (Some found) least from h = (let is = h.some.is in let before = h.some.before in omega (arith, is, before))
-
-  pub pass_some : (best : Option (Found F)) (least from stand : ℕ) (found : Found F) → IsSearching rows kind test gives limit best least from → IsFirst (IsWithinLimit test) (values_of kind rows.line) from stand → IsFirstGiven (IsStandWithin stand kind test rows.seats.entries rows.users.entries) gives rows.seats.entries least found → IsSearching rows kind test gives limit (Some found) found.slot (stand + 1)
-  pass_some best least from stand found h first is =
-      let le = least_le best least from h in
-      let before = is.before in
-      record {
-        none = tt;
-        some = record {
-          row = is.row;
-          there = is.there;
-          at = is.at;
-          is = refl;
-          before = omega (arith, le, before);
-          here = is.here.4.within;
-          given = is.given;
-        };
-        passed = passed_more found.slot from stand (λ m s there low passes n e also same within given. (let le = h.passed m s there low passes n e also same within given in omega (arith, le, before))) first is.first;
-      }

@@ -72,17 +72,6 @@ but_same user kind rows new seats users values h =
     (subst (λ vs. EachSeat (λ _ row. row.user ≢ user → IsWaiting (of_kind kind row.waits) → IsStood kind rows.seats.entries rows.users.entries vs row) rows.seats.entries) (sym values) h))
 
 module _ (user : ℕ) (kind : Kind) (seats : List (ℕ × SeatRow)) where
-  pub changes_none : (line : Line UserLow) → ChangesStand user kind seats line line
-  changes_none line = record { tickets = refl; count = λ k. refl; kinds = λ k other. refl; others = λ n e there other. refl }
-
-  pub changes_twice : (old line new : Line UserLow) → ChangesStand user kind seats old line → ChangesStand user kind seats line new → ChangesStand user kind seats old new
-  changes_twice old line new h k = record {
-    tickets = k.tickets ∙ h.tickets;
-    count = λ kind. k.count kind ∙ h.count kind;
-    kinds = λ kind other. k.kinds kind other ∙ h.kinds kind other;
-    others = λ n e there other. k.others n e there other ∙ h.others n e there other;
-  }
-
   -- a value at a seat of the user
   pub changes_set : (old new : Line UserLow) (n : ℕ) (row : SeatRow) (value : UserLow) → AreIn Lane old.tickets.items seats → lookup (nat_eq n) seats ≡ Some row → row.user ≡ user → new.tickets.items ≡ old.tickets.items → values_of kind new ≡ set (values_of kind old) row.slot value → ((k : Kind) → k ≢ kind → values_of k new ≡ values_of k old) → ChangesStand user kind seats old new
   changes_set old new n row value are_in found own tickets values other = record {

@@ -4,4 +4,3 @@ pub mod Entitled
 pub mod Asks
 pub mod InTurn
 pub mod Finished
-pub mod Numbers

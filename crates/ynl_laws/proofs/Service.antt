@@ -3,9 +3,6 @@ pub mod OrderTotal
 pub mod Least
 pub mod Untied
 pub mod First
-pub mod Classes
 pub mod Decided
 pub mod Descent
-pub mod Numbers
-pub mod Turns
 pub mod Proposed

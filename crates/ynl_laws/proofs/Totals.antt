@@ -7,8 +7,6 @@ pub mod Marks
 pub mod Sharers
 pub mod Owners
 pub mod Tabling
-pub mod Waiting
 pub mod Lulls
 pub mod Elsewhere
-pub mod Faint
 pub mod Untied

@@ -9,8 +9,6 @@ use Rattle.ynl_model.specs.declared.nodes.Node.{Node}
 use Rattle.ynl_model.specs.Queues.{Config}
 use Rattle.ynl_model.specs.Cluster.{State}
 use Rattle.ynl_model.specs.Service.{Item, Key, key, key_order, items_for, asks_for, eligible, guests_for, first_of, choice}
-use Rattle.ynl_model.specs.Events.{state_after}
-use Rattle.ynl_model.specs.declared.events.Event.{Event}
 use Rattle.ynl_laws.specs.Tabled.{Tabled}
 use Rattle.ynl_laws.specs.Untied.{AllDistinct, HaveOwnKeys}
 
@@ -49,7 +47,3 @@ IsFirstChosen c s node =
 -- that holds where no two tie
 abbrev pub IsFirstChosenUntied : Type 0
 IsFirstChosenUntied = (c : Config) (s : State) (node : Node) → AreUntied c s → IsFirstChosen c s node
-
--- so it holds in each state
-abbrev pub IsFirstAlwaysChosen : Type 0
-IsFirstAlwaysChosen = (c : Config) (events : List Event) (node : Node) → IsFirstChosen c (state_after c events) node

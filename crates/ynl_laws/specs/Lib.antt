@@ -11,13 +11,11 @@ pub mod Proposed
 pub mod Replies
 pub mod Untied
 pub mod First
-pub mod Classes
 pub mod Decided
 pub mod Numbers
 pub mod Descent
 pub mod Ways
 pub mod Uses
-pub mod UseLaws
 pub mod Marks
 pub mod Sharers
 pub mod Owners

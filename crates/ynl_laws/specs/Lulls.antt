@@ -1,19 +1,19 @@
 -- A lull of a leaf on a partition: none of its requests that fits in a room keeps the limits of its user and of the leaf's masters. It lasts until the leaf itself
 -- changes, or the nodes or the maxima do. The maxima of the queues on the way are left out of it, since what they leave hangs on other leaves too.
-use Rattle.std.specs.Prelude.{◌≡◌, ◌==◌, Bool, true, false, ◌&&◌, List, [], ◌∷◌, ◌++◌, map, filter, flat_map, is_some, Some}
+use Rattle.std.specs.Prelude.{◌≡◌, Bool, true, false, ◌&&◌, List, [], ◌∷◌, ◌++◌, map, filter, flat_map, is_some, Some}
 use Rattle.std.specs.List.{AllByRecursion}
 use Rattle.ynl_resource.specs.Amounts.{fits_in}
 use Rattle.ynl_resource.specs.declared.amounts.Resource.{Resource}
 use Rattle.ynl_resource.specs.declared.labels.Label.{Label}
 use Rattle.ynl_resource.specs.declared.names.Name.{Name}
 use Rattle.ynl_resource.specs.declared.paths.Path.{Path}
-use Rattle.ynl_resource.specs.Names.{same_id, same_label, same_name, is_within, tenant_of}
+use Rattle.ynl_resource.specs.Names.{same_id, same_label, is_within, tenant_of}
 use Rattle.ynl_model.specs.declared.nodes.Node.{Node}
 use Rattle.ynl_model.specs.declared.applications.AskRow.{AskRow}
 use Rattle.ynl_model.specs.declared.containers.Placed.{Placed as Container}
 use Rattle.ynl_model.specs.Queues.{Config}
 use Rattle.ynl_model.specs.Applications.{Application, apps_of, leaf_of, in_leaf, submitted, with_app, set_ask}
-use Rattle.ynl_model.specs.Cluster.{State, containers_on, is_master, is_master_what, runs, waits}
+use Rattle.ynl_model.specs.Cluster.{State, containers_on, is_master_what, runs, waits}
 use Rattle.ynl_model.specs.Changes.{place, end, app_finishes}
 use Rattle.ynl_model.specs.Service.{Item, master_item, asks_of, within_user_limit, within_master_share}
 use Rattle.ynl_laws.specs.Tabled.{Tabled}
@@ -89,41 +89,3 @@ abbrev pub DoLullsLastAskingElsewhere : Type 0
 DoLullsLastAskingElsewhere = (c : Config) (s : State) (other : Path) (name : Name) (ask : AskRow) (label : Label) (leaf : Path)
     → Kept s → Tabled s → same_label label ask.label ≡ false
     → Lasts c s (record s { leaves = in_leaf other (with_app name (set_ask ask)) s.leaves }) label leaf
-
--- ---- lulls in whose room nothing fits: they say no more than for how much at least each request of the leaf is. So they last while the leaf itself changes, where nothing comes
--- ---- that is for less
-
--- whether what an application has of a size is for so much at least
-abbrev pub IsFor : Resource → Resource → Type 0
-IsFor least size = fits_in least size ≡ true
-
--- a request is placed; with a master its application asks
-abbrev pub DoFaintLullsLastPlacing : Type 0
-DoFaintLullsLastPlacing = (c : Config) (s : State) (node : Node) (item : Item) (label : Label) (leaf : Path) (least room : Resource)
-    → has_row s.partitions node.label ≡ true
-    → (is_master_what item.what ≡ true → AllByRecursion (λ app. same_name app.name item.app ≡ true → AllByRecursion (λ ask. IsFor least ask.size) app.asks) (apps_of s.leaves leaf))
-    → fits_in least room ≡ false → IsLull c s label leaf least room → IsLull c (place c node item s) label leaf least room
-
--- a container ends; with a master its application waits
-abbrev pub DoFaintLullsLastEnding : Type 0
-DoFaintLullsLastEnding = (c : Config) (s : State) (container : Container) (label : Label) (leaf : Path) (least room : Resource)
-    → has_row s.partitions container.id.label ≡ true → filter (λ k. same_id k.id container.id) (containers_on s container.id.label) ≡ container ∷ []
-    → (is_master container ≡ true → AllByRecursion (λ app. same_name app.name container.app ≡ true → IsFor least app.master) (apps_of s.leaves leaf))
-    → fits_in least room ≡ false → IsLull c s label leaf least room → IsLull c (end c s container) label leaf least room
-
--- an application is submitted, which asks for nothing yet
-abbrev pub DoFaintLullsLastSubmitting : Type 0
-DoFaintLullsLastSubmitting = (c : Config) (s : State) (app : Application) (label : Label) (leaf : Path) (least room : Resource)
-    → app.asks ≡ [] → (same_label app.home label ≡ true → IsFor least app.master)
-    → fits_in least room ≡ false → IsLull c s label leaf least room → IsLull c (record s { leaves = in_leaf app.leaf (submitted app) s.leaves }) label leaf least room
-
--- an application asks
-abbrev pub DoFaintLullsLastAsking : Type 0
-DoFaintLullsLastAsking = (c : Config) (s : State) (other : Path) (name : Name) (ask : AskRow) (label : Label) (leaf : Path) (least room : Resource)
-    → ((ask.count == 0) ≡ false → IsFor least ask.size)
-    → fits_in least room ≡ false → IsLull c s label leaf least room → IsLull c (record s { leaves = in_leaf other (with_app name (set_ask ask)) s.leaves }) label leaf least room
-
--- an application of the leaf finishes
-abbrev pub DoFaintLullsLastFinishing : Type 0
-DoFaintLullsLastFinishing = (c : Config) (s : State) (found : Application) (label : Label) (least room : Resource)
-    → IsOrdered c s → fits_in least room ≡ false → IsLull c s label found.leaf least room → IsLull c (app_finishes c found s) label found.leaf least room

@@ -1,7 +1,6 @@
 //! Proposals.
 
 ghost use Rattle.ynl_laws.specs.Proposed.{AreAccessibleChoicesCommitted, AreChoicesCommitted, AreProposalsCommitted};
-ghost use Rattle.ynl_laws.specs.Replies.{IsProposingAsking};
 
 /// In each state what is proposed for a node is placed where it is committed at once: where the clock of
 /// the partition is not spent and the tenant has access there, no reason is against it.
@@ -19,10 +18,4 @@ pub fn choices_are_committed()
 /// very next event is committed: the reply is a container on its node, for what it asks for.
 pub fn proposals_are_committed()
     ensures { AreProposalsCommitted }
-{}
-
-/// To propose changes nothing: the reply is the first reason against it, or what is proposed for the node,
-/// which can be nothing.
-pub fn proposing_is_asking()
-    ensures { IsProposingAsking }
 {}

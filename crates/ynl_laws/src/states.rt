@@ -1,7 +1,6 @@
 //! What holds of every state.
 
 ghost use Rattle.ynl_laws.specs.Bounded.{IsAlwaysBounded};
-ghost use Rattle.ynl_laws.specs.Found.{AreAppsFound};
 ghost use Rattle.ynl_laws.specs.Refused.{RefusalChangesNothing};
 ghost use Rattle.ynl_laws.specs.Replies.{AreHeartbeatsBounded};
 ghost use Rattle.ynl_model.specs.Promises.{IsAlwaysSound, HasOneReplyEach};
@@ -16,11 +15,6 @@ pub fn every_state_is_sound()
 /// Each event gets one reply.
 pub fn each_event_has_one_reply()
     ensures { HasOneReplyEach }
-{}
-
-/// Each live application is what its tenant and its name find.
-pub fn applications_are_found()
-    ensures { AreAppsFound }
 {}
 
 /// With events in range, the total of each partition is at most 2^48 MB and 2^32 vcores, and what stands

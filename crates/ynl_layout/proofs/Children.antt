@@ -85,9 +85,6 @@ module _ (paths : List Path) (tree : IsTree paths) (queue : ℕ) (has : HasNumbe
 
   -- ---- one more is looked at
 
-  pub children-none : AreChildrenUpTo paths queue 0 []
-  children-none = record { each = λ k d inside. absurd (omega (arith, inside)); before = λ k d inside. absurd (omega (arith, inside)); rising = λ k inside. absurd (omega (arith, inside)); all = λ child below. absurd (omega (arith, below)) }
-
   -- it is none
   pub children-pass : (n : ℕ) (numbers : List ℕ) → AreChildrenUpTo paths queue n numbers → (IsChild paths queue n → ⊥) → AreChildrenUpTo paths queue (n + 1) numbers
   children-pass n numbers h none = record {

@@ -1,5 +1,5 @@
 -- Lines, from the steps to a queue, and what they tell of the tree.
-use Rattle.std.proofs.Common.{◌≡◌, ◌≢◌, ℕ, zero, suc, ◌+◌, ◌<◌, ◌≤◌, List, [], ◌∷◌, ◌++◌, length, map, take, get_or, refl, sym, ap, subst, ◌∙◌, arith}
+use Rattle.std.proofs.Common.{◌≡◌, ◌≢◌, ℕ, zero, suc, ◌+◌, ◌<◌, ◌≤◌, List, [], ◌∷◌, ◌++◌, length, map, take, get_or, refl, sym, ap, ◌∙◌, arith}
 use Rattle.std.specs.Prelude.{Vec}
 use Rattle.std.specs.declared.alloc.Global.{Global}
 use Rattle.ynl_resource.specs.Names.{root}
@@ -45,16 +45,6 @@ take-all (x ∷ xs) zero h = absurd (omega (arith, h))
 take-all (x ∷ xs) (suc n) h = ap (λ rest. x ∷ rest) (take-all xs n (omega (arith, h)))
 
 -- ---- lines
-
-pub root-line : (paths : List Path) → IsLine paths 0 (0 ∷ [])
-root-line paths = record {
-  len = refl;
-  there = λ i d inside. subst (λ k. HasNumber paths (get_or (0 ∷ []) k d)) (zero-is i inside) (omega arith);
-  path = λ i d inside. subst (λ k. path_at paths (get_or (0 ∷ []) k d) ≡ take k root) (zero-is i inside) refl;
-}
-  where
-    zero-is : (i : ℕ) → i < 1 → 0 ≡ i
-    zero-is i inside = omega (arith, inside)
 
 shifted : (steps : List ℕ) (k d e : ℕ) → k < length steps → get_or (map (λ n. n + 1) steps) k d ≡ suc (get_or steps k e)
 shifted [] k d e inside = absurd (omega (arith, inside))

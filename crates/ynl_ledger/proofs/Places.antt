@@ -1,5 +1,5 @@
 -- Lists that are made by places.
-use Rattle.std.proofs.Common.{◌≡◌, ◌≢◌, ◌<◌, ℕ, zero, suc, List, [], ◌∷◌, length, slice_get, get_or, set, None, Some, option_map, refl, sym, ap, subst, ◌∙◌, arith}
+use Rattle.std.proofs.Common.{◌≡◌, ◌≢◌, ◌<◌, ℕ, zero, suc, List, [], ◌∷◌, length, slice_get, get_or, set, None, Some, refl, sym, ap, subst, ◌∙◌, arith}
 use Rattle.std.proofs.lemmas.Option.{none-some, same_Some}
 use Rattle.ynl_model.specs.declared.uses.Use.{Use}
 use Rattle.ynl_uses.specs.Tallies.{with_partition}
@@ -28,12 +28,6 @@ module _ {X Y : Type 0} where
   pub length-by_place : (make : ℕ → X → Y) (xs : List X) → length (by_place make xs) ≡ length xs
   length-by_place make [] = refl
   length-by_place make (x ∷ xs) = ap suc (length-by_place (λ n. make (suc n)) xs)
-
-  -- in its place
-  pub by_place-at : (make : ℕ → X → Y) (xs : List X) (p : ℕ) → slice_get (by_place make xs) p ≡ option_map (make p) (slice_get xs p)
-  by_place-at make [] p = refl
-  by_place-at make (x ∷ xs) zero = refl
-  by_place-at make (x ∷ xs) (suc p) = by_place-at (λ n. make (suc n)) xs p
 
   pub by_place-or : (make : ℕ → X → Y) (xs : List X) (p : ℕ) (d : Y) (x : X) → slice_get xs p ≡ Some x → get_or (by_place make xs) p d ≡ make p x
   by_place-or make [] p d x at = absurd (none-some x at)

@@ -1,9 +1,8 @@
 -- The limit of a leaf's numbers is the model's, and grows with the ask.
-use Rattle.std.proofs.Common.{◌≡◌, ℕ, ◌+◌, ◌-◌, ◌*◌, ◌/◌, ◌≤◌, min, max, true, false, arith}
+use Rattle.std.proofs.Common.{◌≡◌, ℕ, ◌+◌, ◌-◌, ◌*◌, ◌/◌, ◌≤◌, min, max, true, arith}
 use Rattle.std.specs.Prelude.{nat_le, ◌&&◌}
-use Rattle.std.proofs.lemmas.Bool.Decides.{nat_tests}
 use Rattle.std.proofs.Math.Nat.{mul-le-mul_left, le-div_iff_mul-le, div-mul-le_self}
-use Rattle.std.proofs.lemmas.Bool.{and_parts, false_from_ne_true, leb-true, le-leb}
+use Rattle.std.proofs.lemmas.Bool.{and_parts, leb-true, le-leb}
 use Rattle.ynl_resource.specs.Amounts.{ceil_of, plus, greater_of, smaller_of, scale_ceil, fits_in}
 use Rattle.ynl_resource.specs.Ranges.{whole}
 use Rattle.ynl_resource.specs.declared.amounts.Resource.{Resource}
@@ -52,22 +51,3 @@ limit-grows limits lesser ask h =
     let memory = part-grows limits.guaranteed.memory limits.used.memory limits.users limits.percent limits.cap.memory lesser.memory ask.memory limits.some_users parts.0 in
     let vcores = part-grows limits.guaranteed.vcores limits.used.vcores limits.users limits.percent limits.cap.vcores lesser.vcores ask.vcores limits.some_users parts.1 in
     λ i. memory i && vcores i
-
-through : (x y z : ℕ) → nat_le x y ≡ true → nat_le y z ≡ true → nat_le x z ≡ true
-through x y z p q = grind (arith, nat_tests)
-
-fits-through : (x y z : Resource) → fits_in x y ≡ true → fits_in y z ≡ true → fits_in x z ≡ true
-fits-through x y z p q =
-    let first = and_parts (nat_le x.memory y.memory) (nat_le x.vcores y.vcores) p in
-    let second = and_parts (nat_le y.memory z.memory) (nat_le y.vcores z.vcores) q in
-    let memory = through x.memory y.memory z.memory first.0 second.0 in
-    let vcores = through x.vcores y.vcores z.vcores first.1 second.1 in
-    λ i. memory i && vcores i
-
--- where the least use is over the limit for the greatest ask, each use is over it for each ask
-pub stays-over : (limits : Limits) (least with lesser ask : Resource) → fits_in least with ≡ true → fits_in lesser ask ≡ true → fits_in least (limit_of limits ask) ≡ false → fits_in with (limit_of limits lesser) ≡ false
-stays-over limits least with lesser ask more less over =
-    false_from_ne_true (fits_in with (limit_of limits lesser)) (λ (within : fits_in with (limit_of limits lesser) ≡ true).
-    let most = fits-through with (limit_of limits lesser) (limit_of limits ask) within (limit-grows limits lesser ask less) in
-    let kept : fits_in least (limit_of limits ask) ≡ true = fits-through least with (limit_of limits ask) more most in
-    cc (over, kept))

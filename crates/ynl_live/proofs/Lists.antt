@@ -44,11 +44,6 @@ IsOneForEach-from_each seats lists len each =
     let b = length-map seats (λ (s : Standing). s.calls) in
     same_number_lists _ _ (a ∙ len ∙ sym b) (λ k inside. each k (omega arith))
 
--- then there are as many lists as seats
-pub length-from_IsOneForEach : (seats : List Standing) (lists : List (List Receipt)) → IsOneForEach seats lists → length lists ≡ length seats
-length-from_IsOneForEach seats lists fit =
-    sym (length-map lists (λ (v : List Receipt). length v)) ∙ ap length fit ∙ length-map seats (λ (s : Standing). s.calls)
-
 -- the lists up to a place are marked, and so are those up to the next
 pub lists_marked : (entries : List Entry) (met now : List Bool) (lists : List (List Receipt)) (i : ℕ) (v : List Receipt) (items : List Receipt) → i < length lists → v ≡ get_or lists i v → items ≡ v → All (λ w. ListFits entries w) (take i lists) → IsMarked met (all_receipts (take i lists)) → ListFits entries items → ((seen : List Receipt) → IsMarked met seen → IsMarked now (seen ++ items)) → All (λ w. ListFits entries w) (take (i + 1) lists) × IsMarked now (all_receipts (take (i + 1) lists))
 lists_marked entries met now lists i v items inside at is fit marked fits marks =

@@ -1,5 +1,5 @@
 -- What the nodes keep while one comes, goes or changes.
-use Rattle.std.proofs.Common.{◌≡◌, ◌≢◌, ◌<◌, ◌≤◌, ℕ, Bool, true, false, cond, List, [], ◌∷◌, ◌++◌, Option, Some, None, option_map, nat_eq, refl, sym, ap, subst, ◌∙◌, arith}
+use Rattle.std.proofs.Common.{◌≡◌, ◌≢◌, ◌<◌, ◌≤◌, ℕ, Bool, true, false, cond, List, [], ◌∷◌, ◌++◌, Option, Some, None, nat_eq, refl, sym, ap, subst, ◌∙◌, arith}
 use Rattle.std.specs.List.{AllByRecursion}
 use Rattle.std.specs.Map.{lookup}
 use Rattle.std.specs.BTreeMap.{BTreeMap, get, is_at}
@@ -39,25 +39,6 @@ changed n row change (e ∷ nodes) only = go (nat_eq n e.0) refl (changed n row 
         let same : n ≡ e.0 = grind (arith, nat_tests) in
         ap (λ (x : NodeRow). (e.0, change x) ∷ with_row n (change row) nodes) (sym (only.0 (sym same))) ∙ ap (λ es. (e.0, change e.1) ∷ es) r
     go false q r = ap (λ es. e ∷ es) r
-
--- what is under a number after a change, for callers
-pub lookup-with_change : (m n : ℕ) (change : NodeRow → NodeRow) (nodes : List (ℕ × NodeRow)) → lookup (nat_eq m) (with_change n change nodes) ≡ cond (nat_eq m n) (option_map change (lookup (nat_eq m) nodes)) (lookup (nat_eq m) nodes)
-lookup-with_change m n change [] = either (nat_eq m n)
-  where
-    either : (b : Bool) → ◌≡◌ {A = Option NodeRow} None (cond b None None)
-    either true = refl
-    either false = refl
-lookup-with_change m n change (e ∷ nodes) = go (nat_eq n e.0) refl (nat_eq m e.0) refl (nat_eq m n) refl (lookup-with_change m n change nodes)
-  where
-    go : (a : Bool) → nat_eq n e.0 ≡ a → (b : Bool) → nat_eq m e.0 ≡ b → (c : Bool) → nat_eq m n ≡ c
-        → lookup (nat_eq m) (with_change n change nodes) ≡ cond (nat_eq m n) (option_map change (lookup (nat_eq m) nodes)) (lookup (nat_eq m) nodes)
-        → lookup (nat_eq m) (cond a (e.0, change e.1) e ∷ with_change n change nodes) ≡ cond (nat_eq m n) (option_map change (cond b (Some e.1) (lookup (nat_eq m) nodes))) (cond b (Some e.1) (lookup (nat_eq m) nodes))
-    go true o true p true q k = rw (p, q) refl
-    go true o true p false q k = absurd (grind (arith, nat_tests))
-    go true o false p c q k = rw p k
-    go false o true p true q k = absurd (grind (arith, nat_tests))
-    go false o true p false q k = rw (p, q) refl
-    go false o false p c q k = rw p k
 
 named_alike : (n : ℕ) (row next : NodeRow) (nodes : List (ℕ × NodeRow)) → IsOnly n row nodes → next.name ≡ row.name → by_name (with_row n next nodes) ≡ by_name nodes
 named_alike n row next [] only is = refl

@@ -9,7 +9,6 @@ use mathlib.Core.Bool.{true≢false}
 use Rattle.ynl_resource.specs.declared.names.Name.{Name}
 use Rattle.ynl_resource.specs.Names.{same_name, name_order}
 use Rattle.ynl_resource.specs.Tables.{without}
-use Rattle.ynl_roster.specs.Roster.{with_at}
 use Rattle.ynl_roster.proofs.Rising.{each_append, each_then, each_filter}
 use Rattle.ynl_model.specs.declared.nodes.Node.{Node}
 use Rattle.ynl_nodes.specs.Nodes.{Indexes}
@@ -36,18 +35,6 @@ Ix f entries top = Indexes (λ name n. f name ≡ Some n) entries top
 
 abbrev pub Known : (Name → Option ℕ) → List (ℕ × Node) → Type 0
 Known f entries = AllByRecursion (λ e. f e.1.name ≡ Some e.0) entries
-
--- the name of the node under a number leads to the number
-pub led : (f : Name → Option ℕ) (n : ℕ) (node : Node) (entries : List (ℕ × Node)) → Known f entries → lookup (nat_eq n) entries ≡ Some node → f node.name ≡ Some n
-led f n node [] known at = absurd (cc)
-led f n node (e ∷ entries) known at = go (eqb n e.0) refl at (λ k. led f n node entries known.1 k)
-  where
-    go : (b : Bool) → eqb n e.0 ≡ b → cond b (Some e.1) (lookup (nat_eq n) entries) ≡ Some node → (lookup (nat_eq n) entries ≡ Some node → f node.name ≡ Some n) → f node.name ≡ Some n
-    go true p k rest =
-        let same : e.1 ≡ node = cc in
-        let here : e.0 ≡ n = grind (arith, nat_tests) in
-        ap (λ (m : Node). f m.name) (sym same) ∙ known.0 ∙ ap (λ (m : ℕ). Some m) here
-    go false p k rest = rest k
 
 abbrev pub Owns : Name → ℕ → List (ℕ × Node) → Type 0
 Owns name n entries = AllByRecursion (λ e. e.0 ≡ n → e.1.name ≡ name) entries

@@ -17,7 +17,6 @@ use Rattle.ynl_resource.specs.Names.{same_label}
 use Rattle.ynl_resource.specs.Tables.{without, update}
 use Rattle.ynl_model.specs.declared.nodes.Node.{Node}
 use Rattle.ynl_model.specs.Nodes.{nodes_of}
-use Rattle.ynl_roster.specs.Roster.{with_at, IsOnly}
 use Rattle.ynl_roster.proofs.Rising.{each_append}
 use Rattle.ynl_nodes.specs.declared.sums.Sum.{Sum}
 use Rattle.ynl_nodes.specs.declared.sums.SumRow.{SumRow}
@@ -179,24 +178,6 @@ less_one true size sum =
     let count : sum.count + 1 - 1 ≡ sum.count = omega arith in
     λ i. record { total = record { memory = memory i; vcores = vcores i }; count = count i }
 less_one false size sum = refl
-
--- a stamp changes no sum
-sum-stamped : (n : ℕ) (x y : Node) → x.label ≡ y.label → x.size ≡ y.size → (entries : List (ℕ × Node)) → IsOnly n y entries → (p : Label) → sum_of (map (λ e. e.1) (with_at n x entries)) p ≡ sum_of (map (λ e. e.1) entries) p
-sum-stamped n x y same_place same_size [] only p = refl
-sum-stamped n x y same_place same_size (e ∷ entries) only p = go (eqb n e.0) refl (sum-stamped n x y same_place same_size entries only.1 p)
-  where
-    others : List Node
-    others = map (λ e. e.1) (with_at n x entries)
-
-    go : (b : Bool) → eqb n e.0 ≡ b → sum_of others p ≡ sum_of (map (λ e. e.1) entries) p → sum_of ((cond b (n, x) e).1 ∷ others) p ≡ sum_of (e.1 ∷ map (λ e. e.1) entries) p
-    go true q k =
-        let is : e.0 ≡ n = grind (arith, nat_tests) in
-        let was : e.1 ≡ y = only.0 is in
-        sum-first x others p ∙ ap (more x p) k
-        ∙ (λ i. cond (same_label (same_place i) p) (raised (same_size i) (sum_of (map (λ e. e.1) entries) p)) (sum_of (map (λ e. e.1) entries) p))
-        ∙ ap (λ z. more z p (sum_of (map (λ e. e.1) entries) p)) (sym was)
-        ∙ sym (sum-first e.1 (map (λ e. e.1) entries) p)
-    go false q k = sum-first e.1 others p ∙ ap (more e.1 p) k ∙ sym (sum-first e.1 (map (λ e. e.1) entries) p)
 
 -- so many sizes come to so much
 sum-small : (nodes : List Node) (p : Label) → AllByRecursion (λ node. IsSize node.size) nodes → ((sum_of nodes p).total.memory ≤ (sum_of nodes p).count * 4294967295) × ((sum_of nodes p).total.vcores ≤ (sum_of nodes p).count * 65536)

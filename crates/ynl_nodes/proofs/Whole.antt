@@ -1,8 +1,6 @@
 -- Nodes found, set and taken out by name, as the list of them has it.
-use Rattle.std.proofs.Common.{◌≡◌, ℕ, Bool, true, false, cond, eqb, List, [], ◌∷◌, ◌++◌, map, find, Option, None, Some, nat_eq, refl, sym, ap, subst, ◌∙◌, arith}
-use Rattle.std.specs.Map.{lookup}
+use Rattle.std.proofs.Common.{◌≡◌, ℕ, true, false, List, [], ◌∷◌, ◌++◌, map, find, Option, None, Some, nat_eq, sym, ap, subst, ◌∙◌}
 use Rattle.std.specs.BTreeMap.{BTreeMap, get}
-use Rattle.std.proofs.lemmas.Bool.Decides.{nat_tests}
 use Rattle.std.proofs.lemmas.List.{map_push}
 use Rattle.ynl_resource.specs.declared.names.Name.{Name}
 use Rattle.ynl_resource.specs.declared.labels.Label.{Label}
@@ -12,20 +10,8 @@ use Rattle.ynl_model.specs.declared.nodes.Node.{Node}
 use Rattle.ynl_model.specs.Nodes.{is_at}
 use Rattle.ynl_roster.specs.Roster.{Numbered}
 use Rattle.ynl_nodes.specs.Nodes.{AreIndexed, IsSpot}
-use Rattle.ynl_nodes.proofs.Indexed.{Owns, Absent}
+use Rattle.ynl_nodes.proofs.Indexed.{Absent}
 use Rattle.ynl_nodes.proofs.Places.{found_by, gone_by, none_by, stays_by, agrees_name, agrees_at, nowhere_at, nowhere_absent}
-
--- what is under the number of a name has the name
-called_at : (name : Name) (n : ℕ) (node : Node) (entries : List (ℕ × Node)) → lookup (nat_eq n) entries ≡ Some node → Owns name n entries → node.name ≡ name
-called_at name n node [] h own = absurd (cc)
-called_at name n node (e ∷ entries) h own = go (eqb n e.0) refl h (λ k. called_at name n node entries k own.1)
-  where
-    go : (b : Bool) → eqb n e.0 ≡ b → cond b (Some e.1) (lookup (nat_eq n) entries) ≡ Some node → (lookup (nat_eq n) entries ≡ Some node → node.name ≡ name) → node.name ≡ name
-    go true q k rest =
-        let here : e.0 ≡ n = grind (arith, nat_tests) in
-        let same : e.1 ≡ node = cc in
-        ap (λ (m : Node). m.name) (sym same) ∙ own.0 here
-    go false q k rest = rest k
 
 -- a node that comes last under a number comes last
 pub pushed_nodes : (entries new : List (ℕ × Node)) (n : ℕ) (x : Node) (v : List Node) → new ≡ entries ++ (n, x) ∷ [] → map (λ e. e.1) entries ≡ v → map (λ e. e.1) new ≡ v ++ x ∷ []
@@ -36,9 +22,6 @@ module _ (numbers : BTreeMap Name ℕ) (roster : Numbered Node) (h : AreIndexed 
   leads q = get name_order numbers q
 
   module _ (n : ℕ) (node : Node) (spot : IsSpot numbers roster name n node) where
-    pub called : node.name ≡ name
-    called = called_at name n node roster.entries spot.there (h.named name n spot.leads).1
-
     pub spot_found : Some node ≡ find (λ m. same_name m.name name) v
     spot_found = sym spot.there ∙ found_by n (λ m. same_name m.name name) roster.entries (agrees_name (λ q. get name_order numbers q) name n spot.leads roster.entries h.known (h.named name n spot.leads).1) ∙ ap (find (λ (m : Node). same_name m.name name)) view
 

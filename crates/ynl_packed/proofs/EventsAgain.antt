@@ -1,5 +1,5 @@
 -- An event that was kept is read again.
-use Rattle.std.proofs.Common.{◌≡◌, ℕ, zero, suc, ◌<◌, ◌≤◌, ◌^◌, Bool, true, leb, List, [], ◌∷◌, ◌++◌, Option, Some, None, refl, sym, ap, ◌∙◌, append_assoc, arith}
+use Rattle.std.proofs.Common.{◌≡◌, ℕ, ◌≤◌, List, ◌++◌, Option, Some, None, refl, append_assoc, arith}
 use Rattle.std.proofs.lemmas.Bool.{le-leb}
 use Rattle.std.specs.Prelude.{IfSome}
 use Rattle.ynl_resource.specs.declared.labels.Label.{Label}
@@ -8,8 +8,8 @@ use Rattle.ynl_model.specs.declared.events.Event.{Event}
 use Rattle.ynl_model.specs.declared.events.Event.TheVariants.{Register, Lost, Relabel, Heartbeat, Exited, Submit, Ask, Release, Finish, Stop, Start, Poll, Usage, Propose, Commit, Maximum}
 use Rattle.ynl_packed.specs.Fits.{FitsLabel, FitsEvent}
 use Rattle.ynl_packed.specs.Spelling.{text_bytes, label_bytes, path_bytes, small_bytes, size_bytes, id_bytes, option_bytes, event_bytes}
-use Rattle.ynl_packed.specs.Reading.{◌>>=◌, small_at, name_at, label_at, path_at, size_at, id_at, proposal_at, kind_at, mapped, kind_at, mapped, kind_at, mapped, kind_at, mapped, kind_at, mapped, choice_at, register_at, relabel_at, exited_at, submit_at, ask_at, release_at, finish_at, poll_at, usage_at, share_of, maximum_at, short_at, event_of, event_at}
-use Rattle.ynl_packed.proofs.FieldsAgain.{first, last, small_again, name_again, label_again, path_again, size_again, id_again, proposal_again}
+use Rattle.ynl_packed.specs.Reading.{kind_at, kind_at, kind_at, kind_at, kind_at, choice_at, register_at, relabel_at, exited_at, submit_at, ask_at, release_at, finish_at, poll_at, usage_at, share_of, maximum_at, short_at, event_of, event_at}
+use Rattle.ynl_packed.proofs.FieldsAgain.{small_again, name_again, label_again, path_again, size_again, id_again, proposal_again}
 
 choice_again : (label : Option Label) (rest : List ℕ) → IfSome label FitsLabel → choice_at (option_bytes label_bytes label ++ rest) ≡ Some (label, rest)
 unfolding choice_at kind_at

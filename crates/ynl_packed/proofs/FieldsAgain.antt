@@ -1,5 +1,5 @@
 -- A field that was kept is read again, whatever stands behind it.
-use Rattle.std.proofs.Common.{◌≡◌, ℕ, zero, suc, ◌+◌, ◌^◌, ◌<◌, ◌≤◌, Bool, true, false, cond, ltb, List, [], ◌∷◌, ◌++◌, length, take, drop, Option, Some, None, Ok, refl, sym, ap, ◌∙◌, append_assoc, arith}
+use Rattle.std.proofs.Common.{◌≡◌, ℕ, ◌+◌, ◌^◌, ◌<◌, Bool, true, false, ltb, List, [], ◌∷◌, ◌++◌, length, Option, Some, refl, ap, ◌∙◌, append_assoc, arith}
 use Rattle.std.proofs.lemmas.Bool.{le-ltb}
 use Rattle.std.proofs.lemmas.Bool.Decides.{nat_tests}
 use Rattle.std.proofs.lemmas.List.{take_at, drop_at, length-append}
@@ -25,10 +25,6 @@ use Rattle.ynl_packed.specs.Reading.{◌>>=◌, front_at, small_at, number_at, t
 -- the last field of some, and then what is made of it
 pub last : {A B : Type 0} (at : List ℕ → Option (A × List ℕ)) (f : A × List ℕ → Option B) (a rest : List ℕ) (x : A) (y : Option B) → at (a ++ rest) ≡ Some (x, rest) → f (x, rest) ≡ y → (at (a ++ rest) >>= f) ≡ y
 last at f a rest x y read e = ap (λ r. r >>= f) read ∙ e
-
--- a field with others behind it, and then what is made of it
-pub first : {A B : Type 0} (at : List ℕ → Option (A × List ℕ)) (f : A × List ℕ → Option B) (a b rest : List ℕ) (x : A) (y : Option B) → at (a ++ (b ++ rest)) ≡ Some (x, b ++ rest) → f (x, b ++ rest) ≡ y → (at ((a ++ b) ++ rest) >>= f) ≡ y
-first at f a b rest x y read e = ap (λ t. at t >>= f) (append_assoc a b rest) ∙ last at f a (b ++ rest) x y read e
 
 front_again : (n : ℕ) (front rest : List ℕ) → length front ≡ n → front_at n (front ++ rest) ≡ Some (front, rest)
 unfolding front_at

@@ -1,6 +1,6 @@
 -- Items read one behind another, as a loop reads them.
-use Rattle.std.proofs.Common.{◌≡◌, ℕ, zero, suc, ◌+◌, ◌-◌, ◌<◌, ◌≤◌, List, [], ◌∷◌, ◌++◌, length, take, get_or, Option, Some, None, refl, sym, ap, subst, ◌∙◌, append_assoc, arith}
-use Rattle.std.proofs.lemmas.List.{append-nil, take_more, flat_map_more}
+use Rattle.std.proofs.Common.{◌≡◌, ℕ, suc, ◌+◌, ◌-◌, ◌<◌, List, [], ◌∷◌, ◌++◌, length, take, get_or, Option, Some, None, refl, sym, ap, subst, ◌∙◌, append_assoc, arith}
+use Rattle.std.proofs.lemmas.List.{take_more, flat_map_more}
 use Rattle.std.proofs.lemmas.List.Elements.{All-more}
 use Rattle.std.specs.Prelude.{All}
 use Rattle.std.specs.List.{flat_map}
@@ -26,13 +26,6 @@ pub stops : {T : Type 0} (at : List ℕ → Option (T × List ℕ)) (front : Lis
 stops at front count i bytes total lt read so_far =
     let k : count - i ≡ suc (count - (i + 1)) = omega arith in
     let one : with_front front (many at (count - i) bytes) ≡ None = rw (k, read) refl in
-    sym so_far ∙ one
-
-pub is_done : {T : Type 0} (at : List ℕ → Option (T × List ℕ)) (front : List T) (count i : ℕ) (bytes : List ℕ) (total : Option (List T × List ℕ)) → count ≤ i →
-    with_front front (many at (count - i) bytes) ≡ total → total ≡ Some (front, bytes)
-is_done at front count i bytes total le so_far =
-    let k : count - i ≡ 0 = omega arith in
-    let one : with_front front (many at (count - i) bytes) ≡ Some (front, bytes) = rw k (ap (λ all. Some (all, bytes)) (append-nil front)) in
     sym so_far ∙ one
 
 -- ---- items that are added

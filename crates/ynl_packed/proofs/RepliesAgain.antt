@@ -1,7 +1,7 @@
 -- A reply that was kept is read again.
-use Rattle.std.proofs.Common.{◌≡◌, ℕ, zero, suc, ◌<◌, ◌^◌, Bool, true, List, [], ◌∷◌, ◌++◌, length, Option, Some, None, refl, sym, ap, ◌∙◌, append_assoc, arith}
+use Rattle.std.proofs.Common.{◌≡◌, ℕ, List, [], ◌∷◌, ◌++◌, length, Option, Some, None, refl, append_assoc}
 use Rattle.std.proofs.lemmas.List.Elements.{All-head, All-tail}
-use Rattle.std.specs.Prelude.{All, IfSome}
+use Rattle.std.specs.Prelude.{All}
 use Rattle.std.specs.List.{flat_map}
 use Rattle.ynl_resource.specs.Refusals.{word}
 use Rattle.ynl_resource.proofs.RefusalTrip.{refusal_back}
@@ -11,8 +11,8 @@ use Rattle.ynl_model.specs.declared.replies.Reply.{Reply}
 use Rattle.ynl_model.specs.declared.replies.Reply.TheVariants.{Done, Refused, Placed, Proposed, Committed, Held, Usage}
 use Rattle.ynl_packed.specs.Fits.{FitsContainer, FitsPending, FitsItems, FitsReply}
 use Rattle.ynl_packed.specs.Spelling.{text_bytes, small_bytes, number_bytes, what_bytes, size_bytes, amount_bytes, id_bytes, items_bytes, container_bytes, pending_bytes, reply_bytes}
-use Rattle.ynl_packed.specs.Reading.{◌>>=◌, small_at, name_at, size_at, amount_at, id_at, what_at, kind_at, mapped, many, items_at, container_at, pending_at, refused_at, placed_at, proposed_at, committed_at, held_at, usage_reply_at, reply_of, reply_at}
-use Rattle.ynl_packed.proofs.FieldsAgain.{first, last, small_again, number_again, long_again, name_again, size_again, amount_again, id_again, what_again, proposal_again}
+use Rattle.ynl_packed.specs.Reading.{kind_at, many, items_at, container_at, pending_at, refused_at, placed_at, proposed_at, committed_at, held_at, usage_reply_at, reply_of, reply_at}
+use Rattle.ynl_packed.proofs.FieldsAgain.{small_again, number_again, long_again, name_again, size_again, amount_again, id_again, what_again, proposal_again}
 
 pub container_again : (p : Container) (rest : List ℕ) → FitsContainer p → container_at (container_bytes p ++ rest) ≡ Some (p, rest)
 unfolding container_at container_bytes

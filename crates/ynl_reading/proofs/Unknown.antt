@@ -1,6 +1,5 @@
 -- What there is of an unknown label or an unknown queue.
-use Rattle.std.proofs.Common.{◌≡◌, ◌*◌, ◌/◌, ◌<◌, ℕ, suc, Bool, true, false, min, nat_eq, nat_le, List, [], ◌∷◌, map, filter, fold, length, is_some, Option, None, Some, inl, inr, refl, sym, ap, subst, ◌∙◌, arith, true≢false}
-use Rattle.std.specs.Prelude.{◌||◌}
+use Rattle.std.proofs.Common.{◌≡◌, ◌*◌, ◌/◌, ◌<◌, ℕ, suc, true, false, min, nat_eq, nat_le, List, [], ◌∷◌, map, filter, fold, length, is_some, Option, None, Some, inl, inr, refl, sym, ap, subst, ◌∙◌, arith, true≢false}
 use Rattle.std.specs.List.{AllByRecursion}
 use Rattle.std.specs.Option.{option_map_or}
 use Rattle.std.proofs.lemmas.Bool.Decides.{nat_tests}
@@ -20,7 +19,7 @@ use Rattle.ynl_model.specs.Cluster.{guaranteed, is_spent, clock, maximum, total}
 use Rattle.ynl_model.specs.Events.{pending, pending_on, sorted}
 use Rattle.ynl_model.specs.Limits.{master_limit, user_cap, user_limit, user_share}
 use Rattle.ynl_model.specs.Nodes.{clock_limit, has_label, label_row, nodes_of, total as total_on}
-use Rattle.ynl_model.specs.Queues.{Config, QueueRow, capacity_on, guaranteed as guaranteed_of, is_queue, maximum as maximum_of, maximum_on, queue_row, setting}
+use Rattle.ynl_model.specs.Queues.{Config, QueueRow, capacity_on, guaranteed as guaranteed_of, maximum as maximum_of, maximum_on, queue_row, setting}
 use Rattle.ynl_laws.proofs.Lists.{Each-map, find-nothing}
 use Rattle.ynl_laws.proofs.Names.{same-label_path, same-path}
 use Rattle.ynl_layout.specs.Paths.{path_at}
@@ -149,15 +148,6 @@ module _ (w : ClusterView) (sound : IsSound w.rows) (configured : IsFor w.config
       go (inr unknown) =
           ap (λ a. scale_floor a (setting (λ row. row.leaf.maximum_am_resource_percent) 0 w.config leaf) whole) (no-maximum w sound configured label unknown leaf)
           ∙ share-of_nothing (setting (λ row. row.leaf.maximum_am_resource_percent) 0 w.config leaf)
-
--- an unknown queue has no row
-pub unknown-row : (c : Config) (queue : Path) → is_queue c queue ≡ false → queue_row c queue ≡ None
-unknown-row c queue unknown = go (same_path queue root) (queue_row c queue) unknown
-  where
-    go : (b : Bool) (o : Option QueueRow) → (b || is_some o) ≡ false → o ≡ None
-    go true o k = absurd (true≢false k)
-    go false None k = refl
-    go false (Some row) k = absurd (true≢false k)
 
 -- and neither has root
 pub root-row : (w : ClusterView) → IsSound w.rows → IsFor w.config w.rows → (queue : Path) → queue ≡ root → queue_row w.config queue ≡ None

@@ -1,5 +1,5 @@
 -- A live application asks on its home partition, and where asks of it are told.
-use Rattle.std.proofs.Common.{◌≡◌, ◌≢◌, suc, Bool, true, false, cond, List, [], ◌∷◌, map, filter, inl, inr, refl, sym, ap, arith}
+use Rattle.std.proofs.Common.{◌≡◌, ◌≢◌, suc, Bool, true, false, cond, List, [], ◌∷◌, map, filter, inr, refl, ap, arith}
 use Rattle.std.specs.List.{Contains}
 use Rattle.ynl_resource.specs.Names.{same_label}
 use Rattle.ynl_resource.specs.declared.labels.Label.{Label}
@@ -9,8 +9,7 @@ use Rattle.ynl_model.specs.declared.applications.AskRow.{AskRow}
 use Rattle.ynl_model.specs.Cluster.{State}
 use Rattle.ynl_model.specs.Events.{pending, pending_on, sorted}
 use Rattle.ynl_waits.specs.declared.waits.Applicant.{Applicant}
-use Rattle.ynl_reasons.specs.Facts.{IsApplicant, IsAsking, IsFound}
-use Rattle.ynl_reasons.specs.declared.facts.Found.{Found}
+use Rattle.ynl_reasons.specs.Facts.{IsApplicant, IsAsking}
 
 -- asks under a label are for it
 asked : (label : Label) (asks : List AskRow) → filter (λ ask. same_label ask.label label) asks ≢ [] → Contains (map (λ ask. ask.label) asks) label
@@ -31,16 +30,3 @@ asks-there s tenant name app label is some = record {
   is = is.is;
   asks = inr (asked label is.live.asks (λ none. some (ap (λ (asks : List AskRow). map pending (sorted asks)) none)));
 }
-
-pub asks-home : (s : State) (tenant name : Name) (found : Found) → IsFound s tenant name found → IsAsking s found.applicant found.home
-asks-home s tenant name found is = record {
-  tenant = tenant;
-  name = name;
-  live = is.live;
-  found = is.named;
-  is = ap (λ (f : Found). f.applicant) is.is;
-  asks = inl (sym (ap (λ (f : Found). f.home) is.is));
-}
-
-pub is-applicant : (s : State) (tenant name : Name) (found : Found) → IsFound s tenant name found → IsApplicant s tenant name found.applicant
-is-applicant s tenant name found is = record { live = is.live; found = is.named; is = ap (λ (f : Found). f.applicant) is.is }

@@ -57,9 +57,6 @@ bad_part t part before after h few other =
     let parts : list_all is_name (before ++ part ∷ after) ≡ false = list_all-append is_name before (part ∷ after) ∙ and_right (list_all is_name before) _ (and_left (is_name part) _ other) in
     read_parts t _ h few ∙ rw parts
 
-pub good_parts : (t : List ℕ) (names : List (List ℕ)) → slice_split is_dot t ≡ codes "root" ∷ names → length (slice_split is_dot t) ≤ 8 → list_all is_name names ≡ true → read_path t ≡ Ok names
-good_parts t names h few all = read_parts t _ h few ∙ rw all
-
 drop-one : (names : List (List ℕ)) (len : ℕ) → drop len names ≡ replicate (7 - len) filler → drop (len + 1) names ≡ replicate (7 - (len + 1)) filler
 drop-one names len h =
     let n : 7 - len - 1 ≡ 7 - (len + 1) = omega arith in

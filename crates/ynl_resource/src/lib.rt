@@ -1,10 +1,8 @@
 //! The words of the scheduler: names, labels, paths of queues, ids of containers, amounts, and the
-//! reasons for which an event is refused. Each is read from its text exactly, and printed back. And hints where things
-//! stand that have names.
+//! reasons for which an event is refused. Each is read from its text exactly, and printed back.
 #![tactic(auto)]
 
 pub use amounts::{Hundredths, Resource, Size};
-pub use hints::Hints;
 pub use ids::Id;
 pub use labels::Label;
 pub use names::{BadName, Name};
@@ -17,7 +15,6 @@ pub use refusals::Refusal;
 
 mod amounts;
 mod cuts;
-mod hints;
 mod ids;
 mod labels;
 mod names;

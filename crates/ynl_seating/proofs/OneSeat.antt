@@ -1,6 +1,6 @@
 -- One seat shows something else: the lanes are then those of other figures.
 use Rattle.std.proofs.Common.{◌≡◌, ◌≢◌, ℕ, Bool, true, false, cond, ◌&&◌, List, Some, is_some, nat_eq, refl, sym, ap, subst, ◌∙◌, inl, inr}
-use Rattle.std.specs.Prelude.{IfSome, IsSome}
+use Rattle.std.specs.Prelude.{IfSome}
 use Rattle.std.specs.Map.{lookup}
 use Rattle.std.proofs.lemmas.Bool.{and_parts, and_from, cases_eq, eqb-true, or_cases}
 use Rattle.std.proofs.lemmas.Option.{same_Some}
@@ -13,7 +13,7 @@ use Rattle.ynl_lane.specs.Seats.{IsSeat, Seat, Seats, with_used, with_waits}
 use Rattle.ynl_lane_table.specs.Lanes.{Changes, Enters, IsLaneAt, SetsUsed, lane_at}
 use Rattle.ynl_inventory.specs.Rows.{Rows, AppRow}
 use Rattle.ynl_inventory.specs.Sound.{HasPartition}
-use Rattle.ynl_seating.specs.Seating.{AreSeatedWith, Figures, IsSeated, is_of, seat_of, seats_of, shares, sits, ticket_on, user_use}
+use Rattle.ynl_seating.specs.Seating.{AreSeatedWith, Figures, IsSeated, is_of, seat_of, seats_of, shares, sits, user_use}
 use Rattle.ynl_seating.specs.Steps.{AreSeatedBut, AreUsedBut}
 use Rattle.ynl_seating.proofs.SeatLists.{seat-found, seats-entered, seats-stay, seats-used, tickets-apart}
 use Rattle.ynl_seating.proofs.Lanes.{lifted, with-lanes}
@@ -41,10 +41,6 @@ module _ (f : Figures) (v : Rows) (lanes : List (List Seats)) (seated : AreSeate
 
   pub lane-there : IsLaneAt p row.leaf lanes
   lane-there = lane.there
-
-  -- the application has a ticket there
-  pub own-ticket : IsSome (ticket_on p row)
-  own-ticket = (seated.apps app row found).tickets p sat
 
   abbrev pub ticket : ℕ
   ticket = (seat_of f p row.leaf (app, row)).0

@@ -1,18 +1,10 @@
 -- Room for a seat is reserved: the seats stay.
-use Rattle.std.proofs.Common.{◌≡◌, ◌≢◌, ℕ, List, Some, Ok, Err, Result, nat_eq, sym, ap, subst, ◌∙◌, inl, inr}
-use Rattle.std.specs.Prelude.{OnOk}
-use Rattle.std.proofs.lemmas.Bool.{eqb-true, or_cases}
+use Rattle.std.proofs.Common.{◌≡◌, ◌≢◌, ℕ, List, Result, sym, ap, subst, ◌∙◌, inl, inr}
 use Rattle.ynl_lane.specs.Seats.{Seats}
 use Rattle.ynl_lane_table.specs.Lanes.{Changes, IsLaneAt, Reserves, lane_at}
 use Rattle.ynl_inventory.specs.Rows.{Rows}
 use Rattle.ynl_seating.specs.Seating.{AreSeated, IsSeated, figures_of}
-use Rattle.ynl_seating.specs.Steps.{IsReserved}
 use Rattle.ynl_seating.proofs.Lanes.{other-lane, own-lane, same-or, still-there, with-lanes}
-
--- what holds if something was returned
-pub on-ok : {T E : Type 0} (r : Result T E) (P Q : Type 0) → (P → Q) → OnOk r P → OnOk r Q
-on-ok (Ok x) P Q f h = f h
-on-ok (Err e) P Q f h = tt
 
 module _ {T E : Type 0} (p q user : ℕ) (result : Result T E) (old new : List (List Seats)) (there : IsLaneAt p q old) (changes : Changes p q (Reserves user result) old new) where
   own-is : lane_at p q new ≡ changes.next
@@ -23,10 +15,6 @@ module _ {T E : Type 0} (p q user : ℕ) (result : Result T E) (old new : List (
 
   pub lane-kept : (r s : ℕ) → IsLaneAt r s old → IsLaneAt r s new
   lane-kept r s at = subst (IsLaneAt r s) (sym changes.lanes) (still-there p q changes.next old there r s at)
-
-  -- the lane has room, if something was returned
-  pub own-ready : OnOk result ((lane_at p q new).ready ≡ Some user)
-  own-ready = on-ok result (changes.next.ready ≡ Some user) ((lane_at p q new).ready ≡ Some user) (λ h. ap (λ (l : Seats). l.ready) own-is ∙ h) changes.changes.1
 
   seats-kept : (r s : ℕ) → (lane_at r s new).seats ≡ (lane_at r s old).seats
   seats-kept r s =
@@ -43,17 +31,3 @@ module _ {T E : Type 0} (p q user : ℕ) (result : Result T E) (old new : List (
     where
       lane : (r s : ℕ) → IsSeated (figures_of v) v.apps r s old → IsSeated (figures_of v) v.apps r s new
       lane r s is = record { there = lane-kept r s is.there; seats = seats-kept r s ∙ is.seats; distinct = is.distinct }
-
--- there is room in both lanes, where home is DEFAULT
-pub reserved-once : (home leaf user : ℕ) (lanes : List (List Seats)) → home ≡ 0 → (lane_at home leaf lanes).ready ≡ Some user → IsReserved home leaf user lanes
-reserved-once home leaf user lanes zero ready p sat =
-    let at : p ≡ home = elim (or_cases (nat_eq p 0) (nat_eq home p) sat) [ inl default ↦ eqb-true p 0 default ∙ sym zero | inr own ↦ sym (eqb-true home p own) ] in
-    ap (λ k. (lane_at k leaf lanes).ready) at ∙ ready
-
--- and where it is another
-pub reserved-twice : (home leaf user : ℕ) (lanes : List (List Seats)) → (lane_at home leaf lanes).ready ≡ Some user → (lane_at 0 leaf lanes).ready ≡ Some user → IsReserved home leaf user lanes
-reserved-twice home leaf user lanes ready default p sat =
-    elim (or_cases (nat_eq p 0) (nat_eq home p) sat) [
-      | inl is ↦ ap (λ k. (lane_at k leaf lanes).ready) (eqb-true p 0 is) ∙ default
-      | inr own ↦ ap (λ k. (lane_at k leaf lanes).ready) (sym (eqb-true home p own)) ∙ ready
-    ]

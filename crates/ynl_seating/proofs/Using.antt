@@ -1,6 +1,6 @@
 -- What the calls find that let a user use more or less.
 use Rattle.std.proofs.Common.{◌≡◌, ℕ, ◌+◌, ◌-◌, List, Some, option_map, nat_eq, sym, ap, subst, ◌∙◌, arith}
-use Rattle.std.specs.Prelude.{IfSome, IsSome, IsTrue, unwrap_or}
+use Rattle.std.specs.Prelude.{IfSome, IsTrue, unwrap_or}
 use Rattle.std.specs.Map.{lookup}
 use Rattle.std.proofs.lemmas.Option.{same_Some}
 use Rattle.ynl_resource.specs.Amounts.{fits_in, IsSmall, less, plus}
@@ -12,15 +12,12 @@ use Rattle.ynl_lane_table.specs.Lanes.{Changes, IsLaneAt, SetsUsed, lane_at}
 use Rattle.ynl_inventory.specs.Rows.{Rows, AppRow}
 use Rattle.ynl_seating.specs.Seating.{ticket_on, user_use}
 use Rattle.ynl_seating.specs.Steps.{AreSeatedBut, AreUsedBut}
-use Rattle.ynl_seating.proofs.OneSeat.{lane-there, own-found, own-seat, own-ticket, used-but}
+use Rattle.ynl_seating.proofs.OneSeat.{lane-there, own-found, own-seat, used-but}
 
 module _ (app p : ℕ) (Stand : Resource → Resource → Type 0) (v : Rows) (lanes : List (List Seats)) (start : AreUsedBut app p Stand v lanes)
     (row : AppRow) (found : lookup (nat_eq app) v.apps ≡ Some row) where
   is : start.row ≡ row
   is = same_Some start.row row (sym start.found ∙ found)
-
-  pub use-ticket : IsSome (ticket_on p row)
-  use-ticket = subst (λ (r : AppRow). IsSome (ticket_on p r)) is (own-ticket start.figures v lanes start.seated app start.row start.found p start.shared)
 
   pub use-lane : IsLaneAt p row.leaf lanes
   use-lane = subst (λ (r : AppRow). IsLaneAt p r.leaf lanes) is (lane-there start.figures v lanes start.seated app start.row start.found p start.shared)

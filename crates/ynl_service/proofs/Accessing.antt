@@ -13,7 +13,7 @@ use Rattle.ynl_model.specs.declared.proposals.What.TheVariants.{Master as Master
 use Rattle.ynl_model.specs.Nodes.{has_label}
 use Rattle.ynl_model.specs.Queues.{is_queue, may_use}
 use Rattle.ynl_model.specs.Service.{takes_guests}
-use Rattle.ynl_model.specs.Check.{comes_as_guest, has_access, is_for}
+use Rattle.ynl_model.specs.Check.{comes_as_guest, has_access}
 use Rattle.ynl_laws.proofs.Names.{same-label_path}
 use Rattle.ynl_container_table.specs.declared.container.Role.{Role}
 use Rattle.ynl_container_table.specs.declared.container.Role.TheVariants.{Master, Ask as Asked}
@@ -25,7 +25,7 @@ use Rattle.ynl_inventory.proofs.Finding.{not-true, own-label}
 use Rattle.ynl_inventory.proofs.Lookups.{place-there}
 use Rattle.ynl_cluster.specs.Cluster.{ClusterView, label_of}
 use Rattle.ynl_admission.proofs.LabelsKnown.{label-known}
-use Rattle.ynl_service.specs.Checking.{is_for_at, is_known, is_on_default}
+use Rattle.ynl_service.specs.Checking.{is_known, is_on_default}
 
 default-same : (label : Label) → is_default label ≡ same_label label Unlabelled
 default-same Unlabelled = refl
@@ -35,11 +35,6 @@ module _ (w : ClusterView) (sound : IsSound w.rows) where
   -- a partition is DEFAULT where its number is 0
   default-told : (p : ℕ) → HasPartition w.rows p → is_default (label_of w p) ≡ nat_eq p 0
   default-told p there = default-same (label_of w p) ∙ ap (same_label (label_of w p)) (sym sound.default) ∙ same-label w.rows sound p 0 there sound.some
-
-  -- what is wanted on a partition
-  pub for-told : (p : ℕ) → HasPartition w.rows p → (role : Role) → IsAskedThere w.rows role → is_for (label_of w p) (what_of w.rows.partitions role) ≡ is_for_at p role
-  for-told p there Master asked = refl
-  for-told p there (Asked q priority) asked = same-label w.rows sound q p asked there
 
   module _ (configured : IsFor w.config w.rows) (p : ℕ) (there : HasPartition w.rows p) where
     its : (part : PartitionRow) × (slice_get w.rows.partitions p ≡ Some part)

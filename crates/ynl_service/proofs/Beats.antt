@@ -19,14 +19,6 @@ choice-stamp c s node stamp = refl
 pub next-stamp : (c : Config) (s : State) (node : Node) (stamp : ℕ) → next_item c s (restamped stamp node) ≡ next_item c s node
 next-stamp c s node stamp = ap (λ o. cond (is_spent c.labels s node.label) None o) (choice-stamp c s node stamp)
 
-pub place-stamp : (c : Config) (s : State) (node : Node) (stamp : ℕ) (item : Item) → place c (restamped stamp node) item s ≡ place c node item s
-unfolding place changed_at container_of
-place-stamp c s node stamp item = refl
-
-pub container-stamp : (c : Config) (s : State) (node : Node) (stamp : ℕ) (item : Item) → container_of c s (restamped stamp node) item ≡ container_of c s node item
-unfolding container_of
-container-stamp c s node stamp item = refl
-
 -- nothing is placed where nothing is next
 pub beat-none : (c : Config) (node : Node) (times : ℕ) (s : State) → next_item c s node ≡ None → beat c node times s ≡ record { placed = []; state = s }
 unfolding beat

@@ -49,10 +49,6 @@ module _ (w : ClusterView) (sound : IsSound w.rows) (configured : IsFor w.config
   same : row ≡ can.node.row
   same = same_Some row can.node.row (sym found ∙ can.node.found)
 
-  -- the node's partition is there
-  pub stands : HasPartition w.rows row.partition
-  stands = sound.nodes n row found
-
   pub told-stale : row.stamp ≢ proposal.stamp → first ≡ Some Stale
   told-stale apart = is-stale w.config s proposal node can.node.named free (other-number can.node.row.stamp proposal.stamp (λ e. apart (ap (λ (r : NodeRow). r.stamp) same ∙ e)))
 

@@ -15,12 +15,12 @@ use Rattle.ynl_laws.proofs.Soundness.Working.{working-place}
 use Rattle.ynl_inventory.specs.Rows.{AppRow, NodeRow}
 use Rattle.ynl_inventory.specs.Changes.{next_clock_at, next_container, partition_of_node, with_placed}
 use Rattle.ynl_inventory.specs.Meaning.{item_of, label_at, node_of}
-use Rattle.ynl_inventory.specs.Parts.{CanPlace, LeavesRoom}
+use Rattle.ynl_inventory.specs.Parts.{LeavesRoom}
 use Rattle.ynl_inventory.specs.Sound.{IsPlaceable, IsSound}
 use Rattle.ynl_inventory.proofs.Containers.{labels}
 use Rattle.ynl_inventory.proofs.Finding.{find-node, has-partition}
 use Rattle.ynl_inventory.proofs.Lookups.{read-after, row_after, still-found}
-use Rattle.ynl_cluster.specs.Cluster.{ClusterView, held_in, state_in}
+use Rattle.ynl_cluster.specs.Cluster.{ClusterView, state_in}
 use Rattle.ynl_search.specs.declared.found.Found.{Found}
 use Rattle.ynl_search.specs.Laws.{item_found, no_item}
 use Rattle.ynl_service.specs.Serving.{CanBePlaced, HasRoom, IsNext, IsNode, IsNoStep, IsStep}
@@ -35,14 +35,6 @@ place-there (x ∷ xs) (suc p) inside = place-there xs p (omega (arith, inside))
 -- where nothing is next nothing comes
 pub no-step : (w : ClusterView) (n : ℕ) (list : List Placed) → IsNext w n None → IsNoStep w w n list list
 no-step w n list next = record { same = refl; list = refl; beat = λ of at times. beat-none w.config of times (state_in w) (next of at) }
-
--- what is next may be placed
-pub may : (w : ClusterView) (n : ℕ) (found : Found) → HasRoom w n 1 → CanBePlaced w n found → CanPlace (held_in w) (record { node = n; app = found.app; role = found.role; size = found.size })
-may w n found room can = record { placeable = can.placeable; room = there (slice_get w.rooms (partition_of_node w.rows.nodes n)) room; fits = can.fits }
-  where
-    there : (o : Option ℕ) → IfSome o (λ room. 1 ≤ room) → IfSome o (λ room. 0 < room)
-    there None k = tt
-    there (Some room) k = k
 
 module _ (w u : ClusterView) (n : ℕ) (found : Found) (can : CanBePlaced w n found) (sound : IsSound w.rows) (before-works : IsWorking w.config (state_in w)) (rooms : length w.rooms ≡ length w.rows.partitions)
     (next : IsNext w n (Some found)) (number : ℕ)

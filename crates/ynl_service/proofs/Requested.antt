@@ -19,7 +19,7 @@ use Rattle.ynl_container_table.specs.declared.container.Role.TheVariants.{Master
 use Rattle.ynl_inventory.specs.Rows.{AppRow, NodeRow}
 use Rattle.ynl_inventory.specs.Meaning.{item_of, node_of, what_of}
 use Rattle.ynl_inventory.specs.Parts.{free_of}
-use Rattle.ynl_inventory.specs.Sound.{CanTake, HasPartition, IsAskedOn, IsAskedThere, IsFor, IsPlaceable, IsSound}
+use Rattle.ynl_inventory.specs.Sound.{CanTake, HasPartition, IsAskedOn, IsFor, IsPlaceable, IsSound}
 use Rattle.ynl_inventory.proofs.Asked.{ask-there}
 use Rattle.ynl_seating.specs.Seating.{shares}
 use Rattle.ynl_cluster.specs.Cluster.{ClusterView, label_of, maxima_in, state_in, stops_in}
@@ -103,18 +103,6 @@ module _ (w : ClusterView) (sound : IsSound w.rows) (n app : ℕ) (role : Role) 
 
     pub own-shares : IfSome (lookup (nat_eq app) w.rows.apps) (λ row. shares p row ≡ true)
     own-shares = subst (λ o. IfSome o (λ (row : AppRow). shares p row ≡ true)) (sym can.app_found) (shares-as role own can.role)
-
-  -- the partition of what is asked for is there
-  pub role-there : IsAskedThere w.rows role
-  role-there = go role can.role
-    where
-      go : (r : Role) → CanTake w.rows app can.node_row.partition can.partition.guests can.app_row r → IsAskedThere w.rows r
-      go Master take = tt
-      go (Asked q priority) take = by take.1
-        where
-          by : (q ≡ can.node_row.partition) ⊎ ((q ≡ 0) × (can.partition.guests ≡ true)) → HasPartition w.rows q
-          by (inl same) = subst (HasPartition w.rows) (sym same) (sound.nodes n can.node_row can.node_found)
-          by (inr both) = subst (HasPartition w.rows) (sym both.0) sound.some
 
 -- so it is with the row of the node that is read
 module _ (w : ClusterView) (sound : IsSound w.rows) (n app : ℕ) (role : Role) (size : Resource) (row : NodeRow) (found : lookup (nat_eq n) w.rows.nodes ≡ Some row) where

@@ -1,5 +1,5 @@
 -- What the workers of a round called.
-use Rattle.std.proofs.Common.{◌≡◌, ℕ, suc, ◌+◌, ◌*◌, ◌≤◌, refl, sym, ap, ◌∙◌, arith, List, [], ◌∷◌, ◌++◌, Bool, cond, length, take, subst, Some, None, Option, Vec, All, inl, inr, ◌⊎◌, append-nil, append_assoc, Result, Ok, Err}
+use Rattle.std.proofs.Common.{◌≡◌, ℕ, suc, ◌+◌, ◌*◌, ◌≤◌, refl, sym, ap, ◌∙◌, arith, List, [], ◌∷◌, ◌++◌, Bool, cond, length, take, subst, Some, None, Option, Vec, All, inl, inr, ◌⊎◌, append_assoc, Result, Ok, Err}
 use Rattle.std.specs.Prelude.{map, count_by, IsTrue, MatchOption, OnOk}
 use Rattle.std.specs.declared.alloc.Global.{Global}
 use Rattle.std.proofs.lemmas.List.Sums.{sum_by-cons, sum_by-append}
@@ -204,9 +204,6 @@ AddsRounds-one free seats lists ends old new a b round ended is =
       answered = t.answered;
       committed = t.committed;
     }
-
-pub AddsRounds-none : (free : Type 0) (dealt : List (Vec Name Global)) (old : List (List Receipt)) → AddsRounds free dealt 0 old old
-AddsRounds-none free dealt old = record { more = []; all = sym (append-nil old); workers = All-nil IsOfWorker; idle = λ _. refl; asked = λ _ n. (let e : 0 * times_in n (all_dealt dealt) ≡ 0 = omega arith in sym e); answered = λ q. omega arith; committed = λ _ q. refl }
 
 -- rounds, and one more
 pub AddsRounds-more : (free : Type 0) (dealt : List (Vec Name Global)) (k : ℕ) (a b c : List (List Receipt)) → AddsRounds free dealt k a b → AddsRounds free dealt 1 b c → AddsRounds free dealt (k + 1) a c

@@ -1,10 +1,9 @@
 -- Workers that are taken in one after another.
-use Rattle.std.proofs.Common.{◌≡◌, ℕ, refl, Ok, Err, ◌⊎◌, inl, inr, arith, length, length-append, sym, ap, ◌∙◌, List, [], ◌∷◌, ◌++◌, subst, Vec, All, append_assoc, append-nil}
+use Rattle.std.proofs.Common.{◌≡◌, ℕ, refl, Ok, Err, ◌⊎◌, inl, inr, arith, length, length-append, sym, ap, ◌∙◌, List, [], ◌∷◌, ◌++◌, subst, All, append_assoc}
 use Rattle.std.specs.Prelude.{map}
-use Rattle.std.specs.declared.alloc.Global.{Global}
 use Rattle.std.proofs.Math.Seq.{get_or-append_seam}
 use Rattle.std.proofs.lemmas.List.{map-append}
-use Rattle.std.proofs.lemmas.List.Elements.{All-nil, All-push}
+use Rattle.std.proofs.lemmas.List.Elements.{All-push}
 use Rattle.ynl_live.specs.declared.receipts.Receipt.{Receipt}
 use Rattle.ynl_workers.specs.declared.working.WorkerEnd.{WorkerEnd}
 use Rattle.ynl_workers.specs.declared.working.End.{End}
@@ -24,9 +23,6 @@ pub record TakenSoFar (old now : List (List Receipt)) (all left : List WorkerEnd
   pub ended : All (λ worker. HasEnded worker) done
   pub lists : now ≡ old ++ map (λ w. w.receipts.items) done
 
-pub TakenSoFar-none : (old : List (List Receipt)) (all left : List WorkerEnd) → left ≡ all → TakenSoFar old old all left
-TakenSoFar-none old all left is = record { done = []; all_are = is; ended = All-nil (λ worker. HasEnded worker); lists = sym (append-nil old) }
-
 pub TakenSoFar-more : (old now next : List (List Receipt)) (all left rest : List WorkerEnd) (w : WorkerEnd) → left ≡ w ∷ rest → HasEnded w → next ≡ now ++ w.receipts.items ∷ [] → TakenSoFar old now all left → TakenSoFar old next all rest
 TakenSoFar-more old now next all left rest w is ended one so = record {
   done = so.done ++ w ∷ [];
@@ -34,11 +30,6 @@ TakenSoFar-more old now next all left rest w is ended one so = record {
   ended = All-push (λ worker. HasEnded worker) so.done w so.ended ended;
   lists = one ∙ ap (λ ls. ls ++ w.receipts.items ∷ []) so.lists ∙ append_assoc old (lists_of so.done) (w.receipts.items ∷ []) ∙ ap (λ ls. old ++ ls) (sym (map-append (λ (x : WorkerEnd). x.receipts.items) so.done (w ∷ [])));
 }
-
-pub TakenSoFar-all : (old now : List (List Receipt)) (all left : List WorkerEnd) → left ≡ [] → TakenSoFar old now all left → All HasEnded all × (now ≡ old ++ map (λ w. w.receipts.items) all)
-TakenSoFar-all old now all left none so =
-    let same : so.done ≡ all = sym (append-nil so.done) ∙ ap (λ ws. so.done ++ ws) (sym none) ∙ so.all_are in
-    (subst (All HasEnded) same so.ended, so.lists ∙ ap (λ ws. old ++ lists_of ws) same)
 
 -- a worker that has ended went over its nodes or was halted
 pub HasEnded-from_ended : (end : End) (u : Unit {0}) → Ok u ≡ ended end → (end ≡ Whole) ⊎ (end ≡ Halted)

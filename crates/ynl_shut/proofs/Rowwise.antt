@@ -61,20 +61,11 @@ row-changes rows p old new change at has room = record { has = λ r q. has-go r 
 pub changes-as : (f g : Change) (a b : List Row) → Changes f a b → ((r t : ℕ) → f r t (room_at a r t) ≡ g r t (room_at a r t)) → Changes g a b
 changes-as f g a b h same = record { has = h.has; room = λ r t. h.room r t ∙ same r t }
 
-pub unchanged : (f : Change) (a : List Row) → ((r t : ℕ) → f r t (room_at a r t) ≡ room_at a r t) → Changes f a a
-unchanged f a same = record { has = λ r t. refl; room = λ r t. sym (same r t) }
-
 -- ---- all rows
 
 -- rows before a number change
 abbrev pub up_to : ℕ → Change → Change
 up_to n f r t o = cond (nat_lt r n) (f r t o) o
-
-pub up_to-begun : (f : Change) (a : List Row) → Changes (up_to 0 f) a a
-up_to-begun f a = unchanged (up_to 0 f) a (λ r t. ap (λ b. cond b (f r t (room_at a r t)) (room_at a r t)) (none r))
-  where
-    none : (r : ℕ) → nat_lt r 0 ≡ false
-    none r = grind (arith, nat_tests)
 
 pub up_to-more : (n : ℕ) (f : Change) (a b c : List Row) → Changes (up_to n f) a b → Changes (in_row n (f n)) b c → Changes (up_to (n + 1) f) a c
 up_to-more n f a b c h k = record { has = λ r t. k.has r t ∙ h.has r t; room = λ r t. k.room r t ∙ ap (in_row n (f n) r t) (h.room r t) ∙ go r t (nat_eq r n) refl }
@@ -175,20 +166,6 @@ forgotten-row way rows p old new at has room =
     go true b o = refl
     go false b o = refl
 
--- where there is no row nothing is forgotten
-pub forgotten-none : (way : ℕ → Bool) (rows : List RowPart) (p : ℕ) → nat_lt p (length rows) ≡ false → Changes (forgotten (λ r t. nat_eq r p && way t)) (notes_of rows) (notes_of rows)
-forgotten-none way rows p outside = unchanged (forgotten (λ r t. nat_eq r p && way t)) (notes_of rows) (λ r t. go r t (nat_eq r p) refl)
-  where
-    go : (r t : ℕ) (b : Bool) → nat_eq r p ≡ b → cond (b && way t) None (room_at (notes_of rows) r t) ≡ room_at (notes_of rows) r t
-    go r t true e =
-        let nothing = beyond-rows rows r t (grind (arith, nat_tests, e, outside)) in
-        ap (cond (way t) None) nothing ∙ either (way t) ∙ sym nothing
-      where
-        either : (b : Bool) → cond {A = Option Resource} b None None ≡ None
-        either true = refl
-        either false = refl
-    go r t false e = refl
-
 -- a room is noted in a row
 pub noted-row : (rows : List RowPart) (p queue : ℕ) (room : Resource) (old new : RowPart) → slice_get rows p ≡ Some old
     → ((q : ℕ) → has_in (row_of new) q ≡ has_in (row_of old) q) → ((q : ℕ) → room_in (row_of new) q ≡ cond (has_in (row_of old) q && nat_eq q queue) (Some room) (room_in (row_of old) q))
@@ -202,22 +179,6 @@ noted-row rows p queue room old new at has is =
     go r t true e =
         let same : r ≡ p = grind (arith, nat_tests, e) in
         ap (λ b. cond (b && nat_eq t queue) (Some room) (room_at (notes_of rows) r t)) (sym (has-row rows p t old at) ∙ ap (λ n. has_at (notes_of rows) n t) (sym same))
-    go r t false e = refl
-
--- where there is no row nothing is noted
-pub noted-none : (rows : List RowPart) (p queue : ℕ) (room : Resource) → nat_lt p (length rows) ≡ false → Changes (noted (notes_of rows) p queue room) (notes_of rows) (notes_of rows)
-noted-none rows p queue room outside = unchanged (noted (notes_of rows) p queue room) (notes_of rows) (λ r t. go r t (nat_eq r p) refl)
-  where
-    beyond-has : (rows : List RowPart) (r t : ℕ) → nat_lt r (length rows) ≡ false → has_at (notes_of rows) r t ≡ false
-    beyond-has [] r t h = refl
-    beyond-has (x ∷ rows) zero t h = absurd (true≢false (sym (first (length rows)) ∙ h))
-      where
-        first : (n : ℕ) → nat_lt 0 (suc n) ≡ true
-        first n = grind (arith, nat_tests)
-    beyond-has (x ∷ rows) (suc r) t h = beyond-has rows r t (grind (arith, nat_tests, h))
-
-    go : (r t : ℕ) (b : Bool) → nat_eq r p ≡ b → cond (b && (has_at (notes_of rows) r t && nat_eq t queue)) (Some room) (room_at (notes_of rows) r t) ≡ room_at (notes_of rows) r t
-    go r t true e = ap (λ b. cond (b && nat_eq t queue) (Some room) (room_at (notes_of rows) r t)) (beyond-has rows r t (grind (arith, nat_tests, e, outside)))
     go r t false e = refl
 
 -- what is noted of some queues of all rows is forgotten, one row after another

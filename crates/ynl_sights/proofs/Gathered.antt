@@ -1,22 +1,18 @@
 -- What is copied of one application after another.
-use Rattle.std.proofs.Common.{◌≡◌, ℕ, zero, suc, ◌+◌, Bool, true, false, List, [], ◌∷◌, ◌++◌, map, filter, take, get_or, slice_get, Option, Some, IfSome, option_map, unwrap_or, nat_eq, append-nil, refl, sym, ap, subst, ◌∙◌, arith}
+use Rattle.std.proofs.Common.{◌≡◌, ℕ, zero, suc, ◌+◌, Bool, true, false, List, [], ◌∷◌, ◌++◌, take, get_or, slice_get, Option, Some, IfSome, option_map, unwrap_or, nat_eq, append-nil, refl, sym, ap, subst, ◌∙◌, arith}
 use Rattle.std.specs.Bool.{OnTrue}
 use Rattle.std.specs.Map.{lookup}
-use Rattle.std.proofs.lemmas.List.{map-append, append_assoc}
-use Rattle.std.proofs.lemmas.List.Elements.{filter-append}
+use Rattle.std.proofs.lemmas.List.{append_assoc}
 use Rattle.std.proofs.lemmas.Option.{none-some, same_Some}
-use Rattle.ynl_resource.specs.declared.amounts.Resource.{Resource}
 use Rattle.ynl_resource.specs.declared.names.Name.{Name}
-use Rattle.ynl_app_table.specs.declared.asks.Ask.{Ask}
 use Rattle.ynl_lane.specs.Seats.{Seat, Seats}
-use Rattle.ynl_inventory.specs.Rows.{Rows, AppRow}
+use Rattle.ynl_inventory.specs.Rows.{AppRow}
 use Rattle.ynl_inventory.specs.Meaning.{app_name}
 use Rattle.ynl_inventory.specs.Parts.{Held}
 use Rattle.ynl_seating.specs.Seating.{shares, ticket_on, user_use}
 use Rattle.ynl_seating.proofs.Starting.{are-found}
 use Rattle.ynl_cluster.specs.Cluster.{ClusterView, IsLaneIn, held_in}
-use Rattle.ynl_sights.specs.Copying.{asks_shown, one_by_one, shown_as}
-use Rattle.ynl_sights.specs.declared.rows.Wanted.{Wanted}
+use Rattle.ynl_sights.specs.Copying.{one_by_one}
 
 -- one application more
 more : {X : Type 0} (each : ℕ → ℕ → AppRow → List X) (k i : ℕ) (apps : List (ℕ × AppRow)) (e : ℕ × AppRow) → slice_get apps i ≡ Some e
@@ -38,14 +34,6 @@ taken each apps i n row at olds news so_far added =
     let here : i ≡ 0 + i = omega arith in
     added ∙ (λ j. so_far j ++ each (here j) n row) ∙ sym (more each 0 i apps (n, row) at)
 
--- one ask more
-pub asks-more : (v : Rows) (p place : ℕ) (row : AppRow) (asks longer : List Ask) (ask : Ask) → longer ≡ asks ++ ask ∷ []
-    → asks_shown v p place row longer ≡ asks_shown v p place row asks ++ asks_shown v p place row (ask ∷ [])
-asks-more v p place row asks longer ask grown =
-    let test = λ (ask : Ask). nat_eq ask.partition p in
-    let show : Ask → Resource × Wanted = λ ask. shown_as v p place row ask.size ask.priority in
-    ap (asks_shown v p place row) grown ∙ ap (map show) (filter-append test asks (ask ∷ [])) ∙ map-append show (filter test asks) (filter test (ask ∷ []))
-
 -- what is found in a place
 pub read-at : {X : Type 0} (xs : List X) (k : ℕ) (x none : X) → slice_get xs k ≡ Some x → get_or xs k none ≡ x
 read-at [] k x none at = absurd (none-some x at)
@@ -57,10 +45,6 @@ read-at (y ∷ xs) (suc k) x none at = read-at xs k x none at
 pub on-true : (b : Bool) (P : Type 0) → (b ≡ true → P) → OnTrue b P
 on-true true P h = h refl
 on-true false P h = tt
-
-pub on-more : (b : Bool) (P Q : Type 0) → (P → Q) → OnTrue b P → OnTrue b Q
-on-more true P Q step h = step h
-on-more false P Q step h = tt
 
 -- ---- what is read of an application
 

@@ -13,7 +13,7 @@ use Rattle.ynl_laws.proofs.Service.Least.{first-held}
 use Rattle.ynl_laws.proofs.Service.OrderTotal.{key_order_total}
 use Rattle.ynl_resource.specs.declared.amounts.Resource.{Resource}
 use Rattle.ynl_sights.specs.Sights.{Bid, Offer, passes, first_bid, open_guests, open_bids, Seen, has_room}
-use Rattle.ynl_sights.specs.Planning.{bid_of, sooner, overtakes, HoldsFirst, open_in}
+use Rattle.ynl_sights.specs.Planning.{bid_of, sooner, HoldsFirst, open_in}
 use Rattle.ynl_sights.specs.declared.planning.Held.{Held}
 
 pub then : (a b c : Option Held) (xs ys : List Bid) → HoldsFirst a xs b → HoldsFirst b ys c → HoldsFirst a (xs ++ ys) c
@@ -55,22 +55,6 @@ no-open free (offer ∷ offers) e = go (passes free offer) e (no-open free offer
 -- where no request for the partition passes, the guests that have room may be placed
 pub guests-open : (seen : Seen) → first_bid (open_bids seen) ≡ None → open_guests seen ≡ filter (has_room seen.free) seen.guests
 guests-open seen e = ap (λ b. cond (not b) (filter (has_room seen.free) seen.guests) []) (no-open seen.free seen.offers (nothing-up (open_bids seen) e))
-
--- one request more
-pub one-taken : (held : Option Bid) (bid : Bid) → overtakes held bid ≡ true → Some bid ≡ fold sooner held (bid ∷ [])
-one-taken None bid e = refl
-one-taken (Some best) bid e = sym (ap (λ b. cond b (Some bid) (Some best)) e)
-
-pub one-behind : (held : Option Bid) (bid : Bid) → overtakes held bid ≡ false → held ≡ fold sooner held (bid ∷ [])
-one-behind None bid e = absurd (true≢false e)
-one-behind (Some best) bid e = sym (ap (λ b. cond b (Some bid) (Some best)) e)
-
--- an offer that passes is open, and one that does not is not
-pub open-one : (free : Resource) (offer : Offer) → passes free offer ≡ true → open_in free (offer ∷ []) ≡ offer.bid ∷ []
-open-one free offer e = ap (λ b. map (λ (o : Offer). o.bid) (cond b (offer ∷ []) [])) e
-
-pub open-none : (free : Resource) (offer : Offer) → passes free offer ≡ false → open_in free (offer ∷ []) ≡ []
-open-none free offer e = ap (λ b. map (λ (o : Offer). o.bid) (cond b (offer ∷ []) [])) e
 
 -- a request that is held, without what it is ordered by
 pub item-held : (held : Option Held) → option_map (λ h. (bid_of h).item) held ≡ option_map (λ bid. bid.item) (option_map bid_of held)

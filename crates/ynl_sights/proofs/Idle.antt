@@ -63,9 +63,6 @@ module _ (w : ClusterView) (sound : IsSound w.rows) (sizes : AskSizes w.rows) (p
   its : IsLaneOf w.rows p q lane.seats
   its = lane-is w p q cell lane there sound sizes
 
-  IsOwn : ℕ × AppRow → Type 0
-  IsOwn e = (lookup (nat_eq e.0) w.rows.apps ≡ Some e.1) × (nat_eq e.1.leaf q ≡ true)
-
   all-none : (among : ℕ → AppRow → List Request) → ((e : ℕ × AppRow) → lookup (nat_eq e.0) w.rows.apps ≡ Some e.1 → e.1.leaf ≡ q → among e.0 e.1 ≡ []) → items_in w.rows among q ≡ []
   all-none among none = each (in_leaf q w.rows.apps) own
     where

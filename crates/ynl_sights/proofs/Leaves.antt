@@ -92,10 +92,6 @@ pub added : {X Y : Type 0} (f : X → List Y) (done longer : List X) (one : X) (
 added f done longer one own grown is =
     ap (flat_map f) grown ∙ flat_map-append f done (one ∷ []) ∙ ap (λ last. flat_map f done ++ last) (append-nil (f one) ∙ is)
 
--- where there is nothing to add
-pub left-out : {Y Z : Type 0} (see : Z → Y) (done : List Y) (items : List Z) → items ≡ [] → done ≡ done ++ map see items
-left-out see done items none = sym (append-nil done) ∙ ap (λ items. done ++ map see items) (sym none)
-
 -- ---- partitions that take guests
 
 -- what is read of a partition's row is what the model says of its label

@@ -1,5 +1,5 @@
 -- How each change of the slots keeps the count and the list of free slots.
-use Rattle.std.proofs.Common.{◌≡◌, ◌≢◌, ◌⊎◌, ℕ, zero, suc, ◌+◌, ◌-◌, ◌<◌, ◌≤◌, List, [], ◌∷◌, ◌++◌, map, length, get_or, set, Some, None, is_some, count_by, cond, slice_get, refl, sym, ap, subst, ◌∙◌, inl, inr, arith, length-set}
+use Rattle.std.proofs.Common.{◌≡◌, ◌≢◌, ◌⊎◌, ℕ, zero, suc, ◌+◌, ◌-◌, ◌<◌, List, [], ◌∷◌, ◌++◌, map, length, get_or, set, Some, None, is_some, count_by, cond, slice_get, refl, sym, ap, subst, ◌∙◌, inl, inr, arith, length-set}
 use Rattle.std.proofs.lemmas.List.{map-set, map_push, length-map, length_push, get_or-map, get_or-set_same, get_or-set_other}
 use Rattle.std.proofs.lemmas.List.Sums.{sum_by-set, sum_by_push}
 use Rattle.std.proofs.lemmas.Option.{slice_get_within, slice_get-get_or, slice_get_read, get_or_from_slice_get}
@@ -75,18 +75,6 @@ module _ {T : Type 0} where
   free_is_not_live slots len free turn row sound found =
       let listed = (free_before_end slots len free sound (λ e. omega (arith, slice_get_within slots free _ found))).1 in
       cc
-
-  -- no more rows are live than there are slots
-  pub len_within : (slots : List (Slot T)) (len free : ℕ) → IsSound slots len free → len ≤ length slots
-  len_within slots len free sound = let total = sound.total in omega arith
-
-  -- a free slot is there, so fewer rows are live than there are slots
-  pub fewer_live : (slots : List (Slot T)) (len free : ℕ) → IsSound slots len free → free ≢ length slots → len < length slots
-  fewer_live slots len free sound before = by_count sound.spare sound.total sound.linked
-    where
-      by_count : (n : ℕ) → len + n ≡ length slots → IsFreeList slots n free → len < length slots
-      by_count zero total linked = absurd (before linked)
-      by_count (suc n) total linked = omega arith
 
   pub IsSound-push : (slots : List (Slot T)) (len free turn : ℕ) (row : T) → IsSound slots len free → free ≡ length slots → IsSound (slots ++ Live turn row ∷ []) (len + 1) (free + 1)
   IsSound-push slots len free turn row sound at_end =

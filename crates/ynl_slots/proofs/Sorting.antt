@@ -10,7 +10,7 @@ use Rattle.std.proofs.lemmas.List.Elements.{All-from_recursion, filter_agree}
 use Rattle.std.proofs.lemmas.List.Sorted.{All-permutation, length_permutation}
 use Rattle.ynl_slots.specs.declared.slots.Slot.{Slot}
 use Rattle.ynl_slots.specs.declared.slots.Slot.TheVariants.{Free, Live}
-use Rattle.ynl_slots.specs.Kept.{IsBefore, pushes_of, pushed_at, pushed_before, slot_entry, turn_entry, turns_of}
+use Rattle.ynl_slots.specs.Kept.{IsBefore, pushes_of, pushed_at, pushed_before, turns_of}
 use Rattle.ynl_slots.proofs.Lists.{all_then, all_from, filter_none}
 
 module _ {T : Type 0} where

@@ -49,18 +49,6 @@ module _ (c : Config) (entries : List Entry) (old : Audit) (line : List ℕ) (is
   pub passes : (new : Audit) (e : Entry) → Ok (Some e) ≡ entry_said old.entries line → TakesEntry old e new true → Passes c entries new line (Ok None)
   passes new e says takes = (entries ++ e ∷ [], by_test e true says takes.0, one_more c entries old new e is takes)
 
-  -- and one that does not
-  pub differs : (new : Audit) (e : Entry) → Ok (Some e) ≡ entry_said old.entries line → TakesEntry old e new false → Passes c entries new line (Ok (Some Differs))
-  differs new e says takes = (by_test e false says takes.0, takes.1 ∙ is.count)
-
-  -- a blank line
-  pub passes_over : Ok None ≡ entry_said old.entries line → Passes c entries old line (Ok None)
-  passes_over says = (entries, said_here (Ok None) says, is)
-
-  -- a line that says no entry
-  pub is_bad : (f : JournalFault) → Err f ≡ entry_said old.entries line → Passes c entries old line (Ok (Some f))
-  is_bad f says = (said_here (Err f) says, is.count)
-
 -- ---- the audit so far
 
 -- The lines that were read gave entries that pass, and the audit has come to their end.

@@ -155,10 +155,6 @@ module _ (a b : Option (List ℕ)) (old new : Lines) (ongoing : old.at_end ≡ f
         first = λ rest. left_open old ((line ++ byte ∷ []) ++ rest) ongoing ∙ long_line line byte rest old.budget gave.plain gave.ended.0;
       }
 
-  -- the end, where a line would begin
-  pub takes_none : GivesLine a b new.line.items old.budget (Ok end.Input) → new.line.items ≡ [] → new.count ≡ old.count → TakesNone (between a b) old new
-  takes_none gave none count = record { read = subst (Consumes a b) none gave.ended.1; count = count; ended = λ _. gave.ended.0 }
-
 -- ---- what was read so far
 
 -- no flag is both

@@ -7,19 +7,12 @@ use Rattle.std.proofs.BufReadLemmas.{Consumes_shown}
 use Rattle.std.specs.Io.BufRead.{FillKeeps, DropsConsumable}
 use Rattle.std.specs.Io.{StartsWith}
 use Rattle.std.specs.declared.io.ErrorKind.{ErrorKind}
-use Rattle.std.specs.Io.KnownBytes.{Keeps, IsAtEnd, Consumes}
+use Rattle.std.specs.Io.KnownBytes.{IsAtEnd, Consumes}
 use Rattle.std.proofs.KnownBytes.{Consumes-trans}
 use Rattle.ynl_tool.specs.declared.lines_in.LineEnd.{LineEnd}
 use Rattle.ynl_tool.specs.declared.lines_in.LineEnd.TheVariants.{Newline, Input, Budget}
-use Rattle.ynl_tool.specs.declared.lines_in.ReadFault.{ReadFault}
 use Rattle.ynl_tool.specs.declared.lines_in.Taken.{Taken}
 use Rattle.ynl_tool.specs.Lines.{IsPlain, IsTaken, AddsShown, FailsAs, Ends, GivesPiece, GivesLine, LineEnds}
-
--- nothing was shown, so nothing is left
-pub end_here : (a b : Option (List ℕ)) (shown : List ℕ) → Keeps a b → IfSome a (λ xs. length shown ≡ 0 → xs ≡ []) → length shown ≡ 0 → OnSome a (IsAtEnd b)
-end_here None b shown kept end none = tt
-end_here (Some x) None shown kept end none = absurd kept
-end_here (Some x) (Some y) shown kept end none = kept ∙ end none
 
 pub first_shown : (shown : List ℕ) → 0 < length shown → take 1 shown ≡ get_or shown 0 0 ∷ []
 first_shown shown h = take_more shown 0 0 h
@@ -87,13 +80,6 @@ module _ (a b c : Option (List ℕ)) (line after : List ℕ) (budget : ℕ) (so 
     plain = subst IsPlain (sym p.grown) (All-append (λ x. x ≢ 10) line p.bytes so.plain p.plain);
     within = p.within;
     read = subst (Consumes a c) (sym p.grown) (Consumes-trans a b c line p.bytes so.read p.ended.1);
-  }
-
-  pub line_failed : (e : ReadFault) → GivesPiece b c line after budget (Err e) → GivesLine a c after budget (Err e)
-  line_failed e p = record {
-    plain = subst IsPlain (sym p.grown) (All-append (λ x. x ≢ 10) line p.bytes so.plain p.plain);
-    within = p.within;
-    ended = subst (Consumes a c) (sym p.grown) (Consumes-trans a b c line p.bytes so.read p.ended);
   }
 
   still_end : (x : Option (List ℕ)) → Consumes x b line → OnSome b (IsAtEnd c) → OnSome x (IsAtEnd c)

@@ -53,9 +53,6 @@ all_of_more a b xs ys h = record {
   appended = subst (λ ls. Appends a b (concat ls)) (sym (take_at xs ys (length xs) refl)) h;
 }
 
-pub no_lines : (a : Option (List ℕ)) (xs : List (List ℕ)) → AppendsLines a a xs
-no_lines a xs = all_of_more a a [] xs (Appends-nil a)
-
 -- what is left of some lines is left of more
 pub leaves_more : (a b : Option (List ℕ)) (xs ys : List (List ℕ)) (e : ToolFault) → LeavesLines a b xs e → LeavesLines a b (xs ++ ys) e
 leaves_more a b xs ys Read h = h

@@ -24,7 +24,7 @@ use Rattle.ynl_tool.specs.declared.evidence_audit.EvidenceAudit.{EvidenceAudit}
 use Rattle.ynl_tool.specs.Input.{is_blank}
 use Rattle.ynl_tool.specs.Readings.{Way, Reading, reading_of}
 use Rattle.ynl_tool.specs.Run.{line_of, Outcome, faulty}
-use Rattle.ynl_tool.specs.Audit.{journal_of, answer_of}
+use Rattle.ynl_tool.specs.Audit.{answer_of}
 
 -- ---- what is written
 
@@ -48,10 +48,6 @@ text_or_fault text n (Some f) = faulty (InJournal f) n
 -- what is written of a journal: its evidence, or its fault alone
 abbrev pub evidence_answer : Tenancy → Reading (List Entry) JournalFault → Outcome
 evidence_answer whose r = text_or_fault (placed_text (evidence_for whose r.made)) r.lines r.fault
-
--- what is written of an input
-abbrev pub evidence_in : Tenancy → List ℕ → Outcome
-evidence_in whose input = evidence_answer whose (journal_of input)
 
 -- the evidence of the entries was gathered, as text
 pub record IsGathering (whose : Tenancy) (entries : List Entry) (g : Gathering) : Type 0 where
@@ -118,10 +114,6 @@ placed_answer r = answer_of (length r.made) r.lines r.fault
 -- the part of an input that passes its audit as evidence
 abbrev pub evidence_audited : Tenancy → List ℕ → Reading (List Placed) JournalFault
 evidence_audited whose input = reading_of (evidence_way whose) input
-
--- the audit of an input as evidence
-abbrev pub evidence_audit_of : Tenancy → List ℕ → Outcome
-evidence_audit_of whose input = placed_answer (evidence_audited whose input)
 
 -- the audit has come to the end of these entries
 pub record IsEvidenceAudit (whose : Tenancy) (before : List Placed) (audit : EvidenceAudit) : Type 0 where

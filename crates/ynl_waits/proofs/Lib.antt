@@ -1,7 +1,6 @@
 pub mod Shared
 pub mod Spots
 pub mod Among
-pub mod WellFormed
 pub mod Requests
 pub mod Placing
 pub mod Listed

@@ -1,11 +1,11 @@
 -- The receipts of calls on one seat.
-use Rattle.std.proofs.Common.{◌≡◌, ℕ, ◌+◌, ◌-◌, ◌<◌, ◌≤◌, refl, sym, arith, List, [], ◌∷◌, ◌++◌, length, get_or, subst, length-append, All, ◌⊎◌, inl, inr}
+use Rattle.std.proofs.Common.{ℕ, ◌+◌, ◌-◌, ◌<◌, ◌≤◌, refl, arith, List, [], ◌++◌, length, get_or, length-append, All, ◌⊎◌, inl, inr}
 use Rattle.std.proofs.lemmas.Bool.{cases_lt}
 use Rattle.std.proofs.lemmas.List.{get_or_append_left, get_or-append_right}
-use Rattle.std.proofs.lemmas.List.Elements.{All-nil, All-cons, All-append, All-weaker}
+use Rattle.std.proofs.lemmas.List.Elements.{All-nil, All-append, All-weaker}
 use Rattle.ynl_live.specs.declared.receipts.Receipt.{Receipt}
 use Rattle.ynl_live.specs.Receipts.{Rises}
-use Rattle.ynl_live.specs.Seats.{Standing, passed}
+use Rattle.ynl_live.specs.Seats.{Standing}
 use Rattle.ynl_workers.specs.Works.{AreCallsOn}
 
 -- a receipt between two fronts
@@ -14,16 +14,6 @@ IsBetween low high receipt = (low ≤ receipt.place) × (receipt.place < high)
 
 pub AreCallsOn-none : (seat : Standing) → AreCallsOn seat seat []
 AreCallsOn-none seat = record { calls = omega arith; front = omega arith; rises = λ i j d low high. absurd (omega (arith, high)); between = All-nil (IsBetween seat.front seat.front) }
-
-pub AreCallsOn-one : (before after : Standing) (r : Receipt) → after ≡ passed before r.place → before.front ≤ r.place → AreCallsOn before after (r ∷ [])
-AreCallsOn-one before after r is later =
-    let A : Standing → Type 0 = λ seat. AreCallsOn before seat (r ∷ []) in
-    subst A (sym is) (record {
-      calls = omega arith;
-      front = omega (arith, later);
-      rises = λ i j d low high. absurd (omega (arith, low, high));
-      between = All-cons (IsBetween before.front (r.place + 1)) r [] (later, omega arith) (All-nil (IsBetween before.front (r.place + 1)));
-    })
 
 -- places that rise, and then others that rise behind them
 Rises-append : (xs ys : List Receipt) (middle : ℕ) → Rises xs → Rises ys → All (λ r. r.place < middle) xs → All (λ r. middle ≤ r.place) ys → Rises (xs ++ ys)

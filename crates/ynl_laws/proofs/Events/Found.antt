@@ -19,13 +19,13 @@ use Rattle.ynl_model.specs.Check.{proposed_item}
 use Rattle.ynl_model.specs.Events.{container_at, container_for, home_of, accepted, reasons, step, after, state_after}
 use Rattle.ynl_model.specs.declared.events.Event.{Event}
 use Rattle.ynl_model.specs.declared.events.Event.TheVariants.{Register, Lost, Relabel, Heartbeat, Exited, Submit, Ask, Release, Finish, Stop, Start, Poll, Usage, Propose, Commit, Maximum}
-use Rattle.ynl_laws.specs.Found.{FindsItself, AreAppsFound}
+use Rattle.ynl_laws.specs.Found.{FindsItself}
 use Rattle.ynl_laws.specs.Working.{IsKnown, KnowsAll, Kept}
 use Rattle.ynl_laws.proofs.Events.Kept.{KeepsNames, with_app-names, finished-names, submit-finds}
 use Rattle.ynl_laws.proofs.Events.Chosen.{none-holds}
 use Rattle.ynl_laws.proofs.Events.Changed.{taken-leaf, taken-name, kept-place, beat-keeps, step-keeps, kept-opening}
 use Rattle.ynl_laws.proofs.Events.Outcomes.{step-cases, there}
-use Rattle.ynl_laws.proofs.Lists.{Each-append, Each-map, all-of, Each-all, Each-flat, Each-kept, Each-weaker, Each-with, Each-find, Each-found, any-other, find-filter, find-append_none, find-through, find-nothing, update-none}
+use Rattle.ynl_laws.proofs.Lists.{Each-append, Each-map, Each-all, Each-flat, Each-kept, Each-weaker, Each-with, Each-find, Each-found, any-other, find-filter, find-append_none, find-through, find-nothing, update-none}
 use Rattle.ynl_laws.proofs.Logic.{some-same}
 use Rattle.ynl_laws.proofs.Names.{same-path, same-name_sym, same-name_self}
 use Rattle.std.proofs.lemmas.List.Folds.{find-append}
@@ -242,9 +242,6 @@ is_found c events = after-finds c events (opening c) (kept-opening c)
 -- and so is each in the list of all
 pub finds-apps : (s : State) → FindsAll s.leaves → AllByRecursion (FindsItself s) (all_apps s.leaves)
 finds-apps s h = Each-flat (λ row. AllByRecursion (IsFound s.leaves row) row.apps) (FindsItself s) (λ row. row.apps) (λ row k. Each-weaker (IsFound s.leaves row) (FindsItself s) (λ app found. found.itself) row.apps k) s.leaves h
-
-pub are_apps_found : AreAppsFound
-are_apps_found c events = all-of (FindsItself (state_after c events)) _ (finds-apps (state_after c events) (is_found c events))
 
 -- what is found is itself
 pub finds-found : (s : State) → FindsAll s.leaves → (tenant name : Name) (app : Application) → find_app s.leaves tenant name ≡ Some app → FindsItself s app

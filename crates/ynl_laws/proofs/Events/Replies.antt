@@ -1,8 +1,6 @@
 -- How long a reply can be, and what a question is answered.
-use Rattle.std.proofs.Common.{◌≡◌, ℕ, zero, suc, ◌≤◌, true, false, not, List, [], ◌∷◌, length, Option, Some, None, is_some, refl, subst, arith}
-use Rattle.std.specs.Prelude.{option_and_then}
+use Rattle.std.proofs.Common.{◌≡◌, ℕ, zero, suc, ◌≤◌, List, [], ◌∷◌, length, Option, Some, None, subst, arith}
 use Rattle.std.specs.Option.{option_map_or}
-use Rattle.ynl_resource.specs.declared.names.Name.{Name}
 use Rattle.ynl_resource.specs.Refusals.{first_that_holds}
 use Rattle.ynl_resource.specs.declared.refusals.Refusal.{Refusal}
 use Rattle.ynl_model.specs.declared.nodes.Node.{Node}
@@ -11,13 +9,10 @@ use Rattle.ynl_model.specs.declared.containers.Placed.{Placed as Container}
 use Rattle.ynl_model.specs.Cluster.{State, node_of}
 use Rattle.ynl_model.specs.Service.{Item}
 use Rattle.ynl_model.specs.Changes.{Beat, beat, next_item, place, container_of}
-use Rattle.ynl_model.specs.Check.{placing_reasons, proposed}
 use Rattle.ynl_model.specs.Events.{answered, where_there, served, reasons, accepted, step}
-use Rattle.ynl_model.specs.declared.events.Event.TheVariants.{Heartbeat, Propose}
-use Rattle.ynl_model.specs.declared.replies.Reply.TheVariants.{Refused, Placed, Proposed}
-use Rattle.ynl_laws.specs.Replies.{AreHeartbeatsBounded, proposal_for, IsProposingAsking}
-use Rattle.ynl_laws.proofs.Events.Chosen.{none-holds}
-use Rattle.ynl_laws.proofs.Service.Proposed.{propose-stays}
+use Rattle.ynl_model.specs.declared.events.Event.TheVariants.{Heartbeat}
+use Rattle.ynl_model.specs.declared.replies.Reply.TheVariants.{Refused, Placed}
+use Rattle.ynl_laws.specs.Replies.{AreHeartbeatsBounded}
 
 beat-bounded : (c : Config) (node : Node) (times : ℕ) (s : State) → length (beat c node times s).placed ≤ times
 unfolding beat
@@ -45,18 +40,3 @@ are_heartbeats_bounded c s name placed e = go (first_that_holds (reasons c s (He
       where
         same : (others : List Container) → Placed others ≡ Placed placed → others ≡ placed
         same others k = cc
-
--- the reply, by the first reason against it and by the node
-told : (c : Config) (s : State) (name : Name) → (step c s (Propose name)).reply ≡ proposal_for c s name
-unfolding step reasons accepted
-told c s name = go (first_that_holds (placing_reasons c s name)) refl (node_of s name) refl
-  where
-    go : (why : Option Refusal) → first_that_holds (placing_reasons c s name) ≡ why → (o : Option Node) → node_of s name ≡ o →
-        (option_map_or (λ refusal. answered s (Refused refusal)) why (where_there o s (λ node. answered s (Proposed (proposed c s node))))).reply
-        ≡ option_map_or Refused why (Proposed (option_and_then (proposed c s) o))
-    go (Some refusal) f o g = refl
-    go None f (Some node) g = refl
-    go None f None g = let absent : true ≡ false = subst (λ o. not (is_some o) ≡ false) g ((none-holds (placing_reasons c s name) f).0) in cc
-
-pub is_proposing_asking : IsProposingAsking
-is_proposing_asking c s name = (propose-stays c s name, told c s name)

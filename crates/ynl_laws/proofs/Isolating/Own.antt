@@ -172,10 +172,6 @@ module _ (c : Config) (t : Name) (p : Label) (home : is_default p ≡ false) (ex
   unfolding masters_used
   masters_used-own q = ap (λ ks. sizes (filter is_master ks)) (counted-own q)
 
-  free-own : (node : Node) → same_label node.label p ≡ true → containers_on s node.label ≡ containers_on u node.label → free s node ≡ free u node
-  unfolding free
-  free-own node e on = ap (λ ks. less node.size (sizes (filter (λ k. same_name k.node node.name) ks))) on
-
   pub maximum-own : (q : Path) → list_all (is_within (top_level t)) (way_to q) ≡ true → maximum s q p ≡ maximum u q p
   unfolding maximum maximum_of
   maximum-own q all = fold-same (is_within (top_level t)) _ _ (λ above step w. ap (λ share. scale_floor above share whole) (h.maxima step w)) (way_to q) all (total_on s.nodes p)

@@ -12,15 +12,13 @@ use Rattle.ynl_model.specs.declared.nodes.Node.{Node}
 use Rattle.ynl_model.specs.Queues.{Config}
 use Rattle.ynl_model.specs.Cluster.{State}
 use Rattle.ynl_model.specs.Service.{Item, Key, key, key_order, items_for, asks_for, is_eligible, eligible, some_eligible, has_room, takes_guests, guests_for, is_first, first_of, choice}
-use Rattle.ynl_model.specs.Events.{state_after}
 use Rattle.ynl_laws.specs.Least.{sooner}
 use Rattle.ynl_laws.specs.Untied.{HaveOwnKeys}
-use Rattle.ynl_laws.specs.First.{IsFirst, is_later, IsFirstFound, IsFirstAlone, AreUntied, IsFirstChosenUntied, IsFirstAlwaysChosen}
+use Rattle.ynl_laws.specs.First.{IsFirst, is_later, IsFirstFound, IsFirstAlone, AreUntied, IsFirstChosenUntied}
 use Rattle.ynl_laws.proofs.Lists.{Each-filter, all-of, each-of, Each-find, each-contained}
 use Rattle.ynl_laws.proofs.Logic.{not-true}
 use Rattle.ynl_laws.proofs.Service.Least.{least_is_first}
 use Rattle.ynl_laws.proofs.Service.OrderTotal.{key_order_total}
-use Rattle.ynl_laws.proofs.Service.Untied.{do_requests_not_tie, do_guests_not_tie}
 
 -- ---- the first of a list
 
@@ -93,6 +91,3 @@ unfolding choice
 is_first_chosen_untied c s node untied own guest first next = λ i. option_or
     (is_first_alone (key c s node.label) (eligible c s node) own (untied-filter (key c s node.label) (is_eligible c s node) (items_for s node.label) (untied.requests node.label)) first i)
     (is_first_alone (key c s Unlabelled) (guests_for c s node) guest (untied-guests c s node untied) next i)
-
-pub is_first_always_chosen : IsFirstAlwaysChosen
-is_first_always_chosen c events node = is_first_chosen_untied c (state_after c events) node (record { requests = do_requests_not_tie c events; guests = do_guests_not_tie c events })

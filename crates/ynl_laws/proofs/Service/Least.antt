@@ -1,17 +1,14 @@
 -- One pass that holds the soonest request finds the first of the list.
-use Rattle.std.proofs.Common.{◌≡◌, Bool, true, false, cond, not, ◌&&◌, List, [], ◌∷◌, ◌++◌, Option, Some, None, find, fold, refl, sym, ap, ◌∙◌}
+use Rattle.std.proofs.Common.{◌≡◌, Bool, true, false, cond, not, ◌&&◌, List, [], ◌∷◌, Option, Some, None, find, fold, refl, sym, ap, ◌∙◌}
 use Rattle.std.specs.List.{list_all}
 use Rattle.std.specs.Ordering.{is_gt, ordering_reverse}
 use Rattle.std.specs.declared.cmp.Ordering.{Ordering}
 use Rattle.std.specs.declared.cmp.Ordering.TheVariants.{Less, Equal, Greater}
 use Rattle.std.specs.Cmp.{IsTotalOrder}
 use Rattle.std.proofs.lemmas.Cmp.{upto, tied_itself}
-use Rattle.std.proofs.lemmas.List.Sums.{fold-append}
 use mathlib.Core.Bool.{true≢false}
-use Rattle.std.specs.Option.{option_or}
-use Rattle.ynl_resource.specs.declared.labels.Label.TheVariants.{Unlabelled}
-use Rattle.ynl_model.specs.Service.{Item, Key, key, key_order, first_of, eligible, guests_for, choice}
-use Rattle.ynl_laws.specs.Least.{sooner, least_of, IsChosenByScanning}
+use Rattle.ynl_model.specs.Service.{Item, Key, key_order, first_of}
+use Rattle.ynl_laws.specs.Least.{least_of}
 use Rattle.ynl_laws.proofs.Service.OrderTotal.{key_order_total}
 
 -- ---- any total order of keys
@@ -105,12 +102,3 @@ module _ {X K : Type 0} (order : K → K → Ordering) (total : IsTotalOrder ord
 -- the pass finds the first request
 pub least_is_first : (key_of : Item → Key) (items : List Item) → least_of key_of items ≡ first_of key_of items
 least_is_first key_of items = first-held key_order key_order_total key_of items
-
--- a pass in two parts, and with one more request at the end
-pub least_of-append : (key_of : Item → Key) (best : Option Item) (xs ys : List Item) → fold (sooner key_of) best (xs ++ ys) ≡ fold (sooner key_of) (fold (sooner key_of) best xs) ys
-least_of-append key_of best xs ys = fold-append (sooner key_of) best xs ys
-
--- the choice on a node by such passes
-pub is_chosen_by_scanning : IsChosenByScanning
-unfolding choice
-is_chosen_by_scanning c s node = λ i. option_or (least_is_first (key c s node.label) (eligible c s node) i) (least_is_first (key c s Unlabelled) (guests_for c s node) i)

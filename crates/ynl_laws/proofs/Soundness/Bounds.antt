@@ -2,9 +2,7 @@
 use Rattle.std.proofs.Common.{◌≡◌, ℕ, ◌*◌, ◌≤◌, ◌<◌, ◌^◌, Bool, true, false, cond, not, ◌||◌, List, [], ◌∷◌, length, Some, filter, refl, sym, ap, subst, ◌∙◌, arith}
 use Rattle.std.specs.List.{AllByRecursion, list_any}
 use Rattle.std.specs.Option.{option_map_or}
-use Rattle.std.proofs.lemmas.Bool.Decides.{nat_tests}
 use mathlib.Core.Bool.{true≢false}
-use Rattle.ynl_resource.specs.declared.amounts.Resource.{Resource}
 use Rattle.ynl_resource.specs.Amounts.{nothing, plus, fits_in, total_of, IsSize}
 use Rattle.ynl_resource.specs.Names.{same_name, same_label}
 use Rattle.ynl_resource.specs.declared.names.Name.{Name}
@@ -151,18 +149,6 @@ masters_used-within c s h queue p = counted-within c s h queue p _
 pub guests-within : (c : Config) (s : State) → IsWorking c s → (queue : Path) (p : Label) → fits_in (guests s queue p) (total s p) ≡ true
 unfolding guests
 guests-within c s h queue p = part-within c s h p _
-
--- ---- one node
-
--- what fits in a total is as small as the total
-pub small-within : (c : Config) (s : State) → IsWorking c s → (p : Label) (a : Resource) → fits_in a (total s p) ≡ true → (a.memory < 2 ^ 48) × (a.vcores ≤ 2 ^ 32)
-small-within c s h p a fits = both (total s p) fits (total-small c s h p)
-  where
-    both : (b : Resource) → fits_in a b ≡ true → (b.memory < 2 ^ 48) × (b.vcores ≤ 2 ^ 32) → (a.memory < 2 ^ 48) × (a.vcores ≤ 2 ^ 32)
-    both b fits small =
-        let memory : b.memory < 2 ^ 48 = small.0 in
-        let vcores : b.vcores ≤ 2 ^ 32 = small.1 in
-        (grind (arith, nat_tests, memory), grind (arith, nat_tests, vcores))
 
 -- ---- runs
 

@@ -16,7 +16,7 @@ use Rattle.ynl_model.specs.Service.{Item, choice}
 use Rattle.ynl_model.specs.Changes.{place}
 use Rattle.ynl_model.specs.Events.{step, after}
 use Rattle.ynl_model.specs.declared.events.Event.{Event}
-use Rattle.ynl_model.specs.View.{tracked, dropped, has_place, track_step}
+use Rattle.ynl_model.specs.View.{dropped, has_place, track_step}
 use Rattle.ynl_model.specs.declared.nodes.Tracked.{Tracked}
 use Rattle.ynl_model.specs.Promises.{without_stamp}
 use Rattle.ynl_laws.specs.Bounded.{AreRanged}
@@ -128,10 +128,6 @@ working-step c s event ranged h =
 pub working-after : (c : Config) (events : List Event) (s : State) → AreRanged events → IsWorking c s → IsWorking c (after c s events)
 working-after c [] s ranged h = h
 working-after c (event ∷ events) s ranged h = working-after c events (step c s event).state ranged.1 (working-step c s event ranged.0 h)
-
--- a node stays while a request is placed on it
-pub stands-place : (c : Config) (s : State) (node : Node) (item : Item) → Stands s node → Stands (place c node item s) node
-stands-place c s node item h = ap (λ nodes. tracked nodes node.name) (place-same c node item s) ∙ h
 
 -- the chosen request is placed
 pub working-place : (c : Config) (s : State) (node : Node) (item : Item) → IsWorking c s → Stands s node → choice c s node ≡ Some item → is_spent c.labels s node.label ≡ false → IsWorking c (place c node item s)

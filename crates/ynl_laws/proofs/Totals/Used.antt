@@ -1,5 +1,5 @@
 -- What queues use, with one container more or less.
-use Rattle.std.proofs.Common.{◌≡◌, ℕ, ◌+◌, ◌-◌, Bool, true, false, cond, not, ◌&&◌, is_some, List, ◌∷◌, ◌++◌, length, filter, refl, ap, ◌∙◌, arith}
+use Rattle.std.proofs.Common.{◌≡◌, ℕ, ◌+◌, ◌-◌, Bool, true, false, cond, not, ◌&&◌, List, ◌∷◌, ◌++◌, length, filter, refl, ap, ◌∙◌, arith}
 use Rattle.std.specs.List.{AllByRecursion}
 use Rattle.std.specs.Option.{option_map_or}
 use Rattle.ynl_resource.specs.Amounts.{plus, less}
@@ -12,9 +12,7 @@ use Rattle.ynl_model.specs.declared.containers.Placed.{Placed as Container}
 use Rattle.ynl_model.specs.declared.uses.Use.{Use}
 use Rattle.ynl_model.specs.Applications.{LeafApps, leaf_of}
 use Rattle.ynl_model.specs.Cluster.{State, sizes, containers_on, is_master, is_guest, is_below, used, masters_used, guests}
-use Rattle.ynl_laws.specs.Working.{UsesAll}
 use Rattle.ynl_laws.specs.Uses.{counts, counts_as_guest, use_by, use_of, raised, lowered, raised_in, lowered_in}
-use Rattle.ynl_laws.proofs.Events.Kept.{Extends}
 use Rattle.ynl_laws.proofs.Lists.{filter-agree, Each-all}
 use Rattle.ynl_laws.proofs.Totals.Inserted.{Inserted, inserted, inserted-filter, inserted-total, inserted-length}
 
@@ -86,9 +84,6 @@ lowered-raised leaves queue k u = go (is_below leaves queue k)
 pub use-taken : (leaves : List LeafApps) (queue : Path) (k : Container) (more fewer : List Container) → Inserted true k more fewer → lowered_in leaves queue k (use_by leaves queue more) ≡ use_by leaves queue fewer
 use-taken leaves queue k more fewer h = ap (lowered_in leaves queue k) (use-inserted leaves queue k more fewer h) ∙ lowered-raised leaves queue k (use_by leaves queue fewer)
 
-pub use-without : (leaves : List LeafApps) (queue : Path) (before after : List Container) (k : Container) → lowered_in leaves queue k (use_by leaves queue (before ++ k ∷ after)) ≡ use_by leaves queue (before ++ after)
-use-without leaves queue before after k = use-taken leaves queue k (before ++ k ∷ after) (before ++ after) (inserted before after k)
-
 -- ---- other leaves
 
 -- leaves by which the same containers count
@@ -106,7 +101,3 @@ found-alike old new queue P same containers h =
 
 pub use-same : (old new : List LeafApps) → ((tenant name : Name) → leaf_of new tenant name ≡ leaf_of old tenant name) → (queue : Path) (containers : List Container) → use_by new queue containers ≡ use_by old queue containers
 use-same old new same queue containers = found-alike old new queue (λ k. Unit {0}) (λ k p. same k.tenant k.app) containers (Each-all (λ k. Unit {0}) (λ k. tt) containers)
-
--- new names are those of no container that is known
-pub use-extends : (old new : List LeafApps) (queue : Path) (containers : List Container) → Extends old new → UsesAll old containers → use_by new queue containers ≡ use_by old queue containers
-use-extends old new queue containers ext h = found-alike old new queue (λ k. is_some (leaf_of old k.tenant k.app) ≡ true) (λ k known. ext k.tenant k.app known) containers h
