@@ -2,7 +2,7 @@
 
 ghost use Rattle.std.specs.Prelude.{◌≡◌, ◌&&◌, nat_eq, Bool};
 ghost use Rattle.ynl_resource.specs.declared.amounts.Resource.{Resource as Amount};
-ghost use Rattle.ynl_search.specs.Lowest.{lower_of, lowest};
+ghost use Rattle.ynl_search.specs.Lowest.{is_lower, lowest, with_one};
 
 use ynl_app_table::Ask;
 use ynl_resource::Size;
@@ -16,13 +16,26 @@ pub(crate) trait SizeTest {
         ensures { result ≡ passes self.now size.now };
 }
 
-/// Of the best so far and one more that of the lower priority number, and the best so far where they have one.
-fn lower(best: Option<Ask>, ask: Ask) -> Option<Ask>
-    ensures { result ≡ lower_of best ask }
+/// Whether an ask has a lower priority number than the best so far, if there is one.
+fn is_lower(best: &Option<Ask>, ask: &Ask) -> bool
+    ensures { result ≡ is_lower best.now ask.now }
 {
     match best {
-        Some(held) if held.priority <= ask.priority => Some(held),
-        _ => Some(ask),
+        Some(held) => ask.priority < held.priority,
+        None => true,
+    }
+}
+
+/// The best so far, with one more ask, if that is for a partition and its size passes a test.
+fn with_one<T: SizeTest>(best: Option<Ask>, ask: &Ask, p: u8, test: &T) -> Option<Ask>
+    ensures { result ≡ with_one (λ ask. nat_eq ask.partition p && T.passes test.now ask.size)
+        best ask.now }
+{
+    // A number is compared faster than a size is tested.
+    if ask.partition == p && is_lower(&best, ask) && test.passes(&ask.size) {
+        Some(*ask)
+    } else {
+        best
     }
 }
 
@@ -33,9 +46,7 @@ pub(crate) fn lowest<T: SizeTest>(asks: &[Ask], p: u8, test: &T) -> Option<Ask>
 {
     let mut best = None;
     for ask in asks {
-        if ask.partition == p && test.passes(&ask.size) {
-            best = lower(best, *ask);
-        }
+        best = with_one(best, ask, p, test);
     }
     best
 }
