@@ -1,5 +1,8 @@
-"""What the benchmarks share: how much memory a program takes."""
+"""What the benchmarks share: how long a program takes, and how much memory."""
 
+import resource
+import subprocess
+import sys
 import time
 
 
@@ -14,3 +17,15 @@ def most_resident(number, until):
             break
         time.sleep(0.002)
     return most
+
+
+def measure(program, words, config, given, written):
+    """The processor seconds that the program takes, user and system, and the most memory in KB."""
+    with open(given, "rb") as reader, open(written, "wb") as writer:
+        before = resource.getrusage(resource.RUSAGE_CHILDREN)
+        child = subprocess.Popen([program, *words, "--config", config], stdin=reader, stdout=writer)
+        most = most_resident(child.pid, child.poll)
+        after = resource.getrusage(resource.RUSAGE_CHILDREN)
+    if child.returncode:
+        sys.exit(f"{program} {words[0]} ended with status {child.returncode}")
+    return after.ru_utime + after.ru_stime - before.ru_utime - before.ru_stime, most
