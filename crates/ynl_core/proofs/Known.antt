@@ -1,6 +1,6 @@
 -- What a cluster keeps where a user becomes known, or where there is more room.
 use Rattle.std.proofs.Common.{◌≡◌, ℕ, true, false, Bool, cond, List, ◌∷◌, length, sym, subst, refl}
-use Rattle.std.specs.Prelude.{◌<◌, IfSome}
+use Rattle.std.specs.Prelude.{◌<◌}
 use Rattle.std.specs.List.{list_any}
 use Rattle.ynl_resource.specs.Names.{root, same_name}
 use Rattle.ynl_resource.specs.declared.names.Name.{Name}
@@ -12,21 +12,23 @@ use Rattle.ynl_inventory.specs.Changes.{with_user, with_user_known}
 use Rattle.ynl_inventory.specs.Meaning.{label_at}
 use Rattle.ynl_inventory.specs.Rows.{PartitionRow, Rows}
 use Rattle.ynl_cluster.specs.Cluster.{ClusterView, state_in}
-use Rattle.ynl_shut.specs.Notes.{Notes, Rooms, Row, room_at, room_in}
-use Rattle.ynl_shut.specs.Shut.{AreShut, IsGuestShut, IsShut}
+use Rattle.ynl_resource.specs.declared.labels.Label.TheVariants.{Unlabelled}
+use Rattle.ynl_model.specs.Service.{asks_for}
+use Rattle.ynl_shut.specs.Notes.{Notes, Row, Table, noted_at, noted_in}
+use Rattle.ynl_shut.specs.Shut.{AreAtLeast, AreShut, IsRight}
 
 -- what a note is right of
 abbrev Told : Type 0
 Told = Config × State × List PartitionRow × List Path
 
 -- the notes are right where these are told
-abbrev AreRight : Rooms → Told → Type 0
+abbrev AreRight : Table → Told → Type 0
 AreRight notes (c, s, partitions, paths) = (p q : ℕ) → p < length partitions → q < length (root ∷ paths)
-    → IfSome (room_at notes p q) (IsShut c s (label_at partitions p) (path_at paths q))
+    → IsRight c s (label_at partitions p) (path_at paths q) (noted_at notes p q)
 
--- and the rooms of guests, where the state and the paths are told
-abbrev AreGuestless : Row → State × List Path → Type 0
-AreGuestless row (s, paths) = (q : ℕ) → q < length (root ∷ paths) → IfSome (room_in row q) (IsGuestShut s (path_at paths q))
+-- and those of guests, where the state and the paths are told
+abbrev AreGuestsKnown : Row → State × List Path → Type 0
+AreGuestsKnown row (s, paths) = (q : ℕ) → q < length (root ∷ paths) → AreAtLeast (asks_for s Unlabelled) (path_at paths q) (noted_in row q).least
 
 -- where all that is told stays, notes stay right
 pub shut-stays : (w u : ClusterView) (notes : Notes) → u.config ≡ w.config → state_in u ≡ state_in w → u.rows.partitions ≡ w.rows.partitions → u.rows.paths ≡ w.rows.paths
@@ -34,7 +36,7 @@ pub shut-stays : (w u : ClusterView) (notes : Notes) → u.config ≡ w.config �
 shut-stays w u notes config state partitions paths right = record {
   own = λ p q cell.
       subst (AreRight notes.own) (λ i. (sym config i, sym state i, sym partitions i, sym paths i)) (λ p q there has. right.own p q (record { partition = there; queue = has })) p q cell.partition cell.queue;
-  guests = subst (AreGuestless notes.guests) (λ i. (sym state i, sym paths i)) right.guests;
+  guests = subst (AreGuestsKnown notes.guests) (λ i. (sym state i, sym paths i)) right.guests;
 }
 
 -- a known user leaves the queues and the partitions

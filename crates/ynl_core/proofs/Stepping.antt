@@ -1,6 +1,5 @@
 -- What an event leaves of an engine.
-use Rattle.std.proofs.Common.{◌≡◌, ℕ, true, None, Some, sym, ap, subst, ◌∙◌}
-use Rattle.std.specs.Prelude.{IfSome}
+use Rattle.std.proofs.Common.{arith, ◌≡◌, ℕ, true, None, Some, sym, ap, subst, ◌∙◌}
 use Rattle.std.specs.Option.{option_map_or}
 use Rattle.ynl_resource.specs.Refusals.{first_that_holds}
 use Rattle.ynl_resource.specs.declared.refusals.Refusal.{Refusal}
@@ -13,26 +12,40 @@ use Rattle.ynl_model.specs.Events.{Outcome, accepted, answered, reasons, step}
 use Rattle.ynl_laws.specs.Working.{IsRanged, IsWorking}
 use Rattle.ynl_laws.proofs.Soundness.Working.{working-step}
 use Rattle.ynl_cluster.specs.Cluster.{ClusterView, label_of, path_of, state_in}
-use Rattle.ynl_shut.specs.Notes.{Changes, IsEmpty, Notes, forgotten, room_in}
-use Rattle.ynl_shut.specs.Shut.{AreShut, IsGuestShut, IsShut}
+use Rattle.std.proofs.lemmas.Bool.Decides.{nat_tests}
+use Rattle.ynl_resource.specs.Amounts.{fits_in, nothing}
+use Rattle.ynl_resource.specs.declared.amounts.Resource.{Resource}
+use Rattle.ynl_resource.specs.declared.labels.Label.{Label}
+use Rattle.ynl_resource.specs.declared.paths.Path.{Path}
+use Rattle.ynl_shut.specs.declared.noted.Noted.{Noted}
+use Rattle.ynl_shut.specs.Notes.{Changes, IsEmpty, Notes, forgotten, noted_in, nothing_noted}
+use Rattle.ynl_shut.specs.Shut.{AreShut, IsRight}
 use Rattle.ynl_core.specs.World.{Answers, World}
 
 -- the cluster as a contract sees it
 abbrev pub world_in : ClusterView → World
 world_in w = record { config = w.config; state = state_in w }
 
+-- nothing is at most each amount
+all-above : (size : Resource) → fits_in nothing size ≡ true
+all-above size = grind (arith, nat_tests)
+
+-- where nothing is noted that is right
+nothing-right : (c : Config) (s : State) (label : Label) (queue : Path) → IsRight c s label queue nothing_noted
+nothing-right c s label queue = record { room = tt; least = λ item below. all-above item.size }
+
 -- where all is forgotten what is noted is right
-pub none-shut : (w : ClusterView) (old new : Notes) → Changes (forgotten (λ r t. true)) old.own new.own → ((q : ℕ) → room_in new.guests q ≡ None) → AreShut w new
+pub none-shut : (w : ClusterView) (old new : Notes) → Changes forgotten old.own new.own → ((q : ℕ) → noted_in new.guests q ≡ nothing_noted) → AreShut w new
 none-shut w old new changes none = record {
-  own = λ p q cell. subst (λ o. IfSome o (IsShut w.config (state_in w) (label_of w p) (path_of w q))) (sym (changes.room p q)) tt;
-  guests = λ q there. subst (λ o. IfSome o (IsGuestShut (state_in w) (path_of w q))) (sym (none q)) tt;
+  own = λ p q cell. subst (IsRight w.config (state_in w) (label_of w p) (path_of w q)) (sym (changes.noted p q)) (nothing-right w.config (state_in w) (label_of w p) (path_of w q));
+  guests = λ q there item below. subst (λ (n : Noted). fits_in n.least item.size ≡ true) (sym (none q)) (all-above item.size);
 }
 
 -- so it is where nothing was noted yet
 pub empty-shut : (w : ClusterView) (notes : Notes) (partitions queues : ℕ) → IsEmpty partitions queues notes → AreShut w notes
 empty-shut w notes partitions queues empty = record {
-  own = λ p q cell. subst (λ o. IfSome o (IsShut w.config (state_in w) (label_of w p) (path_of w q))) (sym (empty.own.room p q)) tt;
-  guests = λ q there. subst (λ o. IfSome o (IsGuestShut (state_in w) (path_of w q))) (sym (empty.guests q)) tt;
+  own = λ p q cell. subst (IsRight w.config (state_in w) (label_of w p) (path_of w q)) (sym (empty.own.noted p q)) (nothing-right w.config (state_in w) (label_of w p) (path_of w q));
+  guests = λ q there item below. subst (λ (n : Noted). fits_in n.least item.size ≡ true) (sym (empty.guests q)) (all-above item.size);
 }
 
 -- an event that is refused changes nothing

@@ -23,12 +23,14 @@ use Rattle.ynl_requests.proofs.Members.{Among, among-contained, among-either, am
 use Rattle.ynl_requests.proofs.Order.{Precedes, precedes-place}
 use Rattle.ynl_search.specs.declared.found.Found.{Found}
 use Rattle.ynl_search.specs.declared.leaf.LeafTests.{LeafTests}
-use Rattle.ynl_search.specs.InLeaf.{IsLaneOf, first_own, first_within, found_ask, found_master, gives_ask, gives_master, is_open_to}
+use Rattle.ynl_shut.specs.Lanes.{IsLaneOf}
+use Rattle.ynl_search.specs.InLeaf.{first_own, first_within, found_ask, found_master, gives_ask, gives_master, is_open_to}
 use Rattle.ynl_search.specs.Leaves.{most_of, passes_ask, passes_master, room_of}
 use Rattle.ynl_search.specs.Lowest.{lowest}
 use Rattle.ynl_search.proofs.FirstOver.{AreExclusive, IsFirstAt, either, first-either, first-none, first-some, found_of}
 use Rattle.ynl_search.proofs.LowestAsk.{IsLowest, lowest-is, lowest-none}
-use Rattle.ynl_search.proofs.SeatGiven.{ask-given, ask-is, found-among, among-found, master-given, master-is}
+use Rattle.ynl_shut.proofs.Found.{found-among, among-found}
+use Rattle.ynl_search.proofs.SeatGiven.{ask-given, ask-is, master-given, master-is}
 
 -- what is found of an asker
 abbrev pub found_by : Asker → Found

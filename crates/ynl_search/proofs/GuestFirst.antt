@@ -41,14 +41,16 @@ use Rattle.ynl_requests.proofs.Order.{Precedes, precedes-place}
 use Rattle.ynl_requests.proofs.Wanted.{asked-means}
 use Rattle.ynl_search.specs.declared.found.Found.{Found}
 use Rattle.ynl_search.specs.Guests.{FirstGuestIsModel, IsGuestAsked, first_guest, gives_guest, is_guest_for, no_limit}
-use Rattle.ynl_search.specs.InLeaf.{IsLaneOf, found_ask}
+use Rattle.ynl_shut.specs.Lanes.{IsLaneOf}
+use Rattle.ynl_search.specs.InLeaf.{found_ask}
 use Rattle.ynl_search.specs.Laws.{is_asked, item_found, no_item}
 use Rattle.ynl_search.specs.Lowest.{lowest}
 use Rattle.ynl_search.proofs.FirstIn.{found_by}
 use Rattle.ynl_search.proofs.FirstOver.{IsFirstAt, first-none, first-some}
-use Rattle.ynl_search.proofs.LeafFirst.{listed}
+use Rattle.ynl_shut.proofs.Listed.{listed}
 use Rattle.ynl_search.proofs.LowestAsk.{IsLowest, lowest-is, lowest-none}
-use Rattle.ynl_search.proofs.SeatGiven.{among-found, found-among, none-waits}
+use Rattle.ynl_shut.proofs.Found.{among-found, found-among}
+use Rattle.ynl_search.proofs.SeatGiven.{none-waits}
 use Rattle.ynl_search.proofs.Wanted.{guest-asked}
 
 -- in a list under a condition

@@ -1,11 +1,7 @@
--- The lane of a leaf in a cluster, and who share the leaf.
-use Rattle.std.proofs.Common.{◌≡◌, ◌+◌, ℕ, suc, Bool, true, false, cond, ◌&&◌, ◌||◌, List, [], ◌∷◌, ◌++◌, filter, slice_get, Some, None, refl, sym, ap, subst, ◌∙◌, inl, inr, arith, Option, option_map, length, map, max, add-zero, true≢false}
+-- Who share a leaf of a cluster, and what is set for it.
+use Rattle.std.proofs.Common.{◌≡◌, ◌+◌, ℕ, suc, Bool, true, false, cond, ◌&&◌, ◌||◌, List, [], ◌∷◌, ◌++◌, filter, slice_get, Some, None, refl, sym, ap, ◌∙◌, arith, Option, option_map, length, map, max, add-zero, true≢false}
 use Rattle.std.specs.List.{AllByRecursion}
 use Rattle.std.specs.Option.{option_map_or}
-use Rattle.std.specs.Prelude.{slice_index_or}
-use Rattle.std.specs.List.{All}
-use Rattle.std.proofs.lemmas.Bool.Decides.{nat_tests}
-use Rattle.std.proofs.lemmas.List.Elements.{recursion_from_All}
 use Rattle.std.proofs.lemmas.Option.{get_or_from_slice_get}
 use Rattle.ynl_resource.specs.Names.{is_default, root, same_label, same_path}
 use Rattle.ynl_model.specs.Applications.{Application, LeafApps, apps_of}
@@ -18,48 +14,18 @@ use Rattle.ynl_inventory.specs.Meaning.{has_none_below, leaf_numbers, leaf_of, l
 use Rattle.ynl_inventory.proofs.Finding.{not-true}
 use Rattle.ynl_inventory.proofs.Submitted.{app-submission}
 use Rattle.ynl_inventory.proofs.Updates.{each-number}
-use Rattle.ynl_lane_table.specs.Lanes.{lane_at}
-use Rattle.ynl_slots.specs.Slots.{HasDistinctNumbers}
-use Rattle.ynl_app_table.specs.declared.asks.Ask.{Ask}
 use Rattle.ynl_lane.specs.Seats.{Seat, Seats, each_once}
 use Rattle.ynl_model.specs.Queues.{Config, QueueRow, queue_row, setting}
 use Rattle.ynl_model.specs.declared.queues.LeafSettings.{LeafSettings}
 use Rattle.ynl_resource.specs.declared.paths.Path.{Path}
-use Rattle.ynl_inventory.specs.Rows.{AppRow}
 use Rattle.ynl_model.specs.Limits.{distinct, users}
-use Rattle.ynl_inventory.specs.Sound.{IsAskedOn, IsSound}
-use Rattle.ynl_seating.specs.Seating.{IsSeated, figures_of, seat_of, shares, sits, sitting}
+use Rattle.ynl_inventory.specs.Sound.{IsSound}
+use Rattle.ynl_seating.specs.Seating.{figures_of, seat_of, shares, sits, sitting}
 use Rattle.ynl_seating.proofs.Sharing.{are-users}
-use Rattle.ynl_cluster.specs.Cluster.{AskSizes, ClusterView, IsCell, IsLaneIn, label_of, maxima_in, path_of, state_in, stops_in}
+use Rattle.ynl_cluster.specs.Cluster.{ClusterView, IsCell, IsLaneIn, label_of, maxima_in, path_of, state_in, stops_in}
 use Rattle.ynl_model.specs.declared.uses.Use.{Use}
 use Rattle.ynl_laws.specs.Uses.{use_of}
-use Rattle.ynl_search.specs.InLeaf.{IsLaneOf}
 use Rattle.ynl_search.specs.Leaves.{IsLeafKept}
-
--- an application shares where it asks
-asked-shares : (p : ℕ) (row : AppRow) (asked : ℕ) → IsAskedOn row.home asked → asked ≡ p → shares p row ≡ true
-asked-shares p row asked (inl home) at = grind (arith, nat_tests, home, at)
-asked-shares p row asked (inr default) at = grind (arith, nat_tests, default, at)
-
--- the seats of the lane are those of the rows
-pub lane-is : (w : ClusterView) (p q : ℕ) → IsCell w p q → (lane : Seats) → IsLaneIn w p q lane → IsSound w.rows → AskSizes w.rows → IsLaneOf w.rows p q lane.seats
-lane-is w p q cell lane there sound sizes = record {
-  numbers = there.seated.numbers;
-  seats_are = its ∙ seated.seats;
-  distinct = subst HasDistinctNumbers (sym (its ∙ seated.seats)) seated.distinct;
-  tickets = λ n row found. (there.seated.apps n row found).tickets p;
-  sized = λ n row found. record { master = (sizes n row found).master; asks = (sizes n row found).asks };
-  sharing = λ n row found. each row row.asks (sound.apps n row found).asked;
-}
-  where
-    seated : IsSeated (figures_of w.rows) w.rows.apps p q there.lanes
-    seated = there.seated.seats p q cell.partition cell.queue
-
-    its : lane.seats ≡ (lane_at p q there.lanes).seats
-    its = ap (λ (l : Seats). l.seats) there.own
-
-    each : (row : AppRow) (asks : List Ask) → All (λ ask. IsAskedOn row.home ask.partition) asks → AllByRecursion (λ ask. ask.partition ≡ p → shares p row ≡ true) asks
-    each row asks all = recursion_from_All (λ ask. ask.partition ≡ p → shares p row ≡ true) asks (λ k d inside at. asked-shares p row (slice_index_or asks k d).partition (all k d inside) at)
 
 -- a setting of a leaf is that of its row
 setting-is : {A : Type 0} (c : Config) (path : Path) (set : LeafSettings) → option_map (λ row. row.leaf) (queue_row c path) ≡ Some set → (field : LeafSettings → A) (none : A)

@@ -1,15 +1,13 @@
 -- What is found in a leaf is the model's first eligible request there.
-use Rattle.std.proofs.Common.{◌≡◌, ℕ, Bool, true, false, ◌&&◌, ◌||◌, cond, nat_eq, List, [], ◌∷◌, map, filter, Option, None, Some, option_map, refl, sym, ap, subst, ◌∙◌}
+use Rattle.std.proofs.Common.{◌≡◌, ℕ, Bool, true, false, cond, nat_eq, List, filter, Option, None, Some, option_map, refl, sym, ap, subst, ◌∙◌}
 use Rattle.std.specs.Map.{lookup}
 use Rattle.std.specs.Option.{option_map_or}
 use Rattle.std.specs.Prelude.{IfSome}
 use Rattle.std.proofs.lemmas.Option.{none-some}
-use Rattle.ynl_resource.specs.Names.{is_default, same_label}
 use Rattle.ynl_resource.specs.declared.labels.Label.{Label}
 use Rattle.ynl_model.specs.declared.nodes.Node.{Node}
 use Rattle.ynl_model.specs.declared.queues.StopRow.{StopRow}
 use Rattle.ynl_model.specs.declared.queues.MaximumRow.{MaximumRow}
-use Rattle.ynl_model.specs.Applications.{Application, apps_of}
 use Rattle.ynl_model.specs.Cluster.{State, free, user_used}
 use Rattle.ynl_model.specs.Queues.{Config}
 use Rattle.ynl_model.specs.Service.{Item, is_eligible, items_for, key}
@@ -18,52 +16,31 @@ use Rattle.ynl_laws.specs.First.{IsFirst, is_later}
 use Rattle.ynl_layout.specs.Paths.{path_at}
 use Rattle.ynl_lane.specs.Seats.{Seat}
 use Rattle.ynl_inventory.specs.Rows.{Rows, AppRow}
-use Rattle.ynl_inventory.specs.Meaning.{app_of, item_of, label_at, state_of}
+use Rattle.ynl_inventory.specs.Meaning.{item_of, label_at, state_of}
 use Rattle.ynl_inventory.specs.Sound.{HasPartition, IsLeaf, IsSound}
 use Rattle.ynl_inventory.specs.Apps.{is_master_role}
 use Rattle.ynl_inventory.proofs.Finding.{not-true}
-use Rattle.ynl_seating.specs.Seating.{sits, user_use}
-use Rattle.ynl_seating.proofs.Sharing.{are-sharing}
+use Rattle.ynl_seating.specs.Seating.{user_use}
 use Rattle.ynl_seating.proofs.UserUse.{is-user_use}
 use Rattle.ynl_requests.specs.First.{Asker, IsFirstPassing, item_by}
-use Rattle.ynl_requests.specs.Laws.{AreListed}
 use Rattle.ynl_requests.specs.Requests.{Request, item_for, wanted}
 use Rattle.ynl_requests.proofs.First.{first-means}
 use Rattle.ynl_requests.proofs.Members.{among-contained, contained-among, filter-among}
 use Rattle.ynl_requests.proofs.Running.{what-master}
 use Rattle.ynl_requests.proofs.Wanted.{wanted-means}
+use Rattle.ynl_shut.specs.Lanes.{IsLaneOf}
+use Rattle.ynl_shut.proofs.Listed.{listed}
 use Rattle.ynl_search.specs.declared.leaf.LeafTests.{LeafTests}
-use Rattle.ynl_search.specs.InLeaf.{IsLaneOf, first_own}
+use Rattle.ynl_search.specs.InLeaf.{first_own}
 use Rattle.ynl_search.specs.Laws.{FirstOwnIsModel, IsOwnWanted, is_wanted, item_found, no_item}
 use Rattle.ynl_search.specs.Leaves.{AreLimits, AreTests, passes_ask, passes_master}
 use Rattle.ynl_search.proofs.FirstIn.{first-in, found_by}
 use Rattle.ynl_search.proofs.Tests.{is_within_limits, tests-limit, tests-tell}
 use Rattle.ynl_search.proofs.Wanted.{own-wanted}
 
--- ---- the model lists the applications of a leaf in the order of the rows
-
-all-kept : {X : Type 0} (p : X → Bool) (xs : List X) → ((x : X) → p x ≡ true) → filter p xs ≡ xs
-all-kept p [] all = refl
-all-kept p (x ∷ xs) all = (λ i. cond (all x i) (x ∷ filter p xs) (filter p xs)) ∙ ap (λ ys. x ∷ ys) (all-kept p xs all)
-
-all-alike : {X : Type 0} (p q : X → Bool) (xs : List X) → ((x : X) → p x ≡ q x) → filter p xs ≡ filter q xs
-all-alike p q [] all = refl
-all-alike p q (x ∷ xs) all = λ i. cond (all x i) (x ∷ all-alike p q xs all i) (all-alike p q xs all i)
-
 module _ (v : Rows) (sound : IsSound v) (stops : List StopRow) (maxima : List MaximumRow) (q : ℕ) (leaf : IsLeaf v q) where
   abbrev s : State
   s = state_of v stops maxima
-
-  pub listed : AreListed v stops maxima q
-  listed =
-      sym (all-kept (λ (app : Application). is_default (label_at v.partitions 0) || same_label app.home (label_at v.partitions 0)) (apps_of s.leaves (path_at v.paths q))
-      (λ app. ap (λ l. is_default l || same_label app.home l) sound.default))
-      ∙ are-sharing v sound 0 q sound.some leaf stops maxima
-      ∙ ap (map (app_of v)) (all-alike (λ (e : ℕ × AppRow). sits 0 q e.1) (λ (e : ℕ × AppRow). nat_eq e.1.leaf q) v.apps (λ e. all-share (nat_eq e.1.leaf q)))
-    where
-      all-share : (b : Bool) → (b && true) ≡ b
-      all-share true = refl
-      all-share false = refl
 
   module _ (p : ℕ) (has : HasPartition v p) (seats : List (ℕ × Seat)) (lane : IsLaneOf v p q seats) (c : Config) (node : Node) (there : node.label ≡ label_at v.partitions p) (tests : LeafTests)
       (are : AreTests c s (label_at v.partitions p) (free s node) (path_at v.paths q) tests) where
@@ -88,7 +65,7 @@ module _ (v : Rows) (sound : IsSound v) (stops : List StopRow) (maxima : List Ma
         subst (λ (label : Label). IsFirst (is_later (key c s node.label)) (IsBelow (filter (is_eligible c s node) (items_for s label)) (path_at v.paths q)) (option_map (item_found v) (first_own v seats p tests))) (sym there)
         (subst (IsFirst (is_later (key c s node.label)) (IsBelow (filter (is_eligible c s node) (items_for s (label_at v.partitions p))) (path_at v.paths q)))
         (sym (item-is found.0 found.1) ∙ ap (option_map (item_found v)) found.2)
-        (first-means v sound stops maxima q leaf listed (wanted v p) (items_for s (label_at v.partitions p)) (λ item. (wanted-means v sound stops maxima p has item).0) (λ item. (wanted-means v sound stops maxima p has item).1)
+        (first-means v sound stops maxima q leaf (listed v sound stops maxima q leaf) (wanted v p) (items_for s (label_at v.partitions p)) (λ item. (wanted-means v sound stops maxima p has item).0) (λ item. (wanted-means v sound stops maxima p has item).1)
         (is_eligible c s node) found.0 found.1 c node.label))
 
     found-wanted : IfSome (first_own v seats p tests) (λ found. is_wanted v p found ≡ true)
@@ -124,7 +101,7 @@ module _ (v : Rows) (sound : IsSound v) (stops : List StopRow) (maxima : List Ma
       where
         go : (a : Option Asker) → IsFirstPassing v (wanted v p) limited q a → option_map found_by a ≡ first_own v seats p tests → limited item ≡ true → ⊥
         go None first is passes =
-            first-means v sound stops maxima q leaf listed (wanted v p) items (λ item. (wanted-means v sound stops maxima p has item).0) (λ item. (wanted-means v sound stops maxima p has item).1)
+            first-means v sound stops maxima q leaf (listed v sound stops maxima q leaf) (wanted v p) items (λ item. (wanted-means v sound stops maxima p has item).0) (λ item. (wanted-means v sound stops maxima p has item).1)
             limited None first c label item
             (record { among = contained-among item (filter limited items) (filter-among limited item items passes (among-contained item items below.among)); within = below.within })
         go (Some a) first is passes = none-some (found_by a) (sym none ∙ sym is)

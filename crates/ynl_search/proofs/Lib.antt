@@ -15,7 +15,7 @@ pub mod Below
 pub mod FreeMeans
 pub mod Trees
 pub mod Splits
-pub mod Least
+pub mod LeastBelow
 pub mod ShutBelow
 pub mod ShutAnywhere
 pub mod GuestShut

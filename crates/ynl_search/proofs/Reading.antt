@@ -19,7 +19,8 @@ use Rattle.ynl_descent.specs.Scenes.{IsFirstBelow}
 use Rattle.ynl_search.specs.declared.found.Found.{Found}
 use Rattle.ynl_search.specs.declared.leaf.LeafTests.{LeafTests}
 use Rattle.ynl_search.specs.Guests.{first_guest}
-use Rattle.ynl_search.specs.InLeaf.{IsLaneOf, first_own}
+use Rattle.ynl_shut.specs.Lanes.{IsLaneOf}
+use Rattle.ynl_search.specs.InLeaf.{first_own}
 use Rattle.ynl_search.specs.Laws.{is_asked, is_wanted, item_asked, item_wanted}
 use Rattle.ynl_search.specs.Leaves.{AreLimits, AreTests}
 use Rattle.ynl_search.specs.Places.{allows}

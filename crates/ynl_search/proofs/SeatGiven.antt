@@ -1,5 +1,5 @@
 -- What a seat of a leaf's lane is given.
-use Rattle.std.proofs.Common.{◌≡◌, ◌⊎◌, ℕ, min, Bool, true, false, not, ◌&&◌, cond, nat_eq, nat_le, List, [], ◌∷◌, filter, Option, None, Some, IsSome, unwrap_or, option_map, inl, inr, refl, sym, ap, subst, ◌∙◌, arith, true≢false}
+use Rattle.std.proofs.Common.{◌≡◌, ℕ, min, Bool, true, false, not, ◌&&◌, cond, nat_eq, nat_le, List, filter, Option, None, Some, IsSome, unwrap_or, option_map, refl, sym, ap, subst, ◌∙◌, arith, true≢false}
 use Rattle.std.specs.Map.{lookup}
 use Rattle.std.specs.Option.{option_and_then, option_map_or}
 use Rattle.std.proofs.lemmas.Bool.{and_from, and_parts, not-true}
@@ -8,7 +8,7 @@ use Rattle.std.proofs.lemmas.Option.{none-some, same_Some}
 use Rattle.ynl_resource.specs.Amounts.{IsSize, amount, fits_in, plus, smaller_of}
 use Rattle.ynl_resource.specs.declared.amounts.Resource.{Resource}
 use Rattle.ynl_laws.proofs.Amounts.{fits-trans}
-use Rattle.ynl_slots.specs.Slots.{HasDistinctNumbers, IsUnused}
+use Rattle.ynl_slots.specs.Slots.{HasDistinctNumbers}
 use Rattle.ynl_app_table.specs.declared.asks.Ask.{Ask}
 use Rattle.ynl_lanes.specs.Lows.{no_size}
 use Rattle.ynl_limits.specs.Limits.{limit_of}
@@ -22,38 +22,15 @@ use Rattle.ynl_inventory.specs.Apps.{runs_at}
 use Rattle.ynl_seating.specs.Seating.{figures_of, least_asked, seat_of, seats_of, sits, ticket_on, user_use, waits_at}
 use Rattle.ynl_seating.proofs.Leasts.{are-met}
 use Rattle.ynl_requests.proofs.Members.{Among, each-among, filter-among, map-among}
+use Rattle.ynl_shut.specs.Lanes.{IsSizedRow}
+use Rattle.ynl_shut.proofs.Found.{among-found, found-among}
 use Rattle.ynl_search.specs.declared.found.Found.{Found}
 use Rattle.ynl_search.specs.declared.leaf.LeafTests.{LeafTests}
-use Rattle.ynl_search.specs.InLeaf.{IsSizedRow, found_ask, found_master, gives_ask, gives_master, is_open_to, used_on}
+use Rattle.ynl_search.specs.InLeaf.{found_ask, found_master, gives_ask, gives_master, is_open_to, used_on}
 use Rattle.ynl_search.specs.Leaves.{most_of, passes_ask, passes_master, room_of}
 use Rattle.ynl_search.specs.Lowest.{lowest}
 use Rattle.ynl_search.specs.Places.{allows}
 use Rattle.ynl_search.proofs.LowestAsk.{IsLowest, lowest-is}
-
--- ---- entries that are found
-
-pub among-found : {X : Type 0} (n : ℕ) (row : X) (es : List (ℕ × X)) → lookup (nat_eq n) es ≡ Some row → Among (n, row) es
-among-found n row [] found = absurd (none-some row found)
-among-found {X = X} n row (e ∷ es) found = go (nat_eq n e.0) refl found (among-found n row es)
-  where
-    go : (b : Bool) → nat_eq n e.0 ≡ b → cond b (Some e.1) (lookup (nat_eq n) es) ≡ Some row → (lookup (nat_eq n) es ≡ Some row → Among (n, row) es) → (e ≡ (n, row)) ⊎ Among (n, row) es
-    go true same found rest = inl (λ i. ((let is : e.0 ≡ n = grind (arith, nat_tests, same) in is) i, same_Some e.1 row found i))
-    go false same found rest = inr (rest found)
-
-unused-other : {X : Type 0} (n : ℕ) (x : ℕ × X) (es : List (ℕ × X)) → IsUnused n es → Among x es → nat_eq x.0 n ≡ false
-unused-other n x [] unused there = absurd there
-unused-other n x (e ∷ es) unused (inl is) = let apart = unused.0 in let same = ap (λ (o : ℕ × _). o.0) is in grind (arith, nat_tests, apart, same)
-unused-other n x (e ∷ es) unused (inr there) = unused-other n x es unused.1 there
-
-pub found-among : {X : Type 0} (x : ℕ × X) (es : List (ℕ × X)) → HasDistinctNumbers es → Among x es → lookup (nat_eq x.0) es ≡ Some x.1
-found-among x [] distinct there = absurd there
-found-among {X = X} x (e ∷ es) distinct (inl is) =
-    subst (λ (y : ℕ × X). cond (nat_eq y.0 e.0) (Some e.1) (lookup (nat_eq y.0) es) ≡ Some y.1) is (ap (λ b. cond b (Some e.1) (lookup (nat_eq e.0) es)) (itself e.0))
-  where
-    itself : (n : ℕ) → nat_eq n n ≡ true
-    itself n = grind (arith, nat_tests)
-found-among x (e ∷ es) distinct (inr there) =
-    ap (λ b. cond b (Some e.1) (lookup (nat_eq x.0) es)) (unused-other e.0 x es distinct.0 there) ∙ found-among x es distinct.1 there
 
 -- ---- what can be placed may wait
 

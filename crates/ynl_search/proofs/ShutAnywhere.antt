@@ -1,10 +1,10 @@
 -- A queue all of whose children are closed in any room is shut in any.
-use Rattle.std.proofs.Common.{◌≡◌, ◌<◌, ◌+◌, ℕ, Bool, true, false, ◌&&◌, ◌||◌, nat_eq, List, [], ◌∷◌, length, get_or, Contains, Option, None, Some, is_some, refl, sym, ap, subst, ◌∙◌, arith, true≢false}
+use Rattle.std.proofs.Common.{◌≡◌, ◌<◌, ◌+◌, ℕ, Bool, true, false, ◌&&◌, ◌||◌, nat_eq, List, ◌∷◌, length, get_or, Option, None, Some, is_some, refl, sym, ap, subst, ◌∙◌, arith, true≢false}
 use Rattle.std.specs.Prelude.{IfNone}
 use Rattle.std.specs.List.{list_all}
 use Rattle.std.proofs.lemmas.Bool.{and_from, and_parts}
 use Rattle.std.proofs.lemmas.Bool.Decides.{nat_tests}
-use Rattle.std.proofs.lemmas.List.{get_or_default, length-map}
+use Rattle.std.proofs.lemmas.List.{length-map}
 use Rattle.ynl_resource.specs.Names.{is_within, root, way_to}
 use Rattle.ynl_resource.specs.declared.labels.Label.{Label}
 use Rattle.ynl_resource.specs.declared.names.Name.{Name}
@@ -26,12 +26,9 @@ use Rattle.ynl_search.specs.declared.place.Place.{Place}
 use Rattle.ynl_search.specs.Scenes.{IsReached}
 use Rattle.ynl_search.specs.Shut.{IsClosedIn, IsShutIn}
 use Rattle.ynl_search.proofs.Below.{request-stands, within-less, within-more}
+use Rattle.ynl_search.proofs.LeastBelow.{placed}
 use Rattle.ynl_search.proofs.Splits.{on-way}
 use Rattle.ynl_search.proofs.Trees.{all-of, path-there}
-
--- the place of a name among names
-placed : (some : List Name) (name : Name) → Contains some name → (place : ℕ) × (place < length some) × (get_or some place [] ≡ name)
-placed some name there = (there.0, there.1, get_or_default some there.0 [] name there.1 ∙ there.2)
 
 -- one more is closed
 pub closed-more : (w : ClusterView) (p : ℕ) (h : Headroom) (children : List ℕ) (n : ℕ) → ((k : ℕ) → k < n → IsClosedIn w p h (get_or children k 0)) → IsClosedIn w p h (get_or children n 0)

@@ -1,5 +1,5 @@
 -- Below a queue that is shut or closed nothing is eligible, and where nothing is eligible below a queue it is shut.
-use Rattle.std.proofs.Common.{◌≡◌, ℕ, Bool, true, false, ◌&&◌, cond, nat_eq, ◌∷◌, Option, None, Some, refl, sym, subst, ◌∙◌, arith, true≢false}
+use Rattle.std.proofs.Common.{◌≡◌, ℕ, Bool, true, false, ◌&&◌, ◌||◌, not, ap, cond, nat_eq, ◌∷◌, Option, None, Some, refl, sym, subst, ◌∙◌, arith, true≢false}
 use Rattle.std.specs.List.{list_all}
 use Rattle.std.specs.Prelude.{IfSome}
 use Rattle.std.proofs.lemmas.Bool.{and_from, and_parts}
@@ -21,13 +21,14 @@ use Rattle.ynl_descent.specs.Scenes.{HasNone}
 use Rattle.ynl_inventory.proofs.Finding.{not-true}
 use Rattle.ynl_requests.proofs.Members.{among-contained, among-filter, contained-among, filter-among}
 use Rattle.ynl_cluster.specs.Cluster.{ClusterView, label_of, path_of, state_in}
-use Rattle.ynl_shut.specs.Notes.{Changes, Notes, Rooms, has_at, noted, room_at}
-use Rattle.ynl_shut.specs.Shut.{AreGuestsShut, AreOwnShut, AreShut, IsShut, keeps_below, keeps_maximum}
+use Rattle.ynl_shut.specs.declared.noted.Noted.{Noted}
+use Rattle.ynl_shut.specs.Notes.{Changes, Notes, Table, has_at, noted, noted_at}
+use Rattle.ynl_shut.specs.Shut.{AreGuestsRight, AreOwnRight, AreShut, IsRight, IsShut, keeps_below, keeps_maximum}
 use Rattle.ynl_search.specs.declared.place.Place.{Place}
 use Rattle.ynl_search.specs.declared.headroom.Headroom.{Headroom}
 use Rattle.ynl_search.specs.Places.{IsPlace, allows, can_take}
 use Rattle.ynl_search.specs.Scenes.{own_scene}
-use Rattle.ynl_search.specs.Shut.{HasNoneIn, IsClosed, IsClosedIn, IsShutIn, covers}
+use Rattle.ynl_search.specs.Shut.{HasNoneIn, IsClosed, IsClosedIn, IsRightIn, IsShutIn, covers, is_passed}
 use Rattle.ynl_search.proofs.Steps.{take-below}
 use Rattle.ynl_search.proofs.Splits.{eligible-parts, parts-eligible}
 
@@ -119,23 +120,30 @@ module _ (w : ClusterView) (p q : ℕ) where
       → ((size : Resource) → allows own size ≡ (allows above size && keeps_maximum (state_in w) (label_of w p) size (path_of w q))) → HasNoneIn w p own q → IsClosedIn w p above q
   none-closed above own is none item below allowed keeps = none item below (is item.size ∙ and_from (allows above item.size) (keeps_maximum (state_in w) (label_of w p) item.size (path_of w q)) allowed keeps)
 
--- rooms stay right where one more queue is shut
-noted-own : (w : ClusterView) (p q : ℕ) (room : Resource) (old new : Rooms) → AreOwnShut w old → Changes (noted old p q room) old new → IsShutIn w p q room → AreOwnShut w new
-noted-own w p q room old new shut changes own r t cell =
-    subst (λ o. IfSome o (IsShut w.config (state_in w) (label_of w r) (path_of w t))) (sym (changes.room r t)) (go (nat_eq r p) (has_at old r t) (nat_eq t q) refl refl)
+-- what is noted stays right where one more queue's is right
+noted-own : (w : ClusterView) (p q : ℕ) (more : Noted) (old new : Table) → AreOwnRight w old → Changes (noted old p q more) old new → IsRightIn w p q more → AreOwnRight w new
+noted-own w p q more old new right changes own r t cell = subst (IsRightIn w r t) (sym (changes.noted r t)) (go (nat_eq r p) (has_at old r t) (nat_eq t q) refl refl)
   where
-    go : (one has two : Bool) → nat_eq r p ≡ one → nat_eq t q ≡ two → IfSome (cond (one && (has && two)) (Some room) (room_at old r t)) (IsShut w.config (state_in w) (label_of w r) (path_of w t))
-    go false has two e f = shut r t cell
-    go true false two e f = shut r t cell
-    go true true false e f = shut r t cell
+    go : (one has two : Bool) → nat_eq r p ≡ one → nat_eq t q ≡ two → IsRightIn w r t (cond (one && (has && two)) more (noted_at old r t))
+    go false has two e f = right r t cell
+    go true false two e f = right r t cell
+    go true true false e f = right r t cell
     go true true true e f =
         let same : p ≡ r = grind (arith, nat_tests, e) in
         let alike : q ≡ t = grind (arith, nat_tests, f) in
-        subst (λ n. IsShut w.config (state_in w) (label_of w r) (path_of w n) room) alike (subst (λ n. IsShut w.config (state_in w) (label_of w n) (path_of w q) room) same own)
+        subst (λ n. IsRightIn w r n more) alike (subst (λ n. IsRightIn w n q more) same own)
 
 -- and so do the notes
-pub noted-shut : (w : ClusterView) (p q : ℕ) (room : Resource) (old new : Notes) → AreShut w old → Changes (noted old.own p q room) old.own new.own → new.guests ≡ old.guests → IsShutIn w p q room → AreShut w new
-noted-shut w p q room old new shut changes same own = record {
-  own = noted-own w p q room old.own new.own shut.own changes own;
-  guests = subst (AreGuestsShut w) (sym same) shut.guests;
+pub noted-shut : (w : ClusterView) (p q : ℕ) (more : Noted) (old new : Notes) → AreShut w old → Changes (noted old.own p q more) old.own new.own → new.guests ≡ old.guests → IsRightIn w p q more → AreShut w new
+noted-shut w p q more old new shut changes same own = record {
+  own = noted-own w p q more old.own new.own shut.own changes own;
+  guests = subst (AreGuestsRight w) (sym same) shut.guests;
 }
+
+-- a queue that is passed by in a room is shut in it
+pub passed : (c : Config) (s : State) (label : Label) (queue : Path) (n : Noted) (room : Resource) → IsRight c s label queue n → is_passed n room ≡ true → IsShut c s label queue room
+passed c s label queue n room right h = go (covers n.room room) refl h
+  where
+    go : (b : Bool) → covers n.room room ≡ b → (b || not (fits_in n.least room)) ≡ true → IsShut c s label queue room
+    go true e h = covered c s label queue n.room room right.room e
+    go false e h = λ item stands fits. absurd (true≢false (sym h ∙ ap not (fits-trans n.least item.size room (right.least item stands) fits)))

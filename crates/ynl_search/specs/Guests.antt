@@ -23,7 +23,8 @@ use Rattle.ynl_inventory.specs.Meaning.{state_of}
 use Rattle.ynl_inventory.specs.Sound.{IsLeaf, IsSound}
 use Rattle.ynl_seating.specs.Seating.{user_use}
 use Rattle.ynl_search.specs.declared.found.Found.{Found}
-use Rattle.ynl_search.specs.InLeaf.{IsLaneOf, found_ask}
+use Rattle.ynl_shut.specs.Lanes.{IsLaneOf}
+use Rattle.ynl_search.specs.InLeaf.{found_ask}
 use Rattle.ynl_search.specs.Laws.{is_asked, item_found}
 use Rattle.ynl_search.specs.Lowest.{lowest}
 

@@ -1,35 +1,18 @@
 -- What the applications of a leaf are given, by their seats in its lane.
-use Rattle.std.specs.Prelude.{◌≡◌, ℕ, Bool, true, ◌&&◌, nat_eq, List, IsSome, Option, Some, None, option_map, if◌then◌else◌}
-use Rattle.std.specs.List.{AllByRecursion}
+use Rattle.std.specs.Prelude.{ℕ, Bool, ◌&&◌, nat_eq, List, Option, Some, None, option_map, if◌then◌else◌}
 use Rattle.std.specs.Map.{lookup}
 use Rattle.std.specs.Option.{option_and_then, option_or}
-use Rattle.ynl_resource.specs.Amounts.{IsSize}
 use Rattle.ynl_resource.specs.declared.amounts.Resource.{Resource}
 use Rattle.ynl_app_table.specs.declared.asks.Ask.{Ask}
 use Rattle.ynl_container_table.specs.declared.container.Role.TheVariants.{Master, Ask as Asked}
 use Rattle.ynl_lane.specs.declared.kinds.Kind.TheVariants as kind
 use Rattle.ynl_lane.specs.Seats.{Seat, first_given, given, seats_up_to}
 use Rattle.ynl_inventory.specs.Rows.{Rows, AppRow}
-use Rattle.ynl_slots.specs.Slots.{HasDistinctNumbers}
-use Rattle.ynl_seating.specs.Seating.{figures_of, seats_of, shares, ticket_on}
+use Rattle.ynl_seating.specs.Seating.{ticket_on}
 use Rattle.ynl_search.specs.declared.found.Found.{Found}
 use Rattle.ynl_search.specs.declared.leaf.LeafTests.{LeafTests}
 use Rattle.ynl_search.specs.Lowest.{lowest}
 use Rattle.ynl_search.specs.Leaves.{most_of, passes_ask, passes_master, room_of}
-
--- a row's requests have the sizes that requests may have
-pub record IsSizedRow (row : AppRow) : Type 0 where
-  pub master : IsSize row.master
-  pub asks : AllByRecursion (λ ask. IsSize ask.size) row.asks
-
--- a leaf's lane on a partition has its applications' seats, and they have tickets and sizes
-pub record IsLaneOf (v : Rows) (p q : ℕ) (seats : List (ℕ × Seat)) : Type 0 where
-  pub numbers : HasDistinctNumbers v.apps
-  pub seats_are : seats ≡ seats_of (figures_of v) p q v.apps
-  pub distinct : HasDistinctNumbers seats
-  pub tickets : (n : ℕ) (row : AppRow) → lookup (nat_eq n) v.apps ≡ Some row → shares p row ≡ true → IsSome (ticket_on p row)
-  pub sized : (n : ℕ) (row : AppRow) → lookup (nat_eq n) v.apps ≡ Some row → IsSizedRow row
-  pub sharing : (n : ℕ) (row : AppRow) → lookup (nat_eq n) v.apps ≡ Some row → AllByRecursion (λ ask. ask.partition ≡ p → shares p row ≡ true) row.asks
 
 -- what the user of an application uses, as the application's seat shows it
 abbrev pub used_on : List (ℕ × Seat) → ℕ → AppRow → Option Resource

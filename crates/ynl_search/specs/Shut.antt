@@ -1,16 +1,18 @@
 -- Queues that a search passes by.
-use Rattle.std.specs.Prelude.{◌≡◌, ◌<◌, ℕ, Bool, true, false, List, length, slice_index_or, Option}
+use Rattle.std.specs.Prelude.{◌≡◌, ◌||◌, ℕ, Bool, true, false, not, Option}
 use Rattle.std.specs.Option.{option_map_or}
 use Rattle.ynl_resource.specs.Amounts.{fits_in}
 use Rattle.ynl_resource.specs.declared.amounts.Resource.{Resource}
 use Rattle.ynl_resource.specs.declared.labels.Label.{Label}
+use Rattle.ynl_resource.specs.declared.labels.Label.TheVariants.{Unlabelled}
 use Rattle.ynl_resource.specs.declared.paths.Path.{Path}
 use Rattle.ynl_model.specs.Queues.{Config}
 use Rattle.ynl_model.specs.Cluster.{State}
-use Rattle.ynl_model.specs.Service.{Item, items_for}
+use Rattle.ynl_model.specs.Service.{Item, asks_for, items_for}
 use Rattle.ynl_laws.specs.Descent.{IsBelow}
 use Rattle.ynl_cluster.specs.Cluster.{ClusterView, label_of, path_of, state_in}
-use Rattle.ynl_shut.specs.Shut.{IsGuestShut, IsShut, keeps_below, keeps_maximum}
+use Rattle.ynl_shut.specs.declared.noted.Noted.{Noted}
+use Rattle.ynl_shut.specs.Shut.{IsRight, IsShut, keeps_below, keeps_maximum}
 use Rattle.ynl_search.specs.declared.headroom.Headroom.{Headroom}
 use Rattle.ynl_search.specs.Places.{allows}
 
@@ -37,6 +39,14 @@ HasNoneIn w p h q = HasNoneFor w.config (state_in w) (label_of w p) h (path_of w
 abbrev pub IsClosedIn : ClusterView → ℕ → Headroom → ℕ → Type 0
 IsClosedIn w p h q = IsClosed w.config (state_in w) (label_of w p) h (path_of w q)
 
--- in a room no guest comes from any of some queues
-abbrev pub AreGuestless : ClusterView → List ℕ → Resource → Type 0
-AreGuestless w queues room = (k : ℕ) → k < length queues → IsGuestShut (state_in w) (path_of w (slice_index_or queues k 0)) room
+-- what is noted of a queue is right
+abbrev pub IsRightIn : ClusterView → ℕ → ℕ → Noted → Type 0
+IsRightIn w p q noted = IsRight w.config (state_in w) (label_of w p) (path_of w q) noted
+
+-- whether what is noted of a queue says that nothing below it may be placed in a room
+abbrev pub is_passed : Noted → Resource → Bool
+is_passed noted room = covers noted.room room || not (fits_in noted.least room)
+
+-- no guest comes from below a queue in a room: nothing that is asked for there on DEFAULT fits
+abbrev pub IsGuestless : State → Path → Resource → Type 0
+IsGuestless s queue room = (item : Item) → IsBelow (asks_for s Unlabelled) queue item → fits_in item.size room ≡ false

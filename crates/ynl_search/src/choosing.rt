@@ -13,7 +13,7 @@ ghost use Rattle.ynl_search.specs.Choosing.{IsChosen, IsFirstGuestOn, IsFirstOwn
 
 use crate::found::Found;
 use crate::guest_tree::GuestTree;
-use crate::open_child::covers;
+use crate::open_child::is_passed;
 use crate::own_tree::OwnTree;
 use crate::queues::{reach, root_at};
 use ynl_cluster::Cluster;
@@ -32,7 +32,7 @@ fn first_own_on(cluster: &Cluster, shut: &mut Shut, node: u32) -> Option<Found>
     let inventory = cluster.inventory();
     let partition = inventory.node(node).partition;
     let room = inventory.free(node);
-    if covers(shut.room(partition, 0), &room) {
+    if is_passed(&shut.noted(partition, 0), &room) {
         return None;
     }
     let tree = OwnTree {
@@ -56,7 +56,7 @@ fn first_guest_on(cluster: &Cluster, shut: &mut Shut, node: u32) -> Option<Found
 {
     let inventory = cluster.inventory();
     let room = inventory.free(node);
-    if covers(shut.guest_room(0), &room) {
+    if !shut.least_guest(0).fits_in(room) {
         return None;
     }
     let tree = GuestTree {

@@ -1,7 +1,7 @@
 //! The tree of queues in which guests are looked for.
 
 use crate::found::Found;
-use crate::guest_rooms::{guest_room_to_note, guestless_room};
+use crate::leasts::{is_guestless, least_asked_of_children};
 use crate::leaves::first_guest_in_leaf;
 use crate::queues::{child_in, reach, standing_at};
 use crate::reached::Reached;
@@ -52,7 +52,7 @@ impl<'a> Tree for GuestTree<'a> {
     }
 
     fn look(&self, notes: &Shut, queue: &Reached<'a>, place: usize) -> Option<Standing> {
-        if guestless_room(self.cluster, notes, queue.children[place], &self.room).is_some() {
+        if is_guestless(self.cluster, notes, queue.children[place], &self.room) {
             return None;
         }
         let child = child_in(self.cluster, 0, queue, place);
@@ -67,7 +67,10 @@ impl<'a> Tree for GuestTree<'a> {
     }
 
     fn note(&self, notes: &mut Shut, queue: &Reached<'a>) {
-        let room = guest_room_to_note(self.cluster, notes, queue, self.room);
-        notes.note_guest(queue.place.queue, room);
+        if queue.children.len() == 0 {
+            return;
+        }
+        let least = least_asked_of_children(self.cluster, notes, queue);
+        notes.note_guest(queue.place.queue, least);
     }
 }

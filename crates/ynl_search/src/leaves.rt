@@ -5,9 +5,8 @@ ghost use Rattle.ynl_model.specs.declared.nodes.Node.{Node};
 ghost use Rattle.ynl_model.specs.Cluster.{free};
 ghost use Rattle.ynl_model.specs.Limits.{users};
 ghost use Rattle.ynl_resource.specs.declared.amounts.Resource.{Resource as Amount};
-ghost use Rattle.ynl_inventory.specs.Sound.{IsLeaf, IsSound};
+ghost use Rattle.ynl_inventory.specs.Sound.{IsLeaf};
 ghost use Rattle.ynl_cluster.specs.Cluster.{label_of, path_of, state_in, IsCell as IsThere};
-ghost use Rattle.ynl_search.specs.InLeaf.{IsLaneOf};
 ghost use Rattle.ynl_search.specs.Leaves.{AreLimits, AreTests};
 ghost use Rattle.ynl_search.specs.Places.{IsCell, IsPlace, IsSmallPlace, any_room};
 ghost use Rattle.ynl_search.specs.Scenes.{HasAmountsIn, IsFirstGuest, IsFirstOwn, IsPlaceOf};
@@ -19,8 +18,8 @@ use crate::leaf::LeafTests;
 use crate::own::first_own;
 use crate::place::{Cell, Place};
 use ynl_cluster::Cluster;
-use ynl_lane::Lane;
 use ynl_resource::Resource;
+use ynl_shut::lane_of;
 
 /// A queue below root on a partition.
 pub fn cell_of(cluster: &Cluster, p: u8, queue: usize) -> Cell
@@ -34,15 +33,6 @@ pub fn cell_of(cluster: &Cluster, p: u8, queue: usize) -> Cell
         maximum: cluster.maximum_share(p, queue),
         used: cluster.used(p, queue).used,
     }
-}
-
-/// The lane of a leaf on a partition.
-pub fn lane_of(cluster: &Cluster, p: u8, leaf: usize) -> &Lane
-    requires { IsThere cluster.now p leaf }
-    ensures lane { IsLaneOf cluster.now.rows p leaf result.now.seats }
-    ensures sound { IsSound cluster.now.rows }
-{
-    cluster.lane(p, leaf)
 }
 
 /// How many users share a queue's part of a partition, and 1 where there is none. Only a leaf has

@@ -8,19 +8,18 @@ ghost use Rattle.ynl_model.specs.Service.{Item, items_for};
 ghost use Rattle.ynl_laws.specs.Descent.{IsBelow};
 ghost use Rattle.ynl_inventory.specs.Sound.{HasPartition};
 ghost use Rattle.ynl_cluster.specs.Cluster.{label_of, path_of, state_in, IsCell as IsThere};
-ghost use Rattle.ynl_shut.specs.Shut.{AreShut};
+ghost use Rattle.ynl_shut.specs.Shut.{AreAtLeast, AreShut};
 ghost use Rattle.ynl_search.specs.Places.{IsSmallPlace, any_room};
 ghost use Rattle.ynl_search.specs.Scenes.{HasAmountsIn, IsPlaceOf, IsReached};
-ghost use Rattle.ynl_search.specs.Shut.{HasNoneIn, IsClosedIn, IsShutIn, covers};
+ghost use Rattle.ynl_search.specs.Shut.{HasNoneIn, IsClosedIn, IsRightIn, IsShutIn, covers, is_passed};
 
-use crate::leaves::lane_of;
 use crate::place::{ANY, Place};
 use crate::queues::{child_in, is_leaf};
 use crate::reached::Reached;
 use ynl_cluster::Cluster;
 use ynl_lane::Kind;
 use ynl_resource::Resource;
-use ynl_shut::Shut;
+use ynl_shut::{Noted, Shut, lane_of};
 
 /// Whether a room that is noted of a queue covers another: what fits in the other fits in it.
 pub(crate) fn covers(noted: Option<Resource>, room: &Resource) -> bool
@@ -32,16 +31,26 @@ pub(crate) fn covers(noted: Option<Resource>, room: &Resource) -> bool
     }
 }
 
-/// Whether a queue below root is a leaf in which nothing that waits fits in a room.
-fn has_too_large(cluster: &Cluster, p: u8, queue: usize, room: &Resource) -> bool
+/// Whether what is noted of a queue says that nothing below it may be placed in a room.
+pub(crate) fn is_passed(noted: &Noted, room: &Resource) -> bool
+    ensures { result ≡ is_passed noted.now room.now }
+{
+    covers(noted.room, room) || !noted.least.fits_in(*room)
+}
+
+/// Whether nothing that waits below a queue fits in a room: by what waits in it if it is a leaf, and else by what each request
+/// below it is noted to be for at least.
+fn has_too_large(cluster: &Cluster, least: &Resource, p: u8, queue: usize, room: &Resource) -> bool
     requires below_root { 0 < queue }
     requires there { IsThere cluster.now p queue }
+    requires least { AreAtLeast (items_for (state_in cluster.now) (label_of cluster.now p))
+        (path_of cluster.now queue) least.now }
     ensures { IsTrue result → (item : Item)
         → IsBelow (items_for (state_in cluster.now) (label_of cluster.now p))
         (path_of cluster.now queue) item → fits_in item.size room.now ≡ false }
 {
     if !is_leaf(cluster, queue) {
-        return false;
+        return !least.fits_in(*room);
     }
     let lane = lane_of(cluster, p, queue);
     !lane.least(Kind::Ask).fits(room) && !lane.least(Kind::Master).fits(room)
@@ -49,21 +58,21 @@ fn has_too_large(cluster: &Cluster, p: u8, queue: usize, room: &Resource) -> boo
 
 /// Whether nothing below a queue may be placed for which there is headroom: by what is noted of the queue, or by what
 /// waits in it if it is a leaf.
-fn has_none(cluster: &Cluster, noted: Option<Resource>, p: u8, place: &Place) -> bool
+fn has_none(cluster: &Cluster, noted: &Noted, p: u8, place: &Place) -> bool
     requires small { IsSmallPlace place.now }
     requires below_root { 0 < place.now.queue }
     requires there { IsThere cluster.now p place.now.queue }
-    requires noted { IfSome noted (IsShutIn cluster.now p place.now.queue) }
+    requires noted { IsRightIn cluster.now p place.now.queue noted.now }
     ensures { IsTrue result
         → HasNoneIn cluster.now p place.now.headroom place.now.queue }
 {
     if !place.headroom.is_open {
         return true;
     }
-    if covers(noted, &place.headroom.room) {
+    if covers(noted.room, &place.headroom.room) {
         return true;
     }
-    has_too_large(cluster, p, place.queue, &place.headroom.room)
+    has_too_large(cluster, &noted.least, p, place.queue, &place.headroom.room)
 }
 
 /// The queue in a place just below one, or nothing where nothing below it may be placed for which there is headroom. What
@@ -89,12 +98,12 @@ pub(crate) fn open_child(
     ensures none { IfNone result (IsClosedIn cluster.now p queue.now.place.headroom
         (slice_index_or queue.now.children.now at 0)) }
 {
-    let noted = notes.room(p, queue.children[at]);
-    if covers(noted, &queue.place.headroom.room) {
+    let noted = notes.noted(p, queue.children[at]);
+    if covers(noted.room, &queue.place.headroom.room) {
         return None;
     }
     let child = child_in(cluster, p, queue, at);
-    if has_none(cluster, noted, p, &child) {
+    if has_none(cluster, &noted, p, &child) {
         return None;
     }
     Some(child)
@@ -124,8 +133,8 @@ fn is_shut_in_any_room(cluster: &Cluster, notes: &Shut, p: u8, queue: &Reached<'
     true
 }
 
-/// The room that is noted of a queue which is shut in its own: any, if it is shut in any.
-pub(crate) fn room_to_note(cluster: &Cluster, notes: &Shut, p: u8, queue: &Reached<'_>) -> Resource
+/// The room in which a queue is shut that is shut in its own: any, if it is shut in any.
+fn shut_room(cluster: &Cluster, notes: &Shut, p: u8, queue: &Reached<'_>) -> Resource
     requires partition { HasPartition cluster.now.rows p }
     requires notes { AreShut cluster.now notes.now }
     requires reached { IsReached cluster.now queue.now.place queue.now.children.now }
@@ -138,4 +147,29 @@ pub(crate) fn room_to_note(cluster: &Cluster, notes: &Shut, p: u8, queue: &Reach
     } else {
         queue.place.headroom.room
     }
+}
+
+/// The room to note of a queue below which nothing may be placed for which there is headroom. What is noted already stays
+/// where nothing better is known.
+pub(crate) fn room_to_note(
+    cluster: &Cluster,
+    notes: &Shut,
+    p: u8,
+    queue: &Reached<'_>,
+    before: Option<Resource>,
+) -> Option<Resource>
+    requires partition { HasPartition cluster.now.rows p }
+    requires notes { AreShut cluster.now notes.now }
+    requires reached { IsReached cluster.now queue.now.place queue.now.children.now }
+    requires amounts { HasAmountsIn cluster.now p queue.now.place }
+    requires before { IfSome before (IsShutIn cluster.now p queue.now.place.queue) }
+    ensures { (IsTrue queue.now.place.headroom.is_open
+        → IsShutIn cluster.now p queue.now.place.queue queue.now.place.headroom.room)
+        → IfSome result (IsShutIn cluster.now p queue.now.place.queue) }
+{
+    let headroom = &queue.place.headroom;
+    if !headroom.is_open || covers(before, &headroom.room) {
+        return before;
+    }
+    Some(shut_room(cluster, notes, p, queue))
 }

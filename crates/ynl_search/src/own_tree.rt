@@ -8,15 +8,16 @@ ghost use Rattle.ynl_search.specs.Places.{IsSmallPlace};
 ghost use Rattle.ynl_search.specs.Scenes.{HasAmountsIn};
 
 use crate::found::Found;
+use crate::leasts::least_to_note;
 use crate::leaves::{first_in_leaf, is_shut_leaf};
-use crate::open_child::{covers, open_child, room_to_note};
+use crate::open_child::{open_child, room_to_note};
 use crate::place::{ANY, Place};
 use crate::queues::{child_in, reach, standing_at};
 use crate::reached::Reached;
 use ynl_cluster::Cluster;
 use ynl_descent::{Standing, Tree};
 use ynl_resource::Resource;
-use ynl_shut::Shut;
+use ynl_shut::{Noted, Shut};
 
 /// The tree of queues with the requests that are eligible on a node of a partition, which has so
 /// much free.
@@ -39,7 +40,9 @@ fn note_leaf(cluster: &Cluster, notes: &mut Shut, p: u8, place: &Place)
     ensures { AreShut cluster.now notes.new }
 {
     if is_shut_leaf(cluster, p, place) {
-        notes.note(p, place.queue, ANY);
+        let least = notes.noted(p, place.queue).least;
+        let room = Some(ANY);
+        notes.note(p, place.queue, Noted { room, least });
     }
 }
 
@@ -95,17 +98,10 @@ impl<'a> Tree for OwnTree<'a> {
     }
 
     fn note(&self, notes: &mut Shut, queue: &Reached<'a>) {
-        let place = &queue.place;
-        if !place.headroom.is_open {
-            return;
-        }
-        if covers(
-            notes.room(self.partition, place.queue),
-            &place.headroom.room,
-        ) {
-            return;
-        }
-        let room = room_to_note(self.cluster, notes, self.partition, queue);
-        notes.note(self.partition, place.queue, room);
+        let p = self.partition;
+        let before = notes.noted(p, queue.place.queue);
+        let room = room_to_note(self.cluster, notes, p, queue, before.room);
+        let least = least_to_note(self.cluster, notes, p, queue, before.least);
+        notes.note(p, queue.place.queue, Noted { room, least });
     }
 }

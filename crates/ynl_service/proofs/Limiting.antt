@@ -25,7 +25,7 @@ use Rattle.ynl_seating.proofs.UserUse.{is-user_use}
 use Rattle.ynl_cluster.specs.Cluster.{ClusterView, label_of, maxima_in, path_of, state_in, stops_in}
 use Rattle.ynl_search.specs.declared.leaf.LeafTests.{LeafTests}
 use Rattle.ynl_search.specs.declared.place.Place.{Place}
-use Rattle.ynl_search.specs.InLeaf.{IsLaneOf}
+use Rattle.ynl_shut.specs.Lanes.{IsLaneOf}
 use Rattle.ynl_search.specs.Leaves.{AreTests, keeps_limit, keeps_share}
 use Rattle.ynl_search.specs.Places.{IsPlace, allows}
 use Rattle.ynl_search.specs.Scenes.{IsPlaceOf}

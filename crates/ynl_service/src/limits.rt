@@ -24,7 +24,8 @@ use ynl_cluster::Cluster;
 use ynl_container_table::Role;
 use ynl_inventory::Placement;
 use ynl_resource::{Refusal, Resource};
-use ynl_search::{LeafTests, Place, child_at, lane_of, root_at, tests_of, ticket_of};
+use ynl_search::{LeafTests, Place, child_at, root_at, tests_of, ticket_of};
+use ynl_shut::lane_of;
 
 /// The place of a queue on a partition where so much is free: the queues on the way to it are gone
 /// through from root.

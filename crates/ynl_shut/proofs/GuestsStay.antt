@@ -4,10 +4,8 @@ use Rattle.std.specs.Prelude.{nat_lt}
 use Rattle.std.specs.List.{AllByRecursion, list_any}
 use Rattle.std.proofs.lemmas.Bool.{and_parts}
 use Rattle.std.proofs.lemmas.Option.{same_Some}
-use Rattle.ynl_resource.specs.Amounts.{fits_in}
-use Rattle.ynl_resource.specs.Names.{is_within, same_id, same_label, same_name, same_path, tenant_of}
+use Rattle.ynl_resource.specs.Names.{same_id, same_label, same_name, same_path, tenant_of}
 use Rattle.ynl_resource.specs.Tables.{put, update, without}
-use Rattle.ynl_resource.specs.declared.amounts.Resource.{Resource}
 use Rattle.ynl_resource.specs.declared.labels.Label.{Label}
 use Rattle.ynl_resource.specs.declared.names.Name.{Name}
 use Rattle.ynl_resource.specs.declared.paths.Path.{Path}
@@ -21,7 +19,6 @@ use Rattle.ynl_model.specs.Applications.{Application, LeafApps, all_apps, finish
 use Rattle.ynl_model.specs.Cluster.{State, containers_on, is_master, is_master_what, is_of, runs}
 use Rattle.ynl_model.specs.Service.{Item, ask_item, asks_for, asks_of}
 use Rattle.ynl_model.specs.Changes.{app_finishes, changed_at, container_of, end, place, taken}
-use Rattle.ynl_laws.specs.Descent.{IsBelow}
 use Rattle.ynl_laws.specs.Tabled.{IsFoundIn, Tabled}
 use Rattle.ynl_laws.specs.Working.{IsKnown, IsOrdered, Kept, has_row}
 use Rattle.ynl_laws.proofs.Lists.{Each-filter, Each-flat, Each-kept, Each-map, Each-put, Each-unkept, Each-unmap, Each-weaker, Each-with, any-other, each-contained}
@@ -238,26 +235,14 @@ hold-finishing P label c s found ordered h =
     its : Application → Container → Bool
     its app k = is_master k && is_of (tenant_of app.leaf) app.name k
 
--- ---- a queue that no guest comes from
+-- ---- a leaf
 
-module _ (queue : Path) (room : Resource) where
-  -- an ask of the queue does not fit in the room
-  abbrev pub IsLarge : Item → Type 0
-  IsLarge item = is_within queue item.leaf ≡ true → fits_in item.size room ≡ false
-
-  pub large-to : (s : State) (label : Label) → ((item : Item) → IsBelow (asks_for s label) queue item → fits_in item.size room ≡ false) → AllHold IsLarge label s
-  large-to s label shut =
-      hold-to IsLarge label s (Each-weaker (Contains (asks_for s label)) IsLarge (λ item there within. shut item (record { among = there; within = within })) (asks_for s label) (each-contained (asks_for s label)))
-
-  pub large-from : (s : State) (label : Label) → AllHold IsLarge label s → (item : Item) → IsBelow (asks_for s label) queue item → fits_in item.size room ≡ false
-  large-from s label h item below = each-among IsLarge item (asks_for s label) (hold-from IsLarge label s h) (among-contained item (asks_for s label) below.among) below.within
-
-  -- what is asked for in a leaf that is not below it is none of its own
-  pub large-off : (label : Label) (app : Application) → is_within queue app.leaf ≡ false → AllByRecursion IsLarge (asks_of label app)
-  large-off label app off =
-      Each-map (λ (ask : AskRow). IsLarge (ask_item app ask)) IsLarge (ask_item app) (λ ask k. k) (filter (λ ask. same_label ask.label label && nat_lt 0 ask.count) app.asks)
-      (Each-all' (filter (λ ask. same_label ask.label label && nat_lt 0 ask.count) app.asks))
-    where
-      Each-all' : (asks : List AskRow) → AllByRecursion (λ (ask : AskRow). IsLarge (ask_item app ask)) asks
-      Each-all' [] = tt
-      Each-all' (ask ∷ asks) = ((λ within. absurd (true≢false (sym within ∙ off))), Each-all' asks)
+-- what holds of all requests of a leaf holds of what its applications ask for
+pub asks-of-leaf : (P : Item → Type 0) (leaf : Path) (label : Label) (app : Application) → ((item : Item) → item.leaf ≡ leaf → P item) → app.leaf ≡ leaf → AllByRecursion P (asks_of label app)
+asks-of-leaf P leaf label app own at =
+    Each-map (λ (ask : AskRow). P (ask_item app ask)) P (ask_item app) (λ ask k. k) (filter (λ ask. same_label ask.label label && nat_lt 0 ask.count) app.asks)
+    (each (filter (λ ask. same_label ask.label label && nat_lt 0 ask.count) app.asks))
+  where
+    each : (asks : List AskRow) → AllByRecursion (λ (ask : AskRow). P (ask_item app ask)) asks
+    each [] = tt
+    each (ask ∷ asks) = (own (ask_item app ask) at, each asks)

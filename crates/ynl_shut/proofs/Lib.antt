@@ -4,7 +4,12 @@ mod Stays
 mod Lasting
 mod Once
 mod Facts
+pub mod Found
+pub mod Listed
+pub mod LaneOf
+pub mod Least
 mod Keeping
+mod Leaving
 mod GuestsStay
 mod GuestKeeping
 mod Forgetting

@@ -1,4 +1,4 @@
--- A queue that is shut stays so where what stands below it does.
+-- What is noted of a queue stays right where what stands below it does.
 use Rattle.std.proofs.Common.{◌≡◌, ◌⊎◌, ℕ, Bool, true, false, ◌&&◌, ◌||◌, List, [], ◌∷◌, Option, None, Some, inl, inr, refl, sym, ap, subst, ◌∙◌, true≢false, arith}
 use Rattle.std.specs.Prelude.{nat_le}
 use Rattle.std.proofs.lemmas.Bool.Decides.{nat_tests}
@@ -18,8 +18,9 @@ use Rattle.ynl_laws.specs.Tabled.{Tabled}
 use Rattle.ynl_laws.proofs.Lists.{Each-all, Each-map}
 use Rattle.ynl_laws.proofs.Names.{same-name_self, same-name_sym}
 use Rattle.ynl_requests.proofs.Members.{Among, among-contained, contained-among, each-among}
-use Rattle.ynl_shut.specs.Shut.{IsShut, keeps_maximum}
-use Rattle.ynl_shut.specs.Laws.{StaysShut}
+use Rattle.ynl_laws.proofs.Amounts.{fits-trans}
+use Rattle.ynl_shut.specs.Shut.{AreAtLeast, IsShut, keeps_maximum}
+use Rattle.ynl_shut.specs.Laws.{Stays, StaysAtLeast, StaysShut}
 use Rattle.ynl_shut.proofs.Requests.{from-leaf, in-leaf}
 use Rattle.ynl_shut.proofs.Rooms.{allows, narrow, narrow-tells}
 
@@ -119,5 +120,39 @@ module _ (c : Config) (s t : State) (label : Label) (queue : Path) (before : Tab
             (subst (λ l. Among item (requests_at t label l)) at (in-leaf t after label item (among-contained item (items_for t label) below.among)))
             (sym (ap (λ o. allows o item.size) e) ∙ takes)
 
-  pub stays : StaysShut c s t label queue
-  stays room shut item below fits = still room shut item.leaf below.within item refl below fits (list_all (keeps t item.size) (root ∷ way_to item.leaf)) refl
+  stays-shut : StaysShut c s t label queue
+  stays-shut room shut item below fits = still room shut item.leaf below.within item refl below fits (list_all (keeps t item.size) (root ∷ way_to item.leaf)) refl
+
+  -- the least of a leaf lasts as its lulls do: where it does not fit in no room at all, none of the leaf's requests does
+  module _ (least : Resource) (above : AreAtLeast (items_for s label) queue least) (some : fits_in least nothing ≡ false) (leaf : Path) (own : is_within queue leaf ≡ true) where
+    standing : IsLull c s label leaf least nothing
+    standing = record { above = each-above (requests_at s label leaf) (λ item there. there); none = each-none (requests_at s label leaf) (λ item there. there) }
+      where
+        one : (item : Item) → Among item (requests_at s label leaf) → fits_in least item.size ≡ true
+        one item there =
+            let at = from-leaf s before label leaf item there in
+            above item (record { among = contained-among item (items_for s label) at.0; within = ap (is_within queue) at.1 ∙ own })
+
+        each-above : (items : List Item) → ((item : Item) → Among item items → Among item (requests_at s label leaf)) → AllByRecursion (λ item. fits_in least item.size ≡ true) items
+        each-above [] there = tt
+        each-above (item ∷ items) there = (one item (there item (inl refl)), each-above items (λ other h. there other (inr h)))
+
+        each-none : (items : List Item) → ((item : Item) → Among item items → Among item (requests_at s label leaf)) → AllByRecursion (λ item. fits_in item.size nothing ≡ true → keeps_own_limits c s label item ≡ false) items
+        each-none [] there = tt
+        each-none (item ∷ items) there = (
+          (λ fits. absurd (true≢false (sym (fits-trans least item.size nothing (one item (there item (inl refl))) fits) ∙ some))),
+          each-none items (λ other h. there other (inr h)),
+        )
+
+  stays-at_least : StaysAtLeast s t label queue
+  stays-at_least least above item below = go (fits_in least nothing) refl
+    where
+      go : (b : Bool) → fits_in least nothing ≡ b → fits_in least item.size ≡ true
+      go true none = fits-trans least nothing item.size none (nothing-fits item.size)
+      go false some =
+          each-among (λ item. fits_in least item.size ≡ true) item (requests_at t label item.leaf)
+          ((lasts item.leaf below.within least nothing (standing least above some item.leaf below.within)).above)
+          (in-leaf t after label item (among-contained item (items_for t label) below.among))
+
+  pub stays : Stays c s t label queue
+  stays = record { shut = stays-shut; least = stays-at_least }

@@ -1,4 +1,5 @@
 pub mod Notes
+pub mod Lanes
 pub mod Shut
 pub mod Laws
 pub mod Upkeep

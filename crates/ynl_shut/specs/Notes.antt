@@ -1,71 +1,85 @@
--- Rooms that are noted of queues on partitions.
-use Rattle.std.specs.Prelude.{◌≡◌, ℕ, Bool, false, ◌&&◌, nat_eq, nat_lt, List, [], length, slice_get, slice_index_or, Option, None, Some, if◌then◌else◌}
+-- What is noted of queues on partitions.
+use Rattle.std.specs.Prelude.{◌≡◌, ℕ, Bool, false, ◌&&◌, nat_eq, nat_lt, List, [], length, slice_get, slice_index_or, None, if◌then◌else◌}
 use Rattle.std.specs.Option.{option_map_or}
+use Rattle.ynl_resource.specs.Amounts.{nothing, smaller_of}
 use Rattle.ynl_resource.specs.declared.amounts.Resource.{Resource}
+use Rattle.ynl_shut.specs.declared.noted.Noted.{Noted}
 use Rattle.ynl_shut.specs.declared.row.Row.{Row as RowPart}
 
--- the rooms of the queues on a partition, by number; where none is known the list says nothing
+-- what is noted of the queues on a partition, by number; where nothing is known the list says nothing
 pub record Row : Type 0 where
   pub known : Bool
-  pub rooms : List (Option Resource)
+  pub notes : List Noted
 
 -- a row as it is kept
 abbrev pub row_of : RowPart → Row
-row_of part = record { known = part.known; rooms = part.rooms.items }
+row_of part = record { known = part.known; notes = part.notes.items }
 
--- the rooms by partition
-abbrev pub Rooms : Type 0
-Rooms = List Row
+-- the rows by partition
+abbrev pub Table : Type 0
+Table = List Row
 
--- what is noted: rooms in which queues are shut, by partition, and rooms in which no guest comes from them
+-- nothing is noted of a queue
+abbrev pub nothing_noted : Noted
+nothing_noted = record { room = None; least = nothing }
+
+-- what is noted of queues by partition, and of their guests
 pub record Notes : Type 0 where
-  pub own : Rooms
+  pub own : Table
   pub guests : Row
 
 -- nothing, without a place for anything
 abbrev pub no_notes : Notes
-no_notes = record { own = []; guests = record { known = false; rooms = [] } }
+no_notes = record { own = []; guests = record { known = false; notes = [] } }
 
--- whether there is a place for a queue's room in a row
+-- whether there is a place for a queue in a row
 abbrev pub has_in : Row → ℕ → Bool
-has_in row q = nat_lt q (length row.rooms)
+has_in row q = nat_lt q (length row.notes)
 
 -- what is noted of a queue in a row
-abbrev pub room_in : Row → ℕ → Option Resource
-room_in row q = if row.known then slice_index_or row.rooms q None else None
+abbrev pub noted_in : Row → ℕ → Noted
+noted_in row q = if row.known then slice_index_or row.notes q nothing_noted else nothing_noted
 
--- whether there is a place for a queue's room on a partition
-abbrev pub has_at : Rooms → ℕ → ℕ → Bool
-has_at notes p q = option_map_or (λ row. has_in row q) (slice_get notes p) false
+-- whether there is a place for a queue on a partition
+abbrev pub has_at : Table → ℕ → ℕ → Bool
+has_at table p q = option_map_or (λ row. has_in row q) (slice_get table p) false
 
--- the room that is noted of a queue on a partition, if one is
-abbrev pub room_at : Rooms → ℕ → ℕ → Option Resource
-room_at notes p q = option_map_or (λ row. room_in row q) (slice_get notes p) None
+-- what is noted of a queue on a partition
+abbrev pub noted_at : Table → ℕ → ℕ → Noted
+noted_at table p q = option_map_or (λ row. noted_in row q) (slice_get table p) nothing_noted
 
 -- what is noted changes, by partition and queue
-pub record Changes (change : ℕ → ℕ → Option Resource → Option Resource) (old new : Rooms) : Type 0 where
+pub record Changes (change : ℕ → ℕ → Noted → Noted) (old new : Table) : Type 0 where
   pub has : (p q : ℕ) → has_at new p q ≡ has_at old p q
-  pub room : (p q : ℕ) → room_at new p q ≡ change p q (room_at old p q)
+  pub noted : (p q : ℕ) → noted_at new p q ≡ change p q (noted_at old p q)
 
--- a room is noted of a queue on a partition, if there is a place for it
-abbrev pub noted : Rooms → ℕ → ℕ → Resource → ℕ → ℕ → Option Resource → Option Resource
-noted old p q room r t before = if nat_eq r p && (has_at old r t && nat_eq t q) then Some room else before
+-- something is noted of a queue on a partition, if there is a place for it
+abbrev pub noted : Table → ℕ → ℕ → Noted → ℕ → ℕ → Noted → Noted
+noted old p q more r t before = if nat_eq r p && (has_at old r t && nat_eq t q) then more else before
 
--- what is noted of these is forgotten
-abbrev pub forgotten : (ℕ → ℕ → Bool) → ℕ → ℕ → Option Resource → Option Resource
-forgotten gone r t before = if gone r t then None else before
+-- what is left of what is noted of a queue where requests may have come below it that are for so much at least
+abbrev pub with_more : Resource → Noted → Noted
+with_more low before = record { room = None; least = smaller_of before.least low }
+
+-- so it is of some queues
+abbrev pub more_where : (ℕ → ℕ → Bool) → Resource → ℕ → ℕ → Noted → Noted
+more_where come low r t before = if come r t then with_more low before else before
+
+-- all is forgotten
+abbrev pub forgotten : ℕ → ℕ → Noted → Noted
+forgotten r t before = nothing_noted
 
 -- nothing is noted, and there are places for so many queues on so many partitions
-pub record AreEmpty (partitions queues : ℕ) (rooms : Rooms) : Type 0 where
-  pub has : (p q : ℕ) → has_at rooms p q ≡ (nat_lt p partitions && nat_lt q queues)
-  pub room : (p q : ℕ) → room_at rooms p q ≡ None
+pub record AreEmpty (partitions queues : ℕ) (table : Table) : Type 0 where
+  pub has : (p q : ℕ) → has_at table p q ≡ (nat_lt p partitions && nat_lt q queues)
+  pub noted : (p q : ℕ) → noted_at table p q ≡ nothing_noted
 
 -- the same of guests too
 pub record IsEmpty (partitions queues : ℕ) (notes : Notes) : Type 0 where
   pub own : AreEmpty partitions queues notes.own
   pub has : (q : ℕ) → has_in notes.guests q ≡ nat_lt q queues
-  pub guests : (q : ℕ) → room_in notes.guests q ≡ None
+  pub guests : (q : ℕ) → noted_in notes.guests q ≡ nothing_noted
 
--- the room of a queue, with one of some queue set, if there is a place for it
-abbrev pub put_at : List (Option Resource) → ℕ → Option Resource → ℕ → Option Resource
-put_at rooms queue room q = if nat_lt q (length rooms) && nat_eq q queue then room else slice_index_or rooms q None
+-- what is noted of a queue, with that of some queue set, if there is a place for it
+abbrev pub put_at : List Noted → ℕ → Noted → ℕ → Noted
+put_at notes queue noted q = if nat_lt q (length notes) && nat_eq q queue then noted else slice_index_or notes q nothing_noted

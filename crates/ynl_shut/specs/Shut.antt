@@ -1,5 +1,5 @@
--- When a queue is shut in a room: nothing below it that fits there may be placed.
-use Rattle.std.specs.Prelude.{◌≡◌, ℕ, Bool, true, false, ◌&&◌, ◌||◌, ◌∷◌, IfSome}
+-- When what is noted of queues is right: a queue is shut in its room, and each request below it is for its least at least.
+use Rattle.std.specs.Prelude.{◌≡◌, ℕ, Bool, true, false, ◌&&◌, ◌||◌, List, ◌∷◌, IfSome}
 use Rattle.std.specs.List.{list_all}
 use Rattle.ynl_resource.specs.Amounts.{fits_in, plus}
 use Rattle.ynl_resource.specs.Names.{root, is_within, way_to}
@@ -13,7 +13,8 @@ use Rattle.ynl_model.specs.Service.{Item, asks_for, items_for, within_master_sha
 use Rattle.ynl_laws.specs.Descent.{IsBelow}
 use Rattle.ynl_layout.specs.Paths.{HasNumber}
 use Rattle.ynl_cluster.specs.Cluster.{ClusterView, IsCell, label_of, path_of, state_in}
-use Rattle.ynl_shut.specs.Notes.{Notes, Rooms, Row, room_at, room_in}
+use Rattle.ynl_shut.specs.declared.noted.Noted.{Noted}
+use Rattle.ynl_shut.specs.Notes.{Notes, Row, Table, noted_at, noted_in}
 
 -- whether a queue stays within its maximum with so much more
 abbrev pub keeps_maximum : State → Label → Resource → Path → Bool
@@ -29,18 +30,23 @@ keeps_below c s label queue item =
 abbrev pub IsShut : Config → State → Label → Path → Resource → Type 0
 IsShut c s label queue room = (item : Item) → IsBelow (items_for s label) queue item → fits_in item.size room ≡ true → keeps_below c s label queue item ≡ false
 
--- in a room no guest comes from below a queue: nothing that is asked for there on DEFAULT fits
-abbrev pub IsGuestShut : State → Path → Resource → Type 0
-IsGuestShut s queue room = (item : Item) → IsBelow (asks_for s Unlabelled) queue item → fits_in item.size room ≡ false
+-- of some requests each below a queue is for so much at least
+abbrev pub AreAtLeast : List Item → Path → Resource → Type 0
+AreAtLeast items queue least = (item : Item) → IsBelow items queue item → fits_in least item.size ≡ true
 
--- each queue of a cluster is shut on each partition in the room that is noted of it there
-abbrev pub AreOwnShut : ClusterView → Rooms → Type 0
-AreOwnShut w rooms = (p q : ℕ) → IsCell w p q → IfSome (room_at rooms p q) (IsShut w.config (state_in w) (label_of w p) (path_of w q))
+-- what is noted of a queue on a partition is right
+pub record IsRight (c : Config) (s : State) (label : Label) (queue : Path) (noted : Noted) : Type 0 where
+  pub room : IfSome noted.room (IsShut c s label queue)
+  pub least : AreAtLeast (items_for s label) queue noted.least
 
--- and in the room that is noted of its guests none comes from there
-abbrev pub AreGuestsShut : ClusterView → Row → Type 0
-AreGuestsShut w row = (q : ℕ) → HasNumber w.rows.paths q → IfSome (room_in row q) (IsGuestShut (state_in w) (path_of w q))
+-- what is noted of each queue of a cluster on each partition
+abbrev pub AreOwnRight : ClusterView → Table → Type 0
+AreOwnRight w table = (p q : ℕ) → IsCell w p q → IsRight w.config (state_in w) (label_of w p) (path_of w q) (noted_at table p q)
+
+-- and of its guests
+abbrev pub AreGuestsRight : ClusterView → Row → Type 0
+AreGuestsRight w row = (q : ℕ) → HasNumber w.rows.paths q → AreAtLeast (asks_for (state_in w) Unlabelled) (path_of w q) (noted_in row q).least
 
 pub record AreShut (w : ClusterView) (notes : Notes) : Type 0 where
-  pub own : AreOwnShut w notes.own
-  pub guests : AreGuestsShut w notes.guests
+  pub own : AreOwnRight w notes.own
+  pub guests : AreGuestsRight w notes.guests

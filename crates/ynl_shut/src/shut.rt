@@ -1,19 +1,20 @@
-//! Rooms in which queues are shut.
+//! What is noted of queues below which nothing may be placed.
 
-ghost use Rattle.std.specs.Prelude.{◌≡◌, ℕ, [], true, IfOk, None, Some, ◌&&◌, nat_eq, if◌then◌else◌};
+ghost use Rattle.std.specs.Prelude.{◌≡◌, ℕ, IfOk, None, ◌&&◌, nat_eq, if◌then◌else◌};
 ghost use Rattle.ynl_laws.specs.Ways.{has_number};
-ghost use Rattle.ynl_shut.specs.Notes.{forgotten, has_in, no_notes, noted, room_at, room_in, Changes, IsEmpty};
+ghost use Rattle.ynl_shut.specs.Notes.{forgotten, has_in, more_where, no_notes, noted, noted_at, noted_in, nothing_noted, with_more, Changes, IsEmpty};
 
-use crate::room_table::RoomTable;
-use crate::row::{Row, forget, note, room_in, unknown};
+use crate::note_table::NoteTable;
+use crate::noted::Noted;
+use crate::row::{Row, change, note, noted_in, unknown};
 use std::alloc::{AllocError, Global};
 use std::marker::Model;
 use ynl_resource::Resource;
 
-/// Rooms that are noted of queues: on a partition those in which a search found nothing below the queue, and those in which
-/// no guest comes from there. What is not noted costs a search, and no answer.
+/// What is noted of queues on partitions, and of their guests: what each ask for DEFAULT below a queue is for at least. What
+/// is not noted costs a search, and no answer.
 pub struct Shut {
-    own: RoomTable,
+    own: NoteTable,
     guests: Row,
 }
 
@@ -38,7 +39,7 @@ impl Shut {
     pub fn new(alloc: Global, partitions: usize, queues: usize) -> Result<Shut, AllocError>
         ensures { IfOk result (IsEmpty partitions queues) }
     {
-        let own = RoomTable::new(alloc, partitions, queues)?;
+        let own = NoteTable::new(alloc, partitions, queues)?;
         let guests = unknown(alloc, queues)?;
         Ok(Shut { own, guests })
     }
@@ -48,78 +49,71 @@ impl Shut {
         ensures { result ≡ no_notes }
     {
         Shut {
-            own: RoomTable::none(alloc),
+            own: NoteTable::none(alloc),
             guests: Row {
                 known: false,
-                rooms: Vec::new(alloc),
+                notes: Vec::new(alloc),
             },
         }
     }
 
-    /// The room that is noted of a queue on a partition, if one is.
-    pub fn room(&self, p: u8, queue: usize) -> Option<Resource>
-        ensures { result ≡ room_at self.now.own p queue }
+    /// What is noted of a queue on a partition.
+    pub fn noted(&self, p: u8, queue: usize) -> Noted
+        ensures { result ≡ noted_at self.now.own p queue }
     {
-        self.own.room(p, queue)
+        self.own.noted(p, queue)
     }
 
-    /// A room is noted of a queue on a partition, if there is a place for it. It takes no memory.
-    pub fn note(&mut self, p: u8, queue: usize, room: Resource)
-        ensures own { Changes (noted self.old.own p queue room) self.old.own self.new.own }
+    /// Something is noted of a queue on a partition, if there is a place for it. It takes no memory.
+    pub fn note(&mut self, p: u8, queue: usize, more: Noted)
+        ensures own { Changes (noted self.old.own p queue more) self.old.own self.new.own }
         ensures guests { self.new.guests ≡ self.old.guests }
     {
-        self.own.note(p, queue, room);
+        self.own.note(p, queue, more);
     }
 
-    /// What is noted of some queues on a partition is forgotten.
-    pub fn forget(&mut self, p: u8, queues: &[usize])
-        ensures own { Changes (forgotten (λ r t. nat_eq r p && has_number queues.now t))
+    /// Requests may have come below some queues on a partition that are for so much at least.
+    pub fn change(&mut self, p: u8, queues: &[usize], low: &Resource)
+        ensures own { Changes (more_where (λ r t. nat_eq r p && has_number queues.now t) low.now)
             self.old.own self.new.own }
         ensures guests { self.new.guests ≡ self.old.guests }
     {
-        self.own.forget(p, queues);
-    }
-
-    /// What is noted of some queues on all partitions is forgotten.
-    pub fn forget_on_all(&mut self, queues: &[usize])
-        ensures own { Changes (forgotten (λ r t. has_number queues.now t))
-            self.old.own self.new.own }
-        ensures guests { self.new.guests ≡ self.old.guests }
-    {
-        self.own.forget_on_all(queues);
+        self.own.change(p, queues, low);
     }
 
     /// All is forgotten.
     pub fn forget_all(&mut self)
-        ensures own { Changes (forgotten (λ r t. true)) self.old.own self.new.own }
-        ensures guests { (q : ℕ) → room_in self.new.guests q ≡ None }
+        ensures own { Changes forgotten self.old.own self.new.own }
+        ensures guests { (q : ℕ) → noted_in self.new.guests q ≡ nothing_noted }
     {
         self.own.forget_all();
         self.guests.known = false;
     }
 
-    /// The room in which no guest is known to come from below a queue, if one is noted.
-    pub fn guest_room(&self, queue: usize) -> Option<Resource>
-        ensures { result ≡ room_in self.now.guests queue }
+    /// What each ask for DEFAULT below a queue is for at least, as it is noted.
+    pub fn least_guest(&self, queue: usize) -> Resource
+        ensures { result ≡ (noted_in self.now.guests queue).least }
     {
-        room_in(&self.guests, queue)
+        noted_in(&self.guests, queue).least
     }
 
-    /// A room is noted in which no guest comes from below a queue, if there is a place for it. It takes no memory.
-    pub fn note_guest(&mut self, queue: usize, room: Resource)
+    /// It is noted what each ask for DEFAULT below a queue is for at least, if there is a place for it. It takes no memory.
+    pub fn note_guest(&mut self, queue: usize, least: Resource)
         ensures own { self.new.own ≡ self.old.own }
-        ensures guests { (q : ℕ) → room_in self.new.guests q
-            ≡ (if has_in self.old.guests q && nat_eq q queue then Some room else room_in self.old.guests q) }
+        ensures guests { (q : ℕ) → noted_in self.new.guests q
+            ≡ (if has_in self.old.guests q && nat_eq q queue then record { room = None; least = least }
+            else noted_in self.old.guests q) }
     {
-        note(&mut self.guests, queue, room);
+        note(&mut self.guests, queue, Noted { room: None, least });
     }
 
-    /// What is noted of guests from below some queues is forgotten.
-    pub fn forget_guests(&mut self, queues: &[usize])
+    /// Asks for DEFAULT may have come below some queues that are for so much at least.
+    pub fn change_guests(&mut self, queues: &[usize], low: &Resource)
         ensures own { self.new.own ≡ self.old.own }
-        ensures guests { (q : ℕ) → room_in self.new.guests q
-            ≡ (if has_number queues.now q then None else room_in self.old.guests q) }
+        ensures guests { (q : ℕ) → noted_in self.new.guests q
+            ≡ (if has_number queues.now q then with_more low.now (noted_in self.old.guests q)
+            else noted_in self.old.guests q) }
     {
-        forget(&mut self.guests, queues);
+        change(&mut self.guests, queues, low);
     }
 }

@@ -1,22 +1,21 @@
 //! Changes of a cluster that keep what is noted right.
 
-ghost use Rattle.std.specs.Prelude.{◌≡◌, ℕ, IfOk, IfSome, IsOk, IsSome, OnErr, OnOk, Some, nat_eq, slice_index_or, []};
+ghost use Rattle.std.specs.Prelude.{◌≡◌, ℕ, IfOk, IfSome, IsOk, IsSome, OnErr, OnOk, Some, nat_eq, slice_index_or, [], true};
 ghost use Rattle.std.specs.Map.{lookup};
 ghost use Rattle.ynl_model.specs.Applications.{in_leaf, new_app, set_ask, submitted, with_app};
 ghost use Rattle.ynl_model.specs.Changes.{app_finishes, container_of, end, place};
 ghost use Rattle.ynl_laws.specs.Working.{IsWorking};
-ghost use Rattle.ynl_layout.specs.Paths.{HasNumber};
 ghost use Rattle.ynl_slots.specs.Slots.{IsLive, IsUnused};
 ghost use Rattle.ynl_app_table.specs.declared.app.Tickets.{Tickets as TicketPair};
 ghost use Rattle.ynl_inventory.specs.Rows.{AppRow};
 ghost use Rattle.ynl_inventory.specs.Changes.{partition_of_node, with_app_gone, with_asked, with_ended, with_placed, with_submitted, with_tickets};
 ghost use Rattle.ynl_inventory.specs.Meaning.{app_name, app_of, ask_of, item_of, node_of, placed_of};
 ghost use Rattle.ynl_inventory.specs.Parts.{CanPlace, LeavesRoom, containers_of, held_at};
-ghost use Rattle.ynl_inventory.specs.Sound.{CanAsk, CanSubmit, IsFor, IsPlaceable, IsSound};
-ghost use Rattle.ynl_cluster.specs.Cluster.{held_in, label_of, path_of, state_in};
-ghost use Rattle.ynl_inventory.specs.Apps.{is_master_role};
-ghost use Rattle.ynl_shut.specs.Upkeep.{AreForgotten, AreGuestsForgotten, StayRight, changed_on};
+ghost use Rattle.ynl_inventory.specs.Sound.{CanAsk, CanSubmit, HasPartition, IsFor, IsLeaf, IsPlaceable, IsSound};
+ghost use Rattle.ynl_cluster.specs.Cluster.{held_in, label_of, path_of, state_in, IsCell};
+ghost use Rattle.ynl_shut.specs.Upkeep.{AreGuestsLeft, AreLeft, StayRight, changed_on, is_on};
 
+use crate::leaves::{least_asked, least_in};
 use crate::shut::Shut;
 use std::alloc::AllocError;
 use ynl_app_table::Ask;
@@ -36,41 +35,46 @@ fn changed_on(role: Role, p: u8) -> Option<u8>
     }
 }
 
-/// Forgets what is noted of the queues on the way to a leaf, on a partition or on all.
-fn forget_way(cluster: &Cluster, shut: &mut Shut, leaf: u32, only: Option<u8>)
-    requires { HasNumber cluster.now.rows.paths leaf }
-    ensures forgotten { AreForgotten cluster.now leaf only shut.old.own shut.new.own }
+/// What is noted of the queues on the way to a leaf changes with what waits in the leaf on a partition.
+fn change_way_on(cluster: &Cluster, shut: &mut Shut, leaf: usize, p: u8)
+    requires cell { IsCell cluster.now p leaf }
+    requires leaf { IsLeaf cluster.now.rows leaf }
+    ensures left { AreLeft cluster.now leaf (λ r. nat_eq r p) shut.old.own shut.new.own }
     ensures guests { shut.new.guests ≡ shut.old.guests }
+{
+    let low = least_in(cluster, p, leaf);
+    shut.change(p, cluster.inventory().layout().line(leaf), &low);
+}
+
+/// It does so with what waits in the leaf on each partition.
+fn change_way_on_all(cluster: &Cluster, shut: &mut Shut, leaf: usize)
+    requires { IsLeaf cluster.now.rows leaf }
+    ensures left { AreLeft cluster.now leaf (λ r. true) shut.old.own shut.new.own }
+    ensures guests { shut.new.guests ≡ shut.old.guests }
+{
+    for p in 0..cluster.inventory().partition_count() {
+        change_way_on(cluster, shut, leaf, p as u8);
+    }
+}
+
+/// What is noted of the queues on the way to a leaf, and of their guests, changes with what waits in the leaf, on one
+/// partition or on all.
+fn change_way(cluster: &Cluster, shut: &mut Shut, leaf: u32, only: Option<u8>)
+    requires leaf { IsLeaf cluster.now.rows leaf }
+    requires only { IfSome only (HasPartition cluster.now.rows) }
+    ensures left { AreLeft cluster.now leaf (is_on only) shut.old.own shut.new.own }
+    ensures guests { AreGuestsLeft cluster.now leaf shut.old.guests shut.new.guests }
     ensures sound { IsSound cluster.now.rows }
     ensures configured { IsFor cluster.now.config cluster.now.rows }
 {
     let inventory = cluster.inventory();
-    let line = inventory.layout().line(leaf as usize);
+    let leaf = leaf as usize;
     match only {
-        Some(p) => shut.forget(p, line),
-        None => shut.forget_on_all(line),
+        Some(p) => change_way_on(cluster, shut, leaf, p),
+        None => change_way_on_all(cluster, shut, leaf),
     }
-}
-
-/// Whether an application begins to run with a container, so that what it asks for on DEFAULT may be a guest.
-fn begins(role: Role) -> bool
-    ensures { result ≡ is_master_role role }
-{
-    match role {
-        Role::Master => true,
-        Role::Ask { .. } => false,
-    }
-}
-
-/// Forgets what is noted of the guests of the queues on the way to a leaf, if more may come from there.
-fn forget_guests(cluster: &Cluster, shut: &mut Shut, leaf: u32, gone: bool)
-    requires { HasNumber cluster.now.rows.paths leaf }
-    ensures own { shut.new.own ≡ shut.old.own }
-    ensures guests { AreGuestsForgotten cluster.now leaf gone shut.old.guests shut.new.guests }
-{
-    if gone {
-        shut.forget_guests(cluster.inventory().layout().line(leaf as usize));
-    }
+    let low = least_asked(cluster, leaf);
+    shut.change_guests(inventory.layout().line(leaf), &low);
 }
 
 /// A container is placed on a node, as `Cluster::place` says, and told as the model has it. It takes
@@ -102,9 +106,9 @@ pub fn place(cluster: &mut Cluster, shut: &mut Shut, placed: &Placement) -> Plac
     let node = inventory.node(placed.node);
     let p = node.partition;
     let number = cluster.place(placed);
-    forget_way(cluster, shut, leaf, changed_on(placed.role, p));
-    forget_guests(cluster, shut, leaf, begins(placed.role));
-    cluster.inventory().placed(p, number)
+    let told = cluster.inventory().placed(p, number);
+    change_way(cluster, shut, leaf, changed_on(placed.role, p));
+    told
 }
 
 /// The container under a number in a partition ends, as `Cluster::end` says. It takes no memory.
@@ -126,7 +130,9 @@ pub fn end(cluster: &mut Cluster, shut: &mut Shut, p: u8, number: u32) -> Contai
     let app = inventory.app(held.app);
     let leaf = app.leaf;
     let ended = cluster.end(p, number);
-    forget_way(cluster, shut, leaf, changed_on(ended.role, p));
+    // Opens the rows, whose partitions are the configured ones.
+    let _ = cluster.inventory();
+    change_way(cluster, shut, leaf, changed_on(ended.role, p));
     ended
 }
 
@@ -158,7 +164,7 @@ pub fn submit(
     // Opens the rows, which are sound.
     let _ = cluster.inventory();
     let app = cluster.submit(name, new)?;
-    forget_way(cluster, shut, new.leaf, None);
+    change_way(cluster, shut, new.leaf, None);
     Ok(app)
 }
 
@@ -186,8 +192,7 @@ pub fn ask(cluster: &mut Cluster, shut: &mut Shut, app: u32, ask: Ask) -> Result
     let leaf = row.leaf;
     let p = ask.partition;
     cluster.ask(app, ask)?;
-    forget_way(cluster, shut, leaf, Some(p));
-    forget_guests(cluster, shut, leaf, p == 0);
+    change_way(cluster, shut, leaf, Some(p));
     Ok(())
 }
 
@@ -212,5 +217,5 @@ pub fn finish(cluster: &mut Cluster, shut: &mut Shut, app: u32)
     let row = inventory.app(app);
     let leaf = row.leaf;
     cluster.finish(app);
-    forget_way(cluster, shut, leaf, None);
+    change_way(cluster, shut, leaf, None);
 }

@@ -27,8 +27,8 @@ use Rattle.ynl_seating.specs.Seating.{least_asked, shares, ticket_on, user_use, 
 use Rattle.ynl_seating.proofs.Leasts.{are-leasts}
 use Rattle.ynl_seating.proofs.Starting.{are-found}
 use Rattle.ynl_cluster.specs.Cluster.{AskSizes, ClusterView, IsCell, IsLaneIn}
-use Rattle.ynl_search.specs.InLeaf.{IsLaneOf}
-use Rattle.ynl_search.proofs.LaneOf.{lane-is}
+use Rattle.ynl_shut.specs.Lanes.{IsLaneOf}
+use Rattle.ynl_shut.proofs.LaneOf.{lane-is}
 use Rattle.ynl_sights.specs.Copying.{items_in, kind_wanted}
 
 -- nothing of a kind waits in a leaf's lane on a partition

@@ -1,5 +1,5 @@
 use Rattle.std.proofs.Common.{◌≡◌, List, ◌∷◌, length, ap, sym, subst, ◌∙◌, arith}
-use Rattle.std.specs.Prelude.{IfSome, option_map}
+use Rattle.std.specs.Prelude.{option_map}
 use Rattle.ynl_resource.specs.Names.{is_within, root}
 use Rattle.ynl_resource.specs.declared.paths.Path.{Path}
 use Rattle.ynl_model.specs.declared.nodes.Node.{Node}
@@ -7,11 +7,14 @@ use Rattle.ynl_descent.specs.Scenes.{HasNone, IsFirstBelow}
 use Rattle.ynl_inventory.specs.Parts.{Held, free_of}
 use Rattle.ynl_inventory.proofs.Lookups.{live-found}
 use Rattle.ynl_cluster.specs.Cluster.{path_of, state_in}
-use Rattle.ynl_shut.specs.Shut.{IsGuestShut}
+use Rattle.ynl_resource.specs.declared.amounts.Resource.{Resource}
+use Rattle.ynl_resource.specs.declared.labels.Label.TheVariants.{Unlabelled}
+use Rattle.ynl_model.specs.Service.{asks_for}
+use Rattle.ynl_shut.specs.Shut.{AreAtLeast}
 use Rattle.ynl_search.specs.declared.place.Place.{Place}
 use Rattle.ynl_search.specs.Laws.{item_asked}
 use Rattle.ynl_search.specs.Scenes.{IsGuestQueue, guest_scene, node_at}
-use Rattle.ynl_search.proofs.GuestShut.{covered-guests, guestless-none}
+use Rattle.ynl_search.proofs.GuestShut.{guestless-none, too-large}
 use Rattle.ynl_search.proofs.NodeIs.{few-pass, free-at, row-is}
 use Rattle.ynl_search.proofs.choosing.first_guest_on.Goals as goal
 
@@ -41,13 +44,13 @@ returns-clause-first c = λ row at.
     (subst (λ q. IsFirstBelow (guest_scene w (node_at w c.args.node)) (path_of w q) (option_map (item_asked w.rows 0) c.descend.result))
     (ap (λ (place : Place). place.queue) c.reach-root.ensures.place ∙ c.root_at-place.ensures.queue) c.descend.ensures.found)
 
-pub returns-then-covers-clause-first : goal.returns-then-covers-clause-first
-returns-then-covers-clause-first c = λ row at.
+pub returns-then-not-fits_in-clause-first : goal.returns-then-not-fits_in-clause-first
+returns-then-not-fits_in-clause-first c = λ row at.
     let w = c.args.cluster.now in
     let h = c.inventory-inventory.ensures in
     let room = c.free-room.result in
     let is = free-at w h.sound c.args.node row at room (c.free-room.ensures ∙ ap (λ (h : Held). free_of h.rows c.args.node) h.value) in
-    let shut : IfSome c.guest_room.result (IsGuestShut (state_in w) root) =
-    subst (λ o. IfSome o (IsGuestShut (state_in w) root)) (sym c.guest_room.ensures) (c.requires.shut.guests 0 (omega arith)) in
     subst (λ (node : Node). HasNone (guest_scene w node) root) (row-is w h.sound c.args.node row at)
-    (guestless-none w (node_at w c.args.node) room is root (covered-guests (state_in w) root c.guest_room.result room shut (sym c.covers.ensures ∙ c.if-covers.true)))
+    (guestless-none w (node_at w c.args.node) room is root
+    (too-large (state_in w) root c.least_guest.result room (subst (λ (least : Resource). AreAtLeast (asks_for (state_in w) Unlabelled) root least) (sym c.least_guest.ensures) (c.requires.shut.guests 0 (omega arith)))
+    (sym c.fits_in.ensures ∙ c.if-not-fits_in.true)))

@@ -1,5 +1,5 @@
 use Rattle.std.proofs.Common.{◌≡◌, List, ◌∷◌, length, nat_eq, ap, refl, sym, subst, ◌∙◌, arith}
-use Rattle.std.specs.Prelude.{IfSome, Some, option_map}
+use Rattle.std.specs.Prelude.{Some, option_map}
 use Rattle.std.specs.Map.{lookup}
 use Rattle.ynl_resource.specs.Names.{is_within, root}
 use Rattle.ynl_resource.specs.declared.paths.Path.{Path}
@@ -13,9 +13,9 @@ use Rattle.std.proofs.lemmas.Option.{same_Some}
 use Rattle.ynl_search.specs.declared.place.Place.{Place}
 use Rattle.ynl_search.specs.Laws.{item_wanted}
 use Rattle.ynl_search.specs.Scenes.{IsNodeOf, IsOwnQueue, node_at, own_scene}
-use Rattle.ynl_search.specs.Shut.{IsShutIn}
+use Rattle.ynl_search.specs.Shut.{IsRightIn}
 use Rattle.ynl_search.proofs.NodeIs.{few-pass, label-is, node-of, row-is}
-use Rattle.ynl_search.proofs.ShutBelow.{covered, shut-has-none}
+use Rattle.ynl_search.proofs.ShutBelow.{passed, shut-has-none}
 use Rattle.ynl_search.proofs.choosing.first_own_on.Goals as goal
 
 pub descend-requires-clause-queue : goal.descend-requires-clause-queue
@@ -49,16 +49,15 @@ returns-clause-first c = λ row at.
     (subst (λ q. IsFirstBelow (own_scene w (node_at w c.args.node)) (path_of w q) (option_map (item_wanted w.rows c.node.result.now.partition) c.descend.result))
     (ap (λ (place : Place). place.queue) c.reach-root.ensures.place ∙ c.root_at-place.ensures.queue) c.descend.ensures.found))
 
-pub returns-then-covers-clause-first : goal.returns-then-covers-clause-first
-returns-then-covers-clause-first c = λ row at.
+pub returns-then-is_passed-clause-first : goal.returns-then-is_passed-clause-first
+returns-then-is_passed-clause-first c = λ row at.
     let w = c.args.cluster.now in
     let h = c.inventory-inventory.ensures in
     let p = c.node.result.now.partition in
     let found : lookup (nat_eq c.args.node) w.rows.nodes ≡ Some (node_row c.node.result.now) = ap (λ (h : Held). lookup (nat_eq c.args.node) h.rows.nodes) (sym h.value) ∙ c.node.ensures in
     let is : IsNodeOf w c.args.node p c.free-room.result =
     node-of w h.sound c.args.node (node_row c.node.result.now) found p refl c.free-room.result (c.free-room.ensures ∙ ap (λ (h : Held). free_of h.rows c.args.node) h.value) in
-    let shut : IfSome c.room.result (IsShutIn w p 0) =
-    subst (λ o. IfSome o (IsShutIn w p 0)) (sym c.room.ensures) (c.requires.shut.own p 0 (record { partition = is.has; queue = omega arith })) in
+    let right : IsRightIn w p 0 c.noted.result = subst (IsRightIn w p 0) (sym c.noted.ensures) (c.requires.shut.own p 0 (record { partition = is.has; queue = omega arith })) in
     subst (λ (node : Node). HasNone (own_scene w node) root) (row-is w h.sound c.args.node row at)
     (shut-has-none w p (node_at w c.args.node) (label-is w c.args.node p c.free-room.result is) 0 c.free-room.result is.free_is
-    (covered w.config (state_in w) (label_of w p) root c.room.result c.free-room.result shut (sym c.covers.ensures ∙ c.if-covers.true)))
+    (passed w.config (state_in w) (label_of w p) root c.noted.result c.free-room.result right (sym c.is_passed.ensures ∙ c.if-is_passed.true)))

@@ -1,10 +1,16 @@
-use Rattle.std.proofs.Common.{◌≡◌, Bool, true, false, not, refl, sym, ◌∙◌, true≢false}
-use Rattle.ynl_search.proofs.Least.{least-none}
+use Rattle.std.proofs.Common.{sym, ◌∙◌, true≢false}
+use Rattle.std.proofs.lemmas.Bool.{not-true}
+use Rattle.ynl_inventory.proofs.Finding.{not-true as none}
+use Rattle.ynl_laws.proofs.Amounts.{fits-trans}
+use Rattle.ynl_resource.specs.Amounts.{fits_in}
+use Rattle.ynl_shut.proofs.Least.{least-none}
 use Rattle.ynl_search.proofs.open_child.has_too_large.Goals as goal
 
-not-true : (b : Bool) → not b ≡ true → b ≡ false
-not-true true h = absurd (true≢false (sym h))
-not-true false h = refl
+pub returns-then-not-is_leaf : goal.returns-then-not-is_leaf
+returns-then-not-is_leaf c = λ large item below.
+    let least = c.args.least.now in
+    let room = c.args.room.now in
+    none (fits_in item.size room) (λ fits. true≢false (sym (fits-trans least item.size room (c.requires.least item below) fits) ∙ (sym c.fits_in.ensures ∙ not-true c.fits_in.result large)))
 
 pub returns-then-not-fits : goal.returns-then-not-fits
 returns-then-not-fits c = λ large item below.

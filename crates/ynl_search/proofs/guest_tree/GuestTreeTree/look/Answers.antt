@@ -3,9 +3,9 @@ use Rattle.ynl_resource.specs.declared.paths.Path.{Path}
 use Rattle.ynl_laws.specs.Decided.{below}
 use Rattle.ynl_layout.specs.Paths.{names_of}
 use Rattle.ynl_cluster.specs.Cluster.{path_of, state_in}
-use Rattle.ynl_shut.specs.Shut.{IsGuestShut}
+use Rattle.ynl_search.specs.Shut.{IsGuestless}
 use Rattle.ynl_search.specs.Scenes.{guest_scene, node_at}
-use Rattle.ynl_search.proofs.GuestShut.{guestless-none, told-guests}
+use Rattle.ynl_search.proofs.GuestShut.{guestless-none}
 use Rattle.ynl_search.proofs.Trees.{child-stands, path-there}
 use Rattle.ynl_search.proofs.guest_tree.GuestTreeTree.look.Goals as goal
 
@@ -18,12 +18,11 @@ returns-clause-standing c =
     child-stands w q.place q.children.now c.requires.queue.reached c.args.place c.requires.place child c.child_in-child.ensures.queue 0 (guest_scene w node).items (guest_scene w node).label c.requires.queue.reached.sound.default c.args.self.now.room
     (c.child_in-child.ensures.place c.args.self.now.room c.requires.queue.way) c.standing_at.result c.standing_at.ensures.place c.standing_at.ensures.used c.standing_at.ensures.guaranteed
 
-pub returns-then-is_some-clause-none : goal.returns-then-is_some-clause-none
-returns-then-is_some-clause-none c =
+pub returns-then-is_guestless-clause-none : goal.returns-then-is_guestless-clause-none
+returns-then-is_guestless-clause-none c =
     let t = c.args.self.now in
     let w = t.cluster.now in
     let q = c.args.queue.now in
     let is = c.requires.queue in
     guestless-none w (node_at w t.node) t.room is.free_is (below (path_of w q.place.queue) (get_or (names_of w.rows.paths q.children.now) c.args.place []))
-    (subst (λ (path : Path). IsGuestShut (state_in w) path t.room) (path-there w q.place q.children.now is.reached c.args.place c.requires.place)
-    (told-guests (state_in w) (path_of w (get_or q.children.now c.args.place 0)) c.guestless_room.result t.room c.guestless_room.ensures.covers c.guestless_room.ensures.shut (sym c.is_some.ensures ∙ c.if-is_some.true)))
+    (subst (λ (path : Path). IsGuestless (state_in w) path t.room) (path-there w q.place q.children.now is.reached c.args.place c.requires.place) (c.is_guestless.ensures c.if-is_guestless.true))

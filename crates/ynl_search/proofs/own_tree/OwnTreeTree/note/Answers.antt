@@ -16,7 +16,11 @@ returns c =
     let w = t.cluster.now in
     let place = c.args.queue.now.place in
     let is = c.requires.queue in
-    noted-shut w t.partition place.queue c.room_to_note-room.result c.args.notes.now c.note.new.self c.requires.notes c.note.ensures.own c.note.ensures.guests
-    (c.room_to_note-room.ensures
-    (none-is-shut w t.partition (node_at w t.node) (label-is w t.node t.partition t.room is.node) place
-    (subst (λ (room : Resource). IsPlaceOf w t.partition room place) is.node.free_is is.way) c.if-not-place.false c.requires.none))
+    noted-shut w t.partition place.queue (record { room = c.room_to_note-room.result; least = c.least_to_note-least.result }) c.args.notes.now c.note.new.self c.requires.notes c.note.ensures.own c.note.ensures.guests
+    (record {
+      room =
+          c.room_to_note-room.ensures
+          (λ opens. none-is-shut w t.partition (node_at w t.node) (label-is w t.node t.partition t.room is.node) place
+          (subst (λ (room : Resource). IsPlaceOf w t.partition room place) is.node.free_is is.way) opens c.requires.none);
+      least = c.least_to_note-least.ensures;
+    })
