@@ -1,3 +1,4 @@
 pub mod Aligned
 pub mod Ordered
+pub mod Places
 pub mod Searched

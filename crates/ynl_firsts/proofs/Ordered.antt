@@ -1,9 +1,8 @@
 -- Trees whose nodes are at or below their children: what that says of all leaves, and how it is kept.
-use Rattle.std.proofs.Common.{◌≡◌, ◌≢◌, ℕ, zero, suc, ◌+◌, ◌-◌, ◌/◌, ◌^◌, ◌<◌, ◌≤◌, List, length, get_or, set, drop, replicate, HoldsAt, sym, ap, subst, ◌∙◌, ⊎_elim, arith, length-set, length-drop, get_or-drop, get_or-set_same, get_or-set_other, drop-set-lt, ext_get_or}
-use Rattle.std.specs.List.{AllWithin}
+use Rattle.std.proofs.Common.{◌≡◌, ◌≢◌, ℕ, zero, suc, ◌+◌, ◌/◌, ◌^◌, ◌<◌, ◌≤◌, List, length, get_or, set, drop, HoldsAt, sym, ap, subst, ◌∙◌, ⊎_elim, arith, length-set, length-drop, get_or-drop, get_or-set_same, get_or-set_other, drop-set-lt}
 use Rattle.std.proofs.lemmas.Nat.{shr_le}
 use Rattle.std.proofs.lemmas.Bool.{cases_eq}
-use Rattle.std.proofs.lemmas.List.{get_or_read, drop-set-add, length-replicate, get_or-replicate, drop-replicate}
+use Rattle.std.proofs.lemmas.List.{get_or_read, drop-set-add}
 use Rattle.ynl_firsts.specs.Tree.{values_of, IsAboveParent, IsOrdered, IsOrderedBut}
 use Rattle.ynl_firsts.proofs.Aligned.{halved}
 
@@ -61,10 +60,3 @@ values-set_node tree node x low = ap (λ (n : ℕ). drop (n / 2) (set tree node 
 pub values-set_leaf : {T : Type 0} (tree : List T) (place : ℕ) (x : T) → values_of (set tree (length tree / 2 + place) x) ≡ set (values_of tree) place x
 values-set_leaf tree place x =
     ap (λ (n : ℕ). drop (n / 2) (set tree (length tree / 2 + place) x)) (length-set tree (length tree / 2 + place) x) ∙ drop-set-add (length tree / 2) tree place x
-
--- where all are one value, the values are
-pub values_cleared : {T : Type 0} (tree : List T) (none : T) → AllWithin (λ y. y ≡ none) tree 0 (length tree) → (old : List T) → length tree ≡ length old → values_of tree ≡ replicate (length (values_of old)) none
-values_cleared tree none all old same =
-    let whole : tree ≡ replicate (length tree) none = ext_get_or none tree (replicate (length tree) none) (sym (length-replicate (length tree) none)) (λ i inside. all i none (omega arith) inside ∙ sym (get_or-replicate (length tree) i none none inside)) in
-    let half : length tree - length tree / 2 ≡ length (values_of old) = omega (arith, same, length-drop (length old / 2) old) in
-    ap (drop (length tree / 2)) whole ∙ drop-replicate (length tree / 2) (length tree) none ∙ ap (λ (n : ℕ). replicate n none) half

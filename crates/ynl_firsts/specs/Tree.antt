@@ -1,9 +1,13 @@
 -- A binary tree in one list: the root at 1, the parent of the node at i at i / 2, and the leaves in the second half.
-use Rattle.std.specs.Prelude.{◌≡◌, ◌≢◌, ℕ, ◌*◌, ◌/◌, ◌^◌, ◌<◌, ◌≤◌, List, length, drop, slice_index_or}
+use Rattle.std.specs.Prelude.{◌≡◌, ◌≢◌, ℕ, ◌*◌, ◌/◌, ◌-◌, ◌^◌, ◌<◌, ◌≤◌, List, ◌++◌, length, drop, replicate, slice_index_or}
 
 -- the leaves, which are the values in the places
 abbrev pub values_of : {T : Type 0} → List T → List T
 values_of tree = drop (length tree / 2) tree
+
+-- the values, and behind them none up to so many
+abbrev pub filled_up : {T : Type 0} → T → ℕ → List T → List T
+filled_up none room values = values ++ replicate (room - length values) none
 
 -- the node at i is at or above its parent
 abbrev pub IsAboveParent : {T : Type 0} → (T → T → Type 0) → List T → ℕ → Type 0

@@ -11,20 +11,22 @@ use std::marker::Model;
 /// Values in places 0, 1, .. A contract sees the list of the values. A place that was not set has the
 /// value `none`.
 ///
-/// They are the leaves of a binary tree. Each node has a value at or below those of its children, so a
-/// search passes over all leaves under a node that fails the test.
+/// Those in front are the leaves of a binary tree. Each node has a value at or below those of its children, so
+/// a search passes over all leaves under a node that fails the test. Behind them is `none` alone, and no memory
+/// is touched: most places of most lists never have another value.
 #[derive(Drop)]
 pub struct Firsts<T: Least> {
+    /// It has room for the nodes above all places.
     tree: Vec<T>,
 }
 
 impl<T: Least> Model for Firsts<T> {
-    ghost use Rattle.std.specs.Prelude.{List};
-    ghost use Rattle.ynl_firsts.specs.Tree.{values_of, IsTree};
+    ghost use Rattle.std.specs.Prelude.{List, ◌/◌, vec_capacity};
+    ghost use Rattle.ynl_firsts.specs.Tree.{values_of, filled_up, IsTree};
 
     ghost Value = { List T };
 
-    ghost view = { λ a. values_of a.tree.items };
+    ghost view = { λ a. filled_up T.none (vec_capacity a.tree / 2) (values_of a.tree.items) };
 
     ghost invariant = { λ a. IsTree T.below a.tree.items };
 }
@@ -43,7 +45,7 @@ impl<T: Least> Firsts<T> {
     pub fn room(&self) -> usize
         ensures { result ≡ length self.now }
     {
-        self.tree.len() / 2
+        self.tree.capacity() / 2
     }
 
     /// A value at or below those in all places; `none` if there are no places.
@@ -71,10 +73,16 @@ impl<T: Least> Firsts<T> {
         ensures most { length self.old < count → length self.new ≤ 2 * count }
         ensures err { OnErr result (self.new ≡ self.old) }
     {
-        if count > self.room() {
-            let alloc = *self.tree.allocator();
-            self.tree = tree::grow(alloc, tree::values(self.tree.as_slice()), count)?;
+        if count <= self.room() {
+            return Ok(());
         }
+        // No memory has room for more.
+        if count > usize::MAX / 8 {
+            return Err(AllocError);
+        }
+        let nodes = 2 * count.next_power_of_two();
+        let alloc = *self.tree.allocator();
+        self.tree = tree::copy(alloc, self.tree.as_slice(), nodes)?;
         Ok(())
     }
 
@@ -83,6 +91,10 @@ impl<T: Least> Firsts<T> {
         requires { place < length self.old }
         ensures { self.new ≡ slice_set self.old place value }
     {
+        if place >= self.tree.len() / 2 && value.same(T::none()) {
+            return;
+        }
+        tree::spread(&mut self.tree, place);
         tree::put(self.tree.as_mut_slice(), place, value);
     }
 
@@ -90,7 +102,7 @@ impl<T: Least> Firsts<T> {
     pub fn clear(&mut self)
         ensures { self.new ≡ replicate (length self.old) T.none }
     {
-        tree::clear(self.tree.as_mut_slice());
+        self.tree.clear();
     }
 
     /// The first place, not before `from`, whose value passes the test. It tests a few times as many
@@ -99,6 +111,15 @@ impl<T: Least> Firsts<T> {
         ensures none { IfNone result (NonePasses (P.passes test.now) self.now from) }
         ensures first { IfSome result (IsFirst (P.passes test.now) self.now from) }
     {
-        tree::search(self.tree.as_slice(), from, test)
+        let found = tree::search(self.tree.as_slice(), from, test);
+        if found.is_some() {
+            return found;
+        }
+        let behind = from.max(self.tree.len() / 2);
+        if behind < self.room() && test.passes(&T::none()) {
+            Some(behind)
+        } else {
+            None
+        }
     }
 }

@@ -2,19 +2,12 @@
 //! leaves, which are the values, in the second half. A node is at or below its children, so it is at or below all
 //! leaves under it.
 
-ghost use Rattle.std.specs.Prelude.{◌≡◌, ◌≤◌, ◌<◌, ◌+◌, ◌*◌, ◌/◌, ℕ, length, replicate, slice_set, slice_index_or, All, HoldsAt, IfOk, IfSome, IfNone};
+ghost use Rattle.std.specs.Prelude.{◌≡◌, ◌≤◌, ◌<◌, ◌+◌, ◌-◌, ◌*◌, ◌/◌, ◌^◌, ◌++◌, ℕ, length, replicate, slice_set, slice_index_or, vec_capacity, All, HoldsAt, IfOk, IfSome, IfNone};
 ghost use Rattle.ynl_firsts.specs.Firsts.{IsFilledUp, IsFirst, NonePasses};
 ghost use Rattle.ynl_firsts.specs.Tree.{values_of, IsOrdered, IsOrderedBut, IsShape, IsTree};
 
 use crate::least::{Least, Test};
 use std::alloc::{AllocError, Global};
-
-/// The values.
-pub fn values<T: Least>(tree: &[T]) -> &[T]
-    ensures { result.now ≡ values_of tree.now }
-{
-    &tree[tree.len() / 2..]
-}
 
 /// The value in a place.
 pub fn value_at<T: Least>(tree: &[T], place: usize) -> T
@@ -29,13 +22,18 @@ pub fn value_at<T: Least>(tree: &[T], place: usize) -> T
     }
 }
 
-/// The root, which is at or below all values; `none` if there are none.
+/// The root, which is at or below all values and at or below `none`; `none` if there are none.
 pub fn root<T: Least>(tree: &[T]) -> T
     requires { IsTree T.below tree.now }
     ensures below { All (T.below result) (values_of tree.now) }
+    ensures below_none { T.below result T.none }
     ensures none { length (values_of tree.now) ≡ 0 → result ≡ T.none }
 {
-    if tree.len() < 2 { T::none() } else { tree[1] }
+    if tree.len() < 2 {
+        T::none()
+    } else {
+        tree[1].least(T::none())
+    }
 }
 
 /// The first place, not before `from`, whose value passes the test. `node` is `height` levels above the
@@ -127,35 +125,64 @@ fn settle<T: Least>(tree: &mut [T])
     }
 }
 
-/// Makes a tree with at least so many places, with these values in front.
-pub fn grow<T: Least>(alloc: Global, values: &[T], count: usize) -> Result<Vec<T>, AllocError>
-    requires { length values.now < count }
-    ensures tree { IfOk result (λ tree. IsTree T.below tree.items) }
-    ensures enough { IfOk result (λ tree. count ≤ length (values_of tree.items)) }
-    ensures most { IfOk result (λ tree. length (values_of tree.items) ≤ 2 * count) }
-    ensures values { IfOk result (λ tree. IsFilledUp T.none values.now (values_of tree.items)) }
+/// A copy with room for so many nodes. To grow the list where it stands may touch all of its memory, also what no node has
+/// used yet.
+pub fn copy<T: Least>(alloc: Global, tree: &[T], room: usize) -> Result<Vec<T>, AllocError>
+    requires { length tree.now ≤ room }
+    ensures nodes { IfOk result (λ copy. copy.items ≡ tree.now) }
+    ensures room { IfOk result (λ copy. vec_capacity copy ≡ room) }
 {
-    // No memory has room for more.
-    if count > usize::MAX / 8 {
-        return Err(AllocError);
+    let mut copy = Vec::with_capacity(alloc, room)?;
+    for i in 0..tree.len() {
+        copy.push_reserved(tree[i]);
     }
-    let room = count.next_power_of_two();
-    let mut tree = Vec::with_capacity(alloc, 2 * room)?;
-    tree.resize(room, T::none())?;
-    tree.extend_from_slice(values)?;
-    tree.resize(2 * room, T::none())?;
-    settle(tree.as_mut_slice());
-    Ok(tree)
+    Ok(copy)
 }
 
-/// Puts `none` in all places.
-pub fn clear<T: Least>(tree: &mut [T])
-    requires { IsTree T.below tree.old }
-    ensures tree { IsTree T.below tree.new }
-    ensures values { values_of tree.new ≡ replicate (length (values_of tree.old)) T.none }
+/// Makes nodes, with `none`, until there are so many.
+fn widen<T: Least>(tree: &mut Vec<T>, count: usize)
+    requires more { length tree.old.items ≤ count }
+    requires room { count ≤ vec_capacity tree.old }
+    ensures nodes { tree.new.items ≡ tree.old.items ++ replicate (count - length tree.old.items) T.none }
+    ensures capacity { vec_capacity tree.new ≡ vec_capacity tree.old }
 {
-    let none = T::none();
-    for value in tree.iter_mut() {
-        *value = none;
+    let more = count - tree.len();
+    for _node in 0..more {
+        tree.push_reserved(T::none());
     }
+}
+
+/// Makes leaves, with `none`, behind the others until there are so many. The nodes above them are not right yet.
+fn add_leaves<T: Least>(tree: &mut Vec<T>, count: usize)
+    requires shape { IsShape tree.old.items }
+    requires more { length (values_of tree.old.items) ≤ count }
+    requires room { 2 * count ≤ vec_capacity tree.old }
+    requires small { count < 2 ^ 62 }
+    ensures shape { IsShape tree.new.items }
+    ensures count { length (values_of tree.new.items) ≡ count }
+    ensures values { IsFilledUp T.none (values_of tree.old.items) (values_of tree.new.items) }
+    ensures capacity { vec_capacity tree.new ≡ vec_capacity tree.old }
+{
+    let leaves = tree.len() / 2;
+    widen(tree, 2 * count);
+    tree.copy_within(leaves..2 * leaves, count);
+}
+
+/// Makes leaves, with `none`, behind the others until there is one in a place. The tree has room for them, so that it takes
+/// no memory.
+pub fn spread<T: Least>(tree: &mut Vec<T>, place: usize)
+    requires tree { IsTree T.below tree.old.items }
+    requires room { place < vec_capacity tree.old / 2 }
+    requires small { vec_capacity tree.old < 2 ^ 63 }
+    ensures tree { IsTree T.below tree.new.items }
+    ensures inside { place < length (values_of tree.new.items) }
+    ensures values { IsFilledUp T.none (values_of tree.old.items) (values_of tree.new.items) }
+    ensures capacity { vec_capacity tree.new ≡ vec_capacity tree.old }
+{
+    if place < tree.len() / 2 {
+        return;
+    }
+    let count = (place + 1).next_power_of_two().min(tree.capacity() / 2);
+    add_leaves(tree, count);
+    settle(tree.as_mut_slice());
 }
