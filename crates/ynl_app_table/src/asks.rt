@@ -1,6 +1,6 @@
 //! What an application asks for.
 
-ghost use Rattle.std.specs.Prelude.{◌≡◌, ◌==◌, ◌&&◌, [], IsSome, IsOk, OnOk, OnErr, option_copied, if◌then◌else◌};
+ghost use Rattle.std.specs.Prelude.{◌≡◌, ◌==◌, ◌&&◌, ◌++◌, ◌∷◌, [], IsSome, IsOk, OnOk, OnErr, option_copied, if◌then◌else◌};
 ghost use Rattle.std.specs.List.{position_or_len};
 ghost use Rattle.ynl_resource.specs.Tables.{without, update};
 ghost use Rattle.ynl_app_table.specs.Asks.{is_ask_of, is_spent, lowered, find_ask, with_ask, with_one_taken, AreAsks};
@@ -89,7 +89,7 @@ impl Asks {
             self.rows[place] = ask;
             return Ok(());
         }
-        self.rows.push(ask)?;
+        push_ask(&mut self.rows, ask)?;
         Ok(())
     }
 
@@ -113,6 +113,18 @@ fn place_of(asks: &[Ask], partition: u8, priority: u32) -> usize
         }
     }
     asks.len()
+}
+
+/// The ask comes last. Most applications have one, so the first takes no room for more.
+fn push_ask(asks: &mut Vec<Ask>, ask: Ask) -> Result<(), AllocError>
+    ensures ok { OnOk result (asks.new.items ≡ asks.old.items ++ ask ∷ []) }
+    ensures err { OnErr result (asks.new.items ≡ asks.old.items) }
+{
+    if asks.is_empty() {
+        asks.reserve_exact(1)?;
+    }
+    asks.push(ask)?;
+    Ok(())
 }
 
 fn drop_ask(asks: &mut Vec<Ask>, partition: u8, priority: u32)

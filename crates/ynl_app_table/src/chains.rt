@@ -1,6 +1,6 @@
 //! The chains of an application's containers.
 
-ghost use Rattle.std.specs.Prelude.{◌≡◌, ℕ, [], IsOk, OnOk, OnErr, nat_eq};
+ghost use Rattle.std.specs.Prelude.{◌≡◌, ◌++◌, ◌∷◌, ℕ, [], IsOk, OnOk, OnErr, nat_eq};
 ghost use Rattle.std.specs.List.{position_or_len};
 ghost use Rattle.ynl_slots.specs.Slots.{IsLive, HasDistinctNumbers, with_row};
 ghost use Rattle.ynl_app_table.specs.Chains.{chain_of, with_place};
@@ -61,7 +61,7 @@ impl Chains {
         if place_of(&self.rows, partition) < self.rows.len() {
             return Ok(());
         }
-        self.rows.push((partition, Chain::new()))?;
+        push_row(&mut self.rows, (partition, Chain::new()))?;
         Ok(())
     }
 
@@ -86,4 +86,14 @@ fn place_of(rows: &[(u8, Chain)], partition: u8) -> usize
         }
     }
     rows.len()
+}
+
+/// The row comes last. Of most applications there are one or two for good, so no room is taken for more.
+fn push_row(rows: &mut Vec<(u8, Chain)>, row: (u8, Chain)) -> Result<(), AllocError>
+    ensures ok { OnOk result (rows.new.items ≡ rows.old.items ++ row ∷ []) }
+    ensures err { OnErr result (rows.new.items ≡ rows.old.items) }
+{
+    rows.reserve_exact(1)?;
+    rows.push_reserved(row);
+    Ok(())
 }

@@ -55,8 +55,8 @@ returns-then-place-len-clause-ok c =
     ∙ with_ask-put ask asks (grind (arith, nat_tests, c.if-ask-eq0.false))
     ∙ ap (with_ask ask) c.self.view_is
 
-pub returns-in_err-push-clause-there : goal.returns-in_err-push-clause-there
-returns-in_err-push-clause-there c = λ h.
+pub returns-in_err-push_ask-clause-there : goal.returns-in_err-push_ask-clause-there
+returns-in_err-push_ask-clause-there c = λ h.
     let ask : Ask = c.args.ask in
     let asks : List Ask = c.self.inside.rows.items in
     let place = c.place_of-place.ensures ∙ ap (position_or_len (is_ask_of ask.partition ask.priority)) c.deref.ensures.value in
@@ -69,7 +69,7 @@ invariant_of-self-2 c =
     let asks : List Ask = c.self.inside.rows.items in
     let place = c.place_of-place.ensures ∙ ap (position_or_len (is_ask_of ask.partition ask.priority)) c.deref.ensures.value in
     let past : length asks ≤ c.place_of-place.result = omega (arith, c.self.inside.rows.ok.0) in
-    subst AreAsks (sym (c.in_ok-push.ensures.items ∙ put-missed ask asks c.place_of-place.result place past)) (asks_put ask asks (omega arith) c.self.invariant)
+    subst AreAsks (sym (c.in_ok-push_ask.ensures.ok ∙ put-missed ask asks c.place_of-place.result place past)) (asks_put ask asks (omega arith) c.self.invariant)
 
 pub returns-clause-ok : goal.returns-clause-ok
 returns-clause-ok c =
@@ -77,7 +77,7 @@ returns-clause-ok c =
     let asks : List Ask = c.self.inside.rows.items in
     let place = c.place_of-place.ensures ∙ ap (position_or_len (is_ask_of ask.partition ask.priority)) c.deref.ensures.value in
     let past : length asks ≤ c.place_of-place.result = omega (arith, c.self.inside.rows.ok.0) in
-    c.in_ok-push.ensures.items
+    c.in_ok-push_ask.ensures.ok
     ∙ put-missed ask asks c.place_of-place.result place past
     ∙ with_ask-put ask asks (grind (arith, nat_tests, c.if-ask-eq0.false))
     ∙ ap (with_ask ask) c.self.view_is

@@ -25,8 +25,8 @@ returns-then-place_of-len-clause-place c =
 pub returns-then-place_of-len-clause-ok : goal.returns-then-place_of-len-clause-ok
 returns-then-place_of-len-clause-ok c = sym (with_place-live c.args.partition c.args.self.now (returns-then-place_of-len-clause-place c))
 
-pub returns-in_err-push-clause-there : goal.returns-in_err-push-clause-there
-returns-in_err-push-clause-there c = λ h.
+pub returns-in_err-push_row-clause-there : goal.returns-in_err-push_row-clause-there
+returns-in_err-push_row-clause-there c = λ h.
     let n : ℕ = c.args.partition in
     let chains : List (ℕ × Chain) = c.self.inside.rows.items in
     let place = c.place_of.ensures ∙ ap (position_or_len (λ (row : ℕ × Chain). nat_eq n row.0)) c.deref.ensures.value in
@@ -41,7 +41,7 @@ invariant_of-self-2 c =
     let place = c.place_of.ensures ∙ ap (position_or_len (λ (row : ℕ × Chain). nat_eq n row.0)) c.deref.ensures.value in
     let past : length chains ≤ c.place_of.result = omega (arith, c.self.inside.rows.ok.0) in
     let unused : IsUnused n chains = unused-there n chains c.place_of.result place past in
-    distinct_after n chains c.push.new.self.items c.new.result unused c.new.ensures c.in_ok-push.ensures.items c.self.invariant
+    distinct_after n chains c.push_row.new.rows.items c.new.result unused c.new.ensures c.in_ok-push_row.ensures.ok c.self.invariant
 
 pub returns-clause-ok : goal.returns-clause-ok
 returns-clause-ok c =
@@ -50,7 +50,7 @@ returns-clause-ok c =
     let place = c.place_of.ensures ∙ ap (position_or_len (λ (row : ℕ × Chain). nat_eq n row.0)) c.deref.ensures.value in
     let past : length chains ≤ c.place_of.result = omega (arith, c.self.inside.rows.ok.0) in
     let unused : IsUnused n chains = unused-there n chains c.place_of.result place past in
-    place_pushed n chains c.push.new.self.items c.new.result unused c.new.ensures c.in_ok-push.ensures.items ∙ ap (with_place n) c.self.view_is
+    place_pushed n chains c.push_row.new.rows.items c.new.result unused c.new.ensures c.in_ok-push_row.ensures.ok ∙ ap (with_place n) c.self.view_is
 
 pub returns-clause-place : goal.returns-clause-place
 returns-clause-place c =
@@ -59,7 +59,7 @@ returns-clause-place c =
     let place = c.place_of.ensures ∙ ap (position_or_len (λ (row : ℕ × Chain). nat_eq n row.0)) c.deref.ensures.value in
     let past : length chains ≤ c.place_of.result = omega (arith, c.self.inside.rows.ok.0) in
     let unused : IsUnused n chains = unused-there n chains c.place_of.result place past in
-    live_after n chains c.push.new.self.items c.new.result unused c.new.ensures c.in_ok-push.ensures.items
+    live_after n chains c.push_row.new.rows.items c.new.result unused c.new.ensures c.in_ok-push_row.ensures.ok
 
 pub returns-clause-same : goal.returns-clause-same
 returns-clause-same c = λ p.
@@ -68,4 +68,4 @@ returns-clause-same c = λ p.
     let place = c.place_of.ensures ∙ ap (position_or_len (λ (row : ℕ × Chain). nat_eq n row.0)) c.deref.ensures.value in
     let past : length chains ≤ c.place_of.result = omega (arith, c.self.inside.rows.ok.0) in
     let unused : IsUnused n chains = unused-there n chains c.place_of.result place past in
-    chains_stay n chains c.push.new.self.items c.new.result unused c.new.ensures c.in_ok-push.ensures.items p ∙ ap (chain_of p) c.self.view_is
+    chains_stay n chains c.push_row.new.rows.items c.new.result unused c.new.ensures c.in_ok-push_row.ensures.ok p ∙ ap (chain_of p) c.self.view_is
