@@ -42,7 +42,7 @@ impl<T: Least> Line<T> {
             && count < u32::MAX as usize
     }
 
-    /// Makes room for twice as many tickets as there are, or for two. It fails if memory is refused, and at 2^32 - 1
+    /// Makes room for twice as many tickets as there are, or for one. It fails if memory is refused, and at 2^32 - 1
     /// tickets.
     pub(crate) fn reserve(&mut self) -> Result<(), AllocError>
         ensures tickets { self.new.tickets.items ≡ self.old.tickets.items }
@@ -54,7 +54,7 @@ impl<T: Least> Line<T> {
         if count >= u32::MAX as usize {
             return Err(AllocError);
         }
-        let places = (2 * count).max(2);
+        let places = (2 * count).max(1);
         self.tickets.reserve(places - count)?;
         self.masters.reserve(places)?;
         self.asks.reserve(places)

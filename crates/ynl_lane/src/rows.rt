@@ -25,9 +25,9 @@ pub(crate) struct SeatRow {
 pub(crate) struct UserRow {
     /// The user's number among all users of the cluster.
     pub(crate) user: u32,
-    pub(crate) used: Resource,
-    /// How many seats the user has.
+    /// How many seats the user has. It stands beside the number, which leaves no gap in the row.
     pub(crate) live: u32,
+    pub(crate) used: Resource,
     /// The user's seats, with what waits at each.
     pub(crate) line: Line<Low>,
 }
