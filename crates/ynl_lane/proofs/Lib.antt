@@ -5,6 +5,7 @@ pub mod Found
 pub mod Fronts
 pub mod Keeping
 pub mod Keys
+pub mod Listing
 pub mod Lists
 pub mod Moving
 pub mod Opening

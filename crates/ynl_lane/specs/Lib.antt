@@ -1,3 +1,4 @@
+pub mod Apps
 pub mod Changes
 pub mod Fields
 pub mod Found

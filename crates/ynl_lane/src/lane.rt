@@ -1,6 +1,6 @@
 //! A lane: the seats of a leaf's applications on one partition, their users, and the search of them.
 
-ghost use Rattle.std.specs.Prelude.{◌≡◌, ◌↔◌, ◌<◌, [], ℕ, length, map, List, Option, Some, None, IsSome, IsTrue, OnOk, OnErr, IfSome, IfNone, nat_eq, option_map};
+ghost use Rattle.std.specs.Prelude.{◌≡◌, ◌↔◌, ◌<◌, [], ℕ, length, map, List, Option, Some, None, IsSome, IsTrue, OnOk, OnErr, IfOk, IfSome, IfNone, nat_eq, option_map};
 ghost use Rattle.std.specs.Map.{lookup};
 ghost use Rattle.ynl_lanes.specs.Lows.{IsBelow};
 ghost use Rattle.ynl_slots.specs.Slots.{without};
@@ -127,6 +127,13 @@ impl Lane {
         } else {
             None
         }
+    }
+
+    /// The applications of the seats, in the order of the seats. It fails if memory is refused.
+    pub fn apps(&self, alloc: Global) -> Result<Vec<u32>, AllocError>
+        ensures { IfOk result (λ apps. apps.items ≡ map (λ e. e.1.app) self.now.seats) }
+    {
+        self.rows.apps(alloc)
     }
 
     /// A size, in MB and virtual cores, that no request of a kind that waits is below. It may be below all of them.

@@ -6,6 +6,7 @@ pub use kinds::{Both, Kind};
 pub use lane::Lane;
 pub use request::Request;
 
+mod apps;
 mod changes;
 mod kinds;
 mod lane;

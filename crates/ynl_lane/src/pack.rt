@@ -57,7 +57,13 @@ fn pack<T: Least>(seats: &mut Slots<SeatRow>, line: &mut Line<T>, level: Level)
     line.tickets.truncate(next);
 }
 
-/// Makes room in a line for one more seat. It fails if memory is refused, and at 2^32 - 1 seats.
+/// Whether the lane has fewer seats than half of a line's tickets, so that most of these are of seats that went.
+fn is_sparse<T: Least>(seats: &Slots<SeatRow>, line: &Line<T>) -> bool {
+    seats.len() < line.tickets.len() / 2
+}
+
+/// Makes room in a line for one more seat. A line that is full is packed, and so is a sparse one, so that its slots are few
+/// again where many seats went. It fails if memory is refused, and at 2^32 - 1 seats.
 pub(crate) fn make_room<T: Least>(
     seats: &mut Slots<SeatRow>,
     line: &mut Line<T>,
@@ -73,7 +79,7 @@ pub(crate) fn make_room<T: Least>(
     ensures seat_room { seats.new.room ≡ seats.old.room }
     ensures room { OnOk result (HasRoom line.new) }
 {
-    if line.has_room() {
+    if line.has_room() && !is_sparse(seats, line) {
         return Ok(());
     }
     pack(seats, line, level);
