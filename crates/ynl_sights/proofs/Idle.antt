@@ -7,7 +7,6 @@ use Rattle.std.proofs.lemmas.Bool.Decides.{nat_tests}
 use Rattle.ynl_resource.specs.Amounts.{IsSize, fits_in}
 use Rattle.ynl_resource.specs.declared.amounts.Resource.{Resource}
 use Rattle.ynl_app_table.specs.declared.asks.Ask.{Ask}
-use Rattle.ynl_laws.proofs.Lists.{Each-kept}
 use Rattle.ynl_lanes.specs.Lows.{IsBelow, no_size}
 use Rattle.ynl_lanes.specs.Order.{below-trans}
 use Rattle.ynl_lane.specs.declared.kinds.Kind.{Kind}
@@ -19,7 +18,6 @@ use Rattle.ynl_lane.specs.Waiting.{IsWaiting}
 use Rattle.ynl_inventory.specs.Rows.{Rows, AppRow}
 use Rattle.ynl_inventory.specs.Apps.{runs_at}
 use Rattle.ynl_inventory.specs.Sound.{IsSound}
-use Rattle.ynl_inventory.proofs.Updates.{each-number}
 use Rattle.ynl_inventory.proofs.Used.{fits-parts}
 use Rattle.ynl_requests.specs.Laws.{in_leaf}
 use Rattle.ynl_requests.specs.Requests.{Request, ask_request, asked, item_for, master_request, master_wanted}
@@ -30,6 +28,7 @@ use Rattle.ynl_cluster.specs.Cluster.{AskSizes, ClusterView, IsCell, IsLaneIn}
 use Rattle.ynl_shut.specs.Lanes.{IsLaneOf}
 use Rattle.ynl_shut.proofs.LaneOf.{lane-is}
 use Rattle.ynl_sights.specs.Copying.{items_in, kind_wanted}
+use Rattle.ynl_sights.proofs.Places.{each-own, IsOwn}
 
 -- nothing of a kind waits in a leaf's lane on a partition
 abbrev WaitsForNone : Rows → ℕ → ℕ → Kind → Type 0
@@ -64,20 +63,11 @@ module _ (w : ClusterView) (sound : IsSound w.rows) (sizes : AskSizes w.rows) (p
   its = lane-is w p q cell lane there sound sizes
 
   all-none : (among : ℕ → AppRow → List Request) → ((e : ℕ × AppRow) → lookup (nat_eq e.0) w.rows.apps ≡ Some e.1 → e.1.leaf ≡ q → among e.0 e.1 ≡ []) → items_in w.rows among q ≡ []
-  all-none among none = each (in_leaf q w.rows.apps) own
+  all-none among none = each (in_leaf q w.rows.apps) (each-own w.rows sound q)
     where
-      own : AllByRecursion (λ (e : ℕ × AppRow). (lookup (nat_eq e.0) w.rows.apps ≡ Some e.1) × (nat_eq e.1.leaf q ≡ true)) (in_leaf q w.rows.apps)
-      own =
-          Each-kept (λ (e : ℕ × AppRow). (lookup (nat_eq e.0) w.rows.apps ≡ Some e.1) × (nat_eq e.1.leaf q ≡ true)) (λ e. nat_eq e.1.leaf q) w.rows.apps
-          (each-number (λ m row. nat_eq row.leaf q ≡ true → (lookup (nat_eq m) w.rows.apps ≡ Some row) × (nat_eq row.leaf q ≡ true)) w.rows.apps sound.app_numbers (λ m row found own. (found, own)))
-
-      each : (es : List (ℕ × AppRow)) → AllByRecursion (λ (e : ℕ × AppRow). (lookup (nat_eq e.0) w.rows.apps ≡ Some e.1) × (nat_eq e.1.leaf q ≡ true)) es
-          → flat_map (λ e. map (item_for w.rows e.1) (among e.0 e.1)) es ≡ []
+      each : (es : List (ℕ × AppRow)) → AllByRecursion (IsOwn w.rows sound q) es → flat_map (λ e. map (item_for w.rows e.1) (among e.0 e.1)) es ≡ []
       each [] all = refl
-      each (e ∷ es) all =
-          let own = all.0.1 in
-          let at : e.1.leaf ≡ q = grind (arith, nat_tests, own) in
-          λ i. map (item_for w.rows e.1) (none e all.0.0 at i) ++ each es all.1 i
+      each (e ∷ es) all = λ i. map (item_for w.rows e.1) (none e all.0.found all.0.own i) ++ each es all.1 i
 
   -- so no master is wanted
   no-masters : WaitsForNone w.rows p q kind.Master → items_in w.rows (master_wanted w.rows p) q ≡ []

@@ -1,10 +1,8 @@
 -- What is copied of the requests of a leaf is what there is to see of them.
 use Rattle.std.proofs.Common.{◌≡◌, ◌≤◌, ℕ, zero, suc, ◌+◌, Bool, true, false, not, ◌&&◌, cond, nat_eq, List, [], ◌∷◌, ◌++◌, length, map, filter, flat_map, take_all, slice_get, Some, refl, sym, ap, subst, ◌∙◌, arith}
 use Rattle.std.specs.Map.{lookup}
-use Rattle.std.specs.Prelude.{option_map}
 use Rattle.std.proofs.lemmas.Bool.Decides.{nat_tests}
 use Rattle.std.proofs.lemmas.List.{map-append}
-use Rattle.std.proofs.lemmas.Option.{same_Some, slice_get-map}
 use Rattle.ynl_resource.specs.Names.{way_to}
 use Rattle.ynl_resource.specs.declared.amounts.Resource.{Resource}
 use Rattle.ynl_resource.specs.declared.labels.Label.{Label}
@@ -23,10 +21,7 @@ use Rattle.ynl_inventory.proofs.Submitted.{app-submission}
 use Rattle.ynl_requests.specs.Laws.{in_leaf}
 use Rattle.ynl_requests.specs.Requests.{ask_request, asked, item_for, master_request, master_wanted}
 use Rattle.ynl_seating.specs.Seating.{user_use}
-use Rattle.ynl_seating.proofs.Turns.{in-order}
 use Rattle.ynl_seating.proofs.UserUse.{is-user_use}
-use Rattle.ynl_leaf_apps.specs.Apps.{IsAppAt}
-use Rattle.ynl_leaf_apps.proofs.Places.{app-at, place-at}
 use Rattle.ynl_cluster.specs.Cluster.{ClusterView, label_of, maxima_in, path_of, state_in, stops_in}
 use Rattle.ynl_sights.specs.declared.rows.Way.{Way}
 use Rattle.ynl_sights.specs.declared.rows.Limits.{Limits}
@@ -36,6 +31,7 @@ use Rattle.ynl_sights.specs.Sights.{Bid, Offer, bid_of, offer_of, reach_of}
 use Rattle.ynl_sights.specs.Rows.{asks_by, bid_in, bids_by, leaf_of, masters_by, offer_by, reach_in, reach_of_queue, standing_in, user_limit_in}
 use Rattle.ynl_sights.specs.Copying.{asked_shown, asks_shown, bids_at, items_in, master_shown, offers_at, one_by_one, shown, shown_as, wanted_as, AreLimitsOf, IsWayOf}
 use Rattle.ynl_sights.proofs.Listed.{map-flat}
+use Rattle.ynl_sights.proofs.Places.{own-at, place-at}
 
 -- ---- of applications one after another
 
@@ -68,12 +64,9 @@ module _ (w : ClusterView) (sound : IsSound w.rows) (p : ℕ) (has : HasPartitio
   leaf-is n row found own = let s = app-submission w.rows sound n row found in subst (IsLeaf w.rows) own (record { there = s.there; none_below = s.leaf })
 
   stands : (i : ℕ) (e : ℕ × AppRow) → slice_get (in_leaf q w.rows.apps) i ≡ Some e → StandsAt i e
-  stands i e there = subst (StandsAt i) (same_Some (e.0, at.row) e (sym at.place ∙ there)) (record { found = at.found; own = at.own; place = place-at w.rows sound (stops_in w) (maxima_in w) q (leaf-is e.0 at.row at.found at.own) i e.0 at })
-    where
-      at : IsAppAt w.rows q i e.0
-      at =
-          app-at w.rows sound q (map (λ (e : ℕ × AppRow). e.0) (in_leaf q w.rows.apps)) (record { rows = refl; apps = sym (in-order w.rows q sound) }) i e.0
-          (slice_get-map (λ (e : ℕ × AppRow). e.0) (in_leaf q w.rows.apps) i ∙ ap (option_map (λ (e : ℕ × AppRow). e.0)) there)
+  stands i e there =
+      let is = own-at w.rows sound q i e there in
+      record { found = is.found; own = is.own; place = place-at w.rows sound q (stops_in w) (maxima_in w) (leaf-is e.0 e.1 is.found is.own) i e there }
 
   from-first : (i : ℕ) (e : ℕ × AppRow) → slice_get (in_leaf q w.rows.apps) i ≡ Some e → StandsAt (0 + i) e
   from-first i e there = let here : i ≡ 0 + i = omega arith in subst (λ k. StandsAt k e) here (stands i e there)

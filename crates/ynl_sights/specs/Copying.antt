@@ -95,6 +95,10 @@ asks_shown v p place row asks = map (λ ask. shown_as v p place row ask.size ask
 abbrev pub asked_shown : Rows → ℕ → ℕ → ℕ → AppRow → List (Resource × Wanted)
 asked_shown v p place n row = if runs_at v n row then asks_shown v p place row row.asks else []
 
+-- numbers are those of the live applications of a leaf, in the order of submission
+abbrev pub AreAppsOf : Rows → ℕ → List ℕ → Type 0
+AreAppsOf v q numbers = numbers ≡ map (λ e. e.0) (in_leaf q v.apps)
+
 -- of applications one after another, of which the first stands in this place
 abbrev pub one_by_one : {X : Type 0} → (ℕ → ℕ → AppRow → List X) → ℕ → List (ℕ × AppRow) → List X
 one_by_one each place [] = []
@@ -116,3 +120,8 @@ bids_at w p among q = map (bid_of w.config (state_in w) (label_of w p)) (items_i
 abbrev pub kind_wanted : Kind → Rows → ℕ → ℕ → AppRow → List Request
 kind_wanted kind.Master v p = master_wanted v p
 kind_wanted kind.Ask v p = asked v p
+
+-- and how that is copied
+abbrev pub kind_shown : Kind → Rows → ℕ → ℕ → ℕ → AppRow → List (Resource × Wanted)
+kind_shown kind.Master v p = master_shown v p
+kind_shown kind.Ask v p = asked_shown v p

@@ -8,20 +8,18 @@ ghost use Rattle.ynl_inventory.specs.Rows.{NodeRow};
 ghost use Rattle.ynl_inventory.specs.Meaning.{node_of};
 ghost use Rattle.ynl_inventory.specs.Sound.{HasPartition};
 ghost use Rattle.ynl_requests.specs.Requests.{asked, master_wanted};
-ghost use Rattle.ynl_leaf_apps.specs.Apps.{AreAppsOf, AreLeafApps};
 ghost use Rattle.ynl_cluster.specs.Cluster.{label_of, state_in, IsCell};
 ghost use Rattle.ynl_sights.specs.Copying.{bids_at, offers_at};
 ghost use Rattle.ynl_sights.specs.Rows.{asks_in, guest_bids_in, masters_in, offers_in};
 ghost use Rattle.ynl_sights.specs.Sights.{guests_in, offer_of, sighted};
 
-use crate::gathering::{asks_of, masters_of, none_waits, wanted_in};
+use crate::gathering::{apps_of, none_waits, offered_in, wanted_in};
 use crate::rows::{GuestSight, LeafSight};
 use crate::sights::Sight;
 use crate::ways::{limits_of, start, way_of};
 use std::alloc::{AllocError, Global};
 use ynl_cluster::Cluster;
 use ynl_lane::Kind;
-use ynl_leaf_apps::leaf_apps;
 use ynl_model::Node;
 
 /// Adds a queue with what is wanted of it on a partition. One of which nothing is wanted, as of any
@@ -31,12 +29,10 @@ fn add_leaf_sight(
     cluster: &Cluster,
     p: u8,
     leaf: usize,
-    apps: &[u32],
     out: &mut Vec<LeafSight>,
 ) -> Result<(), AllocError>
     requires there { IsCell cluster.now p leaf }
     requires below_root { 0 < leaf }
-    requires apps { AreAppsOf cluster.now.rows leaf apps.now }
     ensures masters { OnOk result (flat_map masters_in out.new.items
         ≡ flat_map masters_in out.old.items
         ++ offers_at cluster.now p (master_wanted cluster.now.rows p) leaf) }
@@ -52,8 +48,9 @@ fn add_leaf_sight(
     let mut place = start(cluster, p);
     let way = way_of(alloc, cluster, p, leaf, &mut place)?;
     let limits = limits_of(cluster, p, leaf, &place);
-    let masters = masters_of(alloc, cluster, p, leaf, apps)?;
-    let asks = asks_of(alloc, cluster, p, leaf, apps)?;
+    let apps = apps_of(alloc, cluster, leaf)?;
+    let masters = offered_in(alloc, cluster, p, leaf, Kind::Master, &apps)?;
+    let asks = offered_in(alloc, cluster, p, leaf, Kind::Ask, &apps)?;
     out.push(LeafSight {
         way,
         limits,
@@ -64,23 +61,16 @@ fn add_leaf_sight(
 }
 
 /// What is wanted on a partition, leaf by leaf.
-fn leaf_sights(
-    alloc: Global,
-    cluster: &Cluster,
-    p: u8,
-    apps: &[Vec<u32>],
-) -> Result<Vec<LeafSight>, AllocError>
-    requires partition { HasPartition cluster.now.rows p }
-    requires apps { AreLeafApps cluster.now.rows apps.now }
+fn leaf_sights(alloc: Global, cluster: &Cluster, p: u8) -> Result<Vec<LeafSight>, AllocError>
+    requires { HasPartition cluster.now.rows p }
     ensures { IfOk result (λ sights. offers_in (label_of cluster.now p) sights.items
         ≡ map (offer_of cluster.now.config (state_in cluster.now) (label_of cluster.now p))
         (items_for (state_in cluster.now) (label_of cluster.now p))) }
 {
-    // Opens the inventory, whose rows are sound.
-    let _ = cluster.inventory();
+    let queues = cluster.inventory().layout().len();
     let mut sights = Vec::new(alloc);
-    for queue in 1..apps.len() {
-        add_leaf_sight(alloc, cluster, p, queue, &apps[queue], &mut sights)?;
+    for queue in 1..queues {
+        add_leaf_sight(alloc, cluster, p, queue, &mut sights)?;
     }
     Ok(sights)
 }
@@ -91,12 +81,10 @@ fn add_guest_sight(
     alloc: Global,
     cluster: &Cluster,
     leaf: usize,
-    apps: &[u32],
     out: &mut Vec<GuestSight>,
 ) -> Result<(), AllocError>
     requires there { IsCell cluster.now 0 leaf }
     requires below_root { 0 < leaf }
-    requires apps { AreAppsOf cluster.now.rows leaf apps.now }
     ensures { OnOk result (flat_map guest_bids_in out.new.items
         ≡ flat_map guest_bids_in out.old.items
         ++ bids_at cluster.now 0 (asked cluster.now.rows 0) leaf) }
@@ -108,30 +96,26 @@ fn add_guest_sight(
     }
     let mut place = start(cluster, 0);
     let way = way_of(alloc, cluster, 0, leaf, &mut place)?;
-    let offered = asks_of(alloc, cluster, 0, leaf, apps)?;
+    let apps = apps_of(alloc, cluster, leaf)?;
+    let offered = offered_in(alloc, cluster, 0, leaf, Kind::Ask, &apps)?;
     let asks = wanted_in(alloc, &offered)?;
     out.push(GuestSight { way, asks })?;
     Ok(())
 }
 
 /// What a partition could take as guests, leaf by leaf, if it takes any.
-fn guest_sights(
-    alloc: Global,
-    cluster: &Cluster,
-    p: u8,
-    apps: &[Vec<u32>],
-) -> Result<Vec<GuestSight>, AllocError>
-    requires partition { HasPartition cluster.now.rows p }
-    requires apps { AreLeafApps cluster.now.rows apps.now }
+fn guest_sights(alloc: Global, cluster: &Cluster, p: u8) -> Result<Vec<GuestSight>, AllocError>
+    requires { HasPartition cluster.now.rows p }
     ensures { IfOk result (λ sights. flat_map guest_bids_in sights.items
         ≡ guests_in cluster.now.config (state_in cluster.now) (label_of cluster.now p)) }
 {
+    let inventory = cluster.inventory();
     let mut sights = Vec::new(alloc);
-    if !cluster.inventory().takes_guests(p) {
+    if !inventory.takes_guests(p) {
         return Ok(sights);
     }
-    for queue in 1..apps.len() {
-        add_guest_sight(alloc, cluster, queue, &apps[queue], &mut sights)?;
+    for queue in 1..inventory.layout().len() {
+        add_guest_sight(alloc, cluster, queue, &mut sights)?;
     }
     Ok(sights)
 }
@@ -163,9 +147,8 @@ impl Sight {
     {
         let inventory = cluster.inventory();
         let p = inventory.node(node).partition;
-        let apps = leaf_apps(alloc, cluster)?;
-        let leaves = leaf_sights(alloc, cluster, p, &apps)?;
-        let guests = guest_sights(alloc, cluster, p, &apps)?;
+        let leaves = leaf_sights(alloc, cluster, p)?;
+        let guests = guest_sights(alloc, cluster, p)?;
         Ok(Sight {
             node: node_at(cluster, node),
             free: inventory.free(node),

@@ -4,14 +4,14 @@ ghost use Rattle.std.specs.Prelude.{◌≡◌, [], ◌∷◌, ◌++◌, true, ma
 ghost use Rattle.std.specs.Bool.{OnTrue};
 ghost use Rattle.std.specs.Map.{lookup};
 ghost use Rattle.ynl_slots.specs.Slots.{IsLive};
+ghost use Rattle.ynl_layout.specs.Paths.{HasNumber};
 ghost use Rattle.ynl_lane.specs.Rows.{IsUse};
 ghost use Rattle.ynl_inventory.specs.Rows.{AppRow};
 ghost use Rattle.ynl_inventory.specs.Sound.{HasPartition, IsAskedOn};
 ghost use Rattle.ynl_requests.specs.Laws.{in_leaf};
 ghost use Rattle.ynl_seating.specs.Seating.{shares, user_use};
 ghost use Rattle.ynl_cluster.specs.Cluster.{IsCell};
-ghost use Rattle.ynl_leaf_apps.specs.Apps.{AreAppsOf};
-ghost use Rattle.ynl_sights.specs.Copying.{asked_shown, asks_shown, items_in, kind_wanted, master_shown, one_by_one, shown, shown_as};
+ghost use Rattle.ynl_sights.specs.Copying.{asked_shown, asks_shown, items_in, kind_shown, kind_wanted, master_shown, one_by_one, shown, shown_as, AreAppsOf};
 
 use crate::rows::{Offered, Wanted};
 use std::alloc::{AllocError, Global};
@@ -101,28 +101,6 @@ fn add_master(
     Ok(())
 }
 
-/// The masters that are wanted of a leaf.
-pub(crate) fn masters_of(
-    alloc: Global,
-    cluster: &Cluster,
-    p: u8,
-    leaf: usize,
-    apps: &[u32],
-) -> Result<Vec<Offered>, AllocError>
-    requires apps { AreAppsOf cluster.now.rows leaf apps.now }
-    requires partition { HasPartition cluster.now.rows p }
-    ensures { IfOk result (λ masters. map shown masters.items
-        ≡ one_by_one (master_shown cluster.now.rows p) 0 (in_leaf leaf cluster.now.rows.apps)) }
-{
-    // Opens the inventory, whose rows are sound.
-    let _ = cluster.inventory();
-    let mut masters = Vec::new(alloc);
-    for i in 0..apps.len() {
-        add_master(cluster, p, apps[i], i as u64, &mut masters)?;
-    }
-    Ok(masters)
-}
-
 /// Adds an ask of an application, if it is for the partition.
 fn add_ask(
     cluster: &Cluster,
@@ -173,26 +151,60 @@ fn add_asks(
     Ok(())
 }
 
-/// What is asked for in a leaf on the partition.
-pub(crate) fn asks_of(
+/// The live applications of a leaf, in the order of submission. Each has a seat in the leaf's lane on
+/// DEFAULT, wherever it is at home.
+pub(crate) fn apps_of(alloc: Global, cluster: &Cluster, leaf: usize) -> Result<Vec<u32>, AllocError>
+    requires { HasNumber cluster.now.rows.paths leaf }
+    ensures { IfOk result (λ apps. AreAppsOf cluster.now.rows leaf apps.items) }
+{
+    // Opens the inventory, which has DEFAULT.
+    let _ = cluster.inventory();
+    cluster.lane(0, leaf).apps(alloc)
+}
+
+/// Adds what an application wants of a kind on the partition.
+fn add_offered(
+    cluster: &Cluster,
+    p: u8,
+    kind: Kind,
+    app: u32,
+    place: u64,
+    out: &mut Vec<Offered>,
+) -> Result<(), AllocError>
+    requires live { IsLive app cluster.now.rows.apps }
+    requires partition { HasPartition cluster.now.rows p }
+    ensures { OnOk result ((row : AppRow)
+        → lookup (nat_eq app) cluster.now.rows.apps ≡ Some row
+        → map shown out.new.items
+        ≡ map shown out.old.items ++ kind_shown kind cluster.now.rows p place app row) }
+{
+    match kind {
+        Kind::Master => add_master(cluster, p, app, place, out),
+        Kind::Ask => add_asks(cluster, p, app, place, out),
+    }
+}
+
+/// What is wanted of a kind of a leaf on the partition, where these are its applications.
+pub(crate) fn offered_in(
     alloc: Global,
     cluster: &Cluster,
     p: u8,
     leaf: usize,
+    kind: Kind,
     apps: &[u32],
 ) -> Result<Vec<Offered>, AllocError>
     requires apps { AreAppsOf cluster.now.rows leaf apps.now }
     requires partition { HasPartition cluster.now.rows p }
-    ensures { IfOk result (λ asks. map shown asks.items
-        ≡ one_by_one (asked_shown cluster.now.rows p) 0 (in_leaf leaf cluster.now.rows.apps)) }
+    ensures { IfOk result (λ offered. map shown offered.items
+        ≡ one_by_one (kind_shown kind cluster.now.rows p) 0 (in_leaf leaf cluster.now.rows.apps)) }
 {
     // Opens the inventory, whose rows are sound.
     let _ = cluster.inventory();
-    let mut asks = Vec::new(alloc);
+    let mut offered = Vec::new(alloc);
     for i in 0..apps.len() {
-        add_asks(cluster, p, apps[i], i as u64, &mut asks)?;
+        add_offered(cluster, p, kind, apps[i], i as u64, &mut offered)?;
     }
-    Ok(asks)
+    Ok(offered)
 }
 
 /// Requests without what their users use.

@@ -15,4 +15,4 @@ returns c =
     added guest_bids_in c.args.out.now.items c.push.new.self.items _ (bids_at w 0 (asked w.rows 0) c.args.leaf) c.in_ok-push.ensures.items
     (ap (λ (label : Label). bids_by label c.in_ok-way.way c.in_ok-asks.asks.items) (sym sound.default)
     ∙ bids-seen w sound 0 sound.some c.args.leaf c.in_ok-way.way c.in_ok-way.ensures.way c.in_ok-offered.offered.items c.in_ok-offered.ensures
-    c.in_ok-asks.asks.items (c.in_ok-asks.ensures ∙ ap (λ (offered : List Offered). map (λ (one : Offered). one.wanted) offered) c.deref.ensures.value))
+    c.in_ok-asks.asks.items (c.in_ok-asks.ensures ∙ ap (λ (offered : List Offered). map (λ (one : Offered). one.wanted) offered) c.deref-2.ensures.value))

@@ -1,10 +1,11 @@
-use Rattle.std.proofs.Common.{◌++◌, Vec, map, sym, ap, subst, ◌∙◌, arith}
+use Rattle.std.proofs.Common.{◌∷◌, ◌++◌, List, length, map, sym, ap, ◌∙◌, arith}
 use Rattle.std.specs.Prelude.{flat_map}
-use Rattle.std.specs.declared.alloc.Global.{Global}
 use Rattle.std.proofs.lemmas.List.{map-append}
+use Rattle.ynl_resource.specs.Names.{root}
+use Rattle.ynl_resource.specs.declared.paths.Path.{Path}
 use Rattle.ynl_layout.specs.Paths.{HasNumber}
 use Rattle.ynl_inventory.specs.Meaning.{leaf_numbers}
-use Rattle.ynl_leaf_apps.specs.Apps.{AreAppsOf}
+use Rattle.ynl_inventory.specs.Parts.{Held}
 use Rattle.ynl_requests.specs.Requests.{asked, master_wanted}
 use Rattle.ynl_cluster.specs.Cluster.{label_of, state_in}
 use Rattle.ynl_sights.specs.Sights.{offer_of}
@@ -14,19 +15,13 @@ use Rattle.ynl_sights.proofs.Leaves.{all-before, none-there, one-more}
 use Rattle.ynl_sights.proofs.Listed.{items-listed, map-flat}
 use Rattle.ynl_sights.proofs.copying.leaf_sights.Goals as goal
 
-pub add_leaf_sight-requires-clause-apps : goal.add_leaf_sight-requires-clause-apps
-add_leaf_sight-requires-clause-apps c =
-    let v = c.args.cluster.now.rows in
-    let queue = c.loop-queue.queue in
-    subst (AreAppsOf v queue) (ap (λ (list : Vec _ Global). list.items) (sym c.index-apps-queue.is) ∙ sym c.deref.ensures.value)
-    (c.requires.apps.each queue c.index-apps-queue.result (omega (arith, c.loop-queue-test.true, c.requires.apps.many)))
-
 pub loop-queue-preserved : goal.loop-queue-preserved
 loop-queue-preserved c =
     let w = c.args.cluster.now in
     let p = c.args.p in
     let queue = c.loop-queue.queue in
-    let there : HasNumber w.rows.paths queue = omega (arith, c.loop-queue-test.true, c.requires.apps.many) in
+    let many = c.len-queues.ensures.value ∙ ap (λ (paths : List Path). length (root ∷ paths)) (c.layout.ensures ∙ ap (λ (h : Held). h.rows.paths) c.inventory.ensures.value) in
+    let there : HasNumber w.rows.paths queue = omega (arith, c.loop-queue-test.true, many) in
     let masters = offers_at w p (master_wanted w.rows p) in
     let asks = offers_at w p (asked w.rows p) in
     let see = offer_of w.config (state_in w) (label_of w p) in
@@ -45,9 +40,10 @@ returns c =
     let p = c.args.p in
     let see = offer_of w.config (state_in w) (label_of w p) in
     let leaves = leaf_numbers w.rows.paths in
-    let all = all-before w.rows.paths c.loop-queue.queue (omega (arith, c.loop-queue-test.false, c.requires.apps.many)) in
+    let many = c.len-queues.ensures.value ∙ ap (λ (paths : List Path). length (root ∷ paths)) (c.layout.ensures ∙ ap (λ (h : Held). h.rows.paths) c.inventory.ensures.value) in
+    let all = all-before w.rows.paths c.loop-queue.queue (omega (arith, c.loop-queue-test.false, many)) in
     (λ i.
     (c.loop-queue.invariant.masters ∙ ap (flat_map (offers_at w p (master_wanted w.rows p))) all ∙ sym (map-flat see (items_in w.rows (master_wanted w.rows p)) leaves)) i
     ++ (c.loop-queue.invariant.asks ∙ ap (flat_map (offers_at w p (asked w.rows p))) all ∙ sym (map-flat see (items_in w.rows (asked w.rows p)) leaves)) i)
     ∙ sym (map-append see (flat_map (items_in w.rows (master_wanted w.rows p)) leaves) (flat_map (items_in w.rows (asked w.rows p)) leaves))
-    ∙ ap (map see) (sym (items-listed w c.inventory.ensures.sound p c.requires.partition))
+    ∙ ap (map see) (sym (items-listed w c.inventory.ensures.sound p c.requires))

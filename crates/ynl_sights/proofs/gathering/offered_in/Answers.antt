@@ -1,13 +1,13 @@
 use Rattle.std.proofs.Common.{ap, is_some, map}
 use Rattle.std.proofs.lemmas.Option.{slice_get-get_or}
-use Rattle.ynl_leaf_apps.proofs.Places.{app-at}
 use Rattle.ynl_requests.specs.Laws.{in_leaf}
-use Rattle.ynl_sights.specs.Copying.{master_shown, shown}
+use Rattle.ynl_sights.specs.Copying.{kind_shown, shown}
 use Rattle.ynl_sights.proofs.Gathered.{taken}
-use Rattle.ynl_sights.proofs.gathering.masters_of.Goals as goal
+use Rattle.ynl_sights.proofs.Places.{app-at}
+use Rattle.ynl_sights.proofs.gathering.offered_in.Goals as goal
 
-pub add_master-requires-clause-live : goal.add_master-requires-clause-live
-add_master-requires-clause-live c =
+pub add_offered-requires-clause-live : goal.add_offered-requires-clause-live
+add_offered-requires-clause-live c =
     let i = c.loop-i.i in
     ap is_some (app-at c.args.cluster.now.rows c.inventory.ensures.sound c.args.leaf c.args.apps.now c.requires.apps i _ (slice_get-get_or c.args.apps.now i 0 c.loop-i-test.true)).found
 
@@ -16,4 +16,4 @@ loop-i-preserved c =
     let v = c.args.cluster.now.rows in
     let i = c.loop-i.i in
     let at = app-at v c.inventory.ensures.sound c.args.leaf c.args.apps.now c.requires.apps i _ (slice_get-get_or c.args.apps.now i 0 c.loop-i-test.true) in
-    taken (master_shown v c.args.p) (in_leaf c.args.leaf v.apps) i _ at.row at.place (map shown c.loop-i.masters.items) (map shown c.add_master.new.out.items) c.loop-i.invariant (c.in_ok-add_master.ensures at.row at.found)
+    taken (kind_shown c.args.kind v c.args.p) (in_leaf c.args.leaf v.apps) i _ at.row at.place (map shown c.loop-i.offered.items) (map shown c.add_offered.new.out.items) c.loop-i.invariant (c.in_ok-add_offered.ensures at.row at.found)
