@@ -1,6 +1,6 @@
 //! The live applications of a cluster.
 
-ghost use Rattle.std.specs.Prelude.{◌≡◌, ◌<◌, ◌≤◌, ◌+◌, ◌++◌, ◌∷◌, [], length, map, nat_eq, option_copied, Some, IfOk, IsSome, IsOk, OnOk, OnErr, IfSome};
+ghost use Rattle.std.specs.Prelude.{◌≡◌, ◌<◌, ◌≤◌, ◌+◌, ◌++◌, ◌∷◌, [], length, nat_eq, option_copied, Some, IsSome, IsOk, OnOk, OnErr, IfSome};
 ghost use Rattle.std.specs.Map.{lookup};
 ghost use Rattle.ynl_slots.specs.Slots.{IsLive, IsUnused, HasDistinctNumbers, without, with_row};
 ghost use Rattle.ynl_app_table.specs.Asks.{find_ask, with_ask, with_one_taken};
@@ -55,14 +55,6 @@ impl Apps {
         ensures { option_copied result ≡ lookup (nat_eq number) self.now.entries }
     {
         self.rows.get(number)
-    }
-
-    /// The numbers of the applications, in the order in which they were added. It fails if memory is refused, and takes
-    /// the time of a sort.
-    pub fn numbers(&self, alloc: Global) -> Result<Vec<u32>, AllocError>
-        ensures { IfOk result (λ numbers. numbers.items ≡ map (λ e. e.0) self.now.entries) }
-    {
-        self.rows.numbers(alloc)
     }
 
     /// Reserves room for one more application. It fails if memory is refused, if there are 2^32 - 1 applications, and

@@ -357,14 +357,6 @@ impl Inventory {
         self.apps.get(number)
     }
 
-    /// The numbers of the live applications, in the order of submission. It fails if memory is
-    /// refused, and takes the time of a sort.
-    pub fn live_apps(&self, alloc: Global) -> Result<Vec<u32>, AllocError>
-        ensures { IfOk result (λ numbers. numbers.items ≡ map (λ e. e.0) self.now.rows.apps) }
-    {
-        self.apps.numbers(alloc)
-    }
-
     /// Whether a live application runs: its master is placed.
     pub fn runs(&self, app: u32) -> bool
         requires { IsLive app self.now.rows.apps }
