@@ -143,6 +143,17 @@ pub(crate) fn reply_with(receipt: &mut Receipt, reply: Reply) -> u64 {
 
 /// The number of entries of the closed journal, or what comes back at a cause. It has no contract, since that of
 /// `close` would stand in the proof of each test.
+pub(crate) fn ended(
+    alloc: Global,
+    live: Live,
+    seats: Vec<Seat>,
+    lists: &[Receipts],
+) -> Result<usize, Unclosed> {
+    let closed = close(alloc, live, seats, lists)?;
+    Ok(closed.entries.len())
+}
+
+/// The same of lists that are not yet kept as bytes.
 pub(crate) fn tried(
     alloc: Global,
     live: Live,
@@ -153,8 +164,7 @@ pub(crate) fn tried(
         let cause = Cause::NoMemory;
         return Err(Unclosed { cause, live, seats });
     };
-    let closed = close(alloc, live, seats, &kept)?;
-    Ok(closed.entries.len())
+    ended(alloc, live, seats, &kept)
 }
 
 /// The lists as they are handed in.

@@ -9,6 +9,8 @@ mod events;
 #[cfg(test)]
 mod plans;
 #[cfg(test)]
+mod receipts;
+#[cfg(test)]
 mod refusals;
 #[cfg(test)]
 mod sessions;

@@ -1,0 +1,308 @@
+//! Receipts that are exchanged, altered, missing, there twice or of another scheduler: the journal is not closed,
+//! and is where the right ones are handed in after all.
+
+use crate::events::{ask, ended, opened, poll, register_node, submit, two};
+use std::alloc::Global;
+use std::process::Abort;
+use std::sync::Wait;
+use std::test::Fail;
+use ynl_live::{Cause, Live, Receipt, Receipts, Seat, Unclosed};
+use ynl_model::{Event, Reply};
+use ynl_resource::{Name, Refusal};
+
+/// Two callers that called in turn, three times each.
+#[derive(Drop)]
+struct Callers {
+    live: Live,
+    seats: Vec<Seat>,
+}
+
+/// What their receipts are made to tell.
+#[derive(Clone, Copy)]
+enum Tells {
+    TheTruth,
+    AnotherPlace,
+    AnotherEvent,
+    AnotherReply,
+}
+
+/// Two lists of receipts, and why these do not close the journal. A digit is the receipt of that place. The letters from
+/// `a` on are the same six with places that are higher by two, those from `g` on with another event, and those
+/// from `m` on with another reply. Those from `s` on are of a scheduler with another node.
+type Row = (&'static str, &'static str, Cause);
+
+const EXCHANGED: &[Row] = &[
+    ("204", "135", Cause::Mismatch(0)),
+    ("324", "105", Cause::Mismatch(2)),
+    ("420", "135", Cause::Mismatch(2)),
+    ("524", "130", Cause::Mismatch(2)),
+    ("024", "315", Cause::Mismatch(1)),
+    ("021", "435", Cause::Mismatch(1)),
+    ("024", "531", Cause::Mismatch(3)),
+    ("042", "135", Cause::Mismatch(2)),
+    ("054", "132", Cause::Mismatch(4)),
+    ("024", "153", Cause::Mismatch(3)),
+];
+
+const TWICE: &[Row] = &[
+    ("124", "135", Cause::Mismatch(1)),
+    ("224", "135", Cause::Mismatch(2)),
+    ("324", "135", Cause::Mismatch(2)),
+    ("424", "135", Cause::Mismatch(2)),
+    ("524", "135", Cause::Mismatch(2)),
+    ("004", "135", Cause::Mismatch(0)),
+    ("014", "135", Cause::Mismatch(1)),
+    ("034", "135", Cause::Mismatch(3)),
+    ("044", "135", Cause::Mismatch(4)),
+    ("054", "135", Cause::Mismatch(4)),
+    ("020", "135", Cause::Mismatch(0)),
+    ("021", "135", Cause::Mismatch(1)),
+    ("022", "135", Cause::Mismatch(2)),
+    ("023", "135", Cause::Mismatch(3)),
+    ("025", "135", Cause::Mismatch(5)),
+    ("024", "035", Cause::Mismatch(0)),
+    ("024", "235", Cause::Mismatch(2)),
+    ("024", "335", Cause::Mismatch(3)),
+    ("024", "435", Cause::Mismatch(4)),
+    ("024", "535", Cause::Mismatch(3)),
+    ("024", "105", Cause::Mismatch(0)),
+    ("024", "115", Cause::Mismatch(1)),
+    ("024", "125", Cause::Mismatch(2)),
+    ("024", "145", Cause::Mismatch(4)),
+    ("024", "155", Cause::Mismatch(5)),
+    ("024", "130", Cause::Mismatch(0)),
+    ("024", "131", Cause::Mismatch(1)),
+    ("024", "132", Cause::Mismatch(2)),
+    ("024", "133", Cause::Mismatch(3)),
+    ("024", "134", Cause::Mismatch(4)),
+];
+
+const MISSING: &[Row] = &[
+    ("24", "135", Cause::ReceiptsMissing),
+    ("04", "135", Cause::ReceiptsMissing),
+    ("02", "135", Cause::ReceiptsMissing),
+    ("024", "35", Cause::ReceiptsMissing),
+    ("024", "15", Cause::ReceiptsMissing),
+    ("024", "13", Cause::ReceiptsMissing),
+    ("24", "0135", Cause::ReceiptsMissing),
+    ("0245", "13", Cause::ReceiptsMissing),
+    ("0024", "135", Cause::ReceiptsMissing),
+    ("024", "135s", Cause::ReceiptsMissing),
+    ("", "012345", Cause::ReceiptsMissing),
+];
+
+const ALTERED: &[Row] = &[
+    ("a24", "135", Cause::Mismatch(2)),
+    ("024", "b35", Cause::Mismatch(3)),
+    ("0c4", "135", Cause::Mismatch(4)),
+    ("024", "1d5", Cause::Mismatch(5)),
+    ("02e", "135", Cause::Mismatch(6)),
+    ("024", "13f", Cause::Mismatch(7)),
+    ("g24", "135", Cause::Mismatch(0)),
+    ("024", "h35", Cause::Mismatch(1)),
+    ("0i4", "135", Cause::Mismatch(2)),
+    ("024", "1j5", Cause::Mismatch(3)),
+    ("02k", "135", Cause::Mismatch(4)),
+    ("024", "13l", Cause::Mismatch(5)),
+    ("m24", "135", Cause::Mismatch(0)),
+    ("024", "n35", Cause::Mismatch(1)),
+    ("0o4", "135", Cause::Mismatch(2)),
+    ("024", "1p5", Cause::Mismatch(3)),
+    ("02q", "135", Cause::Mismatch(4)),
+    ("024", "13r", Cause::Mismatch(5)),
+    ("s24", "135", Cause::Mismatch(0)),
+    ("0u4", "135", Cause::Mismatch(2)),
+    ("02w", "135", Cause::Mismatch(4)),
+    ("024", "13x", Cause::Mismatch(5)),
+    ("suw", "tvx", Cause::Mismatch(0)),
+];
+
+/// Neighbours that are exchanged: the places of both lists rise, and each is there once.
+const EXCHANGED_NEIGHBOURS: &[(&str, &str)] = &[
+    ("124", "035"),
+    ("014", "235"),
+    ("034", "125"),
+    ("023", "145"),
+    ("025", "134"),
+];
+
+/// A node that registers, and an application that is given its master and a container on `g1`.
+fn script(node: &str) -> Option<[Event; 6]> {
+    let node = register_node(node)?;
+    let beat = Event::Heartbeat {
+        node: Name::parse("g1").ok()?,
+    };
+    Some([node, submit("j1", 1000)?, beat, ask()?, beat, poll("j1")?])
+}
+
+/// A receipt that is made to tell this.
+fn altered(receipt: Receipt, tells: Tells, other: Event) -> Receipt {
+    let Receipt {
+        place,
+        event,
+        reply,
+    } = receipt;
+    match tells {
+        Tells::TheTruth => Receipt {
+            place,
+            event,
+            reply,
+        },
+        Tells::AnotherPlace => Receipt {
+            place: place.wrapping_add(2),
+            event,
+            reply,
+        },
+        Tells::AnotherEvent => Receipt {
+            place,
+            event: other,
+            reply,
+        },
+        Tells::AnotherReply => Receipt {
+            place,
+            event,
+            reply: Reply::Refused(Refusal::NameUsed),
+        },
+    }
+}
+
+/// Calls on the seats in turn, and puts the receipts behind those that are there.
+fn call_in_turn<R: Wait>(
+    rt: &R,
+    callers: &mut Callers,
+    receipts: &mut Vec<Receipt>,
+    node: &str,
+    tells: Tells,
+) -> Option<()> {
+    let other = submit("j7", 1000)?;
+    for (number, event) in script(node)?.into_iter().enumerate() {
+        let seat = callers.seats.get_mut(number % 2)?;
+        let receipt = callers.live.call(rt, seat, event).ok()?;
+        receipts.push(altered(receipt, tells, other)).ok()?;
+    }
+    Some(())
+}
+
+fn two_callers<R: Wait>(
+    rt: &R,
+    alloc: Global,
+    receipts: &mut Vec<Receipt>,
+    node: &str,
+    tells: Tells,
+) -> Result<Callers, Fail> {
+    let (live, first) = opened(alloc)?;
+    let second = first.split();
+    let seats = two(alloc, first, second)?;
+    let mut callers = Callers { live, seats };
+    call_in_turn(rt, &mut callers, receipts, node, tells).ok_or("not called")?;
+    Ok(callers)
+}
+
+/// Two callers, and all receipts that a row has.
+fn callers_of_rows<R: Wait>(
+    rt: &R,
+    alloc: Global,
+    receipts: &mut Vec<Receipt>,
+) -> Result<Callers, Fail> {
+    let callers = two_callers(rt, alloc, receipts, "g1", Tells::TheTruth)?;
+    for tells in [
+        Tells::AnotherPlace,
+        Tells::AnotherEvent,
+        Tells::AnotherReply,
+    ] {
+        let _others = two_callers(rt, alloc, receipts, "g1", tells)?;
+    }
+    let _others = two_callers(rt, alloc, receipts, "g2", Tells::TheTruth)?;
+    Ok(callers)
+}
+
+/// The number of the receipt that a digit or a letter of a row means.
+fn number_of(sign: u8) -> usize {
+    if sign < b'a' {
+        usize::from(sign.wrapping_sub(b'0'))
+    } else {
+        usize::from(sign.wrapping_sub(b'a')).wrapping_add(6)
+    }
+}
+
+fn list_of(alloc: Global, receipts: &[Receipt], signs: &str) -> Result<Receipts, Fail> {
+    let mut list = Receipts::new(alloc);
+    for sign in signs.bytes() {
+        let receipt = receipts.get(number_of(sign)).ok_or("no receipt")?;
+        list.push(receipt)?;
+    }
+    Ok(list)
+}
+
+fn lists_of(
+    alloc: Global,
+    receipts: &[Receipt],
+    first: &str,
+    second: &str,
+) -> Result<Vec<Receipts>, Fail> {
+    let first = list_of(alloc, receipts, first)?;
+    Ok(two(alloc, first, list_of(alloc, receipts, second)?)?)
+}
+
+/// The journal is not closed, for this cause. All that was handed in comes back.
+fn refused<R: Abort>(
+    rt: &R,
+    alloc: Global,
+    callers: Callers,
+    lists: &[Receipts],
+    wanted: Cause,
+) -> Result<Callers, Fail> {
+    let Callers { live, seats } = callers;
+    match ended(alloc, live, seats, lists) {
+        Ok(_) => Err(Fail::new("closed")),
+        Err(Unclosed { cause, live, seats }) => {
+            assert_eq!(rt; cause, wanted);
+            Ok(Callers { live, seats })
+        }
+    }
+}
+
+/// How many entries the closed journal has.
+fn closed(alloc: Global, callers: Callers, lists: &[Receipts]) -> Option<usize> {
+    let Callers { live, seats } = callers;
+    ended(alloc, live, seats, lists).ok()
+}
+
+/// Tries the rows, and then the right receipts.
+fn try_rows<R: Wait + Abort>(
+    rt: &R,
+    alloc: Global,
+    mut callers: Callers,
+    receipts: &[Receipt],
+) -> Result<(), Fail> {
+    for rows in [EXCHANGED, TWICE, MISSING, ALTERED] {
+        for (first, second, cause) in rows {
+            let lists = lists_of(alloc, receipts, first, second)?;
+            callers = refused(rt, alloc, callers, &lists, *cause)?;
+        }
+    }
+    let lists = lists_of(alloc, receipts, "024", "135")?;
+    assert_eq!(rt; closed(alloc, callers, &lists), Some(6));
+    Ok(())
+}
+
+#[test]
+fn closes_where_no_receipt_is_altered(rt: HostRuntime) -> Result<(), Fail> {
+    let alloc = rt.alloc();
+    let mut receipts = Vec::new(alloc);
+    let callers = callers_of_rows(&rt, alloc, &mut receipts)?;
+    try_rows(&rt, alloc, callers, &receipts)
+}
+
+/// Nothing ties a receipt to its seat but the number of calls, and that places rise.
+#[test]
+fn closes_where_neighbours_are_exchanged(rt: HostRuntime) -> Result<(), Fail> {
+    let alloc = rt.alloc();
+    for (first, second) in EXCHANGED_NEIGHBOURS {
+        let mut receipts = Vec::new(alloc);
+        let callers = two_callers(&rt, alloc, &mut receipts, "g1", Tells::TheTruth)?;
+        let lists = lists_of(alloc, &receipts, first, second)?;
+        assert_eq!(rt; closed(alloc, callers, &lists), Some(6));
+    }
+    Ok(())
+}
