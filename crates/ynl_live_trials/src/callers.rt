@@ -1,8 +1,6 @@
 //! Callers in four threads, and for what causes their journal is not closed.
 
-use crate::events::{
-    called, closed_alone, closed_len, opened, poll, receipt_of, register, reply_with, submit, tried,
-};
+use crate::events::{called, closed_alone, closed_len, opened, poll, register, submit, tried};
 use std::alloc::Global;
 use std::process::Abort;
 use std::sync::Wait;
@@ -10,8 +8,7 @@ use std::test::Fail;
 use std::thread;
 use std::thread::Threads;
 use ynl_live::{CallFault, Cause, Live, Receipt, Seat, Unclosed};
-use ynl_model::{Event, Reply};
-use ynl_resource::Refusal;
+use ynl_model::Event;
 
 /// A seat in a thread of its own, and the receipts of its calls.
 #[derive(Drop)]
@@ -125,35 +122,6 @@ fn closed(alloc: Global, called: Called) -> Option<usize> {
     closed_len(alloc, live, seats, lists.as_slice())
 }
 
-/// Has the first receipt of the third list tell a refusal, or that it was done, and answers its place.
-fn alter(called: &mut Called, refusal: Option<Refusal>) -> Option<u64> {
-    let reply = match refusal {
-        Some(refusal) => Reply::Refused(refusal),
-        None => Reply::Done,
-    };
-    match receipt_of(&mut called.lists, 2, 0) {
-        Some(receipt) => Some(reply_with(receipt, reply)),
-        None => None,
-    }
-}
-
-/// The journal is not closed where that receipt tells a refusal. Then it tells again that it was done.
-fn altered<R: Abort>(rt: &R, alloc: Global, mut called: Called) -> Result<Called, Fail> {
-    let place = alter(&mut called, Some(Refusal::NameUsed)).ok_or("no receipt")?;
-    let mut called = refused(rt, alloc, called, Cause::Mismatch(place))?;
-    alter(&mut called, None).ok_or("no receipt")?;
-    Ok(called)
-}
-
-#[test]
-fn closes_where_each_reply_is_told(rt: HostRuntime) -> Result<(), Fail> {
-    let alloc = rt.alloc();
-    let called = four_callers(&rt, alloc)?;
-    let called = altered(&rt, alloc, called)?;
-    assert_eq!(rt; closed(alloc, called), Some(400));
-    Ok(())
-}
-
 #[test]
 fn closes_with_all_seats_and_receipts(rt: HostRuntime) -> Result<(), Fail> {
     let alloc = rt.alloc();
@@ -164,102 +132,6 @@ fn closes_with_all_seats_and_receipts(rt: HostRuntime) -> Result<(), Fail> {
     called.seats.push(seat)?;
     let mut called = refused(&rt, alloc, called, Cause::ReceiptsMissing)?;
     called.lists.push(list)?;
-    assert_eq!(rt; closed(alloc, called), Some(400));
-    Ok(())
-}
-
-/// The place and the event that a receipt tells.
-type Told = (u64, Event);
-
-/// Has a receipt tell this, and answers what it told.
-fn retell(receipt: &mut Receipt, told: Told) -> Told {
-    let before = (receipt.place, receipt.event);
-    receipt.place = told.0;
-    receipt.event = told.1;
-    before
-}
-
-fn retell_first(lists: &mut Vec<Vec<Receipt>>, list: usize, told: Told) -> Option<Told> {
-    Some(retell(receipt_of(lists, list, 0)?, told))
-}
-
-/// What the first receipt of the third list tells.
-fn first_told(called: &Called) -> Option<Told> {
-    let receipt = called.lists.get(2)?.first()?;
-    Some((receipt.place, receipt.event))
-}
-
-/// Exchanges the first two receipts of the third list.
-fn exchange(called: &mut Called) -> Option<()> {
-    let list = called.lists.get_mut(2)?;
-    if list.len() < 2 {
-        return None;
-    }
-    list.swap(0, 1);
-    Some(())
-}
-
-/// The journal is not closed where these are exchanged, a mismatch at this place. Then they are as before.
-fn exchanged<R: Abort>(
-    rt: &R,
-    alloc: Global,
-    mut called: Called,
-    place: u64,
-) -> Result<Called, Fail> {
-    exchange(&mut called).ok_or("no receipts")?;
-    let mut called = refused(rt, alloc, called, Cause::Mismatch(place))?;
-    exchange(&mut called).ok_or("no receipts")?;
-    Ok(called)
-}
-
-/// The journal is not closed where the first receipt of a list tells this, a mismatch at the place that is
-/// told. Then it tells again what it told.
-fn mismatches<R: Abort>(
-    rt: &R,
-    alloc: Global,
-    mut called: Called,
-    list: usize,
-    told: Told,
-) -> Result<Called, Fail> {
-    let (place, _) = told;
-    let was = retell_first(&mut called.lists, list, told).ok_or("no receipt")?;
-    let mut called = refused(rt, alloc, called, Cause::Mismatch(place))?;
-    retell_first(&mut called.lists, list, was).ok_or("no receipt")?;
-    Ok(called)
-}
-
-/// The first receipt of the third list, exchanged with the next one, told on the fourth seat too, and told
-/// of a place that the journal has not.
-#[test]
-fn closes_where_each_receipt_is_in_its_place(rt: HostRuntime) -> Result<(), Fail> {
-    let alloc = rt.alloc();
-    let called = four_callers(&rt, alloc)?;
-    let first = first_told(&called).ok_or("no receipt")?;
-    let (place, event) = first;
-    let called = exchanged(&rt, alloc, called, place)?;
-    let called = mismatches(&rt, alloc, called, 3, first)?;
-    let called = mismatches(&rt, alloc, called, 2, (400, event))?;
-    assert_eq!(rt; closed(alloc, called), Some(400));
-    Ok(())
-}
-
-/// Takes the last receipt of the first list away.
-fn take_last(called: &mut Called) -> Option<Receipt> {
-    called.lists.get_mut(0)?.pop()
-}
-
-/// Puts a receipt behind those of the first list.
-fn put_last(called: &mut Called, receipt: Receipt) -> Option<()> {
-    called.lists.get_mut(0)?.push(receipt).ok()
-}
-
-#[test]
-fn closes_where_no_receipt_is_missing(rt: HostRuntime) -> Result<(), Fail> {
-    let alloc = rt.alloc();
-    let mut called = four_callers(&rt, alloc)?;
-    let last = take_last(&mut called).ok_or("no receipt")?;
-    let mut called = refused(&rt, alloc, called, Cause::ReceiptsMissing)?;
-    put_last(&mut called, last).ok_or("no list")?;
     assert_eq!(rt; closed(alloc, called), Some(400));
     Ok(())
 }
