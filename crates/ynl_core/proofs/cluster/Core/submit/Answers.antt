@@ -1,9 +1,10 @@
-use Rattle.std.proofs.Common.{◌≡◌, [], slice_index_or, ap, subst, ◌∙◌}
+use Rattle.std.proofs.Common.{◌≡◌, [], slice_index_or, ap, subst, sym, ◌∙◌}
 use Rattle.std.proofs.lemmas.Option.{get_or_from_slice_get}
 use Rattle.ynl_model.specs.declared.events.Event.TheVariants.{Submit}
 use Rattle.ynl_model.specs.declared.replies.Reply.TheVariants.{Done}
 use Rattle.ynl_model.specs.Applications.{in_leaf, new_app, submitted}
 use Rattle.ynl_model.specs.Events.{accepted, done}
+use Rattle.ynl_laws.specs.Working.{IsWorking}
 use Rattle.ynl_layout.specs.Paths.{path_at}
 use Rattle.ynl_inventory.specs.Meaning.{label_at}
 use Rattle.ynl_cluster.specs.Cluster.{ClusterView, state_in}
@@ -56,3 +57,19 @@ pub returns-clause-ok : goal.returns-clause-ok
 returns-clause-ok c =
     subst (λ (v : World). Answers v (Submit c.args.queue.now c.args.app.now c.args.user.now c.args.label.now c.args.master.now) (world_in (u c)) Done) c.self.view_is
     (answers (w c) (u c) (Submit c.args.queue.now c.args.app.now c.args.user.now c.args.label.now c.args.master.now) Done (c.in-Ok.ensures.free c.args.user.now) (config c) (submits c))
+
+-- where memory is refused nothing has changed but that the user may be known
+pub invariant_of-self-in_err-submit : goal.invariant_of-self-in_err-submit
+invariant_of-self-in_err-submit c =
+    let w = c.self.inside.cluster in
+    let known = c.user.new.self in
+    let same : c.submit-2.new.cluster ≡ c.user.new.self = c.in_err-submit.ensures.err in
+    let config = ap (λ (v : ClusterView). v.config) c.in_ok-user.ensures.ok in
+    let partitions = ap (λ (v : ClusterView). v.rows.partitions) c.in_ok-user.ensures.ok ∙ (user-leaves c.args.user.now w.rows).0 in
+    let paths = ap (λ (v : ClusterView). v.rows.paths) c.in_ok-user.ensures.ok ∙ (user-leaves c.args.user.now w.rows).1 in
+    record {
+      working =
+          subst (λ (v : ClusterView). IsWorking v.config (state_in v)) (sym same)
+          (subst (λ configured. IsWorking configured (state_in known)) (sym config) (subst (IsWorking w.config) (sym c.in_ok-user.ensures.state) c.self.invariant.working));
+      shut = c.in_err-submit.ensures.shut (shut-stays w known c.self.inside.shut config c.in_ok-user.ensures.state partitions paths c.self.invariant.shut);
+    }
