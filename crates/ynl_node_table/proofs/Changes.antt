@@ -1,11 +1,11 @@
 -- What the nodes keep while one comes, goes or changes.
-use Rattle.std.proofs.Common.{◌≡◌, ◌≢◌, ◌<◌, ◌≤◌, ℕ, Bool, true, false, cond, List, [], ◌∷◌, ◌++◌, Option, Some, None, nat_eq, refl, sym, ap, subst, ◌∙◌, arith}
+use Rattle.std.proofs.Common.{◌≡◌, ◌≢◌, ◌<◌, ◌≤◌, ℕ, Bool, true, false, cond, List, [], ◌∷◌, ◌++◌, Option, Some, None, IsTrue, nat_eq, refl, sym, ap, subst, ◌∙◌, arith}
 use Rattle.std.specs.List.{AllByRecursion}
 use Rattle.std.specs.Map.{lookup}
-use Rattle.std.specs.BTreeMap.{BTreeMap, get, is_at}
 use Rattle.std.proofs.lemmas.Bool.Decides.{nat_tests}
 use Rattle.ynl_resource.specs.declared.names.Name.{Name}
-use Rattle.ynl_resource.specs.Names.{same_name, name_order}
+use Rattle.ynl_resource.specs.NameText.{is_name}
+use Rattle.ynl_resource.specs.Names.{same_name}
 use Rattle.ynl_resource.specs.declared.amounts.Resource.{Resource}
 use Rattle.ynl_slots.specs.declared.chain.Chain.{Chain}
 use Rattle.ynl_slots.specs.declared.chain.Links.{Links}
@@ -16,9 +16,11 @@ use Rattle.ynl_slots.proofs.Lookups.{only_from_distinct}
 use Rattle.ynl_slots.proofs.Entries.{distinct_push, distinct_without, distinct_alike}
 use Rattle.ynl_node_table.specs.declared.nodes.NodeRow.{NodeRow}
 use Rattle.ynl_node_table.specs.declared.nodes.Nodes.TheInside.{Inside}
+use Rattle.ynl_node_table.specs.declared.numbers.Numbers.{Numbers}
 use Rattle.ynl_node_table.specs.Fields.{IsKept}
 use Rattle.ynl_node_table.specs.Nodes.{HasDistinctNames, by_name, number_of, no_chain, with_change}
-use Rattle.ynl_node_table.proofs.Names.{at_same, names_pushed, number-pushed, names_without, number-without, number_there, unnamed_without}
+use Rattle.ynl_node_table.specs.Numbers.{number_in}
+use Rattle.ynl_node_table.proofs.Names.{names_pushed, number-pushed, names_without, number-without, number_there, unnamed_without}
 
 -- what a push of a new node leaves
 pub joined : (pushed reserved old : List (ℕ × NodeRow)) (n : ℕ) (name : Name) (partition : ℕ) (size : Resource) (stamp : ℕ) (free : Resource) (chain : Chain)
@@ -81,7 +83,7 @@ module _ (a : Inside) (h : IsKept a) where
   change_kept n row next room found is more = record {
     distinct = distinct_alike (with_row n next a.rows.entries) a.rows.entries (numbers_stay n next a.rows.entries) h.distinct;
     names = names_alike (with_row n next a.rows.entries) a.rows.entries alike h.names;
-    found = λ name. h.found name ∙ ap (lookup (same_name name)) (sym alike);
+    found = λ name named. h.found name named ∙ ap (lookup (same_name name)) (sym alike);
     room = λ ready. let before = h.room ready in omega (arith, before, more);
   }
     where
@@ -89,38 +91,37 @@ module _ (a : Inside) (h : IsKept a) where
       alike = named_alike n row next a.rows.entries (only_from_distinct n row a.rows.entries h.distinct found) is
 
   -- a node comes last
-  pub push_kept : (n : ℕ) (row : NodeRow) (rows : Numbered NodeRow) (numbers : BTreeMap Name ℕ) (ready : Bool) → (ready ≡ true → 0 < rows.room) → rows.entries ≡ a.rows.entries ++ (n, row) ∷ [] → IsUnused n a.rows.entries → number_of row.name a.rows.entries ≡ None
-      → ((q : Name) → get name_order numbers q ≡ cond (is_at (name_order row.name) q) (Some n) (get name_order a.numbers q)) → IsKept (record { rows = rows; numbers = numbers; ready = ready })
+  pub push_kept : (n : ℕ) (row : NodeRow) (rows : Numbered NodeRow) (numbers : Numbers) (ready : Bool) → (ready ≡ true → 0 < rows.room) → rows.entries ≡ a.rows.entries ++ (n, row) ∷ [] → IsUnused n a.rows.entries → number_of row.name a.rows.entries ≡ None
+      → ((q : Name) → IsTrue (is_name q) → number_in numbers q ≡ cond (same_name row.name q) (Some n) (number_in a.numbers q)) → IsKept (record { rows = rows; numbers = numbers; ready = ready })
   push_kept n row rows numbers ready room is unused new put = record {
     distinct = subst HasDistinctNumbers (sym is) (distinct_push n row a.rows.entries unused h.distinct);
     names = subst HasDistinctNames (sym is) (names_pushed n row a.rows.entries new h.names);
-    found = λ q.
-        put q ∙ ap (λ (b : Bool). cond b (Some n) (get name_order a.numbers q)) (at_same row.name q) ∙ ap (λ (o : Option ℕ). cond (same_name row.name q) (Some n) o) (h.found q)
+    found = λ q named.
+        put q named ∙ ap (λ (o : Option ℕ). cond (same_name row.name q) (Some n) o) (h.found q named)
         ∙ sym (number-pushed n row a.rows.entries q new) ∙ ap (number_of q) (sym is);
     room = room;
   }
 
   -- a node goes
-  pub without_kept : (n : ℕ) (row : NodeRow) (rows : Numbered NodeRow) (numbers : BTreeMap Name ℕ) (ready : Bool) → (ready ≡ true → 0 < rows.room) → rows.entries ≡ without n a.rows.entries → lookup (nat_eq n) a.rows.entries ≡ Some row
-      → ((q : Name) → get name_order numbers q ≡ cond (is_at (name_order row.name) q) None (get name_order a.numbers q)) → IsKept (record { rows = rows; numbers = numbers; ready = ready })
+  pub without_kept : (n : ℕ) (row : NodeRow) (rows : Numbered NodeRow) (numbers : Numbers) (ready : Bool) → (ready ≡ true → 0 < rows.room) → rows.entries ≡ without n a.rows.entries → lookup (nat_eq n) a.rows.entries ≡ Some row
+      → ((q : Name) → IsTrue (is_name q) → number_in numbers q ≡ cond (same_name row.name q) None (number_in a.numbers q)) → IsKept (record { rows = rows; numbers = numbers; ready = ready })
   without_kept n row rows numbers ready room is there gone = record {
     distinct = subst HasDistinctNumbers (sym is) (distinct_without n a.rows.entries h.distinct);
     names = subst HasDistinctNames (sym is) (names_without n a.rows.entries h.names);
-    found = λ q.
-        gone q ∙ ap (λ (b : Bool). let o : Option ℕ = cond b None (get name_order a.numbers q) in o) (at_same row.name q)
-        ∙ ap (λ (o : Option ℕ). let p : Option ℕ = cond (same_name row.name q) None o in p) (h.found q)
+    found = λ q named.
+        gone q named ∙ ap (λ (o : Option ℕ). let p : Option ℕ = cond (same_name row.name q) None o in p) (h.found q named)
         ∙ sym (number-without n row a.rows.entries q h.distinct h.names there) ∙ ap (number_of q) (sym is);
     room = room;
   }
 
   -- a node goes, and one of its name comes last
-  pub moved_kept : (n m : ℕ) (row next : NodeRow) (rows : Numbered NodeRow) (numbers : BTreeMap Name ℕ) (ready : Bool) → (ready ≡ true → 0 < rows.room) → rows.entries ≡ without n a.rows.entries ++ (m, next) ∷ [] → lookup (nat_eq n) a.rows.entries ≡ Some row → next.name ≡ row.name → IsUnused m (without n a.rows.entries)
-      → ((q : Name) → get name_order numbers q ≡ cond (is_at (name_order row.name) q) (Some m) (get name_order a.numbers q)) → IsKept (record { rows = rows; numbers = numbers; ready = ready })
+  pub moved_kept : (n m : ℕ) (row next : NodeRow) (rows : Numbered NodeRow) (numbers : Numbers) (ready : Bool) → (ready ≡ true → 0 < rows.room) → rows.entries ≡ without n a.rows.entries ++ (m, next) ∷ [] → lookup (nat_eq n) a.rows.entries ≡ Some row → next.name ≡ row.name → IsUnused m (without n a.rows.entries)
+      → ((q : Name) → IsTrue (is_name q) → number_in numbers q ≡ cond (same_name row.name q) (Some m) (number_in a.numbers q)) → IsKept (record { rows = rows; numbers = numbers; ready = ready })
   moved_kept n m row next rows numbers ready room is there same unused put = record {
     distinct = subst HasDistinctNumbers (sym is) (distinct_push m next (without n a.rows.entries) unused (distinct_without n a.rows.entries h.distinct));
     names = subst HasDistinctNames (sym is) (names_pushed m next (without n a.rows.entries) new (names_without n a.rows.entries h.names));
-    found = λ q.
-        put q ∙ ap (λ (b : Bool). cond b (Some m) (get name_order a.numbers q)) (at_same row.name q) ∙ ap (λ (o : Option ℕ). cond (same_name row.name q) (Some m) o) (h.found q)
+    found = λ q named.
+        put q named ∙ ap (λ (o : Option ℕ). cond (same_name row.name q) (Some m) o) (h.found q named)
         ∙ over (same_name row.name q) (number_of q a.rows.entries)
         ∙ ap (λ (o : Option ℕ). cond (same_name row.name q) (Some m) o) (sym (number-without n row a.rows.entries q h.distinct h.names there))
         ∙ ap (λ (x : Name). cond (same_name x q) (Some m) (number_of q (without n a.rows.entries))) (sym same)
@@ -136,14 +137,14 @@ module _ (a : Inside) (h : IsKept a) where
       over false o = refl
 
   -- the map has the name of each node
-  pub name_there : (n : ℕ) (row : NodeRow) → lookup (nat_eq n) a.rows.entries ≡ Some row → get name_order a.numbers row.name ≡ Some n
-  name_there n row there = h.found row.name ∙ number_there n row a.rows.entries h.names there
+  pub name_there : (n : ℕ) (row : NodeRow) → lookup (nat_eq n) a.rows.entries ≡ Some row → IsTrue (is_name row.name) → number_in a.numbers row.name ≡ Some n
+  name_there n row there named = h.found row.name named ∙ number_there n row a.rows.entries h.names there
 
   -- the names stay where the nodes do
-  pub same_kept : (rows : Numbered NodeRow) (numbers : BTreeMap Name ℕ) (ready : Bool) → (ready ≡ true → 0 < rows.room) → rows.entries ≡ a.rows.entries → numbers.entries ≡ a.numbers.entries → IsKept (record { rows = rows; numbers = numbers; ready = ready })
+  pub same_kept : (rows : Numbered NodeRow) (numbers : Numbers) (ready : Bool) → (ready ≡ true → 0 < rows.room) → rows.entries ≡ a.rows.entries → ((q : Name) → number_in numbers q ≡ number_in a.numbers q) → IsKept (record { rows = rows; numbers = numbers; ready = ready })
   same_kept rows numbers ready room is same = record {
     distinct = subst HasDistinctNumbers (sym is) h.distinct;
     names = subst HasDistinctNames (sym is) h.names;
-    found = λ q. ap (lookup (is_at (name_order q))) same ∙ h.found q ∙ ap (number_of q) (sym is);
+    found = λ q named. same q ∙ h.found q named ∙ ap (number_of q) (sym is);
     room = room;
   }

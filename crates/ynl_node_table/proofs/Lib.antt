@@ -1,2 +1,3 @@
 pub mod Names
+pub mod Numbering
 pub mod Changes

@@ -18,10 +18,10 @@ use Rattle.ynl_node_table.specs.Nodes.{HasDistinctNames, number_of}
 same_is : (a b : Name) → same_name a b ≡ true → a ≡ b
 same_is a b h = (bytes_decides a b).0 h
 
-self_same : (a : Name) → same_name a a ≡ true
+pub self_same : (a : Name) → same_name a a ≡ true
 self_same a = (bytes_decides a a).1 refl
 
-other_name : (a b : Name) → a ≢ b → same_name a b ≡ false
+pub other_name : (a b : Name) → a ≢ b → same_name a b ≡ false
 other_name a b apart = go (same_name a b) refl
   where
     go : (c : Bool) → same_name a b ≡ c → c ≡ false

@@ -1,11 +1,11 @@
 -- How the rows of nodes and their names go together.
-use Rattle.std.specs.Prelude.{◌≡◌, ◌<◌, true}
-use Rattle.std.specs.BTreeMap.{get}
+use Rattle.std.specs.Prelude.{◌≡◌, ◌<◌, true, IsTrue}
 use Rattle.ynl_resource.specs.declared.names.Name.{Name}
-use Rattle.ynl_resource.specs.Names.{name_order}
+use Rattle.ynl_resource.specs.NameText.{is_name}
 use Rattle.ynl_slots.specs.Slots.{HasDistinctNumbers}
 use Rattle.ynl_node_table.specs.declared.nodes.Nodes.TheInside.{Inside}
 use Rattle.ynl_node_table.specs.Nodes.{HasDistinctNames, NodesView, number_of}
+use Rattle.ynl_node_table.specs.Numbers.{number_in}
 
 -- what a contract sees
 abbrev pub nodes_of : Inside → NodesView
@@ -15,5 +15,5 @@ nodes_of a = record { entries = a.rows.entries; ready = a.ready }
 pub record IsKept (a : Inside) : Type 0 where
   pub distinct : HasDistinctNumbers a.rows.entries
   pub names : HasDistinctNames a.rows.entries
-  pub found : (name : Name) → get name_order a.numbers name ≡ number_of name a.rows.entries
+  pub found : (name : Name) → IsTrue (is_name name) → number_in a.numbers name ≡ number_of name a.rows.entries
   pub room : a.ready ≡ true → 0 < a.rows.room

@@ -1,2 +1,3 @@
 pub mod Nodes
+pub mod Numbers
 pub mod Fields

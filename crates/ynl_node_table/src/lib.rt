@@ -4,3 +4,4 @@
 pub use nodes::{NodeRow, Nodes};
 
 mod nodes;
+mod numbers;

@@ -6,8 +6,8 @@ ghost use Rattle.ynl_resource.specs.Amounts.{plus, less, fits_in, IsSmall};
 ghost use Rattle.ynl_slots.specs.Slots.{IsLive, IsUnused, HasDistinctNumbers, without};
 ghost use Rattle.ynl_node_table.specs.Nodes.{HasDistinctNames, Joins, Rejoins, number_of, with_change};
 
+use crate::numbers::Numbers;
 use std::alloc::{AllocError, Global};
-use std::collections::BTreeMap;
 use std::marker::Model;
 use std::ops::Index;
 use ynl_resource::{Name, Resource, Size};
@@ -34,7 +34,7 @@ pub struct NodeRow {
 #[derive(Drop)]
 pub struct Nodes {
     rows: Slots<NodeRow>,
-    numbers: BTreeMap<Name, u32>,
+    numbers: Numbers,
     /// There is room for one more.
     ready: bool,
 }
@@ -59,7 +59,7 @@ impl Nodes {
     {
         Nodes {
             rows: Slots::new(alloc),
-            numbers: BTreeMap::new(alloc),
+            numbers: Numbers::new(alloc),
             ready: false,
         }
     }
@@ -93,7 +93,7 @@ impl Nodes {
         ensures own { IfSome result (λ n.
             option_map (λ node. node.name) (lookup (nat_eq n) self.now.entries) ≡ Some name.now) }
     {
-        self.numbers.get(name).copied()
+        self.numbers.get(name)
     }
 
     /// A node comes last, with all of it free and no containers. It returns the number. It fails if memory is refused, if there
@@ -120,7 +120,7 @@ impl Nodes {
             stamp,
             containers: Chain::new(),
         });
-        match self.numbers.insert(*name, number) {
+        match self.numbers.insert(name, number) {
             Ok(_) => Ok(number),
             Err(_) => {
                 let _row = self.rows.remove(number);
@@ -159,7 +159,7 @@ impl Nodes {
             containers: Chain::new(),
         });
         self.ready = false;
-        match self.numbers.insert(was.name, last) {
+        match self.numbers.insert(&was.name, last) {
             Ok(_) => last,
             Err(_) => unreachable!(),
         }
@@ -172,7 +172,7 @@ impl Nodes {
         ensures nodes { self.new ≡ record self.old { entries = without number self.old.entries } }
     {
         let row = self.rows.remove(number);
-        let _number = self.numbers.remove(&row.name);
+        self.numbers.remove(&row.name);
         row
     }
 

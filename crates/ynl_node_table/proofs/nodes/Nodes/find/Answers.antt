@@ -7,5 +7,5 @@ use Rattle.ynl_node_table.proofs.nodes.Nodes.find.Goals as goal
 
 pub returns-clause-own : goal.returns-clause-own
 returns-clause-own c =
-    subst (λ (t : NodesView). IfSome c.copied.result (λ n. option_map (λ (r : NodeRow). r.name) (lookup (nat_eq n) t.entries) ≡ Some c.args.name.now)) c.self.view_is
-    (number_owns c.self.inside.rows.entries c.args.name.now c.copied.result c.self.invariant.distinct (c.copied.ensures ∙ c.get.ensures.value ∙ c.self.invariant.found c.args.name.now))
+    subst (λ (t : NodesView). IfSome c.get.result (λ n. option_map (λ (r : NodeRow). r.name) (lookup (nat_eq n) t.entries) ≡ Some c.args.name.now)) c.self.view_is
+    (number_owns c.self.inside.rows.entries c.args.name.now c.get.result c.self.invariant.distinct (c.get.ensures.value ∙ c.self.invariant.found c.args.name.now c.get.ensures.name))

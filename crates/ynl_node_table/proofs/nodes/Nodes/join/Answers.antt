@@ -14,7 +14,7 @@ invariant_of-self-in-Ok c =
     (joined c.push-number.new.self.entries c.reserve.new.self.entries c.self.inside.rows.entries c.push-number.result c.args.name.now c.args.partition c.args.size c.args.stamp c.amount.result c.new.result c.push-number.ensures.entries c.in_ok-reserve.ensures.entries c.amount.ensures.value c.new.ensures)
     (subst (IsUnused c.push-number.result) c.in_ok-reserve.ensures.entries c.push-number.ensures.unused)
     (subst (λ (t : NodesView). number_of c.args.name.now t.entries ≡ None) (sym c.self.view_is) c.requires)
-    c.in-Ok.ensures.updates.0
+    c.in-Ok.ensures.ok
 
 pub remove-row-requires : goal.remove-row-requires
 remove-row-requires c = subst (IsLive c.push-number.result) (sym c.push-number.ensures.entries) (live-pushed c.push-number.result _ c.reserve.new.self.entries c.push-number.ensures.unused)

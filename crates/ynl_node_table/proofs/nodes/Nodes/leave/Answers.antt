@@ -8,8 +8,8 @@ use Rattle.ynl_node_table.proofs.nodes.Nodes.leave.Goals as goal
 
 pub invariant_of-self : goal.invariant_of-self
 invariant_of-self c =
-    without_kept c.self.inside c.self.invariant c.args.number c.remove-row.result c.remove-row.new.self c.remove-number.new.self c.self.inside.ready
-    (λ ready. let before = c.self.invariant.room ready in omega (arith, before, c.remove-row.ensures.room)) c.remove-row.ensures.entries c.remove-row.ensures.value c.remove-number.ensures.updates.0
+    without_kept c.self.inside c.self.invariant c.args.number c.remove-row.result c.remove-row.new.self c.remove.new.self c.self.inside.ready
+    (λ ready. let before = c.self.invariant.room ready in omega (arith, before, c.remove-row.ensures.room)) c.remove-row.ensures.entries c.remove-row.ensures.value c.remove.ensures.gone
 
 pub returns-clause-nodes : goal.returns-clause-nodes
 returns-clause-nodes c =

@@ -11,7 +11,7 @@ push-last-requires c =
     omega (arith, before, c.remove-was.ensures.room)
 
 pub unreachable-requires : goal.unreachable-requires
-unreachable-requires c = none-some c.args.number (sym c.in-Err.ensures.absent ∙ name_there c.self.inside c.self.invariant c.args.number c.remove-was.result c.remove-was.ensures.value)
+unreachable-requires c = none-some c.args.number (sym c.in-Err.ensures.absent ∙ name_there c.self.inside c.self.invariant c.args.number c.remove-was.result c.remove-was.ensures.value c.insert.ensures.name)
 
 pub invariant_of-self : goal.invariant_of-self
 invariant_of-self c =
@@ -20,7 +20,7 @@ invariant_of-self c =
     c.remove-was.ensures.value
     refl
     (subst (IsUnused c.push-last.result) c.remove-was.ensures.entries c.push-last.ensures.unused)
-    c.in-Ok.ensures.updates.0
+    c.in-Ok.ensures.ok
 
 pub returns-clause-entries : goal.returns-clause-entries
 returns-clause-entries c =
