@@ -1,6 +1,6 @@
 -- The next child, and what is known once children were tried.
 use Rattle.std.proofs.Common.{◌≡◌, ℕ, zero, suc, ◌+◌, ◌<◌, ◌≤◌, Bool, true, false, cond, List, [], ◌∷◌, ◌++◌, length, Option, Some, None, refl, sym, ap, subst, ◌∙◌, get_or, arith}
-use Rattle.std.specs.Prelude.{is_some, option_map, nat_lt, filter, IfNone, IfSome, ◌&&◌}
+use Rattle.std.specs.Prelude.{is_some, option_map, nat_lt, filter, IfSome}
 use Rattle.std.specs.List.{Contains}
 use Rattle.std.specs.Ordering.{is_lt, is_gt}
 use Rattle.std.specs.declared.cmp.Ordering.TheVariants.{Equal}
@@ -20,7 +20,7 @@ use Rattle.ynl_laws.proofs.Service.Decided.{do_siblings_not_tie}
 use Rattle.ynl_laws.proofs.Service.Descent.{is_first_below_least}
 use Rattle.ynl_descent.specs.declared.standing.Standing.{Standing}
 use Rattle.ynl_descent.specs.Scenes.{Scene, Branch, AreAllBelow, HasNone, HasNoneAt, IsChildAt, IsFirstBelow, IsFirstOf, name_at, path_at, stands, stands_at}
-use Rattle.ynl_descent.specs.Turns.{AreNoneLeft, AreTried, HaveNone, HavePlaces, IsNext, IsStanding, better, better_of, is_before, is_left, told}
+use Rattle.ynl_descent.specs.Turns.{AreNoneLeft, AreTried, HaveNone, HavePlaces, IsNext, IsStanding, is_before, is_left, told}
 use Rattle.ynl_descent.proofs.Siblings.{before-trans, before-itself, tied, not-after}
 
 -- what comes after one that is left is left
@@ -131,28 +131,26 @@ module _ (b : Branch) where
   places-best last None h = h
   places-best last (Some s) h = h.0.there
 
-  -- once one more was looked at
-  pub looked-at : (n : ℕ) (last best : Option Standing) (s : Standing) → IsBest last best → HaveNone b n last best → IsStanding b s → s.place ≡ n
-      → Holds (n + 1) last (better b last best s)
-  looked-at n last best s is none standing here = go (is_left b last (told b s)) (is_before b (told b s) best) refl refl
-    where
-      own : told b s ≡ at n
-      own = standing.right ∙ ap at here
+  -- once one more is the best
+  pub holds-better : (n : ℕ) (last best : Option Standing) (s : Standing) → Holds n last best → IsStanding b s → s.place ≡ n
+      → is_left b last (told b s) ≡ true → is_before b (told b s) best ≡ true → Holds (n + 1) last (Some s)
+  holds-better n last best s holds standing here left before = record { best = (standing, left); none = none-better n last best s holds.none standing here before }
 
-      go : (left soon : Bool) → is_left b last (told b s) ≡ left → is_before b (told b s) best ≡ soon → Holds (n + 1) last (cond (left && soon) (Some s) best)
-      go true true e k = record { best = (standing, e); none = none-better n last best s none standing here k }
-      go true false e k = record { best = is; none = none-more n last best none (λ left soon. absurd (true≢false (sym soon ∙ (λ i. is_before b (sym own i) best) ∙ k))) }
-      go false soon e k = record { best = is; none = none-more n last best none (λ left soon. absurd (true≢false (sym left ∙ (λ i. is_left b last (sym own i)) ∙ e))) }
+  -- or was left out: there is none below it, or it was tried, or comes after the best
+  pub holds-none : (n : ℕ) (last best : Option Standing) → Holds n last best → HasNoneAt b n → Holds (n + 1) last best
+  holds-none n last best holds none = record { best = holds.best; none = none-more n last best holds.none (λ left before. none) }
 
-  pub places-looked : (looked : Option Standing) → IfSome looked (IsStanding b) → HavePlaces b looked
-  places-looked None h = h
-  places-looked (Some s) h = h.there
+  pub holds-tried : (n : ℕ) (last best : Option Standing) (s : Standing) → Holds n last best → IsStanding b s → s.place ≡ n → is_left b last (told b s) ≡ false → Holds (n + 1) last best
+  holds-tried n last best s holds standing here tried = record {
+    best = holds.best;
+    none = none-more n last best holds.none (λ left before. absurd (true≢false (sym left ∙ ap (is_left b last) (sym (standing.right ∙ ap at here)) ∙ tried)));
+  }
 
-  -- or was left out
-  pub looked-over : (n : ℕ) (last best looked : Option Standing) → IsBest last best → HaveNone b n last best → IfSome looked (λ s. s.place ≡ n)
-      → IfSome looked (IsStanding b) → IfNone looked (HasNoneAt b n) → Holds (n + 1) last (better_of b last best looked)
-  looked-over n last best (Some s) is none here standing out = looked-at n last best s is none standing here
-  looked-over n last best None is none here standing out = record { best = is; none = none-more n last best none (λ left soon. out) }
+  pub holds-after : (n : ℕ) (last best : Option Standing) (s : Standing) → Holds n last best → IsStanding b s → s.place ≡ n → is_before b (told b s) best ≡ false → Holds (n + 1) last best
+  holds-after n last best s holds standing here after = record {
+    best = holds.best;
+    none = none-more n last best holds.none (λ left before. absurd (true≢false (sym before ∙ ap (λ x. is_before b x best) (sym (standing.right ∙ ap at here)) ∙ after)));
+  }
 
   -- ---- what was tried
 

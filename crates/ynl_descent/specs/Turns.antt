@@ -1,5 +1,5 @@
 -- Which of the queues just below one is tried next.
-use Rattle.std.specs.Prelude.{◌≡◌, ℕ, ◌<◌, Bool, true, false, ◌&&◌, List, length, Option, Some, None, IfSome, if◌then◌else◌}
+use Rattle.std.specs.Prelude.{◌≡◌, ℕ, ◌<◌, Bool, true, false, List, length, Option, Some, None, IfSome}
 use Rattle.std.specs.List.Sorted.{IsStrictlySortedBy}
 use Rattle.std.specs.Ordering.{is_lt}
 use Rattle.ynl_resource.specs.Names.{name_order}
@@ -43,15 +43,6 @@ module _ (b : Branch) where
   abbrev pub is_before : Stands → Option Standing → Bool
   is_before s None = true
   is_before s (Some best) = is_lt (standing_order s (told best))
-
-  -- the better of the best so far and one more, where that comes after the one that was tried last
-  abbrev pub better : Option Standing → Option Standing → Standing → Option Standing
-  better last best s = if is_left last (told s) && is_before (told s) best then Some s else best
-
-  -- the same, where one more may be left out
-  abbrev pub better_of : Option Standing → Option Standing → Option Standing → Option Standing
-  better_of last best None = best
-  better_of last best (Some s) = better last best s
 
   -- of the children in places below n those that come after the last, and before the best, have no request below them
   abbrev pub HaveNone : ℕ → Option Standing → Option Standing → Type 0

@@ -2,7 +2,7 @@
 
 ghost use Rattle.std.specs.Prelude.{◌≡◌, ◌≤◌, option_map, All, IfSome, IfNone};
 ghost use Rattle.ynl_descent.specs.Scenes.{AreAllBelow, Branch, HasPlace, IsFirstOf};
-ghost use Rattle.ynl_descent.specs.Turns.{AreInOrder, AreNoneLeft, HavePlaces, IsNext, IsStanding, better, better_of, is_before, is_left, told};
+ghost use Rattle.ynl_descent.specs.Turns.{AreInOrder, AreNoneLeft, HavePlaces, IsNext, IsStanding, is_before, is_left, told};
 
 use crate::standing::Standing;
 use crate::tree::Tree;
@@ -29,33 +29,6 @@ fn is_before(standing: &Standing, best: Option<Standing>) -> bool
     }
 }
 
-/// The better of the best so far and one more queue, where that comes after the one that was tried last.
-fn better(last: Option<Standing>, best: Option<Standing>, standing: Standing) -> Option<Standing>
-    ensures { (b : Branch) → AreInOrder b.children → HavePlaces b last → HavePlaces b best
-        → HasPlace b standing.place → result ≡ better b last best standing }
-{
-    if is_left(last, &standing) && is_before(&standing, best) {
-        Some(standing)
-    } else {
-        best
-    }
-}
-
-/// The better of the best so far and one more queue, if that is not left out.
-fn better_of(
-    last: Option<Standing>,
-    best: Option<Standing>,
-    looked: Option<Standing>,
-) -> Option<Standing>
-    ensures { (b : Branch) → AreInOrder b.children → HavePlaces b last → HavePlaces b best
-        → HavePlaces b looked → result ≡ better_of b last best looked }
-{
-    match looked {
-        Some(standing) => better(last, best, standing),
-        None => best,
-    }
-}
-
 /// Of the queues just below one that come after the last that was tried, the first below which there may be a
 /// request.
 fn next_child<T: Tree>(
@@ -72,7 +45,14 @@ fn next_child<T: Tree>(
 {
     let mut best = None;
     for place in 0..tree.children(queue) {
-        best = better_of(last, best, tree.look(notes, queue, place));
+        if let Some(standing) = tree.look(notes, queue, place) {
+            if is_left(last, &standing)
+                && is_before(&standing, best)
+                && tree.is_open(notes, queue, place)
+            {
+                best = Some(standing);
+            }
+        }
     }
     best
 }
@@ -95,7 +75,7 @@ fn first_below<T: Tree>(
     let mut last = None;
     while let Some(next) = next_child(tree, notes, queue, last) {
         let child = tree.child(queue, next.place);
-        let found = descend(tree, notes, child, height - 1);
+        let found = descend(tree, notes, &child, height - 1);
         if found.is_some() {
             return found;
         }
@@ -110,22 +90,22 @@ fn first_below<T: Tree>(
 pub fn descend<T: Tree>(
     tree: &T,
     notes: &mut T::Notes,
-    queue: T::Queue,
+    queue: &T::Queue,
     height: usize,
 ) -> Option<T::Found>
     requires notes { T.are_notes tree.now notes.old }
-    requires queue { T.is_queue tree.now queue }
-    requires height { T.height tree.now queue ≤ height }
+    requires queue { T.is_queue tree.now queue.now }
+    requires height { T.height tree.now queue.now ≤ height }
     ensures notes { T.are_notes tree.now notes.new }
-    ensures found { IsFirstOf (T.branch tree.now queue) (option_map (T.item tree.now) result) }
+    ensures found { IsFirstOf (T.branch tree.now queue.now) (option_map (T.item tree.now) result) }
 {
-    let found = if tree.children(&queue) == 0 {
-        tree.first_in(notes, &queue)
+    let found = if tree.children(queue) == 0 {
+        tree.first_in(notes, queue)
     } else {
-        first_below(tree, notes, &queue, height)
+        first_below(tree, notes, queue, height)
     };
     if found.is_none() {
-        tree.note(notes, &queue);
+        tree.note(notes, queue);
     }
     found
 }

@@ -1,6 +1,6 @@
 //! The tree of queues, as a descent sees it.
 
-ghost use Rattle.std.specs.Prelude.{◌≡◌, ◌<◌, ℕ, IfNone, IfSome, None, length, option_map};
+ghost use Rattle.std.specs.Prelude.{◌≡◌, ◌<◌, ℕ, IfNone, IfSome, None, false, length, option_map};
 ghost use Rattle.ynl_model.specs.Service.{Item};
 ghost use Rattle.ynl_descent.specs.Scenes.{AreAllBelow, Branch, HasNoneAt, HasPlace, IsChildAt, IsFirstOf};
 ghost use Rattle.ynl_descent.specs.Turns.{AreInOrder, IsStanding};
@@ -54,6 +54,13 @@ pub trait Tree {
         ensures place { IfSome result (λ s. s.place ≡ place) }
         ensures standing { IfSome result (IsStanding (branch self.now queue.now)) }
         ensures none { IfNone result (HasNoneAt (branch self.now queue.now) place) };
+
+    /// Whether there may be a request below the queue in a place just below. It costs more than a look.
+    fn is_open(&self, notes: &Self::Notes, queue: &Self::Queue, place: usize) -> bool
+        requires notes { are_notes self.now notes.now }
+        requires queue { is_queue self.now queue.now }
+        requires place { HasPlace (branch self.now queue.now) place }
+        ensures { result ≡ false → HasNoneAt (branch self.now queue.now) place };
 
     /// The first request of a leaf. What is found out on the way may be noted.
     fn first_in(&self, notes: &mut Self::Notes, leaf: &Self::Queue) -> Option<Self::Found>

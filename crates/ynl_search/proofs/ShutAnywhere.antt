@@ -1,6 +1,5 @@
 -- A queue all of whose children are closed in any room is shut in any.
-use Rattle.std.proofs.Common.{◌≡◌, ◌<◌, ◌+◌, ℕ, Bool, true, false, ◌&&◌, ◌||◌, nat_eq, List, ◌∷◌, length, get_or, Option, None, Some, is_some, refl, sym, ap, subst, ◌∙◌, arith, true≢false}
-use Rattle.std.specs.Prelude.{IfNone}
+use Rattle.std.proofs.Common.{◌≡◌, ◌<◌, ◌+◌, ℕ, Bool, true, false, ◌&&◌, ◌||◌, nat_eq, List, ◌∷◌, length, get_or, refl, sym, ap, subst, ◌∙◌, arith, true≢false}
 use Rattle.std.specs.List.{list_all}
 use Rattle.std.proofs.lemmas.Bool.{and_from, and_parts}
 use Rattle.std.proofs.lemmas.Bool.Decides.{nat_tests}
@@ -38,11 +37,6 @@ closed-more w p h children n before here k below = go (nat_eq k n) refl
     go : (b : Bool) → nat_eq k n ≡ b → IsClosedIn w p h (get_or children k 0)
     go true e = let same : n ≡ k = grind (arith, nat_tests, e) in subst (λ m. IsClosedIn w p h (get_or children m 0)) same here
     go false e = before k (grind (arith, nat_tests, e, below))
-
--- what is looked at is closed where it is left out
-pub left-out : (w : ClusterView) (p : ℕ) (any : Headroom) (h : Headroom) (q : ℕ) (o : Option Place) → any ≡ h → is_some o ≡ false → IfNone o (IsClosedIn w p any q) → IsClosedIn w p h q
-left-out w p any h q None same none closed = subst (λ (h : Headroom). IsClosedIn w p h q) same closed
-left-out w p any h q (Some place) same none closed = absurd (true≢false none)
 
 module _ (w : ClusterView) (p : ℕ) (has : HasPartition w.rows p) (place : Place) (children : List ℕ) (r : IsReached w place children) where
   abbrev label : Label

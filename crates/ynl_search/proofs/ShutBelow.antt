@@ -111,9 +111,9 @@ module _ (w : ClusterView) (p q : ℕ) where
   pub shut-closed : (h : Headroom) → IsShutIn w p q h.room → HasNoneIn w p h q
   shut-closed h shut item below allowed = shut item below (and_parts h.is_open (fits_in item.size h.room) allowed).1
 
-  -- nor has one whose requests do not fit
-  pub misfit-closed : (h : Headroom) → ((item : Item) → IsBelow (items_for (state_in w) (label_of w p)) (path_of w q) item → fits_in item.size h.room ≡ false) → HasNoneIn w p h q
-  misfit-closed h misfit item below allowed = absurd (true≢false (sym (and_parts h.is_open (fits_in item.size h.room) allowed).1 ∙ misfit item below))
+  -- and it is closed
+  pub shut-above : (h : Headroom) → IsShutIn w p q h.room → IsClosedIn w p h q
+  shut-above h shut item below allowed keeps = shut-closed h shut item below allowed
 
   -- where a queue has none for which there is headroom below its parent and in it, it is closed
   pub none-closed : (above own : Headroom)

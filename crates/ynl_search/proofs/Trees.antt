@@ -1,7 +1,6 @@
 -- What a descent asks of the queues that it comes to.
 use Rattle.std.proofs.Common.{◌≡◌, ◌≢◌, ◌<◌, ℕ, List, [], length, get_or, sym, ap, subst, ◌∙◌, arith}
 use Rattle.std.proofs.lemmas.List.{length-map}
-use Rattle.ynl_resource.specs.declared.amounts.Resource.{Resource}
 use Rattle.ynl_resource.specs.declared.labels.Label.{Label}
 use Rattle.ynl_resource.specs.declared.names.Name.{Name}
 use Rattle.ynl_resource.specs.declared.paths.Path.{Path}
@@ -15,7 +14,7 @@ use Rattle.ynl_descent.specs.Turns.{IsStanding}
 use Rattle.ynl_inventory.specs.Sound.{IsLeaf}
 use Rattle.ynl_cluster.specs.Cluster.{ClusterView, label_of, path_of, state_in}
 use Rattle.ynl_search.specs.declared.place.Place.{Place}
-use Rattle.ynl_search.specs.Scenes.{IsPlaceOf, IsReached, branch_at, queues_below}
+use Rattle.ynl_search.specs.Scenes.{IsReached, branch_at, queues_below}
 use Rattle.ynl_search.proofs.Below.{HaveLeaves, all-below, fewer-below, is-leaf, last-at, no-request, path-below}
 
 module _ (w : ClusterView) (place : Place) (children : List ℕ) (r : IsReached w place children) where
@@ -35,8 +34,11 @@ module _ (w : ClusterView) (place : Place) (children : List ℕ) (r : IsReached 
   none-in scene stand none is_root = no-request w.rows r.sound.tree place.queue r.queue children r.all r.cover scene stand (sym many ∙ none) is_root
 
   -- a child is a queue below root
+  pub child-in : (at : ℕ) → at < length children → IsChild w.rows.paths place.queue (get_or children at 0)
+  child-in at inside = r.all.each at 0 inside
+
   pub child-at : (at : ℕ) → at < length names → IsChild w.rows.paths place.queue (get_or children at 0)
-  child-at at inside = r.all.each at 0 (omega (arith, inside, many))
+  child-at at inside = child-in at (omega (arith, inside, many))
 
   -- the path of a child, by its number
   pub path-there : (at : ℕ) → at < length names → path_of w (get_or children at 0) ≡ below (path_of w place.queue) (get_or names at [])
@@ -46,28 +48,26 @@ module _ (w : ClusterView) (place : Place) (children : List ℕ) (r : IsReached 
     within : at < length children
     within = omega (arith, inside, many)
 
-    pub child-path : path_of w child.queue ≡ below (path_of w place.queue) (get_or names at [])
-    child-path = ap (path_of w) is ∙ sym (path-below w.rows r.sound.tree place.queue r.queue children r.all r.cover at within)
-
     pub child-lower : queues_below w.rows.paths (path_of w child.queue) < queues_below w.rows.paths (path_of w place.queue)
     child-lower =
         subst (λ (path : Path). queues_below w.rows.paths path < queues_below w.rows.paths (path_of w place.queue)) (ap (path_of w) (sym is))
         (fewer-below w.rows r.sound.tree place.queue r.queue children r.all r.cover at within)
 
-    -- how the child stands is how it stands in the model
-    pub child-stands : (p : ℕ) (items : List Item) (label : Label) → label_of w p ≡ label → (room : Resource) → IsPlaceOf w p room child → (s : Standing) → s.place ≡ at
-        → s.used ≡ (used (state_in w) (path_of w child.queue) (label_of w p)).memory → s.guaranteed ≡ child.guaranteed.memory
-        → IsStanding (branch_at w (record { config = w.config; state = state_in w; label = label; items = items }) place.queue children) s
-    child-stands p items label there room way s own uses has = record {
-      there = subst (λ k. k < length names) (sym own) inside;
-      right = λ i. record {
-        ratio = record {
-          used = (uses ∙ (λ j. (used (state_in w) (path j) (there j)).memory)) i;
-          guaranteed = (has ∙ ap (λ (a : Resource). a.memory) way.guaranteed ∙ (λ j. (guaranteed w.config (state_in w) (path j) (there j)).memory)) i;
-        };
-        name = sym (last-at w.rows r.sound.tree place.queue r.queue children r.all r.cover s.place (subst (λ k. k < length children) (sym own) within)) i;
+  -- how a child stands is how it stands in the model
+  pub child-stands : (at : ℕ) → at < length names → (p : ℕ) (items : List Item) (label : Label) → label_of w p ≡ label → (s : Standing) → s.place ≡ at
+      → s.used ≡ (used (state_in w) (path_of w (get_or children at 0)) (label_of w p)).memory
+      → s.guaranteed ≡ (guaranteed w.config (state_in w) (path_of w (get_or children at 0)) (label_of w p)).memory
+      → IsStanding (branch_at w (record { config = w.config; state = state_in w; label = label; items = items }) place.queue children) s
+  child-stands at inside p items label there s own uses has = record {
+    there = subst (λ k. k < length names) (sym own) inside;
+    right = λ i. record {
+      ratio = record {
+        used = (uses ∙ (λ j. (used (state_in w) (path j) (there j)).memory)) i;
+        guaranteed = (has ∙ (λ j. (guaranteed w.config (state_in w) (path j) (there j)).memory)) i;
       };
-    }
-      where
-        path : path_of w child.queue ≡ below (path_of w place.queue) (get_or names s.place [])
-        path = child-path ∙ ap (λ k. below (path_of w place.queue) (get_or names k [])) (sym own)
+      name = sym (last-at w.rows r.sound.tree place.queue r.queue children r.all r.cover s.place (subst (λ k. k < length children) (sym own) (omega (arith, inside, many)))) i;
+    };
+  }
+    where
+      path : path_of w (get_or children at 0) ≡ below (path_of w place.queue) (get_or names s.place [])
+      path = path-there at inside ∙ ap (λ k. below (path_of w place.queue) (get_or names k [])) (sym own)

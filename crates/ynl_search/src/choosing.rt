@@ -43,7 +43,7 @@ fn first_own_on(cluster: &Cluster, shut: &mut Shut, node: u32) -> Option<Found>
     };
     let place = root_at(cluster, partition, room);
     let root = reach(cluster, place);
-    descend(&tree, shut, root, inventory.layout().len())
+    descend(&tree, shut, &root, inventory.layout().len())
 }
 
 /// The first of all asks for DEFAULT for which a node has room, if there is one. Queues from below which none comes are
@@ -66,7 +66,7 @@ fn first_guest_on(cluster: &Cluster, shut: &mut Shut, node: u32) -> Option<Found
     };
     let place = root_at(cluster, 0, room);
     let root = reach(cluster, place);
-    descend(&tree, shut, root, inventory.layout().len())
+    descend(&tree, shut, &root, inventory.layout().len())
 }
 
 /// What is placed next on a node: the first of the requests that are eligible there, or else the

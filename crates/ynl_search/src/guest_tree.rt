@@ -52,11 +52,15 @@ impl<'a> Tree for GuestTree<'a> {
     }
 
     fn look(&self, notes: &Shut, queue: &Reached<'a>, place: usize) -> Option<Standing> {
-        if is_guestless(self.cluster, notes, queue.children[place], &self.room) {
+        let child = queue.children[place];
+        if is_guestless(self.cluster, notes, child, &self.room) {
             return None;
         }
-        let child = child_in(self.cluster, 0, queue, place);
-        Some(standing_at(self.cluster, 0, &child, place))
+        Some(standing_at(self.cluster, 0, &queue.place, child, place))
+    }
+
+    fn is_open(&self, _notes: &Shut, _queue: &Reached<'a>, _place: usize) -> bool {
+        true
     }
 
     fn first_in(&self, _notes: &mut Shut, leaf: &Reached<'a>) -> Option<Found> {

@@ -74,7 +74,7 @@ fn least_of_children(cluster: &Cluster, notes: &Shut, p: u8, queue: &Reached<'_>
     least
 }
 
-/// What to note that each request below a queue is for at least. What is noted of a leaf stays, since no one reads it.
+/// What to note that each request below a queue is for at least. What is noted of a leaf stays: its lane tells its least.
 pub(crate) fn least_to_note(
     cluster: &Cluster,
     notes: &Shut,

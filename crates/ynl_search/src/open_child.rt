@@ -1,17 +1,13 @@
 //! The look at a queue before a search goes down there.
 
-ghost use Rattle.std.specs.Prelude.{◌≡◌, ◌<◌, IfNone, IfSome, IsTrue, false, length, slice_index_or};
-ghost use Rattle.ynl_resource.specs.Amounts.{fits_in};
-ghost use Rattle.ynl_resource.specs.declared.amounts.Resource.{Resource as Amount};
+ghost use Rattle.std.specs.Prelude.{◌≡◌, ◌<◌, IfSome, IsTrue, false, length, slice_index_or};
 ghost use Rattle.ynl_model.specs.Cluster.{maximum};
-ghost use Rattle.ynl_model.specs.Service.{Item, items_for};
-ghost use Rattle.ynl_laws.specs.Descent.{IsBelow};
 ghost use Rattle.ynl_inventory.specs.Sound.{HasPartition};
 ghost use Rattle.ynl_cluster.specs.Cluster.{label_of, path_of, state_in, IsCell as IsThere};
-ghost use Rattle.ynl_shut.specs.Shut.{AreAtLeast, AreShut};
-ghost use Rattle.ynl_search.specs.Places.{IsSmallPlace, any_room};
-ghost use Rattle.ynl_search.specs.Scenes.{HasAmountsIn, IsPlaceOf, IsReached};
-ghost use Rattle.ynl_search.specs.Shut.{HasNoneIn, IsClosedIn, IsRightIn, IsShutIn, covers, is_passed};
+ghost use Rattle.ynl_shut.specs.Shut.{AreShut};
+ghost use Rattle.ynl_search.specs.Places.{any_room};
+ghost use Rattle.ynl_search.specs.Scenes.{HasAmountsIn, IsReached};
+ghost use Rattle.ynl_search.specs.Shut.{HasNoneIn, IsClosedIn, IsShutIn, covers, is_passed};
 
 use crate::place::{ANY, Place};
 use crate::queues::{child_in, is_leaf};
@@ -38,19 +34,14 @@ pub(crate) fn is_passed(noted: &Noted, room: &Resource) -> bool
     covers(noted.room, room) || !noted.least.fits_in(*room)
 }
 
-/// Whether nothing that waits below a queue fits in a room: by what waits in it if it is a leaf, and else by what each request
-/// below it is noted to be for at least.
-fn has_too_large(cluster: &Cluster, least: &Resource, p: u8, queue: usize, room: &Resource) -> bool
+/// Whether a queue is a leaf in which nothing that waits fits in a room.
+fn has_too_large(cluster: &Cluster, p: u8, queue: usize, room: &Resource) -> bool
     requires below_root { 0 < queue }
     requires there { IsThere cluster.now p queue }
-    requires least { AreAtLeast (items_for (state_in cluster.now) (label_of cluster.now p))
-        (path_of cluster.now queue) least.now }
-    ensures { IsTrue result → (item : Item)
-        → IsBelow (items_for (state_in cluster.now) (label_of cluster.now p))
-        (path_of cluster.now queue) item → fits_in item.size room.now ≡ false }
+    ensures { IsTrue result → IsShutIn cluster.now p queue room.now }
 {
     if !is_leaf(cluster, queue) {
-        return !least.fits_in(*room);
+        return false;
     }
     let lane = lane_of(cluster, p, queue);
     !lane.least(Kind::Ask).fits(room) && !lane.least(Kind::Master).fits(room)
@@ -58,55 +49,48 @@ fn has_too_large(cluster: &Cluster, least: &Resource, p: u8, queue: usize, room:
 
 /// Whether nothing below a queue may be placed for which there is headroom: by what is noted of the queue, or by what
 /// waits in it if it is a leaf.
-fn has_none(cluster: &Cluster, noted: &Noted, p: u8, place: &Place) -> bool
-    requires small { IsSmallPlace place.now }
+fn has_none(cluster: &Cluster, notes: &Shut, p: u8, place: &Place) -> bool
     requires below_root { 0 < place.now.queue }
     requires there { IsThere cluster.now p place.now.queue }
-    requires noted { IsRightIn cluster.now p place.now.queue noted.now }
+    requires notes { AreShut cluster.now notes.now }
     ensures { IsTrue result
         → HasNoneIn cluster.now p place.now.headroom place.now.queue }
 {
     if !place.headroom.is_open {
         return true;
     }
-    if covers(noted.room, &place.headroom.room) {
+    let room = &place.headroom.room;
+    if is_passed(&notes.noted(p, place.queue), room) {
         return true;
     }
-    has_too_large(cluster, &noted.least, p, place.queue, &place.headroom.room)
+    has_too_large(cluster, p, place.queue, room)
 }
 
-/// The queue in a place just below one, or nothing where nothing below it may be placed for which there is headroom. What
-/// is noted of it may say so before anything is worked out.
-pub(crate) fn open_child(
+/// Whether something below the queue in a place just below one may be placed for which there is headroom, as far as the
+/// queue shows at once. A leaf may show that there is none before its own headroom is worked out.
+// In the descent's loop a call would cost about as much as what it does.
+#[inline(always)]
+pub(crate) fn is_child_open(
     cluster: &Cluster,
     notes: &Shut,
     p: u8,
     queue: &Reached<'_>,
     at: usize,
-) -> Option<Place>
+) -> bool
     requires partition { HasPartition cluster.now.rows p }
     requires notes { AreShut cluster.now notes.now }
     requires reached { IsReached cluster.now queue.now.place queue.now.children.now }
     requires at { at < length queue.now.children.now }
     requires most { queue.now.place.most ≡ maximum (state_in cluster.now)
         (path_of cluster.now queue.now.place.queue) (label_of cluster.now p) }
-    ensures place { IfSome result (λ child. (free : Amount)
-        → IsPlaceOf cluster.now p free queue.now.place → IsPlaceOf cluster.now p free child) }
-    ensures queue { IfSome result
-        (λ child. child.queue ≡ slice_index_or queue.now.children.now at 0) }
-    ensures there { IfSome result (λ child. IsThere cluster.now p child.queue) }
-    ensures none { IfNone result (IsClosedIn cluster.now p queue.now.place.headroom
-        (slice_index_or queue.now.children.now at 0)) }
+    ensures { result ≡ false → IsClosedIn cluster.now p queue.now.place.headroom
+        (slice_index_or queue.now.children.now at 0) }
 {
-    let noted = notes.noted(p, queue.children[at]);
-    if covers(noted.room, &queue.place.headroom.room) {
-        return None;
+    if has_too_large(cluster, p, queue.children[at], &queue.place.headroom.room) {
+        return false;
     }
     let child = child_in(cluster, p, queue, at);
-    if has_none(cluster, &noted, p, &child) {
-        return None;
-    }
-    Some(child)
+    !has_none(cluster, notes, p, &child)
 }
 
 /// Whether nothing below a queue that has others below it may be placed in any room: each of those just below it shows so
@@ -126,7 +110,9 @@ fn is_shut_in_any_room(cluster: &Cluster, notes: &Shut, p: u8, queue: &Reached<'
         children: queue.children,
     };
     for at in 0..queue.children.len() {
-        if open_child(cluster, notes, p, &any, at).is_some() {
+        if !is_passed(&notes.noted(p, queue.children[at]), &ANY)
+            && is_child_open(cluster, notes, p, &any, at)
+        {
             return false;
         }
     }

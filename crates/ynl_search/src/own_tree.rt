@@ -10,7 +10,7 @@ ghost use Rattle.ynl_search.specs.Scenes.{HasAmountsIn};
 use crate::found::Found;
 use crate::leasts::least_to_note;
 use crate::leaves::{first_in_leaf, is_shut_leaf};
-use crate::open_child::{open_child, room_to_note};
+use crate::open_child::{is_child_open, is_passed, room_to_note};
 use crate::place::{ANY, Place};
 use crate::queues::{child_in, reach, standing_at};
 use crate::reached::Reached;
@@ -80,10 +80,16 @@ impl<'a> Tree for OwnTree<'a> {
     }
 
     fn look(&self, notes: &Shut, queue: &Reached<'a>, place: usize) -> Option<Standing> {
-        match open_child(self.cluster, notes, self.partition, queue, place) {
-            Some(child) => Some(standing_at(self.cluster, self.partition, &child, place)),
-            None => None,
+        let child = queue.children[place];
+        let noted = notes.noted(self.partition, child);
+        if is_passed(&noted, &queue.place.headroom.room) {
+            return None;
         }
+        Some(standing_at(self.cluster, self.partition, &queue.place, child, place))
+    }
+
+    fn is_open(&self, notes: &Shut, queue: &Reached<'a>, place: usize) -> bool {
+        is_child_open(self.cluster, notes, self.partition, queue, place)
     }
 
     fn first_in(&self, notes: &mut Shut, leaf: &Reached<'a>) -> Option<Found> {

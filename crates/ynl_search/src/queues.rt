@@ -2,19 +2,20 @@
 
 ghost use Rattle.std.specs.Prelude.{◌≡◌, ◌<◌, ◌&&◌, IsTrue, length, slice_index_or};
 ghost use Rattle.ynl_resource.specs.declared.amounts.Resource.{Resource as Amount};
-ghost use Rattle.ynl_model.specs.Cluster.{maximum, used};
+ghost use Rattle.ynl_model.specs.Cluster.{guaranteed, maximum, used};
 ghost use Rattle.ynl_layout.specs.Paths.{HasNumber, IsChild};
 ghost use Rattle.ynl_inventory.specs.Sound.{HasPartition, IsLeaf};
-ghost use Rattle.ynl_cluster.specs.Cluster.{label_of, path_of, state_in, IsCell as IsThere};
+ghost use Rattle.ynl_cluster.specs.Cluster.{label_of, path_of, state_in};
 ghost use Rattle.ynl_shut.specs.Shut.{keeps_maximum};
 ghost use Rattle.ynl_search.specs.Places.{IsSmallPlace, allows};
-ghost use Rattle.ynl_search.specs.Scenes.{IsPlaceOf, IsReached};
+ghost use Rattle.ynl_search.specs.Scenes.{HasAmountsIn, IsPlaceOf, IsReached};
 
 use crate::leaves::cell_of;
 use crate::place::Place;
 use crate::reached::Reached;
 use ynl_cluster::Cluster;
 use ynl_descent::Standing;
+use ynl_queues::share_of;
 use ynl_resource::Resource;
 
 /// Root, on a partition where a node has so much free.
@@ -91,17 +92,23 @@ pub fn child_in(cluster: &Cluster, p: u8, reached: &Reached<'_>, at: usize) -> P
     child_at(cluster, p, &reached.place, reached.children[at])
 }
 
-/// How a queue that was reached stands among its siblings, in this place among them.
-pub fn standing_at(cluster: &Cluster, p: u8, place: &Place, at: usize) -> Standing
-    requires { IsThere cluster.now p place.now.queue }
+/// How a queue just below one stands among its siblings, in this place among them.
+pub fn standing_at(cluster: &Cluster, p: u8, place: &Place, child: usize, at: usize) -> Standing
+    requires small { IsSmallPlace place.now }
+    requires partition { HasPartition cluster.now.rows p }
+    requires child { IsChild cluster.now.rows.paths place.now.queue child }
     ensures place { result.place ≡ at }
     ensures used { result.used ≡ (used (state_in cluster.now)
-        (path_of cluster.now place.now.queue) (label_of cluster.now p)).memory }
-    ensures guaranteed { result.guaranteed ≡ place.now.guaranteed.memory }
+        (path_of cluster.now child) (label_of cluster.now p)).memory }
+    ensures guaranteed { HasAmountsIn cluster.now p place.now
+        → result.guaranteed ≡ (guaranteed cluster.now.config (state_in cluster.now)
+        (path_of cluster.now child) (label_of cluster.now p)).memory }
 {
+    let share = cluster.capacity_share(p, child);
+    let guaranteed = share_of(&place.guaranteed, &share);
     Standing {
-        used: cluster.used(p, place.queue).used.memory,
-        guaranteed: place.guaranteed.memory,
+        used: cluster.used(p, child).used.memory,
+        guaranteed: guaranteed.memory,
         place: at,
     }
 }

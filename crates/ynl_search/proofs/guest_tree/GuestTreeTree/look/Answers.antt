@@ -1,4 +1,4 @@
-use Rattle.std.proofs.Common.{[], get_or, subst, sym, ◌∙◌}
+use Rattle.std.proofs.Common.{[], get_or, subst}
 use Rattle.ynl_resource.specs.declared.paths.Path.{Path}
 use Rattle.ynl_laws.specs.Decided.{below}
 use Rattle.ynl_layout.specs.Paths.{names_of}
@@ -6,17 +6,23 @@ use Rattle.ynl_cluster.specs.Cluster.{path_of, state_in}
 use Rattle.ynl_search.specs.Shut.{IsGuestless}
 use Rattle.ynl_search.specs.Scenes.{guest_scene, node_at}
 use Rattle.ynl_search.proofs.GuestShut.{guestless-none}
-use Rattle.ynl_search.proofs.Trees.{child-stands, path-there}
+use Rattle.ynl_search.proofs.Trees.{child-at, child-stands, path-there}
 use Rattle.ynl_search.proofs.guest_tree.GuestTreeTree.look.Goals as goal
+
+pub standing_at-requires-clause-child : goal.standing_at-requires-clause-child
+standing_at-requires-clause-child c =
+    let q = c.args.queue.now in
+    child-at c.args.self.now.cluster.now q.place q.children.now c.requires.queue.reached c.args.place c.requires.place
 
 pub returns-clause-standing : goal.returns-clause-standing
 returns-clause-standing c =
     let w = c.args.self.now.cluster.now in
     let q = c.args.queue.now in
-    let node = node_at w c.args.self.now.node in
-    let child = c.child_in-child.result in
-    child-stands w q.place q.children.now c.requires.queue.reached c.args.place c.requires.place child c.child_in-child.ensures.queue 0 (guest_scene w node).items (guest_scene w node).label c.requires.queue.reached.sound.default c.args.self.now.room
-    (c.child_in-child.ensures.place c.args.self.now.room c.requires.queue.way) c.standing_at.result c.standing_at.ensures.place c.standing_at.ensures.used c.standing_at.ensures.guaranteed
+    let is = c.requires.queue in
+    let scene = guest_scene w (node_at w c.args.self.now.node) in
+    child-stands w q.place q.children.now is.reached c.args.place c.requires.place 0 scene.items scene.label is.reached.sound.default
+    c.standing_at.result c.standing_at.ensures.place c.standing_at.ensures.used
+    (c.standing_at.ensures.guaranteed (record { guaranteed = is.way.guaranteed; most = is.way.most }))
 
 pub returns-then-is_guestless-clause-none : goal.returns-then-is_guestless-clause-none
 returns-then-is_guestless-clause-none c =

@@ -1,4 +1,3 @@
-use Rattle.std.proofs.Common.{arith}
 use Rattle.ynl_search.proofs.GuestShut.{noted-guest}
 use Rattle.ynl_search.proofs.guest_tree.GuestTreeTree.note.Goals as goal
 
