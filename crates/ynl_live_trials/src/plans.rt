@@ -1,8 +1,9 @@
 //! Proposals that are planned from what was seen under the lock, and their receipts.
 
 use crate::events::{
-    called, closed_alone, closed_len, one, opened, receipt_of, register, reply_with, tried, two,
+    called, closed_alone, one, opened, receipt_of, register, reply_with, tried, two,
 };
+use crate::refusals::closed_again;
 use crate::workers::{Started, play_script};
 use std::alloc::Global;
 use std::process::Abort;
@@ -154,8 +155,8 @@ fn is_planned_at_the_second_try(rt: HostRuntime) -> Result<(), Fail> {
     };
     assert!(rt; cause == Cause::Mismatch(4) || cause == Cause::NoMemory);
     retell(&mut lists, first_asked()).ok_or("no receipt")?;
-    let len = closed_len(alloc, live, seats, lists.as_slice());
-    assert!(rt; len == Some(7) || cause == Cause::NoMemory);
+    let len = closed_again(&rt, alloc, live, seats, lists.as_slice())?;
+    assert_eq!(rt; len, Some(7));
     Ok(())
 }
 

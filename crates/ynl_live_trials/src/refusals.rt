@@ -47,7 +47,7 @@ fn called_again<R: Wait + Print + Abort>(
     }
 }
 
-fn closed_again<R: Print>(
+pub(crate) fn closed_again<R: Print>(
     rt: &R,
     alloc: Global,
     live: Live,
