@@ -1,4 +1,4 @@
-//! A scheduler that is opened, called and closed, a round and a session that are run, at the second try.
+//! A scheduler that is opened, called and closed, a round, a session and a list of events that are run, at the second try.
 
 use crate::events::{closed_len, one, opened, poll, tried, worked};
 use crate::sessions;
@@ -8,6 +8,7 @@ use std::process::Abort;
 use std::sync::Wait;
 use std::test::Fail;
 use std::thread::Threads;
+use ynl_core::{Answer, run as run_events};
 use ynl_live::{CallFault, Cause, Live, Receipt, Seat, Unclosed};
 use ynl_model::{Event, Reply};
 use ynl_packed::Events;
@@ -216,5 +217,26 @@ fn session_is_run_at_the_second_try(rt: HostRuntime) -> Result<(), Fail> {
     };
     // The master, and two containers.
     assert_eq!(rt; len, 11);
+    Ok(())
+}
+
+fn is_answered(answer: &Answer) -> bool {
+    matches!(answer, Answer::Replied(_))
+}
+
+/// Whether a run answers each of these events.
+fn is_run(alloc: Global, events: &[Event]) -> Option<bool> {
+    let ran = run_events(alloc, worked(alloc)?, events).ok()?;
+    Some(ran.answers.as_slice().iter().all(is_answered))
+}
+
+#[test]
+fn events_are_run_at_the_second_try(rt: HostRuntime) -> Result<(), Fail> {
+    let alloc = rt.alloc();
+    let events = script().ok_or("no script")?;
+    if is_run(alloc, &events) != Some(true) {
+        println!(rt; "refused")?;
+        assert!(rt; is_run(alloc, &events) == Some(true));
+    }
     Ok(())
 }
