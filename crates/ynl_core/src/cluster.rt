@@ -77,10 +77,10 @@ impl Core {
         })
     }
 
-    /// Takes an event, whatever kind it is of. The parts of an event are lent and not moved: each arm of a match
+    /// The same as `apply`, of an event that is lent. Its parts are lent on and not moved: each arm of a match
     /// that moves them has places for its own, which are set to zero for every event.
     #[inline(never)]
-    fn apply_any(&mut self, event: &Event) -> Result<Reply, NoMemory>
+    pub fn answer(&mut self, event: &Event) -> Result<Reply, NoMemory>
         ensures ok { IfOk result (λ reply. Answers self.old event.now self.new reply) }
         ensures err { OnErr result (self.new ≡ self.old) }
         ensures sure { IsTrue (takes_no_memory self.old event.now) → IsOk result }
@@ -145,7 +145,7 @@ impl Core {
         if let Event::Heartbeat { node } = &event {
             return self.heartbeat(node);
         }
-        self.apply_any(&event)
+        self.answer(&event)
     }
 
     /// What the cluster is configured with.

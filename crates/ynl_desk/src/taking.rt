@@ -41,11 +41,10 @@ fn take_event(
     ensures ok { IfOk result (λ fault. (placed : List Placed) → Reads core.old core.new (outcome_text outcome.new placed) (event_of_line line.now) fault) }
     ensures err { OnErr result (core.new ≡ core.old) }
 {
-    let event = match events.read(alloc, line)? {
-        Ok(event) => event,
-        Err(fault) => return Ok(Some(fault)),
-    };
-    *outcome = Outcome::Reply(core.apply(event)?);
+    if let Err(fault) = events.read(alloc, line)? {
+        return Ok(Some(fault));
+    }
+    *outcome = Outcome::Reply(core.answer(events.event())?);
     Ok(None)
 }
 

@@ -1,12 +1,12 @@
 //! From lines to events.
 
-ghost use Rattle.std.specs.Prelude.{◌≡◌, option_map, IfOk, IfErr, IsErr, OnErr, IsTrue, IsUtf8, Ok, Err, Some, None};
+ghost use Rattle.std.specs.Prelude.{◌≡◌, option_map, IfOk, IfErr, IsErr, OnErr, OnOk, IsTrue, IsUtf8, Ok, Err, Some, None};
 ghost use Rattle.std.specs.List.{find};
 ghost use Rattle.std.specs.Str.{bytes_eq};
 ghost use Rattle.serde_json.specs.Errors.{IsMemory};
 ghost use Rattle.serde_json.specs.View.{view};
 ghost use Rattle.ynl_lines.specs.Trees.{data_at};
-ghost use Rattle.ynl_lines.specs.Reading.{reading, IsRanged};
+ghost use Rattle.ynl_lines.specs.Reading.{reading, Gives, IsRanged};
 ghost use Rattle.ynl_lines.specs.Compact as told;
 ghost use Rattle.ynl_lines.specs.Reading as spec;
 ghost use Rattle.ynl_lines.specs.declared.faults.LineFault.TheVariants as fault;
@@ -27,7 +27,9 @@ use crate::trees::{is_plain, tree_of};
 use json::Scratch;
 use serde_json::{Error, Value};
 use std::alloc::{AllocError, Global};
+use std::marker::Model;
 use ynl_model::Event;
+use ynl_resource::Name;
 
 /// Which event a word names.
 #[derive(Clone, Copy)]
@@ -113,52 +115,56 @@ fn kind_of(word: &str) -> Option<Kind>
     kind_in(&KINDS, word)
 }
 
-/// The event of an object.
+/// Reads the event of an object.
 #[tactic(auto, unfolding(crate::specs::Reading::event_at))]
-pub fn event_at(event: &Fields<'_, '_>) -> Result<Event, LineFault>
-    ensures event { result ≡ spec.event_at (data_at event.now.stands) }
-    ensures ranged { IfOk result (λ event. IsRanged event) }
+pub fn event_at(event: &Fields<'_, '_>, into: &mut Event) -> Result<(), LineFault>
+    ensures event { Gives (λ _. into.new) result (spec.event_at (data_at event.now.stands)) }
+    ensures ranged { OnOk result (IsRanged into.new) }
 {
     let word = match event.get("event") {
         Some(value) => value.as_str().ok_or(LineFault::Event)?,
         None => return Err(LineFault::Event),
     };
     match kind_of(word).ok_or(LineFault::Event)? {
-        Kind::Register => register_at(event),
-        Kind::Lost => lost_at(event),
-        Kind::Relabel => relabel_at(event),
-        Kind::Heartbeat => heartbeat_at(event),
-        Kind::Exited => exited_at(event),
-        Kind::Submit => submit_at(event),
-        Kind::Ask => ask_at(event),
-        Kind::Release => release_at(event),
-        Kind::Finish => finish_at(event),
-        Kind::Stop => stop_at(event),
-        Kind::Start => start_at(event),
-        Kind::Poll => poll_at(event),
-        Kind::Usage => usage_at(event),
-        Kind::Propose => propose_at(event),
-        Kind::Commit => commit_at(event),
-        Kind::Maximum => maximum_at(event),
+        Kind::Register => register_at(event, into),
+        Kind::Lost => lost_at(event, into),
+        Kind::Relabel => relabel_at(event, into),
+        Kind::Heartbeat => heartbeat_at(event, into),
+        Kind::Exited => exited_at(event, into),
+        Kind::Submit => submit_at(event, into),
+        Kind::Ask => ask_at(event, into),
+        Kind::Release => release_at(event, into),
+        Kind::Finish => finish_at(event, into),
+        Kind::Stop => stop_at(event, into),
+        Kind::Start => start_at(event, into),
+        Kind::Poll => poll_at(event, into),
+        Kind::Usage => usage_at(event, into),
+        Kind::Propose => propose_at(event, into),
+        Kind::Commit => commit_at(event, into),
+        Kind::Maximum => maximum_at(event, into),
     }
 }
 
-/// The event that a line is, by the value that serde_json reads of it.
-fn read_by_value(alloc: Global, line: &[u8]) -> Result<Result<Event, LineFault>, AllocError>
-    ensures event { IfOk result (λ read. read ≡ spec.event_of_line line.now) }
+/// Reads the event that a line is, by the value that serde_json reads of it.
+fn read_by_value(
+    alloc: Global,
+    line: &[u8],
+    into: &mut Event,
+) -> Result<Result<(), LineFault>, AllocError>
+    ensures event { IfOk result (λ read. Gives (λ _. into.new) read (spec.event_of_line line.now)) }
     ensures text { OnErr result (IsUtf8 line.now) }
-    ensures ranged { IfOk result (λ read. IfOk read (λ event. IsRanged event)) }
+    ensures ranged { IfOk result (λ read. OnOk read (IsRanged into.new)) }
 {
     match parse(alloc, line)? {
-        Some(value) => Ok(event_at(&Fields::value(&value))),
+        Some(value) => Ok(event_at(&Fields::value(&value), into)),
         None => Ok(Err(LineFault::Syntax)),
     }
 }
 
-/// The event of what a line is cut into.
-fn event_of(members: &Members<'_>) -> Result<Event, LineFault>
-    ensures event { result ≡ told.event_of members.now }
-    ensures ranged { IfOk result (λ event. IsRanged event) }
+/// Reads the event of what a line is cut into.
+fn event_of(members: &Members<'_>, into: &mut Event) -> Result<(), LineFault>
+    ensures event { Gives (λ _. into.new) result (told.event_of members.now) }
+    ensures ranged { OnOk result (IsRanged into.new) }
 {
     match members {
         Members::Ask {
@@ -169,7 +175,9 @@ fn event_of(members: &Members<'_>) -> Result<Event, LineFault>
             priority,
             tenant,
             vcores,
-        } => ask_of(app, *count, label, *memory, *priority, tenant, *vcores),
+        } => ask_of(
+            app, *count, label, *memory, *priority, tenant, *vcores, into,
+        ),
         Members::Submit {
             app,
             label,
@@ -177,12 +185,12 @@ fn event_of(members: &Members<'_>) -> Result<Event, LineFault>
             queue,
             user,
             vcores,
-        } => submit_of(app, *label, *memory, queue, user, *vcores),
-        Members::Release { id, tenant } => release_of(id, tenant),
-        Members::Finish { app, tenant } => finish_of(app, tenant),
-        Members::Poll { app, label, tenant } => poll_of(app, label, tenant),
-        Members::Exited { id, node } => exited_of(id, node),
-        Members::Propose { node } => propose_of(node),
+        } => submit_of(app, *label, *memory, queue, user, *vcores, into),
+        Members::Release { id, tenant } => release_of(id, tenant, into),
+        Members::Finish { app, tenant } => finish_of(app, tenant, into),
+        Members::Poll { app, label, tenant } => poll_of(app, label, tenant, into),
+        Members::Exited { id, node } => exited_of(id, node, into),
+        Members::Propose { node } => propose_of(node, into),
         Members::Commit {
             app,
             memory,
@@ -191,67 +199,84 @@ fn event_of(members: &Members<'_>) -> Result<Event, LineFault>
             tenant,
             vcores,
             wanted,
-        } => commit_of(app, *memory, node, *stamp, tenant, *vcores, *wanted),
+        } => commit_of(app, *memory, node, *stamp, tenant, *vcores, *wanted, into),
         Members::Register {
             label,
             memory,
             node,
             vcores,
-        } => register_of(label, *memory, node, *vcores),
-        Members::Usage { label, queue } => usage_of(label, queue),
+        } => register_of(label, *memory, node, *vcores, into),
+        Members::Usage { label, queue } => usage_of(label, queue, into),
     }
-}
-
-/// What is told of a line that is no JSON. It stands alone, since a function clears the room of each answer that it
-/// makes whenever it is called.
-fn no_json() -> Result<Result<Event, LineFault>, AllocError>
-    ensures { result ≡ Ok (Err fault.Syntax) }
-{
-    Ok(Err(LineFault::Syntax))
 }
 
 /// How deep a line nests at most to be taken as a tree: a proposal stands in an event.
 const MOST_DEPTH: usize = 2;
 
-/// Reads the events of lines one after another, with memory that is kept from line to line.
+/// Any event.
+#[tactic(auto, unfolding(ynl_resource::specs::Texts::read_name))]
+pub fn any_event() -> Event {
+    match Name::parse("none") {
+        Ok(node) => Event::Lost { node },
+        Err(_) => unreachable!(),
+    }
+}
+
+/// Reads the events of lines one after another, with memory that is kept from line to line. An event is large, so it is
+/// read into one place, and lent from there. A contract sees the event that was read last.
 #[derive(Drop)]
 pub struct EventReader {
     scratch: Scratch,
+    event: Event,
+}
+
+impl Model for EventReader {
+    ghost use Rattle.ynl_model.specs.declared.events.Event.{Event};
+
+    ghost Value = { Event };
+
+    ghost view = { λ r. r.event };
 }
 
 impl EventReader {
-    /// One that keeps no memory yet.
+    /// One that keeps no memory yet, and has read no event.
     pub fn new(alloc: Global) -> EventReader {
         EventReader {
             scratch: Scratch::new(alloc),
+            event: any_event(),
         }
     }
 
-    /// The event that a line is, or its first fault, as [`read_event`] tells it. Bytes that are no text take no memory.
-    pub fn read(
-        &mut self,
-        alloc: Global,
-        line: &[u8],
-    ) -> Result<Result<Event, LineFault>, AllocError>
-        ensures event { IfOk result (λ read. read ≡ spec.event_of_line line.now) }
+    /// The event that was read last.
+    pub fn event(&self) -> &Event
+        ensures { result.now ≡ self.now }
+    {
+        &self.event
+    }
+
+    /// Reads the event that a line is, or returns its first fault, as [`read_event`] tells them. Bytes that are no text take
+    /// no memory.
+    pub fn read(&mut self, alloc: Global, line: &[u8]) -> Result<Result<(), LineFault>, AllocError>
+        ensures event { IfOk result (λ read. Gives (λ _. self.new) read (spec.event_of_line line.now)) }
         ensures text { OnErr result (IsUtf8 line.now) }
-        ensures ranged { IfOk result (λ read. IfOk read (λ event. IsRanged event)) }
+        ensures ranged { IfOk result (λ read. OnOk read (IsRanged self.new)) }
     {
         if let Some(node) = heartbeat_of(line) {
-            return Ok(Ok(Event::Heartbeat { node }));
+            self.event = Event::Heartbeat { node };
+            return Ok(Ok(()));
         }
         if let Some(members) = members_in(line) {
-            return Ok(event_of(&members));
+            return Ok(event_of(&members, &mut self.event));
         }
         let Some(tree) = tree_of(alloc, &mut self.scratch, line)? else {
-            return no_json();
+            return Ok(Err(LineFault::Syntax));
         };
         if is_plain(&tree, MOST_DEPTH) {
-            return Ok(event_at(&Fields::tree(&tree)));
+            return Ok(event_at(&Fields::tree(&tree), &mut self.event));
         }
         // There is no room for two of a long line.
         drop(tree);
-        read_by_value(alloc, line)
+        read_by_value(alloc, line, &mut self.event)
     }
 }
 
@@ -278,5 +303,8 @@ pub fn read_event(alloc: Global, line: &[u8]) -> Result<Result<Event, LineFault>
     ensures ranged { IfOk result (λ read. IfOk read (λ event. IsRanged event)) }
 {
     let mut reader = EventReader::new(alloc);
-    reader.read(alloc, line)
+    match reader.read(alloc, line)? {
+        Ok(()) => Ok(Ok(*reader.event())),
+        Err(fault) => Ok(Err(fault)),
+    }
 }

@@ -1,6 +1,6 @@
 //! From objects to the events of applications.
 
-ghost use Rattle.std.specs.Prelude.{◌≡◌, option_map, IfOk, IsTrue};
+ghost use Rattle.std.specs.Prelude.{◌≡◌, option_map, IfOk, OnOk, IsTrue};
 ghost use Rattle.ynl_lines.specs.Trees.{data_at};
 ghost use Rattle.ynl_lines.specs.Reading.{Gives, IsRanged};
 ghost use Rattle.ynl_lines.specs.Compact as told;
@@ -49,9 +49,9 @@ fn optional_label_at(text: Option<&str>) -> Result<Option<Label>, LineFault>
 
 /// `submit`: an application comes to a leaf.
 #[tactic(auto, unfolding(crate::specs::Reading::submit_at))]
-pub fn submit_at(event: &Fields<'_, '_>) -> Result<Event, LineFault>
-    ensures event { result ≡ spec.submit_at (data_at event.now.stands) }
-    ensures ranged { IfOk result (λ event. IsRanged event) }
+pub fn submit_at(event: &Fields<'_, '_>, into: &mut Event) -> Result<(), LineFault>
+    ensures event { Gives (λ _. into.new) result (spec.submit_at (data_at event.now.stands)) }
+    ensures ranged { OnOk result (IsRanged into.new) }
 {
     let label = label_text_at(event)?;
     let app = text_at(event, "app")?;
@@ -59,7 +59,7 @@ pub fn submit_at(event: &Fields<'_, '_>) -> Result<Event, LineFault>
     let queue = text_at(event, "queue")?;
     let user = text_at(event, "user")?;
     let vcores = number_at(event, "vcores")?;
-    submit_of(app, label, memory, queue, user, vcores)
+    submit_of(app, label, memory, queue, user, vcores, into)
 }
 
 /// A submit, from its members.
@@ -70,29 +70,31 @@ pub fn submit_of(
     queue: &str,
     user: &str,
     vcores: u64,
-) -> Result<Event, LineFault>
-    ensures event { result ≡ told.submit_of app.now (option_map (λ s. s.now) label.entry) memory queue.now user.now vcores }
-    ensures ranged { IfOk result (λ event. IsRanged event) }
+    into: &mut Event,
+) -> Result<(), LineFault>
+    ensures event { Gives (λ _. into.new) result (told.submit_of app.now (option_map (λ s. s.now) label.entry) memory queue.now user.now vcores) }
+    ensures ranged { OnOk result (IsRanged into.new) }
 {
     let app = name_at(app)?;
     let label = optional_label_at(label)?;
     let queue = path_at(queue)?;
     let user = name_at(user)?;
     let master = size_at(memory, vcores)?;
-    Ok(Event::Submit {
+    *into = Event::Submit {
         queue,
         app,
         user,
         label,
         master,
-    })
+    };
+    Ok(())
 }
 
 /// `ask`: an application asks for containers.
 #[tactic(auto, unfolding(crate::specs::Reading::ask_at))]
-pub fn ask_at(event: &Fields<'_, '_>) -> Result<Event, LineFault>
-    ensures event { result ≡ spec.ask_at (data_at event.now.stands) }
-    ensures ranged { IfOk result (λ event. IsRanged event) }
+pub fn ask_at(event: &Fields<'_, '_>, into: &mut Event) -> Result<(), LineFault>
+    ensures event { Gives (λ _. into.new) result (spec.ask_at (data_at event.now.stands)) }
+    ensures ranged { OnOk result (IsRanged into.new) }
 {
     keys_are(event, 8)?;
     let app = text_at(event, "app")?;
@@ -102,7 +104,7 @@ pub fn ask_at(event: &Fields<'_, '_>) -> Result<Event, LineFault>
     let priority = number_at(event, "priority")?;
     let tenant = text_at(event, "tenant")?;
     let vcores = number_at(event, "vcores")?;
-    ask_of(app, count, label, memory, priority, tenant, vcores)
+    ask_of(app, count, label, memory, priority, tenant, vcores, into)
 }
 
 /// An ask, from its members.
@@ -114,9 +116,10 @@ pub fn ask_of(
     priority: u64,
     tenant: &str,
     vcores: u64,
-) -> Result<Event, LineFault>
-    ensures event { result ≡ told.ask_of app.now count label.now memory priority tenant.now vcores }
-    ensures ranged { IfOk result (λ event. IsRanged event) }
+    into: &mut Event,
+) -> Result<(), LineFault>
+    ensures event { Gives (λ _. into.new) result (told.ask_of app.now count label.now memory priority tenant.now vcores) }
+    ensures ranged { OnOk result (IsRanged into.new) }
 {
     let app = name_at(app)?;
     let label = label_at(label)?;
@@ -124,80 +127,84 @@ pub fn ask_of(
     let count = within_small(MOST_COUNT, count)?;
     let priority = within_small(u32::MAX, priority)?;
     let size = size_at(memory, vcores)?;
-    Ok(Event::Ask {
+    *into = Event::Ask {
         tenant,
         app,
         label,
         priority,
         count,
         size,
-    })
+    };
+    Ok(())
 }
 
 /// `release`: a container is given back.
 #[tactic(auto, unfolding(crate::specs::Reading::release_at))]
-pub fn release_at(event: &Fields<'_, '_>) -> Result<Event, LineFault>
-    ensures event { result ≡ spec.release_at (data_at event.now.stands) }
-    ensures ranged { IfOk result (λ event. IsRanged event) }
+pub fn release_at(event: &Fields<'_, '_>, into: &mut Event) -> Result<(), LineFault>
+    ensures event { Gives (λ _. into.new) result (spec.release_at (data_at event.now.stands)) }
+    ensures ranged { OnOk result (IsRanged into.new) }
 {
     keys_are(event, 3)?;
     let id = text_at(event, "id")?;
     let tenant = text_at(event, "tenant")?;
-    release_of(id, tenant)
+    release_of(id, tenant, into)
 }
 
 /// A release, from its members.
-pub fn release_of(id: &str, tenant: &str) -> Result<Event, LineFault>
-    ensures event { result ≡ told.release_of id.now tenant.now }
-    ensures ranged { IfOk result (λ event. IsRanged event) }
+pub fn release_of(id: &str, tenant: &str, into: &mut Event) -> Result<(), LineFault>
+    ensures event { Gives (λ _. into.new) result (told.release_of id.now tenant.now) }
+    ensures ranged { OnOk result (IsRanged into.new) }
 {
     let id = id_at(id)?;
     let tenant = name_at(tenant)?;
-    Ok(Event::Release { tenant, id })
+    *into = Event::Release { tenant, id };
+    Ok(())
 }
 
 /// `finish`: an application is finished.
 #[tactic(auto, unfolding(crate::specs::Reading::finish_at))]
-pub fn finish_at(event: &Fields<'_, '_>) -> Result<Event, LineFault>
-    ensures event { result ≡ spec.finish_at (data_at event.now.stands) }
-    ensures ranged { IfOk result (λ event. IsRanged event) }
+pub fn finish_at(event: &Fields<'_, '_>, into: &mut Event) -> Result<(), LineFault>
+    ensures event { Gives (λ _. into.new) result (spec.finish_at (data_at event.now.stands)) }
+    ensures ranged { OnOk result (IsRanged into.new) }
 {
     keys_are(event, 3)?;
     let app = text_at(event, "app")?;
     let tenant = text_at(event, "tenant")?;
-    finish_of(app, tenant)
+    finish_of(app, tenant, into)
 }
 
 /// The end of an application, from its members.
-pub fn finish_of(app: &str, tenant: &str) -> Result<Event, LineFault>
-    ensures event { result ≡ told.finish_of app.now tenant.now }
-    ensures ranged { IfOk result (λ event. IsRanged event) }
+pub fn finish_of(app: &str, tenant: &str, into: &mut Event) -> Result<(), LineFault>
+    ensures event { Gives (λ _. into.new) result (told.finish_of app.now tenant.now) }
+    ensures ranged { OnOk result (IsRanged into.new) }
 {
     let app = name_at(app)?;
     let tenant = name_at(tenant)?;
-    Ok(Event::Finish { tenant, app })
+    *into = Event::Finish { tenant, app };
+    Ok(())
 }
 
 /// `poll`: what does an application hold?
 #[tactic(auto, unfolding(crate::specs::Reading::poll_at))]
-pub fn poll_at(event: &Fields<'_, '_>) -> Result<Event, LineFault>
-    ensures event { result ≡ spec.poll_at (data_at event.now.stands) }
-    ensures ranged { IfOk result (λ event. IsRanged event) }
+pub fn poll_at(event: &Fields<'_, '_>, into: &mut Event) -> Result<(), LineFault>
+    ensures event { Gives (λ _. into.new) result (spec.poll_at (data_at event.now.stands)) }
+    ensures ranged { OnOk result (IsRanged into.new) }
 {
     keys_are(event, 4)?;
     let app = text_at(event, "app")?;
     let label = text_at(event, "label")?;
     let tenant = text_at(event, "tenant")?;
-    poll_of(app, label, tenant)
+    poll_of(app, label, tenant, into)
 }
 
 /// A poll, from its members.
-pub fn poll_of(app: &str, label: &str, tenant: &str) -> Result<Event, LineFault>
-    ensures event { result ≡ told.poll_of app.now label.now tenant.now }
-    ensures ranged { IfOk result (λ event. IsRanged event) }
+pub fn poll_of(app: &str, label: &str, tenant: &str, into: &mut Event) -> Result<(), LineFault>
+    ensures event { Gives (λ _. into.new) result (told.poll_of app.now label.now tenant.now) }
+    ensures ranged { OnOk result (IsRanged into.new) }
 {
     let app = name_at(app)?;
     let label = label_at(label)?;
     let tenant = name_at(tenant)?;
-    Ok(Event::Poll { tenant, app, label })
+    *into = Event::Poll { tenant, app, label };
+    Ok(())
 }

@@ -11,7 +11,7 @@ use crate::cursor::Cursor;
 use crate::faults::{BadLine, LineFault};
 use crate::fields::Fields;
 use crate::keys::{keys_are, number_at};
-use crate::read::{EventReader, event_at, parse};
+use crate::read::{EventReader, any_event, event_at, parse};
 use crate::read_replies::{reply_at, value_under};
 use crate::write::put_line;
 use std::alloc::{AllocError, Global};
@@ -25,7 +25,8 @@ fn placed_event_at(line: &Fields<'_, '_>) -> Result<(u64, Event), LineFault>
 {
     let place = number_at(line, "place")?;
     let value = value_under(line, "event")?;
-    let event = event_at(&value)?;
+    let mut event = any_event();
+    event_at(&value, &mut event)?;
     Ok((place, event))
 }
 
@@ -112,9 +113,10 @@ fn entry_in(
     let Some(object) = rest.object() else {
         return Ok(None);
     };
-    let Ok(event) = events.read(alloc, object)? else {
+    let Ok(()) = events.read(alloc, object)? else {
         return Ok(None);
     };
+    let event = *events.event();
     let Some(place) = rest.number(b",\"place\":") else {
         return Ok(None);
     };

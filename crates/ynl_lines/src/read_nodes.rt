@@ -1,8 +1,8 @@
 //! From objects to the events of nodes.
 
-ghost use Rattle.std.specs.Prelude.{◌≡◌, IfOk, IsTrue};
+ghost use Rattle.std.specs.Prelude.{◌≡◌, IfOk, OnOk, IsTrue};
 ghost use Rattle.ynl_lines.specs.Trees.{data_at};
-ghost use Rattle.ynl_lines.specs.Reading.{IsRanged};
+ghost use Rattle.ynl_lines.specs.Reading.{Gives, IsRanged};
 ghost use Rattle.ynl_lines.specs.Compact as told;
 ghost use Rattle.ynl_lines.specs.Reading as spec;
 
@@ -14,27 +14,34 @@ use ynl_resource::Name;
 
 /// `register`: a node joins.
 #[tactic(auto, unfolding(crate::specs::Reading::register_at))]
-pub fn register_at(event: &Fields<'_, '_>) -> Result<Event, LineFault>
-    ensures event { result ≡ spec.register_at (data_at event.now.stands) }
-    ensures ranged { IfOk result (λ event. IsRanged event) }
+pub fn register_at(event: &Fields<'_, '_>, into: &mut Event) -> Result<(), LineFault>
+    ensures event { Gives (λ _. into.new) result (spec.register_at (data_at event.now.stands)) }
+    ensures ranged { OnOk result (IsRanged into.new) }
 {
     keys_are(event, 5)?;
     let label = text_at(event, "label")?;
     let memory = number_at(event, "memory")?;
     let node = text_at(event, "node")?;
     let vcores = number_at(event, "vcores")?;
-    register_of(label, memory, node, vcores)
+    register_of(label, memory, node, vcores, into)
 }
 
 /// The joining of a node, from its members.
-pub fn register_of(label: &str, memory: u64, node: &str, vcores: u64) -> Result<Event, LineFault>
-    ensures event { result ≡ told.register_of label.now memory node.now vcores }
-    ensures ranged { IfOk result (λ event. IsRanged event) }
+pub fn register_of(
+    label: &str,
+    memory: u64,
+    node: &str,
+    vcores: u64,
+    into: &mut Event,
+) -> Result<(), LineFault>
+    ensures event { Gives (λ _. into.new) result (told.register_of label.now memory node.now vcores) }
+    ensures ranged { OnOk result (IsRanged into.new) }
 {
     let label = label_at(label)?;
     let node = name_at(node)?;
     let size = size_at(memory, vcores)?;
-    Ok(Event::Register { node, label, size })
+    *into = Event::Register { node, label, size };
+    Ok(())
 }
 
 /// The node of an event that names nothing but a node.
@@ -49,56 +56,60 @@ pub fn node_at(event: &Fields<'_, '_>) -> Result<Name, LineFault>
 
 /// `lost`: a node is lost.
 #[tactic(auto, unfolding(crate::specs::Reading::lost_at))]
-pub fn lost_at(event: &Fields<'_, '_>) -> Result<Event, LineFault>
-    ensures event { result ≡ spec.lost_at (data_at event.now.stands) }
-    ensures ranged { IfOk result (λ event. IsRanged event) }
+pub fn lost_at(event: &Fields<'_, '_>, into: &mut Event) -> Result<(), LineFault>
+    ensures event { Gives (λ _. into.new) result (spec.lost_at (data_at event.now.stands)) }
+    ensures ranged { OnOk result (IsRanged into.new) }
 {
     let node = node_at(event)?;
-    Ok(Event::Lost { node })
+    *into = Event::Lost { node };
+    Ok(())
 }
 
 /// `relabel`: a node goes to another partition.
 #[tactic(auto, unfolding(crate::specs::Reading::relabel_at))]
-pub fn relabel_at(event: &Fields<'_, '_>) -> Result<Event, LineFault>
-    ensures event { result ≡ spec.relabel_at (data_at event.now.stands) }
-    ensures ranged { IfOk result (λ event. IsRanged event) }
+pub fn relabel_at(event: &Fields<'_, '_>, into: &mut Event) -> Result<(), LineFault>
+    ensures event { Gives (λ _. into.new) result (spec.relabel_at (data_at event.now.stands)) }
+    ensures ranged { OnOk result (IsRanged into.new) }
 {
     keys_are(event, 3)?;
     let label = text_at(event, "label")?;
     let node = text_at(event, "node")?;
     let label = label_at(label)?;
     let node = name_at(node)?;
-    Ok(Event::Relabel { node, label })
+    *into = Event::Relabel { node, label };
+    Ok(())
 }
 
 /// `heartbeat`: a node is ready for more.
 #[tactic(auto, unfolding(crate::specs::Reading::heartbeat_at))]
-pub fn heartbeat_at(event: &Fields<'_, '_>) -> Result<Event, LineFault>
-    ensures event { result ≡ spec.heartbeat_at (data_at event.now.stands) }
-    ensures ranged { IfOk result (λ event. IsRanged event) }
+pub fn heartbeat_at(event: &Fields<'_, '_>, into: &mut Event) -> Result<(), LineFault>
+    ensures event { Gives (λ _. into.new) result (spec.heartbeat_at (data_at event.now.stands)) }
+    ensures ranged { OnOk result (IsRanged into.new) }
 {
     let node = node_at(event)?;
-    Ok(Event::Heartbeat { node })
+    *into = Event::Heartbeat { node };
+    Ok(())
 }
 
 /// `exited`: a container ended by itself.
 #[tactic(auto, unfolding(crate::specs::Reading::exited_at))]
-pub fn exited_at(event: &Fields<'_, '_>) -> Result<Event, LineFault>
-    ensures event { result ≡ spec.exited_at (data_at event.now.stands) }
-    ensures ranged { IfOk result (λ event. IsRanged event) }
+pub fn exited_at(event: &Fields<'_, '_>, into: &mut Event) -> Result<(), LineFault>
+    ensures event { Gives (λ _. into.new) result (spec.exited_at (data_at event.now.stands)) }
+    ensures ranged { OnOk result (IsRanged into.new) }
 {
     keys_are(event, 3)?;
     let id = text_at(event, "id")?;
     let node = text_at(event, "node")?;
-    exited_of(id, node)
+    exited_of(id, node, into)
 }
 
 /// The exit of a container, from its members.
-pub fn exited_of(id: &str, node: &str) -> Result<Event, LineFault>
-    ensures event { result ≡ told.exited_of id.now node.now }
-    ensures ranged { IfOk result (λ event. IsRanged event) }
+pub fn exited_of(id: &str, node: &str, into: &mut Event) -> Result<(), LineFault>
+    ensures event { Gives (λ _. into.new) result (told.exited_of id.now node.now) }
+    ensures ranged { OnOk result (IsRanged into.new) }
 {
     let id = id_at(id)?;
     let node = name_at(node)?;
-    Ok(Event::Exited { node, id })
+    *into = Event::Exited { node, id };
+    Ok(())
 }

@@ -1,6 +1,6 @@
 //! From objects to proposals, and to the events that speak of them.
 
-ghost use Rattle.std.specs.Prelude.{◌≡◌, option_map, IfOk, IsTrue};
+ghost use Rattle.std.specs.Prelude.{◌≡◌, option_map, IfOk, OnOk, IsTrue};
 ghost use Rattle.ynl_lines.specs.Trees.{data_at};
 ghost use Rattle.ynl_resource.specs.Amounts.{IsSize};
 ghost use Rattle.ynl_lines.specs.Reading.{Gives, HasPriority, HasProposalNumbers, IsRanged};
@@ -16,21 +16,23 @@ use ynl_resource::{Label, MOST_CLOCK};
 
 /// `propose`: what would be placed on a node?
 #[tactic(auto, unfolding(crate::specs::Reading::propose_at))]
-pub fn propose_at(event: &Fields<'_, '_>) -> Result<Event, LineFault>
-    ensures event { result ≡ spec.propose_at (data_at event.now.stands) }
-    ensures ranged { IfOk result (λ event. IsRanged event) }
+pub fn propose_at(event: &Fields<'_, '_>, into: &mut Event) -> Result<(), LineFault>
+    ensures event { Gives (λ _. into.new) result (spec.propose_at (data_at event.now.stands)) }
+    ensures ranged { OnOk result (IsRanged into.new) }
 {
     let node = node_at(event)?;
-    Ok(Event::Propose { node })
+    *into = Event::Propose { node };
+    Ok(())
 }
 
 /// A propose, from its member.
-pub fn propose_of(node: &str) -> Result<Event, LineFault>
-    ensures event { result ≡ told.propose_of node.now }
-    ensures ranged { IfOk result (λ event. IsRanged event) }
+pub fn propose_of(node: &str, into: &mut Event) -> Result<(), LineFault>
+    ensures event { Gives (λ _. into.new) result (told.propose_of node.now) }
+    ensures ranged { OnOk result (IsRanged into.new) }
 {
     let node = name_at(node)?;
-    Ok(Event::Propose { node })
+    *into = Event::Propose { node };
+    Ok(())
 }
 
 /// The label's text and the priority of a container that was asked for; nothing of a master.
@@ -129,15 +131,16 @@ fn proposal_of(
 
 /// `commit`: a proposal is to be placed.
 #[tactic(auto, unfolding(crate::specs::Reading::commit_at))]
-pub fn commit_at(event: &Fields<'_, '_>) -> Result<Event, LineFault>
-    ensures event { result ≡ spec.commit_at (data_at event.now.stands) }
-    ensures ranged { IfOk result (λ event. IsRanged event) }
+pub fn commit_at(event: &Fields<'_, '_>, into: &mut Event) -> Result<(), LineFault>
+    ensures event { Gives (λ _. into.new) result (spec.commit_at (data_at event.now.stands)) }
+    ensures ranged { OnOk result (IsRanged into.new) }
 {
     keys_are(event, 2)?;
     match event.get("proposal") {
         Some(value) => {
             let proposal = proposal_at(&value)?;
-            Ok(Event::Commit { proposal })
+            *into = Event::Commit { proposal };
+            Ok(())
         }
         None => Err(LineFault::Field),
     }
@@ -152,10 +155,12 @@ pub fn commit_of(
     tenant: &str,
     vcores: u64,
     wanted: Option<(&str, u64)>,
-) -> Result<Event, LineFault>
-    ensures event { result ≡ told.commit_of app.now memory node.now stamp tenant.now vcores (option_map (λ wanted. (wanted.0.now, wanted.1)) wanted.entry) }
-    ensures ranged { IfOk result (λ event. IsRanged event) }
+    into: &mut Event,
+) -> Result<(), LineFault>
+    ensures event { Gives (λ _. into.new) result (told.commit_of app.now memory node.now stamp tenant.now vcores (option_map (λ wanted. (wanted.0.now, wanted.1)) wanted.entry)) }
+    ensures ranged { OnOk result (IsRanged into.new) }
 {
     let proposal = proposal_of(app, memory, node, stamp, tenant, vcores, wanted)?;
-    Ok(Event::Commit { proposal })
+    *into = Event::Commit { proposal };
+    Ok(())
 }

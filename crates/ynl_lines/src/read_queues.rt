@@ -1,8 +1,8 @@
 //! From objects to the events of queues.
 
-ghost use Rattle.std.specs.Prelude.{◌≡◌, IfOk, IsTrue};
+ghost use Rattle.std.specs.Prelude.{◌≡◌, IfOk, OnOk, IsTrue};
 ghost use Rattle.ynl_lines.specs.Trees.{data_at};
-ghost use Rattle.ynl_lines.specs.Reading.{IsRanged};
+ghost use Rattle.ynl_lines.specs.Reading.{Gives, IsRanged};
 ghost use Rattle.ynl_lines.specs.Compact as told;
 ghost use Rattle.ynl_lines.specs.Reading as spec;
 
@@ -24,51 +24,54 @@ fn queue_at(event: &Fields<'_, '_>) -> Result<Path, LineFault>
 
 /// `stop`: a queue is stopped.
 #[tactic(auto, unfolding(crate::specs::Reading::stop_at))]
-pub fn stop_at(event: &Fields<'_, '_>) -> Result<Event, LineFault>
-    ensures event { result ≡ spec.stop_at (data_at event.now.stands) }
-    ensures ranged { IfOk result (λ event. IsRanged event) }
+pub fn stop_at(event: &Fields<'_, '_>, into: &mut Event) -> Result<(), LineFault>
+    ensures event { Gives (λ _. into.new) result (spec.stop_at (data_at event.now.stands)) }
+    ensures ranged { OnOk result (IsRanged into.new) }
 {
     let queue = queue_at(event)?;
-    Ok(Event::Stop { queue })
+    *into = Event::Stop { queue };
+    Ok(())
 }
 
 /// `start`: a stopped queue takes applications again.
 #[tactic(auto, unfolding(crate::specs::Reading::start_at))]
-pub fn start_at(event: &Fields<'_, '_>) -> Result<Event, LineFault>
-    ensures event { result ≡ spec.start_at (data_at event.now.stands) }
-    ensures ranged { IfOk result (λ event. IsRanged event) }
+pub fn start_at(event: &Fields<'_, '_>, into: &mut Event) -> Result<(), LineFault>
+    ensures event { Gives (λ _. into.new) result (spec.start_at (data_at event.now.stands)) }
+    ensures ranged { OnOk result (IsRanged into.new) }
 {
     let queue = queue_at(event)?;
-    Ok(Event::Start { queue })
+    *into = Event::Start { queue };
+    Ok(())
 }
 
 /// `usage`: what does a queue use?
 #[tactic(auto, unfolding(crate::specs::Reading::usage_at))]
-pub fn usage_at(event: &Fields<'_, '_>) -> Result<Event, LineFault>
-    ensures event { result ≡ spec.usage_at (data_at event.now.stands) }
-    ensures ranged { IfOk result (λ event. IsRanged event) }
+pub fn usage_at(event: &Fields<'_, '_>, into: &mut Event) -> Result<(), LineFault>
+    ensures event { Gives (λ _. into.new) result (spec.usage_at (data_at event.now.stands)) }
+    ensures ranged { OnOk result (IsRanged into.new) }
 {
     keys_are(event, 3)?;
     let label = text_at(event, "label")?;
     let queue = text_at(event, "queue")?;
-    usage_of(label, queue)
+    usage_of(label, queue, into)
 }
 
 /// The question for the use, from its members.
-pub fn usage_of(label: &str, queue: &str) -> Result<Event, LineFault>
-    ensures event { result ≡ told.usage_of label.now queue.now }
-    ensures ranged { IfOk result (λ event. IsRanged event) }
+pub fn usage_of(label: &str, queue: &str, into: &mut Event) -> Result<(), LineFault>
+    ensures event { Gives (λ _. into.new) result (told.usage_of label.now queue.now) }
+    ensures ranged { OnOk result (IsRanged into.new) }
 {
     let label = label_at(label)?;
     let queue = path_at(queue)?;
-    Ok(Event::Usage { queue, label })
+    *into = Event::Usage { queue, label };
+    Ok(())
 }
 
 /// `maximum`: a queue's maximum is set, in hundredths of a percent.
 #[tactic(auto, unfolding(crate::specs::Reading::maximum_at))]
-pub fn maximum_at(event: &Fields<'_, '_>) -> Result<Event, LineFault>
-    ensures event { result ≡ spec.maximum_at (data_at event.now.stands) }
-    ensures ranged { IfOk result (λ event. IsRanged event) }
+pub fn maximum_at(event: &Fields<'_, '_>, into: &mut Event) -> Result<(), LineFault>
+    ensures event { Gives (λ _. into.new) result (spec.maximum_at (data_at event.now.stands)) }
+    ensures ranged { OnOk result (IsRanged into.new) }
 {
     keys_are(event, 4)?;
     let label = text_at(event, "label")?;
@@ -77,9 +80,10 @@ pub fn maximum_at(event: &Fields<'_, '_>) -> Result<Event, LineFault>
     let label = label_at(label)?;
     let queue = path_at(queue)?;
     let maximum = share_at(maximum)?;
-    Ok(Event::Maximum {
+    *into = Event::Maximum {
         queue,
         label,
         maximum,
-    })
+    };
+    Ok(())
 }

@@ -36,7 +36,7 @@ fn event_fault(
     ensures { SaysEvent line.now result }
 {
     match events.read(alloc, line) {
-        Ok(Ok(_)) => Ok(None),
+        Ok(Ok(())) => Ok(None),
         Ok(Err(fault)) => Ok(Some(fault)),
         Err(e) => Err(e),
     }

@@ -159,11 +159,10 @@ fn answer_event(
     requires { is_blank line.now ≡ false }
     ensures { Holds held.old.items held.new.items core.old.config core.old.state core.new line.now result }
 {
-    let event = match events.read(alloc, line)? {
-        Ok(event) => event,
-        Err(fault) => return Ok(Some(fault)),
-    };
-    let reply = core.apply(event)?;
+    if let Err(fault) = events.read(alloc, line)? {
+        return Ok(Some(fault));
+    }
+    let reply = core.answer(events.event())?;
     hold(&reply, text, held)?;
     Ok(None)
 }

@@ -33,8 +33,8 @@ fn add_line(
         return Ok(None);
     }
     match lines.read(alloc, line) {
-        Ok(Ok(event)) => {
-            events.push(&event)?;
+        Ok(Ok(())) => {
+            events.push(lines.event())?;
             Ok(None)
         }
         Ok(Err(fault)) => Ok(Some(fault)),

@@ -98,7 +98,9 @@ fn hold_line(
     ensures { (event : Event) → event_of_line line.now ≡ Ok event → HoldsSight held.old.items held.new.items config.now tenant.now label.now stand.old stand.new place event result }
 {
     match events.read(alloc, line) {
-        Ok(Ok(event)) => hold_sight(config, tenant, label, stand, place, &event, text, held),
+        Ok(Ok(())) => {
+            hold_sight(config, tenant, label, stand, place, events.event(), text, held)
+        }
         // No line that is kept has a fault.
         Ok(Err(_)) => Ok(()),
         Err(_) => Err(NoMemory),
