@@ -86,7 +86,7 @@ impl Trial {
         if !keeps(config, tenant, label, &mut self.track, &entry.event)? {
             return Ok(Some(Flaw::NotKept));
         }
-        let reply = self.core.apply(entry.event)?;
+        let reply = self.core.answer(&entry.event)?;
         if !fits(entry, &reply) {
             return Ok(Some(Flaw::Differs));
         }

@@ -42,7 +42,7 @@ fn audit_on(core: &mut Core, entries: &[Entry]) -> Result<(), AuditFault>
     ensures memory { IfErr result (GivesUp core.old.config entries.now core.new) }
 {
     for (i, entry) in entries.iter().enumerate() {
-        let Ok(reply) = core.apply(entry.event) else {
+        let Ok(reply) = core.answer(&entry.event) else {
             return Err(AuditFault::NoMemory);
         };
         if !fits(entry, &reply) {

@@ -2,7 +2,6 @@
 
 ghost use Rattle.std.specs.Prelude.{◌≡◌, length, IfOk};
 ghost use Rattle.ynl_model.specs.Events.{IsHistory};
-ghost use Rattle.ynl_core.specs.World.{Answers};
 ghost use Rattle.ynl_journal.specs.BookFields.{written, entries_after};
 ghost use Rattle.ynl_journal.specs.Journal.{entry, events_in, replayed};
 
@@ -18,15 +17,9 @@ pub fn replay(alloc: Global, config: Config, entries: &[Entry]) -> Result<Core, 
 {
     let mut core = Core::open(alloc, config)?;
     for entry in entries {
-        core.apply(entry.event)?;
+        core.answer(&entry.event)?;
     }
     Ok(core)
-}
-
-fn answer(core: &mut Core, event: &Event) -> Result<Reply, NoMemory>
-    ensures { IfOk result (λ reply. Answers core.old event.now core.new reply) }
-{
-    core.apply(*event)
 }
 
 fn entry_with(event: &Event, reply: Option<Reply>) -> Entry
@@ -47,7 +40,7 @@ pub fn replay_history(alloc: Global, config: Config, events: &Events) -> Result<
     let mut history = Entries::new(alloc);
     for i in 0..events.len() {
         let event = events.get(i);
-        let reply = answer(&mut core, &event)?;
+        let reply = core.answer(&event)?;
         history.push(&event, &reply)?;
     }
     Ok(history)
@@ -77,7 +70,7 @@ pub(crate) fn entries_of(
     let mut entries = Vec::new(alloc);
     for (i, planned) in planned.iter().enumerate() {
         let event = events.get(i);
-        let reply = answer(&mut core, &event)?;
+        let reply = core.answer(&event)?;
         entries.push(entry_with(&event, written(*planned, reply)))?;
     }
     Ok(entries)

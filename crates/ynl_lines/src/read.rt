@@ -213,6 +213,35 @@ fn event_of(members: &Members<'_>, into: &mut Event) -> Result<(), LineFault>
 /// How deep a line nests at most to be taken as a tree: a proposal stands in an event.
 const MOST_DEPTH: usize = 2;
 
+/// Reads the event that a line is, or returns its first fault.
+pub fn read_into(
+    alloc: Global,
+    scratch: &mut Scratch,
+    line: &[u8],
+    into: &mut Event,
+) -> Result<Result<(), LineFault>, AllocError>
+    ensures event { IfOk result (λ read. Gives (λ _. into.new) read (spec.event_of_line line.now)) }
+    ensures text { OnErr result (IsUtf8 line.now) }
+    ensures ranged { IfOk result (λ read. OnOk read (IsRanged into.new)) }
+{
+    if let Some(node) = heartbeat_of(line) {
+        *into = Event::Heartbeat { node };
+        return Ok(Ok(()));
+    }
+    if let Some(members) = members_in(line) {
+        return Ok(event_of(&members, into));
+    }
+    let Some(tree) = tree_of(alloc, scratch, line)? else {
+        return Ok(Err(LineFault::Syntax));
+    };
+    if is_plain(&tree, MOST_DEPTH) {
+        return Ok(event_at(&Fields::tree(&tree), into));
+    }
+    // There is no room for two of a long line.
+    drop(tree);
+    read_by_value(alloc, line, into)
+}
+
 /// Any event.
 #[tactic(auto, unfolding(ynl_resource::specs::Texts::read_name))]
 pub fn any_event() -> Event {
@@ -261,22 +290,7 @@ impl EventReader {
         ensures text { OnErr result (IsUtf8 line.now) }
         ensures ranged { IfOk result (λ read. OnOk read (IsRanged self.new)) }
     {
-        if let Some(node) = heartbeat_of(line) {
-            self.event = Event::Heartbeat { node };
-            return Ok(Ok(()));
-        }
-        if let Some(members) = members_in(line) {
-            return Ok(event_of(&members, &mut self.event));
-        }
-        let Some(tree) = tree_of(alloc, &mut self.scratch, line)? else {
-            return Ok(Err(LineFault::Syntax));
-        };
-        if is_plain(&tree, MOST_DEPTH) {
-            return Ok(event_at(&Fields::tree(&tree), &mut self.event));
-        }
-        // There is no room for two of a long line.
-        drop(tree);
-        read_by_value(alloc, line, &mut self.event)
+        read_into(alloc, &mut self.scratch, line, &mut self.event)
     }
 }
 

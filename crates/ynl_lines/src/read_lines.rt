@@ -1,8 +1,8 @@
 //! From the lines of a journal to its entries.
 
-ghost use Rattle.std.specs.Prelude.{◌≡◌, IfOk, IfSome, OnErr, IsOk, IsSome, IsUtf8};
+ghost use Rattle.std.specs.Prelude.{◌≡◌, IfOk, IfSome, OnErr, OnOk, IsOk, IsSome, IsTrue, IsUtf8, None};
 ghost use Rattle.ynl_lines.specs.Trees.{data_at};
-ghost use Rattle.ynl_lines.specs.Reading.{IsRanged};
+ghost use Rattle.ynl_lines.specs.Reading.{Gives, IsRanged};
 ghost use Rattle.ynl_lines.specs.ReadingReplies.{MayBeTold, IsRead};
 ghost use Rattle.ynl_lines.specs.ReadingReplies as spec;
 
@@ -11,10 +11,12 @@ use crate::cursor::Cursor;
 use crate::faults::{BadLine, LineFault};
 use crate::fields::Fields;
 use crate::keys::{keys_are, number_at};
-use crate::read::{EventReader, any_event, event_at, parse};
+use crate::read::{any_event, event_at, parse, read_into};
 use crate::read_replies::{reply_at, value_under};
 use crate::write::put_line;
+use json::Scratch;
 use std::alloc::{AllocError, Global};
+use std::marker::Model;
 use ynl_model::{Entry, Event, Reply};
 
 /// The place of a line, and its event.
@@ -98,13 +100,21 @@ fn line_at(
     }
 }
 
-/// What a line in the compact form is taken to say: its place and its entry.
-fn entry_in(
+/// Whether an event may stand in a line with no reply: a propose alone may.
+fn may_lack_reply(event: &Event) -> bool
+    ensures { IsTrue result → MayBeTold event.now None }
+{
+    matches!(event, Event::Propose { .. })
+}
+
+/// Reads what a line in the compact form is taken to say, and returns its place, if it has that form.
+fn read_compact(
     alloc: Global,
-    events: &mut EventReader,
+    scratch: &mut Scratch,
     line: &[u8],
-) -> Result<Option<(u64, Entry)>, AllocError>
-    ensures { IfOk result (λ found. IfSome found (λ line. IsRead line.1)) }
+    into: &mut Entry,
+) -> Result<Option<u64>, AllocError>
+    ensures { IfOk result (λ found. IfSome found (λ _. IsRead into.new)) }
 {
     let mut rest = Cursor::new(line);
     if !rest.skips(b"{\"event\":") {
@@ -113,77 +123,111 @@ fn entry_in(
     let Some(object) = rest.object() else {
         return Ok(None);
     };
-    let Ok(()) = events.read(alloc, object)? else {
+    let Ok(()) = read_into(alloc, scratch, object, &mut into.event)? else {
         return Ok(None);
     };
-    let event = *events.event();
     let Some(place) = rest.number(b",\"place\":") else {
         return Ok(None);
     };
-    if !rest.skips(b",\"reply\":") {
-        return Ok(without_reply(place, event));
+    if rest.skips(b",\"reply\":") {
+        into.reply = cut_reply(alloc, &mut rest)?;
+        return Ok(if into.reply.is_some() {
+            Some(place)
+        } else {
+            None
+        });
     }
-    match cut_reply(alloc, &mut rest)? {
-        Some(reply) => Ok(Some((
-            place,
-            Entry {
-                event,
-                reply: Some(reply),
-            },
-        ))),
-        None => Ok(None),
-    }
+    into.reply = None;
+    Ok(if may_lack_reply(&into.event) {
+        Some(place)
+    } else {
+        None
+    })
 }
 
-/// A line that has no reply: that of a propose alone may have none.
-fn without_reply(place: u64, event: Event) -> Option<(u64, Entry)>
-    requires { IsRanged event }
-    ensures { IfSome result (λ line. IsRead line.1) }
-{
-    match event {
-        Event::Propose { .. } => Some((place, Entry { event, reply: None })),
-        _ => None,
-    }
-}
-
-/// Reads the lines of a journal one after another, with memory that is kept from line to line.
+/// Reads the lines of a journal one after another, with memory that is kept from line to line. An entry is large, so it is
+/// read into one place, and lent from there. A contract sees the place and the entry of the line that was read last.
 #[derive(Drop)]
 pub struct LineReader {
-    events: EventReader,
+    scratch: Scratch,
     text: Vec<u8>,
+    place: u64,
+    entry: Entry,
+}
+
+impl Model for LineReader {
+    ghost use Rattle.std.specs.Prelude.{ℕ};
+    ghost use Rattle.ynl_model.specs.declared.entries.Entry.{Entry};
+
+    ghost Value = { ℕ × Entry };
+
+    ghost view = { λ r. (r.place, r.entry) };
 }
 
 impl LineReader {
-    /// One that keeps no memory yet.
+    /// One that keeps no memory yet, and has read no line.
     pub fn new(alloc: Global) -> LineReader {
         LineReader {
-            events: EventReader::new(alloc),
+            scratch: Scratch::new(alloc),
             text: Vec::new(alloc),
+            place: 0,
+            entry: Entry {
+                event: any_event(),
+                reply: None,
+            },
         }
     }
 
-    /// The place of a line and its entry, as [`read_line`] tells them. A line that is just the text that is written for
+    /// The place of the line that was read last.
+    pub fn place(&self) -> u64
+        ensures { result ≡ self.now.0 }
+    {
+        self.place
+    }
+
+    /// The entry of the line that was read last.
+    pub fn entry(&self) -> &Entry
+        ensures { result.now ≡ self.now.1 }
+    {
+        &self.entry
+    }
+
+    /// Reads the line as JSON.
+    fn read_any(&mut self, alloc: Global, line: &[u8]) -> Result<Result<(), BadLine>, AllocError>
+        ensures entry { IfOk result (λ read. Gives (λ _. self.new) read (spec.line_of_text line.now)) }
+        ensures ranged { IfOk result (λ read. OnOk read (IsRanged self.new.1.event)) }
+        ensures told { IfOk result (λ read. OnOk read (MayBeTold self.new.1.event self.new.1.reply)) }
+        ensures text { OnErr result (IsUtf8 line.now) }
+    {
+        match read_line(alloc, line)? {
+            Ok((place, entry)) => {
+                self.place = place;
+                self.entry = entry;
+                Ok(Ok(()))
+            }
+            Err(bad) => Ok(Err(bad)),
+        }
+    }
+
+    /// Reads the place of a line and its entry, as [`read_line`] tells them. A line that is just the text that is written for
     /// what it is taken to say says that; any other is read as JSON.
-    pub fn read(
-        &mut self,
-        alloc: Global,
-        line: &[u8],
-    ) -> Result<Result<(u64, Entry), BadLine>, AllocError>
-        ensures entry { IfOk result (λ read. read ≡ spec.line_of_text line.now) }
-        ensures ranged { IfOk result (λ read. IfOk read (λ line. IsRanged line.1.event)) }
-        ensures told { IfOk result (λ read. IfOk read (λ line. MayBeTold line.1.event line.1.reply)) }
+    pub fn read(&mut self, alloc: Global, line: &[u8]) -> Result<Result<(), BadLine>, AllocError>
+        ensures entry { IfOk result (λ read. Gives (λ _. self.new) read (spec.line_of_text line.now)) }
+        ensures ranged { IfOk result (λ read. OnOk read (IsRanged self.new.1.event)) }
+        ensures told { IfOk result (λ read. OnOk read (MayBeTold self.new.1.event self.new.1.reply)) }
         ensures text { OnErr result (IsUtf8 line.now) }
     {
         let Ok(_) = str::from_utf8(line) else {
-            return read_line(alloc, line);
+            return self.read_any(alloc, line);
         };
-        if let Some((place, entry)) = entry_in(alloc, &mut self.events, line)? {
-            put_line(place, &entry, &mut self.text)?;
+        if let Some(place) = read_compact(alloc, &mut self.scratch, line, &mut self.entry)? {
+            put_line(place, &self.entry.event, &self.entry.reply, &mut self.text)?;
             if self.text.as_slice() == line {
-                return Ok(Ok((place, entry)));
+                self.place = place;
+                return Ok(Ok(()));
             }
         }
-        read_line(alloc, line)
+        self.read_any(alloc, line)
     }
 }
 

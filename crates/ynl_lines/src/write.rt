@@ -68,19 +68,24 @@ fn add_end(text: &mut Vec<u8>, reply: &Option<Reply>) -> Result<(), AllocError>
     add(text, b"}")
 }
 
-/// Puts the text of an entry and its place in a list, counted from 0, in the place of what `text` holds, in memory that
-/// is kept from line to line; it is without the newline of its line. Where the numbers that it names are in range, it
-/// reads as these. A propose alone may be without its reply. Where memory is refused `text` may hold anything.
-pub fn put_line(place: u64, entry: &Entry, text: &mut Vec<u8>) -> Result<(), AllocError>
-    requires { MayBeTold entry.now.event entry.now.reply }
-    ensures text { OnOk result (text.new.items ≡ spec.line_text place entry.now) }
-    ensures reads { IsEntryInRange entry.now → OnOk result (line_of_text text.new.items ≡ Ok (place, entry.now)) }
+/// Puts the text of an event, its place in a list, counted from 0, and its reply in the place of what `text` holds, in
+/// memory that is kept from line to line; it is without the newline of its line. Where the numbers that it names are in
+/// range, it reads as these. A propose alone may be without its reply. Where memory is refused `text` may hold anything.
+pub fn put_line(
+    place: u64,
+    event: &Event,
+    reply: &Option<Reply>,
+    text: &mut Vec<u8>,
+) -> Result<(), AllocError>
+    requires { MayBeTold event.now reply.now }
+    ensures text { OnOk result (text.new.items ≡ spec.line_text place (record { event = event.now; reply = reply.now })) }
+    ensures reads { IsEntryInRange (record { event = event.now; reply = reply.now }) → OnOk result (line_of_text text.new.items ≡ Ok (place, record { event = event.now; reply = reply.now })) }
 {
     text.clear();
     add(text, b"{\"event\":")?;
-    add_event(text, &entry.event)?;
+    add_event(text, event)?;
     add_number(text, b",\"place\":", place)?;
-    add_end(text, &entry.reply)
+    add_end(text, reply)
 }
 
 /// The same text, in memory of its own.
@@ -90,6 +95,6 @@ pub fn write_line(alloc: Global, place: u64, entry: &Entry) -> Result<Vec<u8>, A
     ensures reads { IsEntryInRange entry.now → IfOk result (λ text. line_of_text text.items ≡ Ok (place, entry.now)) }
 {
     let mut text = Vec::new(alloc);
-    put_line(place, entry, &mut text)?;
+    put_line(place, &entry.event, &entry.reply, &mut text)?;
     Ok(text)
 }

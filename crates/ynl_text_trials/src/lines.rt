@@ -223,7 +223,7 @@ fn entry_read_and_written(
     line: &str,
 ) -> Result<Vec<u8>, Fail> {
     match lines.read(alloc, line.as_bytes()) {
-        Ok(Ok((place, entry))) => Ok(write_line(alloc, place, &entry)?),
+        Ok(Ok(())) => Ok(write_line(alloc, lines.place(), lines.entry())?),
         Ok(Err(_)) => Err(Fail::new("a bad line")),
         Err(e) => Err(e.into()),
     }
@@ -238,7 +238,7 @@ fn is_entry(alloc: Global, lines: &mut LineReader, line: &str, text: &str) -> Re
 /// The place of the entry that a line is, if it is one.
 fn place_in(alloc: Global, lines: &mut LineReader, line: &str) -> Result<Option<u64>, AllocError> {
     match lines.read(alloc, line.as_bytes())? {
-        Ok((place, _)) => Ok(Some(place)),
+        Ok(()) => Ok(Some(lines.place())),
         Err(_) => Ok(None),
     }
 }

@@ -1,5 +1,5 @@
 -- What an audit of an input finds: whether each line is the next of a journal, and each reply that is there the cluster's.
-use Rattle.std.specs.Prelude.{ℕ, ◌==◌, List, [], ◌∷◌, ◌++◌, length, Option, Some, None, Result, Ok, Err, if◌then◌else◌}
+use Rattle.std.specs.Prelude.{ℕ, ◌==◌, Bool, true, false, List, [], ◌∷◌, ◌++◌, length, Option, Some, None, Result, Ok, Err, if◌then◌else◌}
 use Rattle.ynl_model.specs.declared.events.Event.{Event}
 use Rattle.ynl_model.specs.declared.replies.Reply.{Reply}
 use Rattle.ynl_model.specs.declared.entries.Entry.{Entry}
@@ -31,6 +31,11 @@ if_read n (Err bad) = Err NotNext
 -- what a line says after n entries: the next entry, or nothing where it is blank
 abbrev pub entry_said : ℕ → List ℕ → Result (Option Entry) JournalFault
 entry_said n line = if is_blank line then Ok None else if_read n (line_of_text line)
+
+-- the entry of a line that was read, where one was found
+abbrev pub entry_if : ℕ × Entry → Bool → Option Entry
+entry_if read true = Some read.1
+entry_if read false = None
 
 -- ---- journals
 

@@ -1,5 +1,5 @@
 -- What is written of a journal for a tenant, and what an audit of that finds.
-use Rattle.std.specs.Prelude.{◌≡◌, ℕ, ◌+◌, List, [], ◌∷◌, ◌++◌, map, length, Option, Some, None, Result, Ok, Err, if◌then◌else◌}
+use Rattle.std.specs.Prelude.{◌≡◌, ℕ, ◌+◌, Bool, true, false, List, [], ◌∷◌, ◌++◌, map, length, Option, Some, None, Result, Ok, Err, if◌then◌else◌}
 use Rattle.std.specs.List.{concat}
 use Rattle.ynl_model.specs.declared.entries.Entry.{Entry}
 use Rattle.ynl_model.specs.declared.events.Event.{Event}
@@ -86,6 +86,11 @@ placed_read (Err bad) = Err fault.Line
 
 abbrev pub placed_said : List ℕ → Result (Option Placed) JournalFault
 placed_said line = if is_blank line then Ok None else placed_read (line_of_text line)
+
+-- what was read of a line, where it said an entry
+abbrev pub placed_if : Placed → Bool → Option Placed
+placed_if read true = Some read
+placed_if read false = None
 
 -- the fault that is told of a flaw
 abbrev pub fault_of : Flaw → JournalFault

@@ -1,10 +1,11 @@
 //! The audit of a journal: whether each line is its next entry, and each reply that is there the cluster's.
 
-ghost use Rattle.std.specs.Prelude.{◌≡◌, ◌≢◌, ◌+◌, ◌<◌, ◌≤◌, [], IfOk, IfErr, IfSome, OnErr, IsUtf8};
+ghost use Rattle.std.specs.Prelude.{◌≡◌, ◌≢◌, ◌+◌, ◌<◌, ◌≤◌, [], IfOk, IfErr, OnErr, IsTrue, IsUtf8};
+ghost use Rattle.ynl_lines.specs.Reading.{Gives};
 ghost use Rattle.ynl_lines.specs.ReadingReplies.{MayBeTold};
 ghost use Rattle.ynl_tool.specs.declared.run.ToolFault.TheVariants.{Read};
 ghost use Rattle.ynl_tool.specs.Input.{between, limit};
-ghost use Rattle.ynl_tool.specs.Audit.{answer_of, entry_said, if_read};
+ghost use Rattle.ynl_tool.specs.Audit.{answer_of, entry_if, entry_said};
 ghost use Rattle.ynl_tool.specs.Auditing.{AuditsJournal, AuditsLine, AuditsWhole, Finds, IsAuditOf, TakesEntry};
 ghost use Rattle.ynl_tool.specs.Running.{Writes};
 
@@ -15,46 +16,30 @@ use std::alloc::{AllocError, Global};
 use std::io::{BufRead, Write};
 use ynl_core::{Core, NoMemory};
 use ynl_journal::fits;
-use ynl_lines::{BadLine, InputFault, JournalFault, LineReader, write_audit};
+use ynl_lines::{InputFault, JournalFault, LineReader, write_audit};
 use ynl_model::Entry;
 use ynl_queues::Config;
 
-/// What a line that was read says after so many entries: its entry, if its place is the next, or else that
-/// it is bad. It takes no memory, so no bad line is told as want of memory here.
-fn next_entry(
-    entries: u64,
-    read: Result<(u64, Entry), BadLine>,
-) -> Result<Option<Entry>, JournalFault>
-    requires { IfOk read (λ line. MayBeTold line.1.event line.1.reply) }
-    ensures said { result ≡ if_read entries read }
-    ensures told { IfOk result (λ found. IfSome found (λ e. MayBeTold e.event e.reply)) }
-{
-    let Ok((place, entry)) = read else {
-        return Err(JournalFault::Line);
-    };
-    if place == entries {
-        Ok(Some(entry))
-    } else {
-        Err(JournalFault::Line)
-    }
-}
-
-/// What a line says after so many entries: the next entry, or nothing where it is blank; or the line's
+/// Whether a line says the next entry after so many, which the reader then lends; a blank line says none. Or the line's
 /// fault. Bytes that are no text take no memory.
-pub(crate) fn entry_said(
+pub(crate) fn says_entry(
     alloc: Global,
     lines: &mut LineReader,
     entries: u64,
     line: &[u8],
-) -> Result<Result<Option<Entry>, JournalFault>, AllocError>
-    ensures said { IfOk result (λ said. said ≡ entry_said entries line.now) }
-    ensures told { IfOk result (λ said. IfOk said (λ found. IfSome found (λ e. MayBeTold e.event e.reply))) }
+) -> Result<Result<bool, JournalFault>, AllocError>
+    ensures said { IfOk result (λ said. Gives (entry_if lines.new) said (entry_said entries line.now)) }
+    ensures told { IfOk result (λ said. IfOk said (λ found. IsTrue found → MayBeTold lines.new.1.event lines.new.1.reply)) }
     ensures text { OnErr result (IsUtf8 line.now) }
 {
     if is_blank(line) {
-        return Ok(Ok(None));
+        return Ok(Ok(false));
     }
-    Ok(next_entry(entries, lines.read(alloc, line)?))
+    if lines.read(alloc, line)?.is_ok() && lines.place() == entries {
+        Ok(Ok(true))
+    } else {
+        Ok(Err(JournalFault::Line))
+    }
 }
 
 /// An audit that has come to the end of some entries: the cluster that they lead to, and how many they
@@ -81,7 +66,7 @@ impl Audit {
         ensures taken { IfOk result (λ fits. TakesEntry self.old entry.now self.new fits) }
         ensures err { OnErr result (self.new ≡ self.old) }
     {
-        let reply = self.core.apply(entry.event)?;
+        let reply = self.core.answer(&entry.event)?;
         if !fits(entry, &reply) {
             return Ok(false);
         }
@@ -102,15 +87,15 @@ impl Audit {
         ensures err { OnErr result (self.new ≡ self.old) }
         ensures few { self.new.entries ≤ self.old.entries + 1 }
     {
-        match entry_said(alloc, lines, self.entries, line)? {
-            Ok(Some(entry)) => {
-                if self.take(&entry)? {
+        match says_entry(alloc, lines, self.entries, line)? {
+            Ok(true) => {
+                if self.take(lines.entry())? {
                     Ok(None)
                 } else {
                     Ok(Some(JournalFault::Differs))
                 }
             }
-            Ok(None) => Ok(None),
+            Ok(false) => Ok(None),
             Err(fault) => Ok(Some(fault)),
         }
     }

@@ -8,11 +8,12 @@ ghost use Rattle.ynl_tool.specs.Answering.{Answers, AnswersWhole, Finds, StepsOn
 ghost use Rattle.ynl_tool.specs.Audit.{journal_way};
 ghost use Rattle.ynl_tool.specs.Evidence.{evidence_answer, gathered_answer, IsGathering, NotesEntry, SeesEntry};
 ghost use Rattle.ynl_tool.specs.Input.{between, limit};
+ghost use Rattle.ynl_journal.specs.Journal.{entry};
 ghost use Rattle.ynl_lines.specs.Writing.{line_text};
 ghost use Rattle.ynl_tool.specs.Run.{line_of};
 ghost use Rattle.ynl_tool.specs.Running.{Writes};
 
-use crate::audit::entry_said;
+use crate::audit::says_entry;
 use crate::lines_in::{Lines, Next};
 use crate::lines_out::{hold_text, write_text};
 use crate::run::{Summary, ToolFault, report};
@@ -20,10 +21,10 @@ use std::alloc::Global;
 use std::io::{BufRead, Write};
 use ynl_core::NoMemory;
 use ynl_lines::{InputFault, JournalFault, LineReader, put_line};
-use ynl_model::Entry;
+use ynl_model::{Entry, Event, Reply};
 use ynl_queues::Config;
 use ynl_resource::{Label, Name};
-use ynl_view::{Track, see};
+use ynl_view::{Track, see_into};
 
 /// A tenant and a partition of a cluster of this configuration.
 #[derive(Drop)]
@@ -44,17 +45,18 @@ struct Gathering {
     line: Vec<u8>,
 }
 
-/// Adds the line of an entry to the text.
+/// Adds the line of an event and its reply to the text.
 fn hold_seen(
     place: u64,
-    seen: &Entry,
+    event: &Event,
+    reply: &Option<Reply>,
     line: &mut Vec<u8>,
     text: &mut Vec<u8>,
 ) -> Result<(), NoMemory>
-    requires { MayBeTold seen.now.event seen.now.reply }
-    ensures { OnOk result (text.new.items ≡ text.old.items ++ line_of (line_text place seen.now)) }
+    requires { MayBeTold event.now reply.now }
+    ensures { OnOk result (text.new.items ≡ text.old.items ++ line_of (line_text place (entry event.now reply.now))) }
 {
-    put_line(place, seen, line)?;
+    put_line(place, event, reply, line)?;
     hold_text(line, text)?;
     Ok(())
 }
@@ -73,33 +75,41 @@ impl Gathering {
     }
 
     /// Adds the line of what is seen of the next entry, if the view keeps it.
-    fn see_entry(&mut self, whose: &Tenancy, entry: Entry) -> Result<(), NoMemory>
-        requires { MayBeTold entry.event entry.reply }
-        ensures { SeesEntry whose.now entry self.old self.new result }
+    fn see_entry(&mut self, whose: &Tenancy, entry: &Entry) -> Result<(), NoMemory>
+        requires { MayBeTold entry.now.event entry.now.reply }
+        ensures { SeesEntry whose.now entry.now self.old self.new result }
     {
         let Tenancy {
             config,
             tenant,
             label,
         } = whose;
-        match see(config, tenant, label, &mut self.track, &entry.event) {
-            Ok(Some(event)) => {
-                let seen = Entry {
-                    event,
-                    reply: entry.reply,
-                };
-                hold_seen(self.entries, &seen, &mut self.line, &mut self.text)
-            }
-            Ok(None) => Ok(()),
+        let mut seen = entry.event;
+        match see_into(
+            config,
+            tenant,
+            label,
+            &mut self.track,
+            &entry.event,
+            &mut seen,
+        ) {
+            Ok(true) => hold_seen(
+                self.entries,
+                &seen,
+                &entry.reply,
+                &mut self.line,
+                &mut self.text,
+            ),
+            Ok(false) => Ok(()),
             Err(refused) => Err(refused),
         }
     }
 
     /// Takes the next entry.
-    fn take(&mut self, whose: &Tenancy, entry: Entry) -> Result<(), NoMemory>
-        requires told { MayBeTold entry.event entry.reply }
+    fn take(&mut self, whose: &Tenancy, entry: &Entry) -> Result<(), NoMemory>
+        requires told { MayBeTold entry.now.event entry.now.reply }
         requires few { self.old.entries < limit }
-        ensures { NotesEntry whose.now entry self.old self.new result }
+        ensures { NotesEntry whose.now entry.now self.old self.new result }
     {
         self.see_entry(whose, entry)?;
         self.entries += 1;
@@ -118,12 +128,12 @@ impl Gathering {
         ensures steps { StepsOn journal_way (IsGathering whose.now) self.old self.new line.now result }
         ensures few { IfOk result (λ _. self.new.entries ≤ self.old.entries + 1) }
     {
-        match entry_said(alloc, lines, self.entries, line)? {
-            Ok(Some(entry)) => {
-                self.take(whose, entry)?;
+        match says_entry(alloc, lines, self.entries, line)? {
+            Ok(true) => {
+                self.take(whose, lines.entry())?;
                 Ok(None)
             }
-            Ok(None) => Ok(None),
+            Ok(false) => Ok(None),
             Err(fault) => Ok(Some(fault)),
         }
     }

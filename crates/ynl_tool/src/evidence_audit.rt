@@ -1,9 +1,10 @@
 //! The audit of evidence that a tenant was handed.
 
 ghost use Rattle.std.specs.Prelude.{◌≡◌, ◌+◌, ◌<◌, ◌≤◌, [], IfOk, IsTrue};
+ghost use Rattle.ynl_lines.specs.Reading.{Gives};
 ghost use Rattle.ynl_model.specs.View.{is_sole};
 ghost use Rattle.ynl_tool.specs.Answering.{Answers, AnswersWhole, Finds, StepsOn};
-ghost use Rattle.ynl_tool.specs.Evidence.{evidence_way, fault_of, found_answer, placed_answer, placed_said, IsEvidenceAudit};
+ghost use Rattle.ynl_tool.specs.Evidence.{evidence_way, fault_of, found_answer, placed_answer, placed_if, placed_said, IsEvidenceAudit};
 ghost use Rattle.ynl_tool.specs.Input.{between, limit};
 
 use crate::audit::{Found, tell};
@@ -15,21 +16,20 @@ use std::io::{BufRead, Write};
 use ynl_core::NoMemory;
 use ynl_evidence::{Flaw, Trial};
 use ynl_lines::{JournalFault, LineReader};
-use ynl_model::Entry;
 
-/// What a line says: an entry with its place, or nothing where it is blank; or that it is bad.
-fn placed_said(
+/// Whether a line says an entry with its place, which the reader then lends; a blank line says none. Or that it is bad.
+fn says_placed(
     alloc: Global,
     lines: &mut LineReader,
     line: &[u8],
-) -> Result<Result<Option<(u64, Entry)>, JournalFault>, AllocError>
-    ensures { IfOk result (λ said. said ≡ placed_said line.now) }
+) -> Result<Result<bool, JournalFault>, AllocError>
+    ensures { IfOk result (λ said. Gives (placed_if lines.new) said (placed_said line.now)) }
 {
     if is_blank(line) {
-        return Ok(Ok(None));
+        return Ok(Ok(false));
     }
     match lines.read(alloc, line)? {
-        Ok(placed) => Ok(Ok(Some(placed))),
+        Ok(()) => Ok(Ok(true)),
         Err(_) => Ok(Err(JournalFault::Line)),
     }
 }
@@ -71,17 +71,20 @@ impl EvidenceAudit {
         ensures steps { StepsOn (evidence_way whose.now) (IsEvidenceAudit whose.now) self.old self.new line.now result }
         ensures few { IfOk result (λ _. self.new.entries ≤ self.old.entries + 1) }
     {
-        let (place, entry) = match placed_said(alloc, lines, line)? {
-            Ok(Some(placed)) => placed,
-            Ok(None) => return Ok(None),
+        match says_placed(alloc, lines, line)? {
+            Ok(true) => {}
+            Ok(false) => return Ok(None),
             Err(fault) => return Ok(Some(fault)),
-        };
+        }
         let Tenancy {
             config,
             tenant,
             label,
         } = whose;
-        if let Some(flaw) = self.trial.take(config, tenant, label, place, &entry)? {
+        let flaw = self
+            .trial
+            .take(config, tenant, label, lines.place(), lines.entry())?;
+        if let Some(flaw) = flaw {
             return Ok(Some(fault_of(flaw)));
         }
         self.entries += 1;

@@ -75,7 +75,7 @@ fn hold_line(
 {
     match entry.reply {
         Some(_) => {
-            put_line(place, entry, text)?;
+            put_line(place, &entry.event, &entry.reply, text)?;
             hold_text(text, held)
         }
         // No history has such an entry.

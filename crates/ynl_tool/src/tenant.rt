@@ -16,10 +16,10 @@ use std::alloc::Global;
 use std::io::{BufRead, Write};
 use ynl_core::{Core, NoMemory};
 use ynl_lines::{EventReader, InputFault, put_line};
-use ynl_model::{Entry, Event};
+use ynl_model::Event;
 use ynl_queues::Config;
 use ynl_resource::{Label, Name};
-use ynl_view::{Track, restrict, see};
+use ynl_view::{Track, restrict, see_into};
 
 /// How far a telling has come: the track after some events, and the tenant's cluster after those of
 /// them that its partition sees.
@@ -52,12 +52,8 @@ fn hold_event(
 ) -> Result<(), NoMemory>
     ensures { HoldsEvent held.old.items held.new.items core.old core.new place event.now result }
 {
-    let reply = core.apply(*event)?;
-    let entry = Entry {
-        event: *event,
-        reply: Some(reply),
-    };
-    put_line(place, &entry, text)?;
+    let reply = core.answer(event)?;
+    put_line(place, event, &Some(reply), text)?;
     hold_text(text, held)?;
     Ok(())
 }
@@ -75,11 +71,11 @@ fn hold_sight(
 ) -> Result<(), NoMemory>
     ensures { HoldsSight held.old.items held.new.items config.now tenant.now label.now stand.old stand.new place event.now result }
 {
-    match see(config, tenant, label, &mut stand.track, event) {
-        Ok(Some(seen)) => hold_event(&mut stand.core, place, &seen, text, held),
-        Ok(None) => Ok(()),
-        Err(NoMemory) => Err(NoMemory),
+    let mut seen = *event;
+    if see_into(config, tenant, label, &mut stand.track, event, &mut seen)? {
+        hold_event(&mut stand.core, place, &seen, text, held)?;
     }
+    Ok(())
 }
 
 /// Reads the next line again, and tells of its event.
@@ -99,7 +95,16 @@ fn hold_line(
 {
     match events.read(alloc, line) {
         Ok(Ok(())) => {
-            hold_sight(config, tenant, label, stand, place, events.event(), text, held)
+            hold_sight(
+                config,
+                tenant,
+                label,
+                stand,
+                place,
+                events.event(),
+                text,
+                held,
+            )
         }
         // No line that is kept has a fault.
         Ok(Err(_)) => Ok(()),

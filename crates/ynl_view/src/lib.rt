@@ -6,7 +6,7 @@ pub use picking::{copy_reply, pick};
 pub use restriction::restrict;
 pub use track::Track;
 pub use tracking::tracked_nodes;
-pub use viewing::{see, view};
+pub use viewing::{see, see_into, view};
 pub use views::View;
 
 mod exclusivity;

@@ -1,9 +1,9 @@
 //! The view of a list of events, and of one event after another.
 
 ghost use Rattle.std.specs.Prelude.{◌≡◌, ◌<◌, length, IfOk, OnOk, OnErr, All};
-ghost use Rattle.ynl_model.specs.View.{view, events_of, places_of, seen_of, track_step};
+ghost use Rattle.ynl_model.specs.View.{view, events_of, kept_if, places_of, seen_of, track_step};
 
-use crate::sights::seen_of;
+use crate::sights::narrow;
 use crate::track::Track;
 use crate::views::View;
 use std::alloc::Global;
@@ -11,6 +11,26 @@ use ynl_core::NoMemory;
 use ynl_model::Event;
 use ynl_queues::Config;
 use ynl_resource::{Label, Name};
+
+/// Makes of one more event, which `seen` holds, what the tenant's partition sees of it, by the track before it, and tells
+/// whether it sees anything. The track is then the one after it, or as before where memory is refused.
+pub fn see_into(
+    config: &Config,
+    tenant: &Name,
+    label: &Label,
+    track: &mut Track,
+    event: &Event,
+    seen: &mut Event,
+) -> Result<bool, NoMemory>
+    requires { seen.old ≡ event.now }
+    ensures seen { IfOk result (λ sees. kept_if sees seen.new ≡ seen_of tenant.now label.now config.now track.old event.now) }
+    ensures track { OnOk result (track.new ≡ track_step config.now track.old event.now) }
+    ensures err { OnErr result (track.new ≡ track.old) }
+{
+    let sees = narrow(tenant, label, config, track, event, seen);
+    track.step(config, event)?;
+    Ok(sees)
+}
 
 /// What the tenant's partition sees of one more event, by the track before it. The track is then the
 /// one after it, or as before where memory is refused.
@@ -25,9 +45,12 @@ pub fn see(
     ensures track { OnOk result (track.new ≡ track_step config.now track.old event.now) }
     ensures err { OnErr result (track.new ≡ track.old) }
 {
-    let seen = seen_of(tenant, label, config, track, event);
-    track.step(config, event)?;
-    Ok(seen)
+    let mut seen = *event;
+    if see_into(config, tenant, label, track, event, &mut seen)? {
+        Ok(Some(seen))
+    } else {
+        Ok(None)
+    }
 }
 
 /// What the tenant's partition sees of the events, in order and with their places.

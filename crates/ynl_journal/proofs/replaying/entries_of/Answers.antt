@@ -22,13 +22,13 @@ loop-i-preserved c =
     let more : take (i + 1) ps ≡ take i ps ++ p ∷ [] = take_more ps i false inside in
     let counted : length (take i ps) ≡ length (take i all) =
     length-take-le i ps (omega (arith, inside)) ∙ sym (length-take-le i all (omega (arith, inside, c.requires))) in
-    let step_is = c.in_ok-reply.ensures in
-    let grown = entry_grown c.loop-i.core c.answer.new.core (take i all) (take (i + 1) all) (take i ps) (take (i + 1) ps) event p r (written p r) counted was.1 step_is longer more refl in
+    let step_is = c.in_ok-reply.ensures.ok in
+    let grown = entry_grown c.loop-i.core c.answer.new.self (take i all) (take (i + 1) all) (take i ps) (take (i + 1) ps) event p r (written p r) counted was.1 step_is longer more refl in
     let pushed : c.push.new.self.items ≡ entries_after c.loop-i.core.config (take i all) (take i ps) ++ entry event (written p r) ∷ [] =
     c.in_ok-push.ensures.items ∙ ap (λ (x : Entry). c.loop-i.entries.items ++ x ∷ []) (c.entry_with.ensures ∙ ap (entry event) c.written.ensures)
     ∙ ap (λ (es : List Entry). es ++ entry event (written p r) ∷ []) was.2 in (
       ap (λ (w : World). w.config) step_is.left ∙ was.0,
-      state_grown c.loop-i.core c.answer.new.core (take i all) (take (i + 1) all) event r was.1 step_is longer,
+      state_grown c.loop-i.core c.answer.new.self (take i all) (take (i + 1) all) event r was.1 step_is longer,
       pushed ∙ sym (ap (λ (j : Journal). j.entries) grown),
     )
 

@@ -6,4 +6,4 @@ pub returns : goal.returns
 returns c =
     let seen = c.in_ok-see_entry.ensures in
     let counted : c.see_entry.new.self.entries + 1 ≡ c.args.self.now.entries + 1 = ap (λ n. n + 1) seen.1 in
-    (λ entries is. noted-push c.args.whose.now c.args.entry entries c.args.self.now _ is seen.0 counted seen.2, counted)
+    (λ entries is. noted-push c.args.whose.now c.args.entry.now entries c.args.self.now _ is seen.0 counted seen.2, counted)
