@@ -1,5 +1,6 @@
 //! The pieces of a text that is kept, added one by one. Names, labels, ids and numbers need no escape, so each stands in
-//! its text of JSON as it is.
+//! its text of JSON as it is. What is the same in every text comes as an array: its length is then known where it is
+//! copied, and no `memcpy` is called for it.
 
 ghost use Rattle.std.specs.Prelude.{◌≡◌, ◌++◌, OnOk, decimal};
 ghost use Rattle.json.specs.Print.{escape};
@@ -19,34 +20,31 @@ fn name_bytes(name: &Name) -> &[u8]
     name.as_bytes()
 }
 
-/// The bytes of a label's text.
-fn label_bytes(label: &Label) -> &[u8]
-    ensures text { result.now ≡ escape (label_text label.now) }
-    ensures sound { IsLabel label.now }
-{
-    match label {
-        Label::Unlabelled => b"",
-        Label::Named(name) => name_bytes(name),
-    }
-}
-
 /// Adds bytes.
-pub fn add(text: &mut Vec<u8>, more: &[u8]) -> Result<(), AllocError>
+pub fn add<const N: usize>(text: &mut Vec<u8>, more: &[u8; N]) -> Result<(), AllocError>
     ensures { OnOk result (text.new.items ≡ text.old.items ++ more.now) }
 {
     text.extend_from_slice(more)
 }
 
 /// Adds what stands before a text, and the text.
-pub fn add_text(text: &mut Vec<u8>, front: &[u8], more: &[u8]) -> Result<(), AllocError>
+pub fn add_text<const N: usize>(
+    text: &mut Vec<u8>,
+    front: &[u8; N],
+    more: &[u8],
+) -> Result<(), AllocError>
     ensures { OnOk result (text.new.items ≡ text.old.items ++ (front.now ++ more.now)) }
 {
-    add(text, front)?;
-    add(text, more)
+    text.extend_from_slice(front)?;
+    text.extend_from_slice(more)
 }
 
 /// Adds what stands before a name, and the name.
-pub fn add_name(text: &mut Vec<u8>, front: &[u8], name: &Name) -> Result<(), AllocError>
+pub fn add_name<const N: usize>(
+    text: &mut Vec<u8>,
+    front: &[u8; N],
+    name: &Name,
+) -> Result<(), AllocError>
     ensures added { OnOk result (text.new.items ≡ text.old.items ++ (front.now ++ escape name.now)) }
     ensures sound { IsName name.now }
 {
@@ -54,24 +52,52 @@ pub fn add_name(text: &mut Vec<u8>, front: &[u8], name: &Name) -> Result<(), All
 }
 
 /// Adds what stands before a label, and its text.
-pub fn add_label(text: &mut Vec<u8>, front: &[u8], label: &Label) -> Result<(), AllocError>
+pub fn add_label<const N: usize>(
+    text: &mut Vec<u8>,
+    front: &[u8; N],
+    label: &Label,
+) -> Result<(), AllocError>
     ensures added { OnOk result (text.new.items ≡ text.old.items ++ (front.now ++ escape (label_text label.now))) }
     ensures sound { IsLabel label.now }
 {
-    add_text(text, front, label_bytes(label))
+    match label {
+        Label::Unlabelled => add(text, front),
+        Label::Named(name) => add_name(text, front, name),
+    }
 }
 
 /// Adds what stands before a number, and its digits.
-pub fn add_number(text: &mut Vec<u8>, front: &[u8], number: u64) -> Result<(), AllocError>
+#[tactic(auto, using(crate::proofs::Escapes::escape_number))]
+pub fn add_number<const N: usize>(
+    text: &mut Vec<u8>,
+    front: &[u8; N],
+    number: u64,
+) -> Result<(), AllocError>
     ensures added { OnOk result (text.new.items ≡ text.old.items ++ (front.now ++ decimal number)) }
     ensures plain { escape (decimal number) ≡ decimal number }
 {
+    text.extend_from_slice(front)?;
+    if number < 10 {
+        text.push(b'0' + number as u8)?;
+        return Ok(());
+    }
+    add_digits(text, number)
+}
+
+/// Adds the digits of a number.
+fn add_digits(text: &mut Vec<u8>, number: u64) -> Result<(), AllocError>
+    ensures { OnOk result (text.new.items ≡ text.old.items ++ decimal number) }
+{
     let mut digits = Buffer::new();
-    add_text(text, front, digits.format(number).as_bytes())
+    text.extend_from_slice(digits.format(number).as_bytes())
 }
 
 /// Adds what stands before an id, and its text.
-pub fn add_id(text: &mut Vec<u8>, front: &[u8], id: &Id) -> Result<(), AllocError>
+pub fn add_id<const N: usize>(
+    text: &mut Vec<u8>,
+    front: &[u8; N],
+    id: &Id,
+) -> Result<(), AllocError>
     ensures added { OnOk result (text.new.items ≡ text.old.items ++ (front.now ++ escape (id_text id.now))) }
     ensures sound { IsLabel id.now.label }
 {
@@ -80,7 +106,11 @@ pub fn add_id(text: &mut Vec<u8>, front: &[u8], id: &Id) -> Result<(), AllocErro
 }
 
 /// Adds what stands before a path, and its text.
-pub fn add_path(text: &mut Vec<u8>, front: &[u8], path: &Path) -> Result<(), AllocError>
+pub fn add_path<const N: usize>(
+    text: &mut Vec<u8>,
+    front: &[u8; N],
+    path: &Path,
+) -> Result<(), AllocError>
     ensures added { OnOk result (text.new.items ≡ text.old.items ++ (front.now ++ escape (path_text path.now))) }
     ensures sound { OnOk result (IsPath path.now) }
 {

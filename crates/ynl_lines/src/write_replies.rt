@@ -76,7 +76,11 @@ fn add_held(text: &mut Vec<u8>, containers: &[Placed], asks: &[Pending]) -> Resu
 }
 
 /// Adds what stands before an amount, and the amount.
-fn add_amount(text: &mut Vec<u8>, front: &[u8], amount: Resource) -> Result<(), AllocError>
+fn add_amount<const N: usize>(
+    text: &mut Vec<u8>,
+    front: &[u8; N],
+    amount: Resource,
+) -> Result<(), AllocError>
     ensures { OnOk result (text.new.items ≡ text.old.items ++ (front.now ++ compact_text (spec.amount_data amount))) }
 {
     add(text, front)?;

@@ -6,7 +6,7 @@ use Rattle.ynl_lines.proofs.Escapes.{escape_id}
 use Rattle.ynl_lines.proofs.adding.add_id.Goals as goal
 
 pub returns-clause-added : goal.returns-clause-added
-returns-clause-added c =
+returns-clause-added g c =
     let id = c.args.id.now in
     on_ok_weaker c.add_number.result
     (λ e. join c.args.text.now.items _ c.args.front.now _ _ _ c.in_ok-add_label.ensures.added e

@@ -7,14 +7,15 @@ use Rattle.json.specs.Print.{escape, escape_byte}
 use Rattle.ynl_resource.specs.Texts.{path_text}
 use Rattle.ynl_resource.specs.NameText.{is_name}
 use Rattle.ynl_lines.proofs.Added.{path_added}
+use Rattle.ynl_lines.proofs.adding.add_path.Given.{Over}
 use Rattle.ynl_lines.proofs.adding.add_path.Goals as goal
 
 pub loop-name-init : goal.loop-name-init
 unfolding escape_byte
-loop-name-init c = record { added = λ old is. is; sound = refl }
+loop-name-init g c = record { added = λ old is. is; sound = refl }
 
 pub loop-name-preserved : goal.loop-name-preserved
-loop-name-preserved c =
+loop-name-preserved g c =
     let names = c.names-name-items.result.now in
     let i = c.loop-name.name-index in
     let x = c.name-item.result in
@@ -26,13 +27,13 @@ loop-name-preserved c =
           ∙ and_from _ _ c.loop-name.invariant.sound (and_from _ _ c.in_ok-add_name.ensures.sound refl);
     }
 
-all : (c : goal.After-loop-name) → take c.loop-name.name-index c.names-name-items.result.now ≡ c.args.path.now
-all c = take_all c.loop-name.name-index c.names-name-items.result.now (omega (arith, c.loop-name-test.false)) ∙ c.names-name-items.ensures.names
+all : (g : Over) (c : goal.After-loop-name g) → take c.loop-name.name-index c.names-name-items.result.now ≡ c.args.path.now
+all g c = take_all c.loop-name.name-index c.names-name-items.result.now (omega (arith, c.loop-name-test.false)) ∙ c.names-name-items.ensures.names
 
 pub returns-clause-added : goal.returns-clause-added
 unfolding path_text escape_byte
-returns-clause-added c =
-    c.loop-name.invariant.added c.args.text.now.items c.in_ok-add_text.ensures ∙ ap (λ names. c.args.text.now.items ++ (c.args.front.now ++ escape (join_with_byte 46 (codes "root" ∷ names)))) (all c)
+returns-clause-added g c =
+    c.loop-name.invariant.added c.args.text.now.items c.in_ok-add_text.ensures ∙ ap (λ names. c.args.text.now.items ++ (c.args.front.now ++ escape (join_with_byte 46 (codes "root" ∷ names)))) (all g c)
 
 pub returns-clause-sound : goal.returns-clause-sound
-returns-clause-sound c = (c.names-name-items.ensures.depth, sym (ap (list_all is_name) (all c)) ∙ c.loop-name.invariant.sound)
+returns-clause-sound g c = (c.names-name-items.ensures.depth, sym (ap (list_all is_name) (all g c)) ∙ c.loop-name.invariant.sound)
