@@ -1,6 +1,6 @@
 -- The queues just below one.
-use Rattle.std.proofs.Common.{◌≡◌, ℕ, zero, suc, ◌+◌, ◌-◌, ◌<◌, inl, inr, Bool, true, false, List, [], ◌∷◌, ◌++◌, length, take, get_or, Some, refl, sym, ap, subst, ◌∙◌, arith, length-append}
-use Rattle.std.specs.Prelude.{nat_lt, slice_get, option_and_then}
+use Rattle.std.proofs.Common.{◌≡◌, ℕ, zero, suc, ◌+◌, ◌-◌, ◌<◌, inl, inr, Bool, true, false, List, [], ◌∷◌, ◌++◌, length, map, take, get_or, Some, refl, sym, ap, subst, ◌∙◌, arith, length-append}
+use Rattle.std.specs.Prelude.{nat_lt}
 use Rattle.std.specs.List.{All, Contains, IsDistinct}
 use Rattle.std.specs.List.Sorted.{IsPermutation, IsStrictlyIncreasing, IsSortedByKey}
 use Rattle.std.specs.Option.{option_cmp}
@@ -14,7 +14,6 @@ use Rattle.std.proofs.lemmas.Map.Lookups.{exact_bytes}
 use Rattle.std.proofs.Math.Seq.{get_or-append_seam}
 use Rattle.std.proofs.lemmas.Bool.{cases_lt, ltb-true, ltb-false}
 use Rattle.std.proofs.lemmas.List.{get_or_append_left, get_or-map, length-map}
-use Rattle.std.proofs.lemmas.Option.{slice_get-get_or}
 use Rattle.std.proofs.lemmas.List.Elements.{All-push, Contains-append_left, Contains-append_right}
 use Rattle.std.proofs.lemmas.List.Sorted.{All-permutation, Contains-permutation}
 use Rattle.std.proofs.lemmas.Map.Keys.{IsDistinct-from_sorted, IsDistinct-IsPermutation, sorted_from_all_adjacent, sorted_from_strictly_increasing}
@@ -26,6 +25,7 @@ use Rattle.ynl_model.specs.Service.{last_name}
 use Rattle.ynl_laws.specs.Decided.{below}
 use Rattle.ynl_layout.specs.Paths.{AreChildren, HasNumber, IsChild, IsLine, IsTree, names_of, path_at}
 use Rattle.ynl_layout.specs.Building.{AreChildrenUpTo, name_in}
+use Rattle.ynl_layout.proofs.LastNames.{named}
 use Rattle.ynl_layout.proofs.Lines.{parted, take-front}
 
 -- two numbers that are the same
@@ -126,24 +126,20 @@ module _ (paths : List Path) (tree : IsTree paths) (queue : ℕ) (has : HasNumbe
 
   -- ---- once they are sorted
 
-  -- a child has a name
-  pub named : (child : ℕ) → IsChild paths queue child → name_in paths child ≡ Some (last_name (path_at paths child))
-  named zero h = absurd (omega (arith, ap length h.path, length-append (path_at paths queue) (last_name (path_at paths 0) ∷ [])))
-  named (suc k) h =
-      ap (λ i. option_and_then (λ (path : Path). slice_get path (length path - 1)) (slice_get paths i)) (omega arith)
-      ∙ ap (option_and_then (λ (path : Path). slice_get path (length path - 1))) (slice_get-get_or paths k root (omega (arith, h.there)))
-      ∙ ap (λ (path : Path). slice_get path (length path - 1)) h.path ∙ last-of (path_at paths queue) (last_name (path_at paths (suc k)))
-    where
-      last-of : (path : Path) (name : Name) → slice_get (path ++ name ∷ []) (length (path ++ name ∷ []) - 1) ≡ Some name
-      last-of path name =
-          slice_get-get_or (path ++ name ∷ []) (length (path ++ name ∷ []) - 1) name (omega (arith, length-append path (name ∷ [])))
-          ∙ ap (λ i. Some (get_or (path ++ name ∷ []) i name)) (omega (arith, length-append path (name ∷ []))) ∙ ap Some (get_or-append_seam path name [] name)
-
   -- two children of one name are one
   one-name : (a b : ℕ) → IsChild paths queue a → IsChild paths queue b → last_name (path_at paths a) ≡ last_name (path_at paths b) → a ≡ b
   one-name a b h k e = tree.apart a b h.there k.there (h.path ∙ ap (below (path_at paths queue)) e ∙ sym k.path)
 
-  module _ (numbers sorted : List ℕ) (are : AreChildrenUpTo paths queue (length (root ∷ paths)) numbers) (same : IsPermutation numbers sorted) (order : IsSortedByKey (name_in paths) (option_cmp name_order) sorted) where
+  -- a child is not root
+  pub below-root : (child : ℕ) → IsChild paths queue child → 0 < child
+  below-root zero h = absurd (omega (arith, ap length h.path, length-append (path_at paths queue) (last_name (path_at paths 0) ∷ [])))
+  below-root (suc k) h = omega arith
+
+  -- a child has its last name
+  pub child-named : (names : List Name) → names ≡ map last_name paths → (child : ℕ) → IsChild paths queue child → name_in names child ≡ Some (last_name (path_at paths child))
+  child-named names own child h = named paths names own child (below-root child h) h.there
+
+  module _ (names : List Name) (own : names ≡ map last_name paths) (numbers sorted : List ℕ) (are : AreChildrenUpTo paths queue (length (root ∷ paths)) numbers) (same : IsPermutation numbers sorted) (order : IsSortedByKey (name_in names) (option_cmp name_order) sorted) where
     each : All (IsChild paths queue) sorted
     each = All-permutation (IsChild paths queue) numbers sorted same are.each
 
@@ -170,7 +166,7 @@ module _ (paths : List Path) (tree : IsTree paths) (queue : ℕ) (has : HasNumbe
         second = each (k + 1) 0 inside
 
         not-less : is_lt (name_order (name b) (name a)) ≡ false
-        not-less = (λ i. is_lt (option_cmp name_order (sym (named b second) i) (sym (named a first) i))) ∙ order k 0 (omega arith) inside
+        not-less = (λ i. is_lt (option_cmp name_order (sym (child-named names own b second) i) (sym (child-named names own a first) i))) ∙ order k 0 (omega arith) inside
 
         go : (o : Ordering) → name_order (name a) (name b) ≡ o → name_order (name a) (name b) ≡ Less
         go Less e = e

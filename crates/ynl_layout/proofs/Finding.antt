@@ -1,5 +1,5 @@
 -- Queues are found by their names.
-use Rattle.std.proofs.Common.{◌≡◌, ℕ, ◌<◌, ◌≤◌, nat_eq, length-append, zero, suc, take, Bool, true, false, List, [], ◌∷◌, find, length, arith, get_or, Option, Some, None, refl, sym, ap, ◌∙◌, true≢false}
+use Rattle.std.proofs.Common.{◌≡◌, ℕ, ◌<◌, ◌≤◌, nat_eq, length-append, zero, suc, take, Bool, true, false, List, [], ◌∷◌, find, length, map, arith, get_or, Option, Some, None, refl, sym, ap, ◌∙◌, true≢false}
 use Rattle.std.specs.Prelude.{IfNone, IfSome}
 use Rattle.std.specs.List.{Contains}
 use Rattle.std.specs.Option.{option_map_or}
@@ -14,8 +14,8 @@ use Rattle.ynl_laws.specs.Decided.{below}
 use Rattle.ynl_laws.proofs.Lists.{Each-find, none-found, all-of, each-contained}
 use Rattle.ynl_laws.proofs.Names.{same-name_self, same-name_sym}
 use Rattle.ynl_layout.specs.Paths.{AreChildren, HasNoChild, HasNoNumber, HasNumber, HasParent, IsChild, IsChildOf, IsTree, path_at}
-use Rattle.ynl_layout.specs.Building.{is_named, name_in}
-use Rattle.ynl_layout.proofs.Children.{named}
+use Rattle.ynl_layout.specs.Building.{is_named}
+use Rattle.ynl_layout.proofs.Children.{child-named}
 
 -- a name put at the end of a path is its last
 last-of : (path : Path) (name : Name) → last_name (below path name) ≡ name
@@ -23,32 +23,26 @@ last-of [] name = refl
 last-of (x ∷ []) name = refl
 last-of (x ∷ y ∷ path) name = last-of (y ∷ path) name
 
-module _ (paths : List Path) (tree : IsTree paths) (queue : ℕ) (has : HasNumber paths queue) (numbers : List ℕ) (are : AreChildren paths queue numbers) (name : Name) where
+module _ (paths : List Path) (names : List Name) (own-names : names ≡ map last_name paths) (tree : IsTree paths) (queue : ℕ) (has : HasNumber paths queue) (numbers : List ℕ) (are : AreChildren paths queue numbers) (name : Name) where
   -- what is asked of a child's name
-  asked : (child : ℕ) → IsChild paths queue child → is_named paths name child ≡ same_name name (last_name (path_at paths child))
-  asked child is = ap (λ (o : Option Name). option_map_or (same_name name) o false) (named paths tree queue has child is)
+  asked : (child : ℕ) → IsChild paths queue child → is_named names name child ≡ same_name name (last_name (path_at paths child))
+  asked child is = ap (λ (o : Option Name). option_map_or (same_name name) o false) (child-named paths tree queue has names own-names child is)
 
   -- the child of a name is found
-  pub child-some : (o : Option ℕ) → o ≡ find (is_named paths name) numbers → IfSome o (IsChildOf paths queue name)
+  pub child-some : (o : Option ℕ) → o ≡ find (is_named names name) numbers → IfSome o (IsChildOf paths queue name)
   child-some None is = tt
   child-some (Some child) is =
-      let found = Each-find (Contains numbers) (is_named paths name) numbers (each-contained numbers) child (sym is) in
+      let found = Each-find (Contains numbers) (is_named names name) numbers (each-contained numbers) child (sym is) in
       let own : IsChild paths queue child = All-contains (IsChild paths queue) numbers child are.each found.0 in
       record { there = own.there; path = own.path ∙ ap (below (path_at paths queue)) (sym (same-name_sym name (last_name (path_at paths child)) (sym (asked child own) ∙ found.1))) }
 
   -- and where none is found there is none
-  pub child-none : (o : Option ℕ) → o ≡ find (is_named paths name) numbers → IfNone o (HasNoChild paths queue name)
+  pub child-none : (o : Option ℕ) → o ≡ find (is_named names name) numbers → IfNone o (HasNoChild paths queue name)
   child-none (Some child) is = tt
   child-none None is = λ child there path.
       let own : IsChild paths queue child = record { there = there; path = path ∙ ap (below (path_at paths queue)) (sym (ap last_name path ∙ last-of (path_at paths queue) name)) } in
-      let fails = All-contains (λ n. is_named paths name n ≡ false) numbers child (all-of (λ n. is_named paths name n ≡ false) numbers (none-found (is_named paths name) numbers (sym is))) (are.all child own) in
+      let fails = All-contains (λ n. is_named names name n ≡ false) numbers child (all-of (λ n. is_named names name n ≡ false) numbers (none-found (is_named names name) numbers (sym is))) (are.all child own) in
       true≢false (sym (asked child own ∙ ap (same_name name) (ap last_name path ∙ last-of (path_at paths queue) name) ∙ same-name_self name) ∙ fails)
-
--- a queue below root has its last name
-pub named-below : (paths : List Path) → IsTree paths → (n : ℕ) → 0 < n → HasNumber paths n → name_in paths n ≡ Some (last_name (path_at paths n))
-named-below paths tree n below there =
-    let up : HasParent paths n = tree.parents n below there in
-    named paths tree up.parent up.there n (record { there = there; path = up.above })
 
 -- ---- along the way to a queue
 

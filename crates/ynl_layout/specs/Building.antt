@@ -1,5 +1,6 @@
 -- Children of queues as they are gathered, one after another.
-use Rattle.std.specs.Prelude.{ℕ, ◌<◌, Bool, false, List, length, slice_get, ◌-◌, Option, option_and_then}
+use Rattle.std.specs.Prelude.{ℕ, ◌<◌, Bool, false, List, [], ◌∷◌, drop, map, slice_get, slice_index_or, ◌-◌, Option, Vec}
+use Rattle.std.specs.declared.alloc.Global.{Global}
 use Rattle.std.specs.Option.{option_map_or}
 use Rattle.ynl_resource.specs.Names.{same_name}
 use Rattle.std.specs.List.{All, Contains}
@@ -15,10 +16,18 @@ pub record AreChildrenUpTo (paths : List Path) (queue n : ℕ) (numbers : List �
   pub rising : IsStrictlyIncreasing numbers
   pub all : (child : ℕ) → child < n → IsChild paths queue child → Contains numbers child
 
--- the last name of a queue's path, by which siblings are sorted
-abbrev pub name_in : List Path → ℕ → Option Name
-name_in paths n = option_and_then (λ path. slice_get path (length path - 1)) (slice_get paths (n - 1))
+-- the path of a queue: the names of the queues on its line below root
+abbrev pub path_by : List Name → List ℕ → Path
+path_by names line = map (λ n. slice_index_or ([] ∷ names) n []) (drop 1 line)
+
+-- the paths of the queues below root
+unfoldable pub paths_by : List (Vec ℕ Global) → List Name → List Path
+paths_by lines names = map (λ line. path_by names line.items) (drop 1 lines)
+
+-- the last name of a queue below root, by which siblings are sorted
+abbrev pub name_in : List Name → ℕ → Option Name
+name_in names n = slice_get names (n - 1)
 
 -- whether a queue has this name
-abbrev pub is_named : List Path → Name → ℕ → Bool
-is_named paths name n = option_map_or (same_name name) (name_in paths n) false
+abbrev pub is_named : List Name → Name → ℕ → Bool
+is_named names name n = option_map_or (same_name name) (name_in names n) false

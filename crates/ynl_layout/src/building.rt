@@ -1,19 +1,36 @@
 //! How the numbers of queues are made.
 
-ghost use Rattle.std.specs.Prelude.{◌≡◌, ◌<◌, ◌^◌, ◌↔◌, List, ℕ, suc, length, find, IfOk, IsTrue};
+ghost use Rattle.std.specs.Prelude.{◌≡◌, ◌<◌, ◌^◌, ◌↔◌, List, ℕ, suc, length, map, find, IfOk, IsTrue};
 ghost use Rattle.ynl_resource.specs.declared.paths.Path.{Path as Names};
+ghost use Rattle.ynl_model.specs.Service.{last_name};
 ghost use Rattle.ynl_layout.specs.Paths.{AreChildren, AreLines, HasNumber, HaveChildren, IsChild, IsLine, IsTree, paths_of};
-ghost use Rattle.ynl_layout.specs.Building.{is_named, name_in};
+ghost use Rattle.ynl_layout.specs.Building.{is_named, name_in, paths_by};
 
 use std::alloc::{AllocError, Global};
 use ynl_queues::Config;
 use ynl_resource::{Name, Path};
 
-/// The paths of the queues below root.
-pub(crate) fn paths_of(alloc: Global, config: &Config) -> Result<Vec<Path>, AllocError>
-    ensures { IfOk result (λ paths. paths.items ≡ paths_of config.now) }
+/// The last name of a path below root.
+fn last_name(path: &Path) -> Name
+    requires { 0 < length path.now }
+    ensures { result ≡ last_name path.now }
 {
-    config.queues().iter().map(|row| row.path).collect(alloc)
+    match path.names().last() {
+        Some(name) => *name,
+        None => unreachable!(),
+    }
+}
+
+/// The last names of the queues below root.
+pub(crate) fn last_names(alloc: Global, config: &Config) -> Result<Vec<Name>, AllocError>
+    ensures { IfOk result (λ names. names.items ≡ map last_name (paths_of config.now)) }
+{
+    let rows = config.draft().queues();
+    let mut names = Vec::with_capacity(alloc, rows.len())?;
+    for row in rows {
+        names.push(last_name(&row.path))?;
+    }
+    Ok(names)
 }
 
 /// The line of the queue at a place in the configuration.
@@ -52,43 +69,44 @@ fn is_just_below(line: &[usize], queue: usize) -> bool
     line.len() > 1 && line[line.len() - 2] == queue
 }
 
-/// The last name of a queue's path. What is given for root does not matter, since it is below no queue.
-pub(crate) fn name_of(paths: &[Path], queue: usize) -> Option<Name>
-    ensures { result ≡ name_in paths.now queue }
+/// The last name of a queue. What is given for root does not matter, since it is below no queue.
+pub(crate) fn name_of(names: &[Name], queue: usize) -> Option<Name>
+    ensures { result ≡ name_in names.now queue }
 {
-    paths.get(queue.saturating_sub(1))?.names().last().copied()
+    names.get(queue.saturating_sub(1)).copied()
 }
 
 /// Whether a queue below root has this name.
-fn is_named(paths: &[Path], queue: usize, name: &Name) -> bool
-    ensures { result ≡ is_named paths.now name.now queue }
+fn is_named(names: &[Name], queue: usize, name: &Name) -> bool
+    ensures { result ≡ is_named names.now name.now queue }
 {
-    match name_of(paths, queue) {
+    match name_of(names, queue) {
         Some(other) => *name == other,
         None => false,
     }
 }
 
 /// Of some queues the first of a name, if there is one.
-pub(crate) fn child_of(paths: &[Path], children: &[usize], name: &Name) -> Option<usize>
-    ensures { result ≡ find (is_named paths.now name.now) children.now }
+pub(crate) fn child_of(names: &[Name], children: &[usize], name: &Name) -> Option<usize>
+    ensures { result ≡ find (is_named names.now name.now) children.now }
 {
     children
         .iter()
         .copied()
-        .find(|child| is_named(paths, *child, name))
+        .find(|child| is_named(names, *child, name))
 }
 
 /// The numbers of the queues just below one, in the order of their names.
 fn children_of(
     alloc: Global,
-    paths: &[Path],
+    names: &[Name],
     lines: &[Vec<usize>],
     queue: usize,
 ) -> Result<Vec<usize>, AllocError>
-    requires lines { AreLines paths.now lines.now }
-    requires queue { HasNumber paths.now queue }
-    ensures { IfOk result (λ children. AreChildren paths.now queue children.items) }
+    requires lines { AreLines (paths_by lines.now names.now) lines.now }
+    requires names { names.now ≡ map last_name (paths_by lines.now names.now) }
+    requires queue { HasNumber (paths_by lines.now names.now) queue }
+    ensures { IfOk result (λ children. AreChildren (paths_by lines.now names.now) queue children.items) }
 {
     let mut children = Vec::new(alloc);
     for child in 0..lines.len() {
@@ -96,22 +114,23 @@ fn children_of(
             children.push(child)?;
         }
     }
-    children.sort_by_key(|child| name_of(paths, *child))?;
+    children.sort_by_key(|child| name_of(names, *child))?;
     Ok(children)
 }
 
 /// The children of all queues.
 pub(crate) fn all_children(
     alloc: Global,
-    paths: &[Path],
+    names: &[Name],
     lines: &[Vec<usize>],
 ) -> Result<Vec<Vec<usize>>, AllocError>
-    requires { AreLines paths.now lines.now }
-    ensures { IfOk result (λ all. HaveChildren paths.now all.items) }
+    requires lines { AreLines (paths_by lines.now names.now) lines.now }
+    requires names { names.now ≡ map last_name (paths_by lines.now names.now) }
+    ensures { IfOk result (λ all. HaveChildren (paths_by lines.now names.now) all.items) }
 {
     let mut all = Vec::with_capacity(alloc, lines.len())?;
     for queue in 0..lines.len() {
-        all.push(children_of(alloc, paths, lines, queue)?)?;
+        all.push(children_of(alloc, names, lines, queue)?)?;
     }
     Ok(all)
 }

@@ -6,17 +6,17 @@ ghost use Rattle.ynl_model.specs.Service.{last_name};
 ghost use Rattle.ynl_laws.specs.Ways.{IsWay};
 ghost use Rattle.ynl_layout.specs.Paths.{AreChildren, CoverBelow, is_above, HasNoChild, HasNoNumber, HasNumber, IsChildOf, IsLine, IsNumberOf, IsTree, path_at, paths_of};
 
-use crate::building::{all_children, all_lines, child_of, name_of, paths_of};
+use crate::building::{all_children, all_lines, child_of, last_names, name_of};
 use std::alloc::{AllocError, Global};
 use std::marker::Model;
 use ynl_queues::Config;
-use ynl_resource::{Name, Path};
+use ynl_resource::Name;
 
 /// The queues of a configuration under numbers. Root has 0, and the others follow in the order of the
-/// configuration. A contract sees the paths of the queues below root.
+/// configuration. A contract sees the paths of the queues below root: the last names of those on the lines.
 #[derive(Drop)]
 pub struct Layout {
-    paths: Vec<Path>,
+    names: Vec<Name>,
     lines: Vec<Vec<usize>>,
     children: Vec<Vec<usize>>,
 }
@@ -24,11 +24,12 @@ pub struct Layout {
 impl Model for Layout {
     ghost use Rattle.std.specs.Prelude.{List};
     ghost use Rattle.ynl_resource.specs.declared.paths.Path.{Path};
+    ghost use Rattle.ynl_layout.specs.Building.{paths_by};
     ghost use Rattle.ynl_layout.specs.Fields.{IsLayout};
 
     ghost Value = { List Path };
 
-    ghost view = { λ a. a.paths.items };
+    ghost view = { λ a. paths_by a.lines.items a.names.items };
 
     ghost invariant = { IsLayout };
 }
@@ -39,10 +40,10 @@ impl Layout {
         ensures { IfOk result (λ layout. layout ≡ paths_of config.now) }
     {
         let lines = all_lines(alloc, config)?;
-        let paths = paths_of(alloc, config)?;
-        let children = all_children(alloc, &paths, &lines)?;
+        let names = last_names(alloc, config)?;
+        let children = all_children(alloc, &names, &lines)?;
         Ok(Layout {
-            paths,
+            names,
             lines,
             children,
         })
@@ -62,7 +63,7 @@ impl Layout {
         requires there { HasNumber self.now queue }
         ensures { result ≡ last_name (path_at self.now queue) }
     {
-        match name_of(&self.paths, queue) {
+        match name_of(&self.names, queue) {
             Some(name) => name,
             None => unreachable!(),
         }
@@ -92,7 +93,7 @@ impl Layout {
         ensures some { IfSome result (IsChildOf self.now queue name.now) }
         ensures none { IfNone result (HasNoChild self.now queue name.now) }
     {
-        child_of(&self.paths, self.children(queue), name)
+        child_of(&self.names, self.children(queue), name)
     }
 
     /// The number of a queue, if there is one of this path.
@@ -102,7 +103,7 @@ impl Layout {
     {
         let mut at = 0;
         for name in queue {
-            at = child_of(&self.paths, self.children(at), name)?;
+            at = child_of(&self.names, self.children(at), name)?;
         }
         Some(at)
     }

@@ -3,6 +3,6 @@ use Rattle.ynl_layout.proofs.building.all_children.Goals as goal
 
 pub returns : goal.returns
 returns c = record {
-  many = omega (arith, c.loop-queue.invariant.many, c.loop-queue-test.false, c.loop-queue.auto.queue-end, c.requires.many);
-  each = λ n d there. c.loop-queue.invariant.each n (omega (arith, there, c.loop-queue-test.false, c.requires.many)) d there;
+  many = omega (arith, c.loop-queue.invariant.many, c.loop-queue-test.false, c.loop-queue.auto.queue-end, c.requires.lines.many);
+  each = λ n d there. c.loop-queue.invariant.each n (omega (arith, there, c.loop-queue-test.false, c.requires.lines.many)) d there;
 }

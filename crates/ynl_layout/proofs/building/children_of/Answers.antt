@@ -2,14 +2,14 @@ use Rattle.std.proofs.Common.{◌+◌, sym, subst, ap, ◌∙◌, arith, rules}
 use mathlib.Core.Bool.{true≢false}
 use Rattle.std.proofs.lemmas.Fn.{always_returns_same}
 use Rattle.ynl_layout.specs.Paths.{HasNumber, IsLine}
-use Rattle.ynl_layout.specs.Building.{AreChildrenUpTo, name_in}
+use Rattle.ynl_layout.specs.Building.{AreChildrenUpTo, name_in, paths_by}
 use Rattle.ynl_layout.proofs.Children.{children-more, children-pass, sorted-children}
 use Rattle.ynl_layout.proofs.building.children_of.Goals as goal
 use Rattle.ynl_layout.proofs.building.children_of.Goals.{then-is_just_below+in_ok-push, else-is_just_below}
 
 pub loop-child-preserved : goal.loop-child-preserved
 loop-child-preserved c =
-    let paths = c.args.paths.now in
+    let paths = paths_by c.args.lines.now c.args.names.now in
     let tree = c.requires.lines.tree in
     let queue = c.args.queue in
     let child = c.loop-child.child in
@@ -24,6 +24,8 @@ loop-child-preserved c =
 
 pub returns : goal.returns
 returns c =
-    sorted-children c.args.paths.now c.requires.lines.tree c.args.queue c.requires.queue c.loop-child.children.items c.sort_by_key.new.self.items
-    (subst (λ n. AreChildrenUpTo c.args.paths.now c.args.queue n c.loop-child.children.items) (omega (arith, c.loop-child-test.false, c.loop-child.auto.child-end, c.requires.lines.many)) c.loop-child.invariant) c.in_ok-sort_by_key.ensures.permutation
-    (c.in_ok-sort_by_key.ensures.sorted (name_in c.args.paths.now) (always_returns_same _ _ _ (λ a r f' called. search rules)))
+    let names = c.args.names.now in
+    let paths = paths_by c.args.lines.now names in
+    sorted-children paths c.requires.lines.tree c.args.queue c.requires.queue names c.requires.names c.loop-child.children.items c.sort_by_key.new.self.items
+    (subst (λ n. AreChildrenUpTo paths c.args.queue n c.loop-child.children.items) (omega (arith, c.loop-child-test.false, c.loop-child.auto.child-end, c.requires.lines.many)) c.loop-child.invariant) c.in_ok-sort_by_key.ensures.permutation
+    (c.in_ok-sort_by_key.ensures.sorted (name_in names) (always_returns_same _ _ _ (λ a r f' called. search rules)))

@@ -1,11 +1,12 @@
 use Rattle.std.proofs.Common.{sym, subst, ◌∙◌, ap}
 use Rattle.ynl_layout.specs.Paths.{CoverBelow, HasNumber}
+use Rattle.ynl_layout.specs.Building.{paths_by}
 use Rattle.ynl_layout.proofs.Ways.{cover-below}
 use Rattle.ynl_layout.proofs.layout.Layout.children.Goals as goal
 
 pub returns-clause-below : goal.returns-clause-below
 returns-clause-below c =
-    let paths = c.self.inside.paths.items in
+    let paths = paths_by c.self.inside.lines.items c.self.inside.names.items in
     let lines = c.self.invariant.lines in
     let queue = c.args.queue in
     let has : HasNumber paths queue = subst (λ all. HasNumber all queue) (sym c.self.view_is) c.requires in

@@ -2,12 +2,13 @@ use Rattle.std.proofs.Common.{◌∷◌, sym, subst, ◌∙◌, ap}
 use Rattle.ynl_resource.specs.Names.{root}
 use Rattle.ynl_laws.specs.Ways.{IsWay}
 use Rattle.ynl_layout.specs.Paths.{HasNumber, is_above}
+use Rattle.ynl_layout.specs.Building.{paths_by}
 use Rattle.ynl_layout.proofs.Ways.{line-way}
 use Rattle.ynl_layout.proofs.layout.Layout.line.Goals as goal
 
 pub returns-clause-way : goal.returns-clause-way
 returns-clause-way c =
-    let paths = c.self.inside.paths.items in
+    let paths = paths_by c.self.inside.lines.items c.self.inside.names.items in
     let lines = c.self.invariant.lines in
     let has : HasNumber paths c.args.queue = subst (λ all. HasNumber all c.args.queue) (sym c.self.view_is) c.requires in
     subst (λ all. IsWay (root ∷ all) (is_above all c.args.queue) c.deref.result.now) c.self.view_is
