@@ -8,8 +8,8 @@ use Rattle.ynl_model.specs.Cluster.{opening}
 use Rattle.ynl_model.specs.View.{is_sole}
 use Rattle.ynl_config.specs.declared.faults.ConfigFault.{ConfigFault}
 use Rattle.ynl_tool.specs.declared.run.ToolFault.TheVariants.{NoMemory}
-use Rattle.ynl_tool.specs.declared.words.SequentialKind.{SequentialKind}
-use Rattle.ynl_tool.specs.declared.words.SequentialKind.TheVariants.{Run, Tenant, Audit, Evidence, AuditEvidence, Explain}
+use Rattle.ynl_words.specs.declared.words.SequentialKind.{SequentialKind}
+use Rattle.ynl_words.specs.declared.words.SequentialKind.TheVariants.{Run, Tenant, Audit, Evidence, AuditEvidence, Explain}
 use Rattle.ynl_tool.specs.Jobs.{Doing, Ending, IsIdle, DoesSequentialJob, DoesWith, EndsWithout, LivesJob, TellsJob, AnswersJob, tenancy}
 use Rattle.ynl_tool.specs.Input.{between}
 use Rattle.ynl_tool.proofs.Runs.{stops_at_once}

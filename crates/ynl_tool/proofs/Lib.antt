@@ -1,7 +1,6 @@
 pub mod Answerings
 pub mod Audited
 pub mod Audits
-pub mod Commands
 pub mod Evidences
 pub mod Explainings
 pub mod Handed

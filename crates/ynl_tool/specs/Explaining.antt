@@ -14,7 +14,7 @@ use Rattle.ynl_explain.specs.Sentences.{plain_text}
 use Rattle.ynl_explain.specs.Told.{told_text}
 use Rattle.ynl_lines.specs.declared.faults.LineFault.{LineFault}
 use Rattle.ynl_lines.specs.declared.faults.InputFault.TheVariants.{Script as InScript}
-use Rattle.ynl_tool.specs.declared.explaining.Question.{Question}
+use Rattle.ynl_words.specs.declared.words.Question.{Question}
 use Rattle.ynl_tool.specs.declared.run.ToolFault.{ToolFault}
 use Rattle.ynl_tool.specs.declared.run.ToolFault.TheVariants.{Read, Write, NoMemory, Unclosed}
 use Rattle.ynl_tool.specs.declared.run.Summary.{Summary}

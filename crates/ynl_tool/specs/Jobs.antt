@@ -26,11 +26,11 @@ use Rattle.ynl_tool.specs.Auditing.{AuditsJournal}
 use Rattle.ynl_tool.specs.Explaining.{Explains}
 use Rattle.ynl_tool.specs.Telling.{TellsTenant}
 use Rattle.ynl_tool.specs.Living.{Lives}
-use Rattle.ynl_tool.specs.declared.explaining.Question.{Question}
+use Rattle.ynl_words.specs.declared.words.Question.{Question}
 use Rattle.ynl_tool.specs.declared.jobs.JobRefusal.{JobRefusal}
 use Rattle.ynl_tool.specs.declared.jobs.JobRefusal.TheVariants.{Config, NotSole}
-use Rattle.ynl_tool.specs.declared.words.SequentialKind.{SequentialKind}
-use Rattle.ynl_tool.specs.declared.words.SequentialKind.TheVariants.{Run, Tenant, Audit, Evidence, AuditEvidence, Explain}
+use Rattle.ynl_words.specs.declared.words.SequentialKind.{SequentialKind}
+use Rattle.ynl_words.specs.declared.words.SequentialKind.TheVariants.{Run, Tenant, Audit, Evidence, AuditEvidence, Explain}
 
 -- how many bytes of a configuration are read at most: one more than it may have
 abbrev pub most_read : ℕ

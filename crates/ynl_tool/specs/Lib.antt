@@ -16,4 +16,3 @@ pub mod Run
 pub mod Running
 pub mod Script
 pub mod Telling
-pub mod Words

@@ -18,16 +18,8 @@ use ynl_explain::{plain_text, told_text};
 use ynl_lines::InputFault;
 use ynl_packed::Events;
 use ynl_queues::Config;
-use ynl_resource::Name;
 use ynl_waits::Explained;
-
-/// What is to be explained: why an application of a tenant waits, and in which form.
-#[derive(Clone, Copy, PartialEq, Eq)]
-pub struct Question {
-    pub tenant: Name,
-    pub app: Name,
-    pub form: Form,
-}
+use ynl_words::Question;
 
 /// A cluster that the events were applied to.
 fn cluster_after(alloc: Global, config: Config, events: &Events) -> Result<Core, NoMemory>

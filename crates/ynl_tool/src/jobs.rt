@@ -15,10 +15,8 @@ use crate::evidence_audit::audit_evidence_lines;
 use crate::explaining::explain_lines;
 use crate::lines_out::{write_text, write_three};
 use crate::live::{FreeGate, live_lines};
-use crate::live_words::Workers;
 use crate::run::{Summary, ToolFault, run_lines};
 use crate::tenant::tenant_lines;
-use crate::words::SequentialKind;
 use std::alloc::Global;
 use std::io::{BufRead, Write};
 use std::sync::Wait;
@@ -29,6 +27,7 @@ use ynl_config::{ConfigFault, read_config};
 use ynl_queues::Config;
 use ynl_resource::{Label, Name};
 use ynl_view::sole;
+use ynl_words::{SequentialKind, Workers};
 
 /// Why a job is not begun: nothing is read or written then.
 #[derive(Clone, Copy, Debug, PartialEq, Eq, Error)]

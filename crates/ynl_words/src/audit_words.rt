@@ -5,7 +5,7 @@ ghost use Rattle.clap.specs.Simple.{app_of};
 ghost use Rattle.clap.specs.Walk.{rule_of};
 ghost use Rattle.clap.specs.Words.{found_of, rows_of};
 ghost use Rattle.clap.specs.declared.builder.command.Command.TheViews.{out-Command as fields_of};
-ghost use Rattle.ynl_tool.specs.Words as spec;
+ghost use Rattle.ynl_words.specs.Words as spec;
 
 use crate::options::{label_option, partition_in, tenant_option, value_in, with_options};
 use crate::words::{Kind, SequentialKind};

@@ -5,11 +5,10 @@ ghost use Rattle.clap.specs.Simple.{app_of, new_app, with_rule};
 ghost use Rattle.clap.specs.Walk.{rule_of};
 ghost use Rattle.clap.specs.Words.{found_of, rows_of};
 ghost use Rattle.clap.specs.declared.builder.command.Command.TheViews.{out-Command as fields_of};
-ghost use Rattle.ynl_tool.specs.Words as spec;
+ghost use Rattle.ynl_words.specs.Words as spec;
 
-use crate::explaining::Question;
 use crate::options::{form_in, name_in, plain_option, tenant_option, value_in, with_options};
-use crate::words::{Kind, SequentialKind};
+use crate::words::{Kind, Question, SequentialKind};
 use clap::{Arg, ArgMatches, Command};
 use std::alloc::{AllocError, Global};
 

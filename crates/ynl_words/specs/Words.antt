@@ -11,12 +11,12 @@ use Rattle.clap.specs.declared.builder.value_parser.ValueParser.TheVariants.{Uns
 use Rattle.ynl_resource.specs.declared.names.Name.{Name}
 use Rattle.ynl_resource.specs.declared.labels.Label.{Label}
 use Rattle.ynl_resource.specs.Texts.{read_name, read_label}
-use Rattle.ynl_tool.specs.declared.explaining.Question.{Question}
-use Rattle.ynl_tool.specs.declared.words.Kind.{Kind}
+use Rattle.ynl_words.specs.declared.words.Question.{Question}
+use Rattle.ynl_words.specs.declared.words.Kind.{Kind}
 use Rattle.ynl_check.specs.declared.checking.Form.{Form}
 use Rattle.ynl_check.specs.declared.checking.Form.TheVariants.{Lines, Plain}
-use Rattle.ynl_tool.specs.declared.words.Kind.TheVariants.{Sequential, Check, Live}
-use Rattle.ynl_tool.specs.declared.words.SequentialKind.TheVariants.{Run, Tenant, Audit, Evidence, AuditEvidence, Explain}
+use Rattle.ynl_words.specs.declared.words.Kind.TheVariants.{Sequential, Check, Live}
+use Rattle.ynl_words.specs.declared.words.SequentialKind.TheVariants.{Run, Tenant, Audit, Evidence, AuditEvidence, Explain}
 
 -- the option `--config FILE`
 abbrev pub config_rule : Rule

@@ -1,7 +1,7 @@
 use Rattle.std.proofs.Common.{◌∙◌}
 use Rattle.clap.specs.Words.{found_of}
 use Rattle.clap.proofs.WalkLemmas.{first_value-rows}
-use Rattle.ynl_tool.proofs.options.value_in.Goals as goal
+use Rattle.ynl_words.proofs.options.value_in.Goals as goal
 
 pub returns : goal.returns
 returns c = c.get_str.ensures ∙ first_value-rows (found_of c.args.options.now) c.args.option.now

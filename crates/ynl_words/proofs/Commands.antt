@@ -27,11 +27,11 @@ use Rattle.clap.specs.declared.parser.matches.ArgMatches.{ArgMatches}
 use Rattle.clap.specs.declared.parser.matches.ArgMatches.TheViews.{out-SubCommand}
 use Rattle.clap.specs.declared.parser.matches.SubCommand.{SubCommand}
 use Rattle.clap.proofs.OnLiterals.{clap_on_literals}
-use Rattle.ynl_tool.specs.declared.words.Kind.TheVariants.{Sequential}
-use Rattle.ynl_tool.specs.declared.words.SequentialKind.TheVariants.{Run, Audit, AuditEvidence}
-use Rattle.ynl_tool.specs.declared.words.WordsFault.{WordsFault}
-use Rattle.ynl_tool.specs.declared.words.WordsFault.TheVariants.{Words, NoMemory}
-use Rattle.ynl_tool.specs.Words.{command, has_option, is_number, is_unpaired, label_in, name_in, number_of, kind_met, kind_of}
+use Rattle.ynl_words.specs.declared.words.Kind.TheVariants.{Sequential}
+use Rattle.ynl_words.specs.declared.words.SequentialKind.TheVariants.{Run, Audit, AuditEvidence}
+use Rattle.ynl_words.specs.declared.words.WordsFault.{WordsFault}
+use Rattle.ynl_words.specs.declared.words.WordsFault.TheVariants.{Words, NoMemory}
+use Rattle.ynl_words.specs.Words.{command, has_option, is_number, is_unpaired, label_in, name_in, number_of, kind_met, kind_of}
 
 pub taken : (words : List Text) → drop 1 words ≡ codes "run" ∷ [] → takes command words ≡ true
 unfolding clap_on_literals

@@ -12,13 +12,12 @@ ghost use Rattle.clap.specs.Values.{kind_of};
 ghost use Rattle.clap.specs.declared.error.Error.{Error};
 ghost use Rattle.clap.specs.Words.{found_of, rows_of};
 ghost use Rattle.clap.specs.declared.builder.command.Command.TheViews.{out-Command as fields_of};
-ghost use Rattle.ynl_tool.specs.Words as spec;
-ghost use Rattle.ynl_tool.specs.declared.words.WordsFault.TheVariants.{Words, BadName, Unpaired, NoMemory};
+ghost use Rattle.ynl_words.specs.Words as spec;
+ghost use Rattle.ynl_words.specs.declared.words.WordsFault.TheVariants.{Words, BadName, Unpaired, NoMemory};
 
 use crate::audit_words::{audit_command, audit_kind, evidence_command, evidence_kind, is_unpaired};
 use crate::check_words::{check_command, check_kind};
 use crate::explain_words::{explain_command, explain_kind};
-use crate::explaining::Question;
 use crate::live_words::{Workers, live_command, live_kind};
 use crate::options::{
     config_option, label_option, partition_in, tenant_option, value_in, with_options,
@@ -29,6 +28,14 @@ use std::alloc::{AllocError, Global};
 use thiserror::Error;
 use ynl_check::Form;
 use ynl_resource::{Label, Name};
+
+/// What is to be explained: why an application of a tenant waits, and in which form.
+#[derive(Clone, Copy, PartialEq, Eq)]
+pub struct Question {
+    pub tenant: Name,
+    pub app: Name,
+    pub form: Form,
+}
 
 /// What the program is asked to do on one thread: such a job waits for nothing but its input.
 #[derive(Clone, Copy, PartialEq, Eq)]
@@ -85,7 +92,7 @@ pub enum WordsFault {
 
 impl From<AllocError> for WordsFault {
     ghost use Rattle.std.specs.Prelude.{◌≡◌};
-    ghost use Rattle.ynl_tool.specs.declared.words.WordsFault.TheVariants.{NoMemory};
+    ghost use Rattle.ynl_words.specs.declared.words.WordsFault.TheVariants.{NoMemory};
 
     ghost from_gives = { λ _ e. e ≡ NoMemory };
 
@@ -98,7 +105,7 @@ impl From<clap::Error> for WordsFault {
     ghost use Rattle.std.specs.Prelude.{◌≡◌, ◌≢◌, ◌⊎◌};
     ghost use Rattle.clap.specs.Values.{kind_of};
     ghost use Rattle.clap.specs.declared.error.kind.ErrorKind.TheVariants.{OutOfMemory};
-    ghost use Rattle.ynl_tool.specs.declared.words.WordsFault.TheVariants.{Words, NoMemory};
+    ghost use Rattle.ynl_words.specs.declared.words.WordsFault.TheVariants.{Words, NoMemory};
 
     ghost from_gives = { λ error e. ((kind_of error ≡ OutOfMemory) × (e ≡ NoMemory)) ⊎ ((kind_of error ≢ OutOfMemory) × (e ≡ Words error)) };
 

@@ -1,17 +1,17 @@
 use Rattle.std.proofs.Common.{◌≡◌, true, false, is_some, IfErr, Some, None, rules, map, option_and_then, string_bytes, ap, sym, subst, ◌∙◌}
 use Rattle.std.proofs.lemmas.Result.{err_from_is_err_and}
-use Rattle.ynl_tool.specs.declared.words.WordsFault.TheVariants.{Words, NoMemory}
+use Rattle.ynl_words.specs.declared.words.WordsFault.TheVariants.{Words, NoMemory}
 use Rattle.clap.specs.Values.{kind_of}
 use Rattle.clap.specs.Kinds.{HasKind, IsAmong}
 use Rattle.clap.specs.Faults.{fault_of, is_simple_and_free}
 use Rattle.clap.specs.declared.error.Error.{Error}
 use Rattle.clap.specs.Takes.{takes}
 use Rattle.clap.specs.Words.{found_of, rows_of}
-use Rattle.ynl_tool.specs.declared.words.Kind.TheVariants.{Sequential}
-use Rattle.ynl_tool.specs.declared.words.SequentialKind.TheVariants.{Run}
-use Rattle.ynl_tool.specs.Words.{command, kind_met, file_met, kind_of as words_kind}
-use Rattle.ynl_tool.proofs.Commands.{taken, command_free, wants_memory, told_by_kind, asks_run, met_of, unpaired-none}
-use Rattle.ynl_tool.proofs.words.parse_words.Goals as goal
+use Rattle.ynl_words.specs.declared.words.Kind.TheVariants.{Sequential}
+use Rattle.ynl_words.specs.declared.words.SequentialKind.TheVariants.{Run}
+use Rattle.ynl_words.specs.Words.{command, kind_met, file_met, kind_of as words_kind}
+use Rattle.ynl_words.proofs.Commands.{taken, command_free, wants_memory, told_by_kind, asks_run, met_of, unpaired-none}
+use Rattle.ynl_words.proofs.words.parse_words.Goals as goal
 
 pub returns-in_err-matches-clause-run : goal.returns-in_err-matches-clause-run
 returns-in_err-matches-clause-run c = λ same.

@@ -4,7 +4,7 @@ ghost use Rattle.std.specs.Prelude.{◌≡◌, IfOk, codes, false};
 ghost use Rattle.clap.specs.Simple.{app_of, new_app, with_rule};
 ghost use Rattle.clap.specs.Words.{found_of, rows_of};
 ghost use Rattle.clap.specs.declared.builder.command.Command.TheViews.{out-Command as fields_of};
-ghost use Rattle.ynl_tool.specs.Words as spec;
+ghost use Rattle.ynl_words.specs.Words as spec;
 
 use crate::options::{config_option, form_in, plain_option, value_in};
 use crate::words::Kind;
