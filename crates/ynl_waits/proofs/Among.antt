@@ -1,9 +1,8 @@
 -- What is among the elements of a list, and of one that is filtered, mapped, joined or flattened.
-use Rattle.std.proofs.Common.{◌≡◌, ◌⊎◌, inl, inr, not, ◌||◌, ◌==◌, Bool, true, false, cond, List, [], ◌∷◌, ◌++◌, length, map, filter, find, Some, refl, sym, ap, subst, ◌∙◌, arith}
+use Rattle.std.proofs.Common.{◌≡◌, ◌⊎◌, inl, inr, not, ◌||◌, ◌==◌, Bool, true, false, cond, List, [], ◌∷◌, ◌++◌, length, map, filter, find, Some, refl, sym, ap, subst, ◌∙◌, rules}
 use Rattle.std.specs.Prelude.{flat_map}
 use Rattle.std.specs.List.{AllByRecursion, Contains, list_any}
 use Rattle.std.proofs.lemmas.Bool.{or_left, or_right}
-use Rattle.std.proofs.lemmas.Bool.Decides.{nat_tests}
 use Rattle.std.proofs.lemmas.List.Elements.{All-contains}
 use Rattle.std.proofs.lemmas.List.Folds.{list_any-append}
 use mathlib.Core.Bool.{true≢false}
@@ -74,7 +73,7 @@ among-flat f z y (x ∷ xs) (inr k) m = among-right z (f x) (flat_map f xs) (amo
 
 pub not-empty : {X : Type 0} (y : X) (xs : List X) → IsAmong y xs → not (length xs == 0) ≡ true
 not-empty y [] k = absurd k
-not-empty y (x ∷ xs) k = grind (arith, nat_tests)
+not-empty y (x ∷ xs) k = search rules
 
 -- what passes a test that any passes
 pub any-among : {X : Type 0} (p : X → Bool) (xs : List X) → list_any p xs ≡ true → (x : X) × IsAmong x (filter p xs)

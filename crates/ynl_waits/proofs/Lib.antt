@@ -1,5 +1,6 @@
 pub mod Shared
 pub mod Spots
+pub mod Loops
 pub mod Among
 pub mod Requests
 pub mod Placing
