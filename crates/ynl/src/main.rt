@@ -10,8 +10,8 @@ use std::sync::Wait;
 use std::thread::Threads;
 use std::{env, io};
 use ynl_tool::{
-    BUILT_IN, Form, Job, Kind, SequentialKind, ToolFault, WordsFault, Workers, execute_check,
-    execute_live, execute_sequential, fault_of, parse_words, read_text, tell,
+    BUILT_IN, Form, HashSeed, Job, Kind, SequentialKind, ToolFault, WordsFault, Workers,
+    execute_check, execute_live, execute_sequential, fault_of, parse_words, read_text, tell,
 };
 
 fn main(rt: HostRuntime) -> ExitCode {
@@ -82,6 +82,15 @@ fn open_inputs(rt: &HostRuntime, config: Option<&str>) -> Result<Inputs, ToolFau
     }
 }
 
+/// Keys of this run's own, so that nobody can choose names that are slow to look up. A system without random bytes
+/// gets the fixed ones: no answer depends on them.
+fn seed_of(rt: &HostRuntime) -> HashSeed {
+    match HashSeed::random(rt) {
+        Ok(seed) => seed,
+        Err(_) => HashSeed::fixed(),
+    }
+}
+
 /// Does a job that needs one thread. Without a bound `Wait` it is proved to return.
 fn work(rt: &HostRuntime, kind: SequentialKind, config: Option<&str>) -> ExitCode {
     let mut errors = rt.stderr();
@@ -91,6 +100,7 @@ fn work(rt: &HostRuntime, kind: SequentialKind, config: Option<&str>) -> ExitCod
     };
     let status = execute_sequential(
         rt.alloc(),
+        seed_of(rt),
         kind,
         &inputs.text,
         &mut inputs.reader,
@@ -128,6 +138,7 @@ fn work_live<T: Threads + Wait + Sync>(
     let status = execute_live(
         threads,
         rt.alloc(),
+        seed_of(rt),
         workers,
         rounds,
         &inputs.text,

@@ -10,7 +10,7 @@ use ynl_config::built_in;
 use ynl_journal::audit;
 use ynl_live::{Closed, Live, Receipts, Seat, close};
 use ynl_model::Event;
-use ynl_resource::{Label, Name, Size};
+use ynl_resource::{HashSeed, Label, Name, Size};
 
 /// A node with a seat of its own, the receipts of its calls, and why it gave up, if it did.
 #[derive(Drop)]
@@ -52,7 +52,8 @@ impl Node {
 
 fn main(rt: HostRuntime) -> anyhow::Result<()> {
     let alloc = rt.alloc();
-    let (live, seat) = Live::open(alloc, built_in(alloc)?)?;
+    let config = built_in(alloc)?.with_seed(HashSeed::random(&rt)?);
+    let (live, seat) = Live::open(alloc, config)?;
     let mut nodes = Vec::new(alloc);
     for name in ["g1", "g2", "g3", "g4"] {
         nodes.push(Node::new(alloc, name, seat.split())?)?;

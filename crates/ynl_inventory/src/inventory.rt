@@ -79,7 +79,7 @@ impl Inventory {
     {
         let draft = config.draft();
         let partitions = partitions_of(alloc, draft.labels())?;
-        let tenants = no_submissions(alloc, draft.queues().len() + 1)?;
+        let tenants = no_submissions(alloc, draft.queues().len() + 1, config.seed())?;
         let layout = Layout::new(alloc, config)?;
         // Opens the layout, whose paths are a tree.
         let _ = layout.len();

@@ -9,7 +9,7 @@ use crate::partition::Partition;
 use std::alloc::{AllocError, Global};
 use ynl_container_table::Containers;
 use ynl_labels::Labels;
-use ynl_resource::Label;
+use ynl_resource::{HashSeed, Label};
 use ynl_submissions::Submissions;
 
 /// The partition of a label, without containers.
@@ -42,13 +42,17 @@ pub(crate) fn partitions_of(alloc: Global, labels: &Labels) -> Result<Vec<Partit
 }
 
 /// No submissions, for each of so many tenants.
-pub(crate) fn no_submissions(alloc: Global, count: usize) -> Result<Vec<Submissions>, AllocError>
+pub(crate) fn no_submissions(
+    alloc: Global,
+    count: usize,
+    seed: HashSeed,
+) -> Result<Vec<Submissions>, AllocError>
     ensures { IfOk result (λ tenants.
         map (λ listing. listing.entries) tenants.items ≡ replicate count []) }
 {
     let mut tenants = Vec::new(alloc);
     for _i in 0..count {
-        tenants.push(Submissions::new(alloc))?;
+        tenants.push(Submissions::new(alloc, seed))?;
     }
     Ok(tenants)
 }

@@ -11,19 +11,20 @@ use crate::rows::copy_within;
 use std::alloc::{AllocError, Global};
 use std::marker::Model;
 use std::ops::Deref;
-use ynl_resource::Name;
+use ynl_resource::{HashSeed, Name};
 
 /// What does not change while a cluster runs: the labels, the queues below root, the most containers
 /// that a heartbeat places, and the largest request. No two labels have one name, and the queues are a
-/// tree. A draft has its readers.
+/// tree. A draft has its readers. What a cluster hashes names with is kept beside it, which no contract sees.
 pub struct Config {
     draft: Draft,
+    seed: HashSeed,
 }
 
 // By hand, so that crates above call it: one that is derived is proved anew in each of them, with all that it holds.
 impl Drop for Config {
     fn drop(self) {
-        let Config { draft: _ } = self;
+        let Config { draft: _, seed: _ } = self;
     }
 }
 
@@ -49,12 +50,29 @@ impl Deref for Config {
 }
 
 impl Config {
-    /// The configuration of a draft.
+    /// The configuration of a draft, with a fixed seed.
     pub(crate) fn new(draft: Draft) -> Config
         requires { HasTree draft }
         ensures { result ≡ draft }
     {
-        Config { draft }
+        Config {
+            draft,
+            seed: HashSeed::fixed(),
+        }
+    }
+
+    /// The same configuration for a cluster that hashes names with this seed.
+    pub fn with_seed(self, seed: HashSeed) -> Config
+        ensures { result ≡ self }
+    {
+        let mut config = self;
+        config.seed = seed;
+        config
+    }
+
+    /// What a cluster of this configuration hashes names with.
+    pub fn seed(&self) -> HashSeed {
+        self.seed
     }
 
     /// What the configuration has, as a draft.
@@ -71,6 +89,7 @@ impl Config {
     {
         Ok(Config {
             draft: self.draft.copy(alloc)?,
+            seed: self.seed,
         })
     }
 
@@ -86,7 +105,10 @@ impl Config {
             self.draft.containers_per_heartbeat(),
             self.draft.maximum_allocation(),
         )?;
-        Ok(Config { draft })
+        Ok(Config {
+            draft,
+            seed: self.seed,
+        })
     }
 
     /// The places, in the configuration's order from 0, of the queues on the way to the queue that stands

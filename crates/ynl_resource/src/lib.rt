@@ -12,6 +12,7 @@ pub use ranges::{
     MOST_NODES, MOST_QUEUES, MOST_VCORES, WHOLE,
 };
 pub use refusals::Refusal;
+pub use seeds::HashSeed;
 
 mod amounts;
 mod cuts;
@@ -22,3 +23,4 @@ mod paths;
 mod ranges;
 mod refusal_words;
 mod refusals;
+mod seeds;

@@ -8,7 +8,7 @@ use indexmap::IndexMap;
 use std::alloc::{AllocError, Global};
 use std::marker::Model;
 use std::ops::Index;
-use ynl_resource::Name;
+use ynl_resource::{HashSeed, Name};
 
 /// An application that was submitted.
 #[derive(Clone, Copy)]
@@ -20,12 +20,11 @@ pub struct Submission {
 }
 
 /// The applications that were submitted to a tenant. A name is used for good. An application's turn is how many were
-/// submitted before it. It is found by its name or its turn in constant time. Names are hashed with no secret: a
-/// tenant chooses its own, and so can slow its own look-ups only. A contract sees the submissions under their names,
-/// in the order of submission, and how many more take no memory.
+/// submitted before it. It is found by its name or its turn in constant time. A contract sees the submissions under
+/// their names, in the order of submission, and how many more take no memory.
 #[derive(Drop)]
 pub struct Submissions {
-    by_name: IndexMap<Key, Submission>,
+    by_name: IndexMap<Key, Submission, HashSeed>,
 }
 
 impl Model for Submissions {
@@ -41,12 +40,12 @@ impl Model for Submissions {
 }
 
 impl Submissions {
-    /// No submissions. It takes no memory.
-    pub fn new(alloc: Global) -> Submissions
+    /// No submissions, whose names are hashed with this seed. It takes no memory.
+    pub fn new(alloc: Global, seed: HashSeed) -> Submissions
         ensures { result.entries ≡ [] }
     {
         Submissions {
-            by_name: IndexMap::new(alloc),
+            by_name: IndexMap::with_hasher(alloc, seed),
         }
     }
 

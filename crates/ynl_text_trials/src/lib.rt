@@ -1,5 +1,5 @@
-//! Tests of what no text shows of the lower crates: rosters, slots, firsts, lanes, limits, amounts and paths, labels, queues,
-//! configurations, and lines and their numbers, most of them with memory refused. The crates themselves have none, since a crate with tests is proved twice.
+//! Tests of what no text shows of the lower crates: rosters, slots, firsts, lanes, limits, amounts and paths, seeds, labels,
+//! queues, configurations, and lines and their numbers, most of them with memory refused. The crates themselves have none, since a crate with tests is proved twice.
 #![tactic(auto)]
 
 #[cfg(test)]
@@ -30,6 +30,8 @@ mod queues;
 mod ranges;
 #[cfg(test)]
 mod rosters;
+#[cfg(test)]
+mod seeds;
 #[cfg(test)]
 mod slots;
 #[cfg(test)]

@@ -4,7 +4,7 @@ ghost use Rattle.std.specs.Prelude.{◌<◌, OnOk};
 
 use std::process::Abort;
 use std::test::Fail;
-use ynl_resource::Name;
+use ynl_resource::{HashSeed, Name};
 use ynl_submissions::Submissions;
 
 fn name(text: &str) -> Result<Name, Fail> {
@@ -62,7 +62,7 @@ fn finish(submissions: &mut Submissions, turn: u32) {
 
 #[test]
 fn names_are_used_for_good_at_the_second_try(rt: HostRuntime) -> Result<(), Fail> {
-    let mut submissions = Submissions::new(rt.alloc());
+    let mut submissions = Submissions::new(rt.alloc(), HashSeed::fixed());
     submit_and_finish(&rt, &mut submissions)
 }
 

@@ -25,7 +25,7 @@ use thiserror::Error;
 use ynl_check::{Form, Verdict};
 use ynl_config::{ConfigFault, read_config};
 use ynl_queues::Config;
-use ynl_resource::{Label, Name};
+use ynl_resource::{HashSeed, Label, Name};
 use ynl_view::sole;
 use ynl_words::{SequentialKind, Workers};
 
@@ -172,14 +172,14 @@ fn do_job<R: BufRead, W: Write>(
     }
 }
 
-/// The configuration that a text means; or how a job ends that has none, since it is not begun then.
-fn read_job_config(alloc: Global, text: &[u8]) -> Result<Config, Ending>
+/// The configuration that a text means, with this seed; or how a job ends that has none, since it is not begun then.
+fn read_job_config(alloc: Global, seed: HashSeed, text: &[u8]) -> Result<Config, Ending>
     ensures config { IfOk result (λ config. config_of text.now ≡ Ok config) }
     ensures accepted { IfOk result (λ config. is_accepted config ≡ true) }
     ensures none { IfErr result (λ ended. EndsWithout (config_of text.now) ended) }
 {
     match read_config(alloc, text) {
-        Ok(Ok(config)) => Ok(config),
+        Ok(Ok(config)) => Ok(config.with_seed(seed)),
         Ok(Err(fault)) => Err(Ok(Err(JobRefusal::Config(fault)))),
         Err(_) => Err(Err(ToolFault::NoMemory)),
     }
@@ -188,6 +188,7 @@ fn read_job_config(alloc: Global, text: &[u8]) -> Result<Config, Ending>
 /// Does the job with the configuration that a text means. Where it means none nothing is done.
 fn do_text<R: BufRead, W: Write>(
     alloc: Global,
+    seed: HashSeed,
     kind: SequentialKind,
     text: &[u8],
     reader: &mut R,
@@ -195,7 +196,7 @@ fn do_text<R: BufRead, W: Write>(
 ) -> Ending
     ensures { DoesText (between (R.remaining reader.old) (R.remaining reader.new)) (between (W.contents writer.old) (W.contents writer.new)) (DoesSequentialJob true kind) text.now result }
 {
-    match read_job_config(alloc, text) {
+    match read_job_config(alloc, seed, text) {
         Ok(config) => do_job(alloc, kind, config, reader, writer),
         Err(ended) => ended,
     }
@@ -205,6 +206,7 @@ fn do_text<R: BufRead, W: Write>(
 fn do_live_text<T: Threads + Wait + Sync, R: BufRead, W: Write>(
     rt: &T,
     alloc: Global,
+    seed: HashSeed,
     workers: Workers,
     rounds: u64,
     text: &[u8],
@@ -213,7 +215,7 @@ fn do_live_text<T: Threads + Wait + Sync, R: BufRead, W: Write>(
 ) -> Ending
     ensures { DoesText (between (R.remaining reader.old) (R.remaining reader.new)) (between (W.contents writer.old) (W.contents writer.new)) (LivesJob rounds) text.now result }
 {
-    let config = match read_job_config(alloc, text) {
+    let config = match read_job_config(alloc, seed, text) {
         Ok(config) => config,
         Err(ended) => return ended,
     };
@@ -242,9 +244,11 @@ fn tell_ending<E: Write>(errors: &mut E, ended: Ending) -> u8
 /// Does the job, which needs one thread, with the configuration that the text means, and gives the exit
 /// status: 0, or 1 if the text means none or the tenant is not alone on the partition, as a line on
 /// `errors` tells, or if a line of the input had a fault; or 3 after a fault of reading, writing or
-/// memory, which a line on `errors` tells. Each call returns, since it waits for no thread.
+/// memory, which a line on `errors` tells. Names are hashed with the seed. Each call returns, since it waits for no
+/// thread.
 pub fn execute_sequential<R: BufRead, W: Write, E: Write>(
     alloc: Global,
+    seed: HashSeed,
     kind: SequentialKind,
     text: &[u8],
     reader: &mut R,
@@ -253,7 +257,7 @@ pub fn execute_sequential<R: BufRead, W: Write, E: Write>(
 ) -> u8
     ensures { Executes (between (R.remaining reader.old) (R.remaining reader.new)) (between (W.contents writer.old) (W.contents writer.new)) (between (E.contents errors.old) (E.contents errors.new)) (DoesSequentialJob true kind) text.now result }
 {
-    let ended = do_text(alloc, kind, text, reader, writer);
+    let ended = do_text(alloc, seed, kind, text, reader, writer);
     tell_ending(errors, ended)
 }
 
@@ -262,6 +266,7 @@ pub fn execute_sequential<R: BufRead, W: Write, E: Write>(
 pub fn execute_live<T: Threads + Wait + Sync, R: BufRead, W: Write, E: Write>(
     rt: &T,
     alloc: Global,
+    seed: HashSeed,
     workers: Workers,
     rounds: u64,
     text: &[u8],
@@ -271,7 +276,7 @@ pub fn execute_live<T: Threads + Wait + Sync, R: BufRead, W: Write, E: Write>(
 ) -> u8
     ensures { Executes (between (R.remaining reader.old) (R.remaining reader.new)) (between (W.contents writer.old) (W.contents writer.new)) (between (E.contents errors.old) (E.contents errors.new)) (LivesJob rounds) text.now result }
 {
-    let ended = do_live_text(rt, alloc, workers, rounds, text, reader, writer);
+    let ended = do_live_text(rt, alloc, seed, workers, rounds, text, reader, writer);
     tell_ending(errors, ended)
 }
 
