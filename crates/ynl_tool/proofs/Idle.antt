@@ -7,18 +7,18 @@ use Rattle.ynl_model.specs.Queues.{Config}
 use Rattle.ynl_model.specs.Cluster.{opening}
 use Rattle.ynl_model.specs.View.{is_sole}
 use Rattle.ynl_config.specs.declared.faults.ConfigFault.{ConfigFault}
-use Rattle.ynl_tool.specs.declared.run.ToolFault.TheVariants.{NoMemory}
+use Rattle.ynl_commands.specs.declared.run.ToolFault.TheVariants.{NoMemory}
 use Rattle.ynl_words.specs.declared.words.SequentialKind.{SequentialKind}
 use Rattle.ynl_words.specs.declared.words.SequentialKind.TheVariants.{Run, Tenant, Audit, Evidence, AuditEvidence, Explain}
 use Rattle.ynl_tool.specs.Jobs.{Doing, Ending, IsIdle, DoesSequentialJob, DoesWith, EndsWithout, LivesJob, TellsJob, AnswersJob, tenancy}
-use Rattle.ynl_tool.specs.Input.{between}
-use Rattle.ynl_tool.proofs.Runs.{stops_at_once}
-use Rattle.ynl_tool.specs.Audit.{audit_way, journal_way}
-use Rattle.ynl_tool.specs.Evidence.{evidence_answer, evidence_way, placed_answer}
-use Rattle.ynl_tool.specs.Readings.{Way, Reading}
-use Rattle.ynl_tool.specs.Run.{Outcome}
-use Rattle.ynl_tool.specs.Script.{script_way}
-use Rattle.ynl_tool.proofs.Readings.{nothing_read}
+use Rattle.ynl_commands.specs.Input.{between}
+use Rattle.ynl_commands.proofs.Runs.{stops_at_once}
+use Rattle.ynl_commands.specs.Audit.{audit_way, journal_way}
+use Rattle.ynl_commands.specs.Evidence.{evidence_answer, evidence_way, placed_answer}
+use Rattle.ynl_commands.specs.Readings.{Way, Reading}
+use Rattle.ynl_commands.specs.Run.{Outcome}
+use Rattle.ynl_commands.specs.Script.{script_way}
+use Rattle.ynl_commands.proofs.Readings.{nothing_read}
 
 module _ (old wold : Option (List ℕ)) where
   idle : IsIdle (between old old) (between wold wold)

@@ -1,17 +1,2 @@
-pub mod Answerings
-pub mod Audited
-pub mod Audits
-pub mod Evidences
-pub mod Explainings
-pub mod Handed
-pub mod Fronts
-pub mod Held
 pub mod Idle
-pub mod Inputs
-pub mod Keepings
 pub mod Livings
-pub mod Pieces
-pub mod Readings
-pub mod Runs
-pub mod Scripts
-pub mod Tellings

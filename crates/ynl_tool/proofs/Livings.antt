@@ -6,11 +6,11 @@ use Rattle.std.proofs.KnownBytes.{Appends-nil}
 use Rattle.std.proofs.lemmas.List.{drop_all}
 use Rattle.std.proofs.Math.Seq.{drop-cons}
 use Rattle.ynl_model.specs.declared.entries.Entry.{Entry}
-use Rattle.ynl_tool.specs.declared.run.ToolFault.TheVariants.{Write, NoMemory}
-use Rattle.ynl_tool.specs.Lines.{AppendsPart, HoldsBack}
-use Rattle.ynl_tool.specs.Telling.{LeavesLines}
+use Rattle.ynl_commands.specs.declared.run.ToolFault.TheVariants.{Write, NoMemory}
+use Rattle.ynl_commands.specs.Lines.{AppendsPart, HoldsBack}
+use Rattle.ynl_commands.specs.Telling.{LeavesLines}
 use Rattle.ynl_tool.specs.Living.{journal_line, journal_lines}
-use Rattle.ynl_tool.proofs.Tellings.{held_more, held_on, held_written, held_refused, held_failed}
+use Rattle.ynl_commands.proofs.Tellings.{held_more, held_on, held_written, held_refused, held_failed}
 
 -- what holds of a success, and of an error
 pub of_success : {T E P : Type 0} (r : Result T E) (x : T) → r ≡ Ok x → OnOk r P → P

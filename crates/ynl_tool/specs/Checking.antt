@@ -6,11 +6,11 @@ use Rattle.ynl_check.specs.Checked.{IsSaid, verdict_on}
 use Rattle.ynl_check.specs.declared.checking.Form.{Form}
 use Rattle.ynl_check.specs.declared.checking.Verdict.{Verdict}
 use Rattle.ynl_check.specs.declared.checking.Verdict.TheVariants.{Accepted, Faulty}
-use Rattle.ynl_tool.specs.declared.run.ToolFault.{ToolFault}
-use Rattle.ynl_tool.specs.declared.run.ToolFault.TheVariants.{Read, Write, NoMemory, Unclosed}
-use Rattle.ynl_tool.specs.Input.{Stream}
+use Rattle.ynl_commands.specs.declared.run.ToolFault.{ToolFault}
+use Rattle.ynl_commands.specs.declared.run.ToolFault.TheVariants.{Read, Write, NoMemory, Unclosed}
+use Rattle.ynl_commands.specs.Input.{Stream}
 use Rattle.ynl_tool.specs.Jobs.{error_line}
-use Rattle.ynl_tool.specs.Lines.{AppendsFront, AppendsPart}
+use Rattle.ynl_commands.specs.Lines.{AppendsFront, AppendsPart}
 
 -- what is said of the text was written, whole, and the verdict is that on it
 pub record ChecksAll (writer : Stream) (form : Form) (text : List ℕ) (verdict : Verdict) : Type 0 where

@@ -10,21 +10,21 @@ use Rattle.ynl_model.specs.View.{is_sole}
 use Rattle.ynl_config.specs.declared.faults.ConfigFault.{ConfigFault}
 use Rattle.ynl_config.specs.Earliest.{fault_word}
 use Rattle.ynl_config.specs.Meaning.{config_of}
-use Rattle.ynl_tool.specs.declared.run.ToolFault.{ToolFault}
-use Rattle.ynl_tool.specs.declared.run.ToolFault.TheVariants.{Read, Write, NoMemory, Unclosed}
-use Rattle.ynl_tool.specs.declared.run.Summary.{Summary}
-use Rattle.ynl_tool.specs.Input.{Stream}
-use Rattle.ynl_tool.specs.Lines.{AppendsFront}
-use Rattle.ynl_tool.specs.declared.evidence.Tenancy.{Tenancy}
-use Rattle.ynl_tool.specs.Answering.{Answers}
-use Rattle.ynl_tool.specs.Audit.{journal_way}
-use Rattle.ynl_tool.specs.Evidence.{evidence_answer, evidence_way, placed_answer}
-use Rattle.ynl_tool.specs.Readings.{Way, Reading}
-use Rattle.ynl_tool.specs.Run.{line_of, Outcome}
-use Rattle.ynl_tool.specs.Running.{Runs}
-use Rattle.ynl_tool.specs.Auditing.{AuditsJournal}
-use Rattle.ynl_tool.specs.Explaining.{Explains}
-use Rattle.ynl_tool.specs.Telling.{TellsTenant}
+use Rattle.ynl_commands.specs.declared.run.ToolFault.{ToolFault}
+use Rattle.ynl_commands.specs.declared.run.ToolFault.TheVariants.{Read, Write, NoMemory, Unclosed}
+use Rattle.ynl_commands.specs.declared.run.Summary.{Summary}
+use Rattle.ynl_commands.specs.Input.{Stream}
+use Rattle.ynl_commands.specs.Lines.{AppendsFront}
+use Rattle.ynl_commands.specs.declared.evidence.Tenancy.{Tenancy}
+use Rattle.ynl_commands.specs.Answering.{Answers}
+use Rattle.ynl_commands.specs.Audit.{journal_way}
+use Rattle.ynl_commands.specs.Evidence.{evidence_answer, evidence_way, placed_answer}
+use Rattle.ynl_commands.specs.Readings.{Way, Reading}
+use Rattle.ynl_commands.specs.Run.{line_of, Outcome}
+use Rattle.ynl_commands.specs.Running.{Runs}
+use Rattle.ynl_commands.specs.Auditing.{AuditsJournal}
+use Rattle.ynl_commands.specs.Explaining.{Explains}
+use Rattle.ynl_commands.specs.Telling.{TellsTenant}
 use Rattle.ynl_tool.specs.Living.{Lives}
 use Rattle.ynl_words.specs.declared.words.Question.{Question}
 use Rattle.ynl_tool.specs.declared.jobs.JobRefusal.{JobRefusal}

@@ -10,14 +10,14 @@ use Rattle.ynl_lines.specs.Writing.{line_text}
 use Rattle.ynl_session.specs.Sessions.{IsSession}
 use Rattle.ynl_session.specs.declared.sessions.SessionFault.{SessionFault}
 use Rattle.ynl_session.specs.declared.sessions.SessionFault.TheVariants as session
-use Rattle.ynl_tool.specs.declared.run.ToolFault.{ToolFault}
-use Rattle.ynl_tool.specs.declared.run.ToolFault.TheVariants.{Read, Write, NoMemory, Unclosed}
-use Rattle.ynl_tool.specs.declared.run.Summary.{Summary}
-use Rattle.ynl_tool.specs.Input.{Stream}
-use Rattle.ynl_tool.specs.Run.{line_of, fault_lines}
-use Rattle.ynl_tool.specs.Readings.{ReadsTo}
-use Rattle.ynl_tool.specs.Script.{Script, script_way, script_of}
-use Rattle.ynl_tool.specs.Telling.{LeavesLines, TellsNothing}
+use Rattle.ynl_commands.specs.declared.run.ToolFault.{ToolFault}
+use Rattle.ynl_commands.specs.declared.run.ToolFault.TheVariants.{Read, Write, NoMemory, Unclosed}
+use Rattle.ynl_commands.specs.declared.run.Summary.{Summary}
+use Rattle.ynl_commands.specs.Input.{Stream}
+use Rattle.ynl_commands.specs.Run.{line_of, fault_lines}
+use Rattle.ynl_commands.specs.Readings.{ReadsTo}
+use Rattle.ynl_commands.specs.Script.{Script, script_way, script_of}
+use Rattle.ynl_commands.specs.Telling.{LeavesLines, TellsNothing}
 
 -- ---- what is written
 

@@ -1,13 +1,13 @@
 //! Telling what a configuration says.
 
 ghost use Rattle.ynl_tool.specs.Checking.{ChecksText};
-ghost use Rattle.ynl_tool.specs.Input.{between};
+ghost use Rattle.ynl_commands.specs.Input.{between};
 
-use crate::lines_out::write_text;
-use crate::run::ToolFault;
 use std::alloc::Global;
 use std::io::Write;
 use ynl_check::{Form, Verdict, check};
+use ynl_commands::ToolFault;
+use ynl_commands::lines_out::write_text;
 
 /// Writes what the text says as a configuration, and gives whether it is one: of one that is accepted the tree with
 /// what each queue is given, and of any other text the first place of its fault.

@@ -3,13 +3,13 @@
 ghost use Rattle.std.specs.Prelude.{◌≡◌, ◌≢◌, ◌++◌, IfSome, IfErr, OnOk, take};
 ghost use Rattle.std.specs.IoError.{error_kind};
 ghost use Rattle.ynl_tool.specs.Jobs.{most_read};
-ghost use Rattle.ynl_tool.specs.Lines.{read_fault, tool_fault};
-ghost use Rattle.ynl_tool.specs.declared.run.ToolFault.TheVariants.{Write, Unclosed};
+ghost use Rattle.ynl_commands.specs.Lines.{read_fault, tool_fault};
+ghost use Rattle.ynl_commands.specs.declared.run.ToolFault.TheVariants.{Write, Unclosed};
 
-use crate::lines_in::read_fault;
-use crate::run::ToolFault;
 use std::io;
 use std::io::Read;
+use ynl_commands::ToolFault;
+use ynl_commands::lines_in::read_fault;
 
 /// How many bytes of a configuration are read at most: one more than it may have, so that one that
 /// is too long is told.

@@ -3,26 +3,24 @@
 ghost use Rattle.std.specs.Prelude.{◌≡◌, Ok, IfOk, IfErr, true};
 ghost use Rattle.ynl_config.specs.Meaning.{config_of};
 ghost use Rattle.ynl_model.specs.Accepted.{is_accepted};
-ghost use Rattle.ynl_tool.specs.Input.{between};
-ghost use Rattle.ynl_tool.specs.Lines.{AppendsFront};
+ghost use Rattle.ynl_commands.specs.Input.{between};
+ghost use Rattle.ynl_commands.specs.Lines.{AppendsFront};
 ghost use Rattle.ynl_tool.specs.Jobs.{error_line, config_line, refusal_line, status_by, status_of, tenancy, AuditsEvidenceJob, DoesSequentialJob, DoesText, EndsWithout, Executes, HandsJob, LivesJob, Tells};
 ghost use Rattle.ynl_tool.specs.Checking.{verdict_status, ExecutesCheck};
 
-use crate::audit::audit_lines;
 use crate::checking::check_text;
-use crate::evidence::{Tenancy, evidence_lines};
-use crate::evidence_audit::audit_evidence_lines;
-use crate::explaining::explain_lines;
-use crate::lines_out::{write_text, write_three};
 use crate::live::{FreeGate, live_lines};
-use crate::run::{Summary, ToolFault, run_lines};
-use crate::tenant::tenant_lines;
 use std::alloc::Global;
 use std::io::{BufRead, Write};
 use std::sync::Wait;
 use std::thread::Threads;
 use thiserror::Error;
 use ynl_check::{Form, Verdict};
+use ynl_commands::lines_out::{write_text, write_three};
+use ynl_commands::{
+    Summary, Tenancy, ToolFault, audit_evidence_lines, audit_lines, evidence_lines, explain_lines,
+    run_lines, tenant_lines,
+};
 use ynl_config::{ConfigFault, read_config};
 use ynl_queues::Config;
 use ynl_resource::{HashSeed, Label, Name};

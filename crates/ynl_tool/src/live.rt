@@ -2,19 +2,18 @@
 
 ghost use Rattle.std.specs.Prelude.{◌≡◌, ◌<◌, ◌++◌, length, slice_index_or, IfOk, OnOk, OnErr};
 ghost use Rattle.ynl_model.specs.declared.entries.Entry.{Entry};
-ghost use Rattle.ynl_tool.specs.Input.{between};
+ghost use Rattle.ynl_commands.specs.Input.{between};
 ghost use Rattle.ynl_tool.specs.Living.{rounds_of, journal_line, journal_lines, session_lines, session_fault, Lives, LivesWhole, SumsUp};
-ghost use Rattle.ynl_tool.specs.Run.{fault_lines};
-ghost use Rattle.ynl_tool.specs.Script.{script_read};
-ghost use Rattle.ynl_tool.specs.Telling.{SaysLines};
+ghost use Rattle.ynl_commands.specs.Run.{fault_lines};
+ghost use Rattle.ynl_commands.specs.Script.{script_read};
+ghost use Rattle.ynl_commands.specs.Telling.{SaysLines};
 
-use crate::lines_out::{hold_text, write_held, write_on};
-use crate::run::{Summary, ToolFault, report};
-use crate::script_in::{Script, read_script};
 use std::alloc::{AllocError, Global};
 use std::io::{BufRead, Write};
 use std::sync::Wait;
 use std::thread::Threads;
+use ynl_commands::lines_out::{hold_text, write_held, write_on};
+use ynl_commands::{Script, Summary, ToolFault, read_script, report};
 use ynl_lines::{InputFault, put_line};
 use ynl_model::Entry;
 use ynl_packed::Entries;
@@ -39,17 +38,13 @@ impl Gate for FreeGate {
     fn after_commit(&self, _worker: u64, _turn: u64) {}
 }
 
-impl From<SessionFault> for ToolFault {
-    ghost use Rattle.std.specs.Prelude.{◌≡◌};
-    ghost use Rattle.ynl_tool.specs.Living.{session_fault};
-
-    ghost from_gives = { λ s e. e ≡ session_fault s };
-
-    fn from(error: SessionFault) -> ToolFault {
-        match error {
-            SessionFault::NoMemory => ToolFault::NoMemory,
-            SessionFault::Unclosed => ToolFault::Unclosed,
-        }
+/// What is told of a session that has no journal.
+fn session_fault(error: SessionFault) -> ToolFault
+    ensures { result ≡ session_fault error }
+{
+    match error {
+        SessionFault::NoMemory => ToolFault::NoMemory,
+        SessionFault::Unclosed => ToolFault::Unclosed,
     }
 }
 
@@ -168,6 +163,8 @@ pub fn live_lines<T: Threads + Wait + Sync, R: BufRead, W: Write, G: Gate + Sync
 {
     let script = read_script(alloc, reader)?;
     let rounds = rounds_of(&script, rounds);
-    let entries = run_session(rt, alloc, config, &script.events, workers, rounds, gate)?;
-    tell_session(alloc, &entries, &script, writer)
+    match run_session(rt, alloc, config, &script.events, workers, rounds, gate) {
+        Ok(entries) => tell_session(alloc, &entries, &script, writer),
+        Err(error) => Err(session_fault(error)),
+    }
 }

@@ -1,7 +1,7 @@
 use Rattle.std.proofs.Common.{◌≡◌, ◌++◌, IfSome, take, subst}
 use Rattle.std.specs.Prelude.{option_map}
 use Rattle.ynl_tool.specs.Jobs.{most_read}
-use Rattle.ynl_tool.proofs.Fronts.{read_front}
+use Rattle.ynl_commands.proofs.Fronts.{read_front}
 use Rattle.ynl_tool.proofs.config_text.read_text.Goals as goal
 
 pub returns-in-Ok-clause-text : goal.returns-in-Ok-clause-text

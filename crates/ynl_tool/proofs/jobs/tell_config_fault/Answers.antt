@@ -1,6 +1,6 @@
 use Rattle.std.proofs.Common.{◌++◌, codes, subst, ◌∙◌}
-use Rattle.ynl_tool.specs.Lines.{AppendsFront}
-use Rattle.ynl_tool.proofs.Fronts.{front_either_way}
+use Rattle.ynl_commands.specs.Lines.{AppendsFront}
+use Rattle.ynl_commands.proofs.Fronts.{front_either_way}
 use Rattle.ynl_tool.proofs.jobs.tell_config_fault.Goals as goal
 
 pub returns : goal.returns

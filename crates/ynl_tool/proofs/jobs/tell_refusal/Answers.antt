@@ -1,7 +1,7 @@
 use Rattle.std.proofs.Common.{sym, subst}
-use Rattle.ynl_tool.specs.Lines.{AppendsFront}
+use Rattle.ynl_commands.specs.Lines.{AppendsFront}
 use Rattle.ynl_tool.specs.Jobs.{refusal_line}
-use Rattle.ynl_tool.proofs.Fronts.{front_either_way}
+use Rattle.ynl_commands.proofs.Fronts.{front_either_way}
 use Rattle.ynl_tool.proofs.jobs.tell_refusal.Goals as goal
 
 pub returns-in-NotSole : goal.returns-in-NotSole

@@ -4,7 +4,7 @@ use Rattle.ynl_model.specs.declared.entries.Entry.{Entry}
 use Rattle.ynl_model.specs.declared.events.Event.TheVariants.{Heartbeat}
 use Rattle.std.proofs.lemmas.Result.{err_from_is_err_and}
 use Rattle.ynl_tool.specs.Living.{journal_lines}
-use Rattle.ynl_tool.specs.Telling.{SaysLines}
+use Rattle.ynl_commands.specs.Telling.{SaysLines}
 use Rattle.ynl_tool.proofs.Livings.{of_success, of_error, none_yet, entry_held, entries_same, entries_on, entries_refused, entries_failed, entries_told}
 use Rattle.ynl_tool.proofs.live.tell_entries.Goals as goal
 

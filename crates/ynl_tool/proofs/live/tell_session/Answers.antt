@@ -1,10 +1,10 @@
 use Rattle.std.proofs.Common.{Err, sym, ap, subst, ◌∙◌}
 use Rattle.std.proofs.lemmas.Result.{err_from_is_err_and}
 use Rattle.ynl_tool.specs.Living.{journal_lines, session_lines}
-use Rattle.ynl_tool.specs.Run.{fault_lines}
-use Rattle.ynl_tool.specs.Script.{script_read}
-use Rattle.ynl_tool.specs.Telling.{SaysLines}
-use Rattle.ynl_tool.proofs.Tellings.{leaves_more, says_after}
+use Rattle.ynl_commands.specs.Run.{fault_lines}
+use Rattle.ynl_commands.specs.Script.{script_read}
+use Rattle.ynl_commands.specs.Telling.{SaysLines}
+use Rattle.ynl_commands.proofs.Tellings.{leaves_more, says_after}
 use Rattle.ynl_tool.proofs.live.tell_session.Goals as goal
 
 -- the entries were not told to their end

@@ -1,0 +1,15 @@
+pub mod Answerings
+pub mod Audited
+pub mod Audits
+pub mod Evidences
+pub mod Explainings
+pub mod Handed
+pub mod Fronts
+pub mod Held
+pub mod Inputs
+pub mod Keepings
+pub mod Pieces
+pub mod Readings
+pub mod Runs
+pub mod Scripts
+pub mod Tellings

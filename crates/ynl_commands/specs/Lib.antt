@@ -1,0 +1,15 @@
+pub mod Answering
+pub mod Audit
+pub mod Audited
+pub mod Auditing
+pub mod Evidence
+pub mod Explaining
+pub mod Handed
+pub mod Input
+pub mod Keeping
+pub mod Lines
+pub mod Readings
+pub mod Run
+pub mod Running
+pub mod Script
+pub mod Telling

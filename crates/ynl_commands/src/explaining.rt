@@ -1,0 +1,100 @@
+//! Explaining why an application waits, after a script.
+
+ghost use Rattle.std.specs.Prelude.{◌≡◌, ◌≢◌, IfOk, IfErr};
+ghost use Rattle.ynl_commands.specs.declared.run.ToolFault.TheVariants.{Read};
+ghost use Rattle.ynl_commands.specs.Explaining.{answer, cluster_after, explanation, waits_text, Explains, ExplainsWhole};
+ghost use Rattle.ynl_commands.specs.Input.{between};
+ghost use Rattle.ynl_commands.specs.Running.{Writes};
+ghost use Rattle.ynl_commands.specs.Script.{script_read};
+
+use crate::lines_out::write_text;
+use crate::run::{Summary, ToolFault, report};
+use crate::script_in::{Script, read_script};
+use std::alloc::{AllocError, Global};
+use std::io::{BufRead, Write};
+use ynl_check::Form;
+use ynl_core::{Core, NoMemory};
+use ynl_explain::{plain_text, told_text};
+use ynl_lines::InputFault;
+use ynl_packed::Events;
+use ynl_queues::Config;
+use ynl_waits::Explained;
+use ynl_words::Question;
+
+/// A cluster that the events were applied to.
+fn cluster_after(alloc: Global, config: Config, events: &Events) -> Result<Core, NoMemory>
+    ensures { IfOk result (λ core. core ≡ cluster_after config events.now) }
+{
+    let mut core = Core::open(alloc, config)?;
+    for i in 0..events.len() {
+        core.apply(events.get(i))?;
+    }
+    Ok(core)
+}
+
+/// The text of what is explained.
+fn answer(alloc: Global, question: &Question, explained: &Explained) -> Result<Vec<u8>, AllocError>
+    ensures { IfOk result (λ text. text.items ≡ answer question.now explained.now) }
+{
+    let (tenant, app) = (&question.tenant, &question.app);
+    match question.form {
+        Form::Lines => told_text(alloc, tenant, app, explained),
+        Form::Plain => plain_text(alloc, tenant, app, explained),
+    }
+}
+
+/// The text of why the application waits after the events.
+fn waits_text(
+    alloc: Global,
+    config: Config,
+    question: &Question,
+    events: &Events,
+) -> Result<Vec<u8>, NoMemory>
+    ensures { IfOk result (λ text. text.items ≡ waits_text config question.now events.now) }
+{
+    let core = cluster_after(alloc, config, events)?;
+    let explained = core.explain(&question.tenant, &question.app)?;
+    Ok(answer(alloc, question, &explained)?)
+}
+
+/// Writes what is told of a script.
+fn tell<W: Write>(
+    alloc: Global,
+    config: Config,
+    question: &Question,
+    script: &Script,
+    writer: &mut W,
+) -> Result<Summary, ToolFault>
+    ensures text { Writes (W.contents writer.old) (W.contents writer.new) (explanation config question.now (script_read script.now)) result }
+    ensures fault { IfErr result (λ e. e ≢ Read) }
+{
+    if let Some(fault) = script.fault {
+        return report(alloc, writer, InputFault::Script(fault), script.lines);
+    }
+    let text = waits_text(alloc, config, question, &script.events)?;
+    write_text(writer, &text)?;
+    Ok(Summary {
+        lines: script.lines,
+        fault: None,
+    })
+}
+
+/// Reads the script, and only then writes why the requests of the tenant's application wait after its
+/// events: a line for each request, or the reply of a refusal where there is no such application; or the
+/// same in sentences. Of a script with a fault nothing is told but that fault, in one line.
+///
+/// After a read fault nothing is written, nor where memory was refused; after a write fault a front of
+/// the text.
+pub fn explain_lines<R: BufRead, W: Write>(
+    alloc: Global,
+    config: Config,
+    question: &Question,
+    reader: &mut R,
+    writer: &mut W,
+) -> Result<Summary, ToolFault>
+    ensures whole { ExplainsWhole (between (R.remaining reader.old) (R.remaining reader.new)) (between (W.contents writer.old) (W.contents writer.new)) config question.now result }
+    ensures steps { Explains (between (R.remaining reader.old) (R.remaining reader.new)) (between (W.contents writer.old) (W.contents writer.new)) config question.now result }
+{
+    let script = read_script(alloc, reader)?;
+    tell(alloc, config, question, &script, writer)
+}

@@ -1,5 +1,0 @@
-use Rattle.ynl_tool.proofs.Audited.{passing_show_alone}
-use Rattle.ynl_tool.proofs.audit_laws.passing_journals_show_tenants_alone.Goals as goal
-
-pub returns : goal.returns
-returns c = passing_show_alone

@@ -1,5 +1,0 @@
-use Rattle.ynl_tool.proofs.Audited.{first_is_told}
-use Rattle.ynl_tool.proofs.audit_laws.the_first_that_differs_is_told.Goals as goal
-
-pub returns : goal.returns
-returns c = first_is_told
