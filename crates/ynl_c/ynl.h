@@ -42,6 +42,12 @@ enum {
    YNL_DONE, YNL_NO_CONFIG, YNL_NO_MEMORY. */
 uint32_t ynl_open(ynl *handle, const char *config, size_t config_length);
 
+/* The same, for names of applications that strangers choose: they are hashed with a seed, which is made of the first 16 of
+   these bytes. With bytes that nobody can guess, as those of getentropy, no choice of names makes look-ups slow. ynl_open
+   hashes with a seed that everybody can know. No reply depends on it.
+   YNL_DONE, YNL_NO_CONFIG, YNL_NO_MEMORY. */
+uint32_t ynl_open_seeded(ynl *handle, const char *config, size_t config_length, const char *seed, size_t seed_length);
+
 /* Takes the event that a line is, without its newline; blank lines are the caller's to leave out. ynl_reply then has the
    reply, or of a line that is no event the line that the program writes of it, where the number is that of the calls since
    ynl_open. The cluster goes on after such a line. With YNL_NO_MEMORY there is no text, and the call can be made again.

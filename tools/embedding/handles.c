@@ -23,6 +23,10 @@ static const char NOTHING[] = "{\"placed\":[],\"reply\":\"placed\"}";
 
 static uint32_t open_by(ynl *cluster, const char *config) { return ynl_open(cluster, config, strlen(config)); }
 
+static uint32_t open_seeded(ynl *cluster, const char *config, const char *seed) {
+    return ynl_open_seeded(cluster, config, strlen(config), seed, strlen(seed));
+}
+
 static uint32_t apply(ynl *cluster, const char *line) { return ynl_apply(cluster, line, strlen(line)); }
 
 /* Whether the text is just this one. */
@@ -56,8 +60,11 @@ static int statuses(void) {
     WANT(ynl_containers(&a, "", 0) == YNL_DONE && says(&a, NOTHING))
     /* The other cluster knows nothing of all this. */
     WANT(apply(&b, HEARTBEAT) == YNL_DONE && says(&b, "{\"refused\":\"NoSuchNode\",\"reply\":\"refused\"}"))
-    /* Opened again, the handle has a cluster at its beginning. */
-    WANT(open_by(&a, CONFIG) == YNL_DONE && apply(&a, "") == YNL_NO_EVENT && says(&a, "{\"fault\":\"syntax\",\"line\":1}"))
+    /* Opened again, with bytes for a seed or with few or none, the handle has a cluster at its beginning. */
+    WANT(open_seeded(&a, CONFIG, "sixteen bytes 16") == YNL_DONE && says(&a, "") && apply(&a, REGISTER) == YNL_DONE)
+    WANT(apply(&a, SUBMIT) == YNL_DONE && apply(&a, SUBMIT) == YNL_DONE && says(&a, "{\"refused\":\"NameUsed\",\"reply\":\"refused\"}"))
+    WANT(open_seeded(&a, "version = 3", "seed") == YNL_NO_CONFIG && says(&a, "ynl: config: version") && apply(&a, REGISTER) == YNL_DONE)
+    WANT(open_seeded(&a, CONFIG, "") == YNL_DONE && apply(&a, "") == YNL_NO_EVENT && says(&a, "{\"fault\":\"syntax\",\"line\":1}"))
     ynl_close(&a);
     ynl_close(&a);
     ynl_close(&b);

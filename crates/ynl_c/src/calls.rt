@@ -5,18 +5,18 @@ ghost use Rattle.ynl_c.specs.Behind.{Replies, behind};
 
 use crate::handle::Handle;
 use std::alloc::{AllocError, Global};
-use ynl_desk::DeskFault;
+use ynl_desk::{DeskFault, HashSeed};
 
 impl Handle {
-    /// Opens a cluster of the configuration that a text means.
-    pub fn open(&mut self, alloc: Global, config: &[u8]) -> Result<(), DeskFault>
+    /// Opens a cluster of the configuration that a text means, in which names are hashed with the seed.
+    pub fn open(&mut self, alloc: Global, seed: HashSeed, config: &[u8]) -> Result<(), DeskFault>
         ensures { Opens (behind self.old.value) (behind self.new.value) config.now result }
     {
         let mut desk = match self.take_or_new(alloc) {
             Ok(desk) => desk,
             Err(AllocError) => return Err(DeskFault::NoMemory),
         };
-        let ended = desk.open(alloc, config);
+        let ended = desk.open(alloc, seed, config);
         self.put(desk);
         ended
     }

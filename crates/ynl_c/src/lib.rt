@@ -14,14 +14,28 @@ mod status;
 use handle::Handle;
 use status::status_of;
 use std::alloc::Global;
+use ynl_desk::{HashSeed, seed_of};
 
 /// Opens a cluster of the configuration that a text means. A cluster that the handle had is let go then, and stays where
-/// the text is none.
+/// the text is none. Names are hashed with a fixed seed.
 #[unsafe(no_mangle)]
 pub extern "C" fn ynl_open(handle: &mut Handle, config: &[u8], alloc: Global) -> u32
     ensures { Came result (Opens (behind handle.old.value) (behind handle.new.value) config.now) }
 {
-    status_of(handle.open(alloc, config))
+    status_of(handle.open(alloc, HashSeed::fixed(), config))
+}
+
+/// The same, with names hashed with the seed that a caller's bytes make.
+#[unsafe(no_mangle)]
+pub extern "C" fn ynl_open_seeded(
+    handle: &mut Handle,
+    config: &[u8],
+    seed: &[u8],
+    alloc: Global,
+) -> u32
+    ensures { Came result (Opens (behind handle.old.value) (behind handle.new.value) config.now) }
+{
+    status_of(handle.open(alloc, seed_of(seed), config))
 }
 
 /// Takes the event that a line is, without its newline.

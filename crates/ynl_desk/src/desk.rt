@@ -16,7 +16,7 @@ use ynl_core::{Core, NoMemory};
 use ynl_lines::EventReader;
 use ynl_model::{Items, Placed, Reply};
 use ynl_queues::Config;
-use ynl_resource::Label;
+use ynl_resource::{HashSeed, Label};
 
 /// A cluster that takes lines, once it is opened, and what the last call came to. Memory is kept from line to line.
 pub struct Desk {
@@ -91,14 +91,14 @@ impl Desk {
         }
     }
 
-    /// Opens a cluster of the configuration that a text means, from its opening state. A cluster that was there is let go
-    /// then; it stays where the text is no configuration or memory is refused.
+    /// Opens a cluster of the configuration that a text means, from its opening state, in which names are hashed with the
+    /// seed. A cluster that was there is let go then; it stays where the text is no configuration or memory is refused.
     #[tactic(auto, unfolding(crate::specs::Calls::IsOpened, crate::specs::Calls::TellsConfigFault))]
-    pub fn open(&mut self, alloc: Global, text: &[u8]) -> Result<(), DeskFault>
+    pub fn open(&mut self, alloc: Global, seed: HashSeed, text: &[u8]) -> Result<(), DeskFault>
         ensures { Opens (standing self.old) (standing self.new) text.now result }
     {
         match read_config(alloc, text) {
-            Ok(Ok(config)) => self.begin(alloc, config),
+            Ok(Ok(config)) => self.begin(alloc, config.with_seed(seed)),
             Ok(Err(fault)) => {
                 self.outcome = Outcome::Config(fault);
                 Err(DeskFault::Config(fault))

@@ -4,9 +4,12 @@
 
 pub use desk::Desk;
 pub use faults::DeskFault;
+pub use seeding::seed_of;
+pub use ynl_resource::HashSeed;
 
 mod copying;
 mod desk;
 mod faults;
 mod outcome;
+mod seeding;
 mod taking;
