@@ -1,11 +1,12 @@
-//! What names are hashed with.
+//! What names are hashed with, and names of which many have one place.
 
-use std::hash::BuildHasher;
+use std::hash::{BuildHasher, Hasher};
 use std::io;
 use std::io::ErrorKind;
 use std::random::RandomSource;
 use std::test::Fail;
-use ynl_resource::HashSeed;
+use ynl_resource::{HashSeed, Name};
+use ynl_submissions::Submissions;
 
 // Gives this byte again and again, or none at all.
 #[derive(Drop)]
@@ -36,5 +37,60 @@ fn keys_are_made_of_the_random_bytes(rt: HostRuntime) -> Result<(), Fail> {
     assert_ne!(rt; hash_by(1), hash_by(2));
     assert_ne!(rt; hash_by(1), Some(HashSeed::fixed().hash_one(7u64)));
     assert!(rt; HashSeed::random(&Source { byte: None }).is_err());
+    Ok(())
+}
+
+// The lowest eight bits of the hash of a name, by which a table of up to 256 rows finds its place.
+fn place_of(name: &Name) -> u64 {
+    let mut hasher = HashSeed::fixed().build_hasher();
+    hasher.write(name.as_bytes());
+    hasher.finish() % 256
+}
+
+// The name of a number, if it shares its place with others.
+fn sharing(number: u32) -> Option<Name> {
+    let digits = [
+        b'a' + (number / 676 % 26) as u8,
+        b'a' + (number / 26 % 26) as u8,
+        b'a' + (number % 26) as u8,
+    ];
+    let name = Name::parse(str::from_utf8(&digits).ok()?).ok()?;
+    if place_of(&name) == 7 {
+        Some(name)
+    } else {
+        None
+    }
+}
+
+// Submits the name, if it was not, and tells its turn.
+fn submit(submissions: &mut Submissions, name: &Name) -> Result<u32, Fail> {
+    submissions.reserve_one()?;
+    match submissions.find(name) {
+        Some(turn) => Ok(turn),
+        None => Ok(submissions.submit(name, 1, 1)),
+    }
+}
+
+// Submits all names that share a place, and tells how many there were, if each had the next turn.
+fn submit_all(submissions: &mut Submissions) -> Result<u32, Fail> {
+    let mut count = 0;
+    for number in 0..17576u32 {
+        if let Some(name) = sharing(number) {
+            if submit(submissions, &name)? != count {
+                return Err(Fail::new("another turn"));
+            }
+            count = count.saturating_add(1);
+        }
+    }
+    Ok(count)
+}
+
+#[test]
+fn names_that_share_a_place_are_told_apart(rt: HostRuntime) -> Result<(), Fail> {
+    let mut submissions = Submissions::new(rt.alloc(), HashSeed::fixed());
+    let count = submit_all(&mut submissions)?;
+    assert!(rt; count > 32);
+    // Each is found at its turn.
+    assert_eq!(rt; submit_all(&mut submissions)?, count);
     Ok(())
 }
