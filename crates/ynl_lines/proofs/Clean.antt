@@ -1,24 +1,16 @@
 -- What is written has texts that are UTF-8, whole numbers, and keys that ascend; and it is flat.
-use Rattle.std.proofs.Common.{◌≡◌, ◌<◌, ◌^◌, ℕ, List, [], ◌∷◌, true, All, map, Option, Some, None, IfSome, option_map, refl, arith, codes, decimal}
+use Rattle.std.proofs.Common.{◌<◌, ◌^◌, ℕ, List, [], ◌∷◌, All, map, Option, Some, None, IfSome, option_map, refl, arith}
 use Rattle.std.specs.Prelude.{IsUtf8}
-use Rattle.std.specs.List.{list_all, join_with_byte}
-use Rattle.std.proofs.lemmas.Bool.{and_parts}
 use Rattle.std.proofs.lemmas.List.Elements.{All-head, All-tail}
-use Rattle.std.proofs.lemmas.Str.{IsUtf8-append, IsUtf8-nil}
-use Rattle.json.proofs.Printed.Utf8.{are_ascii, IsUtf8-are_ascii}
 use Rattle.serde_json.specs.View.{items_of}
 use Rattle.ynl_resource.specs.declared.amounts.Resource.{Resource}
 use Rattle.ynl_resource.specs.declared.names.Name.{Name}
 use Rattle.ynl_resource.specs.declared.labels.Label.{Label}
-use Rattle.ynl_resource.specs.declared.labels.Label.TheVariants.{Unlabelled, Named}
 use Rattle.ynl_resource.specs.declared.paths.Path.{Path}
-use Rattle.ynl_resource.specs.declared.ids.Id.{Id}
 use Rattle.ynl_resource.specs.declared.refusals.Refusal.{Refusal}
 use Rattle.ynl_resource.specs.declared.refusals.Refusal.TheVariants.{NoSuchLabel}
 use Rattle.ynl_resource.specs.Refusals.{word}
-use Rattle.ynl_resource.specs.Amounts.{IsSize, IsSmall}
-use Rattle.ynl_resource.specs.NameText.{is_name}
-use Rattle.ynl_resource.specs.Texts.{label_text, path_text, id_text}
+use Rattle.ynl_resource.specs.Amounts.{IsSmall}
 use Rattle.ynl_resource.proofs.Ascii.{utf8_name}
 use Rattle.ynl_model.specs.declared.events.Event.{Event}
 use Rattle.ynl_model.specs.declared.events.Event.TheVariants.{Register, Lost, Relabel, Heartbeat, Exited, Submit, Ask, Release, Finish, Stop, Start, Poll, Usage as UsageOf, Propose, Commit, Maximum}
@@ -31,50 +23,16 @@ use Rattle.ynl_model.specs.declared.replies.Reply.{Reply}
 use Rattle.ynl_model.specs.declared.replies.Reply.TheVariants.{Done, Refused, Placed, Proposed, Committed, Held, Usage}
 use Rattle.ynl_lines.specs.Reading.{HasPriority, HasProposalNumbers, IsInRange, HasClock}
 use Rattle.ynl_lines.specs.ReadingReplies.{HasPlacedNumbers, HasPendingNumbers, IsReplyInRange}
-use Rattle.ynl_lines.specs.Sound.{IsLabel, IsWanted, HasProposalParts, IsProposal, HasContainerParts, IsContainer, IsPending, IsEvent, IsReply}
+use Rattle.ynl_lines.specs.Sound.{IsWanted, HasProposalParts, IsProposal, HasContainerParts, IsContainer, IsPending, IsEvent, IsReply}
 use Rattle.ynl_lines.specs.Writing.{amount_data, placed_by, placed_data, proposal_by, proposal_data, pending_data, submit_data, event_data, reply_data, line_object}
-use Rattle.ynl_lines.proofs.Cuts.{utf8_decimal}
-use Rattle.ynl_lines.proofs.Printed.{IsClean, AreClean}
-
--- ---- texts
-
-ascii : (text : List ℕ) → are_ascii text ≡ true → IsUtf8 text
-ascii = IsUtf8-are_ascii
-
-label_utf8 : (l : Label) → IsLabel l → IsUtf8 (label_text l)
-label_utf8 Unlabelled h = IsUtf8-nil
-label_utf8 (Named name) h = utf8_name name h
-
-id_utf8 : (id : Id) → IsLabel id.label → id.clock < 2 ^ 64 → IsUtf8 (id_text id)
-id_utf8 id h fits =
-    IsUtf8-append (label_text id.label) (35 ∷ decimal id.clock) (label_utf8 id.label h)
-    (IsUtf8-append (35 ∷ []) (decimal id.clock) (ascii (35 ∷ []) refl) (utf8_decimal id.clock fits))
-
-clock_fits : (id : Id) → HasClock id → id.clock < 2 ^ 64
-clock_fits id h = omega (arith, h.1)
-
-joined_utf8 : (text : List ℕ) (names : List (List ℕ)) → IsUtf8 text → list_all is_name names ≡ true → IsUtf8 (join_with_byte 46 (text ∷ names))
-joined_utf8 text [] t h = t
-joined_utf8 text (name ∷ names) t h =
-    let p = and_parts (is_name name) _ h in
-    IsUtf8-append text (46 ∷ join_with_byte 46 (name ∷ names)) t
-    (IsUtf8-append (46 ∷ []) (join_with_byte 46 (name ∷ names)) (ascii (46 ∷ []) refl) (joined_utf8 name names (utf8_name name p.0) p.1))
-
-path_utf8 : (path : Path) → list_all is_name path ≡ true → IsUtf8 (path_text path)
-unfolding path_text
-path_utf8 path h = joined_utf8 (codes "root") path (ascii (codes "root") refl) h
+use Rattle.ynl_fields.proofs.Printed.{IsClean, AreClean}
+use Rattle.ynl_fields.proofs.Utf8.{ascii, label_utf8, id_utf8, clock_fits, path_utf8, memory_fits, vcores_fit}
 
 word_utf8 : (r : Refusal) → IsUtf8 (word r)
 word_utf8 NoSuchLabel = ascii _ refl
 word_utf8 _ = ascii _ refl
 
 -- ---- numbers
-
-memory_fits : (size : Resource) → IsSize size → size.memory < 2 ^ 64
-memory_fits size h = omega (arith, h.memory)
-
-vcores_fit : (size : Resource) → IsSize size → size.vcores < 2 ^ 64
-vcores_fit size h = omega (arith, h.vcores)
 
 small_memory : (a : Resource) → IsSmall a → a.memory < 2 ^ 64
 small_memory a h = omega (arith, h.0)

@@ -9,7 +9,7 @@ use Rattle.ynl_resource.proofs.IdTexts.{name_read}
 use Rattle.ynl_model.specs.declared.events.Event.TheVariants.{Heartbeat}
 use Rattle.ynl_lines.specs.Reading.{event_of_line}
 use Rattle.ynl_lines.specs.Writing.{heartbeat_data}
-use Rattle.ynl_lines.proofs.Escapes.{escape_name}
+use Rattle.ynl_fields.proofs.Escapes.{escape_name}
 use Rattle.ynl_lines.proofs.ReplyTrip.{event_text_back}
 
 abbrev pub front : List ℕ

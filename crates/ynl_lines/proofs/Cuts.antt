@@ -1,11 +1,6 @@
 -- Lines in the compact form read as the events of what they are cut into.
 use Rattle.std.proofs.Common.{◌≡◌, ◌≤◌, ◌<◌, ◌^◌, ℕ, List, [], ◌∷◌, ◌++◌, true, Option, Some, None, codes, decimal, refl, sym, ap, subst, ◌∙◌, arith, append-nil, option_and_then}
-use Rattle.std.specs.Prelude.{IsUtf8, nat_lt}
-use Rattle.std.specs.Char.{is_ascii_digit}
-use Rattle.std.specs.Str.{all_ascii_digits}
-use Rattle.std.proofs.lemmas.Bool.{and_parts}
-use Rattle.std.proofs.lemmas.Bool.Decides.{nat_tests}
-use Rattle.std.proofs.lemmas.Fmt.{digits_decimal}
+use Rattle.std.specs.Prelude.{IsUtf8}
 use Rattle.std.proofs.lemmas.Str.{IsUtf8-append}
 use Rattle.json.specs.Token.{Token}
 use Rattle.json.specs.Lex.{tokens}
@@ -25,9 +20,9 @@ use Rattle.ynl_lines.specs.declared.faults.LineFault.TheVariants as fault
 use Rattle.ynl_lines.specs.Reading.{or_fault, ◌>>=◌, text_at, number_at, keys_are, node_at, label_text_at, ask_at, submit_at, release_at, finish_at, poll_at, exited_at, propose_at, wanted_at, proposal_at, commit_at, register_at, usage_at, event_at, event_of_line}
 use Rattle.ynl_lines.specs.Writing.{count as counted_data, finish_data, release_object, exited_object, usage_event_object, propose_data}
 use Rattle.ynl_lines.specs.Compact.{application_line, commit_line, ask_of, submit_of, release_of, finish_of, poll_of, exited_of, propose_of, commit_of, register_of, usage_of}
-use Rattle.ynl_lines.proofs.Added.{quoted, counted}
-use Rattle.ynl_lines.proofs.Escapes.{own}
-use Rattle.ynl_lines.proofs.Readings.{reading_text}
+use Rattle.ynl_fields.proofs.Pieces.{quoted, counted}
+use Rattle.ynl_fields.proofs.Readings.{reading_text}
+use Rattle.ynl_fields.proofs.Utf8.{utf8_decimal}
 
 abbrev found : Option (json.Json × List Token) → Option Data
 found o = option_and_then of_json (option_and_then (λ p. json.if_last p.0 p.1) o)
@@ -63,16 +58,6 @@ pub record Number (line front : List ℕ) (n : ℕ) (rest : List ℕ) : Type 0 w
 
 pub number_cut : {line front : List ℕ} {n : ℕ} {rest : List ℕ} → line ≡ front ++ (decimal n ++ rest) → n < 2 ^ 64 → Number line front n rest
 number_cut cut fits = record { cut = cut; fits = fits }
-
-digit_ascii : (x : ℕ) → is_ascii_digit x ≡ true → nat_lt x 128 ≡ true
-digit_ascii x h = grind (arith, nat_tests)
-
-digits_ascii : (xs : List ℕ) → all_ascii_digits xs ≡ true → are_ascii xs ≡ true
-digits_ascii [] h = refl
-digits_ascii (x ∷ xs) h = let parts = and_parts (is_ascii_digit x) _ h in rw (digit_ascii x parts.0) (digits_ascii xs parts.1)
-
-pub utf8_decimal : (n : ℕ) → n < 2 ^ 64 → IsUtf8 (decimal n)
-utf8_decimal n fits = IsUtf8-are_ascii (decimal n) (digits_ascii (decimal n) (digits_decimal own n fits))
 
 -- what is the same as a line is the same text
 moved : {line same told : List ℕ} → line ≡ same → Told same told → Told line told

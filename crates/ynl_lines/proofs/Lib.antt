@@ -1,17 +1,11 @@
 pub mod RoundTrip
-pub mod Readings
 pub mod Sizes
 pub mod Texts
-pub mod Ids
 pub mod Rows
 pub mod Lists
 pub mod ReplyTrip
-pub mod Whole
-pub mod Plain
-pub mod Treed
 pub mod Escapes
 pub mod Compacted
 pub mod Added
 pub mod Cuts
-pub mod Printed
 pub mod Clean

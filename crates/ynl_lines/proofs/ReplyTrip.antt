@@ -23,10 +23,11 @@ use Rattle.ynl_lines.specs.ReadingReplies.{name_under, id_under, value_under, li
 use Rattle.ynl_lines.specs.Sound.{IsWanted, HasContainerParts, IsContainer, IsPending, IsEvent, IsReply}
 use Rattle.ynl_lines.specs.Writing.{amount_data, placed_by, placed_data, pending_data, reply_data, propose_data, event_data, event_text, line_object, line_data, line_text}
 use Rattle.ynl_lines.proofs.Sizes.{size_back, within_back}
-use Rattle.ynl_lines.proofs.RoundTrip.{name_back, label_back, id_back, proposal_back, event_back}
+use Rattle.ynl_fields.proofs.Names.{name_back, label_back, id_back}
+use Rattle.ynl_lines.proofs.RoundTrip.{proposal_back, event_back}
 use Rattle.ynl_lines.proofs.Texts.{flat_event, flat_line}
 use Rattle.ynl_lines.proofs.Clean.{clean_event, clean_line}
-use Rattle.ynl_lines.proofs.Printed.{text_reads}
+use Rattle.ynl_fields.proofs.Printed.{text_reads}
 
 -- ---- containers, and what is still asked for
 

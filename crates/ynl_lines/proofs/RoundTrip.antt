@@ -1,50 +1,22 @@
 -- The object of an event reads as it.
-use Rattle.std.proofs.lemmas.Bool.{false≢true}
-use Rattle.std.proofs.Common.{◌≡◌, ◌≤◌, ◌∙◌, ℕ, List, [], ◌∷◌, length, ne_eqb, false, cond, arith, Option, Some, None, Result, Ok, Err, refl, ap}
-use Rattle.std.specs.Prelude.{◌==◌}
+use Rattle.std.proofs.Common.{◌≡◌, ◌≤◌, ◌∙◌, ℕ, Option, Some, None, Result, Ok}
 use Rattle.ynl_resource.specs.declared.amounts.Resource.{Resource}
 use Rattle.ynl_resource.specs.declared.names.Name.{Name}
 use Rattle.ynl_resource.specs.declared.labels.Label.{Label}
-use Rattle.ynl_resource.specs.declared.labels.Label.TheVariants.{Unlabelled, Named}
 use Rattle.ynl_resource.specs.declared.paths.Path.{Path}
-use Rattle.ynl_resource.specs.declared.ids.Id.{Id}
 use Rattle.ynl_resource.specs.Ranges.{whole, most_clock, most_count, most_priority}
-use Rattle.ynl_resource.specs.Texts.{bad_name, named, read_name, read_label, read_path, read_id, label_text, path_text, id_text}
-use Rattle.ynl_resource.proofs.IdTexts.{reads_id}
-use Rattle.ynl_resource.proofs.PathTexts.{reads_path}
+use Rattle.ynl_resource.specs.Texts.{named}
 use Rattle.ynl_model.specs.declared.events.Event.{Event}
 use Rattle.ynl_model.specs.declared.events.Event.TheVariants.{Register, Lost, Relabel, Heartbeat, Exited, Submit, Ask, Release, Finish, Stop, Start, Poll, Usage, Propose, Commit, Maximum}
 use Rattle.ynl_model.specs.declared.proposals.What.{What}
 use Rattle.ynl_model.specs.declared.proposals.What.TheVariants.{Master, Ask as Asked}
 use Rattle.ynl_model.specs.declared.proposals.Proposal.{Proposal}
 use Rattle.ynl_lines.specs.declared.faults.LineFault.{LineFault}
-use Rattle.ynl_lines.specs.Reading.{or_name, ◌>>=◌, text_at, number_at, keys_are, name_at, label_at, path_at, id_at, node_at, queue_at, within, size_at, register_at, lost_at, relabel_at, heartbeat_at, exited_at, label_text_at, optional_label_at, submit_at, ask_at, release_at, finish_at, stop_at, start_at, poll_at, usage_at, propose_at, wanted_at, wanted_label_at, what_at, proposal_at, commit_at, maximum_at, event_at, HasClock, HasPriority, HasProposalNumbers, IsInRange}
-use Rattle.ynl_lines.specs.Sound.{IsName, IsLabel, IsPath, IsWanted, HasProposalParts, IsProposal, IsEvent}
+use Rattle.ynl_lines.specs.Reading.{or_name, ◌>>=◌, text_at, number_at, keys_are, name_at, label_at, path_at, id_at, node_at, queue_at, within, size_at, register_at, lost_at, relabel_at, heartbeat_at, exited_at, label_text_at, optional_label_at, submit_at, ask_at, release_at, finish_at, stop_at, start_at, poll_at, usage_at, propose_at, wanted_at, wanted_label_at, what_at, proposal_at, commit_at, maximum_at, event_at, HasPriority, HasProposalNumbers, IsInRange}
+use Rattle.ynl_lines.specs.Sound.{IsWanted, HasProposalParts, IsProposal, IsEvent}
 use Rattle.ynl_lines.specs.Writing.{proposal_by, proposal_data, submit_data, event_data}
 use Rattle.ynl_lines.proofs.Sizes.{size_back, within_back}
-
--- ---- names, labels, paths and ids
-
-pub name_back : (name : Name) → IsName name → read_name name ≡ Ok name
-unfolding read_name
-name_back name h = ap (λ b. cond b (Ok name) (Err bad_name)) h
-
--- a name is not empty
-some_name : (name : List ℕ) → IsName name → (length name == 0) ≡ false
-some_name [] h = absurd (false≢true h)
-some_name (x ∷ xs) h = ne_eqb (length (x ∷ xs)) 0 (λ e. omega (arith, e))
-
-pub label_back : (l : Label) → IsLabel l → read_label (label_text l) ≡ Ok l
-unfolding read_label
-label_back Unlabelled h = refl
-label_back (Named name) h = ap (λ b. cond b (Ok Unlabelled) (named (read_name name))) (some_name name h) ∙ ap named (name_back name h)
-
-pub id_back : (id : Id) → IsLabel id.label → HasClock id → read_id (id_text id) ≡ Ok id
-id_back id h clock = reads_id id (label_text id.label) clock.0 clock.1 refl (label_back id.label h)
-
-path_back : (path : Path) → IsPath path → read_path (path_text path) ≡ Ok path
-unfolding path_text
-path_back path h = reads_path path h.0 h.1
+use Rattle.ynl_fields.proofs.Names.{name_back, label_back, id_back, path_back}
 
 -- ---- proposals
 

@@ -1,13 +1,11 @@
 -- The event that a line is, or its first fault.
-use Rattle.std.specs.Prelude.{◌≡◌, ◌≤◌, ℕ, List, Bool, ◌&&◌, ◌==◌, nat_le, Option, Some, None, option_map, option_and_then, Result, Ok, Err, codes, if◌then◌else◌}
-use Rattle.std.specs.Str.{bytes_eq, is_utf8}
+use Rattle.std.specs.Prelude.{◌≤◌, ℕ, List, Option, Some, None, option_map, option_and_then, Result, Ok, Err, codes, if◌then◌else◌}
+use Rattle.std.specs.Str.{bytes_eq}
 use Rattle.serde_json.specs.Data.{Data}
-use Rattle.serde_json.specs.Read.{read}
-use Rattle.serde_json.specs.Find.{get, as_str, as_number, as_u64, as_object}
-use Rattle.serde_json.specs.Events.{members_len}
+use Rattle.serde_json.specs.Find.{get, as_str}
 use Rattle.ynl_resource.specs.declared.amounts.Resource.{Resource}
-use Rattle.ynl_resource.specs.Amounts.{amount, IsSize}
-use Rattle.ynl_resource.specs.Ranges.{whole, most_clock, most_memory, most_vcores, most_count, most_priority}
+use Rattle.ynl_resource.specs.Amounts.{IsSize}
+use Rattle.ynl_resource.specs.Ranges.{whole, most_clock, most_count, most_priority}
 use Rattle.ynl_resource.specs.declared.names.Name.{Name}
 use Rattle.ynl_resource.specs.declared.labels.Label.{Label}
 use Rattle.ynl_resource.specs.declared.paths.Path.{Path}
@@ -22,45 +20,26 @@ use Rattle.ynl_lines.specs.declared.read.Kind.{Kind}
 use Rattle.ynl_lines.specs.declared.read.Kind.TheVariants as kind
 use Rattle.ynl_lines.specs.declared.faults.LineFault.{LineFault}
 use Rattle.ynl_lines.specs.declared.faults.LineFault.TheVariants as fault
-
--- the value that bytes are, if they are UTF-8 and the JSON text of one
-abbrev pub reading : List ℕ → Option Data
-reading bytes = if is_utf8 bytes then read bytes else None
-
--- what is read next from what was read; after a fault nothing is, and the fault stays
-infixl 10 ◌>>=◌
-abbrev pub ◌>>=◌ : {A B : Type 0} → Result A LineFault → (A → Result B LineFault) → Result B LineFault
-(Ok x) >>= f = f x
-(Err e) >>= f = Err e
-
--- what a function returned, seen by view, is what is read
-abbrev pub Gives : {X Y E : Type 0} → (X → Y) → Result X E → Result Y E → Type 0
-Gives view (Ok x) read = read ≡ Ok (view x)
-Gives view (Err e) read = read ≡ Err e
-
--- the fault, where there is nothing
-abbrev pub or_fault : {A : Type 0} → LineFault → Option A → Result A LineFault
-or_fault e None = Err e
-or_fault e (Some x) = Ok x
+use Rattle.ynl_fields.specs.Reading.{reading, ◌>>=◌, or_fault, or_other, text_or, number_or, keys_or, size_or, within_or, HasClock}
+pub use Rattle.ynl_fields.specs.Reading.{reading, ◌>>=◌, Gives, or_fault, HasClock}
 
 -- the fault `name`, where a text is not what was wanted
 abbrev pub or_name : {A E : Type 0} → Result A E → Result A LineFault
-or_name (Ok x) = Ok x
-or_name (Err e) = Err fault.Name
+or_name r = or_other fault.Name r
 
 -- ---- the fields
 
 -- the string under a key, or else the fault `field`
 unfoldable pub text_at : List ℕ → Data → Result (List ℕ) LineFault
-text_at key d = or_fault fault.Field (option_and_then as_str (get key d))
+text_at key d = text_or fault.Field key d
 
 -- the whole number under a key, or else the fault `field`
 unfoldable pub number_at : List ℕ → Data → Result ℕ LineFault
-number_at key d = or_fault fault.Field (option_and_then as_u64 (option_and_then as_number (get key d)))
+number_at key d = number_or fault.Field key d
 
 -- An object has each key once, so with as many members as keys, and each key found, it has just those keys.
 unfoldable pub keys_are : ℕ → Data → Result (Unit {0}) LineFault
-keys_are count d = or_fault fault.Field (option_and_then (λ ms. if members_len ms == count then Some tt else None) (as_object d))
+keys_are count d = keys_or fault.Field count d
 
 -- these are the name, label, path or id that a text spells, or else the fault `name`
 unfoldable pub name_at : List ℕ → Result Name LineFault
@@ -75,17 +54,13 @@ path_at text = or_name (read_path text)
 unfoldable pub id_at : List ℕ → Result Id LineFault
 id_at text = or_name (read_id text)
 
--- whether a size is in range
-abbrev pub is_size : ℕ → ℕ → Bool
-is_size memory vcores = nat_le 1 memory && nat_le memory most_memory && nat_le 1 vcores && nat_le vcores most_vcores
-
 -- a size of so many MB and virtual cores, or else the fault `range`
 unfoldable pub size_at : ℕ → ℕ → Result Resource LineFault
-size_at memory vcores = if is_size memory vcores then Ok (amount memory vcores) else Err fault.Range
+size_at memory vcores = size_or fault.Range memory vcores
 
 -- a number that is at most so large
 unfoldable pub within : ℕ → ℕ → Result ℕ LineFault
-within most n = if nat_le n most then Ok n else Err fault.Range
+within most n = within_or fault.Range most n
 
 -- ---- the events: first all fields, then all names, then the range
 
@@ -364,10 +339,6 @@ event_at d = do
 -- the event of a line, or its first fault
 abbrev pub event_of_line : List ℕ → Result Event LineFault
 event_of_line bytes = or_fault fault.Syntax (reading bytes) >>= event_at
-
--- an id's number is in range
-abbrev pub HasClock : Id → Type 0
-HasClock id = (1 ≤ id.clock) × (id.clock ≤ most_clock)
 
 -- an ask's numbers are in range, but for those of its size
 abbrev pub HasAskNumbers : ℕ → ℕ → Type 0

@@ -1,13 +1,7 @@
 -- What holds of every value that is written: its names are names, its labels labels, its paths paths, and its sizes sizes.
-use Rattle.std.specs.Prelude.{◌≡◌, ◌≤◌, true, length, All, IfSome}
-use Rattle.std.specs.List.{list_all}
+use Rattle.std.specs.Prelude.{◌≤◌, All, IfSome}
 use Rattle.ynl_resource.specs.Amounts.{IsSize}
 use Rattle.ynl_resource.specs.Ranges.{whole}
-use Rattle.ynl_resource.specs.NameText.{is_name}
-use Rattle.ynl_resource.specs.declared.names.Name.{Name}
-use Rattle.ynl_resource.specs.declared.labels.Label.{Label}
-use Rattle.ynl_resource.specs.declared.labels.Label.TheVariants.{Unlabelled, Named}
-use Rattle.ynl_resource.specs.declared.paths.Path.{Path}
 use Rattle.ynl_model.specs.declared.events.Event.{Event}
 use Rattle.ynl_model.specs.declared.events.Event.TheVariants.{Register, Lost, Relabel, Heartbeat, Exited, Submit, Ask, Release, Finish, Stop, Start, Poll, Usage, Propose, Commit, Maximum}
 use Rattle.ynl_model.specs.declared.proposals.What.{What}
@@ -17,16 +11,8 @@ use Rattle.ynl_model.specs.declared.containers.Placed.{Placed as Container}
 use Rattle.ynl_model.specs.declared.replies.Pending.{Pending}
 use Rattle.ynl_model.specs.declared.replies.Reply.{Reply}
 use Rattle.ynl_model.specs.declared.replies.Reply.TheVariants.{Placed, Proposed, Committed, Held}
-
-abbrev pub IsName : Name → Type 0
-IsName name = is_name name ≡ true
-
-abbrev pub IsLabel : Label → Type 0
-IsLabel Unlabelled = Unit {0}
-IsLabel (Named name) = IsName name
-
-abbrev pub IsPath : Path → Type 0
-IsPath path = (length path ≤ 7) × (list_all is_name path ≡ true)
+use Rattle.ynl_fields.specs.Sound.{IsName, IsLabel, IsPath}
+pub use Rattle.ynl_fields.specs.Sound.{IsName, IsLabel, IsPath}
 
 -- what is wanted has a label, or is a master
 abbrev pub IsWanted : What → Type 0

@@ -1,6 +1,6 @@
 -- The texts of replies, faults, audits and events: JSON objects in the compact form, the keys in byte order.
 use Rattle.std.specs.Prelude.{ℕ, map, List, ◌++◌, Option, Some, None, option_map, codes}
-use Rattle.serde_json.specs.Data.{Data, Members, object, array, string, number, unsigned, member, no_members, put}
+use Rattle.serde_json.specs.Data.{Data, Members, object, array, string, member, no_members, put}
 use Rattle.serde_json.specs.View.{items_of}
 use Rattle.serde_json.specs.Written.{compact_text}
 use Rattle.ynl_resource.specs.declared.amounts.Resource.{Resource}
@@ -27,12 +27,10 @@ use Rattle.ynl_lines.specs.declared.faults.JournalFault.{JournalFault}
 use Rattle.ynl_lines.specs.declared.faults.JournalFault.TheVariants as journal_fault
 use Rattle.ynl_lines.specs.declared.faults.InputFault.{InputFault}
 use Rattle.ynl_lines.specs.declared.faults.InputFault.TheVariants.{Script, Journal}
+use Rattle.ynl_fields.specs.Writing.{count}
+pub use Rattle.ynl_fields.specs.Writing.{count}
 
 -- ---- what stands in several objects
-
--- a number
-abbrev pub count : ℕ → Data
-count n = number (unsigned n)
 
 -- an amount: MB of memory, and virtual cores
 abbrev pub amount_data : Resource → Data

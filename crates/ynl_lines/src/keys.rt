@@ -1,14 +1,14 @@
 //! What stands under the keys of an event: texts and numbers, and the names and amounts that they are.
 
 ghost use Rattle.std.specs.Prelude.{◌≡◌, ◌≤◌, IfOk};
-ghost use Rattle.ynl_lines.specs.Trees.{data_at};
+ghost use Rattle.ynl_fields.specs.Trees.{data_at};
 ghost use Rattle.ynl_resource.specs.Amounts.{IsSize};
 ghost use Rattle.ynl_resource.specs.Ranges.{whole};
 ghost use Rattle.ynl_lines.specs.Reading.{Gives, HasClock};
 ghost use Rattle.ynl_lines.specs.Reading as spec;
 
 use crate::faults::LineFault;
-use crate::fields::Fields;
+use ynl_fields::Fields;
 use ynl_resource::{Hundredths, Id, Label, Name, Path, Size};
 
 /// The text under a key.

@@ -1,19 +1,16 @@
 //! From lines to events.
 
-ghost use Rattle.std.specs.Prelude.{◌≡◌, option_map, IfOk, IfErr, IsErr, OnErr, OnOk, IsTrue, IsUtf8, Ok, Err, Some, None};
+ghost use Rattle.std.specs.Prelude.{◌≡◌, option_map, IfOk, OnErr, OnOk, IsUtf8, Ok, Err, Some, None};
 ghost use Rattle.std.specs.List.{find};
 ghost use Rattle.std.specs.Str.{bytes_eq};
-ghost use Rattle.serde_json.specs.Errors.{IsMemory};
 ghost use Rattle.serde_json.specs.View.{view};
-ghost use Rattle.ynl_lines.specs.Trees.{data_at};
-ghost use Rattle.ynl_lines.specs.Reading.{reading, Gives, IsRanged};
+ghost use Rattle.ynl_fields.specs.Trees.{data_at};
+ghost use Rattle.ynl_lines.specs.Reading.{Gives, IsRanged};
 ghost use Rattle.ynl_lines.specs.Compact as told;
 ghost use Rattle.ynl_lines.specs.Reading as spec;
-ghost use Rattle.ynl_lines.specs.declared.faults.LineFault.TheVariants as fault;
 
 use crate::compact::{Members, heartbeat_of, members_in};
 use crate::faults::LineFault;
-use crate::fields::Fields;
 use crate::read_applications::{
     ask_at, ask_of, finish_at, finish_of, poll_at, poll_of, release_at, release_of, submit_at,
     submit_of,
@@ -23,11 +20,10 @@ use crate::read_nodes::{
 };
 use crate::read_proposals::{commit_at, commit_of, propose_at, propose_of};
 use crate::read_queues::{maximum_at, start_at, stop_at, usage_at, usage_of};
-use crate::trees::{is_plain, tree_of};
 use json::Scratch;
-use serde_json::{Error, Value};
 use std::alloc::{AllocError, Global};
 use std::marker::Model;
+use ynl_fields::{Fields, is_plain, parse, tree_of};
 use ynl_model::Event;
 use ynl_resource::Name;
 
@@ -50,35 +46,6 @@ pub enum Kind {
     Propose,
     Commit,
     Maximum,
-}
-
-/// What reading JSON told: the value, or that the bytes are the text of none. It takes no memory, so
-/// want of memory is told only where reading met it.
-fn found(read: Result<Value, Error>) -> Result<Option<Value>, AllocError>
-    ensures value { IfOk read (λ value. result ≡ Ok (Some value)) }
-    ensures none { IfErr read (λ e. ¬ IsMemory e → result ≡ Ok None) }
-    ensures memory { IfErr read (λ e. IsMemory e → IsErr result) }
-{
-    match read {
-        Ok(value) => Ok(Some(value)),
-        Err(e) => {
-            if e.is_memory() {
-                return Err(AllocError);
-            }
-            Ok(None)
-        }
-    }
-}
-
-/// The value that the bytes are, if they are the text of one. Only a text takes memory.
-pub fn parse(alloc: Global, bytes: &[u8]) -> Result<Option<Value>, AllocError>
-    ensures value { IfOk result (λ found. option_map view found ≡ reading bytes.now) }
-    ensures text { OnErr result (IsUtf8 bytes.now) }
-{
-    match str::from_utf8(bytes) {
-        Ok(text) => found(Value::from_str(alloc, text)),
-        Err(_) => Ok(None),
-    }
 }
 
 /// The word of each kind, those that come most often first.

@@ -1,16 +1,16 @@
 //! From objects to the events of applications.
 
 ghost use Rattle.std.specs.Prelude.{◌≡◌, option_map, IfOk, OnOk, IsTrue};
-ghost use Rattle.ynl_lines.specs.Trees.{data_at};
+ghost use Rattle.ynl_fields.specs.Trees.{data_at};
 ghost use Rattle.ynl_lines.specs.Reading.{Gives, IsRanged};
 ghost use Rattle.ynl_lines.specs.Compact as told;
 ghost use Rattle.ynl_lines.specs.Reading as spec;
 
 use crate::faults::LineFault;
-use crate::fields::Fields;
 use crate::keys::{
     id_at, keys_are, label_at, name_at, number_at, path_at, size_at, text_at, within_small,
 };
+use ynl_fields::Fields;
 use ynl_model::Event;
 use ynl_resource::{Label, MOST_COUNT};
 

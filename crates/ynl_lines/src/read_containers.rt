@@ -2,15 +2,15 @@
 
 ghost use Rattle.std.specs.Prelude.{◌≡◌, [], ◌∷◌, ◌++◌, IfOk, OnOk};
 ghost use Rattle.serde_json.specs.View.{items_view};
-ghost use Rattle.ynl_lines.specs.Trees.{data_at};
+ghost use Rattle.ynl_fields.specs.Trees.{data_at};
 ghost use Rattle.ynl_lines.specs.ReadingReplies as spec;
 
 use crate::faults::LineFault;
-use crate::fields::Fields;
 use crate::keys::{id_at, keys_are, name_at, number_at, size_at, text_at, within_small};
 use crate::read_proposals::{wanted_at, wanted_label_at, what_at};
 use serde_json::Value;
 use std::alloc::{AllocError, Global};
+use ynl_fields::Fields;
 use ynl_model::{Items, Pending, Placed, What};
 use ynl_resource::{Id, MOST_COUNT, Name, Size};
 

@@ -1,7 +1,7 @@
 //! From the lines of a journal to its entries.
 
 ghost use Rattle.std.specs.Prelude.{◌≡◌, IfOk, IfSome, OnErr, OnOk, IsOk, IsSome, IsTrue, IsUtf8, None};
-ghost use Rattle.ynl_lines.specs.Trees.{data_at};
+ghost use Rattle.ynl_fields.specs.Trees.{data_at};
 ghost use Rattle.ynl_lines.specs.Reading.{Gives, IsRanged};
 ghost use Rattle.ynl_lines.specs.ReadingReplies.{MayBeTold, IsRead};
 ghost use Rattle.ynl_lines.specs.ReadingReplies as spec;
@@ -9,14 +9,14 @@ ghost use Rattle.ynl_lines.specs.ReadingReplies as spec;
 use crate::compact_replies::cut_reply;
 use crate::cursor::Cursor;
 use crate::faults::{BadLine, LineFault};
-use crate::fields::Fields;
 use crate::keys::{keys_are, number_at};
-use crate::read::{any_event, event_at, parse, read_into};
+use crate::read::{any_event, event_at, read_into};
 use crate::read_replies::{reply_at, value_under};
 use crate::write::put_line;
 use json::Scratch;
 use std::alloc::{AllocError, Global};
 use std::marker::Model;
+use ynl_fields::{Fields, parse};
 use ynl_model::{Entry, Event, Reply};
 
 /// The place of a line, and its event.

@@ -1,16 +1,16 @@
 //! From objects to proposals, and to the events that speak of them.
 
 ghost use Rattle.std.specs.Prelude.{◌≡◌, option_map, IfOk, OnOk, IsTrue};
-ghost use Rattle.ynl_lines.specs.Trees.{data_at};
+ghost use Rattle.ynl_fields.specs.Trees.{data_at};
 ghost use Rattle.ynl_resource.specs.Amounts.{IsSize};
 ghost use Rattle.ynl_lines.specs.Reading.{Gives, HasPriority, HasProposalNumbers, IsRanged};
 ghost use Rattle.ynl_lines.specs.Compact as told;
 ghost use Rattle.ynl_lines.specs.Reading as spec;
 
 use crate::faults::LineFault;
-use crate::fields::Fields;
 use crate::keys::{keys_are, label_at, name_at, number_at, size_at, text_at, within, within_small};
 use crate::read_nodes::node_at;
+use ynl_fields::Fields;
 use ynl_model::{Event, Proposal, What};
 use ynl_resource::{Label, MOST_CLOCK};
 

@@ -1,14 +1,14 @@
 //! From objects to the events of queues.
 
 ghost use Rattle.std.specs.Prelude.{◌≡◌, IfOk, OnOk, IsTrue};
-ghost use Rattle.ynl_lines.specs.Trees.{data_at};
+ghost use Rattle.ynl_fields.specs.Trees.{data_at};
 ghost use Rattle.ynl_lines.specs.Reading.{Gives, IsRanged};
 ghost use Rattle.ynl_lines.specs.Compact as told;
 ghost use Rattle.ynl_lines.specs.Reading as spec;
 
 use crate::faults::LineFault;
-use crate::fields::Fields;
 use crate::keys::{keys_are, label_at, number_at, path_at, share_at, text_at};
+use ynl_fields::Fields;
 use ynl_model::Event;
 use ynl_resource::Path;
 

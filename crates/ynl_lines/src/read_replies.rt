@@ -2,17 +2,17 @@
 
 ghost use Rattle.std.specs.Prelude.{◌≡◌, option_map, IfOk};
 ghost use Rattle.serde_json.specs.View.{items_view};
-ghost use Rattle.ynl_lines.specs.Trees.{data_at};
+ghost use Rattle.ynl_fields.specs.Trees.{data_at};
 ghost use Rattle.ynl_lines.specs.Reading.{Gives};
 ghost use Rattle.ynl_lines.specs.ReadingReplies as spec;
 
 use crate::faults::LineFault;
-use crate::fields::Fields;
 use crate::keys::{keys_are, number_at, text_at, within};
 use crate::read_containers::{each_pending, each_placed, placed_at};
 use crate::read_proposals::proposal_at;
 use serde_json::Value;
 use std::alloc::{AllocError, Global};
+use ynl_fields::Fields;
 use ynl_model::Reply;
 use ynl_resource::{Refusal, Resource};
 

@@ -6,11 +6,11 @@ ghost use Rattle.ynl_lines.specs.ReadingReplies.{line_of_text, IsEntryInRange, M
 ghost use Rattle.ynl_lines.specs.Sound.{IsReply};
 ghost use Rattle.ynl_lines.specs.Writing as spec;
 
-use crate::adding::{add, add_number, add_text};
 use crate::faults::InputFault;
 use crate::write_events::add_event;
 use crate::write_replies::{add_reply, put_reply};
 use std::alloc::{AllocError, Global};
+use ynl_fields::{add, add_number, add_text};
 use ynl_model::{Entry, Event, Reply};
 
 /// The text of an event, without the newline of its line; where the numbers that it names are in range,

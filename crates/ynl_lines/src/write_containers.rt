@@ -9,8 +9,8 @@ ghost use Rattle.ynl_resource.specs.Texts.{id_text};
 ghost use Rattle.ynl_lines.specs.Sound.{IsContainer, IsLabel, IsPending, HasContainerParts as HasParts};
 ghost use Rattle.ynl_lines.specs.Writing as spec;
 
-use crate::adding::{add, add_id, add_label, add_name, add_number};
 use std::alloc::AllocError;
+use ynl_fields::{add, add_id, add_label, add_name, add_number};
 use ynl_model::{Pending, Placed, What};
 use ynl_resource::Label;
 

@@ -7,9 +7,9 @@ ghost use Rattle.ynl_resource.specs.Ranges.{whole};
 ghost use Rattle.ynl_lines.specs.Sound.{IsEvent, IsLabel, IsName, IsPath, IsProposal};
 ghost use Rattle.ynl_lines.specs.Writing as spec;
 
-use crate::adding::{add, add_id, add_label, add_name, add_number, add_path};
 use crate::write_proposals::add_proposal;
 use std::alloc::AllocError;
+use ynl_fields::{add, add_id, add_label, add_name, add_number, add_path};
 use ynl_model::{Event, Proposal};
 use ynl_resource::{Hundredths, Id, Label, Name, Path, Size};
 

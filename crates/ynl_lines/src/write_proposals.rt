@@ -5,8 +5,8 @@ ghost use Rattle.serde_json.specs.Written.{compact_text};
 ghost use Rattle.ynl_lines.specs.Sound.{IsLabel, IsProposal, HasProposalParts as HasParts};
 ghost use Rattle.ynl_lines.specs.Writing as spec;
 
-use crate::adding::{add, add_label, add_name, add_number};
 use std::alloc::AllocError;
+use ynl_fields::{add, add_label, add_name, add_number};
 use ynl_model::{Proposal, What};
 use ynl_resource::Label;
 

@@ -6,10 +6,10 @@ ghost use Rattle.ynl_model.specs.declared.replies.Reply.TheVariants as reply;
 ghost use Rattle.ynl_lines.specs.Sound.{IsContainer, IsPending, IsProposal, IsReply};
 ghost use Rattle.ynl_lines.specs.Writing as spec;
 
-use crate::adding::{add, add_number, add_text};
 use crate::write_containers::{add_list, add_placed};
 use crate::write_proposals::add_proposal;
 use std::alloc::AllocError;
+use ynl_fields::{add, add_number, add_text};
 use ynl_model::{Pending, Placed, Proposal, Reply};
 use ynl_resource::{Refusal, Resource};
 

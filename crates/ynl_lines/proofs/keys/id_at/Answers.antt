@@ -1,5 +1,5 @@
 use Rattle.std.proofs.Common.{sym, ◌∙◌}
-use Rattle.ynl_lines.proofs.Ids.{id_ranged}
+use Rattle.ynl_fields.proofs.Ids.{id_ranged}
 use Rattle.ynl_lines.proofs.keys.id_at.Goals as goal
 
 pub returns-in-Ok-clause-ranged : goal.returns-in-Ok-clause-ranged

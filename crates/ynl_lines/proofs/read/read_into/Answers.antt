@@ -4,8 +4,8 @@ use Rattle.json.specs.Value.{value_view}
 use Rattle.serde_json.specs.Read.{of_json}
 use Rattle.ynl_lines.specs.declared.faults.LineFault.TheVariants as fault
 use Rattle.ynl_lines.specs.Reading.{reading, or_fault, event_at, Gives, ◌>>=◌}
-use Rattle.ynl_lines.specs.Trees.{is_plain, data_of}
-use Rattle.ynl_lines.proofs.Plain.{read_plain}
+use Rattle.ynl_fields.specs.Trees.{is_plain, data_of}
+use Rattle.ynl_fields.proofs.Plain.{read_plain}
 use Rattle.ynl_lines.proofs.read.read_into.Goals as goal
 
 pub returns-then-is_plain-clause-event : goal.returns-then-is_plain-clause-event

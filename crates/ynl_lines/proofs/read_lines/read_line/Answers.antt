@@ -1,7 +1,7 @@
 use Rattle.std.proofs.Common.{sym, ap, ◌∙◌, Result, Ok, Err}
 use Rattle.std.specs.Prelude.{OnErr, option_map}
 use Rattle.serde_json.specs.View.{view}
-use Rattle.ynl_lines.proofs.Treed.{is_text}
+use Rattle.ynl_fields.proofs.Treed.{is_text}
 use Rattle.ynl_lines.proofs.read_lines.read_line.Goals as goal
 
 anyhow_so : {T E : Type 0} (P : Type 0) (r : Result T E) → P → OnErr r P

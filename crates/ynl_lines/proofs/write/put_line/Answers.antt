@@ -1,7 +1,8 @@
 use Rattle.std.proofs.Common.{ap, ◌∙◌}
 use Rattle.std.proofs.lemmas.Result.{on_ok_weaker}
 use Rattle.ynl_lines.specs.ReadingReplies.{line_of_text}
-use Rattle.ynl_lines.proofs.Added.{from_nothing, line_added, on_both}
+use Rattle.ynl_fields.proofs.Pieces.{from_nothing, on_both}
+use Rattle.ynl_lines.proofs.Added.{line_added}
 use Rattle.ynl_lines.proofs.ReplyTrip.{line_text_back}
 use Rattle.ynl_lines.proofs.write.put_line.Goals as goal
 

@@ -1,4 +1,5 @@
-use Rattle.ynl_lines.proofs.Added.{audit_added, from_nothing}
+use Rattle.ynl_lines.proofs.Added.{audit_added}
+use Rattle.ynl_fields.proofs.Pieces.{from_nothing}
 use Rattle.ynl_lines.proofs.write.write_audit.Goals as goal
 
 pub returns : goal.returns

@@ -1,6 +1,6 @@
 use Rattle.std.proofs.Common.{ap, ◌∙◌}
 use Rattle.ynl_lines.specs.Reading.{event_of_line}
-use Rattle.ynl_lines.proofs.Added.{from_nothing}
+use Rattle.ynl_fields.proofs.Pieces.{from_nothing}
 use Rattle.ynl_lines.proofs.ReplyTrip.{event_text_back}
 use Rattle.ynl_lines.proofs.write.write_event.Goals as goal
 

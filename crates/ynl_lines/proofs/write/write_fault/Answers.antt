@@ -1,5 +1,6 @@
 use Rattle.std.proofs.Common.{◌∙◌}
-use Rattle.ynl_lines.proofs.Added.{fault_added, from_nothing}
+use Rattle.ynl_lines.proofs.Added.{fault_added}
+use Rattle.ynl_fields.proofs.Pieces.{from_nothing}
 use Rattle.ynl_lines.proofs.write.write_fault.Goals as goal
 
 pub returns : goal.returns

@@ -3,7 +3,7 @@ use Rattle.std.proofs.lemmas.Result.{on_ok_weaker}
 use Rattle.json.specs.Print.{escape_byte}
 use Rattle.serde_json.specs.Written.{compact_text}
 use Rattle.ynl_lines.specs.Writing.{proposal_data}
-use Rattle.ynl_lines.proofs.Added.{both}
+use Rattle.ynl_fields.proofs.Pieces.{both}
 use Rattle.ynl_lines.proofs.write_events.add_commit.Goals as goal
 
 pub returns-clause-added : goal.returns-clause-added

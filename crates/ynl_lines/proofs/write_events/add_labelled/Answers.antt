@@ -4,7 +4,7 @@ use Rattle.json.specs.Print.{escape_byte}
 use Rattle.serde_json.specs.Written.{compact_text}
 use Rattle.ynl_resource.specs.Texts.{label_text, path_text}
 use Rattle.ynl_lines.specs.Writing.{submit_data}
-use Rattle.ynl_lines.proofs.Added.{join, quote}
+use Rattle.ynl_fields.proofs.Pieces.{join, quote}
 use Rattle.ynl_lines.proofs.write_events.add_labelled.Goals as goal
 
 pub returns-clause-added : goal.returns-clause-added

@@ -2,7 +2,7 @@ use Rattle.std.proofs.Common.{codes}
 use Rattle.std.proofs.lemmas.Result.{on_ok_weaker}
 use Rattle.json.specs.Print.{escape_byte}
 use Rattle.ynl_resource.specs.Texts.{label_text}
-use Rattle.ynl_lines.proofs.Added.{quote}
+use Rattle.ynl_fields.proofs.Pieces.{quote}
 use Rattle.ynl_lines.proofs.write_events.add_poll.Goals as goal
 
 pub returns-clause-added : goal.returns-clause-added

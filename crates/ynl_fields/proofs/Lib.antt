@@ -1,0 +1,11 @@
+pub mod Pieces
+pub mod Escapes
+pub mod Names
+pub mod Utf8
+pub mod Readings
+pub mod Sizes
+pub mod Ids
+pub mod Whole
+pub mod Plain
+pub mod Treed
+pub mod Printed

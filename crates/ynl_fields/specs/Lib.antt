@@ -1,0 +1,4 @@
+pub mod Reading
+pub mod Sound
+pub mod Trees
+pub mod Writing

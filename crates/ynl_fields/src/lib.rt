@@ -1,0 +1,14 @@
+//! Lines of JSON, whatever they tell: what stands under their keys, and the pieces that their texts are put together
+//! from.
+#![tactic(auto)]
+
+pub use adding::{add, add_id, add_label, add_name, add_number, add_path, add_text};
+pub use fields::Fields;
+pub use trees::{is_plain, tree_of};
+pub use values::parse;
+
+mod adding;
+mod fields;
+mod numbers;
+mod trees;
+mod values;
