@@ -4,7 +4,7 @@ use Rattle.ynl_resource.specs.declared.amounts.Resource.{Resource}
 use Rattle.ynl_resource.specs.declared.labels.Label.{Label}
 use Rattle.ynl_resource.specs.declared.labels.Label.TheVariants.{Unlabelled, Named as Labelled}
 use Rattle.ynl_explain.specs.declared.pieces.Piece.{Piece}
-use Rattle.ynl_explain.specs.declared.pieces.Piece.TheVariants.{Word, Named, Partition, Number, Nodes, Amount}
+use Rattle.ynl_explain.specs.declared.pieces.Piece.TheVariants.{Word, Named, Partition, Number, Nodes, Amount, Size}
 
 -- the word for one thing, or for so many of them
 abbrev pub word_for : ℕ → List ℕ → List ℕ → List ℕ
@@ -35,3 +35,4 @@ piece_text (Partition label) = partition_name label.now
 piece_text (Number n) = decimal n
 piece_text (Nodes n) = nodes_text n
 piece_text (Amount amount) = amount_text amount
+piece_text (Size size) = amount_text size.now

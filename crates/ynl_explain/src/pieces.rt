@@ -6,7 +6,7 @@ ghost use Rattle.ynl_explain.specs.Pieces as spec;
 
 use itoa::Buffer;
 use std::alloc::AllocError;
-use ynl_resource::{Label, Name, Resource};
+use ynl_resource::{Label, Name, Resource, Size};
 
 /// A part of a text.
 #[derive(Clone, Copy)]
@@ -19,6 +19,7 @@ pub(crate) enum Piece<'a> {
     /// So many nodes.
     Nodes(usize),
     Amount(Resource),
+    Size(&'a Size),
 }
 
 /// The text with a word more.
@@ -84,6 +85,7 @@ fn put_piece(text: Vec<u8>, piece: &Piece<'_>) -> Result<Vec<u8>, AllocError>
         Piece::Number(number) => put_number(text, u64::from(*number)),
         Piece::Nodes(count) => put_nodes(text, *count as u64),
         Piece::Amount(amount) => put_amount(text, amount),
+        Piece::Size(size) => put_amount(text, &size.amount()),
     }
 }
 

@@ -31,13 +31,12 @@ fn put_wanted(text: Vec<u8>, request: &Request) -> Result<Vec<u8>, AllocError>
     ensures { IfOk result (λ longer.
         longer.items ≡ text.items ++ spec.wanted_by request.now.what request.now) }
 {
-    let size = request.size.amount();
     match &request.what {
         What::Master => put_pieces(
             text,
             &[
                 Piece::Word("its master of "),
-                Piece::Amount(size),
+                Piece::Size(&request.size),
                 Piece::Word(" on "),
                 Piece::Partition(&request.label),
             ],
@@ -47,7 +46,7 @@ fn put_wanted(text: Vec<u8>, request: &Request) -> Result<Vec<u8>, AllocError>
             &[
                 Piece::Number(request.count),
                 Piece::Word(" of "),
-                Piece::Amount(size),
+                Piece::Size(&request.size),
                 Piece::Word(" on "),
                 Piece::Partition(&request.label),
                 Piece::Word(", priority "),
@@ -84,7 +83,6 @@ fn put_over<'a>(
     ensures { IfOk result (λ longer.
         longer.items ≡ text.items ++ spec.over request.now used name.now limit) }
 {
-    let size = request.size.amount();
     put_pieces(
         text,
         &[
@@ -94,7 +92,7 @@ fn put_over<'a>(
             Piece::Word(" on "),
             Piece::Partition(&request.label),
             Piece::Word("; "),
-            Piece::Amount(size),
+            Piece::Size(&request.size),
             Piece::Word(" more do not fit"),
         ],
     )
@@ -217,7 +215,6 @@ fn put_room<'a>(
     ensures { IfOk result (λ longer.
         longer.items ≡ text.items ++ spec.sentence request.now (reason.Room label.now nodes free)) }
 {
-    let size = request.size.amount();
     put_pieces(
         text,
         &[
@@ -227,7 +224,7 @@ fn put_room<'a>(
             Piece::Word(": at most "),
             Piece::Amount(free),
             Piece::Word(" are free on any one; "),
-            Piece::Amount(size),
+            Piece::Size(&request.size),
             Piece::Word(" fit on none"),
         ],
     )
@@ -238,20 +235,19 @@ fn put_lead(text: Vec<u8>, ahead: &Proposal) -> Result<Vec<u8>, AllocError>
     ensures { IfOk result (λ longer.
         longer.items ≡ text.items ++ spec.lead_by ahead.now.what ahead.now) }
 {
-    let size = ahead.size.amount();
     match &ahead.what {
         What::Master => put_pieces(
             text,
             &[
                 Piece::Word(" is ahead with its master of "),
-                Piece::Amount(size),
+                Piece::Size(&ahead.size),
             ],
         ),
         What::Ask(label, priority) => put_pieces(
             text,
             &[
                 Piece::Word(" is ahead with a container of "),
-                Piece::Amount(size),
+                Piece::Size(&ahead.size),
                 Piece::Word(" on "),
                 Piece::Partition(label),
                 Piece::Word(", priority "),
