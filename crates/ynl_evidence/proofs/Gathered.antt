@@ -1,5 +1,6 @@
 -- The evidence of a journal, one entry after another.
-use Rattle.std.proofs.Common.{◌≡◌, ℕ, ◌+◌, List, [], ◌∷◌, ◌++◌, map, length, Option, Some, None, refl, ap, subst, append_assoc, length-append}
+use Rattle.std.proofs.Common.{◌≡◌, ℕ, ◌+◌, ◌<◌, List, [], ◌∷◌, ◌++◌, map, length, get_or, drop, Option, Some, None, refl, sym, ap, ◌∙◌, subst, append_assoc, length-append}
+use Rattle.std.proofs.lemmas.List.{drop_more}
 use Rattle.std.specs.Prelude.{slice_get}
 use Rattle.std.specs.Option.{option_and_then}
 use Rattle.ynl_resource.specs.declared.names.Name.{Name}
@@ -40,3 +41,18 @@ module _ (t : Name) (p : Label) (c : Config) where
 
 pub gathered : (c : Config) (entries : List Entry) (t : Name) (p : Label) → evidence_of c entries t p ≡ evidence_from t p c 0 [] entries
 gathered c entries t p = gathers t p c [] [] entries
+
+-- ---- one entry more
+
+pub noted-more : (c : Config) (t : Name) (p : Label) (place : ℕ) (nodes next : List Tracked) (entries : List Entry) (e : Entry) (found more : List Placed) (seen : Option Event) (all : List Placed)
+    → place < length entries → e ≡ get_or entries place e → seen ≡ seen_of t p c nodes e.event → next ≡ track_step c nodes e.event → more ≡ found ++ noted place seen e.reply
+    → found ++ evidence_from t p c place nodes (drop place entries) ≡ all → more ++ evidence_from t p c (place + 1) next (drop (place + 1) entries) ≡ all
+noted-more c t p place nodes next entries e found more seen all inside at is step longer so_far =
+    let after = drop (place + 1) entries in
+    let rest : drop place entries ≡ e ∷ after = drop_more entries place e inside ∙ ap (λ y. y ∷ after) (sym at) in
+    let later = evidence_from t p c (place + 1) (track_step c nodes e.event) after in
+    ap (λ (placed : List Placed). placed ++ evidence_from t p c (place + 1) next after) longer
+    ∙ ap (λ (track : List Tracked). (found ++ noted place seen e.reply) ++ evidence_from t p c (place + 1) track after) step
+    ∙ ap (λ (s : Option Event). (found ++ noted place s e.reply) ++ later) is
+    ∙ append_assoc found (noted place (seen_of t p c nodes e.event) e.reply) later
+    ∙ sym (ap (λ (es : List Entry). found ++ evidence_from t p c place nodes es) rest) ∙ so_far

@@ -1,9 +1,10 @@
 //! The audit of evidence.
 
-ghost use Rattle.std.specs.Prelude.{◌≡◌, None, IsTrue, OnOk, IfErr};
+ghost use Rattle.std.specs.Prelude.{◌≡◌, [], None, IsTrue, OnOk, IfErr};
 ghost use Rattle.ynl_model.specs.View.{is_sole};
 ghost use Rattle.ynl_evidence.specs.Flaws.{flaw_of, IsFault};
 ghost use Rattle.ynl_evidence.specs.Promises.{IsRight};
+ghost use Rattle.ynl_evidence.specs.Trials.{IsTrialOf};
 
 use crate::flaws::EvidenceFault;
 use crate::trial::Trial;
@@ -11,6 +12,26 @@ use std::alloc::Global;
 use ynl_model::Entry;
 use ynl_queues::Config;
 use ynl_resource::{Label, Name};
+
+/// Takes the entries in order with a trial that was just opened.
+fn audit_on(
+    trial: &mut Trial,
+    config: &Config,
+    tenant: &Name,
+    label: &Label,
+    placed: &[(u64, Entry)],
+) -> Result<(), EvidenceFault>
+    requires { IsTrialOf config.now tenant.now [] trial.old }
+    ensures ok { OnOk result (flaw_of config.now tenant.now label.now placed.now ≡ None) }
+    ensures err { IfErr result (IsFault config.now tenant.now label.now placed.now) }
+{
+    for (i, (place, entry)) in placed.iter().enumerate() {
+        if let Some(flaw) = trial.take(config, tenant, label, *place, entry)? {
+            return Err(EvidenceFault::Flawed(i as u64 + 1, flaw));
+        }
+    }
+    Ok(())
+}
 
 /// Applies the events in order to a cluster of this configuration that holds the tenant alone, and compares
 /// each reply that is there. Before that each entry is tested: its place is above the one before, and its
@@ -28,11 +49,8 @@ pub fn audit_evidence(
     ensures right { OnOk result (IsRight config tenant.now label.now placed.now) }
     ensures err { IfErr result (IsFault config tenant.now label.now placed.now) }
 {
-    let mut trial = Trial::open(alloc, &config, tenant)?;
-    for (i, (place, entry)) in placed.iter().enumerate() {
-        if let Some(flaw) = trial.take(&config, tenant, label, *place, entry)? {
-            return Err(EvidenceFault::Flawed(i as u64 + 1, flaw));
-        }
+    match Trial::open(alloc, &config, tenant) {
+        Ok(mut trial) => audit_on(&mut trial, &config, tenant, label, placed),
+        Err(_) => Err(EvidenceFault::NoMemory),
     }
-    Ok(())
 }

@@ -62,11 +62,14 @@ impl Trial {
         ensures { IfOk result (λ trial. IsTrialOf config.now tenant.now [] trial) }
     {
         let alone = restrict(alloc, config, tenant)?;
-        Ok(Trial {
-            core: Core::open(alloc, alone)?,
-            track: Track::new(alloc),
-            last: None,
-        })
+        match Core::open(alloc, alone) {
+            Ok(core) => Ok(Trial {
+                core,
+                track: Track::new(alloc),
+                last: None,
+            }),
+            Err(refused) => Err(refused),
+        }
     }
 
     /// Takes the next entry, or gives its flaw, with which the audit ends.

@@ -1,6 +1,6 @@
 use Rattle.std.proofs.Common.{◌≡◌, ◌++◌, [], drop}
 use Rattle.ynl_evidence.specs.Evidence.{evidence_from}
-use Rattle.ynl_evidence.proofs.gathering.evidence.Given as goal
+use Rattle.ynl_evidence.proofs.gathering.gather.Given as goal
 
 -- what was gathered, with the evidence of the entries that are left, is the evidence of all
 abbrev pub invariant-loop-i : goal.invariant-loop-i

@@ -1,7 +1,7 @@
 use Rattle.std.proofs.Common.{◌≡◌, take, drop}
 use Rattle.ynl_evidence.specs.Flaws.{flaw_from, flaw_of}
 use Rattle.ynl_evidence.specs.Trials.{IsTrialOf}
-use Rattle.ynl_evidence.proofs.auditing.audit_evidence.Given as goal
+use Rattle.ynl_evidence.proofs.auditing.audit_on.Given as goal
 
 -- the audit has come to the end of the entries so far, which have no flaw
 abbrev pub invariant-loop-i : goal.invariant-loop-i
