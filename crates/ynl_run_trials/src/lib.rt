@@ -1,16 +1,12 @@
 //! Tests of what runs: a cluster that is refused memory, what a tenant sees of one, a book of its events, the
-//! evidence of one, and jobs, checks and explanations whose reader or writer fails. The crates themselves have none, since a crate with
+//! evidence of one, and jobs whose reader fails once. The crates themselves have none, since a crate with
 //! tests is proved twice.
 #![tactic(auto)]
 
 #[cfg(test)]
-mod checks;
-#[cfg(test)]
 mod cluster;
 #[cfg(test)]
 mod evidence;
-#[cfg(test)]
-mod explanations;
 #[cfg(test)]
 mod jobs;
 #[cfg(test)]
