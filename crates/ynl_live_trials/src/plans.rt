@@ -1,8 +1,6 @@
 //! Proposals that are planned from what was seen under the lock, and their receipts.
 
-use crate::events::{
-    called, closed_alone, one, opened, receipt_of, register, reply_with, tried, two,
-};
+use crate::events::{called, closed_alone, one, opened, receipt_of, reply_with, tried, two};
 use crate::refusals::closed_again;
 use crate::workers::{Started, play_script};
 use std::alloc::Global;
@@ -160,37 +158,30 @@ fn is_planned_at_the_second_try(rt: HostRuntime) -> Result<(), Fail> {
     Ok(())
 }
 
-/// The receipt of a propose on a node that is not there.
-fn refused<R: Wait + Abort>(rt: &R, live: &Live, seat: &mut Seat) -> Result<Receipt, Fail> {
-    let node = Name::parse("g1")?;
-    let (place, sighted) = live.sight(rt, seat, &node)?;
-    assert!(rt; matches!(&sighted, Sighted::Refused(Refusal::NoSuchNode)));
-    Ok(planned(node, place, &sighted))
-}
-
-#[test]
-fn a_refused_propose_is_told_at_once(rt: HostRuntime) -> Result<(), Fail> {
-    let alloc = rt.alloc();
-    let (live, mut seat) = opened(alloc)?;
-    let receipt = refused(&rt, &live, &mut seat)?;
-    let receipts = one(alloc, receipt)?;
-    assert_eq!(rt; closed_alone(alloc, live, seat, receipts)?, Some(1));
-    Ok(())
-}
-
-/// A seat that made a call on the first sees nothing of the other, and stays as it is.
+/// The receipt of a propose on a node that is not there. Its seat sees nothing of another scheduler, and stays as it is.
 fn sees_nothing<R: Wait + Abort>(
     rt: &R,
     first: &Live,
     other: &Live,
     seat: &mut Seat,
-) -> Result<(), Fail> {
+) -> Result<Receipt, Fail> {
     let node = Name::parse("g1")?;
-    let _receipt = first.call(rt, seat, register().ok_or("no event")?)?;
+    let receipt = refused(rt, first, seat, node)?;
     let fault = other.sight(rt, seat, &node).err();
     assert_eq!(rt; fault, Some(CallFault::Behind(0)));
     assert_eq!(rt; (seat.calls(), seat.front()), (1, 1));
-    Ok(())
+    Ok(receipt)
+}
+
+fn refused<R: Wait + Abort>(
+    rt: &R,
+    live: &Live,
+    seat: &mut Seat,
+    node: Name,
+) -> Result<Receipt, Fail> {
+    let (place, sighted) = live.sight(rt, seat, &node)?;
+    assert!(rt; matches!(&sighted, Sighted::Refused(Refusal::NoSuchNode)));
+    Ok(planned(node, place, &sighted))
 }
 
 #[test]
@@ -198,7 +189,9 @@ fn a_seat_of_another_sees_nothing(rt: HostRuntime) -> Result<(), Fail> {
     let alloc = rt.alloc();
     let (first, mut seat) = opened(alloc)?;
     let (other, own) = opened(alloc)?;
-    sees_nothing(&rt, &first, &other, &mut seat)?;
+    let receipt = sees_nothing(&rt, &first, &other, &mut seat)?;
     assert_eq!(rt; closed_alone(alloc, other, own, Vec::new(alloc))?, Some(0));
+    let receipts = one(alloc, receipt)?;
+    assert_eq!(rt; closed_alone(alloc, first, seat, receipts)?, Some(1));
     Ok(())
 }

@@ -1,7 +1,6 @@
-//! A scheduler that is opened, called and closed, a round, a session and a list of events that are run, at the second try.
+//! A scheduler that is opened, called and closed, a round and a list of events that are run, at the second try.
 
 use crate::events::{closed_len, one, opened, poll, tried, worked};
-use crate::sessions;
 use crate::workers::{Started, gathered, open, play_script, run, script, turns};
 use std::alloc::Global;
 use std::process::Abort;
@@ -11,8 +10,6 @@ use std::thread::Threads;
 use ynl_core::{Answer, run as run_events};
 use ynl_live::{CallFault, Cause, Live, Receipt, Seat, Unclosed};
 use ynl_model::{Event, Reply};
-use ynl_packed::Events;
-use ynl_session::{SessionFault, run_session};
 use ynl_workers::{End, Unrun, WorkerEnd, run_round};
 
 // Run with each allocation failing in turn: where memory is refused at the first try, which a line
@@ -189,34 +186,6 @@ fn round_is_run_at_the_second_try(rt: HostRuntime) -> Result<(), Fail> {
     let (live, seats, lists) = gathered(alloc, started, one(alloc, worker)?)?;
     let len = closed_again(&rt, alloc, live, seats, lists.as_slice())?;
     assert_eq!(rt; len, Some(entries));
-    Ok(())
-}
-
-/// Two rounds over two nodes: each is asked about twice.
-fn session<R: Threads + Wait + Sync>(rt: &R, alloc: Global) -> Result<usize, SessionFault> {
-    let Some(events) = sessions::script() else {
-        return Ok(0);
-    };
-    let Some(config) = worked(alloc) else {
-        return Err(SessionFault::NoMemory);
-    };
-    let events = Events::of(alloc, &events)?;
-    let entries = run_session(rt, alloc, config, &events, 1, 2, &open())?;
-    Ok(entries.len())
-}
-
-#[test]
-fn session_is_run_at_the_second_try(rt: HostRuntime) -> Result<(), Fail> {
-    let alloc = rt.alloc();
-    let len = match session(&rt, alloc) {
-        Err(SessionFault::NoMemory) => {
-            println!(rt; "refused")?;
-            session(&rt, alloc)?
-        }
-        answer => answer?,
-    };
-    // The master, and two containers.
-    assert_eq!(rt; len, 11);
     Ok(())
 }
 

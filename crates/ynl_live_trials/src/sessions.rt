@@ -1,15 +1,13 @@
-//! Sessions: a script, rounds of workers over its nodes, and the closed journal.
+//! Sessions whose workers are halted, or are more than there are nodes.
 
 ghost use Rattle.std.specs.Prelude.{◌<◌};
 
 use crate::events::{ask, register_node, submit, worked};
 use crate::workers::{HaltsAt, open};
 use std::alloc::Global;
-use std::process::Abort;
 use std::sync::Wait;
 use std::test::Fail;
 use std::thread::Threads;
-use ynl_journal::audit;
 use ynl_model::{Entry, Event};
 use ynl_packed::Events;
 use ynl_resource::Name;
@@ -42,14 +40,6 @@ fn played<R: Threads + Wait + Sync, G: Gate + Sync>(
     Ok(entries.to_vec()?)
 }
 
-fn begins_with(entries: &[Entry], events: &[Event]) -> bool {
-    entries.len() >= events.len()
-        && entries
-            .iter()
-            .zip(events)
-            .all(|(entry, event)| entry.event == *event)
-}
-
 /// How often a node is asked about.
 fn times_asked(entries: &[Entry], name: &str) -> Result<usize, Fail> {
     let node = Name::parse(name)?;
@@ -70,36 +60,6 @@ fn others(entries: &[Entry]) -> usize {
         .iter()
         .filter(|entry| !matches!(entry.event, Event::Commit { .. }))
         .count()
-}
-
-#[test]
-fn each_node_is_asked_about_once_a_round(rt: HostRuntime) -> Result<(), Fail> {
-    let alloc = rt.alloc();
-    let entries = played(&rt, alloc, 2, 2, &open())?;
-    are_two_rounds(&rt, &entries)?;
-    let config = worked(alloc).ok_or("no configuration")?;
-    assert_eq!(rt; audit(alloc, config, &entries), Ok(()));
-    Ok(())
-}
-
-fn are_two_rounds<R: Abort>(rt: &R, entries: &[Entry]) -> Result<(), Fail> {
-    let events = script().ok_or("no script")?;
-    assert!(rt; begins_with(entries, &events));
-    assert_eq!(rt; times_asked(entries, "g1")?, 2);
-    assert_eq!(rt; times_asked(entries, "g2")?, 2);
-    // The master and one container of the ask at least find their node.
-    assert!(rt; commits(entries) >= 2);
-    assert_eq!(rt; others(entries), 8);
-    Ok(())
-}
-
-#[test]
-fn session_without_rounds_is_its_script(rt: HostRuntime) -> Result<(), Fail> {
-    let entries = played(&rt, rt.alloc(), 2, 0, &open())?;
-    let events = script().ok_or("no script")?;
-    assert!(rt; begins_with(&entries, &events));
-    assert_eq!(rt; entries.len(), events.len());
-    Ok(())
 }
 
 /// Each round begins anew with the first node, where the worker is halted.

@@ -1,4 +1,4 @@
-//! Workers that overlap, that are halted, and that have nothing to do.
+//! Workers that overlap, and that are halted.
 
 ghost use Rattle.std.specs.Prelude.{◌≡◌, length, vec_len};
 
@@ -298,22 +298,23 @@ fn workers_overlap_before_the_plan(rt: HostRuntime) -> Result<(), Fail> {
     two_that_overlap(&rt, rt.alloc(), true)
 }
 
-/// How a worker ended, and how many receipts it has.
-fn told(worker: Option<WorkerEnd>) -> Option<(End, usize)> {
-    let worker = worker?;
-    Some((worker.end, worker.receipts.len()))
+/// How the one worker of a round ended, and how many receipts it has.
+fn told(ends: &[WorkerEnd]) -> Option<(End, usize)> {
+    match ends {
+        [worker] => Some((worker.end, worker.receipts.len())),
+        _ => None,
+    }
 }
 
-/// A round of one worker over so many turns on the node, which is halted at one of them.
+/// A round of one worker over three turns on the node, which is halted at one of them.
 fn halted<R: Threads + Wait + Sync>(
     rt: &R,
     alloc: Global,
     started: &Started,
-    count: usize,
     turn: u64,
 ) -> Result<Vec<WorkerEnd>, Fail> {
     let seats = one(alloc, started.seat.split())?;
-    let lists = one(alloc, turns(alloc, count)?)?;
+    let lists = one(alloc, turns(alloc, 3)?)?;
     run(
         rt,
         alloc,
@@ -324,51 +325,33 @@ fn halted<R: Threads + Wait + Sync>(
     )
 }
 
-/// How a worker ends that is halted at a turn of three, and how many receipts it has.
+/// How a worker ends that is halted at a turn of three, how many receipts it has, and how many entries the closed
+/// journal.
 fn halted_at<R: Threads + Wait + Sync>(
     rt: &R,
     alloc: Global,
     turn: u64,
-) -> Result<Option<(End, usize)>, Fail> {
+) -> Result<(Option<(End, usize)>, Option<usize>), Fail> {
     let started = play_script(rt, alloc)?;
-    let mut ends = halted(rt, alloc, &started, 3, turn)?;
-    let end = told(ends.pop());
-    Ok(if ends.is_empty() { end } else { None })
+    let ends = halted(rt, alloc, &started, turn)?;
+    let end = told(&ends);
+    Ok((end, closed_after(alloc, started, ends)?))
 }
 
-#[test]
-fn worker_is_halted_before_the_commit(rt: HostRuntime) -> Result<(), Fail> {
-    let alloc = rt.alloc();
-    // Two containers are asked for: the third propose is answered none, so no gate is met there.
-    for (turn, end) in [
-        (0, (End::Halted, 1)),
-        (1, (End::Halted, 3)),
-        (2, (End::Whole, 5)),
-    ] {
-        assert!(rt; halted_at(&rt, alloc, turn)? == Some(end), "{turn}");
-    }
-    Ok(())
-}
-
+// A worker is halted before the commit. Two containers are asked for: the third propose is answered none, so no gate
+// is met there.
 #[test]
 fn a_halted_workers_journal_is_closed(rt: HostRuntime) -> Result<(), Fail> {
     let alloc = rt.alloc();
-    let started = play_script(&rt, alloc)?;
-    let ends = halted(&rt, alloc, &started, 2, 0)?;
-    assert_eq!(rt; closed_after(alloc, started, ends)?, Some(5));
-    Ok(())
-}
-
-#[test]
-fn workers_without_nodes_are_whole(rt: HostRuntime) -> Result<(), Fail> {
-    let alloc = rt.alloc();
-    let (live, seat) = opened(alloc)?;
-    let mut seats = two(alloc, seat.split(), seat.split())?;
-    seats.push(seat)?;
-    let mut lists = two(alloc, turns(alloc, 0)?, turns(alloc, 0)?)?;
-    lists.push(turns(alloc, 0)?)?;
-    let ends = run(&rt, alloc, &live, seats, &lists, &HaltsAt::turn(0))?;
-    assert_eq!(rt; ends.len(), 3);
-    assert!(rt; ends.iter().all(|worker| worker.end == End::Whole && worker.receipts.is_empty()));
+    for (turn, end, entries) in [
+        (0, (End::Halted, 1), 5),
+        (1, (End::Halted, 3), 7),
+        (2, (End::Whole, 5), 9),
+    ] {
+        assert!(rt;
+            halted_at(&rt, alloc, turn)? == (Some(end), Some(entries)),
+            "{turn}"
+        );
+    }
     Ok(())
 }
