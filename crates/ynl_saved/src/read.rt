@@ -117,9 +117,9 @@ fn read_into(
     read_by_value(alloc, before, line, into)
 }
 
-/// What a reader holds: the line that was read last, and its kind, once one was read.
+/// The line that was read last, and its kind, once one was read.
 #[derive(Clone, Copy)]
-pub struct Held {
+pub struct LastLine {
     before: Option<StateKind>,
     line: StateLine,
 }
@@ -128,13 +128,13 @@ pub struct Held {
 #[derive(Drop)]
 pub struct StateReader {
     scratch: Scratch,
-    held: Held,
+    held: LastLine,
 }
 
 impl Model for StateReader {
-    ghost use Rattle.ynl_saved.specs.declared.read.Held.{Held};
+    ghost use Rattle.ynl_saved.specs.declared.read.LastLine.{LastLine};
 
-    ghost Value = { Held };
+    ghost Value = { LastLine };
 
     ghost view = { λ r. r.held };
 }
@@ -146,7 +146,7 @@ impl StateReader {
     {
         StateReader {
             scratch: Scratch::new(alloc),
-            held: Held {
+            held: LastLine {
                 before: None,
                 line: StateLine::Begin,
             },

@@ -1,4 +1,4 @@
-//! Tests of what no text shows of lines, amounts, seeds and tables. The crates themselves have none, since a crate with tests is
+//! Tests of what no text shows of lines, saved states, amounts, seeds and tables. The crates themselves have none, since a crate with tests is
 //! proved twice.
 #![tactic(auto)]
 
@@ -6,6 +6,8 @@
 mod amounts;
 #[cfg(test)]
 mod lines;
+#[cfg(test)]
+mod saved;
 #[cfg(test)]
 mod seeds;
 #[cfg(test)]

@@ -1,0 +1,96 @@
+//! Lines of a saved state, which no command reads or writes yet, at the second try.
+
+use std::alloc::{AllocError, Global};
+use std::test::Fail;
+use ynl_saved::{StateFault, StateReader, put_state_line};
+
+/// The lines of a state, one of each kind, and a container that was asked for, in the form in which they are written.
+const STATE: [&str; 11] = [
+    r#"{"state":"begin","version":1}"#,
+    r#"{"clock":9007199254740991,"label":"","state":"partition"}"#,
+    r#"{"label":"gpu","memory":10000,"node":"g1","stamp":5,"state":"node","vcores":10}"#,
+    r#"{"app":"j1","label":"gpu","memory":1000,"queue":"root.eng.ml","state":"live","user":"ann","vcores":1}"#,
+    r#"{"app":"j1","count":2,"label":"","memory":11,"priority":7,"state":"ask","tenant":"eng","vcores":1}"#,
+    r#"{"app":"j2","queue":"root.eng.ml","state":"finished"}"#,
+    r#"{"app":"j1","id":"gpu#2","memory":1000,"node":"g1","state":"container","tenant":"eng","vcores":1,"what":"master"}"#,
+    r#"{"app":"j1","id":"gpu#3","label":"gpu","memory":2000,"node":"g1","priority":1,"state":"container","tenant":"eng","vcores":2,"what":"ask"}"#,
+    r#"{"queue":"root.eng","state":"stopped"}"#,
+    r#"{"label":"gpu","maximum":4000,"queue":"root.eng.etl","state":"maximum"}"#,
+    r#"{"lines":10,"state":"end"}"#,
+];
+
+/// Lines that are none behind the first one, each with its word.
+const FAULTY: [(&str, &str); 5] = [
+    (r#"{"state":"begin","version":1"#, "syntax"),
+    (r#"{"state":"begin","version":1}"#, "kind"),
+    (r#"{"app":"j2","state":"finished"}"#, "field"),
+    (r#"{"app":"j2","queue":"eng","state":"finished"}"#, "name"),
+    (
+        r#"{"clock":9007199254740992,"label":"","state":"partition"}"#,
+        "range",
+    ),
+];
+
+/// Whether a line is read, and has its own text.
+fn has_its_text(
+    alloc: Global,
+    reader: &mut StateReader,
+    text: &mut Vec<u8>,
+    line: &str,
+) -> Result<bool, AllocError> {
+    text.clear();
+    if reader.read(alloc, line.as_bytes())?.is_err() {
+        return Ok(false);
+    }
+    put_state_line(text, reader.line())?;
+    Ok(text.as_slice() == line.as_bytes())
+}
+
+/// Whether a line has the fault of this word.
+fn has_fault(
+    alloc: Global,
+    reader: &mut StateReader,
+    line: &str,
+    word: &str,
+) -> Result<bool, AllocError> {
+    let fault: Option<StateFault> = reader.read(alloc, line.as_bytes())?.err();
+    Ok(match fault {
+        Some(fault) => fault.word() == word,
+        None => false,
+    })
+}
+
+/// Whether each line has its text, and each that is none its fault behind the first.
+fn are_as_they_should(alloc: Global) -> Result<bool, AllocError> {
+    let mut text = Vec::new(alloc);
+    let mut reader = StateReader::new(alloc);
+    for line in STATE {
+        if !has_its_text(alloc, &mut reader, &mut text, line)? {
+            return Ok(false);
+        }
+    }
+    let mut reader = StateReader::new(alloc);
+    if !has_its_text(alloc, &mut reader, &mut text, STATE[0])? {
+        return Ok(false);
+    }
+    for (line, word) in FAULTY {
+        if !has_fault(alloc, &mut reader, line, word)? {
+            return Ok(false);
+        }
+    }
+    Ok(true)
+}
+
+#[test]
+fn a_state_is_read_and_written_at_the_second_try(rt: HostRuntime) -> Result<(), Fail> {
+    let alloc = rt.alloc();
+    let are = match are_as_they_should(alloc) {
+        Ok(are) => are,
+        Err(_) => {
+            println!(rt; "refused")?;
+            are_as_they_should(alloc)?
+        }
+    };
+    assert!(rt; are);
+    Ok(())
+}
