@@ -42,14 +42,45 @@ accessible-node-labels = "ssd"
 capacity = 100
 "#;
 
-/// A node of each partition, an application on gpu, and two asks of it; and one on DEFAULT whose asks are guests of s1.
-const ASKED: [&str; 9] = [
+/// A leaf seven queues below root, whose masters may use all of DEFAULT.
+const DEEP: &str = r#"version = 1
+[[queue]]
+path = "root.a"
+capacity = 100
+[[queue]]
+path = "root.a.b"
+capacity = 100
+[[queue]]
+path = "root.a.b.c"
+capacity = 100
+[[queue]]
+path = "root.a.b.c.d"
+capacity = 100
+[[queue]]
+path = "root.a.b.c.d.e"
+capacity = 100
+[[queue]]
+path = "root.a.b.c.d.e.f"
+capacity = 100
+[[queue]]
+path = "root.a.b.c.d.e.f.g"
+capacity = 100
+maximum-am-resource-percent = 100
+"#;
+
+/// A node of each partition, an application on gpu, and two asks of it.
+const ASKED: [&str; 4] = [
     r#"{"event":"register","label":"gpu","memory":10000,"node":"g1","vcores":10}"#,
-    r#"{"event":"register","label":"","memory":10000,"node":"d1","vcores":10}"#,
-    r#"{"event":"register","label":"ssd","memory":4000,"node":"s1","vcores":4}"#,
     r#"{"app":"j1","event":"submit","label":"gpu","memory":1000,"queue":"root.eng.ml","user":"ann","vcores":1}"#,
     r#"{"event":"heartbeat","node":"g1"}"#,
     r#"{"app":"j1","count":2,"event":"ask","label":"gpu","memory":2000,"priority":1,"tenant":"eng","vcores":2}"#,
+];
+
+/// An application on DEFAULT whose asks are guests of s1.
+const GUESTS: [&str; 6] = [
+    r#"{"event":"register","label":"","memory":10000,"node":"d1","vcores":10}"#,
+    r#"{"event":"register","label":"ssd","memory":4000,"node":"s1","vcores":4}"#,
+    r#"{"event":"register","label":"gpu","memory":10000,"node":"g1","vcores":10}"#,
     r#"{"app":"x1","event":"submit","label":"","memory":1000,"queue":"root.eng.ml","user":"ann","vcores":1}"#,
     r#"{"event":"heartbeat","node":"d1"}"#,
     r#"{"app":"x1","count":2,"event":"ask","label":"","memory":2000,"priority":1,"tenant":"eng","vcores":2}"#,
@@ -75,31 +106,31 @@ fn asked(node: &str, stamp: u64, app: &str, label: Label) -> Result<Proposal, Fa
     })
 }
 
-/// A cluster that was given the lines.
-fn given(alloc: Global) -> Result<Core, Fail> {
-    let Ok(config) = ynl_config::read_config(alloc, SHARED.as_bytes())? else {
+fn opened(alloc: Global, config: &str) -> Result<Core, Fail> {
+    let Ok(config) = ynl_config::read_config(alloc, config.as_bytes())? else {
         return Err(Fail::new("no configuration"));
     };
-    let mut core = Core::open(alloc, config)?;
-    give(alloc, &mut core)?;
-    Ok(core)
+    Ok(Core::open(alloc, config)?)
 }
 
-fn give(alloc: Global, core: &mut Core) -> Result<(), Fail> {
-    for line in ASKED {
+/// A cluster that was given the lines.
+fn given(alloc: Global, config: &str, lines: &[&str]) -> Result<Core, Fail> {
+    let mut core = opened(alloc, config)?;
+    for line in lines {
         let _reply = core.apply(event_of(alloc, line)?)?;
     }
-    Ok(())
+    Ok(core)
 }
 
 // Run with each allocation failing in turn: where memory is refused at the first try, which a line
 // tells, the second copies.
-fn seen<R: Print>(rt: &R, core: &Core, node: &Name) -> Result<Sighted, Fail> {
-    match core.sight(node) {
+fn seen(rt: &HostRuntime, core: &Core, node: &str) -> Result<Sighted, Fail> {
+    let name = Name::parse(node)?;
+    match core.sight(&name) {
         Ok(sighted) => Ok(sighted),
         Err(NoMemory) => {
             println!(rt; "refused")?;
-            Ok(core.sight(node)?)
+            Ok(core.sight(&name)?)
         }
     }
 }
@@ -112,37 +143,106 @@ fn planned(sighted: &Sighted) -> Option<Proposal> {
     }
 }
 
-/// Whether this is planned for the node.
-fn plans<R: Print>(rt: &R, core: &Core, proposal: &Proposal) -> Result<bool, Fail> {
-    let sighted = seen(rt, core, &proposal.node)?;
-    Ok(planned(&sighted) == Some(*proposal))
-}
-
-/// Whether this is still planned from a copy once the cluster has gone on.
-fn still_plans<R: Print>(rt: &R, core: &mut Core, proposal: &Proposal) -> Result<bool, Fail> {
-    let node = proposal.node;
-    let sighted = seen(rt, core, &node)?;
-    let _placed = core.apply(Event::Heartbeat { node })?;
-    Ok(planned(&sighted) == Some(*proposal))
-}
-
-fn is_stale(core: &mut Core, proposal: Proposal) -> Result<bool, Fail> {
-    let reply = core.apply(Event::Commit { proposal })?;
-    Ok(matches!(&reply, Reply::Refused(Refusal::Stale)))
-}
-
 /// The cluster goes on, the copy does not.
-fn plans_what_was_seen<R: Print + Abort>(rt: &R, core: &mut Core) -> Result<(), Fail> {
-    let guest = asked("s1", 1, "x1", Label::Unlabelled)?;
-    assert!(rt; plans(rt, core, &guest)?);
-    let own = asked("g1", 2, "j1", Label::parse("gpu")?)?;
-    assert!(rt; still_plans(rt, core, &own)?);
-    assert!(rt; is_stale(core, own)?);
+#[test]
+fn a_copy_is_planned_from_at_the_second_try(rt: HostRuntime) -> Result<(), Fail> {
+    let alloc = rt.alloc();
+    let mut core = given(alloc, SHARED, &ASKED)?;
+    let sighted = seen(&rt, &core, "g1")?;
+    let node = Name::parse("g1")?;
+    let _placed = core.apply(Event::Heartbeat { node })?;
+    let proposal = asked("g1", 2, "j1", Label::parse("gpu")?)?;
+    assert!(rt; planned(&sighted) == Some(proposal));
+    let reply = core.apply(Event::Commit { proposal })?;
+    assert!(rt; matches!(&reply, Reply::Refused(Refusal::Stale)));
     Ok(())
 }
 
 #[test]
-fn a_copy_is_planned_from_at_the_second_try(rt: HostRuntime) -> Result<(), Fail> {
-    let mut core = given(rt.alloc())?;
-    plans_what_was_seen(&rt, &mut core)
+fn a_guest_is_planned_at_the_second_try(rt: HostRuntime) -> Result<(), Fail> {
+    let alloc = rt.alloc();
+    let core = given(alloc, SHARED, &GUESTS)?;
+    let sighted = seen(&rt, &core, "s1")?;
+    let proposal = asked("s1", 1, "x1", Label::Unlabelled)?;
+    assert!(rt; planned(&sighted) == Some(proposal));
+    Ok(())
+}
+
+#[test]
+fn a_node_that_is_not_there_is_refused(rt: HostRuntime) -> Result<(), Fail> {
+    let core = given(rt.alloc(), SHARED, &ASKED)?;
+    let sighted = core.sight(&Name::parse("g2")?)?;
+    assert!(rt; matches!(&sighted, Sighted::Refused(Refusal::NoSuchNode)));
+    Ok(())
+}
+
+/// Whether what is planned for each node is what the cluster would choose there.
+fn plans_as_it_chooses(core: &Core, nodes: &[&str]) -> Result<bool, Fail> {
+    let mut as_chosen = true;
+    for node in nodes {
+        let name = Name::parse(node)?;
+        let sighted = core.sight(&name)?;
+        as_chosen = as_chosen && planned(&sighted) == core.choose(&name);
+    }
+    Ok(as_chosen)
+}
+
+/// Gives the lines to a cluster, and answers whether what is planned is what is chosen after each.
+fn agrees(alloc: Global, config: &str, lines: &[&str], nodes: &[&str]) -> Result<bool, Fail> {
+    let mut core = opened(alloc, config)?;
+    for line in lines {
+        let _reply = core.apply(event_of(alloc, line)?)?;
+        if !plans_as_it_chooses(&core, nodes)? {
+            return Ok(false);
+        }
+    }
+    Ok(true)
+}
+
+/// Leaves of two tenants on gpu and DEFAULT, users at their limits, masters over their share, maxima that are reached, guests,
+/// and a leaf of which nothing is wanted.
+const MORNING: [&str; 22] = [
+    r#"{"event":"register","label":"gpu","memory":10000,"node":"g1","vcores":10}"#,
+    r#"{"event":"register","label":"","memory":10000,"node":"d1","vcores":10}"#,
+    r#"{"event":"register","label":"ssd","memory":4000,"node":"s1","vcores":4}"#,
+    r#"{"app":"j1","event":"submit","label":"gpu","memory":700,"queue":"root.eng.ml","user":"ann","vcores":1}"#,
+    r#"{"app":"j2","event":"submit","label":"gpu","memory":300,"queue":"root.eng.etl","user":"bob","vcores":1}"#,
+    r#"{"app":"j3","event":"submit","label":"gpu","memory":200,"queue":"root.eng.etl","user":"ann","vcores":1}"#,
+    r#"{"event":"heartbeat","node":"g1"}"#,
+    r#"{"event":"heartbeat","node":"g1"}"#,
+    r#"{"app":"j1","count":9,"event":"ask","label":"gpu","memory":900,"priority":2,"tenant":"eng","vcores":1}"#,
+    r#"{"app":"j1","count":2,"event":"ask","label":"gpu","memory":800,"priority":1,"tenant":"eng","vcores":1}"#,
+    r#"{"app":"j2","count":9,"event":"ask","label":"gpu","memory":700,"priority":1,"tenant":"eng","vcores":1}"#,
+    r#"{"event":"heartbeat","node":"g1"}"#,
+    r#"{"event":"heartbeat","node":"g1"}"#,
+    r#"{"event":"heartbeat","node":"g1"}"#,
+    r#"{"app":"x1","event":"submit","label":"","memory":1000,"queue":"root.eng.ml","user":"ann","vcores":1}"#,
+    r#"{"app":"y1","event":"submit","label":"","memory":400,"queue":"root.mkt","user":"zoe","vcores":1}"#,
+    r#"{"event":"heartbeat","node":"d1"}"#,
+    r#"{"event":"heartbeat","node":"d1"}"#,
+    r#"{"app":"x1","count":3,"event":"ask","label":"","memory":900,"priority":1,"tenant":"eng","vcores":1}"#,
+    r#"{"app":"y1","count":3,"event":"ask","label":"","memory":900,"priority":1,"tenant":"mkt","vcores":1}"#,
+    r#"{"app":"y1","count":1,"event":"ask","label":"ssd","memory":4000,"priority":3,"tenant":"mkt","vcores":4}"#,
+    r#"{"event":"heartbeat","node":"s1"}"#,
+];
+
+/// Names of 64 bytes.
+const LONG: [&str; 5] = [
+    r#"{"event":"register","label":"","memory":10000,"node":"d1","vcores":10}"#,
+    r#"{"app":"b23456789012345678901234567890123456789012345678901234567890abcd","event":"submit","label":"","memory":1000,"queue":"root.a.b.c.d.e.f.g","user":"u23456789012345678901234567890123456789012345678901234567890abcd","vcores":1}"#,
+    r#"{"app":"a23456789012345678901234567890123456789012345678901234567890abcd","event":"submit","label":"","memory":500,"queue":"root.a.b.c.d.e.f.g","user":"u23456789012345678901234567890123456789012345678901234567890abcd","vcores":1}"#,
+    r#"{"event":"heartbeat","node":"d1"}"#,
+    r#"{"app":"b23456789012345678901234567890123456789012345678901234567890abcd","count":2,"event":"ask","label":"","memory":2000,"priority":1,"tenant":"a","vcores":2}"#,
+];
+
+#[test]
+fn plans_are_choices(rt: HostRuntime) -> Result<(), Fail> {
+    let alloc = rt.alloc();
+    let shared = agrees(alloc, SHARED, &MORNING, &["g1", "d1", "s1"])?;
+    assert!(rt; shared);
+    let guests = agrees(alloc, SHARED, &GUESTS, &["g1", "d1", "s1"])?;
+    assert!(rt; guests);
+    let deep = agrees(alloc, DEEP, &LONG, &["d1"])?;
+    assert!(rt; deep);
+    Ok(())
 }
