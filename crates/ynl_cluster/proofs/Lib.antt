@@ -17,3 +17,4 @@ pub mod Naming
 pub mod Own
 pub mod OwnEnding
 pub mod Moving
+pub mod Times

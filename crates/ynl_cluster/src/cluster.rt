@@ -2,8 +2,8 @@
 
 ghost use Rattle.std.specs.Prelude.{◌≡◌, ◌≢◌, ◌<◌, ◌≤◌, ◌+◌, false, true, length, None, Some, IfOk, IfSome, IsOk, IsSome, nat_eq, OnErr, OnOk, option_map, slice_get, slice_index_or, []};
 ghost use Rattle.std.specs.Map.{lookup};
-ghost use Rattle.ynl_model.specs.Cluster.{guaranteed, maximum, opening, total};
-ghost use Rattle.ynl_model.specs.Nodes.{is_full, nodes_of};
+ghost use Rattle.ynl_model.specs.Cluster.{guaranteed, in_partition, maximum, opening, total};
+ghost use Rattle.ynl_model.specs.Nodes.{is_full, nodes_of, stamped};
 ghost use Rattle.ynl_model.specs.Queues.{accepts, capacity_on, maximum_on, queue_row, set_maximum, set_stop};
 ghost use Rattle.ynl_model.specs.Applications.{finished, in_leaf, new_app, set_ask, submitted, with_app};
 ghost use Rattle.ynl_model.specs.Changes.{app_finishes, end, node_joins, node_leaves, place};
@@ -14,10 +14,10 @@ ghost use Rattle.ynl_uses.specs.Tallies.{IsSmallUse, IsTotal};
 ghost use Rattle.ynl_slots.specs.Slots.{without, IsLive, IsUnused};
 ghost use Rattle.ynl_app_table.specs.declared.app.Tickets.{Tickets as TicketPair};
 ghost use Rattle.ynl_inventory.specs.Rows.{AppRow, NodeRow};
-ghost use Rattle.ynl_inventory.specs.Changes.{partition_of_node, with_app_gone, with_asked, with_dropped, with_ended, with_joined, with_left, with_node_gone, with_placed, with_submitted, with_tickets, with_user_known};
+ghost use Rattle.ynl_inventory.specs.Changes.{partition_of_node, with_app_gone, with_asked, with_dropped, with_ended, with_joined, with_left, with_node_gone, with_placed, with_submitted, with_clock, with_stamp, with_tickets, with_user_known};
 ghost use Rattle.ynl_inventory.specs.Meaning.{app_name, app_of, ask_of, item_of, node_number, node_of, placed_of};
 ghost use Rattle.ynl_inventory.specs.Parts.{CanPlace, LeavesRoom, containers_of, held_at};
-ghost use Rattle.ynl_inventory.specs.Sound.{CanAsk, CanSubmit, HasNoContainers, HasPartition, IsFor, IsPlaceable, IsSound, OwnsNoContainers};
+ghost use Rattle.ynl_inventory.specs.Sound.{CanAsk, CanShow, CanSubmit, HasNoContainers, HasPartition, IsFor, IsPlaceable, IsSound, OwnsNoContainers};
 ghost use Rattle.ynl_ledger.specs.Ledger.{total_in, IsBounded};
 ghost use Rattle.ynl_seating.specs.Seating.{AreSeated};
 ghost use Rattle.ynl_cluster.specs.Cluster.{held_in, label_of, path_of, state_in, AreNumbered, AskSizes, IsCell, IsLaneIn};
@@ -248,6 +248,16 @@ impl Cluster {
         !self.stops.any(way_to(self.inventory.layout(), queue))
     }
 
+    /// Whether a queue below root is stopped itself.
+    pub fn is_stopped(&self, queue: usize) -> bool
+        requires below_root { 0 < queue }
+        requires there { HasNumber self.now.rows.paths queue }
+        ensures { slice_get (state_in self.now).stops (queue - 1)
+            ≡ Some (record { queue = path_of self.now queue; stopped = result }) }
+    {
+        self.stops.of(queue)
+    }
+
     /// A queue below root is stopped, or started again.
     pub fn set_stopped(&mut self, queue: usize, stopped: bool)
         requires below_root { 0 < queue }
@@ -271,6 +281,35 @@ impl Cluster {
         } }
     {
         self.shares.set_maximum(p as usize, queue, share);
+    }
+
+    /// The clock of a partition is set. It takes no memory.
+    pub fn set_clock(&mut self, p: u8, clock: u64)
+        requires there { HasPartition self.old.rows p }
+        requires can { CanShow self.old.rows p clock }
+        ensures rows { self.new ≡ record self.old { rows = with_clock p clock self.old.rows } }
+        ensures state { state_in self.new ≡ record (state_in self.old) {
+          partitions = in_partition (label_of self.old p) (λ row. record row { clock = clock })
+              (state_in self.old).partitions;
+        } }
+    {
+        self.inventory.set_clock(p, clock);
+        // Opens the inventory, whose rows are sound.
+        let _ = self.inventory.partition_count();
+    }
+
+    /// The stamp of a node is set. It takes no memory.
+    pub fn set_stamp(&mut self, node: u32, stamp: u64)
+        requires { IsLive node self.old.rows.nodes }
+        ensures rows { self.new ≡ record self.old { rows = with_stamp node stamp self.old.rows } }
+        ensures state { (row : NodeRow) → lookup (nat_eq node) self.old.rows.nodes ≡ Some row
+            → state_in self.new ≡ record (state_in self.old) {
+              nodes = stamped row.name (label_of self.old row.partition) stamp (state_in self.old).nodes;
+            } }
+    {
+        self.inventory.set_stamp(node, stamp);
+        // Opens the inventory, whose rows are sound.
+        let _ = self.inventory.partition_count();
     }
 
     /// Reserves room for so many more containers in a partition. It fails where

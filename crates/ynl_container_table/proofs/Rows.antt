@@ -44,7 +44,7 @@ module _ {X Y : Type 0} (f : X → Y) where
   distinct_of_rows [] h = tt
   distinct_of_rows (e ∷ es) h = (unused_of_rows e.0 es h.0, distinct_of_rows es h.1)
 
-  numbers-of_rows : (es : List (ℕ × X)) → map (λ e. e.0) (of_rows f es) ≡ map (λ e. e.0) es
+  pub numbers-of_rows : (es : List (ℕ × X)) → map (λ e. e.0) (of_rows f es) ≡ map (λ e. e.0) es
   numbers-of_rows [] = refl
   numbers-of_rows (e ∷ es) = ap (λ ns. e.0 ∷ ns) (numbers-of_rows es)
 

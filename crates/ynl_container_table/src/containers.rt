@@ -134,6 +134,14 @@ impl Containers {
         containers_of(alloc, &rows)
     }
 
+    /// The numbers of the containers, in the order of placement. It fails if memory is refused, and takes
+    /// the time of a sort.
+    pub fn numbers(&self, alloc: Global) -> Result<Vec<u32>, AllocError>
+        ensures { IfOk result (λ numbers. numbers.items ≡ map (λ e. e.0) self.now.entries) }
+    {
+        self.rows.numbers(alloc)
+    }
+
     /// The number of the container with a clock, if there is one.
     pub fn find(&self, clock: u64) -> Option<u32>
         ensures value { result ≡ number_at clock self.now.entries }

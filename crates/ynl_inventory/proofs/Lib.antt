@@ -49,3 +49,5 @@ pub mod PlacedRead
 pub mod Results
 pub mod FreeRead
 pub mod Rejoining
+pub mod Times
+pub mod TimeParts

@@ -66,6 +66,14 @@ with_changed p node change v = record v {
 abbrev pub with_app_changed : ℕ → (AppRow → AppRow) → Rows → Rows
 with_app_changed app change v = record v { apps = with_change app change v.apps }
 
+-- the clock of a partition is set
+abbrev pub with_clock : ℕ → ℕ → Rows → Rows
+with_clock p clock v = record v { partitions = with_at p (λ row. record row { clock = clock }) v.partitions }
+
+-- the stamp of a node is set
+abbrev pub with_stamp : ℕ → ℕ → Rows → Rows
+with_stamp node stamp v = record v { nodes = with_change node (λ row. record row { stamp = stamp }) v.nodes }
+
 -- a container is placed on a node, under a number
 abbrev pub with_placed : ℕ → ℕ → ℕ → Role → Resource → Rows → Rows
 with_placed number node app role size v =

@@ -133,6 +133,11 @@ module _ (v : Rows) where
     pub app_found : lookup (nat_eq app) v.apps ≡ Some app_row
     pub role : CanTake app node_row.partition partition.guests app_row r
 
+  -- the clock of a partition may show this: it is no further than it goes, and no container there has a later one
+  pub record CanShow (p clock : ℕ) : Type 0 where
+    pub within : IfSome (slice_get v.partitions p) (λ row. clock ≤ row.limit)
+    pub above : IfSome (slice_get v.partitions p) (λ row. AllByRecursion (λ e. e.1.clock ≤ clock) row.containers)
+
   -- an application of this name may be submitted: its tenant has none of that name, its leaf is one of that tenant, and its user and its home
   -- partition are there
   pub record CanSubmit (name : Name) (new : NewSubmission) : Type 0 where

@@ -4,7 +4,7 @@ ghost use Rattle.std.specs.Prelude.{◌≡◌, ◌<◌, ◌≤◌, nat_eq, lengt
 ghost use Rattle.std.specs.Map.{lookup};
 ghost use Rattle.ynl_slots.specs.Slots.{without, IsLive, IsUnused};
 ghost use Rattle.ynl_app_table.specs.Chains.{chain_of};
-ghost use Rattle.ynl_inventory.specs.Changes.{partition_of_node, with_placed, with_ended, with_joined, with_dropped, with_node_gone, with_submitted, with_asked, with_tickets, with_app_gone, with_user_known};
+ghost use Rattle.ynl_inventory.specs.Changes.{partition_of_node, with_placed, with_ended, with_joined, with_dropped, with_node_gone, with_submitted, with_asked, with_tickets, with_app_gone, with_user_known, with_clock, with_stamp};
 ghost use Rattle.ynl_model.specs.Nodes.{rises};
 ghost use Rattle.ynl_container_table.specs.Chains.{IsFirst, IsNext};
 ghost use Rattle.ynl_container_table.specs.Table.{number_at};
@@ -14,7 +14,7 @@ ghost use Rattle.ynl_inventory.specs.Meaning.{app_name, app_number, label_at, no
 ghost use Rattle.ynl_layout.specs.Paths.{HasNumber};
 ghost use Rattle.ynl_inventory.specs.Opening.{opening_rows, IsOpening};
 ghost use Rattle.ynl_inventory.specs.Apps.{runs_at, master_of};
-ghost use Rattle.ynl_inventory.specs.Sound.{CanAsk, CanSubmit, HasPartition, HasNoContainers, OwnsNoContainers, IsFor, IsSound};
+ghost use Rattle.ynl_inventory.specs.Sound.{CanAsk, CanShow, CanSubmit, HasPartition, HasNoContainers, OwnsNoContainers, IsFor, IsSound};
 ghost use Rattle.ynl_inventory.specs.Parts.{app_row, node_row, CanPlace, IsFitting, LeavesRoom, free_of, held_at, containers_of};
 
 use crate::changes::{freed, released, taken, used};
@@ -114,6 +114,24 @@ impl Inventory {
         used(&mut self.nodes, placed.node, of_node, clock, placed.size);
         taken(&mut self.apps, placed, p, of_app, number);
         number
+    }
+
+    /// Sets the clock of a partition. It takes no memory.
+    pub fn set_clock(&mut self, p: u8, clock: u64)
+        requires there { HasPartition self.old.rows p }
+        requires can { CanShow self.old.rows p clock }
+        ensures { self.new ≡ record self.old { rows = with_clock p clock self.old.rows } }
+    {
+        let part = &mut self.partitions[p as usize];
+        part.clock = clock;
+    }
+
+    /// Sets the stamp of a node. It takes no memory.
+    pub fn set_stamp(&mut self, node: u32, stamp: u64)
+        requires { IsLive node self.old.rows.nodes }
+        ensures { self.new ≡ record self.old { rows = with_stamp node stamp self.old.rows } }
+    {
+        self.nodes.set_stamp(node, stamp);
     }
 
     /// Reserves room for so many more containers in a partition, as a heartbeat may place. It fails if memory is refused, and
@@ -396,6 +414,17 @@ impl Inventory {
         part.containers.copies(alloc)
     }
 
+    /// The numbers of the containers of a partition, in the order of placement. It fails if memory is
+    /// refused, and takes the time of a sort.
+    pub fn container_numbers(&self, alloc: Global, p: u8) -> Result<Vec<u32>, AllocError>
+        requires { HasPartition self.now.rows p }
+        ensures { IfOk result (λ numbers.
+            numbers.items ≡ map (λ e. e.0) (containers_of self.now.rows p)) }
+    {
+        let part = &self.partitions[p as usize];
+        part.containers.numbers(alloc)
+    }
+
     /// The queues under numbers.
     pub fn layout(&self) -> &Layout
         ensures { result.now ≡ self.now.rows.paths }
@@ -431,6 +460,15 @@ impl Inventory {
         part.guests
     }
 
+    /// What the clock of a partition shows.
+    pub fn clock(&self, p: u8) -> u64
+        requires { HasPartition self.now.rows p }
+        ensures { IfSome (slice_get self.now.rows.partitions p) (λ row. result ≡ row.clock) }
+    {
+        let part = &self.partitions[p as usize];
+        part.clock
+    }
+
     /// Whether the clock of a partition stands at its limit.
     pub fn is_spent(&self, p: u8) -> bool
         requires { HasPartition self.now.rows p }
@@ -449,6 +487,14 @@ impl Inventory {
     {
         let part = &self.partitions[p as usize];
         part.containers.find(clock)
+    }
+
+    /// The applications that were ever submitted to a tenant, in the order of submission.
+    pub fn submissions(&self, tenant: u32) -> &Submissions
+        requires { tenant < length self.now.rows.tenants }
+        ensures { result.now.entries ≡ submitted_to self.now.rows.tenants tenant }
+    {
+        &self.tenants[tenant as usize]
     }
 
     /// The turn of a tenant's application of a name, if one was submitted.

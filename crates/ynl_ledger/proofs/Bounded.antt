@@ -25,7 +25,7 @@ use Rattle.ynl_inventory.proofs.PartLists.{unmapped}
 use Rattle.ynl_inventory.proofs.Updates.{each-number}
 use Rattle.ynl_inventory.proofs.Used.{fits-left, nothing-plus, used-push}
 use Rattle.ynl_ledger.specs.declared.totals.Total.{Total}
-use Rattle.ynl_ledger.specs.Bounded.{DroppingKeepsBounds, EndingKeepsBounds, JoiningKeepsBounds, LeavingKeepsBounds, OthersKeepBounds, PlacingKeepsBounds}
+use Rattle.ynl_ledger.specs.Bounded.{ClocksKeepBounds, DroppingKeepsBounds, EndingKeepsBounds, JoiningKeepsBounds, LeavingKeepsBounds, OthersKeepBounds, PlacingKeepsBounds, StampsKeepBounds}
 use Rattle.ynl_ledger.specs.Totals.{grown}
 use Rattle.ynl_ledger.specs.Ledger.{nodes_on, total_in, total_of_nodes, AreSized, IsBounded}
 use Rattle.ynl_ledger.proofs.Small.{nothing-fits}
@@ -176,6 +176,23 @@ pub dropping : DroppingKeepsBounds
 dropping v bounded p number =
     changed-bounded v bounded p (λ row. record row { containers = without number row.containers }) v.nodes
     (λ n new found. record { row = new; found = found; partition = refl; size = refl }) (λ q. refl) (less-fits v bounded p number) (less-sized v bounded p number)
+
+-- ---- clocks and stamps
+
+pub clocks : ClocksKeepBounds
+clocks v bounded p clock =
+    changed-bounded v bounded p (λ row. record row { clock = clock }) v.nodes (λ n new found. record { row = new; found = found; partition = refl; size = refl }) (λ q. refl)
+    (λ n row part found stands there. ap (λ es. fits_in (used_of es n) row.size) (sym (stand-there v p row part stands there)) ∙ bounded.fits n row found) (bounded.containers p)
+
+pub stamps : StampsKeepBounds
+stamps v bounded node stamp = record {
+  nodes = λ n new found. let old = stamped-was v node stamp n new found in subst IsSize (sym old.size) (bounded.nodes n old.row old.found);
+  containers = bounded.containers;
+  fits = λ n new found.
+      let old = stamped-was v node stamp n new found in
+      ap (λ q. fits_in (used_of (containers_of v q) n) new.size) old.partition ∙ ap (fits_in (used_of (containers_of v old.row.partition) n)) old.size ∙ bounded.fits n old.row old.found;
+  many = λ q. subst (λ n. n ≤ most_nodes) (sym (ap (λ (t : Total). t.nodes) (total-stamped q node stamp v.nodes))) (bounded.many q);
+}
 
 -- ---- nodes
 

@@ -5,9 +5,9 @@ use Rattle.ynl_app_table.specs.Asks.{with_ask}
 use Rattle.ynl_slots.specs.Slots.{without}
 use Rattle.ynl_inventory.specs.Changes.{new_app, next_clock_at, partition_of_node, ticked, with_taken, next_container}
 use Rattle.std.specs.Prelude.{[], ◌∷◌, ◌++◌, length, slice_index_or}
-use Rattle.ynl_ledger.specs.Changes.{PlacingRaises, EndingLowers, DroppingLowers, JoiningAdds, LeavingTakes, SubmittingStays, AskingStays, TicketsStay, FinishingStays, UsersStay}
-use Rattle.ynl_ledger.proofs.Sums.{changed-totals, dropped-totals, joined-totals, left-totals}
-use Rattle.ynl_ledger.proofs.Uses.{changed-uses, dropped-uses, ended-uses, finished-uses, joined-uses, placed-uses, submitted-uses}
+use Rattle.ynl_ledger.specs.Changes.{PlacingRaises, EndingLowers, DroppingLowers, JoiningAdds, LeavingTakes, SubmittingStays, AskingStays, TicketsStay, FinishingStays, ClocksStay, StampsStay, UsersStay}
+use Rattle.ynl_ledger.proofs.Sums.{changed-totals, dropped-totals, stamp-totals, joined-totals, left-totals}
+use Rattle.ynl_ledger.proofs.Uses.{changed-uses, clock-uses, dropped-uses, ended-uses, finished-uses, joined-uses, placed-uses, submitted-uses}
 
 pub placing : PlacingRaises
 placing v number node app role size line live way = record {
@@ -49,6 +49,12 @@ ticketing v app tickets = record { uses = changed-uses v app (λ row. record row
 
 pub finishing : FinishingStays
 finishing v app tenant turn none = record { uses = finished-uses v app none; totals = refl }
+
+pub clocks : ClocksStay
+clocks v p clock = record { uses = clock-uses v p clock; totals = dropped-totals v p (λ row. record row { clock = clock }) }
+
+pub stamps : StampsStay
+stamps v node stamp = record { uses = refl; totals = stamp-totals v node stamp }
 
 pub users : UsersStay
 users v name = record { uses = refl; totals = refl }

@@ -12,13 +12,13 @@ use Rattle.ynl_slots.specs.Slots.{without}
 use Rattle.ynl_slots.proofs.Entries.{itself, other}
 use Rattle.ynl_app_table.specs.Apps.{with_change}
 use Rattle.ynl_inventory.specs.Rows.{Rows, PartitionRow, NodeRow, AppRow}
-use Rattle.ynl_inventory.specs.Changes.{next_clock_at, ticked, with_at, with_joined, with_node_gone}
+use Rattle.ynl_inventory.specs.Changes.{next_clock_at, ticked, with_at, with_joined, with_node_gone, with_stamp}
 use Rattle.ynl_inventory.specs.Sound.{IsSound}
 use Rattle.ynl_inventory.proofs.Lookups.{map-changed}
 use Rattle.ynl_ledger.specs.declared.totals.Total.{Total}
 use Rattle.ynl_ledger.specs.Totals.{grown, shrunk}
 use Rattle.ynl_ledger.specs.Ledger.{nodes_on, total_in, total_of_nodes, totals_in}
-use Rattle.ynl_ledger.proofs.Places.{at-none, by_place-changed}
+use Rattle.ynl_ledger.proofs.Places.{at-none, by_place-changed, by_place-same}
 use Rattle.ynl_ledger.proofs.Raising.{less-plus, one_less}
 use Rattle.ynl_ledger.proofs.Uses.{inserted-last, inserted-number}
 
@@ -83,6 +83,10 @@ changed-totals v p change node stamp apps =
 
 pub dropped-totals : (v : Rows) (p : ℕ) (change : PartitionRow → PartitionRow) → totals_in (record v { partitions = with_at p change v.partitions }) ≡ totals_in v
 dropped-totals v p change = totals-kept v p change v.nodes v.apps (λ q. refl)
+
+-- a stamp does not either
+pub stamp-totals : (v : Rows) (node stamp : ℕ) → totals_in (with_stamp node stamp v) ≡ totals_in v
+stamp-totals v node stamp = by_place-same (λ q row. total_in v q) (λ q row. total_in (with_stamp node stamp v) q) v.partitions (λ q row at. total-stamped q node stamp v.nodes)
 
 -- a node joins
 pub joined-totals : (v : Rows) (number : ℕ) (name : Name) (p : ℕ) (size : Resource) → totals_in (with_joined number name p size v) ≡ with_at p (grown size) (totals_in v)

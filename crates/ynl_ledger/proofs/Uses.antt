@@ -21,7 +21,7 @@ use Rattle.ynl_container_table.specs.declared.container.Container.{Container}
 use Rattle.ynl_container_table.specs.declared.container.Role.{Role}
 use Rattle.ynl_uses.specs.Tallies.{raised, lowered, with_partition}
 use Rattle.ynl_inventory.specs.Rows.{Rows, PartitionRow, NodeRow, AppRow}
-use Rattle.ynl_inventory.specs.Changes.{next_clock_at, next_container, partition_of_node, ticked, with_at, with_dropped, with_ended, with_joined, with_placed, with_taken}
+use Rattle.ynl_inventory.specs.Changes.{next_clock_at, next_container, partition_of_node, ticked, with_at, with_clock, with_dropped, with_ended, with_joined, with_placed, with_taken}
 use Rattle.ynl_inventory.specs.Parts.{held_at}
 use Rattle.ynl_inventory.specs.Sound.{IsSound, OwnsNoContainers}
 use Rattle.ynl_inventory.proofs.Lookups.{pushed-live}
@@ -114,6 +114,11 @@ pub joined-uses : (v : Rows) (number : ℕ) (name : Name) (p : ℕ) (size : Reso
 joined-uses v number name p size =
     uses-changed v p (ticked (λ es. es)) (v.nodes ++ (number, record { name = name; partition = p; size = size; stamp = next_clock_at v.partitions p }) ∷ []) v.apps (λ us. us) (λ queue c. refl) (λ row at. refl)
     ∙ partition-at p (λ us. us) (uses_in v) ∙ at-none p (uses_in v)
+
+-- a clock is set
+pub clock-uses : (v : Rows) (p clock : ℕ) → uses_in (with_clock p clock v) ≡ uses_in v
+clock-uses v p clock =
+    uses-changed v p (λ row. record row { clock = clock }) v.nodes v.apps (λ us. us) (λ queue c. refl) (λ row at. refl) ∙ partition-at p (λ us. us) (uses_in v) ∙ at-none p (uses_in v)
 
 -- ---- applications
 

@@ -8,7 +8,7 @@ use Rattle.ynl_resource.specs.declared.names.Name.{Name}
 use Rattle.ynl_slots.specs.Slots.{IsUnused}
 use Rattle.ynl_container_table.specs.declared.container.Role.{Role}
 use Rattle.ynl_inventory.specs.Rows.{Rows, NodeRow}
-use Rattle.ynl_inventory.specs.Changes.{with_dropped, with_ended, with_joined, with_node_gone, with_placed}
+use Rattle.ynl_inventory.specs.Changes.{with_clock, with_dropped, with_ended, with_joined, with_node_gone, with_placed, with_stamp}
 use Rattle.ynl_inventory.specs.Parts.{free_of}
 use Rattle.ynl_inventory.specs.Sound.{IsSound}
 use Rattle.ynl_ledger.specs.Ledger.{total_in, IsBounded}
@@ -33,6 +33,14 @@ JoiningKeepsBounds = (v : Rows) → IsSound v → IsBounded v → (number : ℕ)
 -- one that leaves does
 abbrev pub LeavingKeepsBounds : Type 0
 LeavingKeepsBounds = (v : Rows) → IsSound v → IsBounded v → (node : ℕ) (row : NodeRow) → lookup (nat_eq node) v.nodes ≡ Some row → IsBounded (with_node_gone node v)
+
+-- a clock that is set does
+abbrev pub ClocksKeepBounds : Type 0
+ClocksKeepBounds = (v : Rows) → IsBounded v → (p clock : ℕ) → IsBounded (with_clock p clock v)
+
+-- and a stamp
+abbrev pub StampsKeepBounds : Type 0
+StampsKeepBounds = (v : Rows) → IsBounded v → (node stamp : ℕ) → IsBounded (with_stamp node stamp v)
 
 -- so does each change that leaves partitions and nodes: those of applications and users
 abbrev pub OthersKeepBounds : Type 0

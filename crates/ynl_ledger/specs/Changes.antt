@@ -15,7 +15,7 @@ use Rattle.ynl_container_table.specs.declared.container.Role.{Role}
 use Rattle.ynl_uses.specs.Tallies.{lowered, raised, with_partition}
 use Rattle.ynl_inventory.specs.Rows.{Rows, NodeRow}
 use Rattle.ynl_inventory.specs.Apps.{leaf_of_app}
-use Rattle.ynl_inventory.specs.Changes.{partition_of_node, with_app_gone, with_asked, with_at, with_dropped, with_ended, with_joined, with_node_gone, with_placed, with_submitted, with_tickets, with_user}
+use Rattle.ynl_inventory.specs.Changes.{partition_of_node, with_app_gone, with_asked, with_at, with_clock, with_dropped, with_ended, with_joined, with_node_gone, with_placed, with_stamp, with_submitted, with_tickets, with_user}
 use Rattle.ynl_inventory.specs.Parts.{held_at}
 use Rattle.ynl_inventory.specs.Sound.{IsSound, OwnsNoContainers}
 use Rattle.ynl_ledger.specs.declared.totals.Total.{Total}
@@ -79,6 +79,14 @@ TicketsStay = (v : Rows) (app : ℕ) (tickets : Tickets) → ChangesNothing v (w
 -- nor does an application that goes, which has no containers
 abbrev pub FinishingStays : Type 0
 FinishingStays = (v : Rows) (app tenant turn : ℕ) → OwnsNoContainers v app → ChangesNothing v (with_app_gone app tenant turn v)
+
+-- nor does a clock that is set
+abbrev pub ClocksStay : Type 0
+ClocksStay = (v : Rows) (p clock : ℕ) → ChangesNothing v (with_clock p clock v)
+
+-- nor does a stamp
+abbrev pub StampsStay : Type 0
+StampsStay = (v : Rows) (node stamp : ℕ) → ChangesNothing v (with_stamp node stamp v)
 
 -- nor does a new user
 abbrev pub UsersStay : Type 0

@@ -16,7 +16,7 @@ use Rattle.ynl_container_table.specs.declared.container.Role.{Role}
 use Rattle.ynl_container_table.specs.declared.container.Role.TheVariants.{Master, Ask as Asked}
 use Rattle.ynl_lane.specs.Seats.{Seats, nothing_waits}
 use Rattle.ynl_inventory.specs.Rows.{Rows, PartitionRow, AppRow}
-use Rattle.ynl_inventory.specs.Changes.{next_container, partition_of_node, ticked, with_asked, with_at, with_dropped, with_ended, with_joined, with_node_gone, with_placed, with_taken, with_user}
+use Rattle.ynl_inventory.specs.Changes.{next_container, partition_of_node, ticked, with_asked, with_at, with_clock, with_dropped, with_ended, with_joined, with_node_gone, with_placed, with_stamp, with_taken, with_user}
 use Rattle.ynl_inventory.specs.Parts.{containers_of}
 use Rattle.ynl_inventory.specs.Apps.{is_guest_role}
 use Rattle.ynl_inventory.specs.Sound.{HasPartition}
@@ -110,6 +110,15 @@ left-seated v node = still-seated v (with_node_gone node v) refl 0 (changes-noth
 -- a user has a number
 pub user-seated : (v : Rows) (name : Name) (lanes : List (List Seats)) → AreSeated v lanes → AreSeated (with_user name v) lanes
 user-seated v name = still-seated v (with_user name v) refl 0 (changes-nothing v (with_user name v) refl refl)
+
+-- a clock is set
+pub clock-seated : (v : Rows) (p clock : ℕ) → HasPartition v p → (lanes : List (List Seats)) → AreSeated v lanes → AreSeated (with_clock p clock v) lanes
+clock-seated v p clock has =
+    still-seated v (with_clock p clock v) refl p (changes-at v (with_clock p clock v) p (λ row. record row { clock = clock }) (λ es. es) (λ row. refl) has refl refl)
+
+-- a stamp is set
+pub stamp-seated : (v : Rows) (node stamp : ℕ) (lanes : List (List Seats)) → AreSeated v lanes → AreSeated (with_stamp node stamp v) lanes
+stamp-seated v node stamp = still-seated v (with_stamp node stamp v) refl 0 (changes-nothing v (with_stamp node stamp v) refl refl)
 
 -- an application asks: what waits of it may differ
 pub asked-but : (v : Rows) (app : ℕ) (ask : Ask) (lanes : List (List Seats)) → AreSeated v lanes → AreSeatedBut app (with_asked app ask v) lanes

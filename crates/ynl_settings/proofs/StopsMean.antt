@@ -1,9 +1,10 @@
 -- The marks of stopped queues mean the model's stops.
-use Rattle.std.proofs.Common.{◌≡◌, ◌≢◌, ℕ, zero, suc, ◌-◌, ◌<◌, Bool, true, false, not, ◌&&◌, ◌||◌, ◌==◌, cond, List, [], ◌∷◌, length, map, get_or, set, refl, sym, ap, subst, ◌∙◌, arith}
+use Rattle.std.proofs.Common.{◌≡◌, ◌≢◌, ℕ, zero, suc, ◌-◌, ◌<◌, Bool, true, false, not, ◌&&◌, ◌||◌, ◌==◌, cond, List, [], ◌∷◌, length, map, get_or, set, slice_get, Some, refl, sym, ap, subst, ◌∙◌, arith}
 use Rattle.std.specs.List.{AllByRecursion, list_any}
 use Rattle.std.specs.Cmp.Lexicographic.{pointwise_decides, bytes_decides}
 use Rattle.std.proofs.lemmas.Bool.{and_from, and_parts, eq-eqb, eqb-true, false_from_ne_true, ne_eqb, or_left, or_right}
 use mathlib.Core.Bool.{true≢false}
+use Rattle.std.proofs.lemmas.Option.{none-some, same_Some}
 use Rattle.ynl_resource.specs.Names.{root, same_path, is_within}
 use Rattle.ynl_resource.specs.declared.paths.Path.{Path}
 use Rattle.ynl_model.specs.declared.queues.StopRow.{StopRow}
@@ -28,6 +29,22 @@ own-path paths n = same-path_self (path_at paths n)
 
 one-less : (k : ℕ) → suc k - 1 ≡ k
 one-less k = omega arith
+
+-- ---- a mark is read
+
+-- the mark of a queue is in the model's row of the queue
+pub stops-at : (paths : List Path) (marks : List Bool) (q : ℕ) (mark : Bool) → 0 < q → HasNumber paths q → slice_get marks (q - 1) ≡ Some mark
+    → slice_get (stops_of paths marks) (q - 1) ≡ Some (record { queue = path_at paths q; stopped = mark })
+stops-at paths marks zero mark above has at = absurd (omega (arith, above))
+stops-at paths marks (suc k) mark above has at =
+    ap (slice_get (stops_of paths marks)) (one-less k) ∙ go paths marks k (omega (arith, has)) (sym (ap (slice_get marks) (one-less k)) ∙ at)
+  where
+    go : (paths : List Path) (marks : List Bool) (k : ℕ) → k < length paths → slice_get marks k ≡ Some mark
+        → slice_get (stops_of paths marks) k ≡ Some (record { queue = get_or paths k root; stopped = mark })
+    go [] marks k inside at = absurd (omega (arith, inside))
+    go (p ∷ ps) [] k inside at = absurd (none-some mark at)
+    go (p ∷ ps) (m ∷ ms) zero inside at = ap (λ m. Some (record { queue = p; stopped = m })) (same_Some m mark at)
+    go (p ∷ ps) (m ∷ ms) (suc k) inside at = go ps ms k (omega (arith, inside)) at
 
 -- ---- a mark is set
 

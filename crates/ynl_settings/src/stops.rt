@@ -1,6 +1,6 @@
 //! Which queues are stopped.
 
-ghost use Rattle.std.specs.Prelude.{◌≡◌, ◌<◌, ◌-◌, false, length, map, slice_index_or, slice_set, IfOk};
+ghost use Rattle.std.specs.Prelude.{◌≡◌, ◌<◌, ◌-◌, false, length, map, Some, slice_get, slice_index_or, slice_set, IfOk};
 ghost use Rattle.std.specs.List.{list_any};
 
 use std::alloc::{AllocError, Global};
@@ -43,6 +43,14 @@ impl Stops {
             .get(n.saturating_sub(1))
             .copied()
             .unwrap_or(false))
+    }
+
+    /// Whether a queue below root is stopped.
+    pub fn of(&self, queue: usize) -> bool
+        requires { queue - 1 < length self.now }
+        ensures { slice_get self.now (queue - 1) ≡ Some result }
+    {
+        self.marks[queue.saturating_sub(1)]
     }
 
     /// A queue below root is stopped, or started again.
