@@ -7,7 +7,7 @@ pub use containers::{Held, exited, release};
 pub use nodes::{Moved, lost, node_named, placing, register, relabel};
 pub use partitions::partition_of;
 pub use queues::{CellNumbers, maximum, queue_of, set_stop, usage};
-pub use submissions::{SubmissionNumbers, submit};
+pub use submissions::{SubmissionNumbers, submit, tenant_of_leaf};
 
 mod applications;
 mod containers;

@@ -39,7 +39,7 @@ fn home_of(config: &Config, queue: &Path, label: &Option<Label>) -> Label
 }
 
 /// The tenant of a leaf: the second queue on the way to it.
-fn tenant_of_leaf(cluster: &Cluster, leaf: usize) -> u32
+pub fn tenant_of_leaf(cluster: &Cluster, leaf: usize) -> u32
     requires { IsLeaf cluster.now.rows leaf }
     ensures there { HasNumber cluster.now.rows.paths result }
     ensures path { path_at cluster.now.rows.paths result

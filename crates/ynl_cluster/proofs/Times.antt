@@ -1,6 +1,7 @@
 -- The parts of a cluster after a clock or a stamp is set.
 use Rattle.std.proofs.Common.{◌≡◌, ℕ, slice_get, Some, nat_eq, refl, sym, ap, subst, ◌∙◌}
 use Rattle.std.specs.Map.{lookup}
+use Rattle.ynl_resource.specs.declared.labels.Label.{Label}
 use Rattle.ynl_model.specs.Cluster.{State, in_partition}
 use Rattle.ynl_model.specs.Nodes.{stamped}
 use Rattle.ynl_inventory.specs.Rows.{Rows, PartitionRow, NodeRow}
@@ -57,7 +58,8 @@ module _ (a : Inside) (is : IsCluster a) (w : ClusterView) (view : view_of a ≡
           ∙ ap (λ label. shown label (state_in (view_of a))) (sym (own-label v is.parts.sound p own.0 own.1))
           ∙ ap (λ (w : ClusterView). shown (label_of w p) (state_in w)) view
         where
-          shown = λ label (s : State). record s { partitions = in_partition label (λ row. record row { clock = clock }) s.partitions }
+          shown : Label → State → State
+          shown label s = record s { partitions = in_partition label (λ row. record row { clock = clock }) s.partitions }
 
   module _ (node stamp : ℕ) (new : Rows) (rows : new ≡ with_stamp node stamp v) where
     -- the parts go together

@@ -1,6 +1,6 @@
 //! A cluster: all its parts together.
 
-ghost use Rattle.std.specs.Prelude.{◌≡◌, ◌≢◌, ◌<◌, ◌≤◌, ◌+◌, false, true, length, None, Some, IfOk, IfSome, IsOk, IsSome, nat_eq, OnErr, OnOk, option_map, slice_get, slice_index_or, []};
+ghost use Rattle.std.specs.Prelude.{◌≡◌, ◌≢◌, ◌<◌, ◌≤◌, ◌+◌, ◌-◌, false, true, length, None, Some, IfOk, IfSome, IsOk, IsSome, nat_eq, OnErr, OnOk, option_map, slice_get, slice_index_or, []};
 ghost use Rattle.std.specs.Map.{lookup};
 ghost use Rattle.ynl_model.specs.Cluster.{guaranteed, in_partition, maximum, opening, total};
 ghost use Rattle.ynl_model.specs.Nodes.{is_full, nodes_of, stamped};

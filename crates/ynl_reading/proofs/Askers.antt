@@ -151,25 +151,6 @@ user-told w sound app label n is p on =
     leaf : IsLeaf w.rows is.row.leaf
     leaf = let own = app-submission w.rows sound n is.row is.found in record { there = own.there; none_below = own.leaf }
 
--- a row of the configuration has the path of its queue
-pub row-path : (w : ClusterView) → IsFor w.config w.rows → (q : ℕ) → 0 < q → HasNumber w.rows.paths q → (c : Config) → c ≡ w.config → (row : QueueRow) → ((d : QueueRow) → row ≡ get_or c.queues (q - 1) d)
-    → row.path ≡ path_of w q
-row-path w configured q above there c is row read =
-    ap (λ (r : QueueRow). r.path) (read row) ∙ ap (λ (c : Config). (get_or c.queues (q - 1) row).path) is
-    ∙ sym (mapped w.config.queues (q - 1) inside) ∙ ap (λ (paths : List Path). get_or paths (q - 1) root) (sym configured.paths)
-    ∙ ap (path_at w.rows.paths) next
-  where
-    next : suc (q - 1) ≡ q
-    next = omega (arith, above)
-
-    inside : q - 1 < length w.config.queues
-    inside = omega (arith, above, there, ap length configured.paths, length-map w.config.queues (λ (r : QueueRow). r.path))
-
-    mapped : (rows : List QueueRow) (k : ℕ) → k < length rows → get_or (map (λ (r : QueueRow). r.path) rows) k root ≡ (get_or rows k row).path
-    mapped [] k below = absurd (omega (arith, below))
-    mapped (r ∷ rows) zero below = refl
-    mapped (r ∷ rows) (suc k) below = mapped rows k (omega (arith, below))
-
 -- the leaf of a row is below root, and a queue
 pub leaf-below_root : (w : ClusterView) → IsSound w.rows → (n : ℕ) (row : AppRow) → lookup (nat_eq n) w.rows.apps ≡ Some row → 0 < row.leaf
 leaf-below_root w sound n row found = go row.leaf (app-submission w.rows sound n row found).leaf

@@ -19,21 +19,10 @@ use ynl_admission::{app_named, partition_of};
 use ynl_cluster::Cluster;
 use ynl_model::Pending;
 use ynl_reasons::Found;
-use ynl_replies::pending;
+use ynl_replies::{path_of, pending};
 use ynl_resource::{Label, Name, Path, Resource};
 use ynl_service::used_by;
 use ynl_waits::Applicant;
-
-/// The path of a queue below root.
-fn path_of(cluster: &Cluster, queue: usize) -> Path
-    requires below_root { 0 < queue }
-    requires there { HasNumber cluster.now.rows.paths queue }
-    ensures { result ≡ path_of cluster.now queue }
-{
-    // Opens the inventory, whose rows are those of the configuration.
-    let _ = cluster.inventory();
-    cluster.config().row_at(queue - 1).path
-}
 
 /// A live application, with what is wanted for its master.
 fn found_of(cluster: &Cluster, app: u32) -> Found

@@ -1,3 +1,4 @@
 pub mod Sorted
 pub mod Following
 pub mod Apps
+pub mod Paths

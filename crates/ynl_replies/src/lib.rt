@@ -3,8 +3,10 @@
 
 pub use asking::pending;
 pub use listing::{containers, own_containers, placed_at};
+pub use paths::path_of;
 pub use polling::{held, usage};
 
 mod asking;
 mod listing;
+mod paths;
 mod polling;

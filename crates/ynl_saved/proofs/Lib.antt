@@ -1,3 +1,1 @@
-pub mod Sizes
-pub mod Clean
-pub mod RoundTrip
+pub mod Handing

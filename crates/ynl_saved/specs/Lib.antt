@@ -1,3 +1,2 @@
-pub mod Keys
-pub mod StateLines
-pub mod Sound
+pub mod Saving
+pub mod Handing

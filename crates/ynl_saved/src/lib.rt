@@ -1,22 +1,8 @@
-//! The lines of a saved state, as text: each is a JSON object, and is written in the compact form. A text here is without
-//! the newline that ends its line.
+//! What the lines of a saved state tell, whatever their text, and which they are.
 #![tactic(auto)]
 
-pub use faults::StateFault;
-pub use kinds::StateKind;
 pub use lines::StateLine;
-pub use read::StateReader;
-pub use write::put_state_line;
+pub use sink::LineSink;
 
-mod faults;
-mod keys;
-mod kinds;
 mod lines;
-mod read;
-mod read_applications;
-mod read_containers;
-mod read_partitions;
-mod read_queues;
-mod write;
-mod write_applications;
-mod write_containers;
+mod sink;

@@ -1,9 +1,5 @@
 //! What the lines of a saved state tell.
 
-ghost use Rattle.std.specs.Prelude.{◌≡◌};
-ghost use Rattle.ynl_saved.specs.StateLines.{kind_of_line};
-
-use crate::kinds::StateKind;
 use ynl_model::{AskRow, Node, Placed};
 use ynl_resource::{Hundredths, Label, Name, Path, Size};
 
@@ -54,24 +50,4 @@ pub enum StateLine {
     End {
         lines: u64,
     },
-}
-
-impl StateLine {
-    /// The kind, by which the lines of a text are in order.
-    pub fn kind(&self) -> StateKind
-        ensures { result ≡ kind_of_line self.now }
-    {
-        match self {
-            StateLine::Begin => StateKind::Begin,
-            StateLine::Partition { .. } => StateKind::Partition,
-            StateLine::Node(_) => StateKind::Node,
-            StateLine::Live { .. } => StateKind::Live,
-            StateLine::Ask { .. } => StateKind::Ask,
-            StateLine::Finished { .. } => StateKind::Finished,
-            StateLine::Container(_) => StateKind::Container,
-            StateLine::Stopped { .. } => StateKind::Stopped,
-            StateLine::Maximum { .. } => StateKind::Maximum,
-            StateLine::End { .. } => StateKind::End,
-        }
-    }
 }

@@ -2,7 +2,7 @@
 
 use std::alloc::{AllocError, Global};
 use std::test::Fail;
-use ynl_saved::{StateFault, StateReader, put_state_line};
+use ynl_saved_text::{StateFault, StateReader, put_state_line};
 
 /// The lines of a state, one of each kind, and a container that was asked for, in the form in which they are written.
 const STATE: [&str; 11] = [

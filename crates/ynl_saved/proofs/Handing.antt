@@ -1,0 +1,84 @@
+-- Lines that are handed to a sink in parts.
+use Rattle.std.proofs.Common.{◌≡◌, ◌<◌, ◌≤◌, ◌+◌, ℕ, zero, suc, List, [], ◌∷◌, ◌++◌, length, take, slice_get, Some, Result, Ok, Err, refl, sym, ap, subst, ◌∙◌, arith}
+use Rattle.std.specs.Prelude.{flat_map}
+use Rattle.std.proofs.lemmas.List.{append_assoc, append-nil}
+use Rattle.std.proofs.lemmas.Option.{none-some, same_Some}
+use Rattle.ynl_saved.specs.declared.lines.StateLine.{StateLine}
+use Rattle.ynl_saved.specs.Handing.{TakesAll, FailsAmong, Hands}
+
+-- the first of some things, one of them, and those behind it
+pub parts-at : {X : Type 0} (xs : List X) (k : ℕ) (x : X) → slice_get xs k ≡ Some x → (rest : List X) × (xs ≡ take k xs ++ x ∷ rest)
+parts-at [] k x at = absurd (none-some x at)
+parts-at (y ∷ ys) zero x at = (ys, ap (λ z. z ∷ ys) (same_Some y x at))
+parts-at (y ∷ ys) (suc k) x at = let is = parts-at ys k x at in (is.0, ap (λ zs. y ∷ zs) is.1)
+
+pub take-one : {X : Type 0} (xs : List X) (k : ℕ) (x : X) → slice_get xs k ≡ Some x → take (suc k) xs ≡ take k xs ++ x ∷ []
+take-one [] k x at = absurd (none-some x at)
+take-one (y ∷ ys) zero x at = ap (λ z. z ∷ []) (same_Some y x at)
+take-one (y ∷ ys) (suc k) x at = ap (λ zs. y ∷ zs) (take-one ys k x at)
+
+pub flat-append : {X Y : Type 0} (f : X → List Y) (xs ys : List X) → flat_map f (xs ++ ys) ≡ flat_map f xs ++ flat_map f ys
+flat-append f [] ys = refl
+flat-append f (x ∷ xs) ys = ap (λ zs. f x ++ zs) (flat-append f xs ys) ∙ sym (append_assoc (f x) (flat_map f xs) (flat_map f ys))
+
+module _ {S F : Type 0} (gives : S → StateLine → S → Result (Unit {0}) F → Type 0) where
+  -- lines, and then more of them
+  pub takes-append : (a b c : S) (xs ys : List StateLine) → TakesAll gives a xs b → TakesAll gives b ys c → TakesAll gives a (xs ++ ys) c
+  takes-append a b c [] ys one two = subst (λ s. TakesAll gives s ys c) (sym one) two
+  takes-append a b c (x ∷ xs) ys one two = (one.0, one.1, takes-append one.0 b c xs ys one.2 two)
+
+  pub takes-last : (a b c : S) (xs : List StateLine) (x : StateLine) → TakesAll gives a xs b → gives b x c (Ok tt) → TakesAll gives a (xs ++ x ∷ []) c
+  takes-last a b c xs x one two = takes-append a b c xs (x ∷ []) one (c, two, refl)
+
+  -- it fails at lines where it fails at those in front
+  pub fails-front : (a b : S) (xs ys : List StateLine) (e : F) → FailsAmong gives a xs b e → FailsAmong gives a (xs ++ ys) b e
+  fails-front a b xs ys e is = record {
+    before = is.before;
+    line = is.line;
+    rest = is.rest ++ ys;
+    are = ap (λ zs. zs ++ ys) is.are ∙ append_assoc is.before (is.line ∷ is.rest) ys;
+    mid = is.mid;
+    took = is.took;
+    failed = is.failed;
+  }
+
+  -- or at those behind
+  pub fails-behind : (a b c : S) (xs ys : List StateLine) (e : F) → TakesAll gives a xs b → FailsAmong gives b ys c e → FailsAmong gives a (xs ++ ys) c e
+  fails-behind a b c xs ys e one is = record {
+    before = xs ++ is.before;
+    line = is.line;
+    rest = is.rest;
+    are = ap (λ zs. xs ++ zs) is.are ∙ sym (append_assoc xs is.before (is.line ∷ is.rest));
+    mid = is.mid;
+    took = takes-append a b is.mid xs is.before one is.took;
+    failed = is.failed;
+  }
+
+  pub hands-behind : (a b c : S) (xs ys : List StateLine) (r : Result (Unit {0}) F) → TakesAll gives a xs b → Hands gives b ys c r → Hands gives a (xs ++ ys) c r
+  hands-behind a b c xs ys (Ok done) one two = takes-append a b c xs ys one two
+  hands-behind a b c xs ys (Err e) one two = fails-behind a b c xs ys e one two
+
+  -- one line is handed to it
+  pub hands-one : (a b : S) (x : StateLine) (r : Result (Unit {0}) F) → gives a x b r → Hands gives a (x ∷ []) b r
+  hands-one a b x (Ok done) one = (b, one, refl)
+  hands-one a b x (Err e) one = record { before = []; line = x; rest = []; are = refl; mid = a; took = refl; failed = one }
+
+  -- ---- loops: parts are handed one after another
+
+  module _ {X : Type 0} (f : X → List StateLine) (xs : List X) (k : ℕ) (a b c : S) (took : TakesAll gives a (flat_map f (take k xs)) b) where
+    -- it took one part more
+    pub takes-part : (x : X) → slice_get xs k ≡ Some x → TakesAll gives b (f x) c → TakesAll gives a (flat_map f (take (suc k) xs)) c
+    takes-part x at part =
+        subst (λ ys. TakesAll gives a ys c) (sym (ap (flat_map f) (take-one xs k x at) ∙ flat-append f (take k xs) (x ∷ []) ∙ ap (λ ys. flat_map f (take k xs) ++ ys) (append-nil (f x))))
+        (takes-append a b c (flat_map f (take k xs)) (f x) took part)
+
+    -- it failed at one
+    pub fails-part : (e : F) (x : X) → slice_get xs k ≡ Some x → FailsAmong gives b (f x) c e → FailsAmong gives a (flat_map f xs) c e
+    fails-part e x at part =
+        let are = parts-at xs k x at in
+        subst (λ ys. FailsAmong gives a ys c e) (sym (ap (flat_map f) are.1 ∙ flat-append f (take k xs) (x ∷ are.0)))
+        (fails-behind a b c (flat_map f (take k xs)) (f x ++ flat_map f are.0) e took (fails-front b c (f x) (flat_map f are.0) e part))
+
+  -- it took them all
+  pub takes-parts : {X : Type 0} (f : X → List StateLine) (xs : List X) (k : ℕ) (a b : S) → TakesAll gives a (flat_map f (take k xs)) b → take k xs ≡ xs → TakesAll gives a (flat_map f xs) b
+  takes-parts f xs k a b took all = subst (λ ys. TakesAll gives a (flat_map f ys) b) all took

@@ -1,0 +1,98 @@
+//! From objects to the lines of partitions and nodes, and to the first and the last line.
+
+ghost use Rattle.std.specs.Prelude.{◌≡◌, OnErr, OnOk};
+ghost use Rattle.ynl_fields.specs.Reading.{Gives};
+ghost use Rattle.ynl_fields.specs.Trees.{data_at};
+ghost use Rattle.ynl_saved_text.specs.StateLines.{IsRanged};
+ghost use Rattle.ynl_saved_text.specs.StateLines as spec;
+
+use crate::faults::StateFault;
+use crate::keys::{keys_are, label_at, name_at, number_at, size_at, text_at, within};
+use ynl_fields::Fields;
+use ynl_model::Node;
+use ynl_resource::MOST_CLOCK;
+use ynl_saved::StateLine;
+
+/// The only version of the text.
+const VERSION: u64 = 1;
+
+/// Whether a number is the version.
+#[tactic(auto, unfolding(crate::specs::StateLines::version_at))]
+fn version_at(number: u64) -> Result<(), StateFault>
+    ensures { Gives (λ _. tt) result (spec.version_at number) }
+{
+    if number == VERSION {
+        Ok(())
+    } else {
+        Err(StateFault::Range)
+    }
+}
+
+/// `begin`: the version.
+#[tactic(auto, unfolding(crate::specs::StateLines::begin_at))]
+pub fn begin_at(object: &Fields<'_, '_>, into: &mut StateLine) -> Result<(), StateFault>
+    ensures line { Gives (λ _. into.new) result (spec.begin_at (data_at object.now.stands)) }
+    ensures ranged { OnOk result (IsRanged into.new) }
+    ensures kept { OnErr result (into.new ≡ into.old) }
+{
+    keys_are(object, 2)?;
+    let number = number_at(object, "version")?;
+    version_at(number)?;
+    *into = StateLine::Begin;
+    Ok(())
+}
+
+/// `partition`: its clock.
+#[tactic(auto, unfolding(crate::specs::StateLines::partition_at))]
+pub fn partition_at(object: &Fields<'_, '_>, into: &mut StateLine) -> Result<(), StateFault>
+    ensures line { Gives (λ _. into.new) result (spec.partition_at (data_at object.now.stands)) }
+    ensures ranged { OnOk result (IsRanged into.new) }
+    ensures kept { OnErr result (into.new ≡ into.old) }
+{
+    keys_are(object, 3)?;
+    let clock = number_at(object, "clock")?;
+    let label = text_at(object, "label")?;
+    let label = label_at(label)?;
+    let clock = within(MOST_CLOCK, clock)?;
+    *into = StateLine::Partition { label, clock };
+    Ok(())
+}
+
+/// `node`: its partition, its size and its stamp.
+#[tactic(auto, unfolding(crate::specs::StateLines::node_at))]
+pub fn node_at(object: &Fields<'_, '_>, into: &mut StateLine) -> Result<(), StateFault>
+    ensures line { Gives (λ _. into.new) result (spec.node_at (data_at object.now.stands)) }
+    ensures ranged { OnOk result (IsRanged into.new) }
+    ensures kept { OnErr result (into.new ≡ into.old) }
+{
+    keys_are(object, 6)?;
+    let label = text_at(object, "label")?;
+    let memory = number_at(object, "memory")?;
+    let node = text_at(object, "node")?;
+    let stamp = number_at(object, "stamp")?;
+    let vcores = number_at(object, "vcores")?;
+    let label = label_at(label)?;
+    let name = name_at(node)?;
+    let stamp = within(MOST_CLOCK, stamp)?;
+    let size = size_at(memory, vcores)?;
+    *into = StateLine::Node(Node {
+        name,
+        label,
+        size,
+        stamp,
+    });
+    Ok(())
+}
+
+/// `end`: how many lines stand before it.
+#[tactic(auto, unfolding(crate::specs::StateLines::end_at))]
+pub fn end_at(object: &Fields<'_, '_>, into: &mut StateLine) -> Result<(), StateFault>
+    ensures line { Gives (λ _. into.new) result (spec.end_at (data_at object.now.stands)) }
+    ensures ranged { OnOk result (IsRanged into.new) }
+    ensures kept { OnErr result (into.new ≡ into.old) }
+{
+    keys_are(object, 2)?;
+    let lines = number_at(object, "lines")?;
+    *into = StateLine::End { lines };
+    Ok(())
+}

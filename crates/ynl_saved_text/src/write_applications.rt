@@ -1,0 +1,62 @@
+//! The texts of the lines of applications, added piece by piece.
+
+ghost use Rattle.std.specs.Prelude.{◌≡◌, ◌++◌, OnOk};
+ghost use Rattle.serde_json.specs.Written.{compact_text};
+ghost use Rattle.ynl_fields.specs.Sound.{IsLabel, IsName, IsPath};
+ghost use Rattle.ynl_resource.specs.Amounts.{IsSize};
+ghost use Rattle.ynl_saved_text.specs.StateLines as spec;
+
+use std::alloc::AllocError;
+use ynl_fields::{add, add_label, add_name, add_number, add_path};
+use ynl_model::AskRow;
+use ynl_resource::{Label, Name, Path, Size};
+
+pub fn add_live(
+    text: &mut Vec<u8>,
+    queue: &Path,
+    app: &Name,
+    user: &Name,
+    label: &Label,
+    master: &Size,
+) -> Result<(), AllocError>
+    ensures added { OnOk result (text.new.items ≡ text.old.items ++ compact_text (spec.live_data queue.now app.now user.now label.now master.now)) }
+    ensures sound { OnOk result (IsPath queue.now × IsName app.now × IsName user.now × IsLabel label.now × IsSize master.now) }
+{
+    let size = master.amount();
+    add_name(text, b"{\"app\":\"", app)?;
+    add_label(text, b"\",\"label\":\"", label)?;
+    add_number(text, b"\",\"memory\":", size.memory)?;
+    add_path(text, b",\"queue\":\"", queue)?;
+    add_name(text, b"\",\"state\":\"live\",\"user\":\"", user)?;
+    add_number(text, b"\",\"vcores\":", size.vcores)?;
+    add(text, b"}")
+}
+
+pub fn add_ask(
+    text: &mut Vec<u8>,
+    tenant: &Name,
+    app: &Name,
+    ask: &AskRow,
+) -> Result<(), AllocError>
+    ensures added { OnOk result (text.new.items ≡ text.old.items ++ compact_text (spec.ask_data tenant.now app.now ask.now)) }
+    ensures sound { OnOk result (IsName tenant.now × IsName app.now × IsLabel ask.now.label × IsSize ask.now.size) }
+{
+    let size = ask.size.amount();
+    add_name(text, b"{\"app\":\"", app)?;
+    add_number(text, b"\",\"count\":", u64::from(ask.count))?;
+    add_label(text, b",\"label\":\"", &ask.label)?;
+    add_number(text, b"\",\"memory\":", size.memory)?;
+    add_number(text, b",\"priority\":", u64::from(ask.priority))?;
+    add_name(text, b",\"state\":\"ask\",\"tenant\":\"", tenant)?;
+    add_number(text, b"\",\"vcores\":", size.vcores)?;
+    add(text, b"}")
+}
+
+pub fn add_finished(text: &mut Vec<u8>, queue: &Path, app: &Name) -> Result<(), AllocError>
+    ensures added { OnOk result (text.new.items ≡ text.old.items ++ compact_text (spec.finished_data queue.now app.now)) }
+    ensures sound { OnOk result (IsPath queue.now × IsName app.now) }
+{
+    add_name(text, b"{\"app\":\"", app)?;
+    add_path(text, b"\",\"queue\":\"", queue)?;
+    add(text, b"\",\"state\":\"finished\"}")
+}
