@@ -1,7 +1,7 @@
 -- Lines that are handed to a sink in parts.
-use Rattle.std.proofs.Common.{◌≡◌, ◌<◌, ◌≤◌, ◌+◌, ℕ, zero, suc, List, [], ◌∷◌, ◌++◌, length, take, slice_get, Some, Result, Ok, Err, refl, sym, ap, subst, ◌∙◌, arith}
+use Rattle.std.proofs.Common.{◌≡◌, ◌≤◌, ◌+◌, ℕ, zero, suc, List, [], ◌∷◌, ◌++◌, length, take, slice_get, Some, Result, Ok, Err, refl, sym, ap, subst, ◌∙◌, arith}
 use Rattle.std.specs.Prelude.{flat_map}
-use Rattle.std.proofs.lemmas.List.{append_assoc, append-nil}
+use Rattle.std.proofs.lemmas.List.{append_assoc, append-nil, take_all}
 use Rattle.std.proofs.lemmas.Option.{none-some, same_Some}
 use Rattle.ynl_saved.specs.declared.lines.StateLine.{StateLine}
 use Rattle.ynl_saved.specs.Handing.{TakesAll, FailsAmong, Hands}
@@ -12,10 +12,14 @@ parts-at [] k x at = absurd (none-some x at)
 parts-at (y ∷ ys) zero x at = (ys, ap (λ z. z ∷ ys) (same_Some y x at))
 parts-at (y ∷ ys) (suc k) x at = let is = parts-at ys k x at in (is.0, ap (λ zs. y ∷ zs) is.1)
 
-pub take-one : {X : Type 0} (xs : List X) (k : ℕ) (x : X) → slice_get xs k ≡ Some x → take (suc k) xs ≡ take k xs ++ x ∷ []
-take-one [] k x at = absurd (none-some x at)
-take-one (y ∷ ys) zero x at = ap (λ z. z ∷ []) (same_Some y x at)
-take-one (y ∷ ys) (suc k) x at = ap (λ zs. y ∷ zs) (take-one ys k x at)
+-- the first of them, with one more
+pub take-one : {X : Type 0} (xs : List X) (k : ℕ) (x : X) → slice_get xs k ≡ Some x → take (k + 1) xs ≡ take k xs ++ x ∷ []
+take-one {X} xs k x at = let next : k + 1 ≡ suc k = omega arith in ap (λ n. take n xs) next ∙ go xs k x at
+  where
+    go : (xs : List X) (k : ℕ) (x : X) → slice_get xs k ≡ Some x → take (suc k) xs ≡ take k xs ++ x ∷ []
+    go [] k x at = absurd (none-some x at)
+    go (y ∷ ys) zero x at = ap (λ z. z ∷ []) (same_Some y x at)
+    go (y ∷ ys) (suc k) x at = ap (λ zs. y ∷ zs) (go ys k x at)
 
 pub flat-append : {X Y : Type 0} (f : X → List Y) (xs ys : List X) → flat_map f (xs ++ ys) ≡ flat_map f xs ++ flat_map f ys
 flat-append f [] ys = refl
@@ -63,11 +67,26 @@ module _ {S F : Type 0} (gives : S → StateLine → S → Result (Unit {0}) F �
   hands-one a b x (Ok done) one = (b, one, refl)
   hands-one a b x (Err e) one = record { before = []; line = x; rest = []; are = refl; mid = a; took = refl; failed = one }
 
-  -- ---- loops: parts are handed one after another
+  -- ---- loops: lines are handed one after another
+
+  module _ (lines : List StateLine) (k : ℕ) (a b c : S) (took : TakesAll gives a (take k lines) b) (line : StateLine) (at : slice_get lines k ≡ Some line) where
+    -- it took one more
+    pub takes-next : gives b line c (Ok tt) → TakesAll gives a (take (k + 1) lines) c
+    takes-next one = subst (λ ys. TakesAll gives a ys c) (sym (take-one lines k line at)) (takes-last a b c (take k lines) line took one)
+
+    -- it failed at one
+    pub fails-next : (e : F) → gives b line c (Err e) → FailsAmong gives a lines c e
+    fails-next e one = let are = parts-at lines k line at in record { before = take k lines; line = line; rest = are.0; are = are.1; mid = b; took = took; failed = one }
+
+  -- it took them all
+  pub takes-lines : (lines : List StateLine) (k : ℕ) (a b : S) → TakesAll gives a (take k lines) b → length lines ≤ k → TakesAll gives a lines b
+  takes-lines lines k a b took all = subst (λ ys. TakesAll gives a ys b) (take_all k lines all) took
+
+  -- ---- loops: parts of many lines are handed one after another
 
   module _ {X : Type 0} (f : X → List StateLine) (xs : List X) (k : ℕ) (a b c : S) (took : TakesAll gives a (flat_map f (take k xs)) b) where
     -- it took one part more
-    pub takes-part : (x : X) → slice_get xs k ≡ Some x → TakesAll gives b (f x) c → TakesAll gives a (flat_map f (take (suc k) xs)) c
+    pub takes-part : (x : X) → slice_get xs k ≡ Some x → TakesAll gives b (f x) c → TakesAll gives a (flat_map f (take (k + 1) xs)) c
     takes-part x at part =
         subst (λ ys. TakesAll gives a ys c) (sym (ap (flat_map f) (take-one xs k x at) ∙ flat-append f (take k xs) (x ∷ []) ∙ ap (λ ys. flat_map f (take k xs) ++ ys) (append-nil (f x))))
         (takes-append a b c (flat_map f (take k xs)) (f x) took part)
@@ -80,5 +99,5 @@ module _ {S F : Type 0} (gives : S → StateLine → S → Result (Unit {0}) F �
         (fails-behind a b c (flat_map f (take k xs)) (f x ++ flat_map f are.0) e took (fails-front b c (f x) (flat_map f are.0) e part))
 
   -- it took them all
-  pub takes-parts : {X : Type 0} (f : X → List StateLine) (xs : List X) (k : ℕ) (a b : S) → TakesAll gives a (flat_map f (take k xs)) b → take k xs ≡ xs → TakesAll gives a (flat_map f xs) b
-  takes-parts f xs k a b took all = subst (λ ys. TakesAll gives a (flat_map f ys) b) all took
+  pub takes-parts : {X : Type 0} (f : X → List StateLine) (xs : List X) (k : ℕ) (a b : S) → TakesAll gives a (flat_map f (take k xs)) b → length xs ≤ k → TakesAll gives a (flat_map f xs) b
+  takes-parts f xs k a b took all = subst (λ ys. TakesAll gives a (flat_map f ys) b) (take_all k xs all) took

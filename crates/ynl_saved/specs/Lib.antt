@@ -1,2 +1,4 @@
 pub mod Saving
 pub mod Handing
+pub mod Restoring
+pub mod Laws

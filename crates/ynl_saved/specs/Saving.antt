@@ -1,5 +1,5 @@
 -- The lines of a state.
-use Rattle.std.specs.Prelude.{ℕ, not, ◌==◌, List, [], ◌∷◌, ◌++◌, map, filter, find, flat_map, length, if◌then◌else◌}
+use Rattle.std.specs.Prelude.{◌==◌, List, [], ◌∷◌, ◌++◌, map, find, flat_map, length, if◌then◌else◌}
 use Rattle.std.specs.Option.{option_map_or}
 use Rattle.ynl_resource.specs.Names.{same_name, tenant_of}
 use Rattle.ynl_resource.specs.declared.labels.Label.{Label}
@@ -11,7 +11,6 @@ use Rattle.ynl_model.specs.declared.queues.StopRow.{StopRow}
 use Rattle.ynl_model.specs.declared.queues.MaximumRow.{MaximumRow}
 use Rattle.ynl_model.specs.Applications.{Application, LeafApps}
 use Rattle.ynl_model.specs.Cluster.{State, Partition as PartitionRow}
-use Rattle.ynl_model.specs.declared.nodes.Node.{Node as NodeRow}
 use Rattle.ynl_saved.specs.declared.lines.StateLine.{StateLine}
 use Rattle.ynl_saved.specs.declared.lines.StateLine.TheVariants.{Begin, Partition, Node, Live, Ask, Finished, Container, Stopped, Maximum, End}
 
