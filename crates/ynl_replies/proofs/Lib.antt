@@ -1,4 +1,4 @@
 pub mod Sorted
 pub mod Following
 pub mod Apps
-pub mod Paths
+pub mod QueuePaths

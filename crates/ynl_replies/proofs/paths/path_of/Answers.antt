@@ -1,6 +1,6 @@
 -- The queues of the configuration have the paths of the rows.
 use Rattle.std.proofs.Common.{◌∙◌}
-use Rattle.ynl_replies.proofs.Paths.{row-path}
+use Rattle.ynl_replies.proofs.QueuePaths.{row-path}
 use Rattle.ynl_replies.proofs.paths.path_of.Goals as goal
 
 pub returns : goal.returns
