@@ -18,9 +18,13 @@ use Rattle.ynl_saved.specs.declared.lines.StateLine.TheVariants.{Begin, Partitio
 abbrev pub partition_line : PartitionRow → StateLine
 partition_line row = Partition row.label row.clock
 
--- a live application, and behind it what it asks for
+-- a live application
+abbrev pub live_line : Application → StateLine
+live_line app = Live app.leaf app.name app.user app.home app.master
+
+-- and behind it what it asks for
 abbrev pub live_lines : Application → List StateLine
-live_lines app = Live app.leaf app.name app.user app.home app.master ∷ map (Ask (tenant_of app.leaf) app.name) app.asks
+live_lines app = live_line app ∷ map (Ask (tenant_of app.leaf) app.name) app.asks
 
 -- an application that was submitted to a leaf: a live one, or else a finished one, of which only the name is left
 abbrev pub app_lines : LeafApps → Name → List StateLine
