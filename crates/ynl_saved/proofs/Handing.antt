@@ -1,6 +1,7 @@
 -- Lines that are handed to a sink in parts.
 use Rattle.std.proofs.Common.{◌≡◌, ◌≤◌, ◌+◌, ℕ, zero, suc, List, [], ◌∷◌, ◌++◌, length, take, slice_get, Some, Result, Ok, Err, refl, sym, ap, subst, ◌∙◌, arith}
 use Rattle.std.specs.Prelude.{flat_map}
+use Rattle.std.specs.Result.{IsErrAnd}
 use Rattle.std.proofs.lemmas.List.{append_assoc, append-nil, take_all}
 use Rattle.std.proofs.lemmas.Option.{none-some, same_Some}
 use Rattle.ynl_saved.specs.declared.lines.StateLine.{StateLine}
@@ -61,6 +62,11 @@ module _ {S F : Type 0} (gives : S → StateLine → S → Result (Unit {0}) F �
   pub hands-behind : (a b c : S) (xs ys : List StateLine) (r : Result (Unit {0}) F) → TakesAll gives a xs b → Hands gives b ys c r → Hands gives a (xs ++ ys) c r
   hands-behind a b c xs ys (Ok done) one two = takes-append a b c xs ys one two
   hands-behind a b c xs ys (Err e) one two = fails-behind a b c xs ys e one two
+
+  -- what it failed with is handed on
+  pub fails-on : (a b : S) (lines : List StateLine) (e : F) (r : Result (Unit {0}) F) → FailsAmong gives a lines b e → IsErrAnd r (λ x. x ≡ e) → Hands gives a lines b r
+  fails-on a b lines e (Ok done) fails same = absurd same
+  fails-on a b lines e (Err x) fails same = subst (FailsAmong gives a lines b) (sym same) fails
 
   -- one line is handed to it
   pub hands-one : (a b : S) (x : StateLine) (r : Result (Unit {0}) F) → gives a x b r → Hands gives a (x ∷ []) b r

@@ -1,0 +1,4 @@
+pub mod Rows
+pub mod Apps
+pub mod Submissions
+pub mod QueuePlaces

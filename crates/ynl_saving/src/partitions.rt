@@ -1,0 +1,39 @@
+//! Partitions and nodes are told.
+
+ghost use Rattle.std.specs.Prelude.{◌≡◌, map};
+ghost use Rattle.ynl_cluster.specs.Cluster.{state_in};
+ghost use Rattle.ynl_saved.specs.declared.lines.StateLine.TheVariants.{Node as NodeLine};
+ghost use Rattle.ynl_saved.specs.Handing.{Hands};
+ghost use Rattle.ynl_saved.specs.Saving.{partition_line};
+
+use crate::lines::{node_line, partition_line};
+use ynl_cluster::Cluster;
+use ynl_saved::LineSink;
+
+/// All partitions are told.
+pub(crate) fn hand_partitions<S: LineSink>(cluster: &Cluster, sink: &mut S) -> Result<(), S::Fault>
+    ensures { Hands S.gives sink.old (map partition_line (state_in cluster.now).partitions)
+        sink.new result }
+{
+    for p in 0..cluster.inventory().partition_count() {
+        sink.take(&partition_line(cluster, p as u8))?;
+    }
+    Ok(())
+}
+
+/// All nodes are told, which have these numbers in the order of joining.
+pub(crate) fn hand_nodes<S: LineSink>(
+    cluster: &Cluster,
+    numbers: &[u32],
+    sink: &mut S,
+) -> Result<(), S::Fault>
+    requires { numbers.now ≡ map (λ e. e.0) cluster.now.rows.nodes }
+    ensures { Hands S.gives sink.old (map NodeLine (state_in cluster.now).nodes) sink.new result }
+{
+    // Opens the inventory, whose rows are sound.
+    let _ = cluster.inventory();
+    for i in 0..numbers.len() {
+        sink.take(&node_line(cluster, numbers[i]))?;
+    }
+    Ok(())
+}
