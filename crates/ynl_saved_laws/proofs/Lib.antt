@@ -1,0 +1,5 @@
+pub mod Told
+pub mod Rows
+pub mod Served
+pub mod Changing
+pub mod Shapes
