@@ -3,3 +3,9 @@ pub mod Rows
 pub mod Served
 pub mod Changing
 pub mod Shapes
+pub mod Stamps
+pub mod Leaves
+pub mod Configured
+pub mod Leaved
+pub mod Traits
+pub mod Suited

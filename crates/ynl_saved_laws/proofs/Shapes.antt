@@ -38,6 +38,10 @@ pub record Shaped (c : Config) (s : State) : Type 0 where
   pub maxima : map key_of s.maxima ≡ map key_of (opening_maxima c)
   pub shares : AllByRecursion (IsShare c) s.maxima
 
+-- the maxima of a queue at first
+abbrev pub made : Config → QueueRow → List MaximumRow
+made c row = map (λ label. record { queue = row.path; label = label; share = configured_maximum c row.path label }) (partition_labels c.labels)
+
 module _ (c : Config) where
   -- the partitions of a state change, one of them
   shaped-partition : (s u : State) (label : Label) (change : Partition → Partition) → ((row : Partition) → (change row).label ≡ row.label) → Shaped c s → u.partitions ≡ map (λ row. cond (same_label row.label label) (change row) row) s.partitions →
@@ -83,7 +87,7 @@ module _ (c : Config) where
       enough : (m n : ℕ) → nat_lt n m ≡ false → m ≤ n
       enough m n k = grind (arith, nat_tests, k)
 
-  shaped-goes : Goes (Shaped c) c
+  pub shaped-goes : Goes (Shaped c) c
   unfolding node_joins node_leaves place changed_at app_finishes
   shaped-goes = record {
     joins = λ s name label size b h known room. shaped-partition s _ label _ (λ row. refl) h refl refl refl refl;
@@ -113,12 +117,12 @@ module _ (c : Config) where
     };
   }
 
-  shaped-opening : Shaped c (opening c)
+  pub shaped-opening : Shaped c (opening c)
   unfolding opening_maxima
   shaped-opening = record {
-    partitions = map-map (λ (row : Partition). row.label) _ (partition_labels c.labels) ∙ map-self (partition_labels c.labels);
+    partitions = map-map (λ (row : Partition). row.label) (λ label. record { label = label; clock = 0; containers = [] }) (partition_labels c.labels) ∙ map-self (partition_labels c.labels);
     leaves = refl;
-    stops = map-map (λ (row : StopRow). row.queue) _ c.queues;
+    stops = map-map (λ (row : StopRow). row.queue) (λ (row : QueueRow). record { queue = row.path; stopped = row.stopped }) c.queues;
     maxima = refl;
     shares = each c.queues;
   }
@@ -127,9 +131,11 @@ module _ (c : Config) where
       map-self [] = refl
       map-self (x ∷ xs) = ap (λ ys. x ∷ ys) (map-self xs)
 
-      each : (rows : List QueueRow) → AllByRecursion (IsShare c) (flat_map (λ row. map (λ label. record { queue = row.path; label = label; share = configured_maximum c row.path label }) (partition_labels c.labels)) rows)
+      each : (rows : List QueueRow) → AllByRecursion (IsShare c) (flat_map (made c) rows)
       each [] = tt
-      each (row ∷ rows) = Each-append (IsShare c) _ _ (Each-map (λ (label : Label). ⊤) (IsShare c) _ (λ label _. inl refl) (partition_labels c.labels) (Each-all (λ (label : Label). ⊤) (λ label. tt) (partition_labels c.labels))) (each rows)
+      each (row ∷ rows) = Each-append (IsShare c) (made c row) (flat_map (made c) rows)
+          (Each-map (λ (label : Label). ⊤) (IsShare c) (λ label. record { queue = row.path; label = label; share = configured_maximum c row.path label }) (λ label _. inl refl) (partition_labels c.labels)
+          (Each-all (λ (label : Label). ⊤) (λ label. tt) (partition_labels c.labels))) (each rows)
 
   -- in each state
   pub shaped-after : (events : List Event) → Shaped c (state_after c events)
