@@ -9,3 +9,8 @@ pub mod Configured
 pub mod Leaved
 pub mod Traits
 pub mod Suited
+pub mod Sound
+pub mod Parts
+pub mod Live
+pub mod Apps
+pub mod Stand
