@@ -14,3 +14,4 @@ pub mod Parts
 pub mod Live
 pub mod Apps
 pub mod Stand
+pub mod Marks
