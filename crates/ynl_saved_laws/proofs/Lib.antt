@@ -15,3 +15,4 @@ pub mod Live
 pub mod Apps
 pub mod Stand
 pub mod Marks
+pub mod Telling
