@@ -1,12 +1,11 @@
 -- The lines of all leaves are read.
-use Rattle.std.proofs.Common.{◌≡◌, ◌≤◌, Bool, true, false, cond, not, ◌&&◌, ◌||◌, is_some, List, [], ◌∷◌, ◌++◌, length, map, Option, Some, None, option_map, filter, find, refl, sym, ap, subst, ◌∙◌, append-nil}
-use Rattle.std.specs.Prelude.{IsTrue, flat_map, ⊤}
+use Rattle.std.proofs.Common.{◌≡◌, Bool, true, false, cond, ◌&&◌, ◌||◌, is_some, List, [], ◌∷◌, ◌++◌, map, Some, filter, find, refl, sym, ap, subst, ◌∙◌, append-nil}
+use Rattle.std.specs.Prelude.{IsTrue, flat_map}
 use Rattle.std.specs.List.{AllByRecursion, list_any}
-use Rattle.std.proofs.lemmas.Bool.{and_from, and_parts, or_right}
+use Rattle.std.proofs.lemmas.Bool.{or_right}
 use mathlib.Core.Bool.{true≢false}
 use Rattle.ynl_resource.specs.Names.{root, same_name, same_path, tenant_of}
 use Rattle.ynl_resource.specs.declared.names.Name.{Name}
-use Rattle.ynl_resource.specs.declared.paths.Path.{Path}
 use Rattle.ynl_model.specs.Accepted.{is_accepted}
 use Rattle.ynl_model.specs.Applications.{Application, LeafApps, leaf_of, no_apps}
 use Rattle.ynl_model.specs.Cluster.{State}
@@ -15,13 +14,13 @@ use Rattle.ynl_saved.specs.Saving.{leaf_lines}
 use Rattle.ynl_laws.specs.Untied.{AllDistinct, Distinct}
 use Rattle.ynl_laws.specs.Working.{IsKnown, Pairs}
 use Rattle.ynl_laws.proofs.Events.Found.{IsFound}
-use Rattle.ynl_laws.proofs.Lists.{Each-all, Each-both, Each-filter, Each-map, Each-split, Each-unmap, Each-weaker, Each-with, filter-passes, map-map}
+use Rattle.ynl_laws.proofs.Lists.{Each-both, Each-filter, Each-map, Each-split, Each-unmap, Each-weaker, Each-with, filter-passes}
 use Rattle.ynl_laws.proofs.Lives.Entitled.{Fitting}
-use Rattle.ynl_laws.proofs.Names.{same-name_self, same-name_sym, same-path}
+use Rattle.ynl_laws.proofs.Names.{same-name_sym, same-path}
 use Rattle.ynl_saved_laws.proofs.Changing.{Base}
-use Rattle.ynl_saved_laws.proofs.Leaved.{AllNamed, Leaved, leaves-apart, same-path_self}
+use Rattle.ynl_saved_laws.proofs.Leaved.{Leaved, leaves-apart, same-path_self}
 use Rattle.ynl_saved_laws.proofs.Leaves.{Given, IsLeaf}
-use Rattle.ynl_saved_laws.proofs.Live.{Reading, empty, reads-leaf}
+use Rattle.ynl_saved_laws.proofs.Live.{empty, reads-leaf}
 use Rattle.ynl_saved_laws.proofs.Rows.{one-done, pairs-before, pairs-behind, turned}
 use Rattle.ynl_saved_laws.proofs.Told.{Reads, Side, plain-section}
 
@@ -58,13 +57,15 @@ IsReady c leaves row =
     × ((is_queue c row.leaf ≡ true) × (is_leaf c row.leaf ≡ true))
 
 module _ (c : Config) (accepted : IsTrue (is_accepted c)) (s : State) (base : Base c s) (leaved : Leaved c s) (distinct : AllDistinct s.leaves) (side : Side) (s2 : State) where
+  -- all of that is known of each leaf
   ready : AllByRecursion (IsReady c s.leaves) s.leaves
   ready =
       let entitled = base.entitled in
       let shaped = leaved.shaped in
       Each-with (λ row. IsLeaf c row × AllByRecursion (IsKnown s.leaves row.leaf) row.names) (λ row. AllByRecursion (IsFound s.leaves row) row.apps × AllByRecursion (Fitting c) row.apps × AllByRecursion Distinct row.apps × ((is_queue c row.leaf ≡ true) × (is_leaf c row.leaf ≡ true))) (IsReady c s.leaves)
       (λ row k j. (
-        k.0, k.1,
+        k.0,
+        k.1,
         Each-with (IsFound s.leaves row) (λ app. Fitting c app × Distinct app × Given c app) _ (λ app is g. (is.at, g.0, g.1, g.2)) row.apps j.0
             (Each-with (Fitting c) (λ app. Distinct app × Given c app) _ (λ app f g. (f, g.0, g.1)) row.apps j.1 (Each-both Distinct (Given c) row.apps j.2 (given k.0))),
         j.3,
@@ -79,6 +80,7 @@ module _ (c : Config) (accepted : IsTrue (is_accepted c)) (s : State) (base : Ba
       given : {row : LeafApps} → IsLeaf c row → AllByRecursion (Given c) row.apps
       given is = is.given
 
+  -- no two leaves have one path
   apart : Pairs (λ (a b : LeafApps). same_path a.leaf b.leaf ≡ false) s.leaves
   apart = let shaped = leaved.shaped in leaves-apart c accepted s.leaves shaped.leaves
 
@@ -110,6 +112,7 @@ module _ (c : Config) (accepted : IsTrue (is_accepted c)) (s : State) (base : Ba
   crossed R xs [] h = tt
   crossed R xs (y ∷ ys) h = (Each-weaker (λ x. AllByRecursion (R x) (y ∷ ys)) (λ x. R x y) (λ x k. k.0) xs h, crossed R xs ys (Each-weaker (λ x. AllByRecursion (R x) (y ∷ ys)) (λ x. AllByRecursion (R x) ys) (λ x k. k.1) xs h))
 
+  -- the lines of one leaf are read over those before it
   leaf-step : (done : List LeafApps) (row : LeafApps) (todo : List LeafApps) → done ++ row ∷ todo ≡ s.leaves →
       Reads c (record s2 { leaves = done ++ map empty (row ∷ todo) }) side (leaf_lines row) (record s2 { leaves = (done ++ row ∷ []) ++ map empty todo }) side
   leaf-step done row todo e =

@@ -1,5 +1,5 @@
 -- What holds at first and stays with each change that an event can make holds in each state; of each change all is known that the event was tested for.
-use Rattle.std.proofs.Common.{◌≡◌, ◌<◌, ◌≤◌, ℕ, Bool, true, false, not, ◌&&◌, List, [], ◌∷◌, length, Some, None, filter, is_some, refl, sym, ap, subst, ◌∙◌, arith}
+use Rattle.std.proofs.Common.{◌≡◌, ◌≤◌, ℕ, Bool, true, false, not, List, [], ◌∷◌, length, Some, None, filter, refl, sym, ap, subst, ◌∙◌, arith}
 use Rattle.std.specs.Prelude.{nat_lt, nat_le}
 use Rattle.std.specs.Option.{option_map_or}
 use Rattle.std.proofs.lemmas.Bool.Decides.{nat_tests}
@@ -85,11 +85,13 @@ full-left node nodes label h = below (length (nodes_of nodes label)) (length (no
     below : (m n : ℕ) → n ≤ m → nat_le most_nodes m ≡ false → nat_le most_nodes n ≡ false
     below m n less off = grind (arith, nat_tests, less, off)
 
+-- the same of the state that the node leaves
 left-full : (s : State) (node : Node) (label : Label) → is_full s.nodes label ≡ false → is_full (node_leaves node s).nodes label ≡ false
 unfolding node_leaves
 left-full s node label k = full-left node s.nodes label k
 
 module _ (c : Config) where
+  -- what was known is known where a node leaves
   base-leaves : (s : State) (node : Node) → Stands s node → Base c s → Base c (node_leaves node s)
   unfolding node_leaves
   base-leaves s node stands h =
@@ -103,6 +105,7 @@ module _ (c : Config) where
         entitled = lasts.leaves s node h.entitled;
       }
 
+  -- and where a request is placed
   base-place : (s : State) (node : Node) (item : Item) → Stands s node → Base c s → Fits s node item → IsWanted c s node.label item → is_spent c.labels s node.label ≡ false → Base c (place c node item s)
   base-place s node item stands h fits wanted fresh =
       let in_order = ordered-stays c in
@@ -115,6 +118,7 @@ module _ (c : Config) where
         entitled = lasts.placed s node item h.entitled h.kept h.finds fits.known wanted;
       }
 
+  -- and after each event
   base-step : (s : State) (event : Event) → Base c s → Base c (step c s event).state
   base-step s event h = record {
     kept = step-keeps c s event h.kept;
@@ -124,10 +128,12 @@ module _ (c : Config) where
     entitled = step-lasts (Entitled c) c (entitled-lasts c) s event h.kept h.finds h.entitled;
   }
 
+  -- and at first
   pub base-opening : Base c (opening c)
   base-opening = record { kept = kept-opening c; finds = is_found c []; apart = tt; ordered = ordered-opening c; entitled = entitled-after c [] }
 
 module _ (P : State → Type 0) (c : Config) (goes : Goes P c) where
+  -- what stays with each placement stays with the turns of a heartbeat
   beats : (node : Node) (times : ℕ) (s : State) → Base c s → Stands s node → P s → P (beat c node times s).state
   beats node times s b e h = (beat-keeps-by (λ u. P u × Base c u × Stands u node) (λ u item. (Fits u node item × IsWanted c u node.label item) × IsServed u item) c node
       (λ u g. both-some (λ item. Fits u node item × IsWanted c u node.label item) (IsServed u) (choice c u node)
@@ -138,6 +144,7 @@ module _ (P : State → Type 0) (c : Config) (goes : Goes P c) where
         ap (λ nodes. tracked nodes node.name) (place-same c node item u) ∙ g.2,
       )) times s (h, b, e)).0
 
+  -- it stays with each event that is not refused
   accepted-goes : (s : State) (event : Event) → Base c s → P s → first_that_holds (reasons c s event) ≡ None → P (accepted c s event).state
   unfolding accepted reasons commit_reasons
   accepted-goes s (Register name label size) b h none =
@@ -180,6 +187,7 @@ module _ (P : State → Type 0) (c : Config) (goes : Goes P c) where
       let all = none-holds (reasons c s (Maximum queue label share)) none in
       goes.maxima s queue label share h (not-false _ all.1.1.1.0) all.1.1.1.1.0
 
+  -- and with each list of events
   after-goes : (events : List Event) (s : State) → Base c s → P s → P (after c s events)
   after-goes [] s b h = h
   after-goes (event ∷ events) s b h = after-goes events (step c s event).state (base-step c s event b) (step-cases P c s event h (accepted-goes s event b h))
@@ -188,6 +196,7 @@ module _ (P : State → Type 0) (c : Config) (goes : Goes P c) where
   pub always-goes : P (opening c) → (events : List Event) → P (state_after c events)
   always-goes first events = after-goes events (opening c) (base-opening c) first
 
+-- what was known is known after each list of events
 base-steps : (c : Config) (events : List Event) (s : State) → Base c s → Base c (after c s events)
 base-steps c [] s b = b
 base-steps c (event ∷ events) s b = base-steps c events (step c s event).state (base-step c s event b)

@@ -1,5 +1,5 @@
 -- What an accepted configuration has: labels and paths that differ, no queue that is root, and clocks that may move.
-use Rattle.std.proofs.Common.{◌≡◌, ◌≤◌, ℕ, Bool, true, false, not, ◌&&◌, List, [], ◌∷◌, map, Option, Some, None, is_some, find, filter, refl, sym, ap, subst, ◌∙◌, arith}
+use Rattle.std.proofs.Common.{◌≡◌, ◌≤◌, ℕ, true, false, ◌&&◌, map, Option, Some, None, is_some, filter, refl, sym, arith}
 use Rattle.std.specs.Prelude.{IsTrue, IfSome, nat_le, is_none, ⊤}
 use Rattle.std.specs.List.{AllByRecursion, list_all}
 use Rattle.std.specs.Option.{option_map_or}
@@ -25,10 +25,12 @@ use Rattle.ynl_laws.proofs.Logic.{none-is_none, not-false}
 use Rattle.ynl_saved_laws.proofs.Rows.{differ-of, pairs-made}
 
 module _ (c : Config) (accepted : IsTrue (is_accepted c)) where
+  -- the labels have no fault
   no-label_fault : first_that_holds (label_faults c.labels) ≡ None
   unfolding is_accepted
   no-label_fault = none-is_none _ (and_parts (in_range c) _ (and_parts (in_range c && is_none (first_that_holds (label_faults c.labels))) _ accepted).0).1
 
+  -- the tree of queues has no fault
   no-tree_fault : first_that_holds (tree_faults c) ≡ None
   unfolding is_accepted
   no-tree_fault = none-is_none _ (and_parts (in_range c && is_none (first_that_holds (label_faults c.labels))) _ accepted).1
@@ -38,6 +40,7 @@ module _ (c : Config) (accepted : IsTrue (is_accepted c)) where
   unfolding label_faults
   names-differ = differ-of same_name (map (λ (row : LabelRow). row.name) c.labels.rows) (not-false _ (none-holds (label_faults c.labels) no-label_fault).1.0)
 
+  -- and no two partitions
   pub labels-differ : Pairs (λ (a b : Label). same_label a b ≡ false) (partition_labels c.labels)
   labels-differ = (
     Each-map (λ (row : LabelRow). ⊤) (λ (b : Label). same_label Unlabelled b ≡ false) (λ (row : LabelRow). Named row.name) (λ row _. refl) c.labels.rows (Each-all (λ (row : LabelRow). ⊤) (λ row. tt) c.labels.rows),
@@ -51,10 +54,12 @@ module _ (c : Config) (accepted : IsTrue (is_accepted c)) where
       at-least : (n : ℕ) → nat_le 1 n ≡ true → 1 ≤ n
       at-least n k = grind (arith, nat_tests, k)
 
+  -- all limits are from 1 to the largest number of a clock
   both-limits : (is_from_to 1 most_clock c.labels.default_limit && list_all (λ (row : LabelRow). is_from_to 1 most_clock row.limit) c.labels.rows) ≡ true
   unfolding label_faults
   both-limits = not-false _ (none-holds (label_faults c.labels) no-label_fault).1.1.0
 
+  -- the limit of each partition is at least 1
   pub limits : (label : Label) → has_label c.labels label ≡ true → 1 ≤ clock_limit c.labels label
   limits Unlabelled known = from-one c.labels.default_limit (and_parts (is_from_to 1 most_clock c.labels.default_limit) _ both-limits).0
   limits (Named name) known = go (label_row c.labels name) known (Each-found (λ (row : LabelRow). is_from_to 1 most_clock row.limit ≡ true) _ c.labels.rows (each-of _ c.labels.rows (and_parts (is_from_to 1 most_clock c.labels.default_limit) _ both-limits).1))
@@ -68,9 +73,11 @@ module _ (c : Config) (accepted : IsTrue (is_accepted c)) where
   unfolding tree_faults
   all-paths = differ-of same_path (all_queues c) (not-false _ (none-holds (tree_faults c) no-tree_fault).1.0)
 
+  -- no two rows of queues have one path
   pub paths-differ : Pairs (λ (a b : QueueRow). same_path a.path b.path ≡ false) c.queues
   paths-differ = pairs-unmap (λ (row : QueueRow). row.path) (λ (a b : Path). same_path a b ≡ false) c.queues all-paths.1
 
+  -- no queue is root
   pub none-root : AllByRecursion (λ (path : Path). same_path root path ≡ false) (map (λ (row : QueueRow). row.path) c.queues)
   none-root = all-paths.0
 

@@ -1,21 +1,17 @@
 -- In each state each leaf is as it was tested, and each name of a leaf finds that leaf.
-use Rattle.std.proofs.Common.{◌≡◌, ◌≤◌, ℕ, Bool, true, false, not, ◌&&◌, ◌||◌, is_some, List, [], ◌∷◌, ◌++◌, length, map, Option, Some, None, filter, find, refl, sym, ap, subst, ◌∙◌, arith}
+use Rattle.std.proofs.Common.{◌≡◌, ◌≤◌, Bool, true, false, ◌&&◌, ◌||◌, is_some, List, [], ◌∷◌, length, map, Option, Some, None, filter, find, refl, sym, ap, subst, ◌∙◌, arith}
 use Rattle.std.specs.Prelude.{nat_le, ⊤, IsTrue, IfSome}
 use Rattle.std.specs.List.{AllByRecursion, list_any}
 use Rattle.std.specs.Option.{option_map_or, option_map, option_and_then}
-use Rattle.std.proofs.lemmas.Bool.{and_from, and_parts}
 use mathlib.Core.Bool.{true≢false}
-use Rattle.ynl_resource.specs.Amounts.{fits_in}
 use Rattle.ynl_resource.specs.Names.{same_label, same_name, same_path, tenant_of}
 use Rattle.ynl_resource.specs.Ranges.{most_asks}
-use Rattle.ynl_resource.specs.declared.amounts.Resource.{Resource}
-use Rattle.ynl_resource.specs.declared.labels.Label.{Label}
 use Rattle.ynl_resource.specs.declared.names.Name.{Name}
 use Rattle.ynl_resource.specs.declared.paths.Path.{Path}
 use Rattle.ynl_model.specs.Accepted.{is_accepted}
-use Rattle.ynl_model.specs.Applications.{Application, LeafApps, apps_of, find_app, finished, in_leaf, is_used, leaf_of, no_apps, row_of, set_ask, submitted, with_app}
+use Rattle.ynl_model.specs.Applications.{Application, LeafApps, apps_of, find_app, finished, in_leaf, leaf_of, no_apps, row_of, set_ask, submitted, with_app}
 use Rattle.ynl_model.specs.declared.applications.AskRow.{AskRow}
-use Rattle.ynl_model.specs.Changes.{all_end, all_own, app_finishes, changed_at, end, node_joins, node_leaves, place, taken}
+use Rattle.ynl_model.specs.Changes.{app_finishes, changed_at, end, node_joins, node_leaves, place, taken}
 use Rattle.ynl_model.specs.Cluster.{State, opening}
 use Rattle.ynl_model.specs.Events.{has_most_apps, is_one_too_many, state_after}
 use Rattle.ynl_model.specs.declared.events.Event.{Event}
@@ -25,7 +21,7 @@ use Rattle.ynl_laws.proofs.Events.Changed.{taken-name}
 use Rattle.ynl_laws.proofs.Events.Found.{FindsAll, IsFound, finds-found}
 use Rattle.ynl_laws.proofs.Events.Kept.{KeepsNames, finished-names, leaf_of-kept, submit-extends, submit-finds, with_app-names}
 use Rattle.ynl_laws.proofs.Lists.{Each-all, Each-append, Each-both, Each-map, Each-weaker, Each-with, found-passes, none-found, update-none}
-use Rattle.ynl_laws.proofs.Logic.{none-is, some-same}
+use Rattle.ynl_laws.proofs.Logic.{some-same}
 use Rattle.ynl_laws.proofs.Names.{same-name_self, same-name_sym, same-path}
 use Rattle.std.specs.Cmp.Lexicographic.{pointwise_decides, bytes_decides}
 use Rattle.ynl_saved_laws.proofs.Changing.{Comes, Goes, always-goes}
@@ -38,6 +34,7 @@ use Rattle.ynl_saved_laws.proofs.Shapes.{Shaped, shaped-goes, shaped-opening}
 abbrev pub AllNamed : List LeafApps → List LeafApps → Type 0
 AllNamed leaves rows = AllByRecursion (λ row. AllByRecursion (IsKnown leaves row.leaf) row.names) rows
 
+-- what is known of all leaves
 pub record Leaved (c : Config) (s : State) : Type 0 where
   pub shaped : Shaped c s
   pub rows : AllByRecursion (IsLeaf c) s.leaves
@@ -112,9 +109,11 @@ module _ (c : Config) (accepted : IsTrue (is_accepted c)) where
   pub leaves-apart : (leaves : List LeafApps) → map (λ row. row.leaf) leaves ≡ map (λ row. row.leaf) (no_apps c) → Pairs (λ (a b : LeafApps). same_path a.leaf b.leaf ≡ false) leaves
   leaves-apart leaves e = pairs-keys same_path (λ (row : LeafApps). row.leaf) leaves (map (λ row. row.leaf) (no_apps c)) e (pairs-made (λ (row : LeafApps). row.leaf) (λ a b. same_path a b ≡ false) (no_apps c) (leaves-differ c accepted))
 
+  -- a row is what its path finds
   abbrev IsRow : List LeafApps → LeafApps → Type 0
   IsRow leaves row = find (λ (other : LeafApps). same_path other.leaf row.leaf) leaves ≡ Some row
 
+  -- and so each leaf is what its path finds
   pub leaves-keyed : (s : State) → Shaped c s → AllByRecursion (IsRow s.leaves) s.leaves
   leaves-keyed s h = keyed-of same_path (λ (row : LeafApps). row.leaf) same-path same-path_self s.leaves (leaves-apart s.leaves h.leaves)
 
@@ -125,6 +124,7 @@ module _ (c : Config) (accepted : IsTrue (is_accepted c)) where
       sym (ap (λ o. nat_le (setting (λ row. row.leaf.maximum_applications) 0 c row.leaf) (length (option_map_or (λ (r : LeafApps). r.apps) o []))) is)
       ∙ subst (λ path. nat_le (setting (λ row. row.leaf.maximum_applications) 0 c path) (length (apps_of s.leaves path)) ≡ false) (sym same) most
 
+  -- what is submitted is as it was tested
   new-given : (s : State) (app : Application) → Comes c s app → Given c app
   new-given s app comes = record {
     master = comes.given;
@@ -140,6 +140,7 @@ module _ (c : Config) (accepted : IsTrue (is_accepted c)) where
       let one : app.name ≡ found.name = same-name_sym app.name name named ∙ sym (found-name s.leaves tenant name found e) in
       some-same app found (find_app s.leaves (tenant_of app.leaf) app.name) is.itself ((λ i. find_app s.leaves (tenant_of (leaf i)) (one i)) ∙ finds-found s finds tenant name found e)
 
+  -- that stays with each change
   pub leaved-goes : Goes (Leaved c) c
   unfolding node_joins node_leaves place changed_at app_finishes end
   leaved-goes = let shape = shaped-goes c in record {
@@ -177,6 +178,7 @@ module _ (c : Config) (accepted : IsTrue (is_accepted c)) where
     maxima = λ s queue label share h may high. record { shaped = shape.maxima s queue label share h.shaped may high; rows = h.rows; names = h.names };
   }
 
+  -- it holds at first
   pub leaved-opening : Leaved c (opening c)
   leaved-opening = record {
     shaped = shaped-opening c;

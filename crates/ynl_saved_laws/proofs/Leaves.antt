@@ -1,23 +1,20 @@
 -- In each state the live applications of a leaf come in the order of the names, which differ; and sizes, counts and numbers of asks are as they were tested.
-use Rattle.std.proofs.Common.{◌≡◌, ◌⊎◌, inl, inr, ◌≤◌, ◌<◌, ◌+◌, ◌-◌, ℕ, suc, Bool, true, false, cond, not, ◌&&◌, ◌||◌, ◌==◌, is_some, List, [], ◌∷◌, ◌++◌, length, map, Option, Some, None, filter, find, refl, sym, ap, subst, ◌∙◌, arith, append-nil, length-append, le_trans}
-use Rattle.std.specs.Prelude.{nat_le, nat_lt, count_by, ⊤, if◌then◌else◌}
-use Rattle.std.specs.List.{AllByRecursion, list_any}
-use Rattle.std.specs.Option.{option_map_or, option_map}
+use Rattle.std.proofs.Common.{◌≡◌, ◌⊎◌, inl, inr, ◌≤◌, ◌<◌, ◌+◌, ◌-◌, ℕ, Bool, true, false, cond, not, ◌&&◌, ◌==◌, is_some, List, [], ◌∷◌, ◌++◌, length, map, Some, filter, find, refl, sym, ap, subst, ◌∙◌, arith, length-append, le_trans}
+use Rattle.std.specs.Prelude.{nat_le, nat_lt, count_by, if◌then◌else◌}
+use Rattle.std.specs.List.{AllByRecursion}
 use Rattle.std.proofs.lemmas.Bool.Decides.{nat_tests}
-use Rattle.std.proofs.lemmas.Bool.{and_from, and_parts}
+use Rattle.std.proofs.lemmas.Bool.{and_parts}
 use Rattle.std.proofs.lemmas.List.{length-map}
-use Rattle.std.proofs.lemmas.List.Elements.{filter-append}
 use Rattle.std.proofs.lemmas.List.Sums.{length-filter, count_by-le-length}
 use mathlib.Core.Bool.{true≢false}
 use Rattle.ynl_resource.specs.Amounts.{fits_in}
-use Rattle.ynl_resource.specs.Names.{same_label, same_name, same_path, tenant_of}
+use Rattle.ynl_resource.specs.Names.{same_label, same_name}
 use Rattle.ynl_resource.specs.Ranges.{most_asks}
 use Rattle.ynl_resource.specs.Tables.{put, update, without}
 use Rattle.ynl_resource.specs.declared.amounts.Resource.{Resource}
 use Rattle.ynl_resource.specs.declared.labels.Label.{Label}
 use Rattle.ynl_resource.specs.declared.names.Name.{Name}
-use Rattle.ynl_resource.specs.declared.paths.Path.{Path}
-use Rattle.ynl_model.specs.Applications.{Application, LeafApps, is_ask_of, set_ask, take_one, with_app, finished, submitted}
+use Rattle.ynl_model.specs.Applications.{Application, LeafApps, is_ask_of, set_ask, with_app, finished, submitted}
 use Rattle.ynl_model.specs.declared.applications.AskRow.{AskRow}
 use Rattle.ynl_model.specs.declared.proposals.What.{What}
 use Rattle.ynl_model.specs.declared.proposals.What.TheVariants.{Master, Ask as Asked}
@@ -25,9 +22,9 @@ use Rattle.ynl_model.specs.Changes.{taken}
 use Rattle.ynl_model.specs.Events.{is_one_too_many}
 use Rattle.ynl_model.specs.Queues.{Config, setting}
 use Rattle.ynl_laws.specs.Working.{Pairs}
-use Rattle.ynl_laws.proofs.Lists.{Each-append, Each-both, Each-filter, Each-kept, Each-map, Each-put, Each-update, Each-weaker, Pairs-last, filter-swap, filter-update}
-use Rattle.ynl_laws.proofs.Names.{same-label_path, same-label_self}
-use Rattle.ynl_laws.proofs.Logic.{not-false, not-true}
+use Rattle.ynl_laws.proofs.Lists.{Each-append, Each-both, Each-filter, Each-kept, Each-put, Pairs-last, filter-swap, filter-update}
+use Rattle.ynl_laws.proofs.Names.{same-label_path}
+use Rattle.ynl_laws.proofs.Logic.{not-true}
 use Rattle.ynl_saved_laws.proofs.Rows.{Each-updated}
 
 -- ---- names and applications in one order
@@ -69,6 +66,7 @@ IsCounted c ask = (nat_lt 0 ask.count ≡ true) × (fits_in ask.size c.maximum_a
 abbrev pub asks_on : Label → List AskRow → List AskRow
 asks_on label asks = filter (λ other. same_label other.label label) asks
 
+-- what is known of a live application: sizes within the largest, and not too many asks on any label
 pub record Given (c : Config) (app : Application) : Type 0 where
   pub master : fits_in app.master c.maximum_allocation ≡ true
   pub asks : AllByRecursion (IsCounted c) app.asks

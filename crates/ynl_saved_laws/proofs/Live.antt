@@ -1,38 +1,32 @@
 -- The lines of one leaf are read: each name in turn, and behind a live application what it asks for.
-use Rattle.std.proofs.Common.{◌≡◌, ◌⊎◌, inl, inr, ◌≤◌, ◌<◌, ◌+◌, ℕ, Bool, true, false, cond, not, ◌&&◌, ◌||◌, is_some, List, [], ◌∷◌, ◌++◌, length, map, Option, Some, None, option_map, filter, find, refl, sym, ap, subst, ◌∙◌, arith, append-nil, append_assoc, length-append}
-use Rattle.std.specs.Prelude.{IsTrue, IfSome, flat_map, nat_le, nat_lt, count_by, ⊤, if◌then◌else◌}
+use Rattle.std.proofs.Common.{◌≡◌, inl, inr, ◌≤◌, ◌<◌, ℕ, Bool, true, false, cond, ◌&&◌, ◌||◌, is_some, List, [], ◌∷◌, ◌++◌, length, map, Option, Some, None, option_map, find, refl, sym, ap, subst, ◌∙◌, arith, append-nil, length-append}
+use Rattle.std.specs.Prelude.{IfSome, flat_map, nat_lt, count_by}
 use Rattle.std.specs.List.{AllByRecursion, list_any}
 use Rattle.std.specs.Option.{option_map_or, option_and_then}
-use Rattle.std.proofs.lemmas.Bool.{and_from, and_parts}
+use Rattle.std.proofs.lemmas.Bool.{and_from}
 use Rattle.std.proofs.lemmas.Bool.Decides.{nat_tests}
 use Rattle.std.proofs.lemmas.Grind.{flat_map-append}
 use Rattle.std.proofs.lemmas.List.Elements.{filter-append}
 use Rattle.std.proofs.lemmas.List.Sums.{length-filter}
-use mathlib.Core.Bool.{true≢false}
-use Rattle.ynl_resource.specs.Amounts.{fits_in}
-use Rattle.ynl_resource.specs.Names.{is_default, same_label, same_name, same_path, tenant_of}
+use Rattle.ynl_resource.specs.Names.{same_label, same_name, same_path, tenant_of}
 use Rattle.ynl_resource.specs.Ranges.{most_asks}
-use Rattle.ynl_resource.specs.declared.labels.Label.{Label}
 use Rattle.ynl_resource.specs.declared.names.Name.{Name}
-use Rattle.ynl_resource.specs.declared.paths.Path.{Path}
-use Rattle.ynl_model.specs.Applications.{Application, LeafApps, apps_of, find_app, find_ask, in_leaf, is_ask_of, is_used, leaf_of, new_app, row_of, submitted, with_app}
+use Rattle.ynl_model.specs.Applications.{Application, LeafApps, find_app, in_leaf, is_ask_of, is_used, leaf_of, submitted, with_app}
 use Rattle.ynl_model.specs.declared.applications.AskRow.{AskRow}
 use Rattle.ynl_model.specs.Cluster.{State}
 use Rattle.ynl_model.specs.Events.{is_foreign}
 use Rattle.ynl_model.specs.Queues.{Config, is_leaf, is_queue, setting}
-use Rattle.ynl_saved.specs.declared.lines.StateLine.{StateLine}
 use Rattle.ynl_saved.specs.declared.lines.StateLine.TheVariants.{Live, Ask, Finished}
 use Rattle.ynl_saved.specs.Saving.{app_lines, leaf_lines, live_lines}
 use Rattle.ynl_saved.specs.Restoring.{has_place, may_ask}
 use Rattle.ynl_laws.specs.Untied.{Differs, Distinct}
-use Rattle.ynl_laws.specs.Working.{IsKnown, Pairs}
-use Rattle.ynl_laws.proofs.Events.Found.{IsFound}
-use Rattle.ynl_laws.proofs.Lists.{Each-append, Each-find, Each-split, Each-weaker, Each-with, any-last, find-nothing, found-passes}
+use Rattle.ynl_laws.specs.Working.{Pairs}
+use Rattle.ynl_laws.proofs.Lists.{Each-append, Each-find, Each-split, any-last, find-nothing, found-passes}
 use Rattle.ynl_laws.proofs.Lives.Entitled.{Fitting}
 use Rattle.ynl_laws.proofs.Names.{same-label_self, same-name_self, same-name_sym}
 use Rattle.ynl_saved_laws.proofs.Leaved.{same-path_self}
 use Rattle.ynl_saved_laws.proofs.Leaves.{Given, InOrder, IsCounted, IsLeaf, asks_on}
-use Rattle.ynl_saved_laws.proofs.Rows.{find-in, pairs-before, pairs-behind, turned, update-in}
+use Rattle.ynl_saved_laws.proofs.Rows.{find-in, pairs-before, turned, update-in}
 use Rattle.ynl_saved_laws.proofs.Sound.{off, reads-ask, reads-finished, reads-live}
 use Rattle.ynl_saved_laws.proofs.Suited.{not-foreign}
 use Rattle.ynl_saved_laws.proofs.Told.{Reads, Side, flat-ones, plain-section, reads-append}
@@ -116,6 +110,7 @@ module _ (c : Config) (side : Side) (s2 : State) (done : List LeafApps) (row : L
   abbrev at : LeafApps → State
   at y = record s2 { leaves = done ++ y ∷ map empty todo }
 
+  -- the leaf with the names and applications that are told
   abbrev partial : List Name → List Application → LeafApps
   partial names apps = record { leaf = row.leaf; names = names; apps = apps }
 
@@ -162,9 +157,11 @@ module _ (c : Config) (side : Side) (s2 : State) (done : List LeafApps) (row : L
 
   module _ (app : Application) (dn : List Name) (apps : List Application) (others : AllByRecursion (λ (other : LeafApps). named (tenant_of row.leaf) app.name other ≡ false) done) (away : AllByRecursion (λ (other : Application). same_name other.name app.name ≡ false) apps)
       (leaf : app.leaf ≡ row.leaf) (fitting : Fitting c app) (distinct : Distinct app) (given : Given c app) where
+    -- the state with the asks that are told of the application
     abbrev with_asks : List AskRow → State
     with_asks da = at (partial (dn ++ app.name ∷ []) (apps ++ record app { asks = da } ∷ []))
 
+    -- each ask may come behind those before it
     may : (da : List AskRow) (ask : AskRow) (ta : List AskRow) → da ++ ask ∷ ta ≡ app.asks → may_ask c ask (record app { asks = da }) ≡ true
     may da ask ta e =
         let own : is_foreign ask.label app ≡ false = here (λ (ask : AskRow). is_foreign ask.label app ≡ false) fitting.1 in
@@ -187,6 +184,7 @@ module _ (c : Config) (side : Side) (s2 : State) (done : List LeafApps) (row : L
             (subst (λ xs. length xs ≤ most_asks) (ap (asks_on ask.label) (sym e) ∙ filter-append (λ other. same_label other.label ask.label) da (ask ∷ ta) ∙ (λ i. asks_on ask.label da ++ cond (same-label_self ask.label i) (ask ∷ asks_on ask.label ta) (asks_on ask.label ta)))
             (given.few ask.label))
 
+    -- the line of one ask is read
     ask-step : (da : List AskRow) (ask : AskRow) (ta : List AskRow) → da ++ ask ∷ ta ≡ app.asks → Reads c (with_asks da) side (Ask (tenant_of app.leaf) app.name ask ∷ []) (with_asks (da ++ ask ∷ [])) side
     ask-step da ask ta e =
         subst (λ leaves. Reads c (with_asks da) side (Ask (tenant_of app.leaf) app.name ask ∷ []) (record s2 { leaves = leaves }) side) changed
@@ -217,6 +215,7 @@ module _ (c : Config) (side : Side) (s2 : State) (done : List LeafApps) (row : L
 
   -- ---- names in turn
 
+  -- the lines of one name are read
   name-step : (dn : List Name) (name : Name) (tn : List Name) → dn ++ name ∷ tn ≡ row.names → Reads c (at (partial dn (lives row.apps dn))) side (app_lines row name) (at (partial (dn ++ name ∷ []) (lives row.apps (dn ++ name ∷ [])))) side
   name-step dn name tn e =
       subst (λ apps. Reads c (at (partial dn (lives row.apps dn))) side (app_lines row name) (at (partial (dn ++ name ∷ []) apps)) side)

@@ -1,5 +1,5 @@
 -- The lines of the queues that are stopped are read, and those of the maxima that are not the configured ones.
-use Rattle.std.proofs.Common.{◌≡◌, ◌⊎◌, inl, inr, ◌≤◌, ℕ, Bool, true, false, cond, not, ◌&&◌, ◌||◌, ◌==◌, List, [], ◌∷◌, ◌++◌, map, Option, Some, None, find, refl, sym, ap, subst, ◌∙◌, append-nil, append_assoc}
+use Rattle.std.proofs.Common.{◌≡◌, inl, inr, Bool, true, false, cond, ◌&&◌, ◌||◌, ◌==◌, List, [], ◌∷◌, ◌++◌, map, Some, find, refl, sym, ap, subst, ◌∙◌, append-nil}
 use Rattle.std.specs.Prelude.{IsTrue, flat_map, ⊤}
 use Rattle.std.specs.List.{AllByRecursion, list_any}
 use Rattle.std.specs.Option.{option_map_or}
@@ -12,14 +12,14 @@ use Rattle.ynl_resource.specs.declared.paths.Path.{Path}
 use Rattle.ynl_model.specs.Accepted.{is_accepted}
 use Rattle.ynl_model.specs.Cluster.{State}
 use Rattle.ynl_model.specs.Nodes.{partition_labels}
-use Rattle.ynl_model.specs.Queues.{Config, QueueRow, configured_maximum, is_maximum_of, is_queue, maximum_on, opening_maxima, set_maximum, set_stop}
+use Rattle.ynl_model.specs.Queues.{Config, QueueRow, configured_maximum, is_maximum_of, is_queue, maximum_on, opening_maxima}
 use Rattle.ynl_model.specs.declared.queues.MaximumRow.{MaximumRow}
 use Rattle.ynl_model.specs.declared.queues.StopRow.{StopRow}
 use Rattle.ynl_saved.specs.declared.lines.StateLine.{StateLine}
 use Rattle.ynl_saved.specs.declared.lines.StateLine.TheVariants.{Stopped, Maximum}
 use Rattle.ynl_saved.specs.Saving.{maxima_lines, maximum_lines, stop_lines}
 use Rattle.ynl_laws.specs.Working.{Pairs}
-use Rattle.ynl_laws.proofs.Lists.{Each-all, Each-append, Each-both, Each-map, Each-split, Each-unmap, Each-weaker, Each-with, flat-map, pairs-unmap}
+use Rattle.ynl_laws.proofs.Lists.{Each-all, Each-append, Each-both, Each-map, Each-split, Each-unmap, Each-weaker, Each-with, flat-map}
 use Rattle.ynl_laws.proofs.Names.{same-label_path, same-label_self, same-path}
 use Rattle.ynl_saved_laws.proofs.Apps.{queues-are}
 use Rattle.ynl_saved_laws.proofs.Configured.{labels-differ, none-root, paths-differ}
@@ -39,6 +39,7 @@ none-any q (x ∷ xs) h = (λ i. h.0 i || list_any q xs) ∙ none-any q xs h.1
 abbrev IsBelow : Config → Path → Type 0
 IsBelow c path = (is_queue c path ≡ true) × (same_path path root ≡ false)
 
+-- so is each configured path
 paths-below : (c : Config) → IsTrue (is_accepted c) → AllByRecursion (IsBelow c) (map (λ (row : QueueRow). row.path) c.queues)
 paths-below c accepted = Each-both (λ path. is_queue c path ≡ true) (λ path. same_path path root ≡ false) (map (λ (row : QueueRow). row.path) c.queues)
     (Each-map (λ (row : QueueRow). is_queue c row.path ≡ true) _ (λ (row : QueueRow). row.path) (λ row k. k) c.queues (queues-are c))
@@ -51,12 +52,15 @@ abbrev pub run : StopRow → StopRow
 run row = record row { stopped = false }
 
 module _ (c : Config) (accepted : IsTrue (is_accepted c)) (s : State) (shaped : Shaped c s) (side : Side) (s4 : State) where
+  -- no two marks are of one queue
   stops-apart : Pairs (λ (a b : StopRow). same_path a.queue b.queue ≡ false) s.stops
   stops-apart = pairs-keys same_path (λ (row : StopRow). row.queue) s.stops (map (λ (row : QueueRow). row.path) c.queues) shaped.stops (pairs-made (λ (row : QueueRow). row.path) (λ a b. same_path a b ≡ false) c.queues (paths-differ c accepted))
 
+  -- each mark is of a queue below root
   stops-below : AllByRecursion (λ (row : StopRow). IsBelow c row.queue) s.stops
   stops-below = Each-unmap (λ (row : StopRow). row.queue) (IsBelow c) s.stops (subst (AllByRecursion (IsBelow c)) (sym shaped.stops) (paths-below c accepted))
 
+  -- the line of one queue is read, where it is stopped
   stop-step : (done : List StopRow) (row : StopRow) (todo : List StopRow) → done ++ row ∷ todo ≡ s.stops → Reads c (record s4 { stops = done ++ map run (row ∷ todo) }) side (stop_lines row) (record s4 { stops = (done ++ row ∷ []) ++ map run todo }) side
   stop-step done row todo e =
       subst (λ stops. Reads c (record s4 { stops = done ++ map run (row ∷ todo) }) side (stop_lines row) (record s4 { stops = stops }) side) (one-done done row (map run todo)) (go row.stopped refl)
@@ -107,9 +111,11 @@ conf c row = record row { share = configured_maximum c row.queue row.label }
 abbrev same_key : Path × Label → Path × Label → Bool
 same_key a b = same_path a.0 b.0 && same_label a.1 b.1
 
+-- keys that are the same are equal
 key-same : (a b : Path × Label) → same_key a b ≡ true → a ≡ b
 key-same a b h = λ i. (same-path a.0 b.0 (and_parts (same_path a.0 b.0) _ h).0 i, same-label_path a.1 b.1 (and_parts (same_path a.0 b.0) _ h).1 i)
 
+-- a key is the same as itself
 key-self : (a : Path × Label) → same_key a a ≡ true
 key-self a = and_from _ _ (same-path_self a.0) (same-label_self a.1)
 
@@ -133,6 +139,7 @@ abbrev pub share_lines : Config → MaximumRow → List StateLine
 share_lines c row = cond (row.share == configured_maximum c row.queue row.label) [] (Maximum row.queue row.label row.share ∷ [])
 
 module _ (c : Config) (accepted : IsTrue (is_accepted c)) where
+  -- two maxima have different keys
   abbrev Away : MaximumRow → MaximumRow → Type 0
   Away a b = same_key (key_of a) (key_of b) ≡ false
 
@@ -158,6 +165,7 @@ module _ (c : Config) (accepted : IsTrue (is_accepted c)) where
           (Each-map (λ (l : Label). ⊤) (Away (record { queue = row.path; label = label; share = configured_maximum c row.path label })) (λ l. record { queue = other.path; label = l; share = configured_maximum c other.path l }) (λ l _ i. k.0 i && same_label label l) (partition_labels c.labels) (Each-all (λ (l : Label). ⊤) (λ l. tt) (partition_labels c.labels)))
           (others label rows k.1)
 
+  -- the maxima of the opening state have keys of their own
   opening-apart : Pairs Away (opening_maxima c)
   unfolding opening_maxima
   opening-apart = made-apart c.queues (paths-differ c accepted)
@@ -199,9 +207,11 @@ module _ (c : Config) (accepted : IsTrue (is_accepted c)) where
       ∙ sym (flat-map (λ (key : Path × Label). g key.0 key.1) key_of (flat_map (made c) c.queues))
 
   module _ (s : State) (shaped : Shaped c s) where
+    -- no two maxima of a state have one key
     maxima-apart : Pairs Away s.maxima
     maxima-apart = pairs-keys same_key key_of s.maxima (map key_of (opening_maxima c)) shaped.maxima (pairs-made key_of (λ a b. same_key a b ≡ false) (opening_maxima c) opening-apart)
 
+    -- each maximum is of a queue below root
     maxima-below : AllByRecursion (λ (row : MaximumRow). IsBelow c row.queue) s.maxima
     maxima-below = Each-unmap key_of (λ (key : Path × Label). IsBelow c key.0) s.maxima (subst (AllByRecursion (λ (key : Path × Label). IsBelow c key.0)) (sym shaped.maxima) opening-below)
 

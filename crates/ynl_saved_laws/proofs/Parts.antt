@@ -1,6 +1,6 @@
 -- The lines of the partitions are read, and those of the nodes.
-use Rattle.std.proofs.Common.{◌≡◌, ◌≤◌, ◌<◌, ◌+◌, ℕ, Bool, true, false, cond, not, ◌||◌, is_some, List, [], ◌∷◌, ◌++◌, length, map, Option, Some, None, option_map, filter, find, refl, sym, ap, subst, ◌∙◌, arith, append-nil, length-append}
-use Rattle.std.specs.Prelude.{IsTrue, IfSome, flat_map, nat_le, ⊤}
+use Rattle.std.proofs.Common.{◌≡◌, ◌≤◌, ◌<◌, ℕ, Bool, true, false, cond, ◌||◌, is_some, List, [], ◌∷◌, ◌++◌, length, map, Option, Some, None, option_map, find, refl, sym, ap, subst, ◌∙◌, arith, append-nil, length-append}
+use Rattle.std.specs.Prelude.{IsTrue, IfSome, flat_map, nat_le}
 use Rattle.std.specs.List.{AllByRecursion, list_any}
 use Rattle.std.specs.Option.{option_map_or}
 use Rattle.std.proofs.lemmas.Bool.Decides.{nat_tests}
@@ -10,28 +10,22 @@ use mathlib.Core.Bool.{true≢false}
 use Rattle.ynl_resource.specs.Names.{same_label, same_name}
 use Rattle.ynl_resource.specs.Ranges.{most_nodes}
 use Rattle.ynl_resource.specs.declared.labels.Label.{Label}
-use Rattle.ynl_resource.specs.declared.names.Name.{Name}
-use Rattle.ynl_resource.specs.declared.paths.Path.{Path}
 use Rattle.ynl_model.specs.Accepted.{is_accepted}
-use Rattle.ynl_model.specs.Cluster.{State, Partition, clock, in_partition, is_partition, node_of}
+use Rattle.ynl_model.specs.Cluster.{State, Partition, clock, in_partition, is_partition}
 use Rattle.ynl_model.specs.Nodes.{Labels, clock_limit, has_label, is_full, label_row, nodes_of, partition_labels}
 use Rattle.ynl_model.specs.declared.labels.LabelRow.{LabelRow}
-use Rattle.ynl_resource.specs.declared.labels.Label.TheVariants.{Unlabelled, Named}
+use Rattle.ynl_resource.specs.declared.labels.Label.TheVariants.{Named}
 use Rattle.ynl_model.specs.Queues.{Config}
 use Rattle.ynl_model.specs.declared.nodes.Node.{Node}
-use Rattle.ynl_saved.specs.declared.lines.StateLine.{StateLine}
 use Rattle.ynl_saved.specs.declared.lines.StateLine.TheVariants.{Node as NodeLine}
 use Rattle.ynl_saved.specs.Saving.{partition_line}
 use Rattle.ynl_laws.specs.Working.{Pairs, clock_in, has_row}
-use Rattle.ynl_laws.proofs.Lists.{Each-all, Each-append, Each-found, Each-map, Each-split, Each-unmap, Each-weaker, Each-with, find-nothing, find-through, found-passes, pairs-unmap}
-use Rattle.ynl_laws.proofs.Names.{same-label_path, same-label_self, same-name_self, same-name_sym}
-use Rattle.ynl_laws.proofs.Logic.{some-same}
-use Rattle.ynl_laws.proofs.Soundness.Ordered.{opening-empty}
-use Rattle.ynl_laws.specs.Working.{IsOrdered, places}
+use Rattle.ynl_laws.proofs.Lists.{Each-append, Each-found, Each-map, Each-split, Each-unmap, Each-weaker, Each-with, find-nothing, find-through, found-passes, pairs-unmap}
+use Rattle.ynl_laws.proofs.Names.{same-label_path, same-label_self, same-name_self}
 use Rattle.ynl_model.specs.Promises.{without_stamp}
 use Rattle.ynl_saved_laws.proofs.Changing.{Base}
 use Rattle.ynl_saved_laws.proofs.Configured.{labels-differ}
-use Rattle.ynl_saved_laws.proofs.Rows.{find-in, one-done, pairs-before, pairs-behind, pairs-keys, turned, update-in}
+use Rattle.ynl_saved_laws.proofs.Rows.{one-done, pairs-before, pairs-behind, pairs-keys, turned, update-in}
 use Rattle.ynl_saved_laws.proofs.Shapes.{Shaped}
 use Rattle.ynl_saved_laws.proofs.Sound.{reads-node, reads-partition}
 use Rattle.ynl_saved_laws.proofs.Stamps.{Stamped}
@@ -41,6 +35,7 @@ use Rattle.ynl_saved_laws.proofs.Told.{Reads, Side, plain-section, section}
 abbrev pub fresh : Partition → Partition
 fresh row = record { label = row.label; clock = 0; containers = [] }
 
+-- a partition after its line, while no container is told
 abbrev pub settled : Partition → Partition
 settled row = record { label = row.label; clock = row.clock; containers = [] }
 
@@ -76,6 +71,7 @@ module _ (c : Config) (accepted : IsTrue (is_accepted c)) (s : State) (shaped : 
   pub partitions-known : AllByRecursion (λ (row : Partition). has_label c.labels row.label ≡ true) s.partitions
   partitions-known = Each-unmap (λ (row : Partition). row.label) (λ label. has_label c.labels label ≡ true) s.partitions (subst (AllByRecursion (λ label. has_label c.labels label ≡ true)) (sym shaped.partitions) (label-known c.labels))
 
+  -- each clock is within its limit
   clocks-within : AllByRecursion (λ (row : Partition). row.clock ≤ clock_limit c.labels row.label) s.partitions
   clocks-within = let ordered = base.ordered in Each-weaker _ (λ (row : Partition). row.clock ≤ clock_limit c.labels row.label)
       (λ row is. subst (λ n. n ≤ clock_limit c.labels row.label) (ap (λ o. option_map_or (λ (row : Partition). row.clock) o 0) is) (ordered.clocks row.label)) s.partitions ordered.found
@@ -84,9 +80,11 @@ module _ (c : Config) (accepted : IsTrue (is_accepted c)) (s : State) (shaped : 
   abbrev pub AreTold : List Partition → List Partition → Side → Type 0
   AreTold done todo side = (side.maxima ≡ []) × AllByRecursion (λ (row : Partition). list_any (same_label row.label) side.partitions ≡ false) todo × AllByRecursion (λ (row : Partition). list_any (same_label row.label) side.partitions ≡ true) done
 
+  -- the state when some partitions had their lines
   abbrev parts_at : State → List Partition → List Partition → State
   parts_at s0 done todo = record s0 { partitions = map settled done ++ map fresh todo }
 
+  -- the line of one partition is read
   part-step : (s0 : State) (done : List Partition) (x : Partition) (todo : List Partition) (side : Side) → done ++ x ∷ todo ≡ s.partitions → AreTold done (x ∷ todo) side →
       (new : Side) × AreTold (done ++ x ∷ []) todo new × Reads c (parts_at s0 done (x ∷ todo)) side (partition_line x ∷ []) (parts_at s0 (done ++ x ∷ []) todo) new
   part-step s0 done x todo side e q = (
@@ -137,6 +135,7 @@ module _ (c : Config) (accepted : IsTrue (is_accepted c)) (s : State) (shaped : 
   -- ---- nodes
 
   module _ (stamped : Stamped c s) (side : Side) (all : AllByRecursion (λ (row : Partition). list_any (same_label row.label) side.partitions ≡ true) s.partitions) (s1 : State) (parts : s1.partitions ≡ map settled s.partitions) where
+    -- no two nodes have one name
     names-apart : Pairs (λ (a b : Node). same_name a.name b.name ≡ false) s.nodes
     names-apart = pairs-unmap without_stamp (λ a b. same_name a.name b.name ≡ false) s.nodes base.apart
 
@@ -148,6 +147,7 @@ module _ (c : Config) (accepted : IsTrue (is_accepted c)) (s : State) (shaped : 
         go None there told at = absurd (true≢false (sym there))
         go (Some row) there told at = subst (λ l. list_any (same_label l) side.partitions ≡ true) (same-label_path row.label label at) told
 
+    -- the line of one node is read
     node-step : (done : List Node) (x : Node) (todo : List Node) → done ++ x ∷ todo ≡ s.nodes → Reads c (record s1 { nodes = done }) side (NodeLine x ∷ []) (record s1 { nodes = done ++ x ∷ [] }) side
     unfolding is_full clock
     node-step done x todo e =

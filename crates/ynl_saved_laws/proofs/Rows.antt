@@ -1,5 +1,5 @@
 -- Rows with keys of their own: one of them is found and changed where the rows before and behind it have other keys.
-use Rattle.std.proofs.Common.{◌≡◌, Bool, true, false, not, ◌||◌, cond, List, [], ◌∷◌, ◌++◌, map, Option, Some, None, find, refl, sym, ap, subst, ◌∙◌, append_assoc}
+use Rattle.std.proofs.Common.{◌≡◌, Bool, true, false, not, ◌||◌, cond, List, [], ◌∷◌, ◌++◌, map, Some, find, refl, sym, ap, subst, ◌∙◌, append_assoc}
 use Rattle.std.specs.Prelude.{if◌then◌else◌}
 use Rattle.std.specs.List.{AllByRecursion, list_any}
 use Rattle.std.proofs.lemmas.Bool.{and_parts}
@@ -23,6 +23,7 @@ pub pairs-before : {X : Type 0} (R : X → X → Type 0) (done : List X) (x : X)
 pairs-before R [] x todo h = tt
 pairs-before R (a ∷ done) x todo h = ((Each-split (R a) done (x ∷ todo) h.0).1.0, pairs-before R done x todo h.1)
 
+-- the same of the rows behind it
 pub pairs-behind : {X : Type 0} (R : X → X → Type 0) (done : List X) (x : X) (todo : List X) → Pairs R (done ++ x ∷ todo) → AllByRecursion (R x) todo
 pairs-behind R [] x todo h = h.0
 pairs-behind R (a ∷ done) x todo h = pairs-behind R done x todo h.1
@@ -36,6 +37,7 @@ pub update-off : {X : Type 0} (test : X → Bool) (change : X → X) (xs : List 
 update-off test change [] h = refl
 update-off test change (x ∷ xs) h = λ i. cond (h.0 i) (change x) x ∷ update-off test change xs h.1 i
 
+-- one row that passes the test changes among others that fail it
 pub update-in : {X : Type 0} (test : X → Bool) (change : X → X) (done : List X) (x : X) (todo : List X) → AllByRecursion (λ a. test a ≡ false) done → test x ≡ true → AllByRecursion (λ a. test a ≡ false) todo →
     update test change (done ++ x ∷ todo) ≡ done ++ change x ∷ todo
 update-in test change [] x todo off on behind = λ i. cond (on i) (change x) x ∷ update-off test change todo behind i
@@ -67,6 +69,7 @@ Each-updated P Q w change step stay xs h = Each-map P Q (λ x. if w x then chang
 pub pairs-keys : {X K : Type 0} (same : K → K → Bool) (key : X → K) (rows : List X) (keys : List K) → map key rows ≡ keys → Pairs (λ a b. same a b ≡ false) keys → Pairs (λ a b. same (key a) (key b) ≡ false) rows
 pairs-keys same key rows keys e h = pairs-unmap key (λ a b. same a b ≡ false) rows (subst (Pairs (λ a b. same a b ≡ false)) (sym e) h)
 
+-- pairs of what is made of elements
 pub pairs-made : {X Y : Type 0} (f : X → Y) (R : Y → Y → Type 0) (xs : List X) → Pairs (λ a b. R (f a) (f b)) xs → Pairs R (map f xs)
 pairs-made f R [] h = tt
 pairs-made f R (x ∷ xs) h = (Each-map (λ b. R (f x) (f b)) (R (f x)) f (λ b k. k) xs h.0, pairs-made f R xs h.1)

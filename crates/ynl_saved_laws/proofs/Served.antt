@@ -1,12 +1,12 @@
 -- What is known of a request that is placed: its application waits for a master of just that size, or asks for something of just that size.
-use Rattle.std.proofs.Common.{◌≡◌, ◌⊎◌, inl, inr, ℕ, Bool, true, false, cond, not, ◌&&◌, ◌||◌, ◌==◌, List, [], ◌∷◌, Option, Some, None, filter, find, refl, sym, ap, ◌∙◌, arith}
+use Rattle.std.proofs.Common.{◌≡◌, ℕ, Bool, true, false, cond, not, ◌&&◌, ◌||◌, ◌==◌, List, [], ◌∷◌, Option, Some, None, filter, find, refl, sym, ap, ◌∙◌, arith}
 use Rattle.std.specs.Prelude.{IfSome, nat_lt}
 use Rattle.std.specs.List.{AllByRecursion, list_any}
 use Rattle.std.specs.Option.{option_map_or, option_or}
 use Rattle.std.proofs.lemmas.Bool.Decides.{nat_tests}
 use Rattle.std.proofs.lemmas.Bool.{and_from, and_parts}
 use Rattle.ynl_resource.specs.declared.amounts.Resource.{Resource}
-use Rattle.ynl_resource.specs.Names.{same_label, is_default, tenant_of}
+use Rattle.ynl_resource.specs.Names.{same_label, tenant_of}
 use Rattle.ynl_resource.specs.declared.labels.Label.{Label}
 use Rattle.ynl_resource.specs.declared.labels.Label.TheVariants.{Unlabelled}
 use Rattle.ynl_resource.specs.Refusals.{first_that_holds}
@@ -41,12 +41,15 @@ pub record IsServed (s : State) (item : Item) : Type 0 where
 pub same-number : (a b : ℕ) → (a == b) ≡ true → a ≡ b
 same-number a b h = grind (arith, nat_tests, h)
 
+-- a number is the same as itself
 pub same-number_self : (a : ℕ) → (a == a) ≡ true
 same-number_self a = grind (arith, nat_tests)
 
+-- sizes that are the same are equal
 pub size-same : (a b : Resource) → same_size a b ≡ true → a ≡ b
 size-same a b h = λ i. record { memory = same-number a.memory b.memory (and_parts (a.memory == b.memory) _ h).0 i; vcores = same-number a.vcores b.vcores (and_parts (a.memory == b.memory) _ h).1 i }
 
+-- a size is the same as itself
 pub size-self : (a : Resource) → same_size a a ≡ true
 size-self a = and_from _ _ (same-number_self a.memory) (same-number_self a.vcores)
 
@@ -59,11 +62,13 @@ each-sized (ask ∷ asks) = (
 )
 
 module _ (c : Config) (s : State) (finds : FindsAll s.leaves) where
+  -- each master that is wanted on a partition is wanted by its application
   masters-served : (p : Label) → AllByRecursion (IsServed s) (masters_for s p)
   masters-served p = Each-map (λ app. FindsItself s app × ((waits s app && same_label app.home p) ≡ true)) (IsServed s) master_item
       (λ app k. record { app = app; found = k.0; wanting = ((and_parts (waits s app) _ k.1).0, refl) }) (filter (λ app. waits s app && same_label app.home p) (all_apps s.leaves))
       (Each-both (FindsItself s) _ (filter (λ app. waits s app && same_label app.home p) (all_apps s.leaves)) (Each-filter (FindsItself s) _ (all_apps s.leaves) (finds-apps s finds)) (filter-passes _ (all_apps s.leaves)))
 
+  -- and so is what is asked for on a label
   asks-served : (label : Label) → AllByRecursion (IsServed s) (asks_for s label)
   unfolding asks_for
   asks-served label = Each-flat (FindsItself s) (IsServed s) (asks_of label)
@@ -72,11 +77,13 @@ module _ (c : Config) (s : State) (finds : FindsAll s.leaves) where
       (Each-filter _ _ app.asks (each-sized app.asks)))
       (filter (runs s) (all_apps s.leaves)) (Each-filter (FindsItself s) (runs s) (all_apps s.leaves) (finds-apps s finds))
 
+  -- and each request that is eligible on a node
   eligible-served : (node : Node) → AllByRecursion (IsServed s) (eligible c s node)
   unfolding items_for
   eligible-served node = Each-filter (IsServed s) (is_eligible c s node) (items_for s node.label)
       (Each-append (IsServed s) (masters_for s node.label) (asks_for s node.label) (masters-served node.label) (asks-served node.label))
 
+  -- and each guest
   guests-served : (node : Node) → AllByRecursion (IsServed s) (guests_for c s node)
   unfolding guests_for
   guests-served node = go (takes_guests c node.label && not (some_eligible c s node))
@@ -104,6 +111,7 @@ found-any test q (x ∷ xs) h = go (q x) h (found-any test q xs)
     go true h rest = ap (λ b. b || list_any test xs) h
     go false h rest = any-later test x xs (rest h)
 
+-- the test of a proposal says that it is wanted
 wanting-of : (s : State) (p : Label) (what : What) (size : Resource) (app : Application) → wants s p what size app ≡ true → Wanting s app what size
 wanting-of s p Master size app h =
     let first : (waits s app && same_label app.home p) ≡ true = (and_parts (waits s app && same_label app.home p) _ h).0 in

@@ -1,5 +1,5 @@
 -- In each state the rows of partitions, leaves, stops and maxima are those of the configuration, in its order; and a maximum that was set may be set.
-use Rattle.std.proofs.Common.{◌≡◌, ◌⊎◌, inl, inr, ◌≤◌, ℕ, Bool, true, false, cond, ◌&&◌, List, [], ◌∷◌, map, filter, refl, sym, ap, subst, ◌∙◌, arith}
+use Rattle.std.proofs.Common.{◌≡◌, ◌⊎◌, inl, inr, ◌≤◌, ℕ, true, false, cond, List, [], ◌∷◌, map, refl, sym, ap, subst, ◌∙◌, arith}
 use Rattle.std.specs.Prelude.{⊤, nat_lt, flat_map}
 use Rattle.std.specs.List.{AllByRecursion}
 use Rattle.std.proofs.lemmas.Bool.Decides.{nat_tests}
@@ -7,13 +7,13 @@ use Rattle.std.proofs.lemmas.Bool.{and_parts}
 use Rattle.ynl_resource.specs.Names.{same_label, same_path, tenant_of}
 use Rattle.ynl_resource.specs.declared.labels.Label.{Label}
 use Rattle.ynl_resource.specs.declared.paths.Path.{Path}
-use Rattle.ynl_model.specs.Applications.{Application, LeafApps, in_leaf, finished, no_apps}
+use Rattle.ynl_model.specs.Applications.{LeafApps, in_leaf, finished, no_apps}
 use Rattle.ynl_model.specs.Changes.{all_end, all_own, app_finishes, changed_at, end, node_joins, node_leaves, place}
-use Rattle.ynl_model.specs.Cluster.{State, Partition, is_partition, no_containers, opening}
+use Rattle.ynl_model.specs.Cluster.{State, Partition, is_partition, opening}
 use Rattle.ynl_model.specs.Events.{state_after}
 use Rattle.ynl_model.specs.declared.events.Event.{Event}
 use Rattle.ynl_model.specs.Nodes.{partition_labels}
-use Rattle.ynl_model.specs.Queues.{Config, QueueRow, capacity_on, configured_maximum, is_leaf, is_maximum_of, may_use, opening_maxima, opening_stops, set_maximum}
+use Rattle.ynl_model.specs.Queues.{Config, QueueRow, capacity_on, configured_maximum, is_maximum_of, may_use, opening_maxima}
 use Rattle.ynl_model.specs.declared.containers.Placed.{Placed as Container}
 use Rattle.ynl_model.specs.declared.queues.MaximumRow.{MaximumRow}
 use Rattle.ynl_model.specs.declared.queues.StopRow.{StopRow}
@@ -65,19 +65,23 @@ module _ (c : Config) where
     shares = subst (AllByRecursion (IsShare c)) (sym k) h.shares;
   }
 
+  -- a container ends
   shaped-end : (s : State) (container : Container) → Shaped c s → Shaped c (end c s container)
   unfolding end changed_at
   shaped-end s container h = shaped-partition s (end c s container) container.id.label _ (λ row. refl) h refl refl refl refl
 
+  -- containers end one after another
   shaped-all : (list : List Container) (s : State) → Shaped c s → Shaped c (all_end c list s)
   shaped-all [] s h = h
   shaped-all (container ∷ list) s h = shaped-all list (end c s container) (shaped-end s container h)
 
+  -- which changes no leaf
   all-leaves : (list : List Container) (s : State) → (all_end c list s).leaves ≡ s.leaves
   unfolding end changed_at
   all-leaves [] s = refl
   all-leaves (container ∷ list) s = all-leaves list (end c s container)
 
+  -- a maximum that is set by an event may be set
   set-share : (queue : Path) (label : Label) (share : ℕ) → may_use c queue label ≡ true → nat_lt share (capacity_on c queue label) ≡ false → (row : MaximumRow) → is_maximum_of queue label row ≡ true → IsShare c (record row { share = share })
   set-share queue label share may high row e =
       let at : row.queue ≡ queue = same-path row.queue queue (and_parts (same_path row.queue queue) _ e).0 in
@@ -87,6 +91,7 @@ module _ (c : Config) where
       enough : (m n : ℕ) → nat_lt n m ≡ false → m ≤ n
       enough m n k = grind (arith, nat_tests, k)
 
+  -- that stays with each change
   pub shaped-goes : Goes (Shaped c) c
   unfolding node_joins node_leaves place changed_at app_finishes
   shaped-goes = record {
@@ -117,6 +122,7 @@ module _ (c : Config) where
     };
   }
 
+  -- it holds at first
   pub shaped-opening : Shaped c (opening c)
   unfolding opening_maxima
   shaped-opening = record {

@@ -1,7 +1,7 @@
 -- One line of each kind that is sound, and what it makes of a state.
-use Rattle.std.proofs.Common.{◌≡◌, ◌≤◌, ℕ, Bool, true, false, not, ◌&&◌, ◌||◌, ◌==◌, is_some, List, [], ◌∷◌, ◌++◌, Option, Some, None, refl, sym, ap, subst, ◌∙◌, arith}
-use Rattle.std.specs.Prelude.{nat_le, nat_lt, if◌then◌else◌}
-use Rattle.std.specs.List.{list_any, list_all}
+use Rattle.std.proofs.Common.{◌≡◌, ◌≤◌, ℕ, Bool, true, false, not, ◌&&◌, is_some, [], ◌∷◌, ◌++◌, Some, refl, ap, subst, ◌∙◌, arith}
+use Rattle.std.specs.Prelude.{nat_le, nat_lt}
+use Rattle.std.specs.List.{list_any}
 use Rattle.std.specs.Option.{option_map_or}
 use Rattle.std.proofs.lemmas.Bool.{and_from}
 use Rattle.std.proofs.lemmas.Bool.Decides.{nat_tests}
@@ -11,23 +11,22 @@ use Rattle.ynl_resource.specs.declared.amounts.Resource.{Resource}
 use Rattle.ynl_resource.specs.declared.labels.Label.{Label}
 use Rattle.ynl_resource.specs.declared.names.Name.{Name}
 use Rattle.ynl_resource.specs.declared.paths.Path.{Path}
-use Rattle.ynl_model.specs.Accepted.{is_from_to}
 use Rattle.ynl_model.specs.Applications.{Application, find_app, in_leaf, is_used, new_app, with_app}
 use Rattle.ynl_model.specs.Cluster.{State, clock, node_of}
-use Rattle.ynl_model.specs.Nodes.{clock_limit, has_label, is_full, joined, partition_labels}
+use Rattle.ynl_model.specs.Nodes.{clock_limit, has_label, is_full, joined}
 use Rattle.ynl_model.specs.Queues.{Config, capacity_on, is_leaf, is_queue, may_use, set_maximum, set_stop}
 use Rattle.ynl_model.specs.declared.applications.AskRow.{AskRow}
 use Rattle.ynl_model.specs.declared.containers.Placed.{Placed}
 use Rattle.ynl_model.specs.declared.nodes.Node.{Node as NodeRow}
-use Rattle.ynl_saved.specs.declared.lines.StateLine.{StateLine}
-use Rattle.ynl_saved.specs.declared.lines.StateLine.TheVariants.{Begin, Partition, Node, Live, Ask, Finished, Container, Stopped, Maximum, End}
-use Rattle.ynl_saved.specs.Restoring.{has_place, is_given, is_sound_line, last_clock, may_ask, may_have, may_stand, with_ask, with_clock, with_container, with_finished, with_line, with_live}
+use Rattle.ynl_saved.specs.declared.lines.StateLine.TheVariants.{Begin, Partition, Node, Live, Ask, Finished, Container, Stopped, Maximum}
+use Rattle.ynl_saved.specs.Restoring.{has_place, is_sound_line, last_clock, may_ask, may_have, may_stand, with_clock, with_container, with_finished, with_line, with_live}
 use Rattle.ynl_saved_laws.proofs.Told.{Reads, Side, reads-one}
 
 -- tests of numbers
 pub nat-le : (m n : ℕ) → m ≤ n → nat_le m n ≡ true
 nat-le m n h = grind (arith, nat_tests, h)
 
+-- what fails a test passes its contrary
 pub off : {b : Bool} → b ≡ false → not b ≡ true
 off e = ap not e
 

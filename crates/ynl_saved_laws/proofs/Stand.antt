@@ -1,6 +1,6 @@
 -- The lines of the containers are read, partition by partition.
-use Rattle.std.proofs.Common.{◌≡◌, ◌⊎◌, inl, inr, ◌≤◌, ◌<◌, ◌+◌, ℕ, Bool, true, false, cond, not, ◌&&◌, ◌||◌, ◌==◌, is_some, List, [], ◌∷◌, ◌++◌, map, Option, Some, None, option_map, filter, find, fold, refl, sym, ap, subst, ◌∙◌, arith, append-nil}
-use Rattle.std.specs.Prelude.{IsTrue, IfSome, flat_map, nat_le, nat_lt}
+use Rattle.std.proofs.Common.{◌≡◌, ◌⊎◌, inl, inr, ◌≤◌, ◌<◌, ℕ, Bool, true, false, cond, not, ◌&&◌, ◌||◌, ◌==◌, List, [], ◌∷◌, ◌++◌, map, Option, Some, None, option_map, filter, find, fold, refl, sym, ap, subst, ◌∙◌, arith, append-nil}
+use Rattle.std.specs.Prelude.{IsTrue, IfSome, flat_map, nat_lt}
 use Rattle.std.specs.List.{AllByRecursion, list_any}
 use Rattle.std.specs.Option.{option_map_or, option_and_then}
 use Rattle.std.proofs.lemmas.Bool.{and_from, and_parts, or_left, or_right}
@@ -23,17 +23,16 @@ use Rattle.ynl_model.specs.declared.containers.Placed.{Placed}
 use Rattle.ynl_model.specs.declared.nodes.Node.{Node}
 use Rattle.ynl_model.specs.declared.proposals.What.{What}
 use Rattle.ynl_model.specs.declared.proposals.What.TheVariants.{Master, Ask as Asked}
-use Rattle.ynl_model.specs.View.{tracked}
 use Rattle.ynl_model.specs.declared.nodes.Tracked.{Tracked}
 use Rattle.ynl_saved.specs.declared.lines.StateLine.TheVariants.{Container}
 use Rattle.ynl_saved.specs.Restoring.{may_have, may_stand}
 use Rattle.ynl_laws.specs.Working.{IsHoused, Pairs, StandsOn, filled, on_in, places}
 use Rattle.ynl_laws.proofs.Events.Found.{FindsAll, IsFound}
-use Rattle.ynl_laws.proofs.Lists.{Each-append, Each-both, Each-find, Each-found, Each-map, Each-split, Each-unmap, Each-weaker, Each-with, found-passes}
+use Rattle.ynl_laws.proofs.Lists.{Each-both, Each-find, Each-found, Each-map, Each-split, Each-unmap, Each-weaker, Each-with, found-passes}
 use Rattle.ynl_laws.proofs.Names.{same-label_path, same-label_self, same-name_self, same-name_sym}
 use Rattle.ynl_laws.proofs.Soundness.Tracked.{tracked-is}
 use Rattle.ynl_saved_laws.proofs.Changing.{Base}
-use Rattle.ynl_saved_laws.proofs.Leaved.{Leaved, found-name}
+use Rattle.ynl_saved_laws.proofs.Leaved.{found-name}
 use Rattle.ynl_saved_laws.proofs.Parts.{partitions-apart, settled}
 use Rattle.ynl_saved_laws.proofs.Rows.{find-in, one-done, pairs-before, pairs-behind, turned, update-in}
 use Rattle.ynl_saved_laws.proofs.Served.{same-number_self}
@@ -76,22 +75,28 @@ record IsReady (c : Config) (s : State) (p : Label) (k : Placed) : Type 0 where
   suits : Suits c s.leaves p k
 
 module _ (c : Config) (accepted : IsTrue (is_accepted c)) (s : State) (base : Base c s) (stamped : Stamped c s) (suited : Suited c s) (housed : IsHoused s) (side : Side) (s3 : State) where
+  -- the state with the partitions that are told
   abbrev at : List Partition → State
   at rows = record s3 { nodes = s.nodes; partitions = rows; leaves = s.leaves }
 
   module _ (done : List Partition) (row : Partition) (todo : List Partition) (e : done ++ row ∷ todo ≡ s.partitions) (is : find (is_partition row.label) s.partitions ≡ Some row) where
+    -- the partition with the containers that are told
     abbrev partial : List Placed → Partition
     partial containers = record { label = row.label; clock = row.clock; containers = containers }
 
+    -- all partitions with it
     abbrev rows_with : List Placed → List Partition
     rows_with containers = done ++ partial containers ∷ map settled todo
 
+    -- the partitions before and behind it have other labels
     differ : Pairs (λ (a b : Partition). same_label a.label b.label ≡ false) (done ++ row ∷ todo)
     differ = let leaved = suited.leaved in subst (Pairs (λ (a b : Partition). same_label a.label b.label ≡ false)) (sym e) (partitions-apart c accepted s leaved.shaped base)
 
+    -- those before it
     before : AllByRecursion (λ (other : Partition). same_label other.label row.label ≡ false) done
     before = pairs-before (λ (a b : Partition). same_label a.label b.label ≡ false) done row todo differ
 
+    -- those behind it
     behind : AllByRecursion (λ (other : Partition). same_label other.label row.label ≡ false) (map settled todo)
     behind = Each-map (λ (other : Partition). same_label row.label other.label ≡ false) _ settled (λ other k. turned same_label same-label_path same-label_self row.label other.label k) todo (pairs-behind (λ (a b : Partition). same_label a.label b.label ≡ false) done row todo differ)
 
@@ -99,9 +104,11 @@ module _ (c : Config) (accepted : IsTrue (is_accepted c)) (s : State) (base : Ba
     all-on : on_in s.partitions row.label ≡ row.containers
     all-on = ap (λ o. option_map_or (λ (row : Partition). row.containers) o []) is
 
+    -- the containers that are told are those on the partition so far
     told-on : (dk : List Placed) (label : Label) → label ≡ row.label → containers_on (at (rows_with dk)) label ≡ dk
     told-on dk label same = ap (containers_on (at (rows_with dk))) same ∙ ap (λ o. option_map_or (λ (row : Partition). row.containers) o []) (find-in (is_partition row.label) done (partial dk) (map settled todo) before (same-label_self row.label))
 
+    -- all of that is known of each container
     ready : AllByRecursion (IsReady c s row.label) row.containers
     ready = subst (AllByRecursion (IsReady c s row.label)) all-on
         (Each-with (λ (k : Placed). 1 ≤ k.id.clock) (λ k. StandsOn (places s) row.label k × Suits c s.leaves row.label k) (IsReady c s row.label) (λ k early j. record { early = early; stands = j.0; suits = j.1 }) (on_in s.partitions row.label) (stamped.early row.label)

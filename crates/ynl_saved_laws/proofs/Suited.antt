@@ -1,12 +1,11 @@
 -- In each state each container is one that its application may have where it stands, and no application has two masters on a partition.
-use Rattle.std.proofs.Common.{◌≡◌, ◌⊎◌, inl, inr, ℕ, Bool, true, false, cond, not, ◌&&◌, ◌||◌, List, [], ◌∷◌, ◌++◌, Option, Some, None, is_some, filter, find, option_map, refl, sym, ap, subst, ◌∙◌}
+use Rattle.std.proofs.Common.{◌≡◌, ◌⊎◌, Bool, true, false, cond, not, ◌&&◌, ◌||◌, List, [], ◌∷◌, Option, Some, None, find, option_map, refl, sym, ap, subst, ◌∙◌}
 use Rattle.std.specs.Prelude.{IfSome, IsTrue}
 use Rattle.std.specs.List.{AllByRecursion, list_any}
 use Rattle.std.specs.Option.{option_map_or, option_and_then}
-use Rattle.std.proofs.lemmas.Bool.{and_parts, or_left, or_right}
 use mathlib.Core.Bool.{true≢false}
 use Rattle.ynl_resource.specs.Amounts.{fits_in}
-use Rattle.ynl_resource.specs.Names.{is_default, same_id, same_label, same_name, same_path, tenant_of}
+use Rattle.ynl_resource.specs.Names.{is_default, same_id, same_label, same_name, tenant_of}
 use Rattle.ynl_resource.specs.declared.amounts.Resource.{Resource}
 use Rattle.ynl_resource.specs.declared.labels.Label.{Label}
 use Rattle.ynl_resource.specs.declared.names.Name.{Name}
@@ -15,7 +14,7 @@ use Rattle.ynl_model.specs.Applications.{Application, LeafApps, find_app, finish
 use Rattle.ynl_model.specs.declared.applications.AskRow.{AskRow}
 use Rattle.ynl_model.specs.Changes.{all_end, all_own, app_finishes, changed_at, container_of, end, node_joins, node_leaves, place, taken}
 use Rattle.ynl_model.specs.Check.{same_size}
-use Rattle.ynl_model.specs.Cluster.{State, Partition, in_partition, is_master, is_master_what, is_of, is_partition, no_containers, opening, runs, waits}
+use Rattle.ynl_model.specs.Cluster.{State, Partition, in_partition, is_master, is_master_what, is_of, is_partition, no_containers, runs, waits}
 use Rattle.ynl_model.specs.Events.{is_foreign, state_after}
 use Rattle.ynl_model.specs.declared.events.Event.{Event}
 use Rattle.ynl_model.specs.declared.nodes.Node.{Node}
@@ -38,7 +37,6 @@ use Rattle.ynl_laws.proofs.Soundness.Ordered.{opening-empty}
 use Rattle.ynl_saved_laws.proofs.Changing.{Base, Goes, always-goes}
 use Rattle.ynl_saved_laws.proofs.Leaved.{Leaved, found-name, leaved-goes, leaved-opening}
 use Rattle.ynl_saved_laws.proofs.Leaves.{Given, IsCounted, IsLeaf}
-use Rattle.ynl_saved_laws.proofs.Rows.{turned}
 use Rattle.ynl_saved_laws.proofs.Served.{IsServed, Wanting, size-same}
 use Rattle.ynl_saved_laws.proofs.Traits.{traits, traits-changed, traits-finished, traits-submitted, traits_in}
 
@@ -59,6 +57,7 @@ pub record Suits (c : Config) (leaves : List LeafApps) (p : Label) (k : Containe
 abbrev pub Sole : Container → Container → Type 0
 Sole a b = is_master b ≡ true → (is_master a && is_of b.tenant b.app a) ≡ false
 
+-- what is known of all containers
 pub record Suited (c : Config) (s : State) : Type 0 where
   pub leaved : Leaved c s
   pub suits : (p : Label) → AllByRecursion (Suits c s.leaves p) (on_in s.partitions p)
@@ -84,6 +83,7 @@ size-given c size (ask ∷ asks) h any = go (same_size ask.size size) refl any (
     go true e any rest = ap (λ a. fits_in a c.maximum_allocation) (sym (size-same ask.size size e)) ∙ h.0.1
     go false e any rest = rest any
 
+-- the size of a request is within the largest
 served-given : (c : Config) (s : State) (app : Application) (what : What) (size : Resource) → Given c app → Wanting s app what size → fits_in size c.maximum_allocation ≡ true
 served-given c s app Master size g w = ap (λ a. fits_in a c.maximum_allocation) w.1 ∙ g.master
 served-given c s app (Asked label priority) size g w = size-given c size app.asks g.asks w
@@ -109,6 +109,7 @@ not-foreign label app h = go (is_default label) (same_label app.home label) refl
     go false true e h = turn true e refl
     go false false e h = absurd (true≢false h)
 
+-- what is wanted on a partition may stand there
 may-new : (c : Config) (s : State) (p : Label) (app : Application) (what : What) (size : Resource) → AllByRecursion (λ ask. is_foreign ask.label app ≡ false) app.asks → IsFor c p app what → Wanting s app what size → May c p (traits app) what size
 may-new c s p app Master size own for w = (for, w.1)
 may-new c s p app (Asked label priority) size own for w = (not-foreign label app (own-asked label app app.asks for.0 own), for.1)
@@ -117,6 +118,7 @@ may-new c s p app (Asked label priority) size own for w = (not-foreign label app
 same-app : (c : Config) (s : State) (p : Label) (item : Item) → (wanted : IsWanted c s p item) (served : IsServed s item) → served.app ≡ wanted.app
 same-app c s p item wanted served = some-same served.app wanted.app (find_app s.leaves (tenant_of item.leaf) item.app) served.found wanted.found
 
+-- the container that is placed is one that its application may have
 suits-new : (c : Config) (s : State) (node : Node) (item : Item) → Base c s → AllByRecursion (IsLeaf c) s.leaves → IsWanted c s node.label item → IsServed s item → (p : Label) → node.label ≡ p → Suits c s.leaves p (container_of c s node item)
 unfolding container_of
 suits-new c s node item b h wanted served p at = record {
@@ -170,6 +172,7 @@ pairs-in R label p change keeps rows step h = by-row (λ a b. Pairs R a → Pair
     go row is at true e k = step row is at e k
     go row is at false e k = k
 
+-- the pairs of containers where containers end
 pairs-ended : (c : Config) (R : Container → Container → Type 0) (list : List Container) (s : State) → ((p : Label) → Pairs R (on_in s.partitions p)) → (p : Label) → Pairs R (on_in (all_end c list s).partitions p)
 unfolding end changed_at
 pairs-ended c R [] s h p = h p
@@ -180,6 +183,7 @@ pairs-ended c R (container ∷ list) s h p =
 suits-moved : (c : Config) (old new : List LeafApps) → ((tenant name : Name) (is : Label × Resource) → traits_in old tenant name ≡ Some is → traits_in new tenant name ≡ Some is) → (p : Label) (containers : List Container) → AllByRecursion (Suits c old p) containers → AllByRecursion (Suits c new p) containers
 suits-moved c old new same p containers h = Each-weaker (Suits c old p) (Suits c new p) (λ k j. record { label = j.label; given = j.given; traits = j.traits; found = same k.tenant k.app j.traits j.found; may = j.may }) containers h
 
+-- one less asked for changes neither home nor master
 taken-traits : (what : What) (app : Application) → traits (taken what app) ≡ traits app
 taken-traits Master app = refl
 taken-traits (Asked label priority) app = refl
@@ -193,6 +197,7 @@ opening-none labels p = go (find (is_partition p) (no_containers labels)) (Each-
     go (Some row) h = h.1
 
 module _ (c : Config) (accepted : IsTrue (is_accepted c)) where
+  -- that stays with each change
   suited-goes : Goes (Suited c) c
   unfolding node_joins node_leaves end place changed_at container_of app_finishes
   suited-goes = let leaved = leaved-goes c accepted in record {

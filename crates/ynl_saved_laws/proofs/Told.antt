@@ -1,6 +1,6 @@
 -- What lines make of a state, read one after another.
-use Rattle.std.proofs.Common.{◌≡◌, ℕ, ◌+◌, true, false, Bool, cond, List, [], ◌∷◌, ◌++◌, length, Option, Some, None, refl, sym, ap, subst, ◌∙◌, arith, append-nil, append_assoc, length-append}
-use Rattle.std.specs.Prelude.{flat_map, map, if◌then◌else◌}
+use Rattle.std.proofs.Common.{◌≡◌, ℕ, ◌+◌, true, false, Bool, cond, List, [], ◌∷◌, ◌++◌, length, Some, None, refl, sym, ap, subst, ◌∙◌, arith, append-nil, append_assoc, length-append}
+use Rattle.std.specs.Prelude.{flat_map, map}
 use Rattle.ynl_resource.specs.declared.labels.Label.{Label}
 use Rattle.ynl_resource.specs.declared.paths.Path.{Path}
 use Rattle.ynl_model.specs.Queues.{Config}
@@ -43,6 +43,7 @@ by-append c r new (x ∷ xs) ys h = go (is_sound_line c r x) h (by-append c (res
     go true h rest = rest h
     go false h rest = cc
 
+-- lines behind others are read over what those made
 pub reads-append : (c : Config) (s mid new : State) (a b d : Side) (xs ys : List StateLine) → Reads c s a xs mid b → Reads c mid b ys new d → Reads c s a (xs ++ ys) new d
 reads-append c s mid new a b d xs ys h k n = by-append c (told s a n) (told mid b (n + length xs)) xs ys (h n) ∙ k (n + length xs) ∙ ap (λ m. Some (told new d m)) (sums n)
   where
