@@ -1,4 +1,4 @@
--- In each state each leaf is as it was tested, and each name of a leaf finds that leaf.
+-- Each leaf is as it was tested, each name of a leaf finds that leaf, and that stays with each change.
 use Rattle.std.proofs.Common.{◌≡◌, ◌≤◌, Bool, true, false, ◌&&◌, ◌||◌, is_some, List, [], ◌∷◌, length, map, Option, Some, None, filter, find, refl, sym, ap, subst, ◌∙◌, arith}
 use Rattle.std.specs.Prelude.{nat_le, ⊤, IsTrue, IfSome}
 use Rattle.std.specs.List.{AllByRecursion, list_any}
@@ -13,8 +13,7 @@ use Rattle.ynl_model.specs.Applications.{Application, LeafApps, apps_of, find_ap
 use Rattle.ynl_model.specs.declared.applications.AskRow.{AskRow}
 use Rattle.ynl_model.specs.Changes.{app_finishes, changed_at, end, node_joins, node_leaves, place, taken}
 use Rattle.ynl_model.specs.Cluster.{State, opening}
-use Rattle.ynl_model.specs.Events.{has_most_apps, is_one_too_many, state_after}
-use Rattle.ynl_model.specs.declared.events.Event.{Event}
+use Rattle.ynl_model.specs.Events.{has_most_apps, is_one_too_many}
 use Rattle.ynl_model.specs.Queues.{Config, QueueRow, is_leaf, setting}
 use Rattle.ynl_laws.specs.Working.{IsKnown, Pairs}
 use Rattle.ynl_laws.proofs.Events.Changed.{taken-name}
@@ -24,7 +23,7 @@ use Rattle.ynl_laws.proofs.Lists.{Each-all, Each-append, Each-both, Each-map, Ea
 use Rattle.ynl_laws.proofs.Logic.{some-same}
 use Rattle.ynl_laws.proofs.Names.{same-name_self, same-name_sym, same-path}
 use Rattle.std.specs.Cmp.Lexicographic.{pointwise_decides, bytes_decides}
-use Rattle.ynl_saved_laws.proofs.Changing.{Comes, Goes, always-goes}
+use Rattle.ynl_saved_laws.proofs.Changing.{Comes, Goes}
 use Rattle.ynl_saved_laws.proofs.Configured.{leaves-differ}
 use Rattle.ynl_saved_laws.proofs.Leaves.{Given, IsLeaf, given-asked, given-taken, leaf-changed, leaf-finished, leaf-submitted}
 use Rattle.ynl_saved_laws.proofs.Rows.{Each-updated, keyed-of, pairs-keys, pairs-made, turned}
@@ -185,7 +184,3 @@ module _ (c : Config) (accepted : IsTrue (is_accepted c)) where
     rows = Each-map (λ (row : QueueRow). ⊤) (IsLeaf c) _ (λ row _. record { differ = tt; order = refl; few = omega arith; given = tt }) (filter (λ row. is_leaf c row.path) c.queues) (Each-all (λ (row : QueueRow). ⊤) (λ row. tt) (filter (λ row. is_leaf c row.path) c.queues));
     names = Each-map (λ (row : QueueRow). ⊤) (λ row. AllByRecursion (IsKnown (no_apps c) row.leaf) row.names) _ (λ row _. tt) (filter (λ row. is_leaf c row.path) c.queues) (Each-all (λ (row : QueueRow). ⊤) (λ row. tt) (filter (λ row. is_leaf c row.path) c.queues));
   }
-
-  -- in each state
-  pub leaved-after : (events : List Event) → Leaved c (state_after c events)
-  leaved-after events = always-goes (Leaved c) c leaved-goes leaved-opening events

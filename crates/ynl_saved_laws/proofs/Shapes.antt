@@ -1,4 +1,4 @@
--- In each state the rows of partitions, leaves, stops and maxima are those of the configuration, in its order; and a maximum that was set may be set.
+-- The rows of partitions, leaves, stops and maxima are those of the configuration, in its order, and a maximum that was set may be set; that stays with each change.
 use Rattle.std.proofs.Common.{◌≡◌, ◌⊎◌, inl, inr, ◌≤◌, ℕ, true, false, cond, List, [], ◌∷◌, map, refl, sym, ap, subst, ◌∙◌, arith}
 use Rattle.std.specs.Prelude.{⊤, nat_lt, flat_map}
 use Rattle.std.specs.List.{AllByRecursion}
@@ -10,8 +10,6 @@ use Rattle.ynl_resource.specs.declared.paths.Path.{Path}
 use Rattle.ynl_model.specs.Applications.{LeafApps, in_leaf, finished, no_apps}
 use Rattle.ynl_model.specs.Changes.{all_end, all_own, app_finishes, changed_at, end, node_joins, node_leaves, place}
 use Rattle.ynl_model.specs.Cluster.{State, Partition, is_partition, opening}
-use Rattle.ynl_model.specs.Events.{state_after}
-use Rattle.ynl_model.specs.declared.events.Event.{Event}
 use Rattle.ynl_model.specs.Nodes.{partition_labels}
 use Rattle.ynl_model.specs.Queues.{Config, QueueRow, capacity_on, configured_maximum, is_maximum_of, may_use, opening_maxima}
 use Rattle.ynl_model.specs.declared.containers.Placed.{Placed as Container}
@@ -19,7 +17,7 @@ use Rattle.ynl_model.specs.declared.queues.MaximumRow.{MaximumRow}
 use Rattle.ynl_model.specs.declared.queues.StopRow.{StopRow}
 use Rattle.ynl_laws.proofs.Lists.{Each-all, Each-append, Each-map, map-map, map-update}
 use Rattle.ynl_laws.proofs.Names.{same-label_path, same-path}
-use Rattle.ynl_saved_laws.proofs.Changing.{Goes, always-goes}
+use Rattle.ynl_saved_laws.proofs.Changing.{Goes}
 use Rattle.ynl_saved_laws.proofs.Rows.{Each-updated}
 
 -- the queue and the partition of a maximum
@@ -142,7 +140,3 @@ module _ (c : Config) where
       each (row ∷ rows) = Each-append (IsShare c) (made c row) (flat_map (made c) rows)
           (Each-map (λ (label : Label). ⊤) (IsShare c) (λ label. record { queue = row.path; label = label; share = configured_maximum c row.path label }) (λ label _. inl refl) (partition_labels c.labels)
           (Each-all (λ (label : Label). ⊤) (λ label. tt) (partition_labels c.labels))) (each rows)
-
-  -- in each state
-  pub shaped-after : (events : List Event) → Shaped c (state_after c events)
-  shaped-after events = always-goes (Shaped c) c shaped-goes shaped-opening events
