@@ -25,6 +25,7 @@ use ynl_queues::Config;
 use ynl_reading::{explain, master_limit_of, user_limit_of};
 use ynl_replies::containers;
 use ynl_resource::{Label, Name, Path, Refusal, Resource, Size};
+use ynl_saving::Saving;
 use ynl_service::{check, proposed};
 use ynl_shut::Shut;
 use ynl_sights::Sight;
@@ -222,6 +223,14 @@ impl Core {
         // Opens the rows, which are sound.
         let _ = self.cluster.inventory();
         Ok(explain(self.alloc, &self.cluster, tenant, app)?)
+    }
+
+    /// The state, to be told line by line. It fails if memory is refused.
+    pub fn saving(&self) -> Result<Saving<'_>, NoMemory>
+        ensures { IfOk result (λ saving. saving
+            ≡ record { config = self.now.config; state = self.now.state }) }
+    {
+        Ok(Saving::of(self.alloc, &self.cluster)?)
     }
 
     /// The most that one user may use of the leaf's part of a partition, where a container of this size

@@ -1,0 +1,93 @@
+//! The text that the lines of a state come to.
+
+ghost use Rattle.std.specs.Prelude.{◌≡◌, []};
+
+use std::alloc::{AllocError, Global};
+use std::marker::Model;
+use ynl_saved::{LineSink, StateLine};
+use ynl_saved_text::put_state_line;
+
+/// How long the text may get, in bytes.
+pub(crate) const MOST: usize = 268_435_456;
+
+/// Why no line more is added.
+#[derive(Clone, Copy)]
+pub(crate) enum TextFault {
+    /// The text would be too long.
+    Size,
+    /// Memory was refused.
+    NoMemory,
+}
+
+impl From<AllocError> for TextFault {
+    ghost use Rattle.std.specs.Prelude.{◌≡◌};
+    ghost use Rattle.ynl_save.specs.declared.text.TextFault.TheVariants.{NoMemory};
+
+    ghost from_gives = { λ _ e. e ≡ NoMemory };
+
+    fn from(_error: AllocError) -> TextFault {
+        TextFault::NoMemory
+    }
+}
+
+/// The text of some lines, each with its newline, and how many they are.
+#[derive(Drop)]
+pub(crate) struct StateText {
+    text: Vec<u8>,
+    lines: u64,
+}
+
+impl Model for StateText {
+    ghost use Rattle.ynl_save.specs.Text.{Told, told_of, IsCounted};
+
+    ghost Value = { Told };
+
+    ghost view = { told_of };
+
+    ghost invariant = { IsCounted };
+}
+
+impl StateText {
+    /// No line yet.
+    pub(crate) fn new(alloc: Global) -> StateText
+        ensures text { result.text ≡ [] }
+        ensures lines { result.lines ≡ 0 }
+    {
+        StateText {
+            text: Vec::new(alloc),
+            lines: 0,
+        }
+    }
+
+    /// How many lines there are.
+    pub(crate) fn lines(&self) -> u64
+        ensures { result ≡ self.now.lines }
+    {
+        self.lines
+    }
+
+    /// The text.
+    pub(crate) fn into_text(self) -> Vec<u8>
+        ensures { result.items ≡ self.text }
+    {
+        self.text
+    }
+}
+
+impl LineSink for StateText {
+    type Fault = TextFault;
+
+    ghost use Rattle.ynl_save.specs.Text.{Adds};
+
+    ghost gives = { Adds };
+
+    fn take(&mut self, line: &StateLine) -> Result<(), TextFault> {
+        put_state_line(&mut self.text, line)?;
+        self.text.push(b'\n')?;
+        if self.text.len() > MOST {
+            return Err(TextFault::Size);
+        }
+        self.lines += 1;
+        Ok(())
+    }
+}
