@@ -2,7 +2,7 @@ pub mod Answerings
 pub mod Audited
 pub mod Audits
 pub mod Evidences
-pub mod Explainings
+pub mod ClustersAfter
 pub mod Handed
 pub mod Fronts
 pub mod Held

@@ -7,7 +7,6 @@ use Rattle.ynl_check.specs.declared.checking.Form.TheVariants.{Lines, Plain}
 use Rattle.ynl_model.specs.declared.events.Event.{Event}
 use Rattle.ynl_model.specs.Queues.{Config}
 use Rattle.ynl_model.specs.Events.{state_after}
-use Rattle.ynl_core.specs.World.{World}
 use Rattle.ynl_waits.specs.Waits.{explained_of}
 use Rattle.ynl_waits.specs.declared.waits.Explained.{Explained}
 use Rattle.ynl_explain.specs.Sentences.{plain_text}
@@ -26,10 +25,6 @@ use Rattle.ynl_commands.specs.Script.{Script, script_way, script_of}
 use Rattle.ynl_commands.specs.Telling.{TellsNothing}
 
 -- ---- what is written
-
--- the cluster after events, from the opening state
-abbrev pub cluster_after : Config → List Event → World
-cluster_after c events = record { config = c; state = state_after c events }
 
 -- the text of what is explained, in the form that is asked for
 abbrev pub answer_in : Form → Name → Name → Explained → List ℕ

@@ -13,3 +13,5 @@ pub mod Run
 pub mod Running
 pub mod Script
 pub mod Telling
+pub mod Clusters
+pub mod Saving

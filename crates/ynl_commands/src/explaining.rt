@@ -2,35 +2,25 @@
 
 ghost use Rattle.std.specs.Prelude.{◌≡◌, ◌≢◌, IfOk, IfErr};
 ghost use Rattle.ynl_commands.specs.declared.run.ToolFault.TheVariants.{Read};
-ghost use Rattle.ynl_commands.specs.Explaining.{answer, cluster_after, explanation, waits_text, Explains, ExplainsWhole};
+ghost use Rattle.ynl_commands.specs.Explaining.{answer, explanation, waits_text, Explains, ExplainsWhole};
 ghost use Rattle.ynl_commands.specs.Input.{between};
 ghost use Rattle.ynl_commands.specs.Running.{Writes};
 ghost use Rattle.ynl_commands.specs.Script.{script_read};
 
+use crate::clusters::cluster_after;
 use crate::lines_out::write_text;
 use crate::run::{Summary, ToolFault, report};
 use crate::script_in::{Script, read_script};
 use std::alloc::{AllocError, Global};
 use std::io::{BufRead, Write};
 use ynl_check::Form;
-use ynl_core::{Core, NoMemory};
+use ynl_core::NoMemory;
 use ynl_explain::{plain_text, told_text};
 use ynl_lines::InputFault;
 use ynl_packed::Events;
 use ynl_queues::Config;
 use ynl_waits::Explained;
 use ynl_words::Question;
-
-/// A cluster that the events were applied to.
-fn cluster_after(alloc: Global, config: Config, events: &Events) -> Result<Core, NoMemory>
-    ensures { IfOk result (λ core. core ≡ cluster_after config events.now) }
-{
-    let mut core = Core::open(alloc, config)?;
-    for i in 0..events.len() {
-        core.apply(events.get(i))?;
-    }
-    Ok(core)
-}
 
 /// The text of what is explained.
 fn answer(alloc: Global, question: &Question, explained: &Explained) -> Result<Vec<u8>, AllocError>

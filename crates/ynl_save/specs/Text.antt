@@ -33,10 +33,6 @@ pub record Told : Type 0 where
 abbrev pub told_of : Inside → Told
 told_of a = record { text = a.text.items; lines = a.lines }
 
--- each line has a byte at least
-abbrev pub IsCounted : Inside → Type 0
-IsCounted a = a.lines ≤ length a.text.items
-
 -- a line more: it is added; or the text would be too long with it, or there is no memory for it
 abbrev pub Adds : Told → StateLine → Told → Result (Unit {0}) TextFault → Type 0
 Adds old line new (Ok done) = (new.text ≡ old.text ++ line_text line) × (new.lines ≡ old.lines + 1) × (length new.text ≤ limit)

@@ -1,6 +1,7 @@
 //! The text that the lines of a state come to.
 
-ghost use Rattle.std.specs.Prelude.{◌≡◌, []};
+ghost use Rattle.std.specs.Prelude.{◌≡◌, ◌++◌, [], OnOk};
+ghost use Rattle.ynl_save.specs.Text.{line_text};
 
 use std::alloc::{AllocError, Global};
 use std::marker::Model;
@@ -15,7 +16,7 @@ pub(crate) const MOST: usize = 268_435_456;
 pub(crate) enum TextFault {
     /// The text would be too long.
     Size,
-    /// Memory was refused.
+    /// Memory was refused, or the lines cannot be counted.
     NoMemory,
 }
 
@@ -30,6 +31,15 @@ impl From<AllocError> for TextFault {
     }
 }
 
+/// Adds the text of a line, with its newline.
+fn add_line(text: &mut Vec<u8>, line: &StateLine) -> Result<(), AllocError>
+    ensures { OnOk result (text.new.items ≡ text.old.items ++ line_text line.now) }
+{
+    put_state_line(text, line)?;
+    text.push(b'\n')?;
+    Ok(())
+}
+
 /// The text of some lines, each with its newline, and how many they are.
 #[derive(Drop)]
 pub(crate) struct StateText {
@@ -38,13 +48,11 @@ pub(crate) struct StateText {
 }
 
 impl Model for StateText {
-    ghost use Rattle.ynl_save.specs.Text.{Told, told_of, IsCounted};
+    ghost use Rattle.ynl_save.specs.Text.{Told, told_of};
 
     ghost Value = { Told };
 
     ghost view = { told_of };
-
-    ghost invariant = { IsCounted };
 }
 
 impl StateText {
@@ -82,8 +90,10 @@ impl LineSink for StateText {
     ghost gives = { Adds };
 
     fn take(&mut self, line: &StateLine) -> Result<(), TextFault> {
-        put_state_line(&mut self.text, line)?;
-        self.text.push(b'\n')?;
+        if self.lines == u64::MAX {
+            return Err(TextFault::NoMemory);
+        }
+        add_line(&mut self.text, line)?;
         if self.text.len() > MOST {
             return Err(TextFault::Size);
         }

@@ -24,13 +24,16 @@ use Rattle.ynl_commands.specs.Run.{line_of, Outcome}
 use Rattle.ynl_commands.specs.Running.{Runs}
 use Rattle.ynl_commands.specs.Auditing.{AuditsJournal}
 use Rattle.ynl_commands.specs.Explaining.{Explains}
+use Rattle.ynl_commands.specs.Saving.{SavesScript}
+use Rattle.ynl_saved_text.specs.declared.faults.StateFault.{StateFault}
+use Rattle.ynl_saved_text.specs.StateLines.{fault_word as state_word}
 use Rattle.ynl_commands.specs.Telling.{TellsTenant}
 use Rattle.ynl_tool.specs.Living.{Lives}
 use Rattle.ynl_words.specs.declared.words.Question.{Question}
 use Rattle.ynl_tool.specs.declared.jobs.JobRefusal.{JobRefusal}
-use Rattle.ynl_tool.specs.declared.jobs.JobRefusal.TheVariants.{Config, NotSole}
+use Rattle.ynl_tool.specs.declared.jobs.JobRefusal.TheVariants.{Config, NotSole, State}
 use Rattle.ynl_words.specs.declared.words.SequentialKind.{SequentialKind}
-use Rattle.ynl_words.specs.declared.words.SequentialKind.TheVariants.{Run, Tenant, Audit, Evidence, AuditEvidence, Explain}
+use Rattle.ynl_words.specs.declared.words.SequentialKind.TheVariants.{Run, Tenant, Audit, Evidence, AuditEvidence, Explain, Save}
 
 -- how many bytes of a configuration are read at most: one more than it may have
 abbrev pub most_read : ℕ
@@ -47,10 +50,15 @@ error_line Unclosed = line_of (codes "ynl: not closed")
 abbrev pub config_line : ConfigFault → List ℕ
 config_line fault = codes "ynl: config: " ++ (fault_word fault ++ codes "\n")
 
--- and that of a job that is not begun
+-- and that of a state that there is none of
+abbrev pub state_line : StateFault → List ℕ
+state_line fault = codes "ynl: state: " ++ (state_word fault ++ codes "\n")
+
+-- and that of a job that is not begun, or comes to nothing
 abbrev pub refusal_line : JobRefusal → List ℕ
 refusal_line (Config fault) = config_line fault
 refusal_line NotSole = line_of (codes "ynl: not sole")
+refusal_line (State fault) = state_line fault
 
 -- how a job ends: with an input that came to its end or to a line with a fault, without being begun, or with a fault of reading,
 -- writing or memory
@@ -102,6 +110,13 @@ ExplainsJob reader writer c q (Ok (Ok summary)) = Explains reader writer c q (Ok
 ExplainsJob reader writer c q (Ok (Err refusal)) = ⊥
 ExplainsJob reader writer c q (Err e) = Explains reader writer c q (Err e)
 
+-- the state after a script is written; where its text would be too long that is told
+abbrev pub SavesJob : Stream → Stream → Configured → Ending → Type 0
+SavesJob reader writer c (Ok (Ok summary)) = SavesScript reader writer c (Ok (Ok summary))
+SavesJob reader writer c (Ok (Err (State fault))) = SavesScript reader writer c (Ok (Err fault))
+SavesJob reader writer c (Ok (Err refusal)) = ⊥
+SavesJob reader writer c (Err e) = SavesScript reader writer c (Err e)
+
 -- what a tenant's partition sees is told, where the tenant is alone there
 abbrev pub TellsJob : Stream → Stream → Bool → Configured → Name → Label → Bool → Ending → Type 0
 TellsJob reader writer accepted c t p true (Ok (Ok summary)) = TellsTenant reader writer accepted c t p (Ok summary)
@@ -141,6 +156,7 @@ DoesSequentialJob accepted (Tenant t p) reader writer c ended = TellsJob reader 
 DoesSequentialJob accepted Audit reader writer c ended = AuditsJob reader writer c ended
 DoesSequentialJob accepted (Evidence t p) reader writer c ended = HandsJob reader writer (tenancy c t p) ended
 DoesSequentialJob accepted (AuditEvidence t p) reader writer c ended = AuditsEvidenceJob reader writer (tenancy c t p) ended
+DoesSequentialJob accepted Save reader writer c ended = SavesJob reader writer c ended
 DoesSequentialJob accepted (Explain q) reader writer c ended = ExplainsJob reader writer c q ended
 
 -- what a job does to its reader and its writer with a cluster of a configuration, and how it ends

@@ -5,7 +5,7 @@ ghost use Rattle.ynl_config.specs.Meaning.{config_of};
 ghost use Rattle.ynl_model.specs.Accepted.{is_accepted};
 ghost use Rattle.ynl_commands.specs.Input.{between};
 ghost use Rattle.ynl_commands.specs.Lines.{AppendsFront};
-ghost use Rattle.ynl_tool.specs.Jobs.{error_line, config_line, refusal_line, status_by, status_of, tenancy, AuditsEvidenceJob, DoesSequentialJob, DoesText, EndsWithout, Executes, HandsJob, LivesJob, Tells};
+ghost use Rattle.ynl_tool.specs.Jobs.{error_line, config_line, refusal_line, state_line, status_by, status_of, tenancy, AuditsEvidenceJob, DoesSequentialJob, DoesText, EndsWithout, Executes, HandsJob, LivesJob, Tells};
 ghost use Rattle.ynl_tool.specs.Checking.{verdict_status, ExecutesCheck};
 
 use crate::checking::check_text;
@@ -19,15 +19,16 @@ use ynl_check::{Form, Verdict};
 use ynl_commands::lines_out::{write_text, write_three};
 use ynl_commands::{
     Summary, Tenancy, ToolFault, audit_evidence_lines, audit_lines, evidence_lines, explain_lines,
-    run_lines, tenant_lines,
+    run_lines, save_lines, tenant_lines,
 };
 use ynl_config::{ConfigFault, read_config};
 use ynl_queues::Config;
 use ynl_resource::{HashSeed, Label, Name};
+use ynl_saved_text::StateFault;
 use ynl_view::sole;
 use ynl_words::{SequentialKind, Workers};
 
-/// Why a job is not begun: nothing is read or written then.
+/// Why a job is not begun, or comes to nothing: nothing is written then.
 #[derive(Clone, Copy, Debug, PartialEq, Eq, Error)]
 pub enum JobRefusal {
     /// The text is no configuration.
@@ -36,6 +37,9 @@ pub enum JobRefusal {
     /// The tenant is not alone on an exclusive partition of that label.
     #[error("the tenant is not alone on the partition")]
     NotSole,
+    /// The text of the state is none, or would be too long.
+    #[error("no state: {0}")]
+    State(StateFault),
 }
 
 /// The line that tells a fault.
@@ -64,7 +68,14 @@ fn tell_config_fault<E: Write>(errors: &mut E, fault: ConfigFault)
     let _told = write_three(errors, b"ynl: config: ", fault.word().as_bytes(), b"\n");
 }
 
-/// Writes the line that tells why a job is not begun.
+/// Writes the line that tells why there is no state.
+fn tell_state_fault<E: Write>(errors: &mut E, fault: StateFault)
+    ensures { AppendsFront (E.contents errors.old) (E.contents errors.new) (state_line fault) }
+{
+    let _told = write_three(errors, b"ynl: state: ", fault.word().as_bytes(), b"\n");
+}
+
+/// Writes the line that tells why a job is not begun, or comes to nothing.
 fn tell_refusal<E: Write>(errors: &mut E, refusal: JobRefusal)
     ensures { AppendsFront (E.contents errors.old) (E.contents errors.new) (refusal_line refusal) }
 {
@@ -73,6 +84,7 @@ fn tell_refusal<E: Write>(errors: &mut E, refusal: JobRefusal)
         JobRefusal::NotSole => {
             let _told = write_text(errors, b"ynl: not sole\n");
         }
+        JobRefusal::State(fault) => tell_state_fault(errors, fault),
     }
 }
 
@@ -161,6 +173,11 @@ fn do_job<R: BufRead, W: Write>(
             let whose = tenancy(config, tenant, label);
             audit_evidence(alloc, &whose, reader, writer)
         }
+        SequentialKind::Save => match save_lines(alloc, config, reader, writer) {
+            Ok(Ok(summary)) => Ok(Ok(summary)),
+            Ok(Err(fault)) => Ok(Err(JobRefusal::State(fault))),
+            Err(fault) => Err(fault),
+        },
         SequentialKind::Explain(question) => {
             match explain_lines(alloc, config, &question, reader, writer) {
                 Ok(summary) => Ok(Ok(summary)),

@@ -8,7 +8,7 @@ pub use live::live_lines;
 pub use ynl_check::{Form, Verdict};
 pub use ynl_commands::{
     Script, Summary, Tenancy, ToolFault, audit_evidence_lines, audit_laws, audit_lines,
-    evidence_laws, evidence_lines, explain_lines, read_script, run_lines, tenant_lines,
+    evidence_laws, evidence_lines, explain_lines, read_script, run_lines, save_lines, tenant_lines,
 };
 pub use ynl_config::BUILT_IN;
 pub use ynl_resource::HashSeed;

@@ -16,7 +16,7 @@ use Rattle.ynl_words.specs.declared.words.Kind.{Kind}
 use Rattle.ynl_check.specs.declared.checking.Form.{Form}
 use Rattle.ynl_check.specs.declared.checking.Form.TheVariants.{Lines, Plain}
 use Rattle.ynl_words.specs.declared.words.Kind.TheVariants.{Sequential, Check, Live}
-use Rattle.ynl_words.specs.declared.words.SequentialKind.TheVariants.{Run, Tenant, Audit, Evidence, AuditEvidence, Explain}
+use Rattle.ynl_words.specs.declared.words.SequentialKind.TheVariants.{Run, Tenant, Audit, Evidence, AuditEvidence, Explain, Save}
 
 -- the option `--config FILE`
 abbrev pub config_rule : Rule
@@ -78,6 +78,10 @@ evidence_command = with_options (new_app (codes "evidence")) tenant_rule label_r
 abbrev pub explain_command : App
 explain_command = with_options (with_rule (new_app (codes "explain")) tenant_rule) app_rule plain_rule
 
+-- the subcommand `save`
+abbrev pub save_command : App
+save_command = with_rule (new_app (codes "save")) config_rule
+
 -- the subcommand `check`
 abbrev pub check_command : App
 check_command = with_rule (with_rule (new_app (codes "check")) plain_rule) config_rule
@@ -90,7 +94,7 @@ live_command = with_options (new_app (codes "live")) workers_rule rounds_rule
 abbrev pub bare_command : App
 bare_command = on_top (λ s. record s { subcommand_required = true }) (new_app (codes "ynl"))
 
--- the command `ynl` without `evidence`, `explain`, `check` and `live`
+-- the command `ynl` without `evidence`, `explain`, `save`, `check` and `live`
 abbrev pub command_of_journals : App
 command_of_journals = with_subcommand (with_subcommand (with_subcommand bare_command run_command.top) tenant_command.top) audit_command.top
 
@@ -102,9 +106,13 @@ command_of_evidence = with_subcommand command_of_journals evidence_command.top
 abbrev pub command_of_explanations : App
 command_of_explanations = with_subcommand command_of_evidence explain_command.top
 
+-- the same with `save`
+abbrev pub command_of_states : App
+command_of_states = with_subcommand command_of_explanations save_command.top
+
 -- the same with `check`
 abbrev pub command_of_checks : App
-command_of_checks = with_subcommand command_of_explanations check_command.top
+command_of_checks = with_subcommand command_of_states check_command.top
 
 -- the command `ynl`
 abbrev pub command : App
@@ -219,6 +227,7 @@ kind_met met =
     else if bytes_eq met.0 (codes "audit") then audit_met met.1
     else if bytes_eq met.0 (codes "evidence") then evidence_met met.1
     else if bytes_eq met.0 (codes "explain") then explain_met met.1
+    else if bytes_eq met.0 (codes "save") then Some (Sequential Save)
     else if bytes_eq met.0 (codes "live") then live_met met.1
     else if bytes_eq met.0 (codes "check") then Some (check_met met.1)
     else Some (Sequential Run)

@@ -9,4 +9,5 @@ mod check_words;
 mod explain_words;
 mod live_words;
 mod options;
+mod save_words;
 mod words;

@@ -22,6 +22,7 @@ use crate::live_words::{Workers, live_command, live_kind};
 use crate::options::{
     config_option, label_option, partition_in, tenant_option, value_in, with_options,
 };
+use crate::save_words::save_command;
 use clap::error::ErrorKind;
 use clap::{ArgMatches, Command};
 use std::alloc::{AllocError, Global};
@@ -52,6 +53,8 @@ pub enum SequentialKind {
     AuditEvidence(Name, Label),
     /// To explain why an application of a tenant waits after an input.
     Explain(Question),
+    /// To write the state of the cluster after an input.
+    Save,
 }
 
 /// What the program is asked to do.
@@ -123,8 +126,8 @@ const AFTER: &str = "\
 Exit status:
   0  the input was read to its end
   1  a line of the input is bad, or the input is too long: the last line of the output tells; or the
-     configuration has a fault, or a tenant is not alone on its partition: standard error tells, and of
-     check the output
+     configuration has a fault, a tenant is not alone on its partition, or a state is too long: standard
+     error tells, and of check the output
   2  the words of the command line are wrong, or ask for help
   3  reading, writing or memory failed, or a live scheduler's journal was not closed, as a line on
      standard error tells
@@ -135,6 +138,7 @@ Examples:
   ynl audit < journal
   ynl evidence --tenant eng --label gpu < journal
   ynl explain --tenant eng --app j1 < events
+  ynl save < events > state
   ynl check --config cluster.toml
   ynl live --workers 4 < events > journal";
 
@@ -271,13 +275,22 @@ fn command_of_explanations<'a>(alloc: Global) -> Result<Command<'a>, AllocError>
     command_of_evidence(alloc)?.subcommand(explain)
 }
 
+/// The same with `save`.
+fn command_of_states<'a>(alloc: Global) -> Result<Command<'a>, AllocError>
+    ensures app { IfOk result (λ c. app_of c ≡ spec.command_of_states) }
+    ensures local { IfOk result (λ c. (fields_of c).has_globals ≡ false) }
+{
+    let save = save_command(alloc)?;
+    command_of_explanations(alloc)?.subcommand(save)
+}
+
 /// The same with `check`.
 fn command_of_checks<'a>(alloc: Global) -> Result<Command<'a>, AllocError>
     ensures app { IfOk result (λ c. app_of c ≡ spec.command_of_checks) }
     ensures local { IfOk result (λ c. (fields_of c).has_globals ≡ false) }
 {
     let check = check_command(alloc)?;
-    command_of_explanations(alloc)?.subcommand(check)
+    command_of_states(alloc)?.subcommand(check)
 }
 
 /// The command `ynl`.
@@ -312,6 +325,9 @@ fn kind_of(subcommand: &str, options: &ArgMatches<'_>) -> Option<Kind>
     }
     if subcommand == "explain" {
         return explain_kind(options);
+    }
+    if subcommand == "save" {
+        return Some(Kind::Sequential(SequentialKind::Save));
     }
     if subcommand == "live" {
         return live_kind(options);

@@ -7,7 +7,7 @@ use Rattle.ynl_model.specs.Queues.{Config}
 use Rattle.ynl_model.specs.Cluster.{opening}
 use Rattle.ynl_core.specs.World.{World, Answers, stepped}
 use Rattle.ynl_core.proofs.RunMore.{state_push}
-use Rattle.ynl_commands.specs.Explaining.{cluster_after}
+use Rattle.ynl_commands.specs.Clusters.{cluster_after}
 
 -- the events up to the next
 take_one_more : (es : List Event) (i : ℕ) (e : Event) → i < length es → e ≡ get_or es i e → take (i + 1) es ≡ take i es ++ e ∷ []

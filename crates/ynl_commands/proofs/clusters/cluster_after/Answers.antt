@@ -1,8 +1,8 @@
 use Rattle.std.proofs.Common.{◌<◌, length, ap, ◌∙◌, arith}
 use Rattle.std.proofs.lemmas.List.{take_all}
-use Rattle.ynl_commands.specs.Explaining.{cluster_after}
-use Rattle.ynl_commands.proofs.Explainings.{one_event_more}
-use Rattle.ynl_commands.proofs.explaining.cluster_after.Goals as goal
+use Rattle.ynl_commands.specs.Clusters.{cluster_after}
+use Rattle.ynl_commands.proofs.ClustersAfter.{one_event_more}
+use Rattle.ynl_commands.proofs.clusters.cluster_after.Goals as goal
 
 pub loop-i-preserved : goal.loop-i-preserved
 loop-i-preserved c =

@@ -1,0 +1,68 @@
+-- What is written of a script: the state after its events, or its fault.
+use Rattle.std.specs.Prelude.{◌≡◌, ◌⊎◌, ℕ, ◌<◌, List, [], length, Option, Some, None, IfSome, Result, Ok, Err, IfOk}
+use Rattle.std.specs.Io.KnownBytes.{Appends}
+use Rattle.ynl_model.specs.declared.events.Event.{Event}
+use Rattle.ynl_model.specs.Queues.{Config}
+use Rattle.ynl_model.specs.Events.{state_after}
+use Rattle.ynl_lines.specs.declared.faults.LineFault.{LineFault}
+use Rattle.ynl_lines.specs.declared.faults.InputFault.TheVariants.{Script as InScript}
+use Rattle.ynl_saved_text.specs.declared.faults.StateFault.{StateFault}
+use Rattle.ynl_saved_text.specs.declared.faults.StateFault.TheVariants.{Size}
+use Rattle.ynl_save.specs.Text.{state_text, limit}
+use Rattle.ynl_commands.specs.declared.run.ToolFault.{ToolFault}
+use Rattle.ynl_commands.specs.declared.run.ToolFault.TheVariants.{Read, Write, NoMemory, Unclosed}
+use Rattle.ynl_commands.specs.declared.run.Summary.{Summary}
+use Rattle.ynl_commands.specs.Input.{Stream}
+use Rattle.ynl_commands.specs.Readings.{ReadsTo}
+use Rattle.ynl_commands.specs.Run.{Outcome, faulty}
+use Rattle.ynl_commands.specs.Running.{LeavesFront}
+use Rattle.ynl_commands.specs.Script.{Script, script_way, script_of}
+use Rattle.ynl_commands.specs.Telling.{TellsNothing}
+
+-- ---- what is written
+
+-- the text of the state after events
+abbrev pub text_after : Config → List Event → List ℕ
+text_after c events = state_text c (state_after c events)
+
+-- what is written of so many lines: the state after their events; of a fault that line alone
+abbrev pub saved_by : Config → List Event → ℕ → Option LineFault → Outcome
+saved_by c events n None = record { text = text_after c events; lines = n; fault = None }
+saved_by c events n (Some f) = faulty (InScript f) n
+
+-- what is written of a script
+abbrev pub saved : Config → Script → Outcome
+saved c s = saved_by c s.made s.lines s.fault
+
+-- the state's text would be too long, and nothing is written
+pub record IsTooLong (old new : Option (List ℕ)) (c : Config) (s : Script) (fault : StateFault) : Type 0 where
+  pub size : fault ≡ Size
+  pub whole : s.fault ≡ None
+  pub long : limit < length (text_after c s.made)
+  pub unwritten : Appends old new []
+
+-- what there is of this script was written, and nothing else, and is told
+abbrev pub Saves : Option (List ℕ) → Option (List ℕ) → Config → Script → Result (Result Summary StateFault) ToolFault → Type 0
+Saves old new c s (Ok (Ok summary)) = (summary.lines ≡ (saved c s).lines) × (summary.fault ≡ (saved c s).fault) × Appends old new (saved c s).text
+Saves old new c s (Ok (Err fault)) = IsTooLong old new c s fault
+Saves old new c s (Err e) = LeavesFront old new (saved c s).text e
+
+-- ---- the whole
+
+-- the whole input, where the reader tells its bytes
+abbrev pub SavesWhole : Stream → Stream → Config → Result (Result Summary StateFault) ToolFault → Type 0
+SavesWhole reader writer c r = IfOk r (λ ended. IfSome reader.before (λ input. Saves writer.before writer.after c (script_of input) (Ok ended)))
+
+-- the script was read, and this came of it
+pub record SavesRead (reader writer : Stream) (c : Config) (r : Result (Result Summary StateFault) ToolFault) : Type 0 where
+  pub script : Script
+  pub read : ReadsTo script_way reader script
+  pub saves : Saves writer.before writer.after c script r
+
+-- Only once the script has been read the state is written.
+abbrev pub SavesScript : Stream → Stream → Config → Result (Result Summary StateFault) ToolFault → Type 0
+SavesScript reader writer c (Ok ended) = SavesRead reader writer c (Ok ended)
+SavesScript reader writer c (Err Read) = TellsNothing reader writer Read
+SavesScript reader writer c (Err NoMemory) = TellsNothing reader writer NoMemory ⊎ SavesRead reader writer c (Err NoMemory)
+SavesScript reader writer c (Err Write) = SavesRead reader writer c (Err Write)
+SavesScript reader writer c (Err Unclosed) = ⊥

@@ -1,0 +1,50 @@
+//! The words of the subcommand `save`.
+
+ghost use Rattle.std.specs.Prelude.{◌≡◌, IfOk, false};
+ghost use Rattle.clap.specs.Simple.{app_of};
+ghost use Rattle.clap.specs.declared.builder.command.Command.TheViews.{out-Command as fields_of};
+ghost use Rattle.ynl_words.specs.Words as spec;
+
+use crate::options::config_option;
+use clap::Command;
+use std::alloc::{AllocError, Global};
+
+const SAVE_ABOUT: &str = "Writes the state of a cluster after the events";
+
+const SAVE_AFTER: &str = "\
+Standard input has an event on each line, as for run. Once it is read to its end, standard output has the
+state after the events, a JSON object on a line for each thing that there is:
+
+  {\"state\":\"begin\",\"version\":1}
+  {\"clock\":1,\"label\":\"gpu\",\"state\":\"partition\"}
+  {\"label\":\"gpu\",\"memory\":10000,\"node\":\"g1\",\"stamp\":1,\"state\":\"node\",\"vcores\":10}
+  {\"lines\":4,\"state\":\"end\"}
+
+Behind the partitions and the nodes come the applications with what they ask for, leaf by leaf, then the
+containers, the queues that are stopped, and the maxima that are not the configured ones. Of a finished
+application there is the name, since that stays used.
+
+A line that is no event ends the input: nothing is saved then, and the one line of the output tells its
+fault, as for run.
+
+Exit status:
+  0  the state was written
+  1  a line of the input is no event, or the input is too long; or the state's text would be longer than
+     268435456 bytes, or the configuration has a fault, as a line on standard error tells
+  2  the words of the command line are wrong, or ask for help
+  3  reading, writing or memory failed, as a line on standard error tells
+
+Example:
+  ynl save --config cluster.toml < events > state";
+
+/// The subcommand `save`.
+pub(crate) fn save_command<'a>(alloc: Global) -> Result<Command<'a>, AllocError>
+    ensures app { IfOk result (λ c. app_of c ≡ spec.save_command) }
+    ensures local { IfOk result (λ c. (fields_of c).has_globals ≡ false) }
+{
+    let config = config_option(alloc);
+    Command::new(alloc, "save")
+        .about(SAVE_ABOUT)
+        .after_help(SAVE_AFTER)
+        .arg(config)
+}
