@@ -1,4 +1,4 @@
-//! Lines of a saved state, which no command reads or writes yet, at the second try.
+//! Lines of a saved state, which no command reads yet, at the second try.
 
 use std::alloc::{AllocError, Global};
 use std::test::Fail;
