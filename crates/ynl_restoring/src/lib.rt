@@ -1,0 +1,4 @@
+//! A cluster that is made of the lines of a saved state.
+#![tactic(auto)]
+
+mod queues;
