@@ -1,3 +1,6 @@
 pub mod Taken
 pub mod Marks
 pub mod Known
+pub mod Clocks
+pub mod Stamps
+pub mod Coming
