@@ -32,13 +32,22 @@ use Rattle.ynl_saved.specs.Restoring.{is_sound_line, Restored}
 -- ---- rows that are updated twice
 
 -- an update after one that keeps what it tests
-pub twice : {X : Type 0} (w : X → Bool) (f g h : X → X) → ((x : X) → w (f x) ≡ w x) → ((x : X) → g (f x) ≡ h x) → (xs : List X) → update w g (update w f xs) ≡ update w h xs
-twice w f g h keeps both [] = refl
-twice {X} w f g h keeps both (x ∷ xs) = λ i. go (w x) refl i ∷ twice w f g h keeps both xs i
+pub twice : {X : Type 0} (w : X → Bool) (f g h : X → X) → ((x : X) → w (f x) ≡ w x) → (xs : List X) → AllByRecursion (λ x. w x ≡ true → g (f x) ≡ h x) xs → update w g (update w f xs) ≡ update w h xs
+twice w f g h keeps [] both = refl
+twice {X} w f g h keeps (x ∷ xs) both = λ i. go (w x) refl i ∷ twice w f g h keeps xs both.1 i
   where
     go : (b : Bool) → w x ≡ b → cond (w (cond b (f x) x)) (g (cond b (f x) x)) (cond b (f x) x) ≡ cond b (h x) x
-    go true is = ap (λ b. cond b (g (f x)) (f x)) (keeps x ∙ is) ∙ both x
+    go true is = ap (λ b. cond b (g (f x)) (f x)) (keeps x ∙ is) ∙ both.0 is
     go false is = ap (λ b. cond b (g x) x) is
+
+-- two updates that do the same
+pub alike : {X : Type 0} (w : X → Bool) (f g : X → X) (xs : List X) → AllByRecursion (λ x. w x ≡ true → f x ≡ g x) xs → update w f xs ≡ update w g xs
+alike w f g [] h = refl
+alike {X} w f g (x ∷ xs) h = λ i. go (w x) refl i ∷ alike w f g xs h.1 i
+  where
+    go : (b : Bool) → w x ≡ b → cond b (f x) x ≡ cond b (g x) x
+    go true is = h.0 is
+    go false is = refl
 
 -- an update to what is there already
 pub as-it-is : {X : Type 0} (w : X → Bool) (f : X → X) (xs : List X) → AllByRecursion (λ x. w x ≡ true → f x ≡ x) xs → update w f xs ≡ xs

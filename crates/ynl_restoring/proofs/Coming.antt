@@ -1,5 +1,5 @@
 -- Applications that come to a leaf as lines tell them.
-use Rattle.std.proofs.Common.{◌≡◌, ◌≢◌, ◌<◌, ◌≤◌, ℕ, Bool, true, false, not, cond, nat_le, nat_lt, ◌&&◌, ◌||◌, is_some, List, [], ◌∷◌, ◌++◌, length, slice_index_or, slice_get, Option, None, Some, refl, sym, ap, subst, ◌∙◌, arith}
+use Rattle.std.proofs.Common.{◌≡◌, ◌≢◌, ◌<◌, ◌≤◌, ℕ, zero, suc, Bool, true, false, not, cond, nat_le, nat_lt, ◌&&◌, ◌||◌, is_some, List, [], ◌∷◌, ◌++◌, length, slice_index_or, slice_get, Option, None, Some, refl, sym, ap, subst, ◌∙◌, arith}
 use Rattle.std.specs.List.{list_any}
 use Rattle.std.proofs.lemmas.Bool.Decides.{nat_tests}
 use Rattle.std.proofs.lemmas.Option.{get_or_from_slice_get, slice_get_within}
@@ -40,6 +40,11 @@ pub used-told : (w : ClusterView) → IsSound w.rows → (queue : Path) (q : ℕ
 used-told w sound queue q its name t there path o read =
     used-is w sound (tenant_of queue) name t there (path ∙ ap (λ (path : Path). top_level (tenant_of path)) its.own) ∙ ap is_some (sym read)
 
+-- a tenant is a queue below root
+pub tenant-below : (paths : List Path) (t : ℕ) (name : Name) → path_at paths t ≡ top_level name → 0 < t
+tenant-below paths zero name is = absurd (cc is)
+tenant-below paths (suc t) name is = omega arith
+
 pub come-told : (c : Config) (s : State) (queue : Path) (name : Name) (there leaf used : Bool) → is_queue c queue ≡ there → is_leaf c queue ≡ leaf → is_used s.leaves (tenant_of queue) name ≡ used → may_come c s queue name ≡ (there && leaf && not used)
 come-told c s queue name there leaf used e f g = λ i. e i && f i && not (g i)
 
@@ -66,7 +71,8 @@ live-sound c r s is queue name user label master come may large most e f g h =
 -- ---- a user that is known
 
 module _ (w known : ClusterView) (user : Name) (is : known ≡ record w { rows = with_user_known user w.rows }) where
-  same : known ≡ record w { rows = record w.rows { users = known.rows.users } }
+  -- only users may be new
+  pub same : known ≡ record w { rows = record w.rows { users = known.rows.users } }
   same = is ∙ go (list_any (λ other. same_name other user) w.rows.users) known is
     where
       go : (b : Bool) (known : ClusterView) → known ≡ record w { rows = cond b w.rows (with_user user w.rows) } → record w { rows = cond b w.rows (with_user user w.rows) } ≡ record w { rows = record w.rows { users = known.rows.users } }

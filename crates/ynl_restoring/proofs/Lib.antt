@@ -4,3 +4,5 @@ pub mod Known
 pub mod Clocks
 pub mod Stamps
 pub mod Coming
+pub mod Owners
+pub mod Finishing

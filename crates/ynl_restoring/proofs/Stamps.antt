@@ -17,7 +17,7 @@ use Rattle.ynl_model.specs.Changes.{node_joins}
 use Rattle.ynl_model.specs.Cluster.{Partition, State, clock, in_partition, is_partition, next_clock, node_of}
 use Rattle.ynl_model.specs.Nodes.{is_at, is_full, joined, stamped}
 use Rattle.ynl_model.specs.Queues.{Config}
-use Rattle.ynl_laws.proofs.Lists.{Each-weaker, none-found}
+use Rattle.ynl_laws.proofs.Lists.{Each-all, Each-weaker, none-found}
 use Rattle.ynl_laws.proofs.Names.{same-label_self, same-name_self}
 use Rattle.ynl_slots.specs.Slots.{IsLive, IsUnused}
 use Rattle.ynl_slots.proofs.Entries.{itself, live-pushed}
@@ -138,7 +138,8 @@ module _ (w : ClusterView) (sound : IsSound w.rows) (configured : IsFor w.config
 
     partitions-back : in_partition node.label (λ row. record row { clock = shown }) (in_partition node.label (λ row. record row { clock = t }) s.partitions) ≡ s.partitions
     partitions-back =
-        twice (is_partition node.label) (λ (row : Partition). record row { clock = t }) (λ (row : Partition). record row { clock = shown }) (λ (row : Partition). record row { clock = shown }) (λ row. refl) (λ row. refl) s.partitions
+        twice (is_partition node.label) (λ (row : Partition). record row { clock = t }) (λ (row : Partition). record row { clock = shown }) (λ (row : Partition). record row { clock = shown }) (λ row. refl) s.partitions
+        (Each-all (λ (row : Partition). is_partition node.label row ≡ true → record row { clock = shown } ≡ record row { clock = shown }) (λ row same. refl) s.partitions)
         ∙ as-it-is (is_partition node.label) (λ (row : Partition). record row { clock = shown }) s.partitions
         (Each-weaker (λ (row : Partition). is_partition node.label row ≡ true → row.clock ≡ part.clock) _ (λ row k same. let back : shown ≡ row.clock = shown-is ∙ sym (k same) in λ i. record row { clock = back i }) s.partitions
         (clocks-own w sound configured node.label p its part there))

@@ -1,5 +1,5 @@
 -- How a cluster takes a line.
-use Rattle.std.specs.Prelude.{◌≡◌, ℕ, Bool, false, true, None}
+use Rattle.std.specs.Prelude.{◌≡◌, ◌<◌, ℕ, Bool, false, true, None}
 use Rattle.ynl_model.specs.declared.nodes.Node.{Node as NodeRow}
 use Rattle.ynl_model.specs.Nodes.{is_full}
 use Rattle.ynl_inventory.specs.Meaning.{node_number, submitted_to, tenant_at}
@@ -34,3 +34,4 @@ pub record Comes (w : ClusterView) (queue : Path) (name : Name) (coming : Coming
   pub unnamed : turn_of name (submitted_to w.rows.tenants coming.tenant) ≡ None
   pub tenant : tenant_at w.rows.paths coming.leaf ≡ coming.tenant
   pub there : HasNumber w.rows.paths coming.tenant
+  pub below_root : 0 < coming.tenant

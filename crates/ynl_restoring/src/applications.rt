@@ -109,3 +109,30 @@ pub(crate) fn take_live(
     cluster.submit(app, &new)?;
     Ok(true)
 }
+
+/// Takes the line of a finished application, if it goes with those before it: one comes to the leaf and
+/// finishes at once, so that its name stays. It fails if memory is refused.
+pub(crate) fn take_finished(
+    cluster: &mut Cluster,
+    queue: &Path,
+    app: &Name,
+) -> Result<bool, AllocError>
+    ensures { IfOk result (λ taken. (r : Restored) → r.state ≡ state_in cluster.old
+        → Takes cluster.old r (Finished queue.now app.now) cluster.new taken) }
+{
+    let Some(coming) = coming_to(cluster, queue, app) else {
+        return Ok(false);
+    };
+    // Whose it was and how large its master was is not told, and of it nothing is seen.
+    let user = cluster.inventory().tenant_name(coming.tenant);
+    let new = NewSubmission {
+        tenant: coming.tenant,
+        leaf: coming.leaf as u32,
+        user: cluster.user(&user)?,
+        home: 0,
+        master_size: cluster.config().maximum_allocation(),
+    };
+    let number = cluster.submit(app, &new)?;
+    cluster.finish(number);
+    Ok(true)
+}

@@ -4,9 +4,9 @@ use Rattle.ynl_resource.specs.Names.{tenant_of}
 use Rattle.ynl_model.specs.Applications.{is_used}
 use Rattle.ynl_model.specs.Queues.{is_leaf}
 use Rattle.ynl_laws.proofs.Logic.{none-is}
-use Rattle.ynl_cluster.specs.Cluster.{state_in}
+use Rattle.ynl_cluster.specs.Cluster.{path_of, state_in}
 use Rattle.ynl_admission.proofs.Submitting.{tenant-is}
-use Rattle.ynl_restoring.proofs.Coming.{come-told, leaf-there, used-told}
+use Rattle.ynl_restoring.proofs.Coming.{come-told, leaf-there, tenant-below, used-told}
 use Rattle.ynl_restoring.proofs.applications.coming_to.Goals as goal
 
 pub returns-in_default-clause-sound : goal.returns-in_default-clause-sound
@@ -50,4 +50,5 @@ returns-clause-comes c =
       unnamed = sym (rw c.inventory-inventory.ensures.value at c.find_turn.ensures) ∙ none-is c.find_turn.result (sym c.is_some.ensures ∙ c.if-is_some.false);
       tenant = tenant-is c.args.cluster.now c.inventory-inventory.ensures.sound c.in-Some.leaf leaf c.tenant_of_leaf-tenant.result c.tenant_of_leaf-tenant.ensures.there c.tenant_of_leaf-tenant.ensures.path;
       there = c.tenant_of_leaf-tenant.ensures.there;
+      below_root = tenant-below c.args.cluster.now.rows.paths c.tenant_of_leaf-tenant.result (tenant_of (path_of c.args.cluster.now c.in-Some.leaf)) c.tenant_of_leaf-tenant.ensures.path;
     }
