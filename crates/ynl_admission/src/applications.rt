@@ -106,7 +106,7 @@ pub fn poll(
 }
 
 /// Whether a container of this size is larger than the largest that is given.
-pub(crate) fn is_too_large(cluster: &Cluster, size: &Size) -> bool
+pub fn is_too_large(cluster: &Cluster, size: &Size) -> bool
     ensures { result ≡ not (fits_in size.now cluster.now.config.maximum_allocation) }
 {
     let largest = cluster.config().maximum_allocation();

@@ -50,7 +50,7 @@ pub fn tenant_of_leaf(cluster: &Cluster, leaf: usize) -> u32
 }
 
 /// Whether a leaf has as many live applications as it may have. Each has a seat on DEFAULT.
-fn has_most_apps(cluster: &Cluster, leaf: usize) -> bool
+pub fn has_most_apps(cluster: &Cluster, leaf: usize) -> bool
     requires { IsLeaf cluster.now.rows leaf }
     ensures { result ≡ has_most_apps cluster.now.config (state_in cluster.now)
         (path_of cluster.now leaf) }

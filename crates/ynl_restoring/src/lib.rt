@@ -1,0 +1,7 @@
+//! A cluster that is made of the lines of a saved state.
+#![tactic(auto)]
+
+mod applications;
+mod nodes;
+mod partitions;
+mod queues;
