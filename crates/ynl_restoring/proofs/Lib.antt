@@ -6,3 +6,4 @@ pub mod Stamps
 pub mod Coming
 pub mod Owners
 pub mod Finishing
+pub mod NewAsks

@@ -2,8 +2,12 @@
 use Rattle.std.specs.Prelude.{◌≡◌, ◌<◌, ℕ, Bool, false, true, None}
 use Rattle.ynl_model.specs.declared.nodes.Node.{Node as NodeRow}
 use Rattle.ynl_model.specs.Nodes.{is_full}
-use Rattle.ynl_inventory.specs.Meaning.{node_number, submitted_to, tenant_at}
+use Rattle.ynl_inventory.specs.Meaning.{app_of, node_number, submitted_to, tenant_at}
 use Rattle.ynl_cluster.specs.Cluster.{ClusterView, label_of, state_in}
+use Rattle.ynl_model.specs.declared.applications.AskRow.{AskRow}
+use Rattle.ynl_model.specs.Applications.{find_ask}
+use Rattle.ynl_admission.specs.declared.applications.Asking.{Asking}
+use Rattle.ynl_admission.specs.Admitted.{CanAskAs}
 use Rattle.ynl_admission.specs.Named.{IsPartitionOf, IsQueueOf}
 use Rattle.ynl_layout.specs.Paths.{HasNumber}
 use Rattle.ynl_submissions.specs.Submissions.{turn_of}
@@ -35,3 +39,9 @@ pub record Comes (w : ClusterView) (queue : Path) (name : Name) (coming : Coming
   pub tenant : tenant_at w.rows.paths coming.leaf ≡ coming.tenant
   pub there : HasNumber w.rows.paths coming.tenant
   pub below_root : 0 < coming.tenant
+
+-- an application of these names may ask for this, and asks for nothing of its label and priority yet
+pub record AsksAnew (w : ClusterView) (tenant name : Name) (ask : AskRow) (asking : Asking) : Type 0 where
+  pub can : CanAskAs w tenant name ask asking
+  pub counted : 0 < ask.count
+  pub new : find_ask (app_of w.rows (asking.app, can.app.row)) ask.label ask.priority ≡ None

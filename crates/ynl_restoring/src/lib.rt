@@ -2,6 +2,7 @@
 #![tactic(auto)]
 
 mod applications;
+mod asks;
 mod nodes;
 mod partitions;
 mod queues;
