@@ -9,7 +9,7 @@ use Rattle.ynl_model.specs.View.{is_sole}
 use Rattle.ynl_config.specs.declared.faults.ConfigFault.{ConfigFault}
 use Rattle.ynl_commands.specs.declared.run.ToolFault.TheVariants.{NoMemory}
 use Rattle.ynl_words.specs.declared.words.SequentialKind.{SequentialKind}
-use Rattle.ynl_words.specs.declared.words.SequentialKind.TheVariants.{Run, Tenant, Audit, Evidence, AuditEvidence, Explain}
+use Rattle.ynl_words.specs.declared.words.SequentialKind.TheVariants.{Run, Tenant, Audit, Evidence, AuditEvidence, Explain, Save}
 use Rattle.ynl_tool.specs.Jobs.{Doing, Ending, IsIdle, DoesSequentialJob, DoesWith, EndsWithout, LivesJob, TellsJob, AnswersJob, tenancy}
 use Rattle.ynl_commands.specs.Input.{between}
 use Rattle.ynl_commands.proofs.Runs.{stops_at_once}
@@ -50,6 +50,7 @@ module _ (old wold : Option (List ℕ)) where
   idle_job Audit = λ c. inl (record { read = nothing_read (audit_way c) old NoMemory; unwritten = Appends-nil wold })
   idle_job (Evidence t p) = λ c. idle_answer journal_way (evidence_answer (tenancy c t p)) (is_sole c t p)
   idle_job (AuditEvidence t p) = λ c. idle_answer (evidence_way (tenancy c t p)) placed_answer (is_sole c t p)
+  idle_job Save = λ c. inl (record { read = nothing_read script_way old NoMemory; unwritten = Appends-nil wold })
   idle_job (Explain q) = λ c. inl (record { read = nothing_read script_way old NoMemory; unwritten = Appends-nil wold })
 
   idle_live : (rounds : ℕ) → IdlesAt (LivesJob rounds)
