@@ -7,3 +7,4 @@ pub mod Coming
 pub mod Owners
 pub mod Finishing
 pub mod NewAsks
+pub mod Placing
