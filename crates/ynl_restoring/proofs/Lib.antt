@@ -8,3 +8,6 @@ pub mod Owners
 pub mod Finishing
 pub mod NewAsks
 pub mod Placing
+pub mod OneMore
+pub mod AskedFor
+pub mod AnyRole

@@ -1,5 +1,5 @@
 -- A container is placed as of a clock of the past: what each step needs, and what all of them come to.
-use Rattle.std.proofs.Common.{◌≡◌, ◌≢◌, ◌≤◌, ◌<◌, ◌-◌, ◌+◌, ℕ, Bool, true, false, cond, nat_eq, nat_lt, ◌&&◌, ◌++◌, List, [], ◌∷◌, length, map, slice_get, Option, None, Some, option_map, refl, sym, ap, subst, ◌∙◌, arith, true≢false}
+use Rattle.std.proofs.Common.{◌≡◌, ◌≢◌, ◌≤◌, ◌<◌, ◌-◌, ◌+◌, ℕ, Bool, true, false, cond, nat_eq, nat_lt, ◌++◌, List, [], ◌∷◌, slice_get, Option, Some, option_map, refl, sym, ap, subst, ◌∙◌, arith, true≢false}
 use Rattle.std.specs.Prelude.{IfSome}
 use Rattle.std.specs.List.{AllByRecursion, list_any}
 use Rattle.std.specs.Map.{lookup}
@@ -8,9 +8,8 @@ use Rattle.std.proofs.lemmas.Bool.{and_parts}
 use Rattle.std.proofs.lemmas.Bool.Decides.{nat_tests}
 use Rattle.std.proofs.lemmas.Option.{same_Some, slice_get_within}
 use Rattle.ynl_resource.specs.Amounts.{fits_in, less, nothing}
-use Rattle.ynl_resource.specs.Names.{same_label, same_name, tenant_of}
+use Rattle.ynl_resource.specs.Names.{same_name, tenant_of}
 use Rattle.ynl_resource.specs.declared.labels.Label.{Label}
-use Rattle.ynl_resource.specs.declared.names.Name.{Name}
 use Rattle.ynl_model.specs.declared.containers.Placed.{Placed}
 use Rattle.ynl_model.specs.declared.nodes.Node.{Node}
 use Rattle.ynl_model.specs.Applications.{in_leaf, with_app}
@@ -26,18 +25,18 @@ use Rattle.ynl_container_table.proofs.Removing.{at_live}
 use Rattle.ynl_container_table.specs.declared.container.Role.{Role}
 use Rattle.ynl_container_table.specs.declared.container.Role.TheVariants.{Master, Ask as Asked}
 use Rattle.ynl_layout.specs.Paths.{path_at}
-use Rattle.ynl_inventory.specs.Apps.{containers_of, is_master_of, runs_at}
-use Rattle.ynl_inventory.specs.Changes.{next_clock as next_of_row, next_clock_at, next_container, partition_of_node, ticked, with_at, with_clock, with_placed, with_stamp}
+use Rattle.ynl_inventory.specs.Apps.{containers_of, is_master_of}
+use Rattle.ynl_inventory.specs.Changes.{next_clock as next_of_row, next_clock_at, next_container, partition_of_node, ticked, with_at, with_clock, with_placed}
 use Rattle.ynl_inventory.specs.Meaning.{app_name, item_of, label_at, node_of, what_of}
-use Rattle.ynl_inventory.specs.Parts.{CanPlace, free_of, used_of}
-use Rattle.ynl_inventory.specs.Rows.{AppRow, NodeRow, PartitionRow, Rows}
+use Rattle.ynl_inventory.specs.Parts.{free_of, used_of}
+use Rattle.ynl_inventory.specs.Rows.{NodeRow, PartitionRow, Rows}
 use Rattle.ynl_inventory.specs.Sound.{CanShow, CanTake, HasPartition, IsFor, IsPlaceable, IsSound}
 use Rattle.ynl_inventory.specs.declared.partition.Placement.{Placement}
 use Rattle.ynl_inventory.proofs.Finding.{next-at, other-name, own-label}
-use Rattle.ynl_inventory.proofs.Lookups.{at-same, changed-live, changed-same, found-live, length-at, read-at}
+use Rattle.ynl_inventory.proofs.Lookups.{at-same, changed-same, found-live, read-at}
 use Rattle.ynl_inventory.proofs.Naming.{label-at, what-same}
 use Rattle.ynl_inventory.proofs.Updates.{each-number}
-use Rattle.ynl_cluster.specs.Cluster.{ClusterView, held_in, label_of, maxima_in, path_of, state_in, stops_in}
+use Rattle.ynl_cluster.specs.Cluster.{ClusterView, label_of, maxima_in, path_of, state_in, stops_in}
 use Rattle.ynl_restoring.specs.Standing.{CanStand, placed_then, with_placed_then}
 use Rattle.ynl_restoring.proofs.Clocks.{alike, as-it-is, clocks-own, twice}
 

@@ -1,15 +1,14 @@
 -- A container is placed as of a clock of the past.
-use Rattle.std.proofs.Common.{◌≡◌, ◌-◌, ◌∙◌, ℕ, nat_eq, Some, sym, ap, subst}
-use Rattle.std.specs.Map.{lookup}
+use Rattle.std.proofs.Common.{◌-◌, ◌∙◌, ℕ, sym, ap, subst}
 use Rattle.ynl_model.specs.Cluster.{in_partition}
 use Rattle.ynl_model.specs.Nodes.{stamped}
 use Rattle.ynl_slots.specs.Slots.{IsLive}
 use Rattle.ynl_inventory.specs.Changes.{with_clock, with_placed}
 use Rattle.ynl_inventory.specs.Parts.{node_row}
-use Rattle.ynl_inventory.specs.Rows.{NodeRow, Rows}
+use Rattle.ynl_inventory.specs.Rows.{Rows}
 use Rattle.ynl_inventory.specs.Sound.{CanShow, HasPartition}
 use Rattle.ynl_cluster.specs.Cluster.{ClusterView, label_of, state_in}
-use Rattle.ynl_restoring.proofs.Placing.{fits-there, has-after, live-after, may-after, may-before, partition-is, placeable, room-before, room-there, rows-before, set-before, shown-is, stamp-is, then-told}
+use Rattle.ynl_restoring.proofs.Placing.{fits-there, has-after, live-after, may-after, partition-is, placeable, room-before, room-there, rows-before, set-before, shown-is, stamp-is, then-told}
 use Rattle.ynl_restoring.proofs.containers.place_then.Goals as goal
 
 pub place-number-requires : goal.place-number-requires
