@@ -1,30 +1,28 @@
 -- Clocks that are set, and the lines of partitions.
-use Rattle.std.proofs.Common.{◌≡◌, ◌≢◌, ◌≤◌, ◌<◌, ℕ, Bool, true, false, not, cond, nat_eq, nat_le, ◌&&◌, List, [], ◌∷◌, map, filter, find, slice_get, Option, None, Some, refl, sym, ap, subst, ◌∙◌, arith, true≢false}
+use Rattle.std.proofs.Common.{◌≡◌, ◌≤◌, ◌<◌, ℕ, Bool, true, false, not, cond, nat_eq, nat_le, ◌&&◌, List, [], ◌∷◌, slice_get, Option, Some, refl, sym, ap, subst, ◌∙◌, arith}
 use Rattle.std.specs.Prelude.{IfSome}
 use Rattle.std.specs.List.{AllByRecursion, list_any}
 use Rattle.std.specs.Map.{lookup}
-use Rattle.std.specs.Option.{option_map_or}
 use Rattle.std.proofs.lemmas.Bool.Decides.{nat_tests}
 use Rattle.std.proofs.lemmas.Option.{same_Some, slice_get_within}
 use Rattle.ynl_resource.specs.Names.{same_label}
 use Rattle.ynl_resource.specs.Tables.{update}
 use Rattle.ynl_resource.specs.declared.labels.Label.{Label}
-use Rattle.ynl_resource.specs.declared.labels.Label.TheVariants.{Unlabelled}
 use Rattle.ynl_model.specs.declared.nodes.Node.{Node}
-use Rattle.ynl_model.specs.Cluster.{Partition, clock, in_partition, is_partition}
+use Rattle.ynl_model.specs.Cluster.{Partition, clock, is_partition}
 use Rattle.ynl_model.specs.Nodes.{clock_limit, has_label, nodes_of}
 use Rattle.ynl_model.specs.Queues.{Config}
-use Rattle.ynl_laws.proofs.Lists.{Each-map, Each-unkept, Each-unmap, Each-weaker}
+use Rattle.ynl_laws.proofs.Lists.{Each-map, Each-unkept, Each-unmap}
 use Rattle.ynl_laws.proofs.Names.{same-label_path, same-label_self}
 use Rattle.ynl_container_table.specs.declared.container.Container.{Container}
 use Rattle.ynl_container_table.proofs.Removing.{at_live}
-use Rattle.ynl_inventory.specs.Rows.{NodeRow, PartitionRow, Rows}
+use Rattle.ynl_inventory.specs.Rows.{NodeRow, PartitionRow}
 use Rattle.ynl_inventory.specs.Meaning.{label_at, node_of, partition_of}
 use Rattle.ynl_inventory.specs.Sound.{CanShow, HasPartition, IsFor, IsSound}
 use Rattle.ynl_inventory.proofs.Finding.{clock-at, limit-at, own-label}
 use Rattle.ynl_inventory.proofs.Lookups.{each-place, place-there}
 use Rattle.ynl_inventory.proofs.Updates.{at-number, each-number}
-use Rattle.ynl_cluster.specs.Cluster.{ClusterView, label_of, maxima_in, state_in, stops_in}
+use Rattle.ynl_cluster.specs.Cluster.{ClusterView, maxima_in, state_in, stops_in}
 use Rattle.ynl_admission.specs.Named.{IsPartitionOf}
 use Rattle.ynl_saved.specs.declared.lines.StateLine.TheVariants.{Partition as PartitionLine}
 use Rattle.ynl_saved.specs.Restoring.{is_sound_line, Restored}

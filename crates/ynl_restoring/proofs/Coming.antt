@@ -1,5 +1,5 @@
 -- Applications that come to a leaf as lines tell them.
-use Rattle.std.proofs.Common.{◌≡◌, ◌≢◌, ◌<◌, ◌≤◌, ℕ, zero, suc, Bool, true, false, not, cond, nat_le, nat_lt, ◌&&◌, ◌||◌, is_some, List, [], ◌∷◌, ◌++◌, length, slice_index_or, slice_get, Option, None, Some, refl, sym, ap, subst, ◌∙◌, arith}
+use Rattle.std.proofs.Common.{◌≡◌, ◌<◌, ℕ, zero, suc, Bool, true, false, not, cond, nat_le, nat_lt, ◌&&◌, is_some, List, [], length, slice_index_or, slice_get, Option, None, Some, refl, sym, ap, subst, ◌∙◌, arith}
 use Rattle.std.specs.List.{list_any}
 use Rattle.std.proofs.lemmas.Bool.Decides.{nat_tests}
 use Rattle.std.proofs.lemmas.Option.{get_or_from_slice_get, slice_get_within}
@@ -17,16 +17,15 @@ use Rattle.ynl_layout.specs.Paths.{HasNumber, path_at}
 use Rattle.ynl_submissions.specs.Submissions.{turn_of}
 use Rattle.ynl_inventory.specs.Changes.{with_user, with_user_known}
 use Rattle.ynl_inventory.specs.Meaning.{has_none_below, submitted_to, tenant_at}
-use Rattle.ynl_inventory.specs.Rows.{Rows}
 use Rattle.ynl_inventory.specs.Sound.{CanSubmit, HasPartition, IsFor, IsLeaf, IsSound}
 use Rattle.ynl_cluster.specs.Cluster.{ClusterView, label_of, path_of, state_in}
 use Rattle.ynl_admission.specs.Admitted.{CanSubmitAs}
 use Rattle.ynl_admission.specs.Named.{IsQueueOf}
 use Rattle.ynl_admission.specs.declared.submissions.SubmissionNumbers.{SubmissionNumbers}
 use Rattle.ynl_admission.proofs.AppsNamed.{used-is}
-use Rattle.ynl_admission.proofs.Submitting.{leaf-told, tenant-is}
+use Rattle.ynl_admission.proofs.Submitting.{leaf-told}
 use Rattle.ynl_saved.specs.declared.lines.StateLine.TheVariants.{Live}
-use Rattle.ynl_saved.specs.Restoring.{is_given, is_sound_line, has_place, may_come, with_live, Restored}
+use Rattle.ynl_saved.specs.Restoring.{is_sound_line, has_place, may_come, with_live, Restored}
 
 -- ---- what is tested
 

@@ -1,5 +1,5 @@
 -- Applications of which only the names stay, and their lines.
-use Rattle.std.proofs.Common.{◌≡◌, ◌<◌, ℕ, Bool, true, false, not, cond, ◌&&◌, ◌++◌, nat_eq, is_some, find, List, [], ◌∷◌, length, map, slice_get, slice_index_or, Option, None, Some, option_map, refl, sym, ap, subst, ◌∙◌}
+use Rattle.std.proofs.Common.{◌≡◌, ◌<◌, ℕ, true, false, not, cond, ◌&&◌, ◌++◌, nat_eq, find, List, [], ◌∷◌, length, slice_get, Option, None, Some, option_map, refl, ap, ◌∙◌}
 use Rattle.std.specs.List.{AllByRecursion}
 use Rattle.std.specs.Map.{lookup}
 use Rattle.std.specs.Option.{option_and_then, option_map_or}
@@ -29,7 +29,7 @@ use Rattle.ynl_submissions.specs.declared.submissions.Submission.{Submission}
 use Rattle.ynl_inventory.specs.Changes.{new_app as new_row, with_submitted, with_tickets}
 use Rattle.ynl_inventory.specs.Meaning.{app_of, submitted_to}
 use Rattle.ynl_inventory.specs.Rows.{AppRow}
-use Rattle.ynl_inventory.specs.Sound.{HasPartition, IsSound}
+use Rattle.ynl_inventory.specs.Sound.{IsSound}
 use Rattle.ynl_inventory.proofs.Lookups.{changed-same, found-live}
 use Rattle.ynl_inventory.proofs.Submitting.{submitted-own}
 use Rattle.ynl_cluster.specs.Cluster.{ClusterView, path_of, state_in}

@@ -7,3 +7,7 @@ pub mod Coming
 pub mod Owners
 pub mod Finishing
 pub mod NewAsks
+pub mod Placing
+pub mod OneMore
+pub mod AskedFor
+pub mod AnyRole

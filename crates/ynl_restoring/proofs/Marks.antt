@@ -1,5 +1,5 @@
 -- The marks of stopped queues, and the lines that tell them.
-use Rattle.std.proofs.Common.{◌≡◌, ◌≢◌, ◌<◌, ◌≤◌, ◌-◌, ℕ, zero, suc, Bool, true, false, not, ◌&&◌, ◌||◌, List, [], ◌∷◌, length, nat_eq, nat_le, get_or, slice_get, Some, is_some, refl, sym, ap, subst, ◌∙◌, arith}
+use Rattle.std.proofs.Common.{◌≡◌, ◌≢◌, ◌<◌, ◌≤◌, ◌-◌, ℕ, zero, suc, Bool, true, false, not, ◌&&◌, ◌||◌, List, [], ◌∷◌, length, nat_eq, nat_le, get_or, slice_get, Some, refl, sym, ap, subst, ◌∙◌, arith}
 use Rattle.std.specs.List.{list_any}
 use Rattle.std.proofs.lemmas.Bool.Decides.{nat_tests}
 use Rattle.std.proofs.lemmas.Option.{none-some, same_Some}
@@ -10,11 +10,11 @@ use Rattle.ynl_model.specs.declared.queues.StopRow.{StopRow}
 use Rattle.ynl_model.specs.Cluster.{State}
 use Rattle.ynl_model.specs.Queues.{Config, capacity_on, is_queue, may_use}
 use Rattle.ynl_laws.proofs.Logic.{and-false}
-use Rattle.ynl_layout.specs.Paths.{IsTree, path_at, paths_of}
+use Rattle.ynl_layout.specs.Paths.{path_at}
 use Rattle.ynl_settings.specs.Meaning.{stops_of}
 use Rattle.ynl_settings.proofs.StopsMean.{other-path, own-path}
 use Rattle.ynl_inventory.specs.Sound.{IsFor, IsSound}
-use Rattle.ynl_cluster.specs.Cluster.{ClusterView, path_of, state_in}
+use Rattle.ynl_cluster.specs.Cluster.{ClusterView, state_in}
 use Rattle.ynl_admission.specs.Named.{IsQueueOf}
 use Rattle.ynl_saved.specs.declared.lines.StateLine.TheVariants.{Maximum, Stopped}
 use Rattle.ynl_saved.specs.Restoring.{is_sound_line, Restored}

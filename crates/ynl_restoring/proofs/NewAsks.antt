@@ -1,14 +1,14 @@
 -- What is tested of a new ask, and how it comes last.
-use Rattle.std.proofs.Common.{◌≡◌, ◌≢◌, ◌<◌, ◌⊎◌, inl, inr, ℕ, Bool, true, false, not, cond, ◌&&◌, ◌||◌, ◌==◌, ◌++◌, nat_eq, nat_le, nat_lt, is_some, List, [], ◌∷◌, map, find, count_by, Option, None, Some, option_map, Bor, refl, sym, ap, subst, ◌∙◌, arith, true≢false}
+use Rattle.std.proofs.Common.{◌≡◌, ◌<◌, ◌⊎◌, inl, inr, ℕ, Bool, true, false, not, cond, ◌&&◌, ◌||◌, ◌==◌, ◌++◌, nat_eq, nat_le, nat_lt, is_some, List, [], ◌∷◌, map, find, count_by, Option, None, Some, option_map, Bor, refl, sym, ap, subst, ◌∙◌, arith, true≢false}
 use Rattle.std.specs.Prelude.{IfSome}
 use Rattle.std.specs.List.{AllByRecursion}
 use Rattle.std.specs.Map.{lookup}
 use Rattle.std.specs.Option.{option_copied, option_map_or}
 use Rattle.std.proofs.lemmas.Bool.{and_from, and_parts, eqb-true}
 use Rattle.std.proofs.lemmas.Bool.Decides.{nat_tests}
-use Rattle.std.proofs.lemmas.Option.{none-some, same_Some}
+use Rattle.std.proofs.lemmas.Option.{none-some}
 use Rattle.ynl_resource.specs.Amounts.{fits_in}
-use Rattle.ynl_resource.specs.Names.{is_default, same_label, same_name, same_path, tenant_of}
+use Rattle.ynl_resource.specs.Names.{is_default, same_label, same_name, same_path}
 use Rattle.ynl_resource.specs.Ranges.{most_asks}
 use Rattle.ynl_resource.specs.Refusals.{first_that_holds}
 use Rattle.ynl_resource.specs.Tables.{put, without}
@@ -32,7 +32,6 @@ use Rattle.ynl_slots.proofs.Lists.{all_from}
 use Rattle.ynl_container_table.proofs.Removing.{at_live}
 use Rattle.ynl_app_table.specs.declared.asks.Ask.{Ask}
 use Rattle.ynl_app_table.specs.Asks.{find_ask as find_row, is_ask_of as is_row_of}
-use Rattle.ynl_layout.specs.Paths.{path_at}
 use Rattle.ynl_inventory.specs.Rows.{AppRow}
 use Rattle.ynl_inventory.specs.Meaning.{app_name, app_of, ask_of}
 use Rattle.ynl_inventory.specs.Sound.{HasPartition, IsAskedOn, IsFor, IsSound}
@@ -152,7 +151,8 @@ module _ (w : ClusterView) (sound : IsSound w.rows) (n : ℕ) (row : AppRow) (fo
   pub home-known : IsFor w.config w.rows → has_label w.config.labels (app_of w.rows (n, row)).home ≡ true
   home-known is = label-known w.config w.rows is (label_of w row.home) row.home (sound.apps n row found).home refl
 
-  each-asked : AllByRecursion (λ (ask : Ask). HasPartition w.rows ask.partition) row.asks
+  -- what it asks for it asks for on partitions that are there
+  pub each-asked : AllByRecursion (λ (ask : Ask). HasPartition w.rows ask.partition) row.asks
   each-asked = all_from (λ (ask : Ask). HasPartition w.rows ask.partition) row.asks (asked-there w.rows sound row.home (sound.apps n row found).home row.asks (sound.apps n row found).asked)
 
   -- what it asks for of a label and a priority is the ask of the partition and the priority

@@ -1,5 +1,5 @@
 -- Applications and the owners of containers, each found by its names.
-use Rattle.std.proofs.Common.{◌≡◌, ◌≢◌, ℕ, Bool, true, false, not, ◌&&◌, nat_eq, is_some, List, [], ◌∷◌, ◌++◌, map, filter, slice_get, Option, None, Some, option_map, refl, sym, ap, subst, ◌∙◌, true≢false}
+use Rattle.std.proofs.Common.{◌≡◌, ℕ, true, false, nat_eq, is_some, List, [], ◌∷◌, ◌++◌, filter, Option, None, Some, option_map, refl, sym, ap, subst, ◌∙◌, true≢false}
 use Rattle.std.specs.Prelude.{IfSome, flat_map}
 use Rattle.std.specs.List.{AllByRecursion, filter_map}
 use Rattle.std.specs.Map.{lookup}
@@ -18,8 +18,8 @@ use Rattle.ynl_laws.proofs.Names.{same-name_sym, same-path}
 use Rattle.ynl_container_table.specs.declared.container.Container.{Container}
 use Rattle.ynl_submissions.specs.declared.submissions.Submission.{Submission}
 use Rattle.ynl_layout.specs.Paths.{HasNumber, path_at}
-use Rattle.ynl_inventory.specs.Meaning.{application_of, leaf_numbers, leaf_of, live_of, owner_of, partition_of, placed_of, submitted_in, submitted_to, tenant_at}
-use Rattle.ynl_inventory.specs.Rows.{AppRow, PartitionRow, Rows}
+use Rattle.ynl_inventory.specs.Meaning.{application_of, leaf_numbers, leaf_of, live_of, owner_of, partition_of, placed_of, submitted_in, tenant_at}
+use Rattle.ynl_inventory.specs.Rows.{AppRow, PartitionRow}
 use Rattle.ynl_inventory.specs.Sound.{IsSound}
 use Rattle.ynl_inventory.proofs.AppsFound.{app-found}
 use Rattle.ynl_inventory.proofs.Finding.{not-true}

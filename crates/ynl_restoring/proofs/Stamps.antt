@@ -1,16 +1,11 @@
 -- Nodes that join with a stamp, and their lines.
-use Rattle.std.proofs.Common.{◌≡◌, ◌≢◌, ◌≤◌, ◌<◌, ℕ, Bool, true, false, not, cond, nat_eq, nat_le, ◌&&◌, ◌||◌, ◌++◌, List, [], ◌∷◌, map, find, is_some, slice_get, Option, None, Some, option_map, refl, sym, ap, subst, ◌∙◌, arith, true≢false}
+use Rattle.std.proofs.Common.{◌≡◌, ◌≤◌, ◌<◌, ℕ, Bool, true, false, not, cond, nat_eq, nat_le, ◌&&◌, ◌++◌, List, [], ◌∷◌, find, is_some, slice_get, Option, None, Some, option_map, refl, sym, ap, subst, ◌∙◌, arith, true≢false}
 use Rattle.std.specs.Prelude.{IfSome}
 use Rattle.std.specs.List.{AllByRecursion, list_any}
 use Rattle.std.specs.Map.{lookup}
 use Rattle.std.proofs.lemmas.Bool.Decides.{nat_tests}
 use Rattle.std.proofs.lemmas.List.{map-append}
-use Rattle.std.proofs.lemmas.Option.{same_Some}
 use Rattle.ynl_resource.specs.Names.{same_label, same_name}
-use Rattle.ynl_resource.specs.Tables.{update}
-use Rattle.ynl_resource.specs.declared.amounts.Resource.{Resource}
-use Rattle.ynl_resource.specs.declared.labels.Label.{Label}
-use Rattle.ynl_resource.specs.declared.names.Name.{Name}
 use Rattle.ynl_model.specs.declared.nodes.Node.{Node}
 use Rattle.ynl_model.specs.Accepted.{is_from_to}
 use Rattle.ynl_model.specs.Changes.{node_joins}
@@ -24,7 +19,7 @@ use Rattle.ynl_slots.proofs.Entries.{itself, live-pushed}
 use Rattle.ynl_slots.proofs.Lookups.{lookup-push}
 use Rattle.ynl_container_table.specs.declared.container.Container.{Container}
 use Rattle.ynl_inventory.specs.Changes.{next_clock_at, ticked, with_clock, with_joined}
-use Rattle.ynl_inventory.specs.Rows.{NodeRow, PartitionRow, Rows}
+use Rattle.ynl_inventory.specs.Rows.{NodeRow, PartitionRow}
 use Rattle.ynl_inventory.specs.Sound.{CanShow, HasPartition, IsFor, IsSound}
 use Rattle.ynl_inventory.proofs.Lookups.{at-same, length-at}
 use Rattle.ynl_inventory.proofs.Naming.{label-at}

@@ -1,5 +1,5 @@
 -- How lines are taken and refused.
-use Rattle.std.proofs.Common.{◌≡◌, Bool, false, true, refl, sym, true≢false}
+use Rattle.std.proofs.Common.{◌≡◌, false, true, refl, sym, true≢false}
 use Rattle.ynl_cluster.specs.Cluster.{ClusterView, state_in}
 use Rattle.ynl_saved.specs.declared.lines.StateLine.{StateLine}
 use Rattle.ynl_saved.specs.Restoring.{Restored, is_sound_line, with_line}

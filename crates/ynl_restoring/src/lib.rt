@@ -3,6 +3,7 @@
 
 mod applications;
 mod asks;
+mod containers;
 mod nodes;
 mod partitions;
 mod queues;

@@ -1,5 +1,5 @@
 -- What is tested of the name and the leaf of a line.
-use Rattle.std.proofs.Common.{◌≡◌, ◌∙◌, ℕ, true, false, Option, None, Some, ap, sym, refl, is_some}
+use Rattle.std.proofs.Common.{◌∙◌, true, false, sym, refl}
 use Rattle.ynl_resource.specs.Names.{tenant_of}
 use Rattle.ynl_model.specs.Applications.{is_used}
 use Rattle.ynl_model.specs.Queues.{is_leaf}

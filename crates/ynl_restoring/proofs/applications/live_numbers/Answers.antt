@@ -1,5 +1,5 @@
 -- What is tested of the line of a live application.
-use Rattle.std.proofs.Common.{◌≡◌, ◌∙◌, true, false, not, ap, sym, refl}
+use Rattle.std.proofs.Common.{◌∙◌, true, false, not, ap, sym, refl}
 use Rattle.ynl_resource.specs.Amounts.{fits_in}
 use Rattle.ynl_model.specs.Events.{has_most_apps}
 use Rattle.ynl_model.specs.Queues.{may_use}

@@ -1,5 +1,5 @@
 -- An application comes and finishes, as its line says.
-use Rattle.std.proofs.Common.{◌≡◌, ◌<◌, ℕ, length, sym, ap, subst, ◌∙◌}
+use Rattle.std.proofs.Common.{◌<◌, ℕ, length, sym, ap, subst, ◌∙◌}
 use Rattle.ynl_resource.specs.declared.labels.Label.TheVariants.{Unlabelled}
 use Rattle.ynl_model.specs.Changes.{app_finishes}
 use Rattle.ynl_inventory.specs.Meaning.{app_of}

@@ -1,5 +1,5 @@
 -- What is tested of the line of an ask.
-use Rattle.std.proofs.Common.{◌≡◌, ◌<◌, ◌∙◌, ℕ, true, false, is_some, sym, ap, arith}
+use Rattle.std.proofs.Common.{◌≡◌, ◌<◌, ◌∙◌, is_some, sym, ap, arith}
 use Rattle.std.proofs.lemmas.Option.{same_Some}
 use Rattle.ynl_model.specs.Applications.{find_ask}
 use Rattle.ynl_model.specs.declared.applications.AskRow.{AskRow}

@@ -1,8 +1,7 @@
 -- What is tested of the line of a node.
-use Rattle.std.proofs.Common.{◌≡◌, ◌∙◌, ◌<◌, ◌≤◌, ℕ, true, false, ap, sym, refl, subst, is_some, arith}
-use Rattle.std.specs.Prelude.{IfSome}
+use Rattle.std.proofs.Common.{◌∙◌, ◌<◌, true, false, ap, sym, refl, arith}
 use Rattle.ynl_model.specs.Accepted.{is_from_to}
-use Rattle.ynl_model.specs.Cluster.{clock, node_of}
+use Rattle.ynl_model.specs.Cluster.{clock}
 use Rattle.ynl_model.specs.Nodes.{is_full}
 use Rattle.ynl_cluster.specs.Cluster.{state_in}
 use Rattle.ynl_admission.proofs.NodesNamed.{node-known}

@@ -1,10 +1,10 @@
 -- A node joins as its line says.
-use Rattle.std.proofs.Common.{◌≡◌, ◌∙◌, ℕ, sym, ap, subst}
+use Rattle.std.proofs.Common.{◌≡◌, ◌∙◌, sym, ap, subst}
 use Rattle.ynl_slots.specs.Slots.{IsLive}
 use Rattle.ynl_inventory.specs.Changes.{with_joined}
 use Rattle.ynl_inventory.specs.Sound.{CanShow, HasPartition}
 use Rattle.ynl_inventory.proofs.Lookups.{place-there}
-use Rattle.ynl_cluster.specs.Cluster.{ClusterView, state_in}
+use Rattle.ynl_cluster.specs.Cluster.{ClusterView}
 use Rattle.ynl_admission.proofs.NodesNamed.{node-missing}
 use Rattle.ynl_saved.specs.declared.lines.StateLine.TheVariants.{Node}
 use Rattle.ynl_saved.specs.Restoring.{with_line}

@@ -1,5 +1,5 @@
 -- The clock of a partition is set as its line says.
-use Rattle.std.proofs.Common.{◌≡◌, ◌∙◌, ◌<◌, ◌≤◌, true, false, ap, sym, refl, subst, nat_le, arith}
+use Rattle.std.proofs.Common.{◌∙◌, ◌<◌, ◌≤◌, true, false, ap, sym, refl, nat_le}
 use Rattle.ynl_model.specs.Nodes.{clock_limit}
 use Rattle.ynl_model.specs.Cluster.{in_partition}
 use Rattle.ynl_cluster.specs.Cluster.{ClusterView, state_in}

@@ -1,5 +1,5 @@
 -- What is tested of the line of a maximum.
-use Rattle.std.proofs.Common.{◌≡◌, ◌∙◌, ◌<◌, ◌≤◌, ℕ, nat_eq, nat_le, true, false, ap, subst, refl, sym, arith}
+use Rattle.std.proofs.Common.{◌≡◌, ◌∙◌, ◌<◌, ◌≤◌, nat_eq, nat_le, true, false, ap, refl, sym, arith}
 use Rattle.ynl_resource.specs.Names.{root, same_path}
 use Rattle.ynl_model.specs.Queues.{capacity_on, may_use}
 use Rattle.ynl_restoring.proofs.Known.{unknown-barred}

@@ -1,5 +1,5 @@
 -- What is tested of the line of a stopped queue.
-use Rattle.std.proofs.Common.{◌≡◌, ◌∙◌, ◌<◌, nat_eq, true, false, ap, refl, sym, arith}
+use Rattle.std.proofs.Common.{◌∙◌, ◌<◌, nat_eq, true, false, ap, refl, sym, arith}
 use Rattle.std.specs.List.{list_any}
 use Rattle.ynl_resource.specs.Names.{root, same_path}
 use Rattle.ynl_cluster.specs.Cluster.{path_of, state_in}
