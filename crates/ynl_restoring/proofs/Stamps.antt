@@ -13,6 +13,7 @@ use Rattle.ynl_model.specs.Cluster.{Partition, State, clock, in_partition, is_pa
 use Rattle.ynl_model.specs.Nodes.{is_at, is_full, joined, stamped}
 use Rattle.ynl_model.specs.Queues.{Config}
 use Rattle.ynl_laws.proofs.Lists.{Each-all, Each-weaker, none-found}
+use Rattle.ynl_laws.proofs.Logic.{and-false}
 use Rattle.ynl_laws.proofs.Names.{same-label_self, same-name_self}
 use Rattle.ynl_slots.specs.Slots.{IsLive, IsUnused}
 use Rattle.ynl_slots.proofs.Entries.{itself, live-pushed}
@@ -45,11 +46,7 @@ pub no-stamp : (shown stamp : ℕ) → stamp ≡ 0 → is_from_to 1 shown stamp 
 no-stamp shown stamp h = ap (λ n. is_from_to 1 shown n) h
 
 pub later-stamp : (shown stamp : ℕ) → shown < stamp → is_from_to 1 shown stamp ≡ false
-later-stamp shown stamp h = let beyond : nat_le stamp shown ≡ false = grind (arith, nat_tests, h) in ap (λ b. nat_le 1 stamp && b) beyond ∙ go (nat_le 1 stamp)
-  where
-    go : (b : Bool) → (b && false) ≡ false
-    go true = refl
-    go false = refl
+later-stamp shown stamp h = let beyond : nat_le stamp shown ≡ false = grind (arith, nat_tests, h) in ap (λ b. nat_le 1 stamp && b) beyond ∙ and-false (nat_le 1 stamp)
 
 pub own-stamp : (shown stamp : ℕ) → 0 < stamp → stamp ≤ shown → is_from_to 1 shown stamp ≡ true
 own-stamp shown stamp above within =

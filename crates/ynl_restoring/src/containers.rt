@@ -14,11 +14,7 @@ use ynl_resource::Size;
 
 /// A container is placed as of this clock, after which its partition's clock and its node's stamp are what
 /// they were. It fails if memory is refused.
-fn place_then(
-    cluster: &mut Cluster,
-    clock: u64,
-    placed: &Placement,
-) -> Result<(), AllocError>
+fn place_then(cluster: &mut Cluster, clock: u64, placed: &Placement) -> Result<(), AllocError>
     requires { CanStand cluster.old clock placed.now }
     ensures config { OnOk result (cluster.new.config ≡ cluster.old.config) }
     ensures state { OnOk result ((can : CanStand cluster.old clock placed.now) → state_in cluster.new
@@ -85,11 +81,7 @@ fn place_asked(
 
 /// A container stands as a line tells, placed at this clock, and all else is as it was. It fails if memory
 /// is refused.
-pub(crate) fn stand(
-    cluster: &mut Cluster,
-    clock: u64,
-    placed: &Placement,
-) -> Result<(), AllocError>
+pub(crate) fn stand(cluster: &mut Cluster, clock: u64, placed: &Placement) -> Result<(), AllocError>
     requires { CanStandThere cluster.old clock placed.now }
     ensures config { OnOk result (cluster.new.config ≡ cluster.old.config) }
     ensures state { OnOk result ((can : CanStandThere cluster.old clock placed.now)
