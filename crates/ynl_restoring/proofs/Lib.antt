@@ -11,3 +11,4 @@ pub mod Placing
 pub mod OneMore
 pub mod AskedFor
 pub mod AnyRole
+pub mod Started

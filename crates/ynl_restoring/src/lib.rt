@@ -7,3 +7,4 @@ mod containers;
 mod nodes;
 mod partitions;
 mod queues;
+mod starting;
