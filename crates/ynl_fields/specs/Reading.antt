@@ -1,5 +1,6 @@
 -- What lines of JSON have under their keys, and the first fault in that. Each kind of line has its own faults.
-use Rattle.std.specs.Prelude.{◌≡◌, ◌≤◌, ℕ, List, Bool, ◌&&◌, ◌==◌, nat_le, Option, Some, None, option_and_then, Result, Ok, Err, if◌then◌else◌}
+use Rattle.std.specs.Prelude.{◌≡◌, ◌≤◌, ℕ, List, Bool, ◌&&◌, ◌||◌, ◌==◌, nat_le, Option, Some, None, option_and_then, Result, Ok, Err, if◌then◌else◌}
+use Rattle.std.specs.List.{list_all}
 use Rattle.std.specs.Str.{is_utf8}
 use Rattle.serde_json.specs.Data.{Data}
 use Rattle.serde_json.specs.Read.{read}
@@ -9,6 +10,10 @@ use Rattle.ynl_resource.specs.declared.amounts.Resource.{Resource}
 use Rattle.ynl_resource.specs.Amounts.{amount}
 use Rattle.ynl_resource.specs.Ranges.{most_clock, most_memory, most_vcores}
 use Rattle.ynl_resource.specs.declared.ids.Id.{Id}
+
+-- spaces, tabs and carriage returns alone: such a line is passed over
+abbrev pub is_blank : List ℕ → Bool
+is_blank line = list_all (λ b. (b == 32) || (b == 9) || (b == 13)) line
 
 -- the value that bytes are, if they are UTF-8 and the JSON text of one
 abbrev pub reading : List ℕ → Option Data

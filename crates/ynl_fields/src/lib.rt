@@ -3,11 +3,13 @@
 #![tactic(auto)]
 
 pub use adding::{add, add_id, add_label, add_name, add_number, add_path, add_text};
+pub use blanks::is_blank;
 pub use fields::Fields;
 pub use trees::{is_plain, tree_of};
 pub use values::parse;
 
 mod adding;
+mod blanks;
 mod fields;
 mod numbers;
 mod trees;
