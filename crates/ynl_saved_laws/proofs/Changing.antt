@@ -1,5 +1,5 @@
 -- What holds at first and stays with each change that an event can make holds in each state; of each change all is known that the event was tested for.
-use Rattle.std.proofs.Common.{◌≡◌, ◌≤◌, ℕ, Bool, true, false, not, List, [], ◌∷◌, length, Some, None, filter, refl, sym, ap, subst, ◌∙◌, arith}
+use Rattle.std.proofs.Common.{◌≡◌, ◌≤◌, ℕ, Bool, true, false, not, List, [], length, Some, None, filter, refl, sym, ap, subst, ◌∙◌, arith}
 use Rattle.std.specs.Prelude.{nat_lt, nat_le}
 use Rattle.std.specs.Option.{option_map_or}
 use Rattle.std.proofs.lemmas.Bool.Decides.{nat_tests}
@@ -16,7 +16,7 @@ use Rattle.ynl_model.specs.Applications.{Application, find_app, in_leaf, is_used
 use Rattle.ynl_model.specs.Changes.{app_finishes, beat, end, node_joins, node_leaves, place}
 use Rattle.ynl_model.specs.Check.{commit_reasons, proposed_item}
 use Rattle.ynl_model.specs.Cluster.{State, is_spent, node_of, opening}
-use Rattle.ynl_model.specs.Events.{accepted, after, container_at, container_for, has_most_apps, home_of, is_foreign, is_one_too_many, reasons, state_after, step}
+use Rattle.ynl_model.specs.Events.{accepted, container_at, container_for, has_most_apps, home_of, is_foreign, is_one_too_many, reasons, step}
 use Rattle.ynl_model.specs.Nodes.{has_label, is_at, is_full, left, nodes_of}
 use Rattle.ynl_model.specs.Queues.{Config, capacity_on, is_leaf, is_queue, may_use, set_maximum, set_stop}
 use Rattle.ynl_model.specs.Service.{Item, choice}
@@ -119,7 +119,7 @@ module _ (c : Config) where
       }
 
   -- and after each event
-  base-step : (s : State) (event : Event) → Base c s → Base c (step c s event).state
+  pub base-step : (s : State) (event : Event) → Base c s → Base c (step c s event).state
   base-step s event h = record {
     kept = step-keeps c s event h.kept;
     finds = step-finds c s event h.kept h.finds;
@@ -128,7 +128,7 @@ module _ (c : Config) where
     entitled = step-lasts (Entitled c) c (entitled-lasts c) s event h.kept h.finds h.entitled;
   }
 
-  -- and at first
+  -- it is known at first
   pub base-opening : Base c (opening c)
   base-opening = record { kept = kept-opening c; finds = is_found c []; apart = tt; ordered = ordered-opening c; entitled = entitled-after c [] }
 
@@ -187,20 +187,6 @@ module _ (P : State → Type 0) (c : Config) (goes : Goes P c) where
       let all = none-holds (reasons c s (Maximum queue label share)) none in
       goes.maxima s queue label share h (not-false _ all.1.1.1.0) all.1.1.1.1.0
 
-  -- and with each list of events
-  after-goes : (events : List Event) (s : State) → Base c s → P s → P (after c s events)
-  after-goes [] s b h = h
-  after-goes (event ∷ events) s b h = after-goes events (step c s event).state (base-step c s event b) (step-cases P c s event h (accepted-goes s event b h))
-
-  -- what holds at first holds after each list of events
-  pub always-goes : P (opening c) → (events : List Event) → P (state_after c events)
-  always-goes first events = after-goes events (opening c) (base-opening c) first
-
--- what was known is known after each list of events
-base-steps : (c : Config) (events : List Event) (s : State) → Base c s → Base c (after c s events)
-base-steps c [] s b = b
-base-steps c (event ∷ events) s b = base-steps c events (step c s event).state (base-step c s event b)
-
--- and so what was known is known in each state
-pub base-after : (c : Config) (events : List Event) → Base c (state_after c events)
-base-after c events = base-steps c events (opening c) (base-opening c)
+  -- and with each event
+  pub step-goes : (s : State) (event : Event) → Base c s → P s → P (step c s event).state
+  step-goes s event b h = step-cases P c s event h (accepted-goes s event b h)

@@ -4,7 +4,7 @@ use Rattle.std.specs.Prelude.{IsTrue, IfSome, nat_le, is_none, ⊤}
 use Rattle.std.specs.List.{AllByRecursion, list_all}
 use Rattle.std.specs.Option.{option_map_or}
 use Rattle.std.proofs.lemmas.Bool.Decides.{nat_tests}
-use Rattle.std.proofs.lemmas.Bool.{and_parts}
+use Rattle.std.proofs.lemmas.Bool.{and_parts, leb-true}
 use mathlib.Core.Bool.{true≢false}
 use Rattle.ynl_resource.specs.Names.{root, same_label, same_name, same_path}
 use Rattle.ynl_resource.specs.Ranges.{most_clock}
@@ -54,6 +54,10 @@ module _ (c : Config) (accepted : IsTrue (is_accepted c)) where
       at-least : (n : ℕ) → nat_le 1 n ≡ true → 1 ≤ n
       at-least n k = grind (arith, nat_tests, k)
 
+  -- and goes to the largest number of a clock at most
+  to-most : (n : ℕ) → is_from_to 1 most_clock n ≡ true → n ≤ most_clock
+  to-most n h = leb-true n most_clock (and_parts (nat_le 1 n) _ h).1
+
   -- all limits are from 1 to the largest number of a clock
   both-limits : (is_from_to 1 most_clock c.labels.default_limit && list_all (λ (row : LabelRow). is_from_to 1 most_clock row.limit) c.labels.rows) ≡ true
   unfolding label_faults
@@ -67,6 +71,16 @@ module _ (c : Config) (accepted : IsTrue (is_accepted c)) where
       go : (o : Option LabelRow) → is_some o ≡ true → IfSome o (λ row. is_from_to 1 most_clock row.limit ≡ true) → 1 ≤ option_map_or (λ row. row.limit) o 0
       go None known h = absurd (true≢false (sym known))
       go (Some row) known h = from-one row.limit h
+
+  -- and at most the largest number of a clock
+  pub most-limits : (label : Label) → clock_limit c.labels label ≤ most_clock
+  most-limits Unlabelled = to-most c.labels.default_limit (and_parts (is_from_to 1 most_clock c.labels.default_limit) _ both-limits).0
+  most-limits (Named name) = go (label_row c.labels name) (Each-found (λ (row : LabelRow). is_from_to 1 most_clock row.limit ≡ true) _ c.labels.rows
+      (each-of _ c.labels.rows (and_parts (is_from_to 1 most_clock c.labels.default_limit) _ both-limits).1))
+    where
+      go : (o : Option LabelRow) → IfSome o (λ row. is_from_to 1 most_clock row.limit ≡ true) → option_map_or (λ row. row.limit) o 0 ≤ most_clock
+      go None h = omega arith
+      go (Some row) h = to-most row.limit h
 
   -- no two queues have one path, and none is root
   all-paths : Pairs (λ (a b : Path). same_path a b ≡ false) (all_queues c)

@@ -44,7 +44,7 @@ pub same-path_self : (a : Path) → same_path a a ≡ true
 same-path_self a = (pointwise_decides bytes_decides a a).1 refl
 
 -- a change of a leaf that keeps its names
-named-kept : (leaf : Path) (change : LeafApps → LeafApps) → KeepsNames change → (leaves : List LeafApps) → AllNamed leaves leaves → AllNamed (in_leaf leaf change leaves) (in_leaf leaf change leaves)
+pub named-kept : (leaf : Path) (change : LeafApps → LeafApps) → KeepsNames change → (leaves : List LeafApps) → AllNamed leaves leaves → AllNamed (in_leaf leaf change leaves) (in_leaf leaf change leaves)
 named-kept leaf change keeps leaves h =
     Each-updated (λ row. AllByRecursion (IsKnown leaves row.leaf) row.names) (λ row. AllByRecursion (IsKnown (in_leaf leaf change leaves) row.leaf) row.names) (λ row. same_path row.leaf leaf) change
     (λ row e k. subst (λ path. AllByRecursion (IsKnown (in_leaf leaf change leaves) path) (change row).names) (sym (keeps.leaf row))
@@ -55,7 +55,7 @@ named-kept leaf change keeps leaves h =
     still row k = Each-weaker (IsKnown leaves row.leaf) (IsKnown (in_leaf leaf change leaves) row.leaf) (λ name known. leaf_of-kept leaf change keeps leaves (tenant_of row.leaf) name ∙ known) row.names k
 
 -- an application is submitted whose name was not used
-named-submitted : (app : Application) (leaves : List LeafApps) → is_some (leaf_of leaves (tenant_of app.leaf) app.name) ≡ false → AllNamed leaves leaves → AllNamed (in_leaf app.leaf (submitted app) leaves) (in_leaf app.leaf (submitted app) leaves)
+pub named-submitted : (app : Application) (leaves : List LeafApps) → is_some (leaf_of leaves (tenant_of app.leaf) app.name) ≡ false → AllNamed leaves leaves → AllNamed (in_leaf app.leaf (submitted app) leaves) (in_leaf app.leaf (submitted app) leaves)
 named-submitted app leaves unused h = go (list_any (λ row. same_path row.leaf app.leaf) leaves) refl
   where
     new : List LeafApps
@@ -71,7 +71,7 @@ named-submitted app leaves unused h = go (list_any (λ row. same_path row.leaf a
     go false none = let same : new ≡ leaves = update-none _ (submitted app) leaves none in subst (λ rows. AllNamed rows rows) (sym same) h
 
 -- a name that the tenant has not used is none of its leaf's
-unused-free : (app : Application) (leaves : List LeafApps) → is_some (leaf_of leaves (tenant_of app.leaf) app.name) ≡ false → AllByRecursion (λ row. same_path row.leaf app.leaf ≡ true → AllByRecursion (λ name. same_name name app.name ≡ false) row.names) leaves
+pub unused-free : (app : Application) (leaves : List LeafApps) → is_some (leaf_of leaves (tenant_of app.leaf) app.name) ≡ false → AllByRecursion (λ row. same_path row.leaf app.leaf ≡ true → AllByRecursion (λ name. same_name name app.name ≡ false) row.names) leaves
 unfolding leaf_of
 unused-free app leaves unused = Each-weaker _ _ (λ row off at. names row (any row off at)) leaves (none-found _ leaves (nothing (row_of leaves (tenant_of app.leaf) app.name) unused))
   where
@@ -132,7 +132,7 @@ module _ (c : Config) (accepted : IsTrue (is_accepted c)) where
   }
 
   -- the application that asks is the one that is found
-  asking : (s : State) (tenant name : Name) (found : Application) → FindsAll s.leaves → find_app s.leaves tenant name ≡ Some found → (row : LeafApps) (app : Application) → same_path row.leaf found.leaf ≡ true → same_name app.name name ≡ true →
+  pub asking : (s : State) (tenant name : Name) (found : Application) → FindsAll s.leaves → find_app s.leaves tenant name ≡ Some found → (row : LeafApps) (app : Application) → same_path row.leaf found.leaf ≡ true → same_name app.name name ≡ true →
       IsFound s.leaves row app → app ≡ found
   asking s tenant name found finds e row app at named is =
       let leaf : app.leaf ≡ found.leaf = is.at ∙ same-path row.leaf found.leaf at in

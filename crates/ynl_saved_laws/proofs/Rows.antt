@@ -86,3 +86,8 @@ differ-of same (x ∷ xs) h = let both = and_parts (not (list_any (same x) xs)) 
         go : (b : Bool) → same x y ≡ b → (b || list_any (same x) ys) ≡ false → (list_any (same x) ys ≡ false → AllByRecursion (λ y. same x y ≡ false) ys) → (same x y ≡ false) × AllByRecursion (λ y. same x y ≡ false) ys
         go true e h rest = absurd (true≢false h)
         go false e h rest = (e, rest h)
+
+-- what is made of elements by functions that agree on them
+pub map-agree : {X Y : Type 0} (f g : X → Y) (xs : List X) → AllByRecursion (λ x. f x ≡ g x) xs → map f xs ≡ map g xs
+map-agree f g [] h = refl
+map-agree f g (x ∷ xs) h = λ i. h.0 i ∷ map-agree f g xs h.1 i

@@ -42,7 +42,7 @@ made c row = map (λ label. record { queue = row.path; label = label; share = co
 
 module _ (c : Config) where
   -- the partitions of a state change, one of them
-  shaped-partition : (s u : State) (label : Label) (change : Partition → Partition) → ((row : Partition) → (change row).label ≡ row.label) → Shaped c s → u.partitions ≡ map (λ row. cond (same_label row.label label) (change row) row) s.partitions →
+  pub shaped-partition : (s u : State) (label : Label) (change : Partition → Partition) → ((row : Partition) → (change row).label ≡ row.label) → Shaped c s → u.partitions ≡ map (λ row. cond (same_label row.label label) (change row) row) s.partitions →
       u.leaves ≡ s.leaves → u.stops ≡ s.stops → u.maxima ≡ s.maxima → Shaped c u
   shaped-partition s u label change keeps h e f g k = record {
     partitions = ap (map (λ (row : Partition). row.label)) e ∙ map-update (λ (row : Partition). row.label) (is_partition label) change keeps s.partitions ∙ h.partitions;
@@ -53,7 +53,7 @@ module _ (c : Config) where
   }
 
   -- a leaf changes
-  shaped-leaf : (s u : State) (leaf : Path) (change : LeafApps → LeafApps) → ((row : LeafApps) → (change row).leaf ≡ row.leaf) → Shaped c s → u.leaves ≡ in_leaf leaf change s.leaves → u.partitions ≡ s.partitions →
+  pub shaped-leaf : (s u : State) (leaf : Path) (change : LeafApps → LeafApps) → ((row : LeafApps) → (change row).leaf ≡ row.leaf) → Shaped c s → u.leaves ≡ in_leaf leaf change s.leaves → u.partitions ≡ s.partitions →
       u.stops ≡ s.stops → u.maxima ≡ s.maxima → Shaped c u
   shaped-leaf s u leaf change keeps h e f g k = record {
     partitions = ap (map (λ (row : Partition). row.label)) f ∙ h.partitions;

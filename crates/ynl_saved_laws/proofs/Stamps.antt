@@ -13,9 +13,7 @@ use Rattle.ynl_resource.specs.Ranges.{most_nodes}
 use Rattle.ynl_resource.specs.declared.labels.Label.{Label}
 use Rattle.ynl_resource.specs.declared.names.Name.{Name}
 use Rattle.ynl_model.specs.Changes.{all_end, all_own, app_finishes, changed_at, container_of, end, node_joins, node_leaves, place}
-use Rattle.ynl_model.specs.Cluster.{State, Partition, clock, in_partition, is_spent, next_clock}
-use Rattle.ynl_model.specs.Events.{state_after}
-use Rattle.ynl_model.specs.declared.events.Event.{Event}
+use Rattle.ynl_model.specs.Cluster.{State, Partition, clock, in_partition, is_spent, next_clock, opening}
 use Rattle.ynl_model.specs.Nodes.{clock_limit, has_label, is_at, is_full, joined, left, nodes_of, rises, stamped}
 use Rattle.ynl_model.specs.Queues.{Config}
 use Rattle.ynl_model.specs.declared.containers.Placed.{Placed as Container}
@@ -24,7 +22,7 @@ use Rattle.ynl_laws.specs.Working.{IsOrdered, clock_in, on_in}
 use Rattle.ynl_laws.proofs.Lists.{Each-append, Each-filter, Each-weaker, filter-swap, filter-update}
 use Rattle.ynl_laws.proofs.Lives.Homes.{each-in, each-then, opening-each}
 use Rattle.ynl_laws.proofs.Names.{same-label_path, same-label_self, same-name_self, same-name_sym}
-use Rattle.ynl_saved_laws.proofs.Changing.{Goes, always-goes}
+use Rattle.ynl_saved_laws.proofs.Changing.{Goes}
 use Rattle.ynl_laws.proofs.Soundness.Ordered.{ordered-stays}
 use Rattle.ynl_saved_laws.proofs.Rows.{Each-updated}
 
@@ -70,7 +68,7 @@ not-full : (n : ℕ) → nat_le most_nodes n ≡ false → n < most_nodes
 not-full n h = grind (arith, nat_tests, h)
 
 -- a node joins a partition that is not full
-counts-joined : (nodes : List Node) (node : Node) → ((p : Label) → length (nodes_of nodes p) ≤ most_nodes) → is_full nodes node.label ≡ false → (p : Label) → length (nodes_of (nodes ++ node ∷ []) p) ≤ most_nodes
+pub counts-joined : (nodes : List Node) (node : Node) → ((p : Label) → length (nodes_of nodes p) ≤ most_nodes) → is_full nodes node.label ≡ false → (p : Label) → length (nodes_of (nodes ++ node ∷ []) p) ≤ most_nodes
 unfolding is_full
 counts-joined nodes node h room p = subst (λ more. length more ≤ most_nodes) (sym (filter-append (λ other. same_label other.label p) nodes (node ∷ []))) (go (same_label node.label p) refl)
   where
@@ -166,7 +164,7 @@ module _ (c : Config) (limits : (label : Label) → has_label c.labels label ≡
   stamped-all (container ∷ list) s ordered h = let stays = ordered-stays c in stamped-all list (end c s container) (stays.ends s container ordered) (stamped-end s container ordered h)
 
   -- leaves, stops and maxima do not matter here
-  stamped-same : (s u : State) → u.nodes ≡ s.nodes → u.partitions ≡ s.partitions → Stamped c s → Stamped c u
+  pub stamped-same : (s u : State) → u.nodes ≡ s.nodes → u.partitions ≡ s.partitions → Stamped c s → Stamped c u
   stamped-same s u e f h = record {
     known = subst (AllByRecursion (λ (node : Node). (has_label c.labels node.label ≡ true) × (1 ≤ node.stamp))) (sym e) h.known;
     counts = λ p. subst (λ nodes. length (nodes_of nodes p) ≤ most_nodes) (sym e) (h.counts p);
@@ -176,7 +174,7 @@ module _ (c : Config) (limits : (label : Label) → has_label c.labels label ≡
   }
 
   -- that stays with each change
-  stamped-goes : Goes (Stamped c) c
+  pub stamped-goes : Goes (Stamped c) c
   unfolding node_joins node_leaves place joined left next_clock clock app_finishes is_spent container_of
   stamped-goes = record {
     joins = λ s name label size b h known room.
@@ -213,6 +211,6 @@ module _ (c : Config) (limits : (label : Label) → has_label c.labels label ≡
     maxima = λ s queue label share h may high. stamped-same s _ refl refl h;
   }
 
-  -- in each state
-  pub stamped-after : (events : List Event) → Stamped c (state_after c events)
-  stamped-after events = always-goes (Stamped c) c stamped-goes (record { known = tt; counts = λ p. omega arith; later = tt; early = λ p. opening-each _ c.labels p }) events
+  -- it holds at first
+  pub stamped-opening : Stamped c (opening c)
+  stamped-opening = record { known = tt; counts = λ p. omega arith; later = tt; early = λ p. opening-each _ c.labels p }

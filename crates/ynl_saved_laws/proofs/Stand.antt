@@ -43,7 +43,7 @@ use Rattle.ynl_saved_laws.proofs.Told.{Reads, Side, flat-ones, plain-section}
 use Rattle.ynl_saved_laws.proofs.Traits.{traits}
 
 -- the application that a tenant finds is the tenant's
-found-tenant : (leaves : List LeafApps) → FindsAll leaves → (tenant name : Name) (app : Application) → find_app leaves tenant name ≡ Some app → tenant_of app.leaf ≡ tenant
+pub found-tenant : (leaves : List LeafApps) → FindsAll leaves → (tenant name : Name) (app : Application) → find_app leaves tenant name ≡ Some app → tenant_of app.leaf ≡ tenant
 unfolding find_app
 found-tenant leaves finds tenant name app e = go (row_of leaves tenant name) (Each-found _ _ leaves finds) (found-passes (λ row. same_name (tenant_of row.leaf) tenant && list_any (same_name name) row.names) leaves) e
   where

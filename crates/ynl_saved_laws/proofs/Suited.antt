@@ -14,9 +14,8 @@ use Rattle.ynl_model.specs.Applications.{Application, LeafApps, find_app, finish
 use Rattle.ynl_model.specs.declared.applications.AskRow.{AskRow}
 use Rattle.ynl_model.specs.Changes.{all_end, all_own, app_finishes, changed_at, container_of, end, node_joins, node_leaves, place, taken}
 use Rattle.ynl_model.specs.Check.{same_size}
-use Rattle.ynl_model.specs.Cluster.{State, Partition, in_partition, is_master, is_master_what, is_of, is_partition, no_containers, runs, waits}
-use Rattle.ynl_model.specs.Events.{is_foreign, state_after}
-use Rattle.ynl_model.specs.declared.events.Event.{Event}
+use Rattle.ynl_model.specs.Cluster.{State, Partition, in_partition, is_master, is_master_what, is_of, is_partition, no_containers, opening, runs, waits}
+use Rattle.ynl_model.specs.Events.{is_foreign}
 use Rattle.ynl_model.specs.declared.nodes.Node.{Node}
 use Rattle.ynl_model.specs.declared.containers.Placed.{Placed as Container}
 use Rattle.ynl_model.specs.declared.proposals.What.{What}
@@ -34,7 +33,7 @@ use Rattle.ynl_laws.proofs.Lives.Homes.{all-ended, each-in, none-left, opening-e
 use Rattle.ynl_laws.proofs.Logic.{not-true, some-same}
 use Rattle.ynl_laws.proofs.Names.{same-label_path, same-label_self}
 use Rattle.ynl_laws.proofs.Soundness.Ordered.{opening-empty}
-use Rattle.ynl_saved_laws.proofs.Changing.{Base, Goes, always-goes}
+use Rattle.ynl_saved_laws.proofs.Changing.{Base, Goes}
 use Rattle.ynl_saved_laws.proofs.Leaved.{Leaved, found-name, leaved-goes, leaved-opening}
 use Rattle.ynl_saved_laws.proofs.Leaves.{Given, IsCounted, IsLeaf}
 use Rattle.ynl_saved_laws.proofs.Served.{IsServed, Wanting, size-same}
@@ -131,7 +130,7 @@ suits-new c s node item b h wanted served p at = record {
 }
 
 -- where none of a list passes a test, each fails it
-each-none : {X : Type 0} (f : X → Bool) (xs : List X) → list_any f xs ≡ false → AllByRecursion (λ x. f x ≡ false) xs
+pub each-none : {X : Type 0} (f : X → Bool) (xs : List X) → list_any f xs ≡ false → AllByRecursion (λ x. f x ≡ false) xs
 each-none f [] h = tt
 each-none f (x ∷ xs) h = go (f x) refl h (each-none f xs)
   where
@@ -164,7 +163,7 @@ sole-new c s p item wanted served = go item.what wanted.what served.wanting
 -- ---- what stays
 
 -- the pairs of containers of a partition, after a change of one partition
-pairs-in : (R : Container → Container → Type 0) (label p : Label) (change : Partition → Partition) → ((row : Partition) → (change row).label ≡ row.label) → (rows : List Partition) →
+pub pairs-in : (R : Container → Container → Type 0) (label p : Label) (change : Partition → Partition) → ((row : Partition) → (change row).label ≡ row.label) → (rows : List Partition) →
     ((row : Partition) → find (is_partition p) rows ≡ Some row → same_label row.label p ≡ true → same_label row.label label ≡ true → Pairs R row.containers → Pairs R (change row).containers) → Pairs R (on_in rows p) → Pairs R (on_in (in_partition label change rows) p)
 pairs-in R label p change keeps rows step h = by-row (λ a b. Pairs R a → Pairs R b) (λ row. row.containers) [] label p change keeps rows (λ row is at. go row is at (same_label row.label label) refl) (λ k. k) h
   where
@@ -180,7 +179,7 @@ pairs-ended c R (container ∷ list) s h p =
     pairs-ended c R list (end c s container) (λ q. pairs-in R container.id.label q _ (λ row. refl) s.partitions (λ row is at here k. Pairs-filter R (λ other. not (same_id other.id container.id)) row.containers k) (h q)) p
 
 -- the leaves change, and the traits stay
-suits-moved : (c : Config) (old new : List LeafApps) → ((tenant name : Name) (is : Label × Resource) → traits_in old tenant name ≡ Some is → traits_in new tenant name ≡ Some is) → (p : Label) (containers : List Container) → AllByRecursion (Suits c old p) containers → AllByRecursion (Suits c new p) containers
+pub suits-moved : (c : Config) (old new : List LeafApps) → ((tenant name : Name) (is : Label × Resource) → traits_in old tenant name ≡ Some is → traits_in new tenant name ≡ Some is) → (p : Label) (containers : List Container) → AllByRecursion (Suits c old p) containers → AllByRecursion (Suits c new p) containers
 suits-moved c old new same p containers h = Each-weaker (Suits c old p) (Suits c new p) (λ k j. record { label = j.label; given = j.given; traits = j.traits; found = same k.tenant k.app j.traits j.found; may = j.may }) containers h
 
 -- one less asked for changes neither home nor master
@@ -198,7 +197,7 @@ opening-none labels p = go (find (is_partition p) (no_containers labels)) (Each-
 
 module _ (c : Config) (accepted : IsTrue (is_accepted c)) where
   -- that stays with each change
-  suited-goes : Goes (Suited c) c
+  pub suited-goes : Goes (Suited c) c
   unfolding node_joins node_leaves end place changed_at container_of app_finishes
   suited-goes = let leaved = leaved-goes c accepted in record {
     joins = λ s name label size b h known room. record {
@@ -250,10 +249,10 @@ module _ (c : Config) (accepted : IsTrue (is_accepted c)) where
     maxima = λ s queue label share h may high. record { leaved = leaved.maxima s queue label share h.leaved may high; suits = h.suits; sole = h.sole };
   }
 
-  -- in each state
-  pub suited-after : (events : List Event) → Suited c (state_after c events)
-  suited-after events = always-goes (Suited c) c suited-goes (record {
+  -- it holds at first
+  pub suited-opening : Suited c (opening c)
+  suited-opening = record {
     leaved = leaved-opening c accepted;
     suits = λ p. opening-each _ c.labels p;
     sole = λ p. subst (Pairs Sole) (sym (opening-none c.labels p)) tt;
-  }) events
+  }

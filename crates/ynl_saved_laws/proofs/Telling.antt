@@ -19,13 +19,8 @@ use Rattle.ynl_saved.specs.Laws.{TellsState}
 use Rattle.ynl_saved.specs.Restoring.{Restored, is_sound_line, nothing_restored, restored_by, with_line}
 use Rattle.ynl_saved.specs.Saving.{leaf_lines, lines_before_end, maxima_lines, partition_line, state_lines, stop_lines}
 use Rattle.ynl_laws.proofs.Lists.{Each-map, all-each, map-map}
-use Rattle.ynl_laws.proofs.Lives.Asks.{distinct-after}
-use Rattle.ynl_laws.proofs.Soundness.Housed.{is_housed}
-use Rattle.ynl_laws.specs.Untied.{AllDistinct}
-use Rattle.ynl_laws.specs.Working.{IsHoused}
 use Rattle.ynl_saved_laws.proofs.Apps.{reads-leaves}
-use Rattle.ynl_saved_laws.proofs.Changing.{Base, base-after}
-use Rattle.ynl_saved_laws.proofs.Configured.{limits}
+use Rattle.ynl_saved_laws.proofs.Changing.{Base}
 use Rattle.ynl_saved_laws.proofs.Leaved.{Leaved}
 use Rattle.ynl_saved_laws.proofs.Live.{empty}
 use Rattle.ynl_saved_laws.proofs.Marks.{conf, maxima-are, opening-conf, reads-maxima, reads-stops, run}
@@ -33,9 +28,10 @@ use Rattle.ynl_saved_laws.proofs.Parts.{fresh, reads-nodes, reads-parts, settled
 use Rattle.ynl_saved_laws.proofs.Served.{same-number_self}
 use Rattle.ynl_saved_laws.proofs.Shapes.{Shaped, key_of}
 use Rattle.ynl_saved_laws.proofs.Sound.{reads-begin}
-use Rattle.ynl_saved_laws.proofs.Stamps.{Stamped, stamped-after}
+use Rattle.ynl_saved_laws.proofs.Stamps.{Stamped}
 use Rattle.ynl_saved_laws.proofs.Stand.{reads-containers}
-use Rattle.ynl_saved_laws.proofs.Suited.{Suited, suited-after}
+use Rattle.ynl_saved_laws.proofs.Suited.{Suited}
+use Rattle.ynl_saved_laws.proofs.Tellable.{IsTellable, tellable-after, tellable-opening}
 use Rattle.ynl_saved_laws.proofs.Told.{Reads, Side, by-append, flat-ones, reads-append, told}
 
 -- ---- the state before any line
@@ -75,7 +71,19 @@ module _ (c : Config) (accepted : IsTrue (is_accepted c)) (s : State) (shaped : 
 
 -- ---- all lines but the last
 
-module _ (c : Config) (accepted : IsTrue (is_accepted c)) (s : State) (base : Base c s) (stamped : Stamped c s) (suited : Suited c s) (housed : IsHoused s) (distinct : AllDistinct s.leaves) where
+module _ (c : Config) (accepted : IsTrue (is_accepted c)) (s : State) (tellable : IsTellable c s) where
+  -- what is known of the state
+  abbrev base : Base c s
+  base = tellable.base
+
+  -- of stamps
+  abbrev stamped : Stamped c s
+  stamped = tellable.stamped
+
+  -- of containers
+  abbrev suited : Suited c s
+  suited = tellable.suited
+
   -- what is known of the leaves
   abbrev leaved : Leaved c s
   leaved = suited.leaved
@@ -146,8 +154,8 @@ module _ (c : Config) (accepted : IsTrue (is_accepted c)) (s : State) (base : Ba
             (reads-append c (start c s rows) (start c s rows) of-partitions none none side (Begin ∷ []) (map partition_line s.partitions) (reads-begin c (start c s rows) none)
             (subst (λ lines. Reads c (start c s rows) none lines of-partitions side) (sym (flat-ones partition_line s.partitions)) parts.2))
             (subst (λ lines. Reads c of-partitions side lines of-nodes side) (sym (flat-ones Node s.nodes)) (reads-nodes c accepted s rows base stamped side parts.1.2 of-partitions refl)))
-            (reads-leaves c accepted s base leaved distinct side of-nodes))
-            (reads-containers c accepted s base stamped suited housed side of-leaves))
+            (reads-leaves c accepted s base leaved tellable.distinct side of-nodes))
+            (reads-containers c accepted s base stamped suited tellable.housed side of-leaves))
             (reads-stops c accepted s rows side of-containers))
             (subst (λ lines. Reads c of-stops side lines s maxima.0) (sym (maxima-are c accepted s rows)) maxima.2),
       )
@@ -165,7 +173,7 @@ module _ (c : Config) (accepted : IsTrue (is_accepted c)) (s : State) (base : Ba
   )
 
   -- the lines of the state tell it
-  tells : (r : Restored) × (restored_by c (nothing_restored c) (state_lines c s) ≡ Some r) × (r.state ≡ s)
+  pub tells : (r : Restored) × (restored_by c (nothing_restored c) (state_lines c s) ≡ Some r) × (r.state ≡ s)
   tells =
       let all = reads-before in
       let new : Side = all.0 in
@@ -183,5 +191,4 @@ module _ (c : Config) (accepted : IsTrue (is_accepted c)) (s : State) (base : Ba
 
 -- in each state
 pub tells_state : TellsState
-tells_state c events accepted =
-    tells c accepted (state_after c events) (base-after c events) (stamped-after c (limits c accepted) events) (suited-after c accepted events) (is_housed c events) (distinct-after c events)
+tells_state c events accepted = tells c accepted (state_after c events) (tellable-after c accepted events (opening c) (tellable-opening c accepted))
