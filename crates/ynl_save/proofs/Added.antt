@@ -1,5 +1,6 @@
 -- Lines that are added to a text, one after another.
 use Rattle.std.proofs.Common.{◌≡◌, ◌<◌, ◌≤◌, ◌+◌, ℕ, suc, List, [], ◌∷◌, ◌++◌, length, Result, Ok, Err, sym, ap, subst, ◌∙◌, arith}
+use Rattle.std.specs.List.{AllByRecursion}
 use Rattle.std.specs.Result.{IsErrAnd}
 use Rattle.std.proofs.lemmas.List.{append_assoc, append-nil, length-append}
 use Rattle.ynl_model.specs.Queues.{Config}
@@ -9,7 +10,12 @@ use Rattle.ynl_saved.specs.declared.lines.StateLine.TheVariants.{End}
 use Rattle.ynl_saved.specs.Handing.{FailsAmong, Hands, TakesAll}
 use Rattle.ynl_saved.specs.Saving.{lines_before_end, state_lines}
 use Rattle.ynl_saved.proofs.Handing.{fails-front, flat-append, hands-behind, hands-one}
-use Rattle.ynl_save.specs.Text.{Adds, AddsState, Told, line_text, lines_text, limit}
+use Rattle.ynl_saved_text.specs.StateLines.{IsClocked}
+use Rattle.ynl_saved_text.specs.Texts.{Reads, line_text, lines_text, limit, state_text}
+use Rattle.ynl_saved_laws.proofs.Ranging.{lines-counted}
+use Rattle.ynl_saved_text.proofs.Clocked.{told-clocked}
+use Rattle.ynl_saved_text.proofs.TextReads.{text-reads}
+use Rattle.ynl_save.specs.Text.{Adds, AddsState, Told}
 use Rattle.ynl_save.specs.declared.text.TextFault.{TextFault}
 use Rattle.ynl_save.specs.declared.text.TextFault.TheVariants.{Size, NoMemory}
 
@@ -22,6 +28,11 @@ all-added (line ∷ lines) old new (mid, one, rest) =
     let more = all-added lines mid new rest in
     let counted : new.lines ≡ old.lines + suc (length lines) = let a = more.1 in let b = one.1 in omega (arith, a, b) in
     (more.0 ∙ ap (λ t. t ++ lines_text lines) one.0 ∙ append_assoc old.text (line_text line) (lines_text lines), counted)
+
+-- each that was added reads as itself, where its clocks and counts are in range
+pub all-read : (lines : List StateLine) (old new : Told) → TakesAll Adds old lines new → AllByRecursion IsClocked lines → AllByRecursion Reads lines
+all-read [] old new same ranged = tt
+all-read (line ∷ lines) old new (mid, one, rest) ranged = (one.3 ranged.0, all-read lines mid new rest ranged.1)
 
 -- with more behind it a text is no shorter
 longer : (a b c : List ℕ) (n : ℕ) → n < length (a ++ b) → n < length (a ++ (b ++ c))
@@ -64,7 +75,16 @@ state-added c s old mid new lines r none took counts last =
     within (Err e) h = tt
 
     go : (r : Result (Unit {0}) TextFault) → Hands Adds old (state_lines c s) new r → IsWithin r → AddsState old c s new r
-    go (Ok done) h inside = ((all-added (state_lines c s) old new h).0, inside)
+    go (Ok done) h inside =
+        let text = (all-added (state_lines c s) old new h).0 in
+        let parts = length-append old.text (state_text c s) in
+        let long = ap length text in
+        let short : length (state_text c s) ≤ limit = omega (arith, inside, parts, long) in (
+          text,
+          inside,
+          λ accepted within r told.
+              text-reads c s r told (all-read (state_lines c s) old new h (told-clocked c accepted (state_lines c s) r (lines-counted c s within) told)) short,
+        )
     go (Err Size) h inside = too-long (state_lines c s) old new h
     go (Err NoMemory) h inside = tt
 

@@ -1,7 +1,8 @@
 //! The text that the lines of a state come to.
 
 ghost use Rattle.std.specs.Prelude.{◌≡◌, ◌++◌, [], OnOk};
-ghost use Rattle.ynl_save.specs.Text.{line_text};
+ghost use Rattle.ynl_saved_text.specs.StateLines.{IsClocked};
+ghost use Rattle.ynl_saved_text.specs.Texts.{Reads, line_text};
 
 use std::alloc::{AllocError, Global};
 use std::marker::Model;
@@ -33,7 +34,8 @@ impl From<AllocError> for TextFault {
 
 /// Adds the text of a line, with its newline.
 fn add_line(text: &mut Vec<u8>, line: &StateLine) -> Result<(), AllocError>
-    ensures { OnOk result (text.new.items ≡ text.old.items ++ line_text line.now) }
+    ensures added { OnOk result (text.new.items ≡ text.old.items ++ line_text line.now) }
+    ensures reads { OnOk result (IsClocked line.now → Reads line.now) }
 {
     put_state_line(text, line)?;
     text.push(b'\n')?;

@@ -2,7 +2,8 @@
 
 ghost use Rattle.std.specs.Prelude.{◌≡◌, ◌<◌, ◌≤◌, length, IfErr, IfOk};
 ghost use Rattle.ynl_saved_text.specs.declared.faults.StateFault.TheVariants.{Size};
-ghost use Rattle.ynl_save.specs.Text.{state_text, limit, AddsState};
+ghost use Rattle.ynl_saved_text.specs.Texts.{limit, state_text};
+ghost use Rattle.ynl_save.specs.Text.{AddsState, ReadsBack};
 
 use crate::text::{StateText, TextFault};
 use std::alloc::Global;
@@ -23,11 +24,15 @@ fn add_state(saving: &Saving<'_>, text: &mut StateText) -> Result<(), TextFault>
 
 /// The text of a cluster's state: a line for each thing that a cluster needs to go on as this one would, as
 /// `ynl_saved_text` has them. It has the fault `Size`, and no text, where that would be longer than
-/// 268,435,456 bytes. `Err` only if memory is refused.
+/// 268,435,456 bytes. Under an accepted configuration, where no ask counts more than an ask may, the text reads as what
+/// the lines of the state tell: for each state that events reach, as the law `states_are_told` of `ynl_saved_laws` has it,
+/// that is the state itself. `Err` only if memory is refused.
 pub fn write_state(alloc: Global, core: &Core) -> Result<Result<Vec<u8>, StateFault>, NoMemory>
     ensures text { IfOk result (λ written. IfOk written (λ text.
         text.items ≡ state_text core.now.config core.now.state)) }
     ensures within { IfOk result (λ written. IfOk written (λ text. length text.items ≤ limit)) }
+    ensures reads { IfOk result (λ written. IfOk written (λ text.
+        ReadsBack core.now.config core.now.state text.items)) }
     ensures fault { IfOk result (λ written. IfErr written (λ fault. fault ≡ Size)) }
     ensures long { IfOk result (λ written. IfErr written (λ _.
         limit < length (state_text core.now.config core.now.state))) }

@@ -1,3 +1,7 @@
 pub mod Sizes
 pub mod Clean
 pub mod RoundTrip
+pub mod OneLine
+pub mod InOrder
+pub mod TextReads
+pub mod Clocked

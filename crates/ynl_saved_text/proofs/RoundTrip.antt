@@ -17,7 +17,7 @@ use Rattle.ynl_saved.specs.declared.lines.StateLine.{StateLine}
 use Rattle.ynl_saved.specs.declared.lines.StateLine.TheVariants.{Begin, Partition, Node, Live, Ask, Finished, Container as Holds, Stopped, Maximum, End}
 use Rattle.ynl_saved_text.specs.Keys.{or_name, text_at, number_at, keys_are, name_at, label_at, path_at, id_at, size_at, within}
 use Rattle.ynl_saved_text.specs.Sound.{IsWanted, HasParts, IsLine}
-use Rattle.ynl_saved_text.specs.StateLines.{container_by, line_data, state_line, kind_of_line, may_follow, version_at, begin_at, partition_at, node_at, live_at, ask_at, finished_at, asked_at, wanted_at, wanted_label_at, what_at, container_at, stopped_at, maximum_at, end_at, line_by, in_order, line_at, line_behind, HasPriority, IsInRange}
+use Rattle.ynl_saved_text.specs.StateLines.{container_by, line_data, state_line, kind_of_line, may_follow, version_at, begin_at, partition_at, node_at, live_at, ask_at, finished_at, asked_at, wanted_at, wanted_label_at, what_at, container_at, stopped_at, maximum_at, end_at, line_by, in_order, line_at, line_behind, IsClocked}
 use Rattle.ynl_saved_text.proofs.Sizes.{size_back, within_back}
 use Rattle.ynl_saved_text.proofs.Clean.{clean_line, flat_line}
 
@@ -33,24 +33,24 @@ by_numbers p label priority =
     (within most_priority priority >>= λ priority. Ok (Asked label priority)) >>= λ what. size_at p.size.memory p.size.vcores >>= λ size.
     Ok (Holds (record { id = p.id; node = p.node; tenant = p.tenant; app = p.app; what = what; size = size }))
 
-container_back : (w : What) (p : Container) → HasParts p → IsWanted w → HasClock p.id → HasPriority w → container_at (container_by w p) ≡ Ok (Holds (changed p w))
+container_back : (w : What) (p : Container) → HasParts p → IsWanted w → HasClock p.id → container_at (container_by w p) ≡ Ok (Holds (changed p w))
 unfolding container_at text_at number_at keys_are wanted_at asked_at wanted_label_at what_at name_at label_at id_at
-container_back Master p h l clock small =
+container_back Master p h l clock =
     λ i. or_name (name_back p.app h.3 i) >>= λ app. or_name (id_back p.id h.0 clock i) >>= λ id. or_name (name_back p.node h.1 i) >>= λ node. or_name (name_back p.tenant h.2 i) >>= λ tenant.
     size_back p.size h.4 i >>= λ size. Ok (Holds (record { id = id; node = node; tenant = tenant; app = app; what = Master; size = size }))
-container_back (Asked label priority) p h l clock small =
+container_back (Asked label priority) p h l clock =
     let named : container_at (container_by (Asked label priority) p) ≡ by_numbers p label priority =
-    λ i. or_name (name_back p.app h.3 i) >>= λ app. or_name (id_back p.id h.0 clock i) >>= λ id. (or_name (label_back label l i) >>= λ label. Ok (Some (label, priority))) >>= λ wanted.
+    λ i. or_name (name_back p.app h.3 i) >>= λ app. or_name (id_back p.id h.0 clock i) >>= λ id. (or_name (label_back label l.0 i) >>= λ label. Ok (Some (label, priority))) >>= λ wanted.
     or_name (name_back p.node h.1 i) >>= λ node. or_name (name_back p.tenant h.2 i) >>= λ tenant. what_at wanted >>= λ what. size_at p.size.memory p.size.vcores >>= λ size.
     Ok (Holds (record { id = id; node = node; tenant = tenant; app = app; what = what; size = size })) in
     let numbered : by_numbers p label priority ≡ Ok (Holds (changed p (Asked label priority))) =
-    λ i. (within_back most_priority priority small i >>= λ priority. Ok (Asked label priority)) >>= λ what. size_back p.size h.4 i >>= λ size.
+    λ i. (within_back most_priority priority l.1 i >>= λ priority. Ok (Asked label priority)) >>= λ what. size_back p.size h.4 i >>= λ size.
     Ok (Holds (record { id = p.id; node = p.node; tenant = p.tenant; app = p.app; what = what; size = size })) in
     named ∙ numbered
 
 -- ---- each kind
 
-kind_back : (l : StateLine) → IsLine l → IsInRange l → line_by (kind_of_line l) (line_data l) ≡ Ok l
+kind_back : (l : StateLine) → IsLine l → IsClocked l → line_by (kind_of_line l) (line_data l) ≡ Ok l
 unfolding text_at number_at keys_are version_at begin_at partition_at node_at live_at ask_at finished_at stopped_at maximum_at end_at name_at label_at path_at
 kind_back Begin h n = refl
 kind_back (Partition label clock) h n = λ i. or_name (label_back label h i) >>= λ label. within_back most_clock clock n i >>= λ clock. Ok (Partition label clock)
@@ -61,10 +61,10 @@ kind_back (Live queue app user label master) h n =
     λ i. or_name (name_back app h.1 i) >>= λ app. or_name (label_back label h.3 i) >>= λ label. or_name (path_back queue h.0 i) >>= λ queue. or_name (name_back user h.2 i) >>= λ user.
     size_back master h.4 i >>= λ master. Ok (Live queue app user label master)
 kind_back (Ask tenant app ask) h n =
-    λ i. or_name (name_back app h.1 i) >>= λ app. or_name (label_back ask.label h.2 i) >>= λ label. or_name (name_back tenant h.0 i) >>= λ tenant. within_back most_count ask.count n.1 i >>= λ count.
-    within_back most_priority ask.priority n.0 i >>= λ priority. size_back ask.size h.3 i >>= λ size. Ok (Ask tenant app (record { label = label; priority = priority; count = count; size = size }))
+    λ i. or_name (name_back app h.1 i) >>= λ app. or_name (label_back ask.label h.2 i) >>= λ label. or_name (name_back tenant h.0 i) >>= λ tenant. within_back most_count ask.count n i >>= λ count.
+    within_back most_priority ask.priority h.4 i >>= λ priority. size_back ask.size h.3 i >>= λ size. Ok (Ask tenant app (record { label = label; priority = priority; count = count; size = size }))
 kind_back (Finished queue app) h n = λ i. or_name (name_back app h.1 i) >>= λ app. or_name (path_back queue h.0 i) >>= λ queue. Ok (Finished queue app)
-kind_back (Holds p) h n = container_back p.what p h.0 h.1 n.0 n.1
+kind_back (Holds p) h n = container_back p.what p h.0 h.1 n
 kind_back (Stopped queue) h n = λ i. or_name (path_back queue h i) >>= λ queue. Ok (Stopped queue)
 kind_back (Maximum queue label maximum) h n =
     λ i. or_name (label_back label h.1 i) >>= λ label. or_name (path_back queue h.0 i) >>= λ queue. within_back whole maximum h.2 i >>= λ maximum. Ok (Maximum queue label maximum)
@@ -100,7 +100,7 @@ ordered before next d may = ap (λ b. cond b (Ok next) (Err fault.Kind) >>= λ k
 
 -- ---- texts
 
-pub line_back : (l : StateLine) (before : Option StateKind) → IsLine l → IsInRange l → may_follow before (kind_of_line l) ≡ true → line_behind before (state_line l) ≡ Ok l
+pub line_back : (l : StateLine) (before : Option StateKind) → IsLine l → IsClocked l → may_follow before (kind_of_line l) ≡ true → line_behind before (state_line l) ≡ Ok l
 line_back l before h n may =
     ap (λ o. or_fault fault.Syntax o >>= line_at before) (text_reads (line_data l) (clean_line l h n) (omega (arith, flat_line l)))
     ∙ line_kind before l ∙ ordered before (kind_of_line l) (line_data l) may ∙ kind_back l h n

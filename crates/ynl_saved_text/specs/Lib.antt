@@ -1,3 +1,4 @@
 pub mod Keys
 pub mod StateLines
 pub mod Sound
+pub mod Texts

@@ -374,6 +374,14 @@ abbrev pub HasPriority : What → Type 0
 HasPriority Master = Unit {0}
 HasPriority (Asked label priority) = priority ≤ most_priority
 
+-- of the numbers of a line those that their types leave open are in range: clocks, stamps, the clocks of ids, and how many an ask asks for
+abbrev pub IsClocked : StateLine → Type 0
+IsClocked (Partition label clock) = clock ≤ most_clock
+IsClocked (Node n) = n.stamp ≤ most_clock
+IsClocked (Ask tenant app ask) = ask.count ≤ most_count
+IsClocked (Holds p) = HasClock p.id
+IsClocked _ = Unit {0}
+
 -- the numbers of a line are in range, but for those of a size and of a share, which always are
 abbrev pub IsInRange : StateLine → Type 0
 IsInRange (Partition label clock) = clock ≤ most_clock

@@ -52,3 +52,11 @@ impl StateFault {
         }
     }
 }
+
+/// Why a text is no saved state, and where.
+#[derive(Clone, Copy, Debug, PartialEq, Eq)]
+pub struct BadState {
+    pub fault: StateFault,
+    /// The line with the fault, counted from 1; 0 where the fault is `Size` or `Cut`, which are of no line.
+    pub line: u64,
+}

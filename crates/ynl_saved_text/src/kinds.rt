@@ -89,7 +89,8 @@ fn is_begin(kind: StateKind) -> bool
     matches!(kind, StateKind::Begin)
 }
 
-fn is_end(kind: StateKind) -> bool
+/// Whether it is the kind of the last line.
+pub fn is_end(kind: StateKind) -> bool
     ensures { result ≡ spec.is_end kind }
 {
     matches!(kind, StateKind::End)

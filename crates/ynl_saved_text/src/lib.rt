@@ -2,7 +2,7 @@
 //! the newline that ends its line.
 #![tactic(auto)]
 
-pub use faults::StateFault;
+pub use faults::{BadState, StateFault};
 pub use kinds::StateKind;
 pub use read::StateReader;
 pub use write::put_state_line;

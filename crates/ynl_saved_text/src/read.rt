@@ -1,13 +1,14 @@
 //! From lines to what they tell of a state.
 
-ghost use Rattle.std.specs.Prelude.{◌≡◌, IfOk, OnErr, OnOk, IsUtf8, None, Some};
+ghost use Rattle.std.specs.Prelude.{◌≡◌, false, IfOk, OnErr, OnOk, IsUtf8, None, Some};
+ghost use Rattle.std.specs.Option.{option_map_or};
 ghost use Rattle.ynl_fields.specs.Reading.{Gives};
 ghost use Rattle.ynl_fields.specs.Trees.{data_at};
 ghost use Rattle.ynl_saved_text.specs.StateLines.{IsRanged};
 ghost use Rattle.ynl_saved_text.specs.StateLines as spec;
 
 use crate::faults::StateFault;
-use crate::kinds::{StateKind, kind_of, kind_of_line, may_follow};
+use crate::kinds::{StateKind, is_end, kind_of, kind_of_line, may_follow};
 use crate::read_applications::{ask_at, finished_at, live_at};
 use crate::read_containers::container_at;
 use crate::read_partitions::{begin_at, end_at, node_at, partition_at};
@@ -158,6 +159,16 @@ impl StateReader {
         ensures { result.now ≡ self.now.line }
     {
         &self.held.line
+    }
+
+    /// Whether the line that was read last is the end.
+    pub fn has_ended(&self) -> bool
+        ensures { result ≡ option_map_or spec.is_end self.now.before false }
+    {
+        match self.held.before {
+            Some(kind) => is_end(kind),
+            None => false,
+        }
     }
 
     /// Reads a line, without its newline, behind the one that was read last, or returns its first fault, and then holds

@@ -1,14 +1,14 @@
 //! From lines to their texts, added piece by piece.
 
-ghost use Rattle.std.specs.Prelude.{◌≡◌, ◌++◌, ◌≤◌, ◌<◌, ◌^◌, OnOk, Ok, Option, true};
+ghost use Rattle.std.specs.Prelude.{◌≡◌, ◌++◌, ◌≤◌, ◌<◌, ◌^◌, OnOk};
 ghost use Rattle.serde_json.specs.Written.{compact_text};
 ghost use Rattle.ynl_fields.specs.Sound.{IsLabel, IsName, IsPath};
 ghost use Rattle.ynl_resource.specs.Amounts.{IsSize};
 ghost use Rattle.ynl_resource.specs.Ranges.{whole};
 ghost use Rattle.ynl_saved_text.specs.Sound.{IsLine};
-ghost use Rattle.ynl_saved_text.specs.StateLines.{IsInRange};
+ghost use Rattle.ynl_saved_text.specs.StateLines.{IsClocked};
 ghost use Rattle.ynl_saved_text.specs.StateLines as spec;
-ghost use Rattle.ynl_saved_text.specs.declared.kinds.StateKind.{StateKind};
+ghost use Rattle.ynl_saved_text.specs.Texts.{Reads};
 
 use crate::write_applications::{add_ask, add_finished, add_live};
 use crate::write_containers::add_container;
@@ -106,11 +106,11 @@ fn add_line(text: &mut Vec<u8>, line: &StateLine) -> Result<(), AllocError>
     }
 }
 
-/// Adds the text of a line, without its newline, to what `text` holds. Where the numbers that the line tells are in range,
-/// the text reads as the line behind each line that it may follow. Where memory is refused `text` may hold a front of it.
+/// Adds the text of a line, without its newline, to what `text` holds. Where the clocks, the stamps and the counts of asks
+/// that the line tells are in range, the text reads as the line behind each line that it may follow. Where memory is refused `text` may hold a front of it.
 pub fn put_state_line(text: &mut Vec<u8>, line: &StateLine) -> Result<(), AllocError>
     ensures text { OnOk result (text.new.items ≡ text.old.items ++ spec.state_line line.now) }
-    ensures reads { OnOk result (IsInRange line.now → (before : Option StateKind) → spec.may_follow before (spec.kind_of_line line.now) ≡ true → spec.line_behind before (spec.state_line line.now) ≡ Ok line.now) }
+    ensures reads { OnOk result (IsClocked line.now → Reads line.now) }
 {
     add_line(text, line)
 }

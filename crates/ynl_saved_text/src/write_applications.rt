@@ -1,9 +1,10 @@
 //! The texts of the lines of applications, added piece by piece.
 
-ghost use Rattle.std.specs.Prelude.{◌≡◌, ◌++◌, OnOk};
+ghost use Rattle.std.specs.Prelude.{◌≡◌, ◌++◌, ◌≤◌, OnOk};
 ghost use Rattle.serde_json.specs.Written.{compact_text};
 ghost use Rattle.ynl_fields.specs.Sound.{IsLabel, IsName, IsPath};
 ghost use Rattle.ynl_resource.specs.Amounts.{IsSize};
+ghost use Rattle.ynl_resource.specs.Ranges.{most_priority};
 ghost use Rattle.ynl_saved_text.specs.StateLines as spec;
 
 use std::alloc::AllocError;
@@ -39,7 +40,7 @@ pub fn add_ask(
     ask: &AskRow,
 ) -> Result<(), AllocError>
     ensures added { OnOk result (text.new.items ≡ text.old.items ++ compact_text (spec.ask_data tenant.now app.now ask.now)) }
-    ensures sound { OnOk result (IsName tenant.now × IsName app.now × IsLabel ask.now.label × IsSize ask.now.size) }
+    ensures sound { OnOk result (IsName tenant.now × IsName app.now × IsLabel ask.now.label × IsSize ask.now.size × (ask.now.priority ≤ most_priority)) }
 {
     let size = ask.size.amount();
     add_name(text, b"{\"app\":\"", app)?;

@@ -1,8 +1,9 @@
 //! The texts of the lines of containers, added piece by piece.
 
-ghost use Rattle.std.specs.Prelude.{◌≡◌, ◌++◌, OnOk};
+ghost use Rattle.std.specs.Prelude.{◌≡◌, ◌++◌, ◌≤◌, OnOk};
 ghost use Rattle.serde_json.specs.Written.{compact_text};
 ghost use Rattle.ynl_fields.specs.Sound.{IsLabel};
+ghost use Rattle.ynl_resource.specs.Ranges.{most_priority};
 ghost use Rattle.ynl_saved_text.specs.Sound.{HasParts, IsWanted};
 ghost use Rattle.ynl_saved_text.specs.StateLines as spec;
 
@@ -19,7 +20,7 @@ fn add_asked(
     priority: u32,
 ) -> Result<(), AllocError>
     ensures added { OnOk result (text.new.items ≡ text.old.items ++ compact_text (spec.asked_data placed.now label.now priority)) }
-    ensures sound { OnOk result (HasParts placed.now × IsLabel label.now) }
+    ensures sound { OnOk result (HasParts placed.now × IsLabel label.now × (priority ≤ most_priority)) }
 {
     let size = placed.size.amount();
     add_name(text, b"{\"app\":\"", &placed.app)?;
