@@ -12,3 +12,9 @@ pub mod OneMore
 pub mod AskedFor
 pub mod AnyRole
 pub mod Started
+mod Roles
+mod Room
+mod Lasts
+mod Placed
+mod Cells
+mod Tells

@@ -88,3 +88,16 @@ enough-as capacity share h = grind (arith, nat_tests, h)
 
 pub too-little : (capacity share : ℕ) → share < capacity → nat_le capacity share ≡ false
 too-little capacity share h = grind (arith, nat_tests, h)
+
+-- a maximum that a line told goes with none, and so does one that does not go where none was told
+pub maximum-told : (c : Config) (r : Restored) (queue : Path) (label : Label) (share : ℕ)
+    → (list_any (λ set. same_path set.0 queue && same_label set.1 label) r.maxima ≡ false → is_sound_line c r (Maximum queue label share) ≡ false) → is_sound_line c r (Maximum queue label share) ≡ false
+unfolding is_sound_line
+maximum-told c r queue label share otherwise =
+    go (is_queue c queue && not (same_path queue root) && may_use c queue label && nat_le (capacity_on c queue label) share) (list_any (λ set. same_path set.0 queue && same_label set.1 label) r.maxima) refl otherwise
+  where
+    go : (before b : Bool) → list_any (λ set. same_path set.0 queue && same_label set.1 label) r.maxima ≡ b
+        → (list_any (λ set. same_path set.0 queue && same_label set.1 label) r.maxima ≡ false → (before && not (list_any (λ set. same_path set.0 queue && same_label set.1 label) r.maxima)) ≡ false)
+        → (before && not (list_any (λ set. same_path set.0 queue && same_label set.1 label) r.maxima)) ≡ false
+    go before true e otherwise = ap (λ b. before && not b) e ∙ and-false before
+    go before false e otherwise = otherwise e

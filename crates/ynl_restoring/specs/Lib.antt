@@ -1,2 +1,4 @@
 pub mod Taking
 pub mod Standing
+pub mod Placing
+pub mod Telling

@@ -1,6 +1,6 @@
 //! What lines tell of queues: which are stopped, and maxima that are not the configured ones.
 
-ghost use Rattle.std.specs.Prelude.{◌≡◌, ◌&&◌, false, is_some, true, IfSome};
+ghost use Rattle.std.specs.Prelude.{◌≡◌, ◌&&◌, false, is_some, nat_eq, true, IfSome};
 ghost use Rattle.std.specs.List.{list_any};
 ghost use Rattle.ynl_resource.specs.Names.{same_label, same_path};
 ghost use Rattle.ynl_model.specs.Accepted.{is_accepted};
@@ -9,6 +9,7 @@ ghost use Rattle.ynl_saved.specs.declared.lines.StateLine.TheVariants.{Maximum, 
 ghost use Rattle.ynl_saved.specs.Restoring.{is_sound_line, Restored};
 ghost use Rattle.ynl_admission.specs.Named.{IsBelowRoot, IsCellBelowRoot};
 ghost use Rattle.ynl_restoring.specs.Taking.{Takes};
+ghost use Rattle.ynl_restoring.specs.Telling.{AreMaxima};
 
 use ynl_admission::{CellNumbers, partition_of, queue_of};
 use ynl_cluster::Cluster;
@@ -84,24 +85,36 @@ fn maximum_cell(
     })
 }
 
-/// Takes the line of a maximum, if it goes with those before it, none of which told a maximum of the
-/// queue and the partition.
+/// Whether a queue and a partition are among some.
+fn has_cell(cells: &[CellNumbers], cell: &CellNumbers) -> bool
+    ensures { result ≡ list_any (λ told. nat_eq told.queue cell.now.queue && nat_eq told.partition cell.now.partition) cells.now }
+{
+    cells.iter().any(|told| told.queue == cell.queue && told.partition == cell.partition)
+}
+
+/// Takes the line of a maximum, if it goes with those before it, which told the maxima of these queues and
+/// partitions, and returns its queue and partition.
 pub(crate) fn take_maximum(
     cluster: &mut Cluster,
+    told: &[CellNumbers],
     queue: &Path,
     label: &Label,
     share: Hundredths,
-) -> bool
+) -> Option<CellNumbers>
     requires { is_accepted cluster.old.config ≡ true }
-    ensures { (r : Restored) → r.state ≡ state_in cluster.old
-        → list_any (λ set. same_path set.0 queue.now && same_label set.1 label.now) r.maxima ≡ false
-        → Takes cluster.old r (Maximum queue.now label.now share) cluster.new result }
+    ensures takes { (r : Restored) → r.state ≡ state_in cluster.old
+        → AreMaxima cluster.old.config told.now r.maxima
+        → Takes cluster.old r (Maximum queue.now label.now share) cluster.new (is_some result) }
+    ensures cell { IfSome result (IsCellBelowRoot cluster.old queue.now label.now) }
 {
-    match maximum_cell(cluster, queue, label, share) {
-        Some(cell) => {
-            cluster.set_maximum(cell.partition, cell.queue, share);
-            true
-        }
-        None => false,
+    // Opens the inventory, whose rows are those of the configuration.
+    let _ = cluster.inventory();
+    let Some(cell) = maximum_cell(cluster, queue, label, share) else {
+        return None;
+    };
+    if has_cell(told, &cell) {
+        return None;
     }
+    cluster.set_maximum(cell.partition, cell.queue, share);
+    Some(cell)
 }
