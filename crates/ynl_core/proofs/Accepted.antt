@@ -1,5 +1,5 @@
 -- What the model does where the rows of a cluster change.
-use Rattle.std.proofs.Common.{◌≡◌, ℕ, true, find, Bool, ◌&&◌, List, Option, None, Some, refl, sym, ap, subst, ◌∙◌}
+use Rattle.std.proofs.Common.{◌≡◌, ℕ, true, false, find, Bool, ◌&&◌, List, Option, None, Some, refl, sym, ap, subst, ◌∙◌}
 use Rattle.std.specs.Prelude.{IfSome}
 use Rattle.std.specs.List.{AllByRecursion, list_any}
 use Rattle.std.specs.Option.{option_and_then}
@@ -12,9 +12,10 @@ use Rattle.ynl_resource.specs.declared.labels.Label.{Label}
 use Rattle.ynl_resource.specs.declared.names.Name.{Name}
 use Rattle.ynl_resource.specs.declared.paths.Path.{Path}
 use Rattle.ynl_model.specs.declared.applications.AskRow.{AskRow}
-use Rattle.ynl_model.specs.declared.events.Event.TheVariants.{Commit, Exited, Finish, Heartbeat, Lost, Poll, Register, Relabel, Release, Submit}
+use Rattle.ynl_model.specs.declared.events.Event.TheVariants.{Commit, Exited, Finish, Heartbeat, Lost, Maximum, Poll, Register, Relabel, Release, Start, Stop, Submit}
 use Rattle.ynl_model.specs.declared.events.Event.TheVariants as event
 use Rattle.ynl_model.specs.Applications.{Application, LeafApps, find_app, in_leaf, new_app, row_of, set_ask, submitted, with_app}
+use Rattle.ynl_model.specs.Queues.{set_maximum, set_stop}
 use Rattle.ynl_model.specs.declared.nodes.Node.{Node}
 use Rattle.ynl_model.specs.declared.containers.Placed.{Placed}
 use Rattle.ynl_model.specs.declared.proposals.Proposal.{Proposal}
@@ -33,12 +34,13 @@ use Rattle.ynl_inventory.specs.Sound.{IsSound}
 use Rattle.ynl_requests.proofs.Tables.{tabled}
 use Rattle.ynl_cluster.specs.Cluster.{ClusterView, label_of, maxima_in, name_in, path_of, state_in, stops_in, tenant_in}
 use Rattle.ynl_admission.specs.Admitted.{CanAskAs, CanExit, CanJoin, CanRelabel, CanRelease, CanSubmitAs}
-use Rattle.ynl_admission.specs.Named.{IsAppNamed, IsNodeNamed, IsPartitionOf}
+use Rattle.ynl_admission.specs.Named.{IsAppNamed, IsCellBelowRoot, IsNodeNamed, IsPartitionOf, IsQueueOf}
 use Rattle.ynl_inventory.specs.declared.partition.Placement.{Placement}
 use Rattle.ynl_service.specs.Checking.{IsProposed}
 use Rattle.ynl_admission.specs.declared.applications.Asking.{Asking}
 use Rattle.ynl_admission.specs.declared.containers.Held.{Held}
 use Rattle.ynl_admission.specs.declared.nodes.Moved.{Moved}
+use Rattle.ynl_admission.specs.declared.queues.CellNumbers.{CellNumbers}
 use Rattle.ynl_admission.specs.declared.submissions.SubmissionNumbers.{SubmissionNumbers}
 
 -- what is found by a name has it
@@ -123,6 +125,23 @@ module _ (w u : ClusterView) where
       → accepted w.config (state_in w) (Finish tenant name) ≡ done (state_in u)
   unfolding accepted
   finishes tenant name n named is = ap (λ o. where_there o (state_in w) (λ found. done (app_finishes w.config found (state_in w)))) named.named ∙ ap done (sym is)
+
+  pub stops : (queue : Path) (q : ℕ) → IsQueueOf w queue q → state_in u ≡ record (state_in w) { stops = set_stop (path_of w q) true (state_in w).stops }
+      → accepted w.config (state_in w) (Stop queue) ≡ done (state_in u)
+  unfolding accepted
+  stops queue q named is = ap done ((λ i. record (state_in w) { stops = set_stop (sym named.own i) true (state_in w).stops }) ∙ sym is)
+
+  pub starts : (queue : Path) (q : ℕ) → IsQueueOf w queue q → state_in u ≡ record (state_in w) { stops = set_stop (path_of w q) false (state_in w).stops }
+      → accepted w.config (state_in w) (Start queue) ≡ done (state_in u)
+  unfolding accepted
+  starts queue q named is = ap done ((λ i. record (state_in w) { stops = set_stop (sym named.own i) false (state_in w).stops }) ∙ sym is)
+
+  pub bounds : (queue : Path) (label : Label) (share : ℕ) (cell : CellNumbers) → IsCellBelowRoot w queue label cell
+      → state_in u ≡ record (state_in w) { maxima = set_maximum (path_of w cell.queue) (label_of w cell.partition) share (state_in w).maxima }
+      → accepted w.config (state_in w) (Maximum queue label share) ≡ done (state_in u)
+  unfolding accepted
+  bounds queue label share cell can is =
+      ap done ((λ i. record (state_in w) { maxima = set_maximum (sym can.queue.queue.own i) (sym can.partition.own i) share (state_in w).maxima }) ∙ sym is)
 
 -- what was proposed is placed
 module _ (w u : ClusterView) (proposal : Proposal) (placement : Placement) (is : IsProposed w proposal placement) where

@@ -5,3 +5,4 @@ mod Explaining
 mod Sighting
 pub mod RunMore
 mod Alone
+mod Copied

@@ -9,8 +9,9 @@ use Rattle.ynl_model.specs.declared.replies.Reply.TheVariants.{Refused}
 use Rattle.ynl_model.specs.Queues.{Config}
 use Rattle.ynl_model.specs.Cluster.{State}
 use Rattle.ynl_model.specs.Events.{Outcome, accepted, answered, reasons, step}
-use Rattle.ynl_laws.specs.Working.{IsRanged, IsWorking}
+use Rattle.ynl_laws.specs.Working.{IsRanged}
 use Rattle.ynl_laws.proofs.Soundness.Working.{working-step}
+use Rattle.ynl_saved_laws.proofs.Tellable.{tellable-step}
 use Rattle.ynl_cluster.specs.Cluster.{ClusterView, label_of, path_of, state_in}
 use Rattle.std.proofs.lemmas.Bool.Decides.{nat_tests}
 use Rattle.ynl_resource.specs.Amounts.{fits_in, nothing}
@@ -20,6 +21,7 @@ use Rattle.ynl_resource.specs.declared.paths.Path.{Path}
 use Rattle.ynl_shut.specs.declared.noted.Noted.{Noted}
 use Rattle.ynl_shut.specs.Notes.{Changes, IsEmpty, Notes, forgotten, noted_in, nothing_noted}
 use Rattle.ynl_shut.specs.Shut.{AreShut, IsRight}
+use Rattle.ynl_core.specs.Reached.{WorksAndIsTold}
 use Rattle.ynl_core.specs.World.{Answers, World}
 
 -- the cluster as a contract sees it
@@ -70,8 +72,9 @@ module _ (w u : ClusterView) (event : Event) (reply : Reply) (free : first_that_
     left = λ i. record { config = config i; state = sym (ap (λ (o : Outcome). o.state) stepped-is) i };
   }
 
-  -- and the state works that it leaves
-  pub works : IsRanged event → IsWorking w.config (state_in w) → IsWorking u.config (state_in u)
+  -- and the state that it leaves works and is told by its lines, as the one before it
+  pub works : IsRanged event → WorksAndIsTold w.config (state_in w) → WorksAndIsTold u.config (state_in u)
   works ranged h =
-      subst (λ c. IsWorking c (state_in u)) (sym config)
-      (subst (IsWorking w.config) (ap (λ (o : Outcome). o.state) stepped-is) (working-step w.config (state_in w) event ranged h))
+      subst (λ c. WorksAndIsTold c (state_in u)) (sym config)
+      (subst (WorksAndIsTold w.config) (ap (λ (o : Outcome). o.state) stepped-is)
+      (record { works = working-step w.config (state_in w) event ranged h.works; told = λ accepted. tellable-step w.config accepted (state_in w) event (h.told accepted) }))

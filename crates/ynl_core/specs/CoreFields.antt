@@ -1,15 +1,15 @@
 -- What a cluster's fields mean.
-use Rattle.ynl_laws.specs.Working.{IsWorking}
 use Rattle.ynl_cluster.specs.Cluster.{state_in}
 use Rattle.ynl_shut.specs.Shut.{AreShut}
 use Rattle.ynl_core.specs.declared.cluster.Core.TheInside.{Inside}
+use Rattle.ynl_core.specs.Reached.{WorksAndIsTold}
 use Rattle.ynl_core.specs.World.{World}
 
 -- the configuration, and the state that the rows mean
 abbrev pub world_of : Inside → World
 world_of a = record { config = a.cluster.config; state = state_in a.cluster }
 
--- the state is one that works, as each that events lead to, and what is noted of queues is right
+-- the state works and is told by its lines, and what is noted of queues is right
 pub record IsWorkingCore (a : Inside) : Type 0 where
-  pub working : IsWorking a.cluster.config (state_in a.cluster)
+  pub working : WorksAndIsTold a.cluster.config (state_in a.cluster)
   pub shut : AreShut a.cluster a.shut

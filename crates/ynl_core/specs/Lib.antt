@@ -1,3 +1,4 @@
+pub mod Reached
 pub mod CoreFields
 pub mod World
 pub mod Sure
@@ -5,3 +6,5 @@ pub mod Runs
 pub mod Isolated
 pub mod Sightings
 pub mod Explaining
+pub mod Copying
+pub mod CopyingFields

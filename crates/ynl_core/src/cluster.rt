@@ -7,7 +7,9 @@ ghost use Rattle.ynl_model.specs.declared.events.Event.TheVariants.{Propose};
 ghost use Rattle.ynl_model.specs.Check.{proposed, commit_reasons};
 ghost use Rattle.ynl_model.specs.Cluster.{containers_on, node_of};
 ghost use Rattle.ynl_model.specs.Limits.{user_limit, master_limit};
+ghost use Rattle.ynl_cluster.specs.Cluster.{state_in};
 ghost use Rattle.ynl_core.specs.Explaining.{OfRequests};
+ghost use Rattle.ynl_core.specs.Reached.{WorksAndIsTold};
 ghost use Rattle.ynl_core.specs.Sure.{takes_no_memory};
 ghost use Rattle.ynl_core.specs.Sightings.{IsSighting, reply_by};
 ghost use Rattle.ynl_core.specs.World.{opened, Answers};
@@ -67,10 +69,18 @@ impl Core {
     pub fn open(alloc: Global, config: Config) -> Result<Core, NoMemory>
         ensures { IfOk result (λ core. core ≡ opened config) }
     {
-        let partitions = config.labels().rows().len() + 1;
-        let queues = config.queues().len() + 1;
-        let shut = Shut::new(alloc, partitions, queues)?;
         let cluster = Cluster::new(alloc, config)?;
+        Core::of(alloc, cluster)
+    }
+
+    /// A cluster of these rows. Nothing is noted of its queues yet.
+    pub(crate) fn of(alloc: Global, cluster: Cluster) -> Result<Core, NoMemory>
+        requires { WorksAndIsTold cluster.config (state_in cluster) }
+        ensures { IfOk result (λ core. core ≡ record { config = cluster.config; state = state_in cluster }) }
+    {
+        let partitions = cluster.config().labels().rows().len() + 1;
+        let queues = cluster.config().queues().len() + 1;
+        let shut = Shut::new(alloc, partitions, queues)?;
         Ok(Core {
             alloc,
             cluster,

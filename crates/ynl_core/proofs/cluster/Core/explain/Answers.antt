@@ -7,7 +7,7 @@ use Rattle.ynl_core.proofs.cluster.Core.explain.Goals as goal
 -- what the laws rest on is so of the cluster
 module _ (c : goal.In_ok-explain) where
   is-known : IsKnown c.self.inside.cluster.config (state_in c.self.inside.cluster)
-  is-known = known c.self.inside.cluster c.inventory.ensures.sound c.inventory.ensures.configured c.self.invariant.working
+  is-known = known c.self.inside.cluster c.inventory.ensures.sound c.inventory.ensures.configured c.self.invariant.working.works
 
 pub returns-clause-next : goal.returns-clause-next
 returns-clause-next c =

@@ -4,7 +4,7 @@ use Rattle.ynl_model.specs.declared.events.Event.TheVariants.{Submit}
 use Rattle.ynl_model.specs.declared.replies.Reply.TheVariants.{Done}
 use Rattle.ynl_model.specs.Applications.{in_leaf, new_app, submitted}
 use Rattle.ynl_model.specs.Events.{accepted, done}
-use Rattle.ynl_laws.specs.Working.{IsWorking}
+use Rattle.ynl_core.specs.Reached.{WorksAndIsTold}
 use Rattle.ynl_layout.specs.Paths.{path_at}
 use Rattle.ynl_inventory.specs.Meaning.{label_at}
 use Rattle.ynl_cluster.specs.Cluster.{ClusterView, state_in}
@@ -69,7 +69,7 @@ invariant_of-self-in_err-submit c =
     let paths = ap (λ (v : ClusterView). v.rows.paths) c.in_ok-user.ensures.ok ∙ (user-leaves c.args.user.now w.rows).1 in
     record {
       working =
-          subst (λ (v : ClusterView). IsWorking v.config (state_in v)) (sym same)
-          (subst (λ configured. IsWorking configured (state_in known)) (sym config) (subst (IsWorking w.config) (sym c.in_ok-user.ensures.state) c.self.invariant.working));
+          subst (λ (v : ClusterView). WorksAndIsTold v.config (state_in v)) (sym same)
+          (subst (λ configured. WorksAndIsTold configured (state_in known)) (sym config) (subst (WorksAndIsTold w.config) (sym c.in_ok-user.ensures.state) c.self.invariant.working));
       shut = c.in_err-submit.ensures.shut (shut-stays w known c.self.inside.shut config c.in_ok-user.ensures.state partitions paths c.self.invariant.shut);
     }
