@@ -3,9 +3,8 @@ use Rattle.std.proofs.Common.{◌≡◌, ◌≢◌, ◌⊎◌, inl, inr, ℕ, �
 use Rattle.std.proofs.lemmas.List.{take_at}
 use Rattle.ynl_model.specs.declared.entries.Entry.{Entry}
 use Rattle.ynl_model.specs.Queues.{Config}
-use Rattle.ynl_journal.specs.Journal.{Agrees, FirstDiffers}
+use Rattle.ynl_model.specs.Cluster.{State, opening}
 use Rattle.ynl_journal.specs.Same.{fits_reply}
-use Rattle.ynl_journal.proofs.Longer.{agrees_push, agrees_last, agrees_front}
 use Rattle.ynl_journal.proofs.Same.{fits_decides}
 use Rattle.ynl_journal.proofs.Shown.{agreeing_are_histories, histories_show_alone}
 use Rattle.ynl_lines.specs.declared.faults.JournalFault.{JournalFault}
@@ -13,10 +12,13 @@ use Rattle.ynl_lines.specs.declared.faults.JournalFault.TheVariants.{Line as Not
 use Rattle.ynl_lines.specs.declared.faults.InputFault.TheVariants.{Journal as InJournal}
 use Rattle.ynl_lines.specs.declared.faults.BadLine.{BadLine}
 use Rattle.ynl_lines.specs.ReadingReplies.{line_of_text}
-use Rattle.ynl_commands.specs.Input.{is_blank, Line, whole, too_long, lines_within, limit}
+use Rattle.ynl_fields.specs.Reading.{is_blank}
+use Rattle.ynl_commands.specs.Input.{Line, whole, too_long, lines_within, limit}
 use Rattle.ynl_commands.specs.Readings.{Reading, come_to, unless_faulty, read_on}
 use Rattle.ynl_commands.specs.Audit.{if_read, entry_said, kept_with, journal_way, journal_of, reply_after, audited_with, audit_way, audited, answer_of, audit_answer}
-use Rattle.ynl_commands.specs.Audited.{AgreeingPass, PassingAgree, FirstIsTold, PassingShowAlone}
+use Rattle.ynl_commands.specs.Agreeing.{AgreesFrom, FirstDiffersFrom}
+use Rattle.ynl_commands.specs.Audited.{AgreeingPass, PassingAgree, FirstIsTold, FirstIsToldOpening, PassingShowAlone}
+use Rattle.ynl_commands.proofs.Agreeings.{agrees_both, agrees_second, agrees_front}
 
 -- what is read of a journal
 abbrev Journal : Type 0
@@ -41,9 +43,10 @@ begins_with (whole l ∷ ls) made n = grown_by made (n + 1) (λ next. read_on jo
 
 -- ---- the first reply that differs
 
-differs_first : (c : Config) (made : List Entry) (e : Entry) (es : List Entry) → BeginsWith (made ++ e ∷ []) (come_to es 0 None) → Agrees c made → fits_reply e (reply_after c made e.event) ≡ false → FirstDiffers c es (length made + 1)
-differs_first c made e es begins agrees bad =
-    let A : List Entry → Type 0 = λ xs. Agrees c xs in
+differs_first : (c : Config) (s : State) (made : List Entry) (e : Entry) (es : List Entry) → BeginsWith (made ++ e ∷ []) (come_to es 0 None) → AgreesFrom c s made
+    → fits_reply e (reply_after c s made e.event) ≡ false → FirstDiffersFrom c s es (length made + 1)
+differs_first c s made e es begins agrees bad =
+    let A : List Entry → Type 0 = λ xs. AgreesFrom c s xs in
     let long : length (made ++ e ∷ []) ≡ length made + 1 = length-append made (e ∷ []) in
     let all : length es ≡ length (made ++ e ∷ []) + length begins.0 = ap length begins.1 ∙ length-append (made ++ e ∷ []) begins.0 in
     let back : (length made + 1) - 1 ≡ length made = omega arith in
@@ -53,7 +56,7 @@ differs_first c made e es begins agrees bad =
       counted = omega arith;
       inside = omega (arith, all, long);
       before = subst A (sym front) agrees;
-      there = λ h. let fits : true ≡ false = sym ((fits_decides e (reply_after c made e.event)).1 (agrees_last c made e (subst A next h))) ∙ bad in absurd (cc);
+      there = λ h. let fits : true ≡ false = sym ((fits_decides e (reply_after c s made e.event)).1 (agrees_second c s made (e ∷ []) (subst A next h)).0) ∙ bad in absurd (cc);
     }
 
 -- ---- reading a journal compares nothing
@@ -86,48 +89,54 @@ never_differs (whole l ∷ ls) made n =
 -- ---- an audit beside the reading of the journal
 
 -- An audit finds what reading finds, and all that was read agrees; or it tells of the first entry that does not.
-abbrev Finds : Config → Journal → Journal → Type 0
-Finds c audit journal = ((audit ≡ journal) × Agrees c journal.made) ⊎ ((audit.fault ≡ Some Differs) × FirstDiffers c journal.made (length audit.made + 1))
+abbrev Finds : Config → State → Journal → Journal → Type 0
+Finds c s audit journal = ((audit ≡ journal) × AgreesFrom c s journal.made) ⊎ ((audit.fault ≡ Some Differs) × FirstDiffersFrom c s journal.made (length audit.made + 1))
 
-module _ (c : Config) (n : ℕ) (audits reads : List Entry → Journal) (same : (next : List Entry) → Agrees c next → Finds c (audits next) (reads next)) (grown : (next : List Entry) → BeginsWith next (reads next)) where
-  found_entry : (made : List Entry) (e : Entry) (b : Bool) → fits_reply e (reply_after c made e.event) ≡ b → Agrees c made
-      → Finds c (unless_faulty audits made n (cond b (Ok (made ++ e ∷ [])) (Err Differs))) (reads (made ++ e ∷ []))
-  found_entry made e true fits agrees = same (made ++ e ∷ []) (agrees_push c made e agrees ((fits_decides e (reply_after c made e.event)).0 fits))
-  found_entry made e false bad agrees = inr (refl, differs_first c made e (reads (made ++ e ∷ [])).made (grown (made ++ e ∷ [])) agrees bad)
+-- an audit and a reading of what is left go on together, from entries that agree
+abbrev GoOnTogether : Config → State → (List Entry → Journal) → (List Entry → Journal) → Type 0
+GoOnTogether c s audits reads = (next : List Entry) → AgreesFrom c s next → Finds c s (audits next) (reads next)
 
-  found_line : (made : List Entry) (said : Result (Option Entry) JournalFault) → Agrees c made
-      → Finds c (unless_faulty audits made n (audited_with c made said)) (unless_faulty reads made n (kept_with made said))
+module _ (c : Config) (s : State) (n : ℕ) (audits reads : List Entry → Journal) (same : GoOnTogether c s audits reads) (grown : (next : List Entry) → BeginsWith next (reads next)) where
+  found_entry : (made : List Entry) (e : Entry) (b : Bool) → fits_reply e (reply_after c s made e.event) ≡ b → AgreesFrom c s made
+      → Finds c s (unless_faulty audits made n (cond b (Ok (made ++ e ∷ [])) (Err Differs))) (reads (made ++ e ∷ []))
+  found_entry made e true fits agrees = same (made ++ e ∷ []) (agrees_both c s made (e ∷ []) agrees ((fits_decides e (reply_after c s made e.event)).0 fits, tt))
+  found_entry made e false bad agrees = inr (refl, differs_first c s made e (reads (made ++ e ∷ [])).made (grown (made ++ e ∷ [])) agrees bad)
+
+  found_line : (made : List Entry) (said : Result (Option Entry) JournalFault) → AgreesFrom c s made
+      → Finds c s (unless_faulty audits made n (audited_with c s made said)) (unless_faulty reads made n (kept_with made said))
   found_line made (Ok None) agrees = same made agrees
-  found_line made (Ok (Some e)) agrees = found_entry made e (fits_reply e (reply_after c made e.event)) refl agrees
+  found_line made (Ok (Some e)) agrees = found_entry made e (fits_reply e (reply_after c s made e.event)) refl agrees
   found_line made (Err f) agrees = inl (refl, agrees)
 
-finds_on : (c : Config) (ls : List Line) (made : List Entry) (n : ℕ) → Agrees c made → Finds c (read_on (audit_way c) made n ls) (read_on journal_way made n ls)
+finds_on : (c : Config) (s : State) (ls : List Line) (made : List Entry) (n : ℕ) → AgreesFrom c s made → Finds c s (read_on (audit_way c s) made n ls) (read_on journal_way made n ls)
 unfolding read_on
-finds_on c [] made n agrees = inl (refl, agrees)
-finds_on c (too_long ∷ ls) made n agrees = inl (refl, agrees)
-finds_on c (whole l ∷ ls) made n agrees =
-    found_line c (n + 1) (λ next. read_on (audit_way c) next (n + 1) ls) (λ next. read_on journal_way next (n + 1) ls) (λ next. finds_on c ls next (n + 1)) (λ next. begins_with ls next (n + 1)) made (entry_said (length made) l) agrees
+finds_on c s [] made n agrees = inl (refl, agrees)
+finds_on c s (too_long ∷ ls) made n agrees = inl (refl, agrees)
+finds_on c s (whole l ∷ ls) made n agrees =
+    found_line c s (n + 1) (λ next. read_on (audit_way c s) next (n + 1) ls) (λ next. read_on journal_way next (n + 1) ls) (λ next. finds_on c s ls next (n + 1))
+    (λ next. begins_with ls next (n + 1)) made (entry_said (length made) l) agrees
 
-finds : (c : Config) (input : List ℕ) → Finds c (audited c input) (journal_of input)
-finds c input = finds_on c (lines_within input limit) [] 0 tt
+finds : (c : Config) (s : State) (input : List ℕ) → Finds c s (audited c s input) (journal_of input)
+finds c s input = finds_on c s (lines_within input limit) [] 0 tt
 
 -- ---- the laws
 
 -- entries that agree have no first that differs
-no_first : (c : Config) (es : List Entry) (n : ℕ) → Agrees c es → FirstDiffers c es n → ⊥
-no_first c es n agrees first = first.there (agrees_front c es n agrees)
+no_first : (c : Config) (s : State) (es : List Entry) (n : ℕ) → AgreesFrom c s es → FirstDiffersFrom c s es n → ⊥
+no_first c s es n agrees first = first.there (agrees_front c s es n agrees)
 
-pass_by : (c : Config) (audit journal : Journal) → Agrees c journal.made → Finds c audit journal → audit ≡ journal
-pass_by c audit journal agrees (inl h) = h.0
-pass_by c audit journal agrees (inr h) = absurd (no_first c journal.made (length audit.made + 1) agrees h.1)
+pass_by : (c : Config) (s : State) (audit journal : Journal) → AgreesFrom c s journal.made → Finds c s audit journal → audit ≡ journal
+pass_by c s audit journal agrees (inl h) = h.0
+pass_by c s audit journal agrees (inr h) = absurd (no_first c s journal.made (length audit.made + 1) agrees h.1)
 
-agree_by : (c : Config) (audit journal : Journal) → audit.fault ≢ Some Differs → Finds c audit journal → Agrees c journal.made
-agree_by c audit journal other (inl h) = h.1
-agree_by c audit journal other (inr h) = absurd (other h.0)
+agree_by : (c : Config) (s : State) (audit journal : Journal) → audit.fault ≢ Some Differs → Finds c s audit journal → AgreesFrom c s journal.made
+agree_by c s audit journal other (inl h) = h.1
+agree_by c s audit journal other (inr h) = absurd (other h.0)
 
-first_by : (c : Config) (audit journal : Journal) → audit.fault ≡ Some Differs → journal.fault ≢ Some Differs → Finds c audit journal → FirstDiffers c journal.made (length audit.made + 1)
-first_by c audit journal tells never (inl h) = absurd (never (ap (λ (r : Journal). r.fault) (sym h.0) ∙ tells))
-first_by c audit journal tells never (inr h) = h.1
+first_by : (c : Config) (s : State) (audit journal : Journal) → audit.fault ≡ Some Differs → journal.fault ≢ Some Differs → Finds c s audit journal
+    → FirstDiffersFrom c s journal.made (length audit.made + 1)
+first_by c s audit journal tells never (inl h) = absurd (never (ap (λ (r : Journal). r.fault) (sym h.0) ∙ tells))
+first_by c s audit journal tells never (inr h) = h.1
 
 -- the fault that is told is the fault that was found
 told_some : (n lines : ℕ) (f : Option JournalFault) (g : JournalFault) → (answer_of n lines f).fault ≡ Some (InJournal g) → f ≡ Some g
@@ -135,19 +144,25 @@ told_some n lines None g e = cc
 told_some n lines (Some f) g e = cc
 
 pub agreeing_pass : AgreeingPass
-agreeing_pass c input agrees = ap audit_answer (pass_by c (audited c input) (journal_of input) agrees (finds c input))
+agreeing_pass c s input agrees = ap audit_answer (pass_by c s (audited c s input) (journal_of input) agrees (finds c s input))
 
 pub passing_agree : PassingAgree
-passing_agree c input other =
-    agree_by c (audited c input) (journal_of input)
-    (λ tells. other (ap (λ f. (answer_of (length (audited c input).made) (audited c input).lines f).fault) tells)) (finds c input)
+passing_agree c s input other =
+    agree_by c s (audited c s input) (journal_of input)
+    (λ tells. other (ap (λ f. (answer_of (length (audited c s input).made) (audited c s input).lines f).fault) tells)) (finds c s input)
 
 pub first_is_told : FirstIsTold
-first_is_told c input tells =
-    let r = audited c input in
-    first_by c r (journal_of input) (told_some (length r.made) r.lines r.fault Differs tells) (never_differs (lines_within input limit) [] 0) (finds c input)
+first_is_told c s input tells =
+    let r = audited c s input in
+    first_by c s r (journal_of input) (told_some (length r.made) r.lines r.fault Differs tells) (never_differs (lines_within input limit) [] 0) (finds c s input)
+
+-- and in the words of journals, from the opening state
+pub first_is_told_opening : FirstIsToldOpening
+first_is_told_opening c input tells =
+    let first = first_is_told c (opening c) input tells in
+    record { counted = first.counted; inside = first.inside; before = first.before; there = first.there }
 
 pub passing_show_alone : PassingShowAlone
 passing_show_alone c input t p none answered accepted sole =
-    let agrees = passing_agree c input (λ tells. let e : None ≡ Some (InJournal Differs) = sym none ∙ tells in cc) in
+    let agrees = passing_agree c (opening c) input (λ tells. let e : None ≡ Some (InJournal Differs) = sym none ∙ tells in cc) in
     histories_show_alone c (journal_of input).made t p (agreeing_are_histories c (journal_of input).made agrees answered) accepted sole

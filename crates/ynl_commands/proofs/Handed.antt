@@ -1,5 +1,6 @@
 -- What evidence tells.
 use Rattle.std.proofs.Common.{◌≡◌, ℕ, ◌+◌, Bool, true, false, cond, List, [], ◌∷◌, ◌++◌, Option, Some, None, Result, Ok, Err, refl}
+use Rattle.ynl_model.specs.Cluster.{opening}
 use Rattle.ynl_journal.specs.Same.{fits_reply}
 use Rattle.ynl_evidence.specs.declared.flaws.Flaw.TheVariants.{NotKept, Differs}
 use Rattle.ynl_evidence.specs.Evidence.{Placed}
@@ -18,7 +19,7 @@ use Rattle.ynl_commands.proofs.Audited.{passing_agree}
 
 pub passing_hands_right : PassingHandsRight
 passing_hands_right whose input other accepted sole =
-    evidence_passes whose.config (journal_of input).made whose.tenant whose.label (passing_agree whose.config input other) accepted sole
+    evidence_passes whose.config (journal_of input).made whose.tenant whose.label (passing_agree whose.config (opening whose.config) input other) accepted sole
 
 module _ (whose : Tenancy) where
   -- these entries are right for the tenancy

@@ -33,7 +33,7 @@ unfolding lines_within
 none_left b bs budget e = ap (λ t. cond t (too_long ∷ []) (cond (eqb b 10) (whole [] ∷ lines_within bs (budget - 1)) (onto b (lines_within bs (budget - 1))))) (eq-eqb budget 0 e)
 
 -- no bytes
-no_bytes : (budget : ℕ) → lines_within [] budget ≡ []
+pub no_bytes : (budget : ℕ) → lines_within [] budget ≡ []
 unfolding lines_within
 no_bytes budget = refl
 

@@ -7,7 +7,8 @@ use Rattle.ynl_model.specs.declared.events.Event.{Event}
 use Rattle.ynl_lines.specs.Reading.{event_of_line}
 use Rattle.ynl_commands.specs.declared.lines_in.Lines.{Lines}
 use Rattle.ynl_commands.specs.Lines.{IsPlain}
-use Rattle.ynl_commands.specs.Input.{Stream, is_blank}
+use Rattle.ynl_fields.specs.Reading.{is_blank}
+use Rattle.ynl_commands.specs.Input.{Stream}
 use Rattle.ynl_commands.specs.Script.{Part, part, part_of, no_part, script_way}
 use Rattle.ynl_commands.specs.Keeping.{BeginsWith, Keeps, KeepsLine}
 use Rattle.ynl_commands.proofs.Readings.{ReadSoFar}

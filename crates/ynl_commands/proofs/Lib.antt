@@ -1,8 +1,10 @@
+pub mod Agreeings
 pub mod Answerings
 pub mod Audited
 pub mod Audits
 pub mod Evidences
 pub mod ClustersAfter
+pub mod Cuts
 pub mod Handed
 pub mod Fronts
 pub mod Held

@@ -4,7 +4,8 @@ use Rattle.ynl_model.specs.declared.events.Event.{Event}
 use Rattle.ynl_model.specs.declared.replies.Reply.{Reply}
 use Rattle.ynl_model.specs.declared.entries.Entry.{Entry}
 use Rattle.ynl_model.specs.Queues.{Config}
-use Rattle.ynl_model.specs.Events.{step, state_after}
+use Rattle.ynl_model.specs.Cluster.{State}
+use Rattle.ynl_model.specs.Events.{step, after}
 use Rattle.ynl_journal.specs.Journal.{events_in}
 use Rattle.ynl_journal.specs.Same.{fits_reply}
 use Rattle.ynl_lines.specs.declared.faults.BadLine.{BadLine}
@@ -13,7 +14,7 @@ use Rattle.ynl_lines.specs.declared.faults.JournalFault.TheVariants.{Size, Line 
 use Rattle.ynl_lines.specs.declared.faults.InputFault.TheVariants.{Journal as InJournal}
 use Rattle.ynl_lines.specs.ReadingReplies.{line_of_text}
 use Rattle.ynl_lines.specs.Writing.{audit_text}
-use Rattle.ynl_commands.specs.Input.{is_blank}
+use Rattle.ynl_fields.specs.Reading.{is_blank}
 use Rattle.ynl_commands.specs.Readings.{Way, Reading, reading_of}
 use Rattle.ynl_commands.specs.Run.{line_of, Outcome, faulty}
 
@@ -55,27 +56,27 @@ journal_of bytes = reading_of journal_way bytes
 
 -- ---- audits
 
--- the cluster's reply to an event, after those of the entries
-abbrev pub reply_after : Config → List Entry → Event → Reply
-reply_after c entries event = (step c (state_after c (events_in entries)) event).reply
+-- the cluster's reply to an event, from a state and after the events of the entries
+abbrev pub reply_after : Config → State → List Entry → Event → Reply
+reply_after c s entries event = (step c (after c s (events_in entries)) event).reply
 
 -- the entries with one more, which has the cluster's reply or none
-abbrev pub if_fitting : Config → List Entry → Entry → Result (List Entry) JournalFault
-if_fitting c entries e = if fits_reply e (reply_after c entries e.event) then Ok (entries ++ e ∷ []) else Err Differs
+abbrev pub if_fitting : Config → State → List Entry → Entry → Result (List Entry) JournalFault
+if_fitting c s entries e = if fits_reply e (reply_after c s entries e.event) then Ok (entries ++ e ∷ []) else Err Differs
 
 -- the entries with what a line says
-abbrev pub audited_with : Config → List Entry → Result (Option Entry) JournalFault → Result (List Entry) JournalFault
-audited_with c entries (Ok None) = Ok entries
-audited_with c entries (Ok (Some e)) = if_fitting c entries e
-audited_with c entries (Err f) = Err f
+abbrev pub audited_with : Config → State → List Entry → Result (Option Entry) JournalFault → Result (List Entry) JournalFault
+audited_with c s entries (Ok None) = Ok entries
+audited_with c s entries (Ok (Some e)) = if_fitting c s entries e
+audited_with c s entries (Err f) = Err f
 
--- how a journal is audited
-abbrev pub audit_way : Config → Way (List Entry) JournalFault
-audit_way c = record { start = []; add = λ entries line. audited_with c entries (entry_said (length entries) line); size = Size }
+-- how a journal is audited, from a state
+abbrev pub audit_way : Config → State → Way (List Entry) JournalFault
+audit_way c s = record { start = []; add = λ entries line. audited_with c s entries (entry_said (length entries) line); size = Size }
 
 -- the part of an input that passes its audit
-abbrev pub audited : Config → List ℕ → Reading (List Entry) JournalFault
-audited c bytes = reading_of (audit_way c) bytes
+abbrev pub audited : Config → State → List ℕ → Reading (List Entry) JournalFault
+audited c s bytes = reading_of (audit_way c s) bytes
 
 -- what is told of so many entries, for which n lines were read: how many there are, or the fault that ended them
 abbrev pub answer_of : ℕ → ℕ → Option JournalFault → Outcome
@@ -86,6 +87,6 @@ answer_of entries n (Some f) = faulty (InJournal f) n
 abbrev pub audit_answer : Reading (List Entry) JournalFault → Outcome
 audit_answer r = answer_of (length r.made) r.lines r.fault
 
--- the audit of an input
-abbrev pub audit_of : Config → List ℕ → Outcome
-audit_of c bytes = audit_answer (audited c bytes)
+-- the audit of an input, from a state
+abbrev pub audit_of : Config → State → List ℕ → Outcome
+audit_of c s bytes = audit_answer (audited c s bytes)

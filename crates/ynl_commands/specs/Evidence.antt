@@ -21,7 +21,7 @@ use Rattle.ynl_commands.specs.declared.evidence.Gathered.{Gathered}
 use Rattle.ynl_commands.specs.declared.evidence.Gathering.{Gathering}
 use Rattle.ynl_commands.specs.declared.evidence.Tenancy.{Tenancy}
 use Rattle.ynl_commands.specs.declared.evidence_audit.EvidenceAudit.{EvidenceAudit}
-use Rattle.ynl_commands.specs.Input.{is_blank}
+use Rattle.ynl_fields.specs.Reading.{is_blank}
 use Rattle.ynl_commands.specs.Readings.{Way, Reading, reading_of}
 use Rattle.ynl_commands.specs.Run.{line_of, Outcome, faulty}
 use Rattle.ynl_commands.specs.Audit.{answer_of}

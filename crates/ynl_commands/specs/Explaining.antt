@@ -6,7 +6,8 @@ use Rattle.ynl_check.specs.declared.checking.Form.{Form}
 use Rattle.ynl_check.specs.declared.checking.Form.TheVariants.{Lines, Plain}
 use Rattle.ynl_model.specs.declared.events.Event.{Event}
 use Rattle.ynl_model.specs.Queues.{Config}
-use Rattle.ynl_model.specs.Events.{state_after}
+use Rattle.ynl_model.specs.Cluster.{State}
+use Rattle.ynl_model.specs.Events.{after}
 use Rattle.ynl_waits.specs.Waits.{explained_of}
 use Rattle.ynl_waits.specs.declared.waits.Explained.{Explained}
 use Rattle.ynl_explain.specs.Sentences.{plain_text}
@@ -34,47 +35,47 @@ answer_in Plain t a explained = plain_text t a explained
 abbrev pub answer : Question → Explained → List ℕ
 answer q explained = answer_in q.form q.tenant q.app explained
 
--- the text of why an application waits after events
-abbrev pub waits_text : Config → Question → List Event → List ℕ
-waits_text c q events = answer q (explained_of c (state_after c events) q.tenant q.app)
+-- the text of why an application waits after events, from a state
+abbrev pub waits_text : Config → State → Question → List Event → List ℕ
+waits_text c s q events = answer q (explained_of c (after c s events) q.tenant q.app)
 
 -- what is told of so many lines: why the application waits after their events; of a fault that line alone
-abbrev pub explanation_by : Config → Question → List Event → ℕ → Option LineFault → Outcome
-explanation_by c q events n None = record { text = waits_text c q events; lines = n; fault = None }
-explanation_by c q events n (Some f) = faulty (InScript f) n
+abbrev pub explanation_by : Config → State → Question → List Event → ℕ → Option LineFault → Outcome
+explanation_by c s q events n None = record { text = waits_text c s q events; lines = n; fault = None }
+explanation_by c s q events n (Some f) = faulty (InScript f) n
 
--- what is told of a script
-abbrev pub explanation : Config → Question → Script → Outcome
-explanation c q s = explanation_by c q s.made s.lines s.fault
+-- what is told of a script, from a state
+abbrev pub explanation : Config → State → Question → Script → Outcome
+explanation c s q script = explanation_by c s q script.made script.lines script.fault
 
 -- ---- the whole
 
 -- the explanation of this script was written, and nothing else, and is told
-pub record IsExplained (writer : Stream) (c : Config) (q : Question) (summary : Summary) (s : Script) : Type 0 where
-  pub written : Appends writer.before writer.after (explanation c q s).text
-  pub lines : summary.lines ≡ (explanation c q s).lines
-  pub fault : summary.fault ≡ (explanation c q s).fault
+pub record IsExplained (writer : Stream) (c : Config) (s : State) (q : Question) (summary : Summary) (script : Script) : Type 0 where
+  pub written : Appends writer.before writer.after (explanation c s q script).text
+  pub lines : summary.lines ≡ (explanation c s q script).lines
+  pub fault : summary.fault ≡ (explanation c s q script).fault
 
 -- the whole input, where the reader tells its bytes
-abbrev pub ExplainsWhole : Stream → Stream → Config → Question → Result Summary ToolFault → Type 0
-ExplainsWhole reader writer c q r = IfOk r (λ summary. IfSome reader.before (λ input. IsExplained writer c q summary (script_of input)))
+abbrev pub ExplainsWhole : Stream → Stream → Config → State → Question → Result Summary ToolFault → Type 0
+ExplainsWhole reader writer c s q r = IfOk r (λ summary. IfSome reader.before (λ input. IsExplained writer c s q summary (script_of input)))
 
 -- the script was read, and its explanation was told and nothing else
-pub record ExplainsAll (reader writer : Stream) (c : Config) (q : Question) (summary : Summary) : Type 0 where
+pub record ExplainsAll (reader writer : Stream) (c : Config) (s : State) (q : Question) (summary : Summary) : Type 0 where
   pub script : Script
   pub read : ReadsTo script_way reader script
-  pub explained : IsExplained writer c q summary script
+  pub explained : IsExplained writer c s q summary script
 
 -- the script was read, and then an error left a front of what is told, and not all of it
-pub record ExplainsSome (reader writer : Stream) (c : Config) (q : Question) (e : ToolFault) : Type 0 where
+pub record ExplainsSome (reader writer : Stream) (c : Config) (s : State) (q : Question) (e : ToolFault) : Type 0 where
   pub script : Script
   pub read : ReadsTo script_way reader script
-  pub written : LeavesFront writer.before writer.after (explanation c q script).text e
+  pub written : LeavesFront writer.before writer.after (explanation c s q script).text e
 
 -- Only once the script has been read the explanation is written.
-abbrev pub Explains : Stream → Stream → Config → Question → Result Summary ToolFault → Type 0
-Explains reader writer c q (Ok summary) = ExplainsAll reader writer c q summary
-Explains reader writer c q (Err Read) = TellsNothing reader writer Read
-Explains reader writer c q (Err NoMemory) = TellsNothing reader writer NoMemory ⊎ ExplainsSome reader writer c q NoMemory
-Explains reader writer c q (Err Write) = ExplainsSome reader writer c q Write
-Explains reader writer c q (Err Unclosed) = ⊥
+abbrev pub Explains : Stream → Stream → Config → State → Question → Result Summary ToolFault → Type 0
+Explains reader writer c s q (Ok summary) = ExplainsAll reader writer c s q summary
+Explains reader writer c s q (Err Read) = TellsNothing reader writer Read
+Explains reader writer c s q (Err NoMemory) = TellsNothing reader writer NoMemory ⊎ ExplainsSome reader writer c s q NoMemory
+Explains reader writer c s q (Err Write) = ExplainsSome reader writer c s q Write
+Explains reader writer c s q (Err Unclosed) = ⊥

@@ -1,6 +1,5 @@
 -- The lines of an input, and what reading them one after another does.
-use Rattle.std.specs.Prelude.{◌≡◌, ◌⊎◌, ℕ, ◌+◌, ◌-◌, ◌<◌, ◌≤◌, List, [], ◌∷◌, ◌++◌, length, take, Bool, true, false, ◌||◌, ◌==◌, Option, OnSome, if◌then◌else◌}
-use Rattle.std.specs.List.{list_all}
+use Rattle.std.specs.Prelude.{◌≡◌, ◌⊎◌, ℕ, ◌+◌, ◌-◌, ◌<◌, ◌≤◌, List, [], ◌∷◌, ◌++◌, length, take, Bool, true, false, ◌==◌, Option, OnSome, if◌then◌else◌}
 use Rattle.std.specs.Io.KnownBytes.{Consumes, IsAtEnd}
 use Rattle.ynl_commands.specs.declared.lines_in.Lines.{Lines}
 use Rattle.ynl_commands.specs.declared.lines_in.Next.{Next}
@@ -27,10 +26,6 @@ lines_within (b ∷ bs) budget =
     if budget == 0 then too_long ∷ []
     else if b == 10 then whole [] ∷ lines_within bs (budget - 1)
     else onto b (lines_within bs (budget - 1))
-
--- spaces, tabs and carriage returns alone: such a line is passed over
-abbrev pub is_blank : List ℕ → Bool
-is_blank line = list_all (λ b. (b == 32) || (b == 9) || (b == 13)) line
 
 -- how many bytes of an input are read at most
 abbrev pub limit : ℕ

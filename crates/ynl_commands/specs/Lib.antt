@@ -1,3 +1,4 @@
+pub mod Agreeing
 pub mod Answering
 pub mod Audit
 pub mod Audited
@@ -14,4 +15,5 @@ pub mod Running
 pub mod Script
 pub mod Telling
 pub mod Clusters
+pub mod Cutting
 pub mod Saving

@@ -6,7 +6,8 @@ use Rattle.ynl_lines.specs.declared.faults.LineFault.TheVariants as fault
 use Rattle.ynl_lines.specs.Reading.{event_of_line}
 use Rattle.ynl_commands.specs.declared.lines_in.ReadFault.{ReadFault}
 use Rattle.ynl_commands.specs.declared.script_in.Script.{Script as Kept}
-use Rattle.ynl_commands.specs.Input.{is_blank, Stream}
+use Rattle.ynl_fields.specs.Reading.{is_blank}
+use Rattle.ynl_commands.specs.Input.{Stream}
 use Rattle.ynl_commands.specs.Lines.{tool_fault}
 use Rattle.ynl_commands.specs.Readings.{Way, Reading, reading_of, come_to, ReadsTo, ReadsSome}
 

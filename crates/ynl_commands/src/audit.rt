@@ -9,16 +9,16 @@ ghost use Rattle.ynl_commands.specs.Audit.{answer_of, entry_if, entry_said};
 ghost use Rattle.ynl_commands.specs.Auditing.{AuditsJournal, AuditsLine, AuditsWhole, Finds, IsAuditOf, TakesEntry};
 ghost use Rattle.ynl_commands.specs.Running.{Writes};
 
-use crate::lines_in::{Lines, Next, is_blank};
+use crate::lines_in::{Lines, Next};
 use crate::lines_out::write_text;
 use crate::run::{Summary, ToolFault, report, with_newline};
 use std::alloc::{AllocError, Global};
 use std::io::{BufRead, Write};
 use ynl_core::{Core, NoMemory};
+use ynl_fields::is_blank;
 use ynl_journal::fits;
 use ynl_lines::{InputFault, JournalFault, LineReader, write_audit};
 use ynl_model::Entry;
-use ynl_queues::Config;
 
 /// Whether a line says the next entry after so many, which the reader then lends; a blank line says none. Or the line's
 /// fault. Bytes that are no text take no memory.
@@ -52,11 +52,10 @@ struct Audit {
 
 impl Audit {
     /// Before the first entry.
-    fn open(alloc: Global, config: Config) -> Result<Audit, NoMemory>
-        ensures { IfOk result (λ audit. IsAuditOf config [] audit) }
+    fn new(core: Core) -> Audit
+        ensures { IsAuditOf core.config core.state [] result }
     {
-        let core = Core::open(alloc, config)?;
-        Ok(Audit { core, entries: 0 })
+        Audit { core, entries: 0 }
     }
 
     /// Takes the next entry, if its reply is the cluster's, where it has one, and gives whether it is. The
@@ -111,14 +110,10 @@ pub(crate) struct Found {
 }
 
 /// Audits the journal of the reader, to its end or to the first line with a fault.
-fn audit_entries<R: BufRead>(
-    alloc: Global,
-    config: Config,
-    reader: &mut R,
-) -> Result<Found, ToolFault>
-    ensures { Finds (between (R.remaining reader.old) (R.remaining reader.new)) config result }
+fn audit_entries<R: BufRead>(alloc: Global, core: Core, reader: &mut R) -> Result<Found, ToolFault>
+    ensures { Finds (between (R.remaining reader.old) (R.remaining reader.new)) core.config core.state result }
 {
-    let mut audit = Audit::open(alloc, config)?;
+    let mut audit = Audit::new(core);
     let mut input = Lines::new(alloc);
     let mut lines = LineReader::new(alloc);
     'lines: loop {
@@ -169,24 +164,24 @@ pub(crate) fn tell<W: Write>(
     })
 }
 
-/// Audits the journal of the reader against a cluster of this configuration, and only once reading has
-/// ended writes one line: how many entries the journal has; or the fault of the first line that does not
-/// pass, where reading ends. A line passes if it is a line of a journal, its place is the number of the
-/// entries before it, and its reply, where it has one, is the cluster's. A blank line is passed over. An
-/// input of more than 67,108,864 bytes has a fault in the line where it gets too long. What is kept does
-/// not grow with the journal, but for its longest line.
+/// Audits the journal of the reader against the cluster, from the state that it is in, and only once
+/// reading has ended writes one line: how many entries the journal has; or the fault of the first line
+/// that does not pass, where reading ends. A line passes if it is a line of a journal, its place is the
+/// number of the entries before it, and its reply, where it has one, is the cluster's. A blank line is
+/// passed over. An input of more than 67,108,864 bytes has a fault in the line where it gets too long. What
+/// is kept does not grow with the journal, but for its longest line.
 ///
 /// After a read fault nothing is written, nor where memory was refused; after a write fault a front of
 /// the line.
 pub fn audit_lines<R: BufRead, W: Write>(
     alloc: Global,
-    config: Config,
+    core: Core,
     reader: &mut R,
     writer: &mut W,
 ) -> Result<Summary, ToolFault>
-    ensures whole { AuditsWhole (between (R.remaining reader.old) (R.remaining reader.new)) (between (W.contents writer.old) (W.contents writer.new)) config result }
-    ensures steps { AuditsJournal (between (R.remaining reader.old) (R.remaining reader.new)) (between (W.contents writer.old) (W.contents writer.new)) config result }
+    ensures whole { AuditsWhole (between (R.remaining reader.old) (R.remaining reader.new)) (between (W.contents writer.old) (W.contents writer.new)) core.config core.state result }
+    ensures steps { AuditsJournal (between (R.remaining reader.old) (R.remaining reader.new)) (between (W.contents writer.old) (W.contents writer.new)) core.config core.state result }
 {
-    let found = audit_entries(alloc, config, reader)?;
+    let found = audit_entries(alloc, core, reader)?;
     tell(alloc, found, writer)
 }

@@ -1,25 +1,28 @@
 //! What an audit tells: laws of the definition of what [`audit_lines`](crate::audit_lines) writes.
 
-ghost use Rattle.ynl_commands.specs.Audited.{AgreeingPass, FirstIsTold, PassingAgree, PassingShowAlone};
+ghost use Rattle.ynl_commands.specs.Audited.{AgreeingPass, FirstIsTold, FirstIsToldOpening, PassingAgree, PassingShowAlone};
 
-/// A journal whose replies are all the cluster's passes: the audit finds its entries, or the fault that
-/// reading it finds.
+/// A journal whose replies are all the cluster's passes, from whatever state: the audit finds its entries,
+/// or the fault that reading it finds.
 pub fn agreeing_journals_pass()
     ensures { AgreeingPass }
 {}
 
-/// Where an audit does not tell that a reply differs, each reply that the journal has is the cluster's.
+/// Where an audit does not tell that a reply differs, each reply that the journal has is the cluster's, from
+/// the state that the audit began from.
 pub fn passing_journals_agree()
     ensures { PassingAgree }
 {}
 
-/// Where an audit tells that a reply differs, it is that of the first entry of which this holds.
+/// Where an audit tells that a reply differs, it is that of the first entry of which this holds: from
+/// whatever state, and so from the opening state.
 pub fn the_first_that_differs_is_told()
-    ensures { FirstIsTold }
+    ensures every { FirstIsTold }
+    ensures opening { FirstIsToldOpening }
 {}
 
-/// A journal that passes its audit and lacks no reply shows each tenant that alone may use an exclusive
-/// partition of an accepted configuration as alone there.
+/// A journal that passes its audit from the opening state and lacks no reply shows each tenant that alone may
+/// use an exclusive partition of an accepted configuration as alone there.
 pub fn passing_journals_show_tenants_alone()
     ensures { PassingShowAlone }
 {}

@@ -9,12 +9,13 @@ ghost use Rattle.ynl_commands.specs.Input.{between, limit};
 
 use crate::audit::{Found, tell};
 use crate::evidence::Tenancy;
-use crate::lines_in::{Lines, Next, is_blank};
+use crate::lines_in::{Lines, Next};
 use crate::run::{Summary, ToolFault};
 use std::alloc::{AllocError, Global};
 use std::io::{BufRead, Write};
 use ynl_core::NoMemory;
 use ynl_evidence::{Flaw, Trial};
+use ynl_fields::is_blank;
 use ynl_lines::{JournalFault, LineReader};
 
 /// Whether a line says an entry with its place, which the reader then lends; a blank line says none. Or that it is bad.

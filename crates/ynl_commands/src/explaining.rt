@@ -14,11 +14,10 @@ use crate::script_in::{Script, read_script};
 use std::alloc::{AllocError, Global};
 use std::io::{BufRead, Write};
 use ynl_check::Form;
-use ynl_core::NoMemory;
+use ynl_core::{Core, NoMemory};
 use ynl_explain::{plain_text, told_text};
 use ynl_lines::InputFault;
 use ynl_packed::Events;
-use ynl_queues::Config;
 use ynl_waits::Explained;
 use ynl_words::Question;
 
@@ -36,13 +35,13 @@ fn answer(alloc: Global, question: &Question, explained: &Explained) -> Result<V
 /// The text of why the application waits after the events.
 fn waits_text(
     alloc: Global,
-    config: Config,
+    core: Core,
     question: &Question,
     events: &Events,
 ) -> Result<Vec<u8>, NoMemory>
-    ensures { IfOk result (λ text. text.items ≡ waits_text config question.now events.now) }
+    ensures { IfOk result (λ text. text.items ≡ waits_text core.config core.state question.now events.now) }
 {
-    let core = cluster_after(alloc, config, events)?;
+    let core = cluster_after(core, events)?;
     let explained = core.explain(&question.tenant, &question.app)?;
     Ok(answer(alloc, question, &explained)?)
 }
@@ -50,18 +49,18 @@ fn waits_text(
 /// Writes what is told of a script.
 fn tell<W: Write>(
     alloc: Global,
-    config: Config,
+    core: Core,
     question: &Question,
     script: &Script,
     writer: &mut W,
 ) -> Result<Summary, ToolFault>
-    ensures text { Writes (W.contents writer.old) (W.contents writer.new) (explanation config question.now (script_read script.now)) result }
+    ensures text { Writes (W.contents writer.old) (W.contents writer.new) (explanation core.config core.state question.now (script_read script.now)) result }
     ensures fault { IfErr result (λ e. e ≢ Read) }
 {
     if let Some(fault) = script.fault {
         return report(alloc, writer, InputFault::Script(fault), script.lines);
     }
-    let text = waits_text(alloc, config, question, &script.events)?;
+    let text = waits_text(alloc, core, question, &script.events)?;
     write_text(writer, &text)?;
     Ok(Summary {
         lines: script.lines,
@@ -70,21 +69,22 @@ fn tell<W: Write>(
 }
 
 /// Reads the script, and only then writes why the requests of the tenant's application wait after its
-/// events: a line for each request, or the reply of a refusal where there is no such application; or the
-/// same in sentences. Of a script with a fault nothing is told but that fault, in one line.
+/// events, from the state that the cluster is in: a line for each request, or the reply of a refusal
+/// where there is no such application; or the same in sentences. Of a script with a fault nothing is told
+/// but that fault, in one line.
 ///
 /// After a read fault nothing is written, nor where memory was refused; after a write fault a front of
 /// the text.
 pub fn explain_lines<R: BufRead, W: Write>(
     alloc: Global,
-    config: Config,
+    core: Core,
     question: &Question,
     reader: &mut R,
     writer: &mut W,
 ) -> Result<Summary, ToolFault>
-    ensures whole { ExplainsWhole (between (R.remaining reader.old) (R.remaining reader.new)) (between (W.contents writer.old) (W.contents writer.new)) config question.now result }
-    ensures steps { Explains (between (R.remaining reader.old) (R.remaining reader.new)) (between (W.contents writer.old) (W.contents writer.new)) config question.now result }
+    ensures whole { ExplainsWhole (between (R.remaining reader.old) (R.remaining reader.new)) (between (W.contents writer.old) (W.contents writer.new)) core.config core.state question.now result }
+    ensures steps { Explains (between (R.remaining reader.old) (R.remaining reader.new)) (between (W.contents writer.old) (W.contents writer.new)) core.config core.state question.now result }
 {
     let script = read_script(alloc, reader)?;
-    tell(alloc, config, question, &script, writer)
+    tell(alloc, core, question, &script, writer)
 }

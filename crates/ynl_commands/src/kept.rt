@@ -5,9 +5,10 @@ ghost use Rattle.ynl_commands.specs.Input.{between};
 ghost use Rattle.ynl_commands.specs.Lines.{IsPlain};
 ghost use Rattle.ynl_commands.specs.Keeping.{KeepsLine, KeepsScript, SaysEvent};
 
-use crate::lines_in::{Lines, Next, ReadFault, is_blank, newline_or_end};
+use crate::lines_in::{Lines, Next, ReadFault, newline_or_end};
 use std::alloc::{AllocError, Global};
 use std::io::BufRead;
+use ynl_fields::is_blank;
 use ynl_lines::{EventReader, LineFault};
 
 /// A script of which the text is kept: the lines of its events, each with its newline, how many lines

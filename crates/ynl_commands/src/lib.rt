@@ -14,6 +14,7 @@ pub use tenant::tenant_lines;
 mod audit;
 pub mod audit_laws;
 mod clusters;
+pub mod cut_laws;
 mod evidence;
 mod evidence_audit;
 pub mod evidence_laws;

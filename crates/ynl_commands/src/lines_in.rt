@@ -2,7 +2,7 @@
 
 ghost use Rattle.std.specs.Prelude.{◌≡◌, ◌≢◌, ◌+◌, ◌<◌, ◌≤◌, All, IfOk, IfErr, OnErr, false, length, take, vec_len, slice_index};
 ghost use Rattle.std.specs.IoError.{error_kind};
-ghost use Rattle.ynl_commands.specs.Input.{between, is_blank, limit, BreaksOff, FailsAtOnce, Takes, TakesAtHand};
+ghost use Rattle.ynl_commands.specs.Input.{between, limit, BreaksOff, FailsAtOnce, Takes, TakesAtHand};
 ghost use Rattle.ynl_commands.specs.Lines.{read_fault, AddsShown, FailsAs, ShowsBeyond, GivesPiece, GivesLine};
 
 use memchr::memchr;
@@ -164,14 +164,6 @@ pub enum Next {
     TooLong,
     /// The end.
     End,
-}
-
-/// Whether a line is spaces, tabs and carriage returns alone: such a line is passed over.
-pub fn is_blank(line: &[u8]) -> bool
-    ensures { result ≡ is_blank line.now }
-{
-    line.iter()
-        .all(|b| *b == b' ' || *b == b'\t' || *b == b'\r')
 }
 
 /// The lines of an input, one after another. All that reads lines reads them here.

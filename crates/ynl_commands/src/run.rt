@@ -1,26 +1,26 @@
 //! The run: events are read line by line, and the reply to each is written.
 
 ghost use Rattle.std.specs.Prelude.{◌≡◌, ◌≢◌, ◌+◌, ◌++◌, ◌≤◌, false, IfOk, IfErr, OnOk, OnErr};
-ghost use Rattle.ynl_model.specs.Cluster.{opening};
 ghost use Rattle.ynl_commands.specs.declared.run.ToolFault.TheVariants.{Read};
 ghost use Rattle.ynl_core.specs.World.{beaten};
 ghost use Rattle.ynl_lines.specs.Writing.{reply_text};
 ghost use Rattle.ynl_model.specs.declared.events.Event.TheVariants.{Heartbeat};
-ghost use Rattle.ynl_commands.specs.Input.{between, is_blank, limit};
+ghost use Rattle.ynl_commands.specs.Input.{between, limit};
+ghost use Rattle.ynl_fields.specs.Reading.{is_blank};
 ghost use Rattle.ynl_commands.specs.Run.{faulty, line_of};
 ghost use Rattle.ynl_commands.specs.Running.{HoldsReply, Holds, GoesOn, ReadsOn, Writes, Runs, RunsWhole};
 
-use crate::lines_in::{Lines, Next, ReadFault, is_blank};
+use crate::lines_in::{Lines, Next, ReadFault};
 use crate::lines_out::{HELD, WriteFault, hold_text, write_held, write_text};
 use std::alloc::{AllocError, Global};
 use std::io::{BufRead, Write};
 use thiserror::Error;
 use ynl_core::{Core, NoMemory};
+use ynl_fields::is_blank;
 use ynl_lines::{
     EventReader, InputFault, LineFault, heartbeat_of, put_placed, put_reply, write_fault,
 };
 use ynl_model::{Placed, Reply};
-use ynl_queues::Config;
 use ynl_resource::{Name, Refusal};
 
 /// Why a run ended before its input did.
@@ -296,23 +296,21 @@ pub fn report<W: Write>(
     })
 }
 
-/// Runs a cluster of this configuration, from its opening state, on the events of the reader, and
-/// writes the reply to each: to the end of the input, or to the first line with a fault, which is
-/// reported in the last line written. Replies are held back while the reader shows whole lines, and
-/// written before more of its input is read. An input of more than 67,108,864 bytes has a fault in the
-/// line where it gets too long.
+/// Runs the cluster, from the state that it is in, on the events of the reader, and writes the reply to
+/// each: to the end of the input, or to the first line with a fault, which is reported in the last line
+/// written. Replies are held back while the reader shows whole lines, and written before more of its
+/// input is read. An input of more than 67,108,864 bytes has a fault in the line where it gets too long.
 ///
 /// After a read fault, or where memory is refused, what is written is the text of the lines before. After
 /// a write fault it is a front of the text of all lines that were read, which may end before the last.
 pub fn run_lines<R: BufRead, W: Write>(
     alloc: Global,
-    config: Config,
+    mut core: Core,
     reader: &mut R,
     writer: &mut W,
 ) -> Result<Summary, ToolFault>
-    ensures whole { RunsWhole (between (R.remaining reader.old) (R.remaining reader.new)) (between (W.contents writer.old) (W.contents writer.new)) config (opening config) result }
-    ensures steps { Runs (between (R.remaining reader.old) (R.remaining reader.new)) (between (W.contents writer.old) (W.contents writer.new)) config (opening config) result }
+    ensures whole { RunsWhole (between (R.remaining reader.old) (R.remaining reader.new)) (between (W.contents writer.old) (W.contents writer.new)) core.config core.state result }
+    ensures steps { Runs (between (R.remaining reader.old) (R.remaining reader.new)) (between (W.contents writer.old) (W.contents writer.new)) core.config core.state result }
 {
-    let mut core = Core::open(alloc, config)?;
     answer_lines(alloc, &mut core, reader, writer)
 }

@@ -5,9 +5,10 @@ ghost use Rattle.ynl_commands.specs.Input.{between};
 ghost use Rattle.ynl_commands.specs.Readings.{come_to};
 ghost use Rattle.ynl_commands.specs.Script.{script_read, Adds, ReadsScript, ReadsWhole};
 
-use crate::lines_in::{Lines, Next, ReadFault, is_blank};
+use crate::lines_in::{Lines, Next, ReadFault};
 use std::alloc::{AllocError, Global};
 use std::io::BufRead;
+use ynl_fields::is_blank;
 use ynl_lines::{EventReader, LineFault};
 use ynl_packed::Events;
 

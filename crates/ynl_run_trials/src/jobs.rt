@@ -7,6 +7,7 @@ use std::sync::atomic::{AtomicU64, Ordering};
 use std::test::Fail;
 use std::thread::Threads;
 use ynl_config::built_in;
+use ynl_core::Core;
 use ynl_tool::{ToolFault, live_lines, run_lines};
 use ynl_workers::{Gate, Go, Sight};
 
@@ -23,7 +24,8 @@ fn run_once(alloc: Global, looks: u64, writer: &mut Sink) -> Result<Ended, Fail>
         left: ALL_KINDS,
         looks,
     };
-    Ok(run_lines(alloc, built_in(alloc)?, &mut reader, writer).err())
+    let core = Core::open(alloc, built_in(alloc)?)?;
+    Ok(run_lines(alloc, core, &mut reader, writer).err())
 }
 
 /// The replies to all events.

@@ -10,7 +10,8 @@ use Rattle.ynl_config.specs.declared.faults.ConfigFault.{ConfigFault}
 use Rattle.ynl_commands.specs.declared.run.ToolFault.TheVariants.{NoMemory}
 use Rattle.ynl_words.specs.declared.words.SequentialKind.{SequentialKind}
 use Rattle.ynl_words.specs.declared.words.SequentialKind.TheVariants.{Run, Tenant, Audit, Evidence, AuditEvidence, Explain, Save}
-use Rattle.ynl_tool.specs.Jobs.{Doing, Ending, IsIdle, DoesSequentialJob, DoesWith, EndsWithout, LivesJob, TellsJob, AnswersJob, tenancy}
+use Rattle.ynl_words.specs.declared.words.Question.{Question}
+use Rattle.ynl_tool.specs.Jobs.{Doing, Ending, IsIdle, DoesSequentialJob, DoesWith, EndsWithout, AuditsJob, ExplainsJob, LivesJob, RunsJob, SavesJob, TellsJob, AnswersJob, tenancy}
 use Rattle.ynl_commands.specs.Input.{between}
 use Rattle.ynl_commands.proofs.Runs.{stops_at_once}
 use Rattle.ynl_commands.specs.Audit.{audit_way, journal_way}
@@ -32,6 +33,22 @@ module _ (old wold : Option (List ℕ)) where
   idle_answer w answer true = inl (record { read = nothing_read w old NoMemory; unwritten = Appends-nil wold })
   idle_answer w answer false = (refl, idle)
 
+  -- a run
+  pub idle_run : (c : Config) → RunsJob (between old old) (between wold wold) c (Err NoMemory)
+  idle_run c = stops_at_once old wold c (opening c)
+
+  -- an audit
+  pub idle_audit : (c : Config) → AuditsJob (between old old) (between wold wold) c (Err NoMemory)
+  idle_audit c = inl (record { read = nothing_read (audit_way c (opening c)) old NoMemory; unwritten = Appends-nil wold })
+
+  -- saving a state
+  pub idle_save : (c : Config) → SavesJob (between old old) (between wold wold) c (Err NoMemory)
+  idle_save c = inl (record { read = nothing_read script_way old NoMemory; unwritten = Appends-nil wold })
+
+  -- explaining
+  pub idle_explain : (c : Config) (q : Question) → ExplainsJob (between old old) (between wold wold) c q (Err NoMemory)
+  idle_explain c q = inl (record { read = nothing_read script_way old NoMemory; unwritten = Appends-nil wold })
+
   -- nothing was read or written for want of memory
   IdlesAt : Doing → Type 0
   IdlesAt job = (c : Config) → job (between old old) (between wold wold) c (Err NoMemory)
@@ -45,13 +62,13 @@ module _ (old wold : Option (List ℕ)) where
 
   idle_job : (kind : SequentialKind) → IdlesAt (DoesSequentialJob true kind)
   unfolding IdlesAt
-  idle_job Run = λ c. stops_at_once old wold c (opening c)
+  idle_job Run = idle_run
   idle_job (Tenant t p) = λ c. idle_by c t p (is_sole c t p)
-  idle_job Audit = λ c. inl (record { read = nothing_read (audit_way c) old NoMemory; unwritten = Appends-nil wold })
+  idle_job Audit = idle_audit
   idle_job (Evidence t p) = λ c. idle_answer journal_way (evidence_answer (tenancy c t p)) (is_sole c t p)
   idle_job (AuditEvidence t p) = λ c. idle_answer (evidence_way (tenancy c t p)) placed_answer (is_sole c t p)
-  idle_job Save = λ c. inl (record { read = nothing_read script_way old NoMemory; unwritten = Appends-nil wold })
-  idle_job (Explain q) = λ c. inl (record { read = nothing_read script_way old NoMemory; unwritten = Appends-nil wold })
+  idle_job Save = idle_save
+  idle_job (Explain q) = λ c. idle_explain c q
 
   idle_live : (rounds : ℕ) → IdlesAt (LivesJob rounds)
   unfolding IdlesAt

@@ -98,24 +98,24 @@ RunsJob reader writer c (Ok (Ok summary)) = Runs reader writer c (opening c) (Ok
 RunsJob reader writer c (Ok (Err refusal)) = ⊥
 RunsJob reader writer c (Err e) = Runs reader writer c (opening c) (Err e)
 
--- an audit against a cluster of this configuration
+-- an audit against a cluster of this configuration, from its opening state
 abbrev pub AuditsJob : Stream → Stream → Configured → Ending → Type 0
-AuditsJob reader writer c (Ok (Ok summary)) = AuditsJournal reader writer c (Ok summary)
+AuditsJob reader writer c (Ok (Ok summary)) = AuditsJournal reader writer c (opening c) (Ok summary)
 AuditsJob reader writer c (Ok (Err refusal)) = ⊥
-AuditsJob reader writer c (Err e) = AuditsJournal reader writer c (Err e)
+AuditsJob reader writer c (Err e) = AuditsJournal reader writer c (opening c) (Err e)
 
--- why a tenant's application waits is told
+-- why a tenant's application waits is told, after a script from the opening state
 abbrev pub ExplainsJob : Stream → Stream → Configured → Question → Ending → Type 0
-ExplainsJob reader writer c q (Ok (Ok summary)) = Explains reader writer c q (Ok summary)
+ExplainsJob reader writer c q (Ok (Ok summary)) = Explains reader writer c (opening c) q (Ok summary)
 ExplainsJob reader writer c q (Ok (Err refusal)) = ⊥
-ExplainsJob reader writer c q (Err e) = Explains reader writer c q (Err e)
+ExplainsJob reader writer c q (Err e) = Explains reader writer c (opening c) q (Err e)
 
--- the state after a script is written; where its text would be too long that is told
+-- the state after a script from the opening state is written; where its text would be too long that is told
 abbrev pub SavesJob : Stream → Stream → Configured → Ending → Type 0
-SavesJob reader writer c (Ok (Ok summary)) = SavesScript reader writer c (Ok (Ok summary))
-SavesJob reader writer c (Ok (Err (State fault))) = SavesScript reader writer c (Ok (Err fault))
+SavesJob reader writer c (Ok (Ok summary)) = SavesScript reader writer c (opening c) (Ok (Ok summary))
+SavesJob reader writer c (Ok (Err (State fault))) = SavesScript reader writer c (opening c) (Ok (Err fault))
 SavesJob reader writer c (Ok (Err refusal)) = ⊥
-SavesJob reader writer c (Err e) = SavesScript reader writer c (Err e)
+SavesJob reader writer c (Err e) = SavesScript reader writer c (opening c) (Err e)
 
 -- what a tenant's partition sees is told, where the tenant is alone there
 abbrev pub TellsJob : Stream → Stream → Bool → Configured → Name → Label → Bool → Ending → Type 0

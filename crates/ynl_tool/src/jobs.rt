@@ -5,7 +5,7 @@ ghost use Rattle.ynl_config.specs.Meaning.{config_of};
 ghost use Rattle.ynl_model.specs.Accepted.{is_accepted};
 ghost use Rattle.ynl_commands.specs.Input.{between};
 ghost use Rattle.ynl_commands.specs.Lines.{AppendsFront};
-ghost use Rattle.ynl_tool.specs.Jobs.{error_line, config_line, refusal_line, state_line, status_by, status_of, tenancy, AuditsEvidenceJob, DoesSequentialJob, DoesText, EndsWithout, Executes, HandsJob, LivesJob, Tells};
+ghost use Rattle.ynl_tool.specs.Jobs.{error_line, config_line, refusal_line, state_line, status_by, status_of, tenancy, AuditsEvidenceJob, AuditsJob, DoesSequentialJob, DoesText, EndsWithout, Executes, ExplainsJob, HandsJob, LivesJob, RunsJob, SavesJob, Tells};
 ghost use Rattle.ynl_tool.specs.Checking.{verdict_status, ExecutesCheck};
 
 use crate::checking::check_text;
@@ -22,11 +22,12 @@ use ynl_commands::{
     run_lines, save_lines, tenant_lines,
 };
 use ynl_config::{ConfigFault, read_config};
+use ynl_core::Core;
 use ynl_queues::Config;
 use ynl_resource::{HashSeed, Label, Name};
 use ynl_saved_text::StateFault;
 use ynl_view::sole;
-use ynl_words::{SequentialKind, Workers};
+use ynl_words::{Question, SequentialKind, Workers};
 
 /// Why a job is not begun, or comes to nothing: nothing is written then.
 #[derive(Clone, Copy, Debug, PartialEq, Eq, Error)]
@@ -137,6 +138,72 @@ fn audit_evidence<R: BufRead, W: Write>(
     }
 }
 
+/// Runs a cluster of this configuration, from its opening state.
+fn run_job<R: BufRead, W: Write>(
+    alloc: Global,
+    config: Config,
+    reader: &mut R,
+    writer: &mut W,
+) -> Ending
+    ensures { RunsJob (between (R.remaining reader.old) (R.remaining reader.new)) (between (W.contents writer.old) (W.contents writer.new)) config result }
+{
+    let core = Core::open(alloc, config)?;
+    match run_lines(alloc, core, reader, writer) {
+        Ok(summary) => Ok(Ok(summary)),
+        Err(fault) => Err(fault),
+    }
+}
+
+/// Audits a journal against a cluster of this configuration, from its opening state.
+fn audit_job<R: BufRead, W: Write>(
+    alloc: Global,
+    config: Config,
+    reader: &mut R,
+    writer: &mut W,
+) -> Ending
+    ensures { AuditsJob (between (R.remaining reader.old) (R.remaining reader.new)) (between (W.contents writer.old) (W.contents writer.new)) config result }
+{
+    let core = Core::open(alloc, config)?;
+    match audit_lines(alloc, core, reader, writer) {
+        Ok(summary) => Ok(Ok(summary)),
+        Err(fault) => Err(fault),
+    }
+}
+
+/// Saves the state of a cluster of this configuration after a script, from its opening state.
+fn save_job<R: BufRead, W: Write>(
+    alloc: Global,
+    config: Config,
+    reader: &mut R,
+    writer: &mut W,
+) -> Ending
+    ensures { SavesJob (between (R.remaining reader.old) (R.remaining reader.new)) (between (W.contents writer.old) (W.contents writer.new)) config result }
+{
+    let core = Core::open(alloc, config)?;
+    match save_lines(alloc, core, reader, writer) {
+        Ok(Ok(summary)) => Ok(Ok(summary)),
+        Ok(Err(fault)) => Ok(Err(JobRefusal::State(fault))),
+        Err(fault) => Err(fault),
+    }
+}
+
+/// Explains why an application waits in a cluster of this configuration after a script, from its opening state.
+fn explain_job<R: BufRead, W: Write>(
+    alloc: Global,
+    config: Config,
+    question: &Question,
+    reader: &mut R,
+    writer: &mut W,
+) -> Ending
+    ensures { ExplainsJob (between (R.remaining reader.old) (R.remaining reader.new)) (between (W.contents writer.old) (W.contents writer.new)) config question.now result }
+{
+    let core = Core::open(alloc, config)?;
+    match explain_lines(alloc, core, question, reader, writer) {
+        Ok(summary) => Ok(Ok(summary)),
+        Err(fault) => Err(fault),
+    }
+}
+
 /// Does the job with a cluster of this configuration.
 fn do_job<R: BufRead, W: Write>(
     alloc: Global,
@@ -148,10 +215,7 @@ fn do_job<R: BufRead, W: Write>(
     ensures { DoesSequentialJob (is_accepted config) kind (between (R.remaining reader.old) (R.remaining reader.new)) (between (W.contents writer.old) (W.contents writer.new)) config result }
 {
     match kind {
-        SequentialKind::Run => match run_lines(alloc, config, reader, writer) {
-            Ok(summary) => Ok(Ok(summary)),
-            Err(fault) => Err(fault),
-        },
+        SequentialKind::Run => run_job(alloc, config, reader, writer),
         SequentialKind::Tenant(tenant, label) => {
             if !sole(&config, &tenant, &label) {
                 return Ok(Err(JobRefusal::NotSole));
@@ -161,10 +225,7 @@ fn do_job<R: BufRead, W: Write>(
                 Err(fault) => Err(fault),
             }
         }
-        SequentialKind::Audit => match audit_lines(alloc, config, reader, writer) {
-            Ok(summary) => Ok(Ok(summary)),
-            Err(fault) => Err(fault),
-        },
+        SequentialKind::Audit => audit_job(alloc, config, reader, writer),
         SequentialKind::Evidence(tenant, label) => {
             let whose = tenancy(config, tenant, label);
             hand_evidence(alloc, &whose, reader, writer)
@@ -173,17 +234,8 @@ fn do_job<R: BufRead, W: Write>(
             let whose = tenancy(config, tenant, label);
             audit_evidence(alloc, &whose, reader, writer)
         }
-        SequentialKind::Save => match save_lines(alloc, config, reader, writer) {
-            Ok(Ok(summary)) => Ok(Ok(summary)),
-            Ok(Err(fault)) => Ok(Err(JobRefusal::State(fault))),
-            Err(fault) => Err(fault),
-        },
-        SequentialKind::Explain(question) => {
-            match explain_lines(alloc, config, &question, reader, writer) {
-                Ok(summary) => Ok(Ok(summary)),
-                Err(fault) => Err(fault),
-            }
-        }
+        SequentialKind::Save => save_job(alloc, config, reader, writer),
+        SequentialKind::Explain(question) => explain_job(alloc, config, &question, reader, writer),
     }
 }
 

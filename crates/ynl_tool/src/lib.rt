@@ -7,7 +7,7 @@ pub use jobs::{execute_check, execute_live, execute_sequential, tell};
 pub use live::live_lines;
 pub use ynl_check::{Form, Verdict};
 pub use ynl_commands::{
-    Script, Summary, Tenancy, ToolFault, audit_evidence_lines, audit_laws, audit_lines,
+    Script, Summary, Tenancy, ToolFault, audit_evidence_lines, audit_laws, audit_lines, cut_laws,
     evidence_laws, evidence_lines, explain_lines, read_script, run_lines, save_lines, tenant_lines,
 };
 pub use ynl_config::BUILT_IN;

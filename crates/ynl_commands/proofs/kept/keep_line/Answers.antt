@@ -1,5 +1,5 @@
 use Rattle.std.proofs.Common.{◌≡◌, false, [], ◌∷◌, ◌++◌, None, Ok, ap, sym, subst, ◌∙◌}
-use Rattle.ynl_commands.specs.Input.{is_blank}
+use Rattle.ynl_fields.specs.Reading.{is_blank}
 use Rattle.ynl_commands.specs.Keeping.{KeepsLine, SaysEvent}
 use Rattle.ynl_commands.proofs.Keepings.{kept_event}
 use Rattle.ynl_commands.proofs.kept.keep_line.Goals as goal

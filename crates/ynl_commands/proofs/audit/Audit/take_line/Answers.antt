@@ -14,4 +14,4 @@ returns-then-branch-2-clause-passes c =
     let said = subst (λ r. Gives (entry_if c.says_entry.new.lines) r (entry_said c.args.self.now.entries c.args.line.now)) found c.in_ok-says_entry.ensures.said in
     let says : Ok (Some entry) ≡ entry_said c.args.self.now.entries c.args.line.now = ap (λ e. Ok (Some e)) lent ∙ sym said in
     let takes : TakesEntry c.args.self.now entry c.take.new.self true = subst (TakesEntry c.args.self.now entry c.take.new.self) c.if-branch-2.true c.in_ok-take-in-Ok-true.ensures.taken in
-    λ k entries is. passes k entries c.args.self.now c.args.line.now is c.take.new.self entry says takes
+    λ k s entries is. passes k s entries c.args.self.now c.args.line.now is c.take.new.self entry says takes
