@@ -27,11 +27,12 @@ use Rattle.clap.specs.declared.parser.matches.ArgMatches.{ArgMatches}
 use Rattle.clap.specs.declared.parser.matches.ArgMatches.TheViews.{out-SubCommand}
 use Rattle.clap.specs.declared.parser.matches.SubCommand.{SubCommand}
 use Rattle.clap.proofs.OnLiterals.{clap_on_literals}
+use Rattle.ynl_words.specs.declared.words.Kind.{Kind}
 use Rattle.ynl_words.specs.declared.words.Kind.TheVariants.{Sequential}
 use Rattle.ynl_words.specs.declared.words.SequentialKind.TheVariants.{Run, Audit, AuditEvidence}
 use Rattle.ynl_words.specs.declared.words.WordsFault.{WordsFault}
 use Rattle.ynl_words.specs.declared.words.WordsFault.TheVariants.{Words, NoMemory}
-use Rattle.ynl_words.specs.Words.{command, has_option, is_number, is_unpaired, label_in, name_in, number_of, kind_met, kind_of}
+use Rattle.ynl_words.specs.Words.{command, has_option, is_from_with_tenant, is_number, is_unpaired, label_in, name_in, number_of, kind_met, kind_of}
 
 pub taken : (words : List Text) → drop 1 words ≡ codes "run" ∷ [] → takes command words ≡ true
 unfolding clap_on_literals
@@ -109,16 +110,38 @@ zip-none : (o : Option Name) → option_map (λ (p : Name × Label). Sequential 
 zip-none None = refl
 zip-none (Some name) = refl
 
--- with the tenant or the label alone an audit asks for nothing
-audit-none : (a b : Option Text) → ((is_some a && not (is_some b)) || (not (is_some a) && is_some b)) ≡ true
-    → cond (not (is_some a) && not (is_some b)) (Some (Sequential Audit)) (option_map (λ (p : Name × Label). Sequential (AuditEvidence p.0 p.1)) (option_zip (option_and_then name_in a) (option_and_then label_in b))) ≡ None
-audit-none None None h = absurd (true≢false (sym h))
-audit-none (Some x) None h = zip-none (name_in x)
-audit-none None (Some y) h = refl
-audit-none (Some x) (Some y) h = absurd (true≢false (sym h))
+-- what an audit asks for, by its tenant, its label and whether it is given a state
+abbrev audit-asked : Option Text → Option Text → Bool → Option Kind
+audit-asked a b from =
+    cond (not (is_some a) && not (is_some b)) (Some (Sequential Audit)) (cond from None (option_map (λ (p : Name × Label). Sequential (AuditEvidence p.0 p.1)) (option_zip (option_and_then name_in a) (option_and_then label_in b))))
 
+-- with the tenant or the label alone an audit asks for nothing
+audit-none : (a b : Option Text) (from : Bool) → ((is_some a && not (is_some b)) || (not (is_some a) && is_some b)) ≡ true → audit-asked a b from ≡ None
+audit-none None None from h = absurd (true≢false (sym h))
+audit-none (Some x) None true h = refl
+audit-none (Some x) None false h = zip-none (name_in x)
+audit-none None (Some y) true h = refl
+audit-none None (Some y) false h = refl
+audit-none (Some x) (Some y) from h = absurd (true≢false (sym h))
+
+-- the same of the words' subcommand
 pub unpaired-none : (met : Text × List Row) → is_unpaired met ≡ true → kind_met met ≡ None
 unpaired-none met h =
     let parts = and_parts (bytes_eq met.0 (codes "audit")) ((has_option (codes "tenant") met.1 && not (has_option (codes "label") met.1)) || (not (has_option (codes "tenant") met.1) && has_option (codes "label") met.1)) h in
     let named : met.0 ≡ codes "audit" = (bytes_decides met.0 (codes "audit")).0 parts.0 in
-    ap (λ (name : Text). kind_met (name, met.1)) named ∙ audit-none (first_of (codes "tenant") met.1) (first_of (codes "label") met.1) parts.1
+    ap (λ (name : Text). kind_met (name, met.1)) named ∙ audit-none (first_of (codes "tenant") met.1) (first_of (codes "label") met.1) (has_option (codes "from") met.1) parts.1
+
+-- ---- an audit of evidence from a state
+
+-- with a state and the tenant an audit asks for nothing
+from-none : (a b : Option Text) (from : Bool) → (from && is_some a) ≡ true → audit-asked a b from ≡ None
+from-none a b false h = absurd (true≢false (sym h))
+from-none None b true h = absurd (true≢false (sym h))
+from-none (Some x) b true h = refl
+
+-- the same of the words' subcommand
+pub from_with_tenant-none : (met : Text × List Row) → is_from_with_tenant met ≡ true → kind_met met ≡ None
+from_with_tenant-none met h =
+    let parts = and_parts (bytes_eq met.0 (codes "audit")) (has_option (codes "from") met.1 && has_option (codes "tenant") met.1) h in
+    let named : met.0 ≡ codes "audit" = (bytes_decides met.0 (codes "audit")).0 parts.0 in
+    ap (λ (name : Text). kind_met (name, met.1)) named ∙ from-none (first_of (codes "tenant") met.1) (first_of (codes "label") met.1) (has_option (codes "from") met.1) parts.1

@@ -22,6 +22,10 @@ use Rattle.ynl_words.specs.declared.words.SequentialKind.TheVariants.{Run, Tenan
 abbrev pub config_rule : Rule
 config_rule = record (new_rule (codes "config")) { long = Some (codes "config"); value_names = 1 }
 
+-- the option `--from FILE`
+abbrev pub from_rule : Rule
+from_rule = record (new_rule (codes "from")) { long = Some (codes "from"); value_names = 1 }
+
 -- the option `--tenant NAME`, which is required
 abbrev pub tenant_rule : Rule
 tenant_rule = record (new_rule (codes "tenant")) { long = Some (codes "tenant"); value_names = 1; required = true }
@@ -46,13 +50,21 @@ rounds_rule = record (new_rule (codes "rounds")) { long = Some (codes "rounds");
 abbrev pub plain_rule : Rule
 plain_rule = record (new_rule (codes "plain")) { long = Some (codes "plain"); action = Some SetTrue }
 
+-- a subcommand with the options that name the files of the configuration and of the state to begin from
+abbrev pub with_files : App → App
+with_files a = with_rule (with_rule a config_rule) from_rule
+
 -- the subcommand `run`
 abbrev pub run_command : App
-run_command = with_rule (new_app (codes "run")) config_rule
+run_command = with_files (new_app (codes "run"))
 
 -- a subcommand with two options more, and behind them the one that names the configuration
 abbrev pub with_options : App → Rule → Rule → App
 with_options a first second = with_rule (with_rule (with_rule a first) second) config_rule
+
+-- a subcommand with two options more, and behind them those that name the files
+abbrev pub with_options_and_files : App → Rule → Rule → App
+with_options_and_files a first second = with_files (with_rule (with_rule a first) second)
 
 -- the subcommand `tenant`
 abbrev pub tenant_command : App
@@ -68,7 +80,7 @@ audit_label_rule = record (new_rule (codes "label")) { long = Some (codes "label
 
 -- the subcommand `audit`
 abbrev pub audit_command : App
-audit_command = with_options (new_app (codes "audit")) audit_tenant_rule audit_label_rule
+audit_command = with_options_and_files (new_app (codes "audit")) audit_tenant_rule audit_label_rule
 
 -- the subcommand `evidence`
 abbrev pub evidence_command : App
@@ -76,11 +88,11 @@ evidence_command = with_options (new_app (codes "evidence")) tenant_rule label_r
 
 -- the subcommand `explain`
 abbrev pub explain_command : App
-explain_command = with_options (with_rule (new_app (codes "explain")) tenant_rule) app_rule plain_rule
+explain_command = with_options_and_files (with_rule (new_app (codes "explain")) tenant_rule) app_rule plain_rule
 
 -- the subcommand `save`
 abbrev pub save_command : App
-save_command = with_rule (new_app (codes "save")) config_rule
+save_command = with_files (new_app (codes "save"))
 
 -- the subcommand `check`
 abbrev pub check_command : App
@@ -122,9 +134,17 @@ command = with_subcommand command_of_checks live_command.top
 abbrev pub file_met : Text × List Row → Option Text
 file_met met = first_of (codes "config") met.1
 
--- the file that the words name
+-- the file that the words name for the configuration
 abbrev pub file_of : List Text → Option Text
 file_of words = option_and_then file_met (subcommand_of command words)
+
+-- the file that the options of a subcommand name for the state to begin from, where they name one
+abbrev pub from_met : Text × List Row → Option Text
+from_met met = first_of (codes "from") met.1
+
+-- the file that the words name for that state
+abbrev pub from_of : List Text → Option Text
+from_of words = option_and_then from_met (subcommand_of command words)
 
 -- the name that a text is
 abbrev pub name_in : Text → Option Name
@@ -162,10 +182,11 @@ evidence_met rows = option_map (λ p. Sequential (Evidence p.0 p.1)) (partition_
 abbrev pub has_option : Text → List Row → Bool
 has_option option rows = is_some (first_of option rows)
 
--- what `audit` asks for with its options: without tenant and label the audit of a journal, and else that of evidence
+-- what `audit` asks for with its options: without tenant and label the audit of a journal, and else that of evidence, which no state goes with
 abbrev pub audit_met : List Row → Option Kind
 audit_met rows =
     if not (has_option (codes "tenant") rows) && not (has_option (codes "label") rows) then Some (Sequential Audit)
+    else if has_option (codes "from") rows then None
     else option_map (λ p. Sequential (AuditEvidence p.0 p.1)) (partition_met rows)
 
 -- whether an audit is given the tenant or the label alone
@@ -173,6 +194,11 @@ abbrev pub is_unpaired : Text × List Row → Bool
 is_unpaired met =
     bytes_eq met.0 (codes "audit")
     && ((has_option (codes "tenant") met.1 && not (has_option (codes "label") met.1)) || (not (has_option (codes "tenant") met.1) && has_option (codes "label") met.1))
+
+-- whether an audit of evidence is given a state to begin from
+abbrev pub is_from_with_tenant : Text × List Row → Bool
+is_from_with_tenant met =
+    bytes_eq met.0 (codes "audit") && (has_option (codes "from") met.1 && has_option (codes "tenant") met.1)
 
 -- a question on a tenant's application
 abbrev pub question : Form → Name × Name → Question
@@ -243,3 +269,7 @@ HasBadName words = (met : Text × List Row) × (subcommand_of command words ≡ 
 -- a subcommand was found that is an audit, which is given the tenant or the label alone
 abbrev pub IsUnpaired : List Text → Type 0
 IsUnpaired words = (met : Text × List Row) × (subcommand_of command words ≡ Some met) × (is_unpaired met ≡ true)
+
+-- a subcommand was found that is an audit of evidence, which is given a state to begin from
+abbrev pub IsFromWithTenant : List Text → Type 0
+IsFromWithTenant words = (met : Text × List Row) × (subcommand_of command words ≡ Some met) × (is_from_with_tenant met ≡ true)

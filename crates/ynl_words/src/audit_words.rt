@@ -7,7 +7,9 @@ ghost use Rattle.clap.specs.Words.{found_of, rows_of};
 ghost use Rattle.clap.specs.declared.builder.command.Command.TheViews.{out-Command as fields_of};
 ghost use Rattle.ynl_words.specs.Words as spec;
 
-use crate::options::{label_option, partition_in, tenant_option, value_in, with_options};
+use crate::options::{
+    label_option, partition_in, tenant_option, value_in, with_options, with_options_and_files,
+};
 use crate::words::{Kind, SequentialKind};
 use clap::{Arg, ArgMatches, Command};
 use std::alloc::{AllocError, Global};
@@ -34,6 +36,10 @@ cluster's; and with size the line with which the input gets longer than 67108864
 
   {\"fault\":\"differs\",\"line\":4}
 
+With --from the cluster begins from the state in that file, as save wrote it, and not from its
+opening state, and a fault of that text is told as for run. The places in the journal begin at 0
+then too. --from and --tenant do not go together.
+
 With --tenant and --label standard input is what evidence writes for them. Its places rise, each of its
 events is one that the tenant's own partition sees, by the events before it, and the replies are compared
 with those of a cluster that holds the tenant alone. Any other line is bad.
@@ -41,12 +47,13 @@ with those of a cluster that holds the tenant alone. Any other line is bad.
 Exit status:
   0  all replies agree
   1  a line is bad, or the input is too long; or the tenant is not alone on the partition, or the
-     configuration has a fault, as a line on standard error tells: nothing is read
+     configuration or the state has a fault, as a line on standard error tells: nothing is read
   2  the words of the command line are wrong, or ask for help; or the tenant is no name, or the label
   3  reading, writing or memory failed, as a line on standard error tells
 
 Examples:
   ynl audit --config cluster.toml < journal
+  ynl audit --from state --config cluster.toml < journal
   ynl audit --tenant eng --label gpu --config cluster.toml < evidence";
 
 const EVIDENCE_ABOUT: &str = "Hands a tenant what its own partition sees of a journal";
@@ -106,7 +113,7 @@ pub(crate) fn audit_command<'a>(alloc: Global) -> Result<Command<'a>, AllocError
     let bare = Command::new(alloc, "audit")
         .about(AUDIT_ABOUT)
         .after_help(AUDIT_AFTER);
-    with_options(
+    with_options_and_files(
         alloc,
         bare,
         audit_tenant_option(alloc),
@@ -137,7 +144,19 @@ pub(crate) fn is_unpaired(subcommand: &str, options: &ArgMatches<'_>) -> bool
     (tenant && !label) || (!tenant && label)
 }
 
-/// What `audit` asks for with these options, unless one of them is a bad name or is given alone.
+/// Whether an audit of evidence is given a state to begin from.
+pub(crate) fn is_from_with_tenant(subcommand: &str, options: &ArgMatches<'_>) -> bool
+    ensures { result ≡ spec.is_from_with_tenant (subcommand.now, rows_of (found_of options.now)) }
+{
+    if subcommand != "audit" {
+        return false;
+    }
+    let from = value_in(options, "from").is_some();
+    let tenant = value_in(options, "tenant").is_some();
+    from && tenant
+}
+
+/// What `audit` asks for with these options, unless one of them is a bad name, or they do not go together.
 pub(crate) fn audit_kind(options: &ArgMatches<'_>) -> Option<Kind>
     ensures { result ≡ spec.audit_met (rows_of (found_of options.now)) }
 {
@@ -145,6 +164,9 @@ pub(crate) fn audit_kind(options: &ArgMatches<'_>) -> Option<Kind>
     let label = value_in(options, "label").is_some();
     if !tenant && !label {
         return Some(Kind::Sequential(SequentialKind::Audit));
+    }
+    if value_in(options, "from").is_some() {
+        return None;
     }
     let (tenant, label) = partition_in(options)?;
     Some(Kind::Sequential(SequentialKind::AuditEvidence(tenant, label)))

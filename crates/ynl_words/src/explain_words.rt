@@ -7,7 +7,9 @@ ghost use Rattle.clap.specs.Words.{found_of, rows_of};
 ghost use Rattle.clap.specs.declared.builder.command.Command.TheViews.{out-Command as fields_of};
 ghost use Rattle.ynl_words.specs.Words as spec;
 
-use crate::options::{form_in, name_in, plain_option, tenant_option, value_in, with_options};
+use crate::options::{
+    form_in, name_in, plain_option, tenant_option, value_in, with_options_and_files,
+};
 use crate::words::{Kind, Question, SequentialKind};
 use clap::{Arg, ArgMatches, Command};
 use std::alloc::{AllocError, Global};
@@ -33,10 +35,13 @@ With --plain each request has a line for a reader, and below it a sentence for e
 A line that is no event ends the input: nothing is explained then, and the one line of the output tells
 its fault, as for run.
 
+With --from the cluster begins from the state in that file, as save wrote it, and not from its
+opening state, and a fault of that text is told as for run.
+
 Exit status:
   0  all was told
-  1  a line of the input is no event, or the input is too long; or the configuration has a fault, as a
-     line on standard error tells: nothing is read
+  1  a line of the input is no event, or the input is too long; or the configuration or the state
+     has a fault, as a line on standard error tells: nothing is read
   2  the words of the command line are wrong, or ask for help; or the tenant is no name, or the
      application
   3  reading, writing or memory failed, as a line on standard error tells
@@ -77,7 +82,7 @@ pub(crate) fn explain_command<'a>(alloc: Global) -> Result<Command<'a>, AllocErr
     ensures local { IfOk result (λ c. (fields_of c).has_globals ≡ false) }
 {
     let named = explain_named(alloc)?;
-    with_options(
+    with_options_and_files(
         alloc,
         named,
         app_option(alloc),

@@ -16,6 +16,8 @@ use ynl_resource::{Label, Name};
 const CONFIG_HELP: &str =
     "The configuration, a TOML text, of which ynl check tells what it says or where its fault is; without it there is one queue, root.eng, and one label, gpu";
 
+const FROM_HELP: &str = "The state to begin from, as ynl save wrote it, and not the opening state";
+
 const TENANT_HELP: &str = "The tenant, by the name of its top-level queue";
 
 const LABEL_HELP: &str = "The label of its partition";
@@ -29,6 +31,17 @@ pub(crate) fn config_option<'a>(alloc: Global) -> Arg<'a>
         .long("config")
         .value_name("FILE")
         .help(CONFIG_HELP)
+}
+
+/// The option that names the file of the state to begin from.
+fn from_option<'a>(alloc: Global) -> Arg<'a>
+    ensures rule { rule_of result ≡ spec.from_rule }
+    ensures local { result.global ≡ false }
+{
+    Arg::new(alloc, "from")
+        .long("from")
+        .value_name("FILE")
+        .help(FROM_HELP)
 }
 
 /// The option that names the tenant.
@@ -98,6 +111,33 @@ pub(crate) fn with_options<'a>(
 {
     let config = config_option(alloc);
     with_two(command, first, second)?.arg(config)
+}
+
+/// The subcommand with the options that name the files of the configuration and of the state to begin from.
+pub(crate) fn with_files<'a>(alloc: Global, command: Command<'a>) -> Result<Command<'a>, AllocError>
+    requires command { (fields_of command).has_globals ≡ false }
+    ensures app { IfOk result (λ c. app_of c ≡ spec.with_files (app_of command.entry)) }
+    ensures local { IfOk result (λ c. (fields_of c).has_globals ≡ false) }
+{
+    with_two(command, config_option(alloc), from_option(alloc))
+}
+
+/// The subcommand with two options more, and behind them those that name the files.
+pub(crate) fn with_options_and_files<'a>(
+    alloc: Global,
+    command: Command<'a>,
+    first: Arg<'a>,
+    second: Arg<'a>,
+) -> Result<Command<'a>, AllocError>
+    requires command { (fields_of command).has_globals ≡ false }
+    requires first { first.global ≡ false }
+    requires second { second.global ≡ false }
+    ensures app { IfOk result (λ c. app_of c
+        ≡ spec.with_options_and_files (app_of command.entry) (rule_of first.entry) (rule_of second.entry)) }
+    ensures local { IfOk result (λ c. (fields_of c).has_globals ≡ false) }
+{
+    let longer = with_two(command, first, second)?;
+    with_files(alloc, longer)
 }
 
 /// The text that an option is given.

@@ -5,7 +5,7 @@ ghost use Rattle.clap.specs.Simple.{app_of};
 ghost use Rattle.clap.specs.declared.builder.command.Command.TheViews.{out-Command as fields_of};
 ghost use Rattle.ynl_words.specs.Words as spec;
 
-use crate::options::config_option;
+use crate::options::with_files;
 use clap::Command;
 use std::alloc::{AllocError, Global};
 
@@ -27,24 +27,31 @@ application there is the name, since that stays used.
 A line that is no event ends the input: nothing is saved then, and the one line of the output tells its
 fault, as for run.
 
+With --from the cluster begins from the state in that file, as save wrote it, and not from its
+opening state, and a fault of that text is told as for run. So an input can be cut in two: what is
+saved after its second part, from the state after its first, is what is saved after the whole.
+
 Exit status:
   0  the state was written
   1  a line of the input is no event, or the input is too long; or the state's text would be longer than
-     268435456 bytes, or the configuration has a fault, as a line on standard error tells
+     268435456 bytes, or the configuration or the state to begin from has a fault, as a line on
+     standard error tells
   2  the words of the command line are wrong, or ask for help
   3  reading, writing or memory failed, as a line on standard error tells
 
-Example:
-  ynl save --config cluster.toml < events > state";
+Examples:
+  ynl save --config cluster.toml < events > state
+  ynl save --from state --config cluster.toml < more > later";
 
 /// The subcommand `save`.
 pub(crate) fn save_command<'a>(alloc: Global) -> Result<Command<'a>, AllocError>
     ensures app { IfOk result (λ c. app_of c ≡ spec.save_command) }
     ensures local { IfOk result (λ c. (fields_of c).has_globals ≡ false) }
 {
-    let config = config_option(alloc);
-    Command::new(alloc, "save")
-        .about(SAVE_ABOUT)
-        .after_help(SAVE_AFTER)
-        .arg(config)
+    with_files(
+        alloc,
+        Command::new(alloc, "save")
+            .about(SAVE_ABOUT)
+            .after_help(SAVE_AFTER),
+    )
 }

@@ -13,14 +13,16 @@ ghost use Rattle.clap.specs.declared.error.Error.{Error};
 ghost use Rattle.clap.specs.Words.{found_of, rows_of};
 ghost use Rattle.clap.specs.declared.builder.command.Command.TheViews.{out-Command as fields_of};
 ghost use Rattle.ynl_words.specs.Words as spec;
-ghost use Rattle.ynl_words.specs.declared.words.WordsFault.TheVariants.{Words, BadName, Unpaired, NoMemory};
+ghost use Rattle.ynl_words.specs.declared.words.WordsFault.TheVariants.{Words, BadName, Unpaired, FromWithTenant, NoMemory};
 
-use crate::audit_words::{audit_command, audit_kind, evidence_command, evidence_kind, is_unpaired};
+use crate::audit_words::{
+    audit_command, audit_kind, evidence_command, evidence_kind, is_from_with_tenant, is_unpaired,
+};
 use crate::check_words::{check_command, check_kind};
 use crate::explain_words::{explain_command, explain_kind};
 use crate::live_words::{Workers, live_command, live_kind};
 use crate::options::{
-    config_option, label_option, partition_in, tenant_option, value_in, with_options,
+    label_option, partition_in, tenant_option, value_in, with_files, with_options,
 };
 use crate::save_words::save_command;
 use clap::error::ErrorKind;
@@ -74,6 +76,8 @@ pub struct Job<'a> {
     pub kind: Kind,
     /// The file of the configuration, where one is named.
     pub config: Option<&'a str>,
+    /// The file of the state that the cluster begins from, where one is named.
+    pub from: Option<&'a str>,
 }
 
 /// Why the words give no job.
@@ -88,6 +92,9 @@ pub enum WordsFault {
     /// Of the tenant and the label of an audit one is given alone.
     #[error("--tenant and --label go together")]
     Unpaired,
+    /// An audit of evidence is given a state to begin from.
+    #[error("--from and --tenant do not go together")]
+    FromWithTenant,
     /// Memory was refused.
     #[error("out of memory")]
     NoMemory,
@@ -126,8 +133,8 @@ const AFTER: &str = "\
 Exit status:
   0  the input was read to its end
   1  a line of the input is bad, or the input is too long: the last line of the output tells; or the
-     configuration has a fault, a tenant is not alone on its partition, or a state is too long: standard
-     error tells, and of check the output
+     configuration or a state has a fault, a tenant is not alone on its partition, or a state is too
+     long: standard error tells, and of check the output
   2  the words of the command line are wrong, or ask for help
   3  reading, writing or memory failed, or a live scheduler's journal was not closed, as a line on
      standard error tells
@@ -139,6 +146,7 @@ Examples:
   ynl evidence --tenant eng --label gpu < journal
   ynl explain --tenant eng --app j1 < events
   ynl save < events > state
+  ynl run --from state < events > replies
   ynl check --config cluster.toml
   ynl live --workers 4 < events > journal";
 
@@ -162,9 +170,16 @@ A line that is no event ends the run. The last line of the output tells its faul
 {\"fault\":\"syntax\",\"line\":4}; the faults are syntax, event, field, name and range, and size where the
 input is longer than 67108864 bytes.
 
+With --from the cluster begins from the state in that file, as save wrote it, and not from its
+opening state. A fault of that text is told on standard error before the input is read, by its word
+and its line:
+
+  ynl: state: syntax, line 3
+
 Exit status:
   0  every event was answered
-  1  a line of the input is no event, or the input is too long
+  1  a line of the input is no event, or the input is too long; or the configuration or the state
+     has a fault, as a line on standard error tells: nothing is read
   2  the words of the command line are wrong, or ask for help
   3  reading, writing or memory failed, as a line on standard error tells
 
@@ -198,11 +213,12 @@ fn run<'a>(alloc: Global) -> Result<Command<'a>, AllocError>
     ensures app { IfOk result (λ c. app_of c ≡ spec.run_command) }
     ensures local { IfOk result (λ c. (fields_of c).has_globals ≡ false) }
 {
-    let config = config_option(alloc);
-    Command::new(alloc, "run")
-        .about(RUN_ABOUT)
-        .after_help(RUN_AFTER)
-        .arg(config)
+    with_files(
+        alloc,
+        Command::new(alloc, "run")
+            .about(RUN_ABOUT)
+            .after_help(RUN_AFTER),
+    )
 }
 
 /// The subcommand `tenant`.
@@ -338,18 +354,20 @@ fn kind_of(subcommand: &str, options: &ArgMatches<'_>) -> Option<Kind>
     Some(Kind::Sequential(SequentialKind::Run))
 }
 
-/// The job that the words ask for, with the file that `--config` names. The first word is the program's
-/// name. Words that `clap` takes give their job, unless memory is refused, or the tenant or the application
-/// is no name, or the label none, or of the two an audit is given one alone. Of all others its error is told, which has one of the kinds that its definitions
-/// find.
+/// The job that the words ask for, with the files that `--config` and `--from` name. The first word is the
+/// program's name. Words that `clap` takes give their job, unless memory is refused, or the tenant or the
+/// application is no name, or the label none, or of the two an audit is given one alone, or both and a state.
+/// Of all others its error is told, which has one of the kinds that its definitions find.
 pub fn parse_words<'a>(alloc: Global, words: &'a [String]) -> Result<Job<'a>, WordsFault>
     ensures run { drop 1 (map string_bytes words.now) ≡ codes "run" ∷ [] → IfErr result (λ e. e ≡ NoMemory) }
     ensures kind { IfOk result (λ job. spec.kind_of (map string_bytes words.now) ≡ Some job.kind) }
     ensures good { takes spec.command (map string_bytes words.now) ≡ true → is_some (spec.kind_of (map string_bytes words.now)) ≡ true → IfErr result (λ e. e ≡ NoMemory) }
     ensures bad { IfErr result (λ e. e ≡ BadName → spec.HasBadName (map string_bytes words.now)) }
     ensures unpaired { IfErr result (λ e. e ≡ Unpaired → spec.IsUnpaired (map string_bytes words.now)) }
+    ensures mixed { IfErr result (λ e. e ≡ FromWithTenant → spec.IsFromWithTenant (map string_bytes words.now)) }
     ensures words { IfErr result (λ e. (error : Error) → e ≡ Words error → IsAmong (kind_of error) (fault_of spec.command (map string_bytes words.now))) }
     ensures file { IfOk result (λ job. option_map (λ s. s.now) job.config ≡ spec.file_of (map string_bytes words.now)) }
+    ensures from { IfOk result (λ job. option_map (λ s. s.now) job.from ≡ spec.from_of (map string_bytes words.now)) }
     ensures missing { drop 1 (map string_bytes words.now) ≡ [] → IsErr result }
 {
     let matches = command(alloc)?.try_get_matches_from(words)?;
@@ -358,11 +376,15 @@ pub fn parse_words<'a>(alloc: Global, words: &'a [String]) -> Result<Job<'a>, Wo
             if is_unpaired(name, options) {
                 return Err(WordsFault::Unpaired);
             }
+            if is_from_with_tenant(name, options) {
+                return Err(WordsFault::FromWithTenant);
+            }
             let Some(kind) = kind_of(name, options) else {
                 return Err(WordsFault::BadName);
             };
             let config = value_in(options, "config");
-            Ok(Job { kind, config })
+            let from = value_in(options, "from");
+            Ok(Job { kind, config, from })
         }
         // One is required.
         None => unreachable!(),

@@ -9,8 +9,8 @@ use Rattle.clap.specs.Takes.{takes}
 use Rattle.clap.specs.Words.{found_of, rows_of}
 use Rattle.ynl_words.specs.declared.words.Kind.TheVariants.{Sequential}
 use Rattle.ynl_words.specs.declared.words.SequentialKind.TheVariants.{Run}
-use Rattle.ynl_words.specs.Words.{command, kind_met, file_met, kind_of as words_kind}
-use Rattle.ynl_words.proofs.Commands.{taken, command_free, wants_memory, told_by_kind, asks_run, met_of, unpaired-none}
+use Rattle.ynl_words.specs.Words.{command, kind_met, file_met, from_met, kind_of as words_kind}
+use Rattle.ynl_words.proofs.Commands.{taken, command_free, wants_memory, told_by_kind, asks_run, met_of, unpaired-none, from_with_tenant-none}
 use Rattle.ynl_words.proofs.words.parse_words.Goals as goal
 
 pub returns-in_err-matches-clause-run : goal.returns-in_err-matches-clause-run
@@ -57,6 +57,12 @@ returns-clause-file c =
     let met = met_of _ words c.in_ok-matches.matches _ _ c.in_ok-command.ensures.app c.in_ok-matches.ensures.matches c.in-Some.ensures.name c.in-Some.ensures.rows in
     c.value_in-config.ensures ∙ ap (option_and_then file_met) (sym met)
 
+pub returns-clause-from : goal.returns-clause-from
+returns-clause-from c =
+    let words = map string_bytes c.args.words.now in
+    let met = met_of _ words c.in_ok-matches.matches _ _ c.in_ok-command.ensures.app c.in_ok-matches.ensures.matches c.in-Some.ensures.name c.in-Some.ensures.rows in
+    c.value_in-from.ensures ∙ ap (option_and_then from_met) (sym met)
+
 pub returns-in_default-clause-good : goal.returns-in_default-clause-good
 returns-in_default-clause-good c = λ good known.
     let words = map string_bytes c.args.words.now in
@@ -93,5 +99,29 @@ returns-then-is_unpaired-clause-run c = λ same.
     let words = map string_bytes c.args.words.now in
     let met = met_of _ words c.in_ok-matches.matches _ _ c.in_ok-command.ensures.app c.in_ok-matches.ensures.matches c.in-Some.ensures.name c.in-Some.ensures.rows in
     let none : words_kind words ≡ None = ap (option_and_then kind_met) met ∙ unpaired-none (c.in-Some.name.now, rows_of (found_of c.in-Some.options.now)) (sym c.is_unpaired.ensures ∙ c.if-is_unpaired.true) in
+    let asked : None ≡ Some (Sequential Run) = sym none ∙ asks_run words same in
+    absurd (cc)
+
+-- ---- an audit of evidence from a state
+
+pub returns-then-is_from_with_tenant-clause-mixed : goal.returns-then-is_from_with_tenant-clause-mixed
+returns-then-is_from_with_tenant-clause-mixed c = λ _.
+    let words = map string_bytes c.args.words.now in
+    let met = met_of _ words c.in_ok-matches.matches _ _ c.in_ok-command.ensures.app c.in_ok-matches.ensures.matches c.in-Some.ensures.name c.in-Some.ensures.rows in
+    ((c.in-Some.name.now, rows_of (found_of c.in-Some.options.now)), met, sym c.is_from_with_tenant.ensures ∙ c.if-is_from_with_tenant.true)
+
+pub returns-then-is_from_with_tenant-clause-good : goal.returns-then-is_from_with_tenant-clause-good
+returns-then-is_from_with_tenant-clause-good c = λ good known.
+    let words = map string_bytes c.args.words.now in
+    let met = met_of _ words c.in_ok-matches.matches _ _ c.in_ok-command.ensures.app c.in_ok-matches.ensures.matches c.in-Some.ensures.name c.in-Some.ensures.rows in
+    let asked : words_kind words ≡ None = ap (option_and_then kind_met) met ∙ from_with_tenant-none (c.in-Some.name.now, rows_of (found_of c.in-Some.options.now)) (sym c.is_from_with_tenant.ensures ∙ c.if-is_from_with_tenant.true) in
+    let no : false ≡ true = sym (ap is_some asked) ∙ known in
+    absurd (cc)
+
+pub returns-then-is_from_with_tenant-clause-run : goal.returns-then-is_from_with_tenant-clause-run
+returns-then-is_from_with_tenant-clause-run c = λ same.
+    let words = map string_bytes c.args.words.now in
+    let met = met_of _ words c.in_ok-matches.matches _ _ c.in_ok-command.ensures.app c.in_ok-matches.ensures.matches c.in-Some.ensures.name c.in-Some.ensures.rows in
+    let none : words_kind words ≡ None = ap (option_and_then kind_met) met ∙ from_with_tenant-none (c.in-Some.name.now, rows_of (found_of c.in-Some.options.now)) (sym c.is_from_with_tenant.ensures ∙ c.if-is_from_with_tenant.true) in
     let asked : None ≡ Some (Sequential Run) = sym none ∙ asks_run words same in
     absurd (cc)
