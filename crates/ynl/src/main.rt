@@ -10,8 +10,9 @@ use std::sync::Wait;
 use std::thread::Threads;
 use std::{env, io};
 use ynl_tool::{
-    BUILT_IN, Form, HashSeed, Job, Kind, SequentialKind, ToolFault, WordsFault, Workers,
-    execute_check, execute_live, execute_sequential, fault_of, parse_words, read_text, tell,
+    BUILT_IN, Form, HashSeed, Job, JobTexts, Kind, SequentialKind, ToolFault, WordsFault, Workers,
+    execute_check, execute_live, execute_sequential, fault_of, parse_words, read_state_text,
+    read_text, tell,
 };
 
 fn main(rt: HostRuntime) -> ExitCode {
@@ -28,8 +29,8 @@ fn main(rt: HostRuntime) -> ExitCode {
         return out_of_memory(&rt);
     };
     match parse_words(rt.alloc(), words.as_slice()) {
-        Ok(Job { kind, config }) => match kind {
-            Kind::Sequential(sequential) => work(&rt, sequential, config),
+        Ok(Job { kind, config, from }) => match kind {
+            Kind::Sequential(sequential) => work(&rt, sequential, config, from),
             Kind::Check(form) => check(&rt, form, config),
             Kind::Live(workers, rounds) => work_live(&rt, &rt, workers, rounds, config),
         },
@@ -45,7 +46,18 @@ fn main(rt: HostRuntime) -> ExitCode {
             let _told = eprintln!(rt; "ynl: --tenant and --label go together");
             ExitCode::from(2)
         }
+        Err(WordsFault::FromWithTenant) => {
+            let _told = eprintln!(rt; "ynl: --from and --tenant do not go together");
+            ExitCode::from(2)
+        }
         Err(WordsFault::NoMemory) => out_of_memory(&rt),
+    }
+}
+
+fn open(rt: &HostRuntime, path: &str) -> Result<File, ToolFault> {
+    match File::open(rt, path) {
+        Ok(file) => Ok(file),
+        Err(error) => Err(fault_of(&error)),
     }
 }
 
@@ -55,29 +67,47 @@ fn read_configuration(
     file: Option<&str>,
     text: &mut Vec<u8>,
 ) -> Result<(), ToolFault> {
-    let Some(path) = file else {
-        return read_text(&mut BUILT_IN.as_bytes(), text);
-    };
-    match File::open(rt, path) {
-        Ok(mut file) => read_text(&mut file, text),
-        Err(error) => Err(fault_of(&error)),
+    match file {
+        Some(path) => read_text(&mut open(rt, path)?, text),
+        None => read_text(&mut BUILT_IN.as_bytes(), text),
     }
+}
+
+/// The text of the state to begin from, if a file of one is named.
+fn read_state(rt: &HostRuntime, file: Option<&str>) -> Result<Option<Vec<u8>>, ToolFault> {
+    let Some(path) = file else {
+        return Ok(None);
+    };
+    let mut text = Vec::new(rt.alloc());
+    read_state_text(&mut open(rt, path)?, &mut text)?;
+    Ok(Some(text))
 }
 
 /// What a job reads.
 #[derive(Drop)]
 struct Inputs {
     /// The text of the configuration.
-    text: Vec<u8>,
+    config: Vec<u8>,
+    /// The text of the state to begin from, if one is named.
+    from: Option<Vec<u8>>,
     /// Standard input.
     reader: BufReader<StdinLock<'static>>,
 }
 
-fn open_inputs(rt: &HostRuntime, config: Option<&str>) -> Result<Inputs, ToolFault> {
+fn open_inputs(
+    rt: &HostRuntime,
+    config: Option<&str>,
+    from: Option<&str>,
+) -> Result<Inputs, ToolFault> {
     let mut text = Vec::new(rt.alloc());
     read_configuration(rt, config, &mut text)?;
+    let from = read_state(rt, from)?;
     match BufReader::with_capacity(rt.alloc(), 65536, rt.reader()) {
-        Ok(reader) => Ok(Inputs { text, reader }),
+        Ok(reader) => Ok(Inputs {
+            config: text,
+            from,
+            reader,
+        }),
         Err(error) => Err(fault_of(&error)),
     }
 }
@@ -92,17 +122,26 @@ fn seed_of(rt: &HostRuntime) -> HashSeed {
 }
 
 /// Does a job that needs one thread. Without a bound `Wait` it is proved to return.
-fn work(rt: &HostRuntime, kind: SequentialKind, config: Option<&str>) -> ExitCode {
+fn work(
+    rt: &HostRuntime,
+    kind: SequentialKind,
+    config: Option<&str>,
+    from: Option<&str>,
+) -> ExitCode {
     let mut errors = rt.stderr();
-    let mut inputs = match open_inputs(rt, config) {
+    let mut inputs = match open_inputs(rt, config, from) {
         Ok(inputs) => inputs,
         Err(fault) => return ExitCode::from(tell(&mut errors, fault)),
+    };
+    let texts = JobTexts {
+        config: &inputs.config,
+        from: inputs.from.as_deref(),
     };
     let status = execute_sequential(
         rt.alloc(),
         seed_of(rt),
         kind,
-        &inputs.text,
+        texts,
         &mut inputs.reader,
         &mut io::writer(rt),
         &mut errors,
@@ -131,7 +170,7 @@ fn work_live<T: Threads + Wait + Sync>(
     config: Option<&str>,
 ) -> ExitCode {
     let mut errors = rt.stderr();
-    let mut inputs = match open_inputs(rt, config) {
+    let mut inputs = match open_inputs(rt, config, None) {
         Ok(inputs) => inputs,
         Err(fault) => return ExitCode::from(tell(&mut errors, fault)),
     };
@@ -141,7 +180,7 @@ fn work_live<T: Threads + Wait + Sync>(
         seed_of(rt),
         workers,
         rounds,
-        &inputs.text,
+        &inputs.config,
         &mut inputs.reader,
         &mut io::writer(rt),
         &mut errors,

@@ -1,17 +1,20 @@
--- Jobs in which memory is refused before anything is read.
+-- Jobs that are not begun, or in which memory is refused before anything is read.
 use Rattle.std.proofs.Common.{ℕ, List, Bool, true, false, Option, Result, Ok, Err, refl, inl, inr, sym, subst}
 use Rattle.std.proofs.KnownBytes.{Appends-nil, Consumes-nil}
 use Rattle.ynl_resource.specs.declared.names.Name.{Name}
 use Rattle.ynl_resource.specs.declared.labels.Label.{Label}
 use Rattle.ynl_model.specs.Queues.{Config}
-use Rattle.ynl_model.specs.Cluster.{opening}
+use Rattle.ynl_model.specs.Cluster.{State as Standing}
 use Rattle.ynl_model.specs.View.{is_sole}
-use Rattle.ynl_config.specs.declared.faults.ConfigFault.{ConfigFault}
+use Rattle.ynl_config.specs.Meaning.{config_of}
 use Rattle.ynl_commands.specs.declared.run.ToolFault.TheVariants.{NoMemory}
 use Rattle.ynl_words.specs.declared.words.SequentialKind.{SequentialKind}
 use Rattle.ynl_words.specs.declared.words.SequentialKind.TheVariants.{Run, Tenant, Audit, Evidence, AuditEvidence, Explain, Save}
 use Rattle.ynl_words.specs.declared.words.Question.{Question}
-use Rattle.ynl_tool.specs.Jobs.{Doing, Ending, IsIdle, DoesSequentialJob, DoesWith, EndsWithout, AuditsJob, ExplainsJob, LivesJob, RunsJob, SavesJob, TellsJob, AnswersJob, tenancy}
+use Rattle.ynl_tool.specs.declared.jobs.JobRefusal.{JobRefusal}
+use Rattle.ynl_tool.specs.declared.jobs.JobRefusal.TheVariants.{State, Config as NoConfig}
+use Rattle.ynl_tool.specs.Jobs.{begins, tenancy, Doing, Ending, IsIdle, DoesSequentialJob, DoesText, DoesWith, EndsWithout, EndsWithoutConfig, EndsWithoutState}
+use Rattle.ynl_tool.specs.Jobs.{AnswersJob, AuditsFrom, AuditsJob, ExplainsFrom, ExplainsJob, LivesJob, RunsFrom, RunsJob, SavesFrom, SavesJob, TellsJob}
 use Rattle.ynl_commands.specs.Input.{between}
 use Rattle.ynl_commands.proofs.Runs.{stops_at_once}
 use Rattle.ynl_commands.specs.Audit.{audit_way, journal_way}
@@ -33,53 +36,87 @@ module _ (old wold : Option (List ℕ)) where
   idle_answer w answer true = inl (record { read = nothing_read w old NoMemory; unwritten = Appends-nil wold })
   idle_answer w answer false = (refl, idle)
 
-  -- a run
-  pub idle_run : (c : Config) → RunsJob (between old old) (between wold wold) c (Err NoMemory)
-  idle_run c = stops_at_once old wold c (opening c)
+  -- a job for which there is no memory, with what it needs
+  refused : {X F : Type 0} (refusal : F → JobRefusal) (job : X → Ending → Type 0) → ((x : X) → job x (Err NoMemory))
+      → (read : Result X F) → DoesWith (between old old) (between wold wold) refusal job read (Err NoMemory)
+  refused refusal job idles (Ok x) = idles x
+  refused refusal job idles (Err fault) = (refl, idle)
 
-  -- an audit
-  pub idle_audit : (c : Config) → AuditsJob (between old old) (between wold wold) c (Err NoMemory)
-  idle_audit c = inl (record { read = nothing_read (audit_way c (opening c)) old NoMemory; unwritten = Appends-nil wold })
+  -- a job that does nothing where memory is refused, without what it needs
+  without : {X F : Type 0} (refusal : F → JobRefusal) (job : X → Ending → Type 0) → ((x : X) → job x (Err NoMemory))
+      → (read : Result X F) (ended : Ending) → EndsWithout refusal read ended → DoesWith (between old old) (between wold wold) refusal job read ended
+  without refusal job idles (Ok x) ended is = subst (DoesWith (between old old) (between wold wold) refusal job (Ok x)) (sym is) (idles x)
+  without refusal job idles (Err fault) ended (inl is) = subst (DoesWith (between old old) (between wold wold) refusal job (Err fault)) (sym is) (refl, idle)
+  without refusal job idles (Err fault) ended (inr is) = subst (DoesWith (between old old) (between wold wold) refusal job (Err fault)) (sym is) (refl, idle)
 
-  -- saving a state
-  pub idle_save : (c : Config) → SavesJob (between old old) (between wold wold) c (Err NoMemory)
-  idle_save c = inl (record { read = nothing_read script_way old NoMemory; unwritten = Appends-nil wold })
+  -- a run for which there is no memory
+  idle_run : (c : Config) (s : Standing) → RunsFrom (between old old) (between wold wold) c s (Err NoMemory)
+  idle_run c s = stops_at_once old wold c s
 
-  -- explaining
-  pub idle_explain : (c : Config) (q : Question) → ExplainsJob (between old old) (between wold wold) c q (Err NoMemory)
-  idle_explain c q = inl (record { read = nothing_read script_way old NoMemory; unwritten = Appends-nil wold })
+  -- an audit for which there is no memory
+  idle_audit : (c : Config) (s : Standing) → AuditsFrom (between old old) (between wold wold) c s (Err NoMemory)
+  idle_audit c s = inl (record { read = nothing_read (audit_way c s) old NoMemory; unwritten = Appends-nil wold })
+
+  -- saving a state, for which there is no memory
+  idle_save : (c : Config) (s : Standing) → SavesFrom (between old old) (between wold wold) c s (Err NoMemory)
+  idle_save c s = inl (record { read = nothing_read script_way old NoMemory; unwritten = Appends-nil wold })
+
+  -- explaining, for which there is no memory
+  idle_explain : (c : Config) (q : Question) (s : Standing) → ExplainsFrom (between old old) (between wold wold) c q s (Err NoMemory)
+  idle_explain c q s = inl (record { read = nothing_read script_way old NoMemory; unwritten = Appends-nil wold })
+
+  -- a run without a state
+  pub run_without : (c : Config) (from : Option (List ℕ)) (ended : Ending) → EndsWithoutState c from ended
+      → RunsJob (between old old) (between wold wold) c from ended
+  run_without c from = without (λ bad. State bad) (RunsFrom (between old old) (between wold wold) c) (idle_run c) (begins c from)
+
+  -- an audit without a state
+  pub audit_without : (c : Config) (from : Option (List ℕ)) (ended : Ending) → EndsWithoutState c from ended
+      → AuditsJob (between old old) (between wold wold) c from ended
+  audit_without c from = without (λ bad. State bad) (AuditsFrom (between old old) (between wold wold) c) (idle_audit c) (begins c from)
+
+  -- saving without a state
+  pub save_without : (c : Config) (from : Option (List ℕ)) (ended : Ending) → EndsWithoutState c from ended
+      → SavesJob (between old old) (between wold wold) c from ended
+  save_without c from = without (λ bad. State bad) (SavesFrom (between old old) (between wold wold) c) (idle_save c) (begins c from)
+
+  -- explaining without a state
+  pub explain_without : (c : Config) (from : Option (List ℕ)) (q : Question) (ended : Ending) → EndsWithoutState c from ended
+      → ExplainsJob (between old old) (between wold wold) c from q ended
+  explain_without c from q = without (λ bad. State bad) (ExplainsFrom (between old old) (between wold wold) c q) (idle_explain c q) (begins c from)
 
   -- nothing was read or written for want of memory
   IdlesAt : Doing → Type 0
   IdlesAt job = (c : Config) → job (between old old) (between wold wold) c (Err NoMemory)
 
-  -- a job that does nothing where memory is refused, without a configuration
-  without : (job : Doing) → IdlesAt job → (read : Result Config ConfigFault) (ended : Ending) → EndsWithout read ended → DoesWith (between old old) (between wold wold) job read ended
+  -- a job that needs one thread, for which there is no memory
+  idle_job : (kind : SequentialKind) (from : Option (List ℕ)) → IdlesAt (DoesSequentialJob true kind from)
   unfolding IdlesAt
-  without job idles (Ok c) ended is = subst (DoesWith (between old old) (between wold wold) job (Ok c)) (sym is) (idles c)
-  without job idles (Err fault) ended (inl is) = subst (DoesWith (between old old) (between wold wold) job (Err fault)) (sym is) (refl, idle)
-  without job idles (Err fault) ended (inr is) = subst (DoesWith (between old old) (between wold wold) job (Err fault)) (sym is) (refl, idle)
+  idle_job Run from = λ c. refused (λ bad. State bad) (RunsFrom (between old old) (between wold wold) c) (idle_run c) (begins c from)
+  idle_job (Tenant t p) from = λ c. idle_by c t p (is_sole c t p)
+  idle_job Audit from = λ c. refused (λ bad. State bad) (AuditsFrom (between old old) (between wold wold) c) (idle_audit c) (begins c from)
+  idle_job (Evidence t p) from = λ c. idle_answer journal_way (evidence_answer (tenancy c t p)) (is_sole c t p)
+  idle_job (AuditEvidence t p) from = λ c. idle_answer (evidence_way (tenancy c t p)) placed_answer (is_sole c t p)
+  idle_job Save from = λ c. refused (λ bad. State bad) (SavesFrom (between old old) (between wold wold) c) (idle_save c) (begins c from)
+  idle_job (Explain q) from = λ c. refused (λ bad. State bad) (ExplainsFrom (between old old) (between wold wold) c q) (idle_explain c q) (begins c from)
 
-  idle_job : (kind : SequentialKind) → IdlesAt (DoesSequentialJob true kind)
-  unfolding IdlesAt
-  idle_job Run = idle_run
-  idle_job (Tenant t p) = λ c. idle_by c t p (is_sole c t p)
-  idle_job Audit = idle_audit
-  idle_job (Evidence t p) = λ c. idle_answer journal_way (evidence_answer (tenancy c t p)) (is_sole c t p)
-  idle_job (AuditEvidence t p) = λ c. idle_answer (evidence_way (tenancy c t p)) placed_answer (is_sole c t p)
-  idle_job Save = idle_save
-  idle_job (Explain q) = λ c. idle_explain c q
-
+  -- a session for which there is no memory
   idle_live : (rounds : ℕ) → IdlesAt (LivesJob rounds)
   unfolding IdlesAt
   idle_live rounds = λ c. inl (record { read = nothing_read script_way old NoMemory; unwritten = Appends-nil wold })
 
+  -- a job without a configuration
+  text_without : (job : Doing) → IdlesAt job → (text : List ℕ) (ended : Ending) → EndsWithoutConfig text ended
+      → DoesText (between old old) (between wold wold) job text ended
+  unfolding IdlesAt
+  text_without job idles text = without (λ fault. NoConfig fault) (job (between old old) (between wold wold)) idles (config_of text)
+
   -- a job that needs one thread, without a configuration
-  pub idle_without : (kind : SequentialKind) (read : Result Config ConfigFault) (ended : Ending) → EndsWithout read ended
-      → DoesWith (between old old) (between wold wold) (DoesSequentialJob true kind) read ended
-  idle_without kind = without (DoesSequentialJob true kind) (idle_job kind)
+  pub idle_without : (kind : SequentialKind) (from : Option (List ℕ)) (text : List ℕ) (ended : Ending) → EndsWithoutConfig text ended
+      → DoesText (between old old) (between wold wold) (DoesSequentialJob true kind from) text ended
+  idle_without kind from = text_without (DoesSequentialJob true kind from) (idle_job kind from)
 
   -- the same of a live scheduler
-  pub idle_live_without : (rounds : ℕ) (read : Result Config ConfigFault) (ended : Ending) → EndsWithout read ended
-      → DoesWith (between old old) (between wold wold) (LivesJob rounds) read ended
-  idle_live_without rounds = without (LivesJob rounds) (idle_live rounds)
+  pub idle_live_without : (rounds : ℕ) (text : List ℕ) (ended : Ending) → EndsWithoutConfig text ended
+      → DoesText (between old old) (between wold wold) (LivesJob rounds) text ended
+  idle_live_without rounds = text_without (LivesJob rounds) (idle_live rounds)

@@ -1,10 +1,10 @@
 -- How a job ends.
-use Rattle.std.specs.Prelude.{⊤, ◌≡◌, ◌⊎◌, ℕ, Bool, true, false, List, [], ◌++◌, Option, Result, Ok, Err, codes}
+use Rattle.std.specs.Prelude.{⊤, ◌≡◌, ◌⊎◌, ℕ, ◌==◌, Bool, true, false, List, [], ◌++◌, Option, Some, None, Result, Ok, Err, codes, decimal, if◌then◌else◌}
 use Rattle.std.specs.Option.{option_map_or}
 use Rattle.std.specs.Io.KnownBytes.{Consumes, Appends}
 use Rattle.ynl_resource.specs.declared.names.Name.{Name}
 use Rattle.ynl_resource.specs.declared.labels.Label.{Label}
-use Rattle.ynl_model.specs.Cluster.{opening}
+use Rattle.ynl_model.specs.Cluster.{State as Standing, opening}
 use Rattle.ynl_model.specs.Queues.{Config as Configured}
 use Rattle.ynl_model.specs.View.{is_sole}
 use Rattle.ynl_config.specs.declared.faults.ConfigFault.{ConfigFault}
@@ -25,8 +25,10 @@ use Rattle.ynl_commands.specs.Running.{Runs}
 use Rattle.ynl_commands.specs.Auditing.{AuditsJournal}
 use Rattle.ynl_commands.specs.Explaining.{Explains}
 use Rattle.ynl_commands.specs.Saving.{SavesScript}
-use Rattle.ynl_saved_text.specs.declared.faults.StateFault.{StateFault}
+use Rattle.ynl_saved.specs.Restoring.{Restored}
+use Rattle.ynl_saved_text.specs.declared.faults.BadState.{BadState}
 use Rattle.ynl_saved_text.specs.StateLines.{fault_word as state_word}
+use Rattle.ynl_saved_text.specs.Texts.{state_read}
 use Rattle.ynl_commands.specs.Telling.{TellsTenant}
 use Rattle.ynl_tool.specs.Living.{Lives}
 use Rattle.ynl_words.specs.declared.words.Question.{Question}
@@ -39,6 +41,10 @@ use Rattle.ynl_words.specs.declared.words.SequentialKind.TheVariants.{Run, Tenan
 abbrev pub most_read : ℕ
 most_read = 1048577
 
+-- and of the text of a state
+abbrev pub most_read_of_state : ℕ
+most_read_of_state = 268435457
+
 -- the line on the error stream
 abbrev pub error_line : ToolFault → List ℕ
 error_line Read = line_of (codes "ynl: read fault")
@@ -50,15 +56,19 @@ error_line Unclosed = line_of (codes "ynl: not closed")
 abbrev pub config_line : ConfigFault → List ℕ
 config_line fault = codes "ynl: config: " ++ (fault_word fault ++ codes "\n")
 
+-- where a text has its fault, at the end of a line: the number of the line, if it is of one
+abbrev pub place_text : ℕ → List ℕ
+place_text line = if line == 0 then codes "\n" else (codes ", line " ++ (decimal line ++ codes "\n"))
+
 -- and that of a state that there is none of
-abbrev pub state_line : StateFault → List ℕ
-state_line fault = codes "ynl: state: " ++ (state_word fault ++ codes "\n")
+abbrev pub state_line : BadState → List ℕ
+state_line bad = codes "ynl: state: " ++ (state_word bad.fault ++ place_text bad.line)
 
 -- and that of a job that is not begun, or comes to nothing
 abbrev pub refusal_line : JobRefusal → List ℕ
 refusal_line (Config fault) = config_line fault
 refusal_line NotSole = line_of (codes "ynl: not sole")
-refusal_line (State fault) = state_line fault
+refusal_line (State bad) = state_line bad
 
 -- how a job ends: with an input that came to its end or to a line with a fault, without being begun, or with a fault of reading,
 -- writing or memory
@@ -92,30 +102,74 @@ NotBegun reader writer refusal (Ok (Ok summary)) = ⊥
 NotBegun reader writer refusal (Ok (Err told)) = (told ≡ refusal) × IsIdle reader writer
 NotBegun reader writer refusal (Err e) = (e ≡ NoMemory) × IsIdle reader writer
 
--- a run of this configuration, from its opening state
-abbrev pub RunsJob : Stream → Stream → Configured → Ending → Type 0
-RunsJob reader writer c (Ok (Ok summary)) = Runs reader writer c (opening c) (Ok summary)
-RunsJob reader writer c (Ok (Err refusal)) = ⊥
-RunsJob reader writer c (Err e) = Runs reader writer c (opening c) (Err e)
+-- how a job ends that lacks what it needs: it is refused for the fault of that, or memory was refused
+abbrev pub EndsWithout : {X F : Type 0} → (F → JobRefusal) → Result X F → Ending → Type 0
+EndsWithout refusal (Ok x) ended = ended ≡ Err NoMemory
+EndsWithout refusal (Err fault) ended = (ended ≡ Ok (Err (refusal fault))) ⊎ (ended ≡ Err NoMemory)
 
--- an audit against a cluster of this configuration, from its opening state
-abbrev pub AuditsJob : Stream → Stream → Configured → Ending → Type 0
-AuditsJob reader writer c (Ok (Ok summary)) = AuditsJournal reader writer c (opening c) (Ok summary)
-AuditsJob reader writer c (Ok (Err refusal)) = ⊥
-AuditsJob reader writer c (Err e) = AuditsJournal reader writer c (opening c) (Err e)
+-- how a job ends that has no configuration: the text has a fault, or memory was refused
+abbrev pub EndsWithoutConfig : List ℕ → Ending → Type 0
+EndsWithoutConfig text ended = EndsWithout (λ fault. Config fault) (config_of text) ended
 
--- why a tenant's application waits is told, after a script from the opening state
-abbrev pub ExplainsJob : Stream → Stream → Configured → Question → Ending → Type 0
-ExplainsJob reader writer c q (Ok (Ok summary)) = Explains reader writer c (opening c) q (Ok summary)
-ExplainsJob reader writer c q (Ok (Err refusal)) = ⊥
-ExplainsJob reader writer c q (Err e) = Explains reader writer c (opening c) q (Err e)
+-- the job with what it needs; or, where there is none, it is not begun, for the fault of that
+abbrev pub DoesWith : {X F : Type 0} → Stream → Stream → (F → JobRefusal) → (X → Ending → Type 0) → Result X F → Ending → Type 0
+DoesWith reader writer refusal job (Ok x) ended = job x ended
+DoesWith reader writer refusal job (Err fault) ended = NotBegun reader writer (refusal fault) ended
 
--- the state after a script from the opening state is written; where its text would be too long that is told
-abbrev pub SavesJob : Stream → Stream → Configured → Ending → Type 0
-SavesJob reader writer c (Ok (Ok summary)) = SavesScript reader writer c (opening c) (Ok (Ok summary))
-SavesJob reader writer c (Ok (Err (State fault))) = SavesScript reader writer c (opening c) (Ok (Err fault))
-SavesJob reader writer c (Ok (Err refusal)) = ⊥
-SavesJob reader writer c (Err e) = SavesScript reader writer c (opening c) (Err e)
+-- the state of what was restored, or the fault of what was read
+abbrev pub state_of : Result Restored BadState → Result Standing BadState
+state_of (Ok r) = Ok r.state
+state_of (Err bad) = Err bad
+
+-- the state that a job begins from: the opening state, or that of a text, or the text's first fault
+abbrev pub begins : Configured → Option (List ℕ) → Result Standing BadState
+begins c None = Ok (opening c)
+begins c (Some text) = state_of (state_read c text)
+
+-- how a job ends that has no cluster of that state: the text has a fault, or memory was refused
+abbrev pub EndsWithoutState : Configured → Option (List ℕ) → Ending → Type 0
+EndsWithoutState c from ended = EndsWithout (λ bad. State bad) (begins c from) ended
+
+-- a run of this configuration, from this state
+abbrev pub RunsFrom : Stream → Stream → Configured → Standing → Ending → Type 0
+RunsFrom reader writer c s (Ok (Ok summary)) = Runs reader writer c s (Ok summary)
+RunsFrom reader writer c s (Ok (Err refusal)) = ⊥
+RunsFrom reader writer c s (Err e) = Runs reader writer c s (Err e)
+
+-- a run of this configuration, from the state that it begins from
+abbrev pub RunsJob : Stream → Stream → Configured → Option (List ℕ) → Ending → Type 0
+RunsJob reader writer c from ended = DoesWith reader writer (λ bad. State bad) (RunsFrom reader writer c) (begins c from) ended
+
+-- an audit against a cluster of this configuration, from this state
+abbrev pub AuditsFrom : Stream → Stream → Configured → Standing → Ending → Type 0
+AuditsFrom reader writer c s (Ok (Ok summary)) = AuditsJournal reader writer c s (Ok summary)
+AuditsFrom reader writer c s (Ok (Err refusal)) = ⊥
+AuditsFrom reader writer c s (Err e) = AuditsJournal reader writer c s (Err e)
+
+-- an audit against a cluster of this configuration, from the state that it begins from
+abbrev pub AuditsJob : Stream → Stream → Configured → Option (List ℕ) → Ending → Type 0
+AuditsJob reader writer c from ended = DoesWith reader writer (λ bad. State bad) (AuditsFrom reader writer c) (begins c from) ended
+
+-- why a tenant's application waits is told, after a script from this state
+abbrev pub ExplainsFrom : Stream → Stream → Configured → Question → Standing → Ending → Type 0
+ExplainsFrom reader writer c q s (Ok (Ok summary)) = Explains reader writer c s q (Ok summary)
+ExplainsFrom reader writer c q s (Ok (Err refusal)) = ⊥
+ExplainsFrom reader writer c q s (Err e) = Explains reader writer c s q (Err e)
+
+-- why a tenant's application waits is told, after a script from the state that it begins from
+abbrev pub ExplainsJob : Stream → Stream → Configured → Option (List ℕ) → Question → Ending → Type 0
+ExplainsJob reader writer c from q ended = DoesWith reader writer (λ bad. State bad) (ExplainsFrom reader writer c q) (begins c from) ended
+
+-- the state after a script from this state is written; where its text would be too long that is told, and no line
+abbrev pub SavesFrom : Stream → Stream → Configured → Standing → Ending → Type 0
+SavesFrom reader writer c s (Ok (Ok summary)) = SavesScript reader writer c s (Ok (Ok summary))
+SavesFrom reader writer c s (Ok (Err (State bad))) = (bad.line ≡ 0) × SavesScript reader writer c s (Ok (Err bad.fault))
+SavesFrom reader writer c s (Ok (Err refusal)) = ⊥
+SavesFrom reader writer c s (Err e) = SavesScript reader writer c s (Err e)
+
+-- the state after a script from the state that it begins from is written
+abbrev pub SavesJob : Stream → Stream → Configured → Option (List ℕ) → Ending → Type 0
+SavesJob reader writer c from ended = DoesWith reader writer (λ bad. State bad) (SavesFrom reader writer c) (begins c from) ended
 
 -- what a tenant's partition sees is told, where the tenant is alone there
 abbrev pub TellsJob : Stream → Stream → Bool → Configured → Name → Label → Bool → Ending → Type 0
@@ -149,33 +203,24 @@ LivesJob rounds reader writer c (Ok (Ok summary)) = Lives ⊤ reader writer c ro
 LivesJob rounds reader writer c (Ok (Err refusal)) = ⊥
 LivesJob rounds reader writer c (Err e) = Lives ⊤ reader writer c rounds (Err e)
 
--- a job that needs one thread, with a cluster of this configuration, where that may be known to be accepted
-abbrev pub DoesSequentialJob : Bool → SequentialKind → Stream → Stream → Configured → Ending → Type 0
-DoesSequentialJob accepted Run reader writer c ended = RunsJob reader writer c ended
-DoesSequentialJob accepted (Tenant t p) reader writer c ended = TellsJob reader writer accepted c t p (is_sole c t p) ended
-DoesSequentialJob accepted Audit reader writer c ended = AuditsJob reader writer c ended
-DoesSequentialJob accepted (Evidence t p) reader writer c ended = HandsJob reader writer (tenancy c t p) ended
-DoesSequentialJob accepted (AuditEvidence t p) reader writer c ended = AuditsEvidenceJob reader writer (tenancy c t p) ended
-DoesSequentialJob accepted Save reader writer c ended = SavesJob reader writer c ended
-DoesSequentialJob accepted (Explain q) reader writer c ended = ExplainsJob reader writer c q ended
+-- a job that needs one thread, with a cluster of this configuration, where that may be known to be accepted, and with the text of the state that it
+-- may begin from
+abbrev pub DoesSequentialJob : Bool → SequentialKind → Option (List ℕ) → Stream → Stream → Configured → Ending → Type 0
+DoesSequentialJob accepted Run from reader writer c ended = RunsJob reader writer c from ended
+DoesSequentialJob accepted (Tenant t p) from reader writer c ended = TellsJob reader writer accepted c t p (is_sole c t p) ended
+DoesSequentialJob accepted Audit from reader writer c ended = AuditsJob reader writer c from ended
+DoesSequentialJob accepted (Evidence t p) from reader writer c ended = HandsJob reader writer (tenancy c t p) ended
+DoesSequentialJob accepted (AuditEvidence t p) from reader writer c ended = AuditsEvidenceJob reader writer (tenancy c t p) ended
+DoesSequentialJob accepted Save from reader writer c ended = SavesJob reader writer c from ended
+DoesSequentialJob accepted (Explain q) from reader writer c ended = ExplainsJob reader writer c from q ended
 
 -- what a job does to its reader and its writer with a cluster of a configuration, and how it ends
 abbrev pub Doing : Type 1
 Doing = Stream → Stream → Configured → Ending → Type 0
 
--- how a job ends that has no configuration: with the fault of its text, or for want of memory
-abbrev pub EndsWithout : Result Configured ConfigFault → Ending → Type 0
-EndsWithout (Ok c) ended = ended ≡ Err NoMemory
-EndsWithout (Err fault) ended = (ended ≡ Ok (Err (Config fault))) ⊎ (ended ≡ Err NoMemory)
-
--- the job with this configuration, which is accepted; or its fault, where there is none
-abbrev pub DoesWith : Stream → Stream → Doing → Result Configured ConfigFault → Ending → Type 0
-DoesWith reader writer job (Ok c) ended = job reader writer c ended
-DoesWith reader writer job (Err fault) ended = NotBegun reader writer (Config fault) ended
-
 -- the job with the configuration that a text means
 abbrev pub DoesText : Stream → Stream → Doing → List ℕ → Ending → Type 0
-DoesText reader writer job text ended = DoesWith reader writer job (config_of text) ended
+DoesText reader writer job text ended = DoesWith reader writer (λ fault. Config fault) (job reader writer) (config_of text) ended
 
 -- the job was done, and the exit status and the error stream tell how it ended
 pub record Executes (reader writer errors : Stream) (job : Doing) (text : List ℕ) (status : ℕ) : Type 0 where

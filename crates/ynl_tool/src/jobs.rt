@@ -1,22 +1,24 @@
 //! Doing a job.
 
-ghost use Rattle.std.specs.Prelude.{◌≡◌, Ok, IfOk, IfErr, true};
+ghost use Rattle.std.specs.Prelude.{◌≡◌, Ok, IfOk, IfErr, OnOk, OnErr, option_map, true};
+ghost use Rattle.std.specs.Io.KnownBytes.{Appends};
 ghost use Rattle.ynl_config.specs.Meaning.{config_of};
 ghost use Rattle.ynl_model.specs.Accepted.{is_accepted};
 ghost use Rattle.ynl_commands.specs.Input.{between};
-ghost use Rattle.ynl_commands.specs.Lines.{AppendsFront};
-ghost use Rattle.ynl_tool.specs.Jobs.{error_line, config_line, refusal_line, state_line, status_by, status_of, tenancy, AuditsEvidenceJob, AuditsJob, DoesSequentialJob, DoesText, EndsWithout, Executes, ExplainsJob, HandsJob, LivesJob, RunsJob, SavesJob, Tells};
+ghost use Rattle.ynl_commands.specs.Lines.{AppendsFront, AppendsPart};
+ghost use Rattle.ynl_tool.specs.Jobs.{error_line, config_line, place_text, refusal_line, state_line, status_by, status_of, tenancy, begins, AuditsEvidenceJob, AuditsJob, DoesSequentialJob, DoesText, EndsWithoutConfig, EndsWithoutState, Executes, ExplainsJob, HandsJob, LivesJob, RunsJob, SavesJob, Tells};
 ghost use Rattle.ynl_tool.specs.Checking.{verdict_status, ExecutesCheck};
 
 use crate::checking::check_text;
 use crate::live::{FreeGate, live_lines};
+use itoa::Buffer;
 use std::alloc::Global;
 use std::io::{BufRead, Write};
 use std::sync::Wait;
 use std::thread::Threads;
 use thiserror::Error;
 use ynl_check::{Form, Verdict};
-use ynl_commands::lines_out::{write_text, write_three};
+use ynl_commands::lines_out::{WriteFault, write_text, write_three};
 use ynl_commands::{
     Summary, Tenancy, ToolFault, audit_evidence_lines, audit_lines, evidence_lines, explain_lines,
     run_lines, save_lines, tenant_lines,
@@ -25,7 +27,8 @@ use ynl_config::{ConfigFault, read_config};
 use ynl_core::Core;
 use ynl_queues::Config;
 use ynl_resource::{HashSeed, Label, Name};
-use ynl_saved_text::StateFault;
+use ynl_restore::read_state;
+use ynl_saved_text::BadState;
 use ynl_view::sole;
 use ynl_words::{Question, SequentialKind, Workers};
 
@@ -39,8 +42,8 @@ pub enum JobRefusal {
     #[error("the tenant is not alone on the partition")]
     NotSole,
     /// The text of the state is none, or would be too long.
-    #[error("no state: {0}")]
-    State(StateFault),
+    #[error("no state: {}", .0.fault)]
+    State(BadState),
 }
 
 /// The line that tells a fault.
@@ -69,11 +72,33 @@ fn tell_config_fault<E: Write>(errors: &mut E, fault: ConfigFault)
     let _told = write_three(errors, b"ynl: config: ", fault.word().as_bytes(), b"\n");
 }
 
-/// Writes the line that tells why there is no state.
-fn tell_state_fault<E: Write>(errors: &mut E, fault: StateFault)
-    ensures { AppendsFront (E.contents errors.old) (E.contents errors.new) (state_line fault) }
+/// Writes where a text has its fault, to the end of the line.
+fn write_place<E: Write>(errors: &mut E, line: u64) -> Result<(), WriteFault>
+    ensures ok { OnOk result (Appends (E.contents errors.old) (E.contents errors.new) (place_text line)) }
+    ensures err { OnErr result (AppendsPart (E.contents errors.old) (E.contents errors.new) (place_text line)) }
 {
-    let _told = write_three(errors, b"ynl: state: ", fault.word().as_bytes(), b"\n");
+    if line == 0 {
+        return write_text(errors, b"\n");
+    }
+    let mut digits = Buffer::new();
+    write_three(errors, b", line ", digits.format(line).as_bytes(), b"\n")
+}
+
+/// Writes the line that tells why there is no state.
+fn write_bad_state<E: Write>(errors: &mut E, bad: BadState) -> Result<(), WriteFault>
+    ensures ok { OnOk result (Appends (E.contents errors.old) (E.contents errors.new) (state_line bad)) }
+    ensures err { OnErr result (AppendsPart (E.contents errors.old) (E.contents errors.new) (state_line bad)) }
+{
+    write_text(errors, b"ynl: state: ")?;
+    write_text(errors, bad.fault.word().as_bytes())?;
+    write_place(errors, bad.line)
+}
+
+/// Writes the line that tells why there is no state. Where that fails too, the exit status alone tells it.
+fn tell_bad_state<E: Write>(errors: &mut E, bad: BadState)
+    ensures { AppendsFront (E.contents errors.old) (E.contents errors.new) (state_line bad) }
+{
+    let _told = write_bad_state(errors, bad);
 }
 
 /// Writes the line that tells why a job is not begun, or comes to nothing.
@@ -85,7 +110,7 @@ fn tell_refusal<E: Write>(errors: &mut E, refusal: JobRefusal)
         JobRefusal::NotSole => {
             let _told = write_text(errors, b"ynl: not sole\n");
         }
-        JobRefusal::State(fault) => tell_state_fault(errors, fault),
+        JobRefusal::State(bad) => tell_bad_state(errors, bad),
     }
 }
 
@@ -138,66 +163,107 @@ fn audit_evidence<R: BufRead, W: Write>(
     }
 }
 
-/// Runs a cluster of this configuration, from its opening state.
+/// The cluster that a job begins from: in its opening state, or in that of a text; or how a job ends that has none,
+/// since it is not begun then.
+fn begin(alloc: Global, config: Config, from: Option<&[u8]>) -> Result<Core, Ending>
+    requires { is_accepted config ≡ true }
+    ensures state { IfOk result (λ core. begins config (option_map (λ text. text.now) from.entry) ≡ Ok core.state) }
+    ensures config { IfOk result (λ core. core.config ≡ config) }
+    ensures none { IfErr result (EndsWithoutState config (option_map (λ text. text.now) from.entry)) }
+{
+    match from {
+        None => match Core::open(alloc, config) {
+            Ok(core) => Ok(core),
+            Err(_) => Err(Err(ToolFault::NoMemory)),
+        },
+        Some(text) => match read_state(alloc, config, text) {
+            Ok(Ok(core)) => Ok(core),
+            Ok(Err(bad)) => Err(Ok(Err(JobRefusal::State(bad)))),
+            Err(_) => Err(Err(ToolFault::NoMemory)),
+        },
+    }
+}
+
+/// Runs a cluster of this configuration, from the state that it begins from.
 fn run_job<R: BufRead, W: Write>(
     alloc: Global,
     config: Config,
+    from: Option<&[u8]>,
     reader: &mut R,
     writer: &mut W,
 ) -> Ending
-    ensures { RunsJob (between (R.remaining reader.old) (R.remaining reader.new)) (between (W.contents writer.old) (W.contents writer.new)) config result }
+    requires { is_accepted config ≡ true }
+    ensures { RunsJob (between (R.remaining reader.old) (R.remaining reader.new)) (between (W.contents writer.old) (W.contents writer.new)) config (option_map (λ text. text.now) from.entry) result }
 {
-    let core = Core::open(alloc, config)?;
+    let core = match begin(alloc, config, from) {
+        Ok(core) => core,
+        Err(ended) => return ended,
+    };
     match run_lines(alloc, core, reader, writer) {
         Ok(summary) => Ok(Ok(summary)),
         Err(fault) => Err(fault),
     }
 }
 
-/// Audits a journal against a cluster of this configuration, from its opening state.
+/// Audits a journal against a cluster of this configuration, from the state that it begins from.
 fn audit_job<R: BufRead, W: Write>(
     alloc: Global,
     config: Config,
+    from: Option<&[u8]>,
     reader: &mut R,
     writer: &mut W,
 ) -> Ending
-    ensures { AuditsJob (between (R.remaining reader.old) (R.remaining reader.new)) (between (W.contents writer.old) (W.contents writer.new)) config result }
+    requires { is_accepted config ≡ true }
+    ensures { AuditsJob (between (R.remaining reader.old) (R.remaining reader.new)) (between (W.contents writer.old) (W.contents writer.new)) config (option_map (λ text. text.now) from.entry) result }
 {
-    let core = Core::open(alloc, config)?;
+    let core = match begin(alloc, config, from) {
+        Ok(core) => core,
+        Err(ended) => return ended,
+    };
     match audit_lines(alloc, core, reader, writer) {
         Ok(summary) => Ok(Ok(summary)),
         Err(fault) => Err(fault),
     }
 }
 
-/// Saves the state of a cluster of this configuration after a script, from its opening state.
+/// Saves the state of a cluster of this configuration after a script, from the state that it begins from.
 fn save_job<R: BufRead, W: Write>(
     alloc: Global,
     config: Config,
+    from: Option<&[u8]>,
     reader: &mut R,
     writer: &mut W,
 ) -> Ending
-    ensures { SavesJob (between (R.remaining reader.old) (R.remaining reader.new)) (between (W.contents writer.old) (W.contents writer.new)) config result }
+    requires { is_accepted config ≡ true }
+    ensures { SavesJob (between (R.remaining reader.old) (R.remaining reader.new)) (between (W.contents writer.old) (W.contents writer.new)) config (option_map (λ text. text.now) from.entry) result }
 {
-    let core = Core::open(alloc, config)?;
+    let core = match begin(alloc, config, from) {
+        Ok(core) => core,
+        Err(ended) => return ended,
+    };
     match save_lines(alloc, core, reader, writer) {
         Ok(Ok(summary)) => Ok(Ok(summary)),
-        Ok(Err(fault)) => Ok(Err(JobRefusal::State(fault))),
+        Ok(Err(fault)) => Ok(Err(JobRefusal::State(BadState { fault, line: 0 }))),
         Err(fault) => Err(fault),
     }
 }
 
-/// Explains why an application waits in a cluster of this configuration after a script, from its opening state.
+/// Explains why an application waits in a cluster of this configuration after a script, from the state that it begins from.
 fn explain_job<R: BufRead, W: Write>(
     alloc: Global,
     config: Config,
+    from: Option<&[u8]>,
     question: &Question,
     reader: &mut R,
     writer: &mut W,
 ) -> Ending
-    ensures { ExplainsJob (between (R.remaining reader.old) (R.remaining reader.new)) (between (W.contents writer.old) (W.contents writer.new)) config question.now result }
+    requires { is_accepted config ≡ true }
+    ensures { ExplainsJob (between (R.remaining reader.old) (R.remaining reader.new)) (between (W.contents writer.old) (W.contents writer.new)) config (option_map (λ text. text.now) from.entry) question.now result }
 {
-    let core = Core::open(alloc, config)?;
+    let core = match begin(alloc, config, from) {
+        Ok(core) => core,
+        Err(ended) => return ended,
+    };
     match explain_lines(alloc, core, question, reader, writer) {
         Ok(summary) => Ok(Ok(summary)),
         Err(fault) => Err(fault),
@@ -209,13 +275,15 @@ fn do_job<R: BufRead, W: Write>(
     alloc: Global,
     kind: SequentialKind,
     config: Config,
+    from: Option<&[u8]>,
     reader: &mut R,
     writer: &mut W,
 ) -> Ending
-    ensures { DoesSequentialJob (is_accepted config) kind (between (R.remaining reader.old) (R.remaining reader.new)) (between (W.contents writer.old) (W.contents writer.new)) config result }
+    requires { is_accepted config ≡ true }
+    ensures { DoesSequentialJob (is_accepted config) kind (option_map (λ text. text.now) from.entry) (between (R.remaining reader.old) (R.remaining reader.new)) (between (W.contents writer.old) (W.contents writer.new)) config result }
 {
     match kind {
-        SequentialKind::Run => run_job(alloc, config, reader, writer),
+        SequentialKind::Run => run_job(alloc, config, from, reader, writer),
         SequentialKind::Tenant(tenant, label) => {
             if !sole(&config, &tenant, &label) {
                 return Ok(Err(JobRefusal::NotSole));
@@ -225,7 +293,7 @@ fn do_job<R: BufRead, W: Write>(
                 Err(fault) => Err(fault),
             }
         }
-        SequentialKind::Audit => audit_job(alloc, config, reader, writer),
+        SequentialKind::Audit => audit_job(alloc, config, from, reader, writer),
         SequentialKind::Evidence(tenant, label) => {
             let whose = tenancy(config, tenant, label);
             hand_evidence(alloc, &whose, reader, writer)
@@ -234,8 +302,10 @@ fn do_job<R: BufRead, W: Write>(
             let whose = tenancy(config, tenant, label);
             audit_evidence(alloc, &whose, reader, writer)
         }
-        SequentialKind::Save => save_job(alloc, config, reader, writer),
-        SequentialKind::Explain(question) => explain_job(alloc, config, &question, reader, writer),
+        SequentialKind::Save => save_job(alloc, config, from, reader, writer),
+        SequentialKind::Explain(question) => {
+            explain_job(alloc, config, from, &question, reader, writer)
+        }
     }
 }
 
@@ -243,7 +313,7 @@ fn do_job<R: BufRead, W: Write>(
 fn read_job_config(alloc: Global, seed: HashSeed, text: &[u8]) -> Result<Config, Ending>
     ensures config { IfOk result (λ config. config_of text.now ≡ Ok config) }
     ensures accepted { IfOk result (λ config. is_accepted config ≡ true) }
-    ensures none { IfErr result (λ ended. EndsWithout (config_of text.now) ended) }
+    ensures none { IfErr result (EndsWithoutConfig text.now) }
 {
     match read_config(alloc, text) {
         Ok(Ok(config)) => Ok(config.with_seed(seed)),
@@ -252,19 +322,29 @@ fn read_job_config(alloc: Global, seed: HashSeed, text: &[u8]) -> Result<Config,
     }
 }
 
+/// The texts that a job is given beside its input.
+#[derive(Clone, Copy)]
+pub struct JobTexts<'a> {
+    /// The text of the configuration.
+    pub config: &'a [u8],
+    /// The text of the state that the job begins from, if that is not the opening state. Only the jobs that
+    /// run, audit, save and explain begin from a state.
+    pub from: Option<&'a [u8]>,
+}
+
 /// Does the job with the configuration that a text means. Where it means none nothing is done.
 fn do_text<R: BufRead, W: Write>(
     alloc: Global,
     seed: HashSeed,
     kind: SequentialKind,
-    text: &[u8],
+    texts: JobTexts<'_>,
     reader: &mut R,
     writer: &mut W,
 ) -> Ending
-    ensures { DoesText (between (R.remaining reader.old) (R.remaining reader.new)) (between (W.contents writer.old) (W.contents writer.new)) (DoesSequentialJob true kind) text.now result }
+    ensures { DoesText (between (R.remaining reader.old) (R.remaining reader.new)) (between (W.contents writer.old) (W.contents writer.new)) (DoesSequentialJob true kind (option_map (λ text. text.now) texts.entry.from)) texts.entry.config.now result }
 {
-    match read_job_config(alloc, seed, text) {
-        Ok(config) => do_job(alloc, kind, config, reader, writer),
+    match read_job_config(alloc, seed, texts.config) {
+        Ok(config) => do_job(alloc, kind, config, texts.from, reader, writer),
         Err(ended) => ended,
     }
 }
@@ -308,23 +388,24 @@ fn tell_ending<E: Write>(errors: &mut E, ended: Ending) -> u8
     }
 }
 
-/// Does the job, which needs one thread, with the configuration that the text means, and gives the exit
-/// status: 0, or 1 if the text means none or the tenant is not alone on the partition, as a line on
-/// `errors` tells, or if a line of the input had a fault; or 3 after a fault of reading, writing or
-/// memory, which a line on `errors` tells. Names are hashed with the seed. Each call returns, since it waits for no
-/// thread.
+/// Does the job, which needs one thread, with the configuration that the first text means, from the opening
+/// state or from that of the second text, and gives the exit status: 0, or 1 if the first text means no
+/// configuration, the second no state, or the tenant is not alone on the partition, as a line on `errors` tells,
+/// or if a line of the input had a fault; or 3 after a fault of reading, writing or memory, which a line on
+/// `errors` tells. The configuration is read first, then the state, under it, and only then the input. Names are
+/// hashed with the seed. Each call returns, since it waits for no thread.
 pub fn execute_sequential<R: BufRead, W: Write, E: Write>(
     alloc: Global,
     seed: HashSeed,
     kind: SequentialKind,
-    text: &[u8],
+    texts: JobTexts<'_>,
     reader: &mut R,
     writer: &mut W,
     errors: &mut E,
 ) -> u8
-    ensures { Executes (between (R.remaining reader.old) (R.remaining reader.new)) (between (W.contents writer.old) (W.contents writer.new)) (between (E.contents errors.old) (E.contents errors.new)) (DoesSequentialJob true kind) text.now result }
+    ensures { Executes (between (R.remaining reader.old) (R.remaining reader.new)) (between (W.contents writer.old) (W.contents writer.new)) (between (E.contents errors.old) (E.contents errors.new)) (DoesSequentialJob true kind (option_map (λ text. text.now) texts.entry.from)) texts.entry.config.now result }
 {
-    let ended = do_text(alloc, seed, kind, text, reader, writer);
+    let ended = do_text(alloc, seed, kind, texts, reader, writer);
     tell_ending(errors, ended)
 }
 

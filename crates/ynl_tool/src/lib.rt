@@ -2,8 +2,8 @@
 #![tactic(auto)]
 
 pub use checking::check_text;
-pub use config_text::{fault_of, read_text};
-pub use jobs::{execute_check, execute_live, execute_sequential, tell};
+pub use config_text::{fault_of, read_state_text, read_text};
+pub use jobs::{JobTexts, execute_check, execute_live, execute_sequential, tell};
 pub use live::live_lines;
 pub use ynl_check::{Form, Verdict};
 pub use ynl_commands::{

@@ -1,14 +1,10 @@
-use Rattle.std.proofs.Common.{Err, ap, sym, subst, ◌∙◌}
-use Rattle.std.proofs.lemmas.Result.{err_from_is_err_and}
-use Rattle.ynl_commands.specs.Input.{between}
-use Rattle.ynl_tool.specs.Jobs.{ExplainsJob}
-use Rattle.ynl_tool.proofs.Idle.{idle_explain}
+use Rattle.std.specs.Prelude.{option_map}
+use Rattle.ynl_tool.proofs.Idle.{explain_without}
 use Rattle.ynl_tool.proofs.jobs.explain_job.Goals as goal
 
--- no memory for the cluster
-pub returns-in_err-core : goal.returns-in_err-core
-returns-in_err-core g c =
-    let p = err_from_is_err_and c.from_residual.result c.from_residual.ensures.1 in
+-- nothing was read or written
+pub returns-in-Err : goal.returns-in-Err
+returns-in-Err g c =
     let a = g.R.Read.remaining c.args.reader.now in
     let w = g.W.Write.contents c.args.writer.now in
-    subst (ExplainsJob (between a a) (between w w) c.args.config c.args.question.now) (sym (p.1 ∙ ap Err p.2)) (idle_explain a w c.args.config c.args.question.now)
+    explain_without a w c.args.config (option_map (λ text. text.now) c.args.from) c.args.question.now c.in-Err.ended c.in-Err.ensures.none
