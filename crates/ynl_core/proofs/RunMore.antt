@@ -5,11 +5,11 @@ use Rattle.ynl_model.specs.declared.replies.Reply.{Reply}
 use Rattle.ynl_core.specs.declared.runs.Answer.{Answer}
 use Rattle.ynl_core.specs.declared.runs.Answer.TheVariants.{Replied, NoMemory}
 use Rattle.ynl_model.specs.Queues.{Config}
-use Rattle.ynl_model.specs.Cluster.{State, opening}
-use Rattle.ynl_model.specs.Events.{step, replies, after, replies_to, state_after}
-use Rattle.ynl_core.specs.World.{World, opened}
+use Rattle.ynl_model.specs.Cluster.{State}
+use Rattle.ynl_model.specs.Events.{step, replies, after}
+use Rattle.ynl_core.specs.World.{World}
 use Rattle.ynl_core.specs.Sure.{takes_no_memory}
-use Rattle.ynl_core.specs.Runs.{Answered, has_reply, kept, replied, left_by, AreSure, IsRun}
+use Rattle.ynl_core.specs.Runs.{Answered, has_reply, kept, replied, left_by, AreSure, IsRunFrom}
 
 kept_replied : (es : List Event) (rest : List Answer) (e : Event) (r : Reply) → length rest ≡ length es → kept (es ++ e ∷ []) (rest ++ Replied r ∷ []) ≡ kept es rest ++ e ∷ []
 kept_replied [] [] e r n = refl
@@ -48,23 +48,24 @@ abbrev world : Config → State → World
 world c s = record { config = c; state = s }
 
 -- the answer to one more event makes a run of one more
-pub run_more : (c : Config) (es : List Event) (rest : List Answer) (old new : World) (e : Event) (a : Answer) → IsRun c es rest old → Answered old e new a → IsRun c (es ++ e ∷ []) (rest ++ a ∷ []) new
-run_more c es rest old new e (Replied r) i h =
-    let so_far : State = state_after c (kept es rest) in
+pub run_more : (w : World) (es : List Event) (rest : List Answer) (old new : World) (e : Event) (a : Answer) → IsRunFrom w es rest old → Answered old e new a → IsRunFrom w (es ++ e ∷ []) (rest ++ a ∷ []) new
+run_more w es rest old new e (Replied r) i h =
+    let c : Config = w.config in
+    let so_far : State = after c w.state (kept es rest) in
     let k : kept (es ++ e ∷ []) (rest ++ Replied r ∷ []) ≡ kept es rest ++ e ∷ [] = kept_replied es rest e r i.each in
     let told : r ≡ (step c so_far e).reply = h.told ∙ ap (λ (w : World). (step w.config w.state e).reply) i.left in
     let left : new ≡ world c (step c so_far e).state = h.left ∙ ap (λ (w : World). world w.config (step w.config w.state e).state) i.left in
     record {
       each = omega (arith, i.each, length-append rest (Replied r ∷ []), length-append es (e ∷ []));
-      told = replied_push rest r ∙ ap (λ zs. zs ++ r ∷ []) i.told ∙ ap (λ q. replies_to c (kept es rest) ++ q ∷ []) told ∙ sym (replies_push c (opening c) (kept es rest) e) ∙ ap (replies_to c) (sym k);
-      left = left ∙ ap (world c) (sym (state_push c (opening c) (kept es rest) e) ∙ ap (state_after c) (sym k));
+      told = replied_push rest r ∙ ap (λ zs. zs ++ r ∷ []) i.told ∙ ap (λ q. replies c w.state (kept es rest) ++ q ∷ []) told ∙ sym (replies_push c w.state (kept es rest) e) ∙ ap (replies c w.state) (sym k);
+      left = left ∙ ap (world c) (sym (state_push c w.state (kept es rest) e) ∙ ap (after c w.state) (sym k));
     }
-run_more c es rest old new e NoMemory i h =
+run_more w es rest old new e NoMemory i h =
     let k : kept (es ++ e ∷ []) (rest ++ NoMemory ∷ []) ≡ kept es rest = kept_refused es rest e i.each in
     record {
       each = omega (arith, i.each, length-append rest (NoMemory ∷ []), length-append es (e ∷ []));
-      told = replied_same rest ∙ i.told ∙ ap (replies_to c) (sym k);
-      left = h ∙ i.left ∙ ap (λ zs. world c (state_after c zs)) (sym k);
+      told = replied_same rest ∙ i.told ∙ ap (replies w.config w.state) (sym k);
+      left = h ∙ i.left ∙ ap (λ zs. world w.config (after w.config w.state zs)) (sym k);
     }
 
 -- the cluster that some events leave
@@ -87,8 +88,8 @@ sure_push w (x ∷ es) [] e a n h last = absurd (omega arith)
 sure_push w (x ∷ es) (b ∷ rest) e a n h last = (h.0, sure_push (left_by w x b) es rest e a (omega arith) h.1 last)
 
 -- one more event that is answered where it is sure to be
-pub sure_more : (c : Config) (es : List Event) (rest : List Answer) (old : World) (e : Event) (a : Answer) → IsRun c es rest old → AreSure (opened c) es rest
-    → (IsTrue (takes_no_memory old e) → IsTrue (has_reply a)) → AreSure (opened c) (es ++ e ∷ []) (rest ++ a ∷ [])
-sure_more c es rest old e a run h last =
-    sure_push (opened c) es rest e a run.each h
-    (subst (λ w. IsTrue (takes_no_memory w e) → IsTrue (has_reply a)) (run.left ∙ sym (left_kept c (opening c) es rest)) last)
+pub sure_more : (w : World) (es : List Event) (rest : List Answer) (old : World) (e : Event) (a : Answer) → IsRunFrom w es rest old → AreSure w es rest
+    → (IsTrue (takes_no_memory old e) → IsTrue (has_reply a)) → AreSure w (es ++ e ∷ []) (rest ++ a ∷ [])
+sure_more w es rest old e a run h last =
+    sure_push w es rest e a run.each h
+    (subst (λ w. IsTrue (takes_no_memory w e) → IsTrue (has_reply a)) (run.left ∙ sym (left_kept w.config w.state es rest)) last)

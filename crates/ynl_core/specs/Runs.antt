@@ -5,9 +5,9 @@ use Rattle.ynl_model.specs.declared.replies.Reply.{Reply}
 use Rattle.ynl_core.specs.declared.runs.Answer.{Answer}
 use Rattle.ynl_core.specs.declared.runs.Answer.TheVariants.{Replied, NoMemory}
 use Rattle.ynl_model.specs.Queues.{Config}
-use Rattle.ynl_model.specs.Events.{replies_to, state_after}
+use Rattle.ynl_model.specs.Events.{after, replies}
 use Rattle.ynl_core.specs.Sure.{takes_no_memory}
-use Rattle.ynl_core.specs.World.{World, Answers, stepped}
+use Rattle.ynl_core.specs.World.{World, Answers, opened, stepped}
 
 -- an event was answered as the model does, or for want of memory nothing changed
 abbrev pub Answered : World → Event → World → Answer → Type 0
@@ -32,11 +32,15 @@ replied [] = []
 replied (Replied r ∷ rest) = r ∷ replied rest
 replied (NoMemory ∷ rest) = replied rest
 
--- one answer for each event; the replies and the state are those of the model over the events that memory was not refused for
-pub record IsRun (c : Config) (events : List Event) (answers : List Answer) (core : World) : Type 0 where
+-- one answer for each event; the replies and the cluster are those of the model, from a cluster on, over the events that memory was not refused for
+pub record IsRunFrom (w : World) (events : List Event) (answers : List Answer) (core : World) : Type 0 where
   pub each : length answers ≡ length events
-  pub told : replied answers ≡ replies_to c (kept events answers)
-  pub left : core ≡ record { config = c; state = state_after c (kept events answers) }
+  pub told : replied answers ≡ replies w.config w.state (kept events answers)
+  pub left : core ≡ record { config = w.config; state = after w.config w.state (kept events answers) }
+
+-- the same of a cluster that was just opened
+abbrev pub IsRun : Config → List Event → List Answer → World → Type 0
+IsRun c events answers core = IsRunFrom (opened c) events answers core
 
 -- the cluster after an event that was answered so
 abbrev pub left_by : World → Event → Answer → World

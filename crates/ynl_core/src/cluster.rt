@@ -13,6 +13,7 @@ ghost use Rattle.ynl_core.specs.Reached.{WorksAndIsTold};
 ghost use Rattle.ynl_core.specs.Sure.{takes_no_memory};
 ghost use Rattle.ynl_core.specs.Sightings.{IsSighting, reply_by};
 ghost use Rattle.ynl_core.specs.World.{opened, Answers};
+ghost use Rattle.ynl_laws.specs.Working.{IsWorking};
 ghost use Rattle.ynl_waits.specs.Laws.{AreNextPlaced, IsNotCommitted, IsNotPlaced, IsTold, OfEach};
 ghost use Rattle.ynl_waits.specs.Waits.{explained_of};
 
@@ -22,10 +23,10 @@ use std::alloc::Global;
 use std::marker::Model;
 use ynl_admission::{node_named, partition_of, placing};
 use ynl_cluster::Cluster;
-use ynl_model::{AskRow, Event, Placed, Proposal, Reply};
+use ynl_model::{AskRow, Event, Node, Placed, Proposal, Reply};
 use ynl_queues::Config;
 use ynl_reading::{explain, master_limit_of, user_limit_of};
-use ynl_replies::containers;
+use ynl_replies::{containers, nodes};
 use ynl_resource::{Label, Name, Path, Refusal, Resource, Size};
 use ynl_saving::Saving;
 use ynl_service::{check, proposed};
@@ -164,6 +165,16 @@ impl Core {
         ensures { result.now ≡ self.now.config }
     {
         self.cluster.config()
+    }
+
+    /// The nodes, in the order of joining. Nothing changes; `Err` only if memory is refused.
+    pub fn nodes(&self, alloc: Global) -> Result<Vec<Node>, NoMemory>
+        ensures nodes { IfOk result (λ list. list.items ≡ self.now.state.nodes) }
+        ensures works { IsWorking self.now.config self.now.state }
+    {
+        // Opens the rows, which are sound.
+        let _ = self.cluster.inventory();
+        Ok(nodes(alloc, &self.cluster)?)
     }
 
     /// The containers on a partition, in the order of placement, which is that of their ids.

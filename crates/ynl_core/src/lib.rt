@@ -3,7 +3,7 @@
 
 pub use cluster::Core;
 pub use memory::NoMemory;
-pub use running::run;
+pub use running::{run, run_from};
 pub use runs::{Answer, Run};
 pub use sightings::Sighted;
 

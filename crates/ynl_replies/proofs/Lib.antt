@@ -1,4 +1,5 @@
 pub mod Sorted
+pub mod NodeRows
 pub mod Following
 pub mod Apps
 pub mod QueuePaths

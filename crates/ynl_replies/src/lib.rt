@@ -2,7 +2,7 @@
 #![tactic(auto)]
 
 pub use asking::pending;
-pub use listing::{containers, own_containers, placed_at};
+pub use listing::{containers, node_at, nodes, own_containers, placed_at};
 pub use paths::path_of;
 pub use polling::{held, usage};
 

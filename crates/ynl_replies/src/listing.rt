@@ -1,20 +1,61 @@
-//! Lists of containers.
+//! Lists of nodes and of containers.
 
 ghost use Rattle.std.specs.Prelude.{◌≡◌, ◌++◌, ◌∷◌, [], nat_eq, IfOk, OnOk, IfSome, IsSome, Some};
 ghost use Rattle.std.specs.Map.{lookup};
 ghost use Rattle.ynl_model.specs.Changes.{own_containers};
 ghost use Rattle.ynl_model.specs.Cluster.{containers_on};
 ghost use Rattle.ynl_slots.specs.Slots.{IsLive};
-ghost use Rattle.ynl_inventory.specs.Rows.{AppRow};
-ghost use Rattle.ynl_inventory.specs.Meaning.{placed_of};
+ghost use Rattle.ynl_inventory.specs.Rows.{AppRow, NodeRow};
+ghost use Rattle.ynl_inventory.specs.Meaning.{node_of, placed_of};
 ghost use Rattle.ynl_inventory.specs.Parts.{held_at};
 ghost use Rattle.ynl_inventory.specs.Sound.{HasPartition};
 ghost use Rattle.ynl_cluster.specs.Cluster.{label_of, name_in, state_in, tenant_in};
 
 use std::alloc::{AllocError, Global};
 use ynl_cluster::Cluster;
-use ynl_model::Placed;
+use ynl_model::{Node, Placed};
 use ynl_resource::Id;
+
+/// The node under a number.
+pub fn node_at(cluster: &Cluster, node: u32) -> Node
+    requires { IsLive node cluster.now.rows.nodes }
+    ensures { (row : NodeRow) → lookup (nat_eq node) cluster.now.rows.nodes ≡ Some row
+        → result ≡ node_of cluster.now.rows.partitions row }
+{
+    let inventory = cluster.inventory();
+    let row = inventory.node(node);
+    Node {
+        name: row.name,
+        label: *inventory.label(row.partition),
+        size: row.size,
+        stamp: row.stamp,
+    }
+}
+
+/// A node comes last.
+fn add_node(list: &mut Vec<Node>, node: &Node) -> Result<(), AllocError>
+    ensures { OnOk result (list.new.items ≡ list.old.items ++ node.now ∷ []) }
+{
+    list.push(Node {
+        name: node.name,
+        label: node.label,
+        size: node.size,
+        stamp: node.stamp,
+    })?;
+    Ok(())
+}
+
+/// The nodes, in the order of joining. It fails if memory is refused, and takes the time of a sort.
+pub fn nodes(alloc: Global, cluster: &Cluster) -> Result<Vec<Node>, AllocError>
+    ensures { IfOk result (λ list. list.items ≡ (state_in cluster.now).nodes) }
+{
+    let numbers = cluster.inventory().live_nodes(alloc)?;
+    let mut list = Vec::new(alloc);
+    for i in 0..numbers.len() {
+        add_node(&mut list, &node_at(cluster, numbers[i]))?;
+    }
+    Ok(list)
+}
 
 /// The container under a number in a partition.
 pub fn placed_at(cluster: &Cluster, p: u8, number: u32) -> Placed

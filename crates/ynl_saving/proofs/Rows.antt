@@ -23,44 +23,24 @@ use Rattle.ynl_model.specs.Applications.{LeafApps, find_app}
 use Rattle.ynl_model.specs.Cluster.{Partition}
 use Rattle.ynl_model.specs.Queues.{QueueRow, is_leaf}
 use Rattle.ynl_container_table.proofs.Removing.{at_live}
-use Rattle.ynl_slots.specs.Slots.{HasDistinctNumbers, IsLive}
 use Rattle.ynl_layout.specs.Paths.{HasNumber, path_at}
 use Rattle.ynl_submissions.specs.declared.submissions.Submission.{Submission}
-use Rattle.ynl_inventory.specs.Rows.{Rows, PartitionRow, NodeRow, AppRow}
+use Rattle.ynl_inventory.specs.Rows.{Rows, PartitionRow, AppRow}
 use Rattle.ynl_inventory.specs.Apps.{containers_of}
-use Rattle.ynl_inventory.specs.Meaning.{has_none_below, label_at, leaf_numbers, leaves_from, leaf_of, live_of, node_of, partition_of, placed_of, submitted_to, tenant_at}
+use Rattle.ynl_inventory.specs.Meaning.{has_none_below, label_at, leaf_numbers, leaves_from, leaf_of, live_of, partition_of, placed_of, submitted_to, tenant_at}
 use Rattle.ynl_inventory.specs.Parts.{Held, held_at}
 use Rattle.ynl_inventory.specs.Sound.{HasPartition, IsFor, IsLeaf, IsSound}
 use Rattle.ynl_inventory.proofs.AppsFound.{app-found, row-found}
 use Rattle.ynl_inventory.proofs.Lookups.{in-place, place-there}
 use Rattle.ynl_inventory.proofs.PartLists.{unmapped}
 use Rattle.ynl_inventory.proofs.Submitted.{app-submission, each-leaf}
-use Rattle.ynl_inventory.proofs.Updates.{each-number}
 use Rattle.ynl_cluster.specs.Cluster.{ClusterView, held_in, label_of, state_in}
 use Rattle.ynl_saved.specs.declared.lines.StateLine.{StateLine}
-use Rattle.ynl_saved.specs.declared.lines.StateLine.TheVariants.{Container as ContainerLine, Finished, Node as NodeLine, Partition as PartitionLine}
+use Rattle.ynl_saved.specs.declared.lines.StateLine.TheVariants.{Container as ContainerLine, Finished, Partition as PartitionLine}
 use Rattle.ynl_saved.specs.Saving.{app_lines, leaf_lines, live_lines, partition_line}
 use Rattle.ynl_saved.proofs.Handing.{take-one}
 use Rattle.ynl_laws.proofs.Lists.{Each-append}
 use Rattle.ynl_saving.specs.Told.{submission_lines}
-
--- ---- entries under numbers
-
--- the entry in a place, by the number there
-pub record IsEntryAt {X : Type 0} (es : List (ℕ × X)) (i n : ℕ) : Type 0 where
-  pub row : X
-  pub at : slice_get es i ≡ Some (n, row)
-  pub found : lookup (nat_eq n) es ≡ Some row
-
-pub entry-at : {X : Type 0} (es : List (ℕ × X)) → HasDistinctNumbers es → (i n : ℕ) → slice_get (map (λ e. e.0) es) i ≡ Some n → IsEntryAt es i n
-entry-at {X} es distinct i n is =
-    let own = unmapped (λ (e : ℕ × X). e.0) (slice_get es i) n (sym (slice_get-map (λ (e : ℕ × X). e.0) es i) ∙ is) in
-    let found = in-place (λ (e : ℕ × X). lookup (nat_eq e.0) es ≡ Some e.1) es i own.0 (each-number (λ m row. lookup (nat_eq m) es ≡ Some row) es distinct (λ m row found. found)) own.1 in
-    record {
-      row = own.0.1;
-      at = own.1 ∙ ap (λ (m : ℕ). Some (m, own.0.1)) own.2;
-      found = ap (λ m. lookup (nat_eq m) es) (sym own.2) ∙ found;
-    }
 
 -- ---- leaves
 
@@ -144,24 +124,6 @@ module _ (w : ClusterView) (p : ℕ) where
   partition-there has =
       let there = place-there w.rows.partitions p has in
       (there.0, there.1, slice_get-map (partition_of w.rows) w.rows.partitions p ∙ ap (option_map (partition_of w.rows)) there.1)
-
--- ---- nodes
-
-module _ (w : ClusterView) (sound : IsSound w.rows) (numbers : List ℕ) (are : numbers ≡ map (λ e. e.0) w.rows.nodes) (i : ℕ) (inside : i < length numbers) where
-  -- the node whose number is in a place
-  pub node-at : IsEntryAt w.rows.nodes i (get_or numbers i 0)
-  node-at = entry-at w.rows.nodes sound.node_numbers i (get_or numbers i 0) (ap (λ ns. slice_get ns i) (sym are) ∙ slice_get-get_or numbers i 0 inside)
-
-  pub node-live : IsLive (get_or numbers i 0) w.rows.nodes
-  node-live = ap is_some node-at.found
-
-  -- its line is the one in that place
-  pub node-line-there : (line : StateLine) → ((row : NodeRow) → lookup (nat_eq (get_or numbers i 0)) w.rows.nodes ≡ Some row → line ≡ NodeLine (node_of w.rows.partitions row))
-      → slice_get (map NodeLine (state_in w).nodes) i ≡ Some line
-  node-line-there line told =
-      slice_get-map NodeLine (state_in w).nodes i
-      ∙ ap (option_map NodeLine) (slice_get-map (λ (e : ℕ × NodeRow). node_of w.rows.partitions e.1) w.rows.nodes i ∙ ap (option_map (λ (e : ℕ × NodeRow). node_of w.rows.partitions e.1)) node-at.at)
-      ∙ ap (λ (line : StateLine). Some line) (sym (told node-at.row node-at.found))
 
 -- ---- containers
 

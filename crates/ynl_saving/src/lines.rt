@@ -5,15 +5,15 @@ ghost use Rattle.std.specs.Map.{lookup};
 ghost use Rattle.ynl_resource.specs.Names.{tenant_of};
 ghost use Rattle.ynl_slots.specs.Slots.{IsLive};
 ghost use Rattle.ynl_app_table.specs.declared.asks.Ask.{Ask as AskPart};
-ghost use Rattle.ynl_inventory.specs.Rows.{AppRow, NodeRow};
-ghost use Rattle.ynl_inventory.specs.Meaning.{app_of, ask_of, node_of};
+ghost use Rattle.ynl_inventory.specs.Rows.{AppRow};
+ghost use Rattle.ynl_inventory.specs.Meaning.{app_of, ask_of};
 ghost use Rattle.ynl_inventory.specs.Sound.{HasPartition};
 ghost use Rattle.ynl_cluster.specs.Cluster.{state_in};
-ghost use Rattle.ynl_saved.specs.declared.lines.StateLine.TheVariants.{Ask as AskLine, Node as NodeLine};
+ghost use Rattle.ynl_saved.specs.declared.lines.StateLine.TheVariants.{Ask as AskLine};
 ghost use Rattle.ynl_saved.specs.Saving.{live_line, partition_line};
 
 use ynl_cluster::Cluster;
-use ynl_model::{AskRow, Node};
+use ynl_model::AskRow;
 use ynl_replies::path_of;
 use ynl_saved::StateLine;
 
@@ -28,22 +28,6 @@ pub(crate) fn partition_line(cluster: &Cluster, p: u8) -> StateLine
         label: *inventory.label(p),
         clock: inventory.clock(p),
     }
-}
-
-/// The line of a node.
-pub(crate) fn node_line(cluster: &Cluster, node: u32) -> StateLine
-    requires { IsLive node cluster.now.rows.nodes }
-    ensures { (row : NodeRow) → lookup (nat_eq node) cluster.now.rows.nodes ≡ Some row
-        → result ≡ NodeLine (node_of cluster.now.rows.partitions row) }
-{
-    let inventory = cluster.inventory();
-    let row = inventory.node(node);
-    StateLine::Node(Node {
-        name: row.name,
-        label: *inventory.label(row.partition),
-        size: row.size,
-        stamp: row.stamp,
-    })
 }
 
 /// The line of a live application.

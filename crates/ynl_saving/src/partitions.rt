@@ -6,9 +6,10 @@ ghost use Rattle.ynl_saved.specs.declared.lines.StateLine.TheVariants.{Node as N
 ghost use Rattle.ynl_saved.specs.Handing.{Hands};
 ghost use Rattle.ynl_saved.specs.Saving.{partition_line};
 
-use crate::lines::{node_line, partition_line};
+use crate::lines::partition_line;
 use ynl_cluster::Cluster;
-use ynl_saved::LineSink;
+use ynl_replies::node_at;
+use ynl_saved::{LineSink, StateLine};
 
 /// All partitions are told.
 pub(crate) fn hand_partitions<S: LineSink>(cluster: &Cluster, sink: &mut S) -> Result<(), S::Fault>
@@ -33,7 +34,7 @@ pub(crate) fn hand_nodes<S: LineSink>(
     // Opens the inventory, whose rows are sound.
     let _ = cluster.inventory();
     for i in 0..numbers.len() {
-        sink.take(&node_line(cluster, numbers[i]))?;
+        sink.take(&StateLine::Node(node_at(cluster, numbers[i])))?;
     }
     Ok(())
 }
