@@ -1,12 +1,10 @@
 -- Journals that agree from a state, in two parts.
-use Rattle.std.proofs.Common.{ℕ, List, [], ◌∷◌, ◌++◌, take, drop, sym, subst}
-use Rattle.std.proofs.lemmas.List.{take-append-drop}
+use Rattle.std.proofs.Common.{List, [], ◌∷◌, ◌++◌}
 use Rattle.ynl_model.specs.declared.entries.Entry.{Entry}
 use Rattle.ynl_model.specs.Queues.{Config}
 use Rattle.ynl_model.specs.Cluster.{State}
 use Rattle.ynl_model.specs.Events.{step, after}
-use Rattle.ynl_journal.specs.Journal.{events_in}
-use Rattle.ynl_commands.specs.Agreeing.{AgreesFrom}
+use Rattle.ynl_journal.specs.Journal.{AgreesFrom, events_in}
 
 -- entries that agree, and then more that do from the state that they leave
 pub agrees_both : (c : Config) (s : State) (es fs : List Entry) → AgreesFrom c s es → AgreesFrom c (after c s (events_in es)) fs → AgreesFrom c s (es ++ fs)
@@ -22,7 +20,3 @@ agrees_first c s (x ∷ xs) fs all = (all.0, agrees_first c (step c s x.event).s
 pub agrees_second : (c : Config) (s : State) (es fs : List Entry) → AgreesFrom c s (es ++ fs) → AgreesFrom c (after c s (events_in es)) fs
 agrees_second c s [] fs all = all
 agrees_second c s (x ∷ xs) fs all = agrees_second c (step c s x.event).state xs fs all.1
-
--- entries from the front agree as all do
-pub agrees_front : (c : Config) (s : State) (es : List Entry) (n : ℕ) → AgreesFrom c s es → AgreesFrom c s (take n es)
-agrees_front c s es n all = agrees_first c s (take n es) (drop n es) (subst (AgreesFrom c s) (sym (take-append-drop n es)) all)

@@ -4,7 +4,9 @@ use Rattle.std.proofs.lemmas.List.{take_at}
 use Rattle.ynl_model.specs.declared.entries.Entry.{Entry}
 use Rattle.ynl_model.specs.Queues.{Config}
 use Rattle.ynl_model.specs.Cluster.{State, opening}
+use Rattle.ynl_journal.specs.Journal.{AgreesFrom, FirstDiffersFrom}
 use Rattle.ynl_journal.specs.Same.{fits_reply}
+use Rattle.ynl_journal.proofs.Longer.{agrees_front}
 use Rattle.ynl_journal.proofs.Same.{fits_decides}
 use Rattle.ynl_journal.proofs.Shown.{agreeing_are_histories, histories_show_alone}
 use Rattle.ynl_lines.specs.declared.faults.JournalFault.{JournalFault}
@@ -16,9 +18,8 @@ use Rattle.ynl_fields.specs.Reading.{is_blank}
 use Rattle.ynl_commands.specs.Input.{Line, whole, too_long, lines_within, limit}
 use Rattle.ynl_commands.specs.Readings.{Reading, come_to, unless_faulty, read_on}
 use Rattle.ynl_commands.specs.Audit.{if_read, entry_said, kept_with, journal_way, journal_of, reply_after, audited_with, audit_way, audited, answer_of, audit_answer}
-use Rattle.ynl_commands.specs.Agreeing.{AgreesFrom, FirstDiffersFrom}
-use Rattle.ynl_commands.specs.Audited.{AgreeingPass, PassingAgree, FirstIsTold, FirstIsToldOpening, PassingShowAlone}
-use Rattle.ynl_commands.proofs.Agreeings.{agrees_both, agrees_second, agrees_front}
+use Rattle.ynl_commands.specs.Audited.{AgreeingPass, PassingAgree, FirstIsTold, PassingShowAlone}
+use Rattle.ynl_commands.proofs.Agreeings.{agrees_both, agrees_second}
 
 -- what is read of a journal
 abbrev Journal : Type 0
@@ -155,12 +156,6 @@ pub first_is_told : FirstIsTold
 first_is_told c s input tells =
     let r = audited c s input in
     first_by c s r (journal_of input) (told_some (length r.made) r.lines r.fault Differs tells) (never_differs (lines_within input limit) [] 0) (finds c s input)
-
--- and in the words of journals, from the opening state
-pub first_is_told_opening : FirstIsToldOpening
-first_is_told_opening c input tells =
-    let first = first_is_told c (opening c) input tells in
-    record { counted = first.counted; inside = first.inside; before = first.before; there = first.there }
 
 pub passing_show_alone : PassingShowAlone
 passing_show_alone c input t p none answered accepted sole =

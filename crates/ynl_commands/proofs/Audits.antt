@@ -22,7 +22,7 @@ use Rattle.ynl_commands.specs.Readings.{Reading, ReadsTo, ReadsSome}
 use Rattle.ynl_commands.specs.Running.{Writes}
 use Rattle.ynl_commands.specs.Audit.{entry_said, reply_after, audited_with, audit_way, audited, answer_of, audit_answer}
 use Rattle.ynl_commands.specs.Auditing.{IsAuditOf, fits_next, TakesEntry, Passes, Finds, IsAnswerTo, AuditsWhole, AuditsJournal}
-use Rattle.ynl_commands.proofs.ClustersAfter.{replayed_push}
+use Rattle.ynl_journal.proofs.Longer.{replayed_push}
 use Rattle.ynl_commands.proofs.Readings.{OfReading, ReadSoFar, at_first, took}
 use Rattle.ynl_commands.proofs.Runs.{of_some}
 

@@ -1,15 +1,10 @@
 -- Clusters that events are applied to, one after another.
 use Rattle.std.proofs.Common.{◌≡◌, ℕ, ◌+◌, ◌<◌, List, [], ◌∷◌, ◌++◌, length, take, get_or, sym, ap, ◌∙◌}
-use Rattle.std.specs.Prelude.{map}
-use Rattle.std.proofs.lemmas.List.{take_more, map-append}
+use Rattle.std.proofs.lemmas.List.{take_more}
 use Rattle.ynl_model.specs.declared.events.Event.{Event}
 use Rattle.ynl_model.specs.declared.replies.Reply.{Reply}
-use Rattle.ynl_model.specs.declared.entries.Entry.{Entry}
-use Rattle.ynl_model.specs.Queues.{Config}
-use Rattle.ynl_model.specs.Cluster.{State}
 use Rattle.ynl_core.specs.World.{World, Answers, stepped}
 use Rattle.ynl_core.proofs.RunMore.{state_push}
-use Rattle.ynl_commands.specs.Auditing.{replayed_from}
 use Rattle.ynl_commands.specs.Clusters.{cluster_after}
 
 -- the events up to the next
@@ -27,8 +22,3 @@ pub one_event_more : (core : World) (es : List Event) (i : ℕ) (e : Event) (old
     → new ≡ cluster_after core (take (i + 1) es)
 one_event_more core es i e old new r inside at is answers =
     answers.left ∙ ap (λ (w : World). stepped w e) is ∙ sym (cluster_push core (take i es) e) ∙ ap (cluster_after core) (sym (take_one_more es i e inside at))
-
--- the cluster after one entry more
-pub replayed_push : (c : Config) (s : State) (es : List Entry) (e : Entry) → replayed_from c s (es ++ e ∷ []) ≡ stepped (replayed_from c s es) e.event
-replayed_push c s es e =
-    ap (cluster_after (record { config = c; state = s })) (map-append (λ (x : Entry). x.event) es (e ∷ [])) ∙ cluster_push (record { config = c; state = s }) (map (λ (x : Entry). x.event) es) e.event

@@ -6,11 +6,10 @@ use Rattle.ynl_model.specs.Queues.{Config}
 use Rattle.ynl_model.specs.Cluster.{State, opening}
 use Rattle.ynl_model.specs.Accepted.{is_accepted}
 use Rattle.ynl_model.specs.View.{is_sole}
-use Rattle.ynl_journal.specs.Journal.{FirstDiffers}
+use Rattle.ynl_journal.specs.Journal.{AgreesFrom, FirstDiffersFrom}
 use Rattle.ynl_journal.specs.Promises.{AreAnswered, ShowsAlone}
 use Rattle.ynl_lines.specs.declared.faults.JournalFault.TheVariants.{Differs}
 use Rattle.ynl_lines.specs.declared.faults.InputFault.TheVariants.{Journal as InJournal}
-use Rattle.ynl_commands.specs.Agreeing.{AgreesFrom, FirstDiffersFrom}
 use Rattle.ynl_commands.specs.Audit.{journal_of, audited, audit_answer, audit_of}
 
 -- where each reply that the journal has is the cluster's, its audit tells just what reading it finds: how many entries it has, or its fault
@@ -25,11 +24,6 @@ PassingAgree = (c : Config) (s : State) (input : List ℕ) → (audit_of c s inp
 abbrev pub FirstIsTold : Type 0
 FirstIsTold =
     (c : Config) (s : State) (input : List ℕ) → (audit_of c s input).fault ≡ Some (InJournal Differs) → FirstDiffersFrom c s (journal_of input).made (length (audited c s input).made + 1)
-
--- the same from the opening state, in the words of journals
-abbrev pub FirstIsToldOpening : Type 0
-FirstIsToldOpening =
-    (c : Config) (input : List ℕ) → (audit_of c (opening c) input).fault ≡ Some (InJournal Differs) → FirstDiffers c (journal_of input).made (length (audited c (opening c) input).made + 1)
 
 -- A journal that passes its audit from the opening state under an accepted configuration, and of which each entry has a reply, shows each
 -- tenant that alone may use an exclusive partition as alone there.

@@ -6,8 +6,8 @@ use Rattle.ynl_model.specs.Queues.{Config}
 use Rattle.ynl_model.specs.Cluster.{State}
 use Rattle.ynl_model.specs.Events.{step}
 use Rattle.ynl_core.specs.declared.memory.NoMemory.{NoMemory as Refused}
-use Rattle.ynl_core.specs.World.{World, stepped}
-use Rattle.ynl_journal.specs.Journal.{events_in}
+use Rattle.ynl_core.specs.World.{stepped}
+use Rattle.ynl_journal.specs.Journal.{replayed_from}
 use Rattle.ynl_journal.specs.Same.{fits_reply}
 use Rattle.ynl_lines.specs.declared.faults.JournalFault.{JournalFault}
 use Rattle.ynl_commands.specs.declared.audit.Audit.{Audit}
@@ -15,17 +15,12 @@ use Rattle.ynl_commands.specs.declared.audit.Found.{Found}
 use Rattle.ynl_commands.specs.declared.run.ToolFault.{ToolFault}
 use Rattle.ynl_commands.specs.declared.run.ToolFault.TheVariants.{Read, Write, NoMemory, Unclosed}
 use Rattle.ynl_commands.specs.declared.run.Summary.{Summary}
-use Rattle.ynl_commands.specs.Clusters.{cluster_after}
 use Rattle.ynl_commands.specs.Input.{Stream}
 use Rattle.ynl_commands.specs.Readings.{Reading, ReadsTo, ReadsSome}
 use Rattle.ynl_commands.specs.Running.{LeavesFront}
 use Rattle.ynl_commands.specs.Audit.{entry_said, audited_with, audit_way, audit_answer, audit_of}
 
 -- ---- an entry after another
-
--- the cluster after the events of entries, from a state
-abbrev pub replayed_from : Config → State → List Entry → World
-replayed_from c s entries = cluster_after (record { config = c; state = s }) (events_in entries)
 
 -- The audit has come to the end of these entries.
 pub record IsAuditOf (c : Config) (s : State) (entries : List Entry) (audit : Audit) : Type 0 where

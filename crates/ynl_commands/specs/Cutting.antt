@@ -4,9 +4,8 @@ use Rattle.ynl_model.specs.declared.entries.Entry.{Entry}
 use Rattle.ynl_model.specs.Queues.{Config}
 use Rattle.ynl_model.specs.Cluster.{State}
 use Rattle.ynl_model.specs.Events.{after}
-use Rattle.ynl_journal.specs.Journal.{events_in}
+use Rattle.ynl_journal.specs.Journal.{AgreesFrom, events_in}
 use Rattle.ynl_words.specs.declared.words.Question.{Question}
-use Rattle.ynl_commands.specs.Agreeing.{AgreesFrom}
 use Rattle.ynl_commands.specs.Explaining.{explanation}
 use Rattle.ynl_commands.specs.Input.{limit, EndsLine}
 use Rattle.ynl_commands.specs.Readings.{come_to}

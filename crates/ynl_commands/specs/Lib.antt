@@ -1,4 +1,3 @@
-pub mod Agreeing
 pub mod Answering
 pub mod Audit
 pub mod Audited

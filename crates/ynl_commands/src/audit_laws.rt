@@ -1,6 +1,6 @@
 //! What an audit tells: laws of the definition of what [`audit_lines`](crate::audit_lines) writes.
 
-ghost use Rattle.ynl_commands.specs.Audited.{AgreeingPass, FirstIsTold, FirstIsToldOpening, PassingAgree, PassingShowAlone};
+ghost use Rattle.ynl_commands.specs.Audited.{AgreeingPass, FirstIsTold, PassingAgree, PassingShowAlone};
 
 /// A journal whose replies are all the cluster's passes, from whatever state: the audit finds its entries,
 /// or the fault that reading it finds.
@@ -14,11 +14,10 @@ pub fn passing_journals_agree()
     ensures { PassingAgree }
 {}
 
-/// Where an audit tells that a reply differs, it is that of the first entry of which this holds: from
-/// whatever state, and so from the opening state.
+/// Where an audit tells that a reply differs, it is that of the first entry of which this holds, from
+/// whatever state.
 pub fn the_first_that_differs_is_told()
-    ensures every { FirstIsTold }
-    ensures opening { FirstIsToldOpening }
+    ensures { FirstIsTold }
 {}
 
 /// A journal that passes its audit from the opening state and lacks no reply shows each tenant that alone may

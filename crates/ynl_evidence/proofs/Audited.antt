@@ -11,6 +11,7 @@ use Rattle.ynl_model.specs.Queues.{Config}
 use Rattle.ynl_model.specs.Events.{step}
 use Rattle.ynl_model.specs.View.{track, track_step, restrict}
 use Rattle.ynl_core.specs.World.{World, Answers, stepped}
+use Rattle.ynl_model.specs.Cluster.{opening}
 use Rattle.ynl_journal.specs.Journal.{replayed}
 use Rattle.ynl_journal.specs.Same.{fits_reply}
 use Rattle.ynl_journal.proofs.Longer.{known_reply, replayed_push}
@@ -31,7 +32,7 @@ module _ (c : Config) (t : Name) (p : Label) (before : List Placed) (old : Trial
 
   -- what was compared is the reply of the tenant's own cluster
   compared : (new : World) (r : Reply) → Answers old.core x.1.event new r → r ≡ reply_alone c t before x.1.event
-  compared new r told = known_reply (restrict c t) (entries_in before) old.core new x.1.event r is.core told
+  compared new r told = known_reply (restrict c t) (opening (restrict c t)) (entries_in before) old.core new x.1.event r is.core told
 
   pub taken-next : is_behind old.last x.0 ≡ true → is_kept c t p old.track x.1.event ≡ true → (new : World) (r : Reply) → Answers old.core x.1.event new r → fits_reply x.1 r ≡ true → taken c t p before x ≡ Ok (before ++ x ∷ [])
   taken-next on kept new r told fits = takes c t p before x (may-follow on true kept) (ap (fits_reply x.1) (sym (compared new r told)) ∙ fits)
@@ -49,7 +50,7 @@ module _ (c : Config) (t : Name) (p : Label) (before : List Placed) (old : Trial
 
   pub trial-push : is_behind old.last x.0 ≡ true → (new : Trial) (r : Reply) → Answers old.core x.1.event new.core r → new.track ≡ track_step c old.track x.1.event → new.last ≡ Some x.0 → IsTrialOf c t (before ++ x ∷ []) new
   trial-push on new r told step last = record {
-    core = told.left ∙ ap (λ (w : World). stepped w x.1.event) is.core ∙ sym (replayed_push (restrict c t) (entries_in before) x.1) ∙ ap (replayed (restrict c t)) (sym (map-append (λ (y : Placed). y.1) before (x ∷ [])));
+    core = told.left ∙ ap (λ (w : World). stepped w x.1.event) is.core ∙ sym (replayed_push (restrict c t) (opening (restrict c t)) (entries_in before) x.1) ∙ ap (replayed (restrict c t)) (sym (map-append (λ (y : Placed). y.1) before (x ∷ [])));
     track = step ∙ ap (λ nodes. track_step c nodes x.1.event) is.track ∙ sym (track-push c [] (events_placed before) x.1.event) ∙ ap (track c) (sym (events-push before x));
     last = λ place.
         list_all-append (λ (y : Placed). nat_lt y.0 place) before (x ∷ [])

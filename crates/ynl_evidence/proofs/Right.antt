@@ -12,6 +12,7 @@ use Rattle.ynl_resource.specs.declared.labels.Label.{Label}
 use Rattle.ynl_model.specs.declared.entries.Entry.{Entry}
 use Rattle.ynl_model.specs.Queues.{Config}
 use Rattle.ynl_model.specs.View.{track, view, events_of, restrict}
+use Rattle.ynl_model.specs.Cluster.{opening}
 use Rattle.ynl_journal.specs.Journal.{Agrees}
 use Rattle.ynl_journal.specs.Same.{fits_reply}
 use Rattle.ynl_journal.proofs.Longer.{agrees_push}
@@ -57,7 +58,7 @@ right-push c t p before x right follows alike =
     record {
       rising = all_pairs_push (λ (a b : Placed). a.0 < b.0) before x right.rising (λ k y inside. above before x.0 parts.0 k y inside);
       kept = ap (λ es. events_of (view c es t p)) (events-push before x) ∙ view-push t p c 0 [] (events_placed before) x.1.event seen ∙ ap (λ es. es ++ x.1.event ∷ []) right.kept ∙ sym (events-push before x);
-      alone = subst A (sym (map-append (λ (y : Placed). y.1) before (x ∷ []))) (agrees_push (restrict c t) (entries_in before) x.1 right.alone ((fits_decides x.1 (reply_alone c t before x.1.event)).0 alike));
+      alone = subst A (sym (map-append (λ (y : Placed). y.1) before (x ∷ []))) (agrees_push (restrict c t) (opening (restrict c t)) (entries_in before) x.1 right.alone ((fits_decides x.1 (reply_alone c t before x.1.event)).0 alike));
     }
 
 pub right-nothing : (c : Config) (t : Name) (p : Label) → IsRight c t p []

@@ -1,4 +1,5 @@
 pub mod Longer
 pub mod Booked
 pub mod Shown
+pub mod Joined
 pub mod Same

@@ -5,8 +5,8 @@ use Rattle.ynl_model.specs.declared.replies.Reply.{Reply}
 use Rattle.ynl_model.specs.declared.replies.Reply.TheVariants.{Refused}
 use Rattle.ynl_model.specs.declared.entries.Entry.{Entry}
 use Rattle.ynl_model.specs.Queues.{Config}
-use Rattle.ynl_model.specs.Cluster.{State, opening}
-use Rattle.ynl_model.specs.Events.{step, state_after}
+use Rattle.ynl_model.specs.Cluster.{State}
+use Rattle.ynl_model.specs.Events.{step, after}
 use Rattle.ynl_journal.specs.declared.journal.Book.TheInside.{Inside}
 use Rattle.ynl_journal.specs.Journal.{Journal, entry}
 
@@ -25,13 +25,11 @@ entries_from c s [] planned = []
 entries_from c s (e ∷ es) [] = []
 entries_from c s (e ∷ es) (p ∷ ps) = entry e (written p (step c s e).reply) ∷ entries_from c (step c s e).state es ps
 
-abbrev pub entries_after : Config → List Event → List Bool → List Entry
-entries_after c events planned = entries_from c (opening c) events planned
-
 abbrev pub journal_of : Inside → Journal
-journal_of b = record { config = b.core.config; entries = entries_after b.core.config b.events b.planned.items }
+journal_of b = record { config = b.core.config; begun = b.start.value.state; entries = entries_from b.core.config b.start.value.state b.events b.planned.items }
 
--- the cluster is the one that the events lead to, and of each event it is kept whether its reply was left to be planned
+-- the cluster is the one that the events lead to from the start, and of each event it is kept whether its reply was left to be planned
 pub record IsReplay (b : Inside) : Type 0 where
-  pub state : b.core.state ≡ state_after b.core.config b.events
+  pub config : b.start.value.config ≡ b.core.config
+  pub state : b.core.state ≡ after b.core.config b.start.value.state b.events
   pub counted : length b.planned.items ≡ length b.events

@@ -1,16 +1,14 @@
 //! The audit of a journal.
 
-ghost use Rattle.std.specs.Prelude.{◌≡◌, ◌↔◌, [], IsTrue, OnOk, IfErr};
-ghost use Rattle.ynl_journal.specs.Journal.{Agrees, FitsReply, replayed};
+ghost use Rattle.std.specs.Prelude.{◌≡◌, ◌↔◌, IsTrue, OnOk, IfErr};
+ghost use Rattle.ynl_journal.specs.Journal.{AgreesFrom, FitsReply, replayed_from};
 ghost use Rattle.ynl_journal.specs.Audits.{GivesUp, IsFault};
 ghost use Rattle.ynl_journal.specs.Same.{fits_reply};
 
 use crate::comparing::is_same_reply;
-use std::alloc::Global;
 use thiserror::Error;
 use ynl_core::Core;
 use ynl_model::{Entry, Reply};
-use ynl_queues::Config;
 
 /// Why an audit does not pass.
 #[derive(Clone, Copy, Debug, PartialEq, Eq, Error)]
@@ -34,12 +32,13 @@ pub fn fits(entry: &Entry, reply: &Reply) -> bool
     }
 }
 
-/// Compares the replies that are there with those of a cluster that was just opened.
-fn audit_on(core: &mut Core, entries: &[Entry]) -> Result<(), AuditFault>
-    requires { core.old ≡ replayed core.old.config [] }
-    ensures ok { OnOk result (Agrees core.old.config entries.now) }
-    ensures err { IfErr result (IsFault core.old.config entries.now) }
-    ensures memory { IfErr result (GivesUp core.old.config entries.now core.new) }
+/// Applies the events in order to the cluster, and compares each reply that is there. An entry without a
+/// reply is applied all the same. At the end the cluster is the one that the entries lead to.
+pub fn audit(core: &mut Core, entries: &[Entry]) -> Result<(), AuditFault>
+    ensures ok { OnOk result (AgreesFrom core.old.config core.old.state entries.now) }
+    ensures core { OnOk result (core.new ≡ replayed_from core.old.config core.old.state entries.now) }
+    ensures err { IfErr result (IsFault core.old entries.now) }
+    ensures memory { IfErr result (GivesUp core.old entries.now core.new) }
 {
     for (i, entry) in entries.iter().enumerate() {
         let Ok(reply) = core.answer(&entry.event) else {
@@ -50,16 +49,4 @@ fn audit_on(core: &mut Core, entries: &[Entry]) -> Result<(), AuditFault>
         }
     }
     Ok(())
-}
-
-/// Applies the events in order to a cluster of this configuration, and compares each reply that is
-/// there. An entry without a reply is applied all the same.
-pub fn audit(alloc: Global, config: Config, entries: &[Entry]) -> Result<(), AuditFault>
-    ensures ok { OnOk result (Agrees config entries.now) }
-    ensures err { IfErr result (IsFault config entries.now) }
-{
-    match Core::open(alloc, config) {
-        Ok(mut core) => audit_on(&mut core, entries),
-        Err(_) => Err(AuditFault::NoMemory),
-    }
 }

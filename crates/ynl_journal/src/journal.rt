@@ -1,14 +1,19 @@
 //! The book of a cluster: all that it was told, and what it answered.
 
-ghost use Rattle.std.specs.Prelude.{◌≡◌, ◌+◌, ◌^◌, ◌<◌, [], ◌∷◌, ◌++◌, length, vec_len, vec_capacity, IfOk, OnOk, OnErr, Some};
+ghost use Rattle.std.specs.Prelude.{◌≡◌, ◌+◌, ◌^◌, ◌<◌, [], ◌∷◌, ◌++◌, length, vec_len, vec_capacity, IfOk, IsTrue, OnOk, OnErr, Some};
 ghost use Rattle.ynl_core.specs.Sightings.{IsSighting, reply_by, reply_before};
-ghost use Rattle.ynl_model.specs.Events.{IsHistory, state_after, step};
+ghost use Rattle.ynl_model.specs.Accepted.{is_accepted};
+ghost use Rattle.ynl_model.specs.Cluster.{opening};
+ghost use Rattle.ynl_model.specs.Events.{after, step};
 ghost use Rattle.ynl_model.specs.declared.events.Event.TheVariants.{Propose};
-ghost use Rattle.ynl_journal.specs.Journal.{Agrees, Journal, entry, events_in, replayed};
+ghost use Rattle.ynl_saved_laws.specs.Asks.{AllWithin};
+ghost use Rattle.ynl_journal.specs.Journal.{AgreesFrom, IsHistoryFrom, Journal, entry, events_in, replayed_from};
 
 use crate::replaying::entries_of;
+use crate::start::Start;
 use std::alloc::{AllocError, Global};
 use std::marker::Model;
+use std::sync::Arc;
 use ynl_core::{Core, NoMemory, Sighted};
 use ynl_model::{Entry, Event, Reply};
 use ynl_packed::Events;
@@ -20,6 +25,8 @@ use ynl_resource::Name;
 ///
 /// A reply is the cluster's, and can be worked out again; so only events are kept, each as its bytes.
 pub struct Book {
+    // The cluster that the events began with.
+    start: Arc<Start>,
     core: Core,
     events: Events,
     // Of each event, whether its reply was left to be planned.
@@ -30,6 +37,7 @@ pub struct Book {
 impl Drop for Book {
     fn drop(self) {
         let Book {
+            start: _,
             core: _,
             events: _,
             planned: _,
@@ -51,10 +59,31 @@ impl Model for Book {
 impl Book {
     /// A book without entries, of a cluster that has just been opened.
     pub fn open(alloc: Global, config: Config) -> Result<Book, NoMemory>
-        ensures { IfOk result (λ book. book ≡ record { config = config; entries = [] }) }
+        ensures { IfOk result (λ book. book ≡ record { config = config; begun = opening config; entries = [] }) }
     {
+        Book::begin(alloc, Arc::new(alloc, Start::opened(config))?)
+    }
+
+    /// A book without entries, of a cluster that has a state already: it goes on from there. As for
+    /// `Start::resumed`, its configuration is accepted, and each ask of its state is for at most 1,000,000
+    /// containers.
+    pub fn resume(alloc: Global, core: Core) -> Result<Book, NoMemory>
+        requires accepted { IsTrue (is_accepted core.config) }
+        requires counted { AllWithin core.state.leaves }
+        ensures { IfOk result (λ book. book ≡ record { config = core.config; begun = core.state; entries = [] }) }
+    {
+        Book::begin(alloc, Arc::new(alloc, Start::resumed(core))?)
+    }
+
+    /// A book without entries, of a second cluster like that of the start.
+    pub fn begin(alloc: Global, start: Arc<Start>) -> Result<Book, NoMemory>
+        ensures { IfOk result (λ book. book
+            ≡ record { config = start.value.config; begun = start.value.state; entries = [] }) }
+    {
+        let core = start.cluster(alloc)?;
         Ok(Book {
-            core: Core::open(alloc, config)?,
+            start,
+            core,
             events: Events::new(alloc),
             planned: Vec::new(alloc),
         })
@@ -76,22 +105,22 @@ impl Book {
     }
 
     /// The entries, in the order in which their events came. Each reply that is there is the cluster's: a second
-    /// cluster of the same configuration answers the events once more.
+    /// cluster like the one that the book began with answers the events once more.
     pub fn entries(&self, alloc: Global) -> Result<Vec<Entry>, NoMemory>
         ensures entries { IfOk result (λ entries. entries.items ≡ self.now.entries) }
-        ensures agrees { Agrees self.now.config self.now.entries }
+        ensures agrees { AgreesFrom self.now.config self.now.begun self.now.entries }
     {
-        let config = self.core.config().copy(alloc)?;
-        entries_of(alloc, config, &self.events, &self.planned)
+        let mut again = self.start.cluster(alloc)?;
+        entries_of(alloc, &mut again, &self.events, &self.planned)
     }
 
     /// Takes an event, and answers its place, counted from 0, and the cluster's reply. Where memory is
     /// refused nothing has changed: the event is kept before it is applied, and is given up where it is not.
     pub fn enter(&mut self, event: Event) -> Result<(u64, Reply), NoMemory>
         ensures place { IfOk result (λ told. told.0 ≡ length self.old.entries) }
-        ensures reply { IfOk result (λ told. told.1 ≡ (step self.old.config (state_after self.old.config (events_in self.old.entries)) event).reply) }
+        ensures reply { IfOk result (λ told. told.1 ≡ (step self.old.config (after self.old.config self.old.begun (events_in self.old.entries)) event).reply) }
         ensures entry { IfOk result (λ told. self.new ≡ record self.old { entries = self.old.entries ++ entry event (Some told.1) ∷ [] }) }
-        ensures closed { IfOk result (λ _. IsHistory self.old.config self.old.entries → IsHistory self.new.config self.new.entries) }
+        ensures closed { IfOk result (λ _. IsHistoryFrom self.old.config self.old.begun self.old.entries → IsHistoryFrom self.new.config self.new.begun self.new.entries) }
         ensures err { OnErr result (self.new ≡ self.old) }
     {
         let place = self.events.len();
@@ -113,8 +142,8 @@ impl Book {
     /// nothing has changed then.
     pub fn enter_propose(&mut self, node: &Name) -> Result<(u64, Sighted), NoMemory>
         ensures place { IfOk result (λ told. told.0 ≡ length self.old.entries) }
-        ensures sighting { IfOk result (λ told. IsSighting (replayed self.old.config self.old.entries) node.now told.1) }
-        ensures reply { IfOk result (λ told. reply_by told.1 ≡ (step self.old.config (state_after self.old.config (events_in self.old.entries)) (Propose node.now)).reply) }
+        ensures sighting { IfOk result (λ told. IsSighting (replayed_from self.old.config self.old.begun self.old.entries) node.now told.1) }
+        ensures reply { IfOk result (λ told. reply_by told.1 ≡ (step self.old.config (after self.old.config self.old.begun (events_in self.old.entries)) (Propose node.now)).reply) }
         ensures entry { IfOk result (λ told. self.new ≡ record self.old { entries = self.old.entries ++ entry (Propose node.now) (reply_before told.1) ∷ [] }) }
         ensures err { OnErr result (self.new ≡ self.old) }
     {

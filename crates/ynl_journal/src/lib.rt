@@ -5,6 +5,7 @@ pub use auditing::{AuditFault, audit, fits};
 pub use comparing::is_same_reply;
 pub use journal::Book;
 pub use replaying::{replay, replay_history};
+pub use start::Start;
 pub use ynl_model::Entry;
 
 mod auditing;
@@ -12,3 +13,4 @@ mod comparing;
 pub mod histories;
 mod journal;
 mod replaying;
+mod start;

@@ -1,25 +1,23 @@
 //! The cluster that a journal leads to, and the history that its events make.
 
-ghost use Rattle.std.specs.Prelude.{◌≡◌, length, IfOk};
-ghost use Rattle.ynl_model.specs.Events.{IsHistory};
-ghost use Rattle.ynl_journal.specs.BookFields.{written, entries_after};
-ghost use Rattle.ynl_journal.specs.Journal.{entry, events_in, replayed};
+ghost use Rattle.std.specs.Prelude.{◌≡◌, length, IfOk, OnOk};
+ghost use Rattle.ynl_journal.specs.BookFields.{written, entries_from};
+ghost use Rattle.ynl_journal.specs.Journal.{IsHistoryFrom, entry, events_in, replayed_from};
 
 use std::alloc::Global;
 use ynl_core::{Core, NoMemory};
 use ynl_model::{Entry, Event, Reply};
 use ynl_packed::{Entries, Events};
-use ynl_queues::Config;
 
-/// A cluster that the entries' events were applied to. Their replies are not looked at.
-pub fn replay(alloc: Global, config: Config, entries: &[Entry]) -> Result<Core, NoMemory>
-    ensures { IfOk result (λ core. core ≡ replayed config entries.now) }
+/// Applies the entries' events to the cluster. Their replies are not looked at. `Err` only if memory is
+/// refused: the cluster is then the one that some of the first events lead to.
+pub fn replay(core: &mut Core, entries: &[Entry]) -> Result<(), NoMemory>
+    ensures { OnOk result (core.new ≡ replayed_from core.old.config core.old.state entries.now) }
 {
-    let mut core = Core::open(alloc, config)?;
     for entry in entries {
         core.answer(&entry.event)?;
     }
-    Ok(core)
+    Ok(())
 }
 
 fn entry_with(event: &Event, reply: Option<Reply>) -> Entry
@@ -31,12 +29,12 @@ fn entry_with(event: &Event, reply: Option<Reply>) -> Entry
     }
 }
 
-/// Events once more, each with the reply of a cluster that they are applied to in order.
-pub fn replay_history(alloc: Global, config: Config, events: &Events) -> Result<Entries, NoMemory>
+/// Events once more, each with the reply of the cluster that they are applied to in order.
+pub fn replay_history(alloc: Global, core: &mut Core, events: &Events) -> Result<Entries, NoMemory>
     ensures events { IfOk result (λ history. events_in history ≡ events.now) }
-    ensures closed { IfOk result (λ history. IsHistory config history) }
+    ensures closed { IfOk result (λ history. IsHistoryFrom core.old.config core.old.state history) }
+    ensures core { IfOk result (λ history. core.new ≡ replayed_from core.old.config core.old.state history) }
 {
-    let mut core = Core::open(alloc, config)?;
     let mut history = Entries::new(alloc);
     for i in 0..events.len() {
         let event = events.get(i);
@@ -56,17 +54,16 @@ fn written(planned: bool, reply: Reply) -> Option<Reply>
     Some(reply)
 }
 
-/// The entries of events, each with what is written down of the cluster's reply.
+/// The entries of events, each with what is written down of the reply of the cluster that they are applied to.
 pub(crate) fn entries_of(
     alloc: Global,
-    config: Config,
+    core: &mut Core,
     events: &Events,
     planned: &[bool],
 ) -> Result<Vec<Entry>, NoMemory>
     requires { length planned.now ≡ length events.now }
-    ensures { IfOk result (λ entries. entries.items ≡ entries_after config events.now planned.now) }
+    ensures { IfOk result (λ entries. entries.items ≡ entries_from core.old.config core.old.state events.now planned.now) }
 {
-    let mut core = Core::open(alloc, config)?;
     let mut entries = Vec::new(alloc);
     for (i, planned) in planned.iter().enumerate() {
         let event = events.get(i);

@@ -12,7 +12,7 @@ loop-i-preserved c =
     let inside : c.loop-i.i < length c.args.events.now = omega (arith, c.loop-i-test.true, c.len-i-end.ensures.value) in
     let more : c.push.new.self ≡ done ++ entry event (Some c.in_ok-reply.reply) ∷ [] =
     c.in_ok-push.ensures.ok in
-    history_more c.args.config c.args.events.now done c.push.new.self c.loop-i.i event c.loop-i.core c.answer.new.self c.in_ok-reply.reply inside (c.get-event.ensures event) was.0 was.1 was.2 c.in_ok-reply.ensures.ok more
+    history_more c.args.core.now.config c.args.core.now.state c.args.events.now done c.push.new.self c.loop-i.i event c.loop-i.core c.answer.new.self c.in_ok-reply.reply inside (c.get-event.ensures event) was.0 was.1 was.2 c.in_ok-reply.ensures.ok more
 
 pub returns-clause-events : goal.returns-clause-events
 returns-clause-events c = c.loop-i.invariant.1 ∙ take_all c.loop-i.i c.args.events.now (omega (arith, c.loop-i-test.false, c.len-i-end.ensures.value))
