@@ -7,6 +7,7 @@ use std::alloc::Global;
 use std::sync::Wait;
 use std::thread;
 use ynl_config::built_in;
+use ynl_core::Core;
 use ynl_journal::audit;
 use ynl_live::{Closed, Live, Receipts, Seat, close};
 use ynl_model::Event;
@@ -79,8 +80,9 @@ fn main(rt: HostRuntime) -> anyhow::Result<()> {
         lists.push(receipts)?;
     }
     match close(alloc, live, seats, &lists) {
-        Ok(Closed { config, entries }) => {
-            audit(alloc, config, &entries.to_vec()?)?;
+        Ok(Closed { core, entries }) => {
+            let mut again = Core::open(alloc, core.config().copy(alloc)?)?;
+            audit(&mut again, &entries.to_vec()?)?;
             println!(rt; "{} entries", entries.len())?;
             Ok(())
         }

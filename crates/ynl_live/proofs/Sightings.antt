@@ -1,5 +1,5 @@
 -- What is seen is of the node that was asked for.
-use Rattle.std.proofs.Common.{◌≡◌, List, [], ◌∷◌, Some, find, ap, ◌∙◌}
+use Rattle.std.proofs.Common.{List, [], ◌∷◌, ap, ◌∙◌}
 use Rattle.std.specs.List.{AllByRecursion}
 use Rattle.ynl_laws.proofs.Lists.{Each-find}
 use Rattle.ynl_laws.proofs.Names.{same-name_sym}

@@ -1,10 +1,13 @@
 //! Calls: a book behind one lock.
 
-ghost use Rattle.std.specs.Prelude.{◌≡◌, ◌≤◌, ◌<◌, ◌+◌, ◌^◌, [], ◌∷◌, ◌++◌, length, IfOk, IfErr, OnErr, Some};
-ghost use Rattle.ynl_model.specs.Events.{state_after, step};
+ghost use Rattle.std.specs.Prelude.{◌≡◌, ◌≤◌, ◌<◌, ◌+◌, ◌^◌, [], ◌∷◌, ◌++◌, length, IfOk, IfErr, IsTrue, OnErr, Some};
+ghost use Rattle.ynl_model.specs.Accepted.{is_accepted};
+ghost use Rattle.ynl_model.specs.Events.{after, step};
 ghost use Rattle.ynl_model.specs.declared.events.Event.TheVariants.{Propose};
 ghost use Rattle.ynl_core.specs.Sightings.{IsSighting, reply_by, reply_before};
-ghost use Rattle.ynl_journal.specs.Journal.{Journal, entry, events_in, replayed};
+ghost use Rattle.ynl_core.specs.World.{opened};
+ghost use Rattle.ynl_saved_laws.specs.Asks.{AllWithin};
+ghost use Rattle.ynl_journal.specs.Journal.{Journal, entry, events_in, replayed_from};
 ghost use Rattle.ynl_live.specs.Sightings.{IsOfNode};
 ghost use Rattle.ynl_live.specs.Seats.{passed};
 ghost use Rattle.ynl_live.specs.Faults.{IsFaultAt, IsFaultBehind};
@@ -13,10 +16,10 @@ use crate::receipts::Receipt;
 use crate::seats::Seat;
 use std::alloc::Global;
 use std::marker::Model;
-use std::sync::{Mutex, Wait};
+use std::sync::{Arc, Mutex, Wait};
 use thiserror::Error;
-use ynl_core::{NoMemory, Sighted};
-use ynl_journal::Book;
+use ynl_core::{Core, NoMemory, Sighted};
+use ynl_journal::{Book, Start};
 use ynl_model::Event;
 use ynl_queues::Config;
 use ynl_resource::Name;
@@ -32,54 +35,73 @@ pub enum CallFault {
     NoMemory,
 }
 
-/// A cluster that many callers use at once: its book behind one lock. A contract sees the configuration
-/// alone, since what stands behind the lock can change at any time.
+/// A cluster that many callers use at once: its book behind one lock. A contract sees the cluster that the
+/// journal began with alone, since what stands behind the lock can change at any time.
 pub struct Live {
-    config: Config,
+    start: Arc<Start>,
     book: Mutex<Book>,
 }
 
 // By hand, so that crates above call it: one that is derived is proved anew in each of them, with all that it holds.
 impl Drop for Live {
     fn drop(self) {
-        let Live { config: _, book: _ } = self;
+        let Live { start: _, book: _ } = self;
     }
 }
 
 impl Model for Live {
-    ghost use Rattle.ynl_model.specs.Queues.{Config};
+    ghost use Rattle.ynl_core.specs.World.{World};
 
-    ghost Value = { Config };
+    ghost Value = { World };
 
-    ghost view = { λ live. live.config };
+    ghost view = { λ live. live.start.value };
 }
 
 impl Live {
     /// A cluster without nodes whose journal has no entry, and the seat of its first caller. Other seats
     /// are split off that one.
     pub fn open(alloc: Global, config: Config) -> Result<(Live, Seat), NoMemory>
-        ensures { IfOk result (λ opened. (opened.0 ≡ config) × (opened.1 ≡ record { calls = 0; front = 0 })) }
+        ensures { IfOk result (λ made. (made.0 ≡ opened config) × (made.1 ≡ record { calls = 0; front = 0 })) }
     {
-        let book = Book::open(alloc, config.copy(alloc)?)?;
-        Ok((Live::of(config, book), Seat::first()))
+        Live::begin(alloc, Start::opened(config))
+    }
+
+    /// A cluster that goes on from where this one stands, with a journal that has no entry, and the seat of its
+    /// first caller. As for `Start::resumed`, its configuration is accepted, and each ask of its state is for at
+    /// most 1,000,000 containers.
+    pub fn resume(alloc: Global, core: Core) -> Result<(Live, Seat), NoMemory>
+        requires accepted { IsTrue (is_accepted core.config) }
+        requires counted { AllWithin core.state.leaves }
+        ensures { IfOk result (λ made. (made.0 ≡ core) × (made.1 ≡ record { calls = 0; front = 0 })) }
+    {
+        Live::begin(alloc, Start::resumed(core))
+    }
+
+    /// A cluster like the one of this start whose journal has no entry, and the seat of its first caller.
+    pub fn begin(alloc: Global, start: Start) -> Result<(Live, Seat), NoMemory>
+        ensures { IfOk result (λ made. (made.0 ≡ start) × (made.1 ≡ record { calls = 0; front = 0 })) }
+    {
+        let start = Arc::new(alloc, start)?;
+        let book = Book::begin(alloc, Arc::try_clone(&start)?)?;
+        Ok((Live::of(start, book), Seat::first()))
     }
 
     /// The scheduler of a book.
-    pub(crate) fn of(config: Config, book: Book) -> Live
-        ensures { result ≡ config }
+    pub(crate) fn of(start: Arc<Start>, book: Book) -> Live
+        ensures { result ≡ start.value }
     {
         Live {
-            config,
+            start,
             book: Mutex::new(book),
         }
     }
 
-    /// The configuration, and the book as it stands when nobody calls any more.
-    pub(crate) fn into_parts(self) -> (Config, Book)
-        ensures { result.0 ≡ self }
+    /// The start, and the book as it stands when nobody calls any more.
+    pub(crate) fn into_parts(self) -> (Arc<Start>, Book)
+        ensures { result.0.value ≡ self }
     {
-        let Live { config, book } = self;
-        (config, book.into_inner())
+        let Live { start, book } = self;
+        (start, book.into_inner())
     }
 
     /// Waits for its turn, has the event entered, and gives the receipt. It is one call of `enter` while it
@@ -133,7 +155,7 @@ fn next_place(book: &Book, seat: &Seat) -> Result<u64, CallFault>
 fn enter(book: &mut Book, seat: &mut Seat, event: &Event) -> Result<Receipt, CallFault>
     ensures place { IfOk result (λ receipt. receipt.place ≡ length book.old.entries) }
     ensures event { IfOk result (λ receipt. receipt.event ≡ event.now) }
-    ensures reply { IfOk result (λ receipt. receipt.reply ≡ (step book.old.config (state_after book.old.config (events_in book.old.entries)) event.now).reply) }
+    ensures reply { IfOk result (λ receipt. receipt.reply ≡ (step book.old.config (after book.old.config book.old.begun (events_in book.old.entries)) event.now).reply) }
     ensures entry { IfOk result (λ receipt. book.new ≡ record book.old { entries = book.old.entries ++ entry event.now (Some receipt.reply) ∷ [] }) }
     ensures later { IfOk result (λ receipt. seat.old.front ≤ receipt.place) }
     ensures seat { IfOk result (λ receipt. seat.new ≡ passed seat.old receipt.place) }
@@ -156,8 +178,8 @@ fn enter(book: &mut Book, seat: &mut Seat, event: &Event) -> Result<Receipt, Cal
 fn see(book: &mut Book, seat: &mut Seat, node: &Name) -> Result<(u64, Sighted), CallFault>
     ensures place { IfOk result (λ seen. seen.0 ≡ length book.old.entries) }
     ensures node { IfOk result (λ seen. IsOfNode node.now seen.1) }
-    ensures sighting { IfOk result (λ seen. IsSighting (replayed book.old.config book.old.entries) node.now seen.1) }
-    ensures reply { IfOk result (λ seen. reply_by seen.1 ≡ (step book.old.config (state_after book.old.config (events_in book.old.entries)) (Propose node.now)).reply) }
+    ensures sighting { IfOk result (λ seen. IsSighting (replayed_from book.old.config book.old.begun book.old.entries) node.now seen.1) }
+    ensures reply { IfOk result (λ seen. reply_by seen.1 ≡ (step book.old.config (after book.old.config book.old.begun (events_in book.old.entries)) (Propose node.now)).reply) }
     ensures entry { IfOk result (λ seen. book.new ≡ record book.old { entries = book.old.entries ++ entry (Propose node.now) (reply_before seen.1) ∷ [] }) }
     ensures later { IfOk result (λ seen. seat.old.front ≤ seen.0) }
     ensures seat { IfOk result (λ seen. seat.new ≡ passed seat.old seen.0) }

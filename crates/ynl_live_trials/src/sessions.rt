@@ -8,6 +8,7 @@ use std::alloc::Global;
 use std::sync::Wait;
 use std::test::Fail;
 use std::thread::Threads;
+use ynl_journal::Start;
 use ynl_model::{Entry, Event};
 use ynl_packed::Events;
 use ynl_resource::Name;
@@ -36,7 +37,15 @@ fn played<R: Threads + Wait + Sync, G: Gate + Sync>(
 {
     let events = Events::of(alloc, &script().ok_or("no script")?)?;
     let config = worked(alloc).ok_or("no configuration")?;
-    let entries = run_session(rt, alloc, config, &events, workers, rounds, gate)?;
+    let entries = run_session(
+        rt,
+        alloc,
+        Start::opened(config),
+        &events,
+        workers,
+        rounds,
+        gate,
+    )?;
     Ok(entries.to_vec()?)
 }
 

@@ -10,20 +10,21 @@ use Rattle.ynl_resource.specs.Names.{same_name}
 use Rattle.ynl_model.specs.declared.events.Event.{Event}
 use Rattle.ynl_model.specs.declared.entries.Entry.{Entry}
 use Rattle.ynl_model.specs.declared.proposals.Proposal.{Proposal}
-use Rattle.ynl_model.specs.Queues.{Config}
-use Rattle.ynl_model.specs.Events.{IsHistory}
-use Rattle.ynl_model.specs.View.{track, is_there}
+use Rattle.ynl_model.specs.View.{is_there}
 use Rattle.ynl_model.specs.declared.nodes.Tracked.{Tracked}
-use Rattle.ynl_journal.specs.Journal.{events_in}
+use Rattle.ynl_core.specs.World.{World}
+use Rattle.ynl_laws.specs.Working.{Apart, places}
+use Rattle.ynl_laws.proofs.Soundness.Sound.{apart-after}
+use Rattle.ynl_journal.specs.Journal.{IsHistoryFrom, events_in}
 use Rattle.ynl_live.specs.declared.receipts.Receipt.{Receipt}
 use Rattle.ynl_live.specs.Receipts.{all_receipts, EachOnce, IsAt, ListFits, entry_of}
-use Rattle.ynl_live.specs.Alone.{ShowTenantsAlone}
+use Rattle.ynl_live.specs.Alone.{ShowTenantsAloneFrom}
 use Rattle.ynl_live.proofs.Sums.{count_alike}
-use Rattle.ynl_laws.proofs.Soundness.Once.{is_tracked_once}
 use Rattle.ynl_session.specs.Dealt.{times_in, AreDealt}
 use Rattle.ynl_session.specs.Handed.{is_workers, asks, commits, answers, AddsRounds}
 use Rattle.ynl_session.specs.Scripted.{AreCalls}
-use Rattle.ynl_session.specs.Sessions.{nodes_after, IsSession}
+use Rattle.ynl_session.specs.Sessions.{nodes_after, nodes_left, IsSession}
+use Rattle.ynl_session.proofs.Named.{once}
 use Rattle.ynl_session.proofs.Fronts.{front, events_called, length_called}
 
 -- ---- sums
@@ -62,10 +63,11 @@ empty_from_none (x ∷ xs) none = absurd (omega (arith, none, sum_by-cons (λ y.
 -- ---- nodes
 
 -- so many rounds over the nodes that a script leaves
-rounds_over : (c : Config) (events : List Event) (rounds : ℕ) (node : Name) → rounds * times_in node (nodes_after c events) ≡ cond (is_there (track c events) node) rounds 0
-rounds_over c events rounds node =
-    ap (λ n. rounds * n) (sum_by_mapped (λ other. cond (same_name other node) 1 0) (λ (found : Tracked). found.name) (track c events) ∙ is_tracked_once c events node)
-    ∙ elim (is_there (track c events) node) as (λ b. rounds * cond b 1 0 ≡ cond b rounds 0) [ true ↦ omega arith | false ↦ omega arith ]
+rounds_over : (w : World) (events : List Event) (rounds : ℕ) (node : Name) → Apart (places w.state) → rounds * times_in node (nodes_after w events) ≡ cond (is_there (nodes_left w events) node) rounds 0
+rounds_over w events rounds node apart =
+    ap (λ n. rounds * n)
+    (sum_by_mapped (λ other. cond (same_name other node) 1 0) (λ (found : Tracked). found.name) (nodes_left w events) ∙ once node (nodes_left w events) (apart-after w.config events w.state apart))
+    ∙ elim (is_there (nodes_left w events) node) as (λ b. rounds * cond b 1 0 ≡ cond b rounds 0) [ true ↦ omega arith | false ↦ omega arith ]
 
 -- ---- receipts
 
@@ -98,11 +100,11 @@ module _ (entries : List Entry) (events : List Event) (first : List Receipt) (mo
       ap events_in split ∙ map-append (λ (e : Entry). e.event) (map entry_of first) rest
       ∙ ap (λ es. es ++ events_in rest) (events_called 0 events first calls)
 
-pub session : (free : Type 0) (c : Config) (events : List Event) (rounds : ℕ) (entries : List Entry) (dealt : List (Vec Name Global)) (first : List Receipt) (lists : List (List Receipt))
-    → AreCalls 0 events first → AddsRounds free dealt rounds (first ∷ []) lists → AreDealt (nodes_after c events) dealt
-    → IsHistory c entries → ShowTenantsAlone c entries → All (λ list. ListFits entries list) lists → EachOnce (length entries) (all_receipts lists)
-    → IsSession free c events rounds entries
-session free c events rounds entries dealt first lists calls adds are_dealt history alone fits once =
+pub session : (free : Type 0) (w : World) (events : List Event) (rounds : ℕ) (entries : List Entry) (dealt : List (Vec Name Global)) (first : List Receipt) (lists : List (List Receipt))
+    → AreCalls 0 events first → AddsRounds free dealt rounds (first ∷ []) lists → Apart (places w.state) → AreDealt (nodes_after w events) dealt
+    → IsHistoryFrom w.config w.state entries → ShowTenantsAloneFrom w entries → All (λ list. ListFits entries list) lists → EachOnce (length entries) (all_receipts lists)
+    → IsSession free w events rounds entries
+session free w events rounds entries dealt first lists calls adds apart are_dealt history alone fits once =
     let F : List (List Receipt) → Type 0 = λ ls. All (λ list. ListFits entries list) ls in
     let O : List (List Receipt) → Type 0 = λ ls. EachOnce (length entries) (all_receipts ls) in
     let fit : F (first ∷ adds.more) = subst F adds.all fits in
@@ -125,7 +127,7 @@ session free c events rounds entries dealt first lists calls adds are_dealt hist
           ap events_in (empty_from_none after count);
       asked = λ is node.
           sum_by_mapped (λ e. cond (asks node e) 1 0) (λ (e : Entry). e.event) after ∙ alike (λ e. cond (asks node e.event) 1 0) ∙ adds.asked is node
-          ∙ ap (λ n. rounds * n) (are_dealt node) ∙ rounds_over c events rounds node;
+          ∙ ap (λ n. rounds * n) (are_dealt node) ∙ rounds_over w events rounds node apart;
       answered = λ q. let d = commits_are q in let e = answers_are q in let h = adds.answered q in omega (arith, d, e, h);
       committed = λ is q. commits_are q ∙ adds.committed is q ∙ sym (answers_are q);
       alone = alone;

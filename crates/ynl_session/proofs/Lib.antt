@@ -1,3 +1,4 @@
+mod Named
 mod Fronts
 mod Rounds
 mod Hands

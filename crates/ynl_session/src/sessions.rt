@@ -2,6 +2,7 @@
 
 ghost use Rattle.std.specs.Prelude.{◌≡◌, ◌<◌, IfOk, vec_len};
 ghost use Rattle.std.specs.List.Sorted.{IsPermutation};
+ghost use Rattle.ynl_laws.specs.Working.{Apart, places};
 ghost use Rattle.ynl_session.specs.Dealt.{AreDealt, AreDealtInOrder, AreInOrder};
 ghost use Rattle.ynl_session.specs.Faults.{fault_of_cause};
 ghost use Rattle.ynl_session.specs.Sessions.{nodes_after, IsSession};
@@ -14,9 +15,9 @@ use std::sync::Wait;
 use std::thread::Threads;
 use thiserror::Error;
 use ynl_core::NoMemory;
+use ynl_journal::Start;
 use ynl_live::{CallFault, Cause, Live, close};
 use ynl_packed::{Entries, Events};
-use ynl_queues::Config;
 use ynl_resource::Name;
 use ynl_view::tracked_nodes;
 use ynl_workers::{Gate, Unrun};
@@ -90,15 +91,13 @@ fn fault_of(cause: Cause) -> SessionFault
 }
 
 /// The nodes that the events leave, by name in byte order.
-fn nodes_in_order(
-    alloc: Global,
-    config: &Config,
-    events: &Events,
-) -> Result<Vec<Name>, SessionFault>
-    ensures all { IfOk result (λ nodes. IsPermutation (nodes_after config.now events.now) nodes.items) }
+fn nodes_in_order(alloc: Global, start: &Start, events: &Events) -> Result<Vec<Name>, SessionFault>
+    ensures apart { Apart (places start.now.state) }
+    ensures all { IfOk result (λ nodes. IsPermutation (nodes_after start.now events.now) nodes.items) }
     ensures order { IfOk result (λ nodes. AreInOrder nodes.items) }
 {
-    let mut nodes = tracked_nodes(alloc, config, events)?;
+    let before = start.nodes(alloc)?;
+    let mut nodes = tracked_nodes(alloc, start.config(), &before, events)?;
     nodes.sort()?;
     Ok(nodes)
 }
@@ -106,21 +105,22 @@ fn nodes_in_order(
 /// The nodes that the events leave, by name in byte order, dealt out to so many workers in turn.
 fn dealt_nodes(
     alloc: Global,
-    config: &Config,
+    start: &Start,
     events: &Events,
     workers: usize,
 ) -> Result<Vec<Vec<Name>>, SessionFault>
     requires { 0 < workers }
+    ensures apart { Apart (places start.now.state) }
     ensures count { IfOk result (λ lists. vec_len lists ≡ workers) }
-    ensures dealt { IfOk result (λ lists. AreDealt (nodes_after config.now events.now) lists.items) }
-    ensures turns { IfOk result (λ lists. AreDealtInOrder (nodes_after config.now events.now) lists.items) }
+    ensures dealt { IfOk result (λ lists. AreDealt (nodes_after start.now events.now) lists.items) }
+    ensures turns { IfOk result (λ lists. AreDealtInOrder (nodes_after start.now events.now) lists.items) }
 {
-    let nodes = nodes_in_order(alloc, config, events)?;
+    let nodes = nodes_in_order(alloc, start, events)?;
     Ok(deal(alloc, &nodes, workers)?)
 }
 
-/// Calls the events on a new cluster, runs so many rounds of workers over the nodes that these leave, and
-/// closes the journal. In each round the nodes, by name in byte order, are dealt out to the workers in turn.
+/// Calls the events on a cluster like the one of this start, runs so many rounds of workers over the nodes that
+/// these leave, and closes the journal. In each round the nodes, by name in byte order, are dealt out to the workers in turn.
 ///
 /// `Unclosed` comes where the journal is not closed for another cause than want of memory, where an event of
 /// the script got another place than its number, or where a call was told that its seat is of another
@@ -128,17 +128,17 @@ fn dealt_nodes(
 pub fn run_session<T: Threads + Wait + Sync, G: Gate + Sync>(
     rt: &T,
     alloc: Global,
-    config: Config,
+    start: Start,
     events: &Events,
     workers: usize,
     rounds: u64,
     gate: &G,
 ) -> Result<Entries, SessionFault>
     requires { 0 < workers }
-    ensures { IfOk result (λ entries. IsSession (G.is_free gate.now) config events.now rounds entries) }
+    ensures { IfOk result (λ entries. IsSession (G.is_free gate.now) start events.now rounds entries) }
 {
-    let dealt = dealt_nodes(alloc, &config, events, workers)?;
-    let (live, mut seat) = Live::open(alloc, config)?;
+    let dealt = dealt_nodes(alloc, &start, events, workers)?;
+    let (live, mut seat) = Live::begin(alloc, start)?;
     let receipts = call_events(rt, alloc, &live, &mut seat, events)?;
     let apart = seat.split();
     let mut handed = Handed::first(alloc, seat, receipts)?;

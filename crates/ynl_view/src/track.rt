@@ -1,8 +1,11 @@
 //! Where the nodes are, told from node events alone.
 
-ghost use Rattle.std.specs.Prelude.{◌≡◌, [], map, None, Some, true, false, OnOk, OnErr, IfOk};
+ghost use Rattle.std.specs.Prelude.{◌≡◌, ◌≤◌, [], length, map, None, Some, true, false, OnOk, OnErr, IfOk};
 ghost use Rattle.std.specs.Option.{option_map_or};
+ghost use Rattle.ynl_resource.specs.Ranges.{most_nodes};
+ghost use Rattle.ynl_model.specs.Nodes.{nodes_of};
 ghost use Rattle.ynl_model.specs.Promises.{without_stamp};
+ghost use Rattle.ynl_laws.specs.Working.{Apart};
 ghost use Rattle.ynl_model.specs.View.{tracked, is_in, has_place, registers, relabels, dropped, joined, track_step};
 ghost use Rattle.ynl_model.specs.declared.events.Event.TheVariants.{Register, Relabel};
 
@@ -57,6 +60,21 @@ impl Track {
         Track {
             nodes: Nodes::new(alloc),
         }
+    }
+
+    /// The track where these nodes are there already, in this order: no two have one name, and no partition has
+    /// more than it may.
+    pub fn of(alloc: Global, nodes: &[Node]) -> Result<Track, AllocError>
+        requires apart { Apart (map without_stamp nodes.now) }
+        requires places { (p : _) → length (nodes_of nodes.now p) ≤ most_nodes }
+        ensures { IfOk result (λ track. track ≡ map without_stamp nodes.now) }
+    {
+        let mut track = Track::new(alloc);
+        for i in 0..nodes.len() {
+            let node = &nodes[i];
+            track.join(&node.name, &node.label, &node.size)?;
+        }
+        Ok(track)
     }
 
     /// The node of a name.

@@ -1,8 +1,8 @@
-use Rattle.std.proofs.Common.{◌≡◌, ℕ, ◌<◌, ◌+◌, [], List, Bool, length, get_or, sym, ap, subst, ◌∙◌, refl, arith}
+use Rattle.std.proofs.Common.{◌≡◌, ℕ, ◌<◌, ◌+◌, length, get_or, sym, subst, refl, arith}
 use Rattle.std.proofs.lemmas.Bool.{false≢true}
 use Rattle.std.proofs.lemmas.List.{get_or_default}
 use Rattle.ynl_live.specs.declared.receipts.Receipt.{Receipt}
-use Rattle.ynl_live.specs.Marks.{CanMark, IsMarked}
+use Rattle.ynl_live.specs.Marks.{CanMark}
 use Rattle.ynl_live.specs.Misfits.{IsFirstMisfit}
 use Rattle.ynl_live.proofs.Kept.{any_receipt}
 use Rattle.ynl_live.proofs.Marks.{IsMarkedTo, IsMarkedTo-more, IsFirstMisfit-here}

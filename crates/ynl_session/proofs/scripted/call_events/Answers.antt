@@ -1,6 +1,4 @@
-use Rattle.std.proofs.Common.{◌<◌, length, subst, arith}
-use Rattle.std.proofs.lemmas.List.{take_all}
-use Rattle.ynl_session.specs.Scripted.{AreCalls}
+use Rattle.std.proofs.Common.{◌<◌, length, arith}
 use Rattle.ynl_session.proofs.Fronts.{AreCalls-more}
 use Rattle.ynl_session.proofs.scripted.call_events.Goals as goal
 

@@ -11,7 +11,7 @@ returns-clause-dealt c = λ node.
     let nodes = c.in_ok-nodes.nodes.items in
     let D : List Name → Type 0 = λ ns. AreDealt ns c.in_ok-deal.field-0.items in
     subst D c.deref.ensures.value c.in_ok-deal.ensures.dealt node
-    ∙ sum_by-IsPermutation (λ (other : Name). cond (same_name other node) 1 0) (nodes_after c.args.config.now c.args.events.now) nodes c.in_ok-nodes.ensures.all
+    ∙ sum_by-IsPermutation (λ (other : Name). cond (same_name other node) 1 0) (nodes_after c.args.start.now c.args.events.now) nodes c.in_ok-nodes.ensures.all
 
 pub returns-clause-turns : goal.returns-clause-turns
 returns-clause-turns c =

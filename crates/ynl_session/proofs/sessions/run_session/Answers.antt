@@ -1,9 +1,9 @@
-use Rattle.std.proofs.Common.{◌≡◌, List, [], ◌∷◌, length, All, Vec, subst, ◌∙◌}
+use Rattle.std.proofs.Common.{List, [], ◌∷◌, length, All, Vec, subst}
 use Rattle.std.specs.declared.alloc.Global.{Global}
 use Rattle.ynl_resource.specs.declared.names.Name.{Name}
-use Rattle.ynl_model.specs.Queues.{Config}
-use Rattle.ynl_model.specs.Events.{IsHistory}
-use Rattle.ynl_live.specs.Alone.{ShowTenantsAlone}
+use Rattle.ynl_core.specs.World.{World}
+use Rattle.ynl_journal.specs.Journal.{IsHistoryFrom}
+use Rattle.ynl_live.specs.Alone.{ShowTenantsAloneFrom}
 use Rattle.ynl_live.specs.declared.receipts.Receipt.{Receipt}
 use Rattle.ynl_live.specs.Receipts.{all_receipts, EachOnce, ListFits}
 use Rattle.ynl_session.specs.Handed.{AddsRounds}
@@ -19,12 +19,12 @@ returns-in-Ok g c =
     let lists = c.run_rounds.new.self.lists.items in
     let D : List (Vec Name Global) → Type 0 = λ d. AddsRounds free d c.args.rounds (first ∷ []) lists in
     let O : List (List Receipt) → Type 0 = λ old. AddsRounds free c.deref.result.now c.args.rounds old lists in
-    let H : Config → Type 0 = λ k. IsHistory k entries in
-    let A : Config → Type 0 = λ k. ShowTenantsAlone k entries in
+    let H : World → Type 0 = λ w. IsHistoryFrom w.config w.state entries in
+    let A : World → Type 0 = λ w. ShowTenantsAloneFrom w entries in
     let F : List (List Receipt) → Type 0 = λ ls. All (λ list. ListFits entries list) ls in
     let E : List (List Receipt) → Type 0 = λ ls. EachOnce (length entries) (all_receipts ls) in
-    let same : c.in-Ok.closed.config ≡ c.args.config = c.in-Ok.ensures.config ∙ c.in_ok-live.ensures.0 in
-    session free c.args.config c.args.events.now c.args.rounds entries dealt first lists c.in_ok-receipts.ensures
+    let same = c.in_ok-live.ensures.0 in
+    session free c.args.start c.args.events.now c.args.rounds entries dealt first lists c.in_ok-receipts.ensures
     (subst D c.deref.ensures.value (subst O c.in_ok-handed.ensures c.in_ok-run_rounds.ensures))
-    c.in_ok-dealt.ensures.dealt (subst H same c.in-Ok.ensures.history) (subst A same c.in-Ok.ensures.alone)
+    c.in_ok-dealt.ensures.apart c.in_ok-dealt.ensures.dealt (subst H same c.in-Ok.ensures.history) (subst A same c.in-Ok.ensures.alone)
     (subst F c.deref-2.ensures.value c.in-Ok.ensures.receipts) (subst E c.deref-2.ensures.value c.in-Ok.ensures.once)

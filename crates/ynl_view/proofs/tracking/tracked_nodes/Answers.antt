@@ -1,7 +1,7 @@
-use Rattle.std.proofs.Common.{◌≡◌, ◌+◌, ◌<◌, ◌∷◌, List, length, drop, get_or, sym, ap, ◌∙◌, arith}
+use Rattle.std.proofs.Common.{◌≡◌, ◌+◌, ◌<◌, ◌∷◌, length, drop, sym, ap, ◌∙◌, arith}
 use Rattle.std.proofs.lemmas.List.{drop_more}
 use Rattle.ynl_model.specs.declared.events.Event.{Event}
-use Rattle.ynl_model.specs.View.{track, track_from, track_step}
+use Rattle.ynl_model.specs.View.{track_from}
 use Rattle.ynl_view.proofs.tracking.tracked_nodes.Goals as goal
 
 pub loop-i-preserved : goal.loop-i-preserved

@@ -1,5 +1,4 @@
-use Rattle.std.proofs.Common.{◌≡◌, ◌<◌, ℕ, length, ap, sym, subst, ◌∙◌, arith}
-use Rattle.std.proofs.lemmas.List.{get_or_default}
+use Rattle.std.proofs.Common.{◌<◌, ℕ, length, ap, sym, subst, ◌∙◌, arith}
 use Rattle.ynl_live.proofs.Kept.{receipts_len, place_at}
 use Rattle.ynl_live.proofs.receipts.Receipts.place.Goals as goal
 

@@ -1,6 +1,4 @@
-use Rattle.std.proofs.Common.{◌≡◌, ◌<◌, ℕ, length, ap, sym, subst, ◌∙◌, arith}
-use Rattle.std.proofs.lemmas.List.{get_or_default}
-use Rattle.ynl_live.specs.Receipts.{entry_of}
+use Rattle.std.proofs.Common.{◌<◌, ℕ, length, ap, sym, subst, ◌∙◌, arith}
 use Rattle.ynl_live.proofs.Kept.{receipts_len, entry_at}
 use Rattle.ynl_live.proofs.receipts.Receipts.tells_of.Goals as goal
 
