@@ -32,7 +32,7 @@ fn main(rt: HostRuntime) -> ExitCode {
         Ok(Job { kind, config, from }) => match kind {
             Kind::Sequential(sequential) => work(&rt, sequential, config, from),
             Kind::Check(form) => check(&rt, form, config),
-            Kind::Live(workers, rounds) => work_live(&rt, &rt, workers, rounds, config),
+            Kind::Live(workers, rounds) => work_live(&rt, &rt, workers, rounds, config, from),
         },
         Err(WordsFault::Words(error)) => {
             let _told = eprint!(rt; "{error}");
@@ -168,11 +168,16 @@ fn work_live<T: Threads + Wait + Sync>(
     workers: Workers,
     rounds: u64,
     config: Option<&str>,
+    from: Option<&str>,
 ) -> ExitCode {
     let mut errors = rt.stderr();
-    let mut inputs = match open_inputs(rt, config, None) {
+    let mut inputs = match open_inputs(rt, config, from) {
         Ok(inputs) => inputs,
         Err(fault) => return ExitCode::from(tell(&mut errors, fault)),
+    };
+    let texts = JobTexts {
+        config: &inputs.config,
+        from: inputs.from.as_deref(),
     };
     let status = execute_live(
         threads,
@@ -180,7 +185,7 @@ fn work_live<T: Threads + Wait + Sync>(
         seed_of(rt),
         workers,
         rounds,
-        &inputs.config,
+        texts,
         &mut inputs.reader,
         &mut io::writer(rt),
         &mut errors,

@@ -8,6 +8,7 @@ use std::test::Fail;
 use std::thread::Threads;
 use ynl_config::built_in;
 use ynl_core::Core;
+use ynl_journal::Start;
 use ynl_tool::{ToolFault, live_lines, run_lines};
 use ynl_workers::{Gate, Go, Sight};
 
@@ -110,7 +111,8 @@ fn live_once<R: Threads + Wait + Sync>(
         left: TWO_NODES,
         looks: u64::MAX,
     };
-    Ok(live_lines(rt, alloc, built_in(alloc)?, 2, 1, gate, &mut reader, writer).err())
+    let start = Start::opened(built_in(alloc)?);
+    Ok(live_lines(rt, alloc, start, 2, 1, gate, &mut reader, writer).err())
 }
 
 // Whichever worker comes first, each is answered a master, so that the second commits too.

@@ -33,18 +33,21 @@ fn entered<R: Print>(rt: &R, book: &mut Book, number: u64) -> Result<u64, Fail> 
     }
 }
 
+/// A cluster that is just opened.
+fn opened(alloc: Global) -> Result<Core, Fail> {
+    Ok(Core::open(alloc, built_in(alloc)?)?)
+}
+
 /// What an audit finds; where memory is refused, which a line tells, the second finds it.
 fn audited<R: Print>(
     rt: &R,
     alloc: Global,
     entries: &[Entry],
 ) -> Result<Result<(), AuditFault>, Fail> {
-    let config = built_in(alloc)?;
-    match audit(alloc, config, entries) {
+    match audit(&mut opened(alloc)?, entries) {
         Err(AuditFault::NoMemory) => {
             println!(rt; "refused")?;
-            let config = built_in(alloc)?;
-            Ok(audit(alloc, config, entries))
+            Ok(audit(&mut opened(alloc)?, entries))
         }
         found => Ok(found),
     }
@@ -52,13 +55,13 @@ fn audited<R: Print>(
 
 /// The cluster that the entries lead to; where memory is refused, which a line tells, at the second try.
 fn replayed<R: Print>(rt: &R, alloc: Global, entries: &[Entry]) -> Result<Core, Fail> {
-    match replay(alloc, built_in(alloc)?, entries) {
-        Ok(core) => Ok(core),
-        Err(NoMemory) => {
-            println!(rt; "refused")?;
-            Ok(replay(alloc, built_in(alloc)?, entries)?)
-        }
+    let mut core = opened(alloc)?;
+    if let Err(NoMemory) = replay(&mut core, entries) {
+        println!(rt; "refused")?;
+        core = opened(alloc)?;
+        replay(&mut core, entries)?;
     }
+    Ok(core)
 }
 
 /// Whether the cluster that the entries lead to would place anything on the node.

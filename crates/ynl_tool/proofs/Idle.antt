@@ -14,7 +14,7 @@ use Rattle.ynl_words.specs.declared.words.Question.{Question}
 use Rattle.ynl_tool.specs.declared.jobs.JobRefusal.{JobRefusal}
 use Rattle.ynl_tool.specs.declared.jobs.JobRefusal.TheVariants.{State, Config as NoConfig}
 use Rattle.ynl_tool.specs.Jobs.{begins, tenancy, Doing, Ending, IsIdle, DoesSequentialJob, DoesText, DoesWith, EndsWithout, EndsWithoutConfig, EndsWithoutState}
-use Rattle.ynl_tool.specs.Jobs.{AnswersJob, AuditsFrom, AuditsJob, ExplainsFrom, ExplainsJob, LivesJob, RunsFrom, RunsJob, SavesFrom, SavesJob, TellsJob}
+use Rattle.ynl_tool.specs.Jobs.{AnswersJob, AuditsFrom, AuditsJob, ExplainsFrom, ExplainsJob, LivesFrom, LivesJob, RunsFrom, RunsJob, SavesFrom, SavesJob, TellsJob}
 use Rattle.ynl_commands.specs.Input.{between}
 use Rattle.ynl_commands.proofs.Runs.{stops_at_once}
 use Rattle.ynl_commands.specs.Audit.{audit_way, journal_way}
@@ -65,6 +65,10 @@ module _ (old wold : Option (List ℕ)) where
   idle_explain : (c : Config) (q : Question) (s : Standing) → ExplainsFrom (between old old) (between wold wold) c q s (Err NoMemory)
   idle_explain c q s = inl (record { read = nothing_read script_way old NoMemory; unwritten = Appends-nil wold })
 
+  -- a session for which there is no memory
+  idle_session : (rounds : ℕ) (c : Config) (s : Standing) → LivesFrom rounds (between old old) (between wold wold) c s (Err NoMemory)
+  idle_session rounds c s = inl (record { read = nothing_read script_way old NoMemory; unwritten = Appends-nil wold })
+
   -- a run without a state
   pub run_without : (c : Config) (from : Option (List ℕ)) (ended : Ending) → EndsWithoutState c from ended
       → RunsJob (between old old) (between wold wold) c from ended
@@ -85,6 +89,11 @@ module _ (old wold : Option (List ℕ)) where
       → ExplainsJob (between old old) (between wold wold) c from q ended
   explain_without c from q = without (λ bad. State bad) (ExplainsFrom (between old old) (between wold wold) c q) (idle_explain c q) (begins c from)
 
+  -- a session without a state
+  pub live_without : (rounds : ℕ) (c : Config) (from : Option (List ℕ)) (ended : Ending) → EndsWithoutState c from ended
+      → LivesJob rounds from (between old old) (between wold wold) c ended
+  live_without rounds c from = without (λ bad. State bad) (LivesFrom rounds (between old old) (between wold wold) c) (idle_session rounds c) (begins c from)
+
   -- nothing was read or written for want of memory
   IdlesAt : Doing → Type 0
   IdlesAt job = (c : Config) → job (between old old) (between wold wold) c (Err NoMemory)
@@ -100,10 +109,10 @@ module _ (old wold : Option (List ℕ)) where
   idle_job Save from = λ c. refused (λ bad. State bad) (SavesFrom (between old old) (between wold wold) c) (idle_save c) (begins c from)
   idle_job (Explain q) from = λ c. refused (λ bad. State bad) (ExplainsFrom (between old old) (between wold wold) c q) (idle_explain c q) (begins c from)
 
-  -- a session for which there is no memory
-  idle_live : (rounds : ℕ) → IdlesAt (LivesJob rounds)
+  -- a live scheduler for which there is no memory
+  idle_live : (rounds : ℕ) (from : Option (List ℕ)) → IdlesAt (LivesJob rounds from)
   unfolding IdlesAt
-  idle_live rounds = λ c. inl (record { read = nothing_read script_way old NoMemory; unwritten = Appends-nil wold })
+  idle_live rounds from = λ c. refused (λ bad. State bad) (LivesFrom rounds (between old old) (between wold wold) c) (idle_session rounds c) (begins c from)
 
   -- a job without a configuration
   text_without : (job : Doing) → IdlesAt job → (text : List ℕ) (ended : Ending) → EndsWithoutConfig text ended
@@ -117,6 +126,6 @@ module _ (old wold : Option (List ℕ)) where
   idle_without kind from = text_without (DoesSequentialJob true kind from) (idle_job kind from)
 
   -- the same of a live scheduler
-  pub idle_live_without : (rounds : ℕ) (text : List ℕ) (ended : Ending) → EndsWithoutConfig text ended
-      → DoesText (between old old) (between wold wold) (LivesJob rounds) text ended
-  idle_live_without rounds = text_without (LivesJob rounds) (idle_live rounds)
+  pub idle_live_without : (rounds : ℕ) (from : Option (List ℕ)) (text : List ℕ) (ended : Ending) → EndsWithoutConfig text ended
+      → DoesText (between old old) (between wold wold) (LivesJob rounds from) text ended
+  idle_live_without rounds from = text_without (LivesJob rounds from) (idle_live rounds from)

@@ -197,11 +197,15 @@ HandsJob reader writer whose ended = AnswersJob journal_way (evidence_answer who
 abbrev pub AuditsEvidenceJob : Stream → Stream → Tenancy → Ending → Type 0
 AuditsEvidenceJob reader writer whose ended = AnswersJob (evidence_way whose) placed_answer reader writer (is_sole whose.config whose.tenant whose.label) ended
 
--- a session of so many rounds is told, in which no worker is halted
-abbrev pub LivesJob : ℕ → Stream → Stream → Configured → Ending → Type 0
-LivesJob rounds reader writer c (Ok (Ok summary)) = Lives ⊤ reader writer c rounds (Ok summary)
-LivesJob rounds reader writer c (Ok (Err refusal)) = ⊥
-LivesJob rounds reader writer c (Err e) = Lives ⊤ reader writer c rounds (Err e)
+-- a session of so many rounds is told, from this state, in which no worker is halted
+abbrev pub LivesFrom : ℕ → Stream → Stream → Configured → Standing → Ending → Type 0
+LivesFrom rounds reader writer c s (Ok (Ok summary)) = Lives ⊤ reader writer (record { config = c; state = s }) rounds (Ok summary)
+LivesFrom rounds reader writer c s (Ok (Err refusal)) = ⊥
+LivesFrom rounds reader writer c s (Err e) = Lives ⊤ reader writer (record { config = c; state = s }) rounds (Err e)
+
+-- a session of so many rounds is told, from the state that it begins from
+abbrev pub LivesJob : ℕ → Option (List ℕ) → Stream → Stream → Configured → Ending → Type 0
+LivesJob rounds from reader writer c ended = DoesWith reader writer (λ bad. State bad) (LivesFrom rounds reader writer c) (begins c from) ended
 
 -- a job that needs one thread, with a cluster of this configuration, where that may be known to be accepted, and with the text of the state that it
 -- may begin from

@@ -4,7 +4,7 @@ use Rattle.std.specs.Option.{option_map_or}
 use Rattle.std.specs.List.{concat}
 use Rattle.std.specs.Io.KnownBytes.{Appends}
 use Rattle.ynl_model.specs.declared.entries.Entry.{Entry}
-use Rattle.ynl_model.specs.Queues.{Config}
+use Rattle.ynl_core.specs.World.{World}
 use Rattle.ynl_lines.specs.declared.faults.InputFault.TheVariants.{Script as InScript}
 use Rattle.ynl_lines.specs.Writing.{line_text}
 use Rattle.ynl_session.specs.Sessions.{IsSession}
@@ -49,31 +49,31 @@ session_fault session.Unclosed = Unclosed
 abbrev pub SumsUp : Script → Summary → Type 0
 SumsUp s summary = (summary.lines ≡ s.lines) × (summary.fault ≡ option_map InScript s.fault)
 
--- A session of the script was run, with so many rounds where no line has a fault, and with none else. Its closed journal was written, then
+-- A session of the script was run from a cluster on, with so many rounds where no line has a fault, and with none else. Its closed journal was written, then
 -- the line of the fault, if there is one, and nothing else.
-pub record IsLived (free : Type 0) (writer : Stream) (c : Config) (rounds : ℕ) (summary : Summary) (s : Script) : Type 0 where
+pub record IsLived (free : Type 0) (writer : Stream) (w : World) (rounds : ℕ) (summary : Summary) (s : Script) : Type 0 where
   pub entries : List Entry
-  pub session : IsSession free c s.made (rounds_of rounds s) entries
+  pub session : IsSession free w s.made (rounds_of rounds s) entries
   pub written : Appends writer.before writer.after (concat (session_lines entries s))
   pub lines : summary.lines ≡ s.lines
   pub fault : summary.fault ≡ option_map InScript s.fault
 
 -- the whole input, where the reader tells its bytes
-abbrev pub LivesWhole : Type 0 → Stream → Stream → Config → ℕ → Result Summary ToolFault → Type 0
-LivesWhole free reader writer c rounds r = IfOk r (λ summary. IfSome reader.before (λ input. IsLived free writer c rounds summary (script_of input)))
+abbrev pub LivesWhole : Type 0 → Stream → Stream → World → ℕ → Result Summary ToolFault → Type 0
+LivesWhole free reader writer w rounds r = IfOk r (λ summary. IfSome reader.before (λ input. IsLived free writer w rounds summary (script_of input)))
 
 -- the script was read, and a session of it was told and nothing else
-pub record LivesAll (free : Type 0) (reader writer : Stream) (c : Config) (rounds : ℕ) (summary : Summary) : Type 0 where
+pub record LivesAll (free : Type 0) (reader writer : Stream) (w : World) (rounds : ℕ) (summary : Summary) : Type 0 where
   pub script : Script
   pub read : ReadsTo script_way reader script
-  pub lived : IsLived free writer c rounds summary script
+  pub lived : IsLived free writer w rounds summary script
 
 -- the script was read and a session of it closed, and then an error left a front of what is told
-pub record LivesSome (free : Type 0) (reader writer : Stream) (c : Config) (rounds : ℕ) (e : ToolFault) : Type 0 where
+pub record LivesSome (free : Type 0) (reader writer : Stream) (w : World) (rounds : ℕ) (e : ToolFault) : Type 0 where
   pub script : Script
   pub read : ReadsTo script_way reader script
   pub entries : List Entry
-  pub session : IsSession free c script.made (rounds_of rounds script) entries
+  pub session : IsSession free w script.made (rounds_of rounds script) entries
   pub written : LeavesLines writer.before writer.after (session_lines entries script) e
 
 -- the script was read, no journal was closed, and nothing was written
@@ -83,9 +83,9 @@ pub record LivesNothing (reader writer : Stream) : Type 0 where
   pub unwritten : Appends writer.before writer.after []
 
 -- Only once the script has been read and the journal is closed it is told.
-abbrev pub Lives : Type 0 → Stream → Stream → Config → ℕ → Result Summary ToolFault → Type 0
-Lives free reader writer c rounds (Ok summary) = LivesAll free reader writer c rounds summary
-Lives free reader writer c rounds (Err Read) = TellsNothing reader writer Read
-Lives free reader writer c rounds (Err NoMemory) = TellsNothing reader writer NoMemory ⊎ (LivesNothing reader writer ⊎ LivesSome free reader writer c rounds NoMemory)
-Lives free reader writer c rounds (Err Write) = LivesSome free reader writer c rounds Write
-Lives free reader writer c rounds (Err Unclosed) = LivesNothing reader writer
+abbrev pub Lives : Type 0 → Stream → Stream → World → ℕ → Result Summary ToolFault → Type 0
+Lives free reader writer w rounds (Ok summary) = LivesAll free reader writer w rounds summary
+Lives free reader writer w rounds (Err Read) = TellsNothing reader writer Read
+Lives free reader writer w rounds (Err NoMemory) = TellsNothing reader writer NoMemory ⊎ (LivesNothing reader writer ⊎ LivesSome free reader writer w rounds NoMemory)
+Lives free reader writer w rounds (Err Write) = LivesSome free reader writer w rounds Write
+Lives free reader writer w rounds (Err Unclosed) = LivesNothing reader writer

@@ -25,6 +25,7 @@ use ynl_commands::{
 };
 use ynl_config::{ConfigFault, read_config};
 use ynl_core::Core;
+use ynl_journal::Start;
 use ynl_queues::Config;
 use ynl_resource::{HashSeed, Label, Name};
 use ynl_restore::read_state;
@@ -163,24 +164,38 @@ fn audit_evidence<R: BufRead, W: Write>(
     }
 }
 
-/// The cluster that a job begins from: in its opening state, or in that of a text; or how a job ends that has none,
-/// since it is not begun then.
+/// Where a job begins: with a cluster that is just opened, or with that of a text's state; or how a job ends that
+/// has none, since it is not begun then.
+fn start(alloc: Global, config: Config, from: Option<&[u8]>) -> Result<Start, Ending>
+    requires { is_accepted config ≡ true }
+    ensures state { IfOk result (λ start. begins config (option_map (λ text. text.now) from.entry) ≡ Ok start.state) }
+    ensures config { IfOk result (λ start. start.config ≡ config) }
+    ensures none { IfErr result (EndsWithoutState config (option_map (λ text. text.now) from.entry)) }
+{
+    match from {
+        None => Ok(Start::opened(config)),
+        Some(text) => match read_state(alloc, config, text) {
+            Ok(Ok(core)) => Ok(Start::resumed(core)),
+            Ok(Err(bad)) => Err(Ok(Err(JobRefusal::State(bad)))),
+            Err(_) => Err(Err(ToolFault::NoMemory)),
+        },
+    }
+}
+
+/// The cluster that a job begins with, or how a job ends that has none.
 fn begin(alloc: Global, config: Config, from: Option<&[u8]>) -> Result<Core, Ending>
     requires { is_accepted config ≡ true }
     ensures state { IfOk result (λ core. begins config (option_map (λ text. text.now) from.entry) ≡ Ok core.state) }
     ensures config { IfOk result (λ core. core.config ≡ config) }
     ensures none { IfErr result (EndsWithoutState config (option_map (λ text. text.now) from.entry)) }
 {
-    match from {
-        None => match Core::open(alloc, config) {
-            Ok(core) => Ok(core),
-            Err(_) => Err(Err(ToolFault::NoMemory)),
-        },
-        Some(text) => match read_state(alloc, config, text) {
-            Ok(Ok(core)) => Ok(core),
-            Ok(Err(bad)) => Err(Ok(Err(JobRefusal::State(bad)))),
-            Err(_) => Err(Err(ToolFault::NoMemory)),
-        },
+    let start = match start(alloc, config, from) {
+        Ok(start) => start,
+        Err(ended) => return Err(ended),
+    };
+    match start.into_cluster(alloc) {
+        Ok(core) => Ok(core),
+        Err(_) => Err(Err(ToolFault::NoMemory)),
     }
 }
 
@@ -270,6 +285,31 @@ fn explain_job<R: BufRead, W: Write>(
     }
 }
 
+/// Runs a live scheduler of this configuration with so many workers and rounds, from the state that it begins from.
+fn live_job<T: Threads + Wait + Sync, R: BufRead, W: Write>(
+    rt: &T,
+    alloc: Global,
+    config: Config,
+    from: Option<&[u8]>,
+    workers: Workers,
+    rounds: u64,
+    reader: &mut R,
+    writer: &mut W,
+) -> Ending
+    requires { is_accepted config ≡ true }
+    ensures { LivesJob rounds (option_map (λ text. text.now) from.entry) (between (R.remaining reader.old) (R.remaining reader.new)) (between (W.contents writer.old) (W.contents writer.new)) config result }
+{
+    let start = match start(alloc, config, from) {
+        Ok(start) => start,
+        Err(ended) => return ended,
+    };
+    let count = workers.number();
+    match live_lines(rt, alloc, start, count, rounds, &FreeGate, reader, writer) {
+        Ok(summary) => Ok(Ok(summary)),
+        Err(fault) => Err(fault),
+    }
+}
+
 /// Does the job with a cluster of this configuration.
 fn do_job<R: BufRead, W: Write>(
     alloc: Global,
@@ -328,7 +368,7 @@ pub struct JobTexts<'a> {
     /// The text of the configuration.
     pub config: &'a [u8],
     /// The text of the state that the job begins from, if that is not the opening state. Only the jobs that
-    /// run, audit, save and explain begin from a state.
+    /// run, live, audit, save and explain begin from a state.
     pub from: Option<&'a [u8]>,
 }
 
@@ -356,20 +396,17 @@ fn do_live_text<T: Threads + Wait + Sync, R: BufRead, W: Write>(
     seed: HashSeed,
     workers: Workers,
     rounds: u64,
-    text: &[u8],
+    texts: JobTexts<'_>,
     reader: &mut R,
     writer: &mut W,
 ) -> Ending
-    ensures { DoesText (between (R.remaining reader.old) (R.remaining reader.new)) (between (W.contents writer.old) (W.contents writer.new)) (LivesJob rounds) text.now result }
+    ensures { DoesText (between (R.remaining reader.old) (R.remaining reader.new)) (between (W.contents writer.old) (W.contents writer.new)) (LivesJob rounds (option_map (λ text. text.now) texts.entry.from)) texts.entry.config.now result }
 {
-    let config = match read_job_config(alloc, seed, text) {
-        Ok(config) => config,
-        Err(ended) => return ended,
-    };
-    let count = workers.number();
-    match live_lines(rt, alloc, config, count, rounds, &FreeGate, reader, writer) {
-        Ok(summary) => Ok(Ok(summary)),
-        Err(fault) => Err(fault),
+    match read_job_config(alloc, seed, texts.config) {
+        Ok(config) => live_job(
+            rt, alloc, config, texts.from, workers, rounds, reader, writer,
+        ),
+        Err(ended) => ended,
     }
 }
 
@@ -417,14 +454,14 @@ pub fn execute_live<T: Threads + Wait + Sync, R: BufRead, W: Write, E: Write>(
     seed: HashSeed,
     workers: Workers,
     rounds: u64,
-    text: &[u8],
+    texts: JobTexts<'_>,
     reader: &mut R,
     writer: &mut W,
     errors: &mut E,
 ) -> u8
-    ensures { Executes (between (R.remaining reader.old) (R.remaining reader.new)) (between (W.contents writer.old) (W.contents writer.new)) (between (E.contents errors.old) (E.contents errors.new)) (LivesJob rounds) text.now result }
+    ensures { Executes (between (R.remaining reader.old) (R.remaining reader.new)) (between (W.contents writer.old) (W.contents writer.new)) (between (E.contents errors.old) (E.contents errors.new)) (LivesJob rounds (option_map (λ text. text.now) texts.entry.from)) texts.entry.config.now result }
 {
-    let ended = do_live_text(rt, alloc, seed, workers, rounds, text, reader, writer);
+    let ended = do_live_text(rt, alloc, seed, workers, rounds, texts, reader, writer);
     tell_ending(errors, ended)
 }
 

@@ -14,10 +14,10 @@ use std::sync::Wait;
 use std::thread::Threads;
 use ynl_commands::lines_out::{hold_text, write_held, write_on};
 use ynl_commands::{Script, Summary, ToolFault, read_script, report};
+use ynl_journal::Start;
 use ynl_lines::{InputFault, put_line};
 use ynl_model::Entry;
 use ynl_packed::Entries;
-use ynl_queues::Config;
 use ynl_session::{SessionFault, run_session};
 use ynl_workers::{Gate, Go, Sight};
 
@@ -140,7 +140,8 @@ fn tell_session<W: Write>(
     tell_end(alloc, script, writer)
 }
 
-/// Reads the script, and only then calls its events on a live scheduler, runs so many rounds of workers
+/// Reads the script, and only then calls its events on a live scheduler that begins with a cluster like the one of
+/// this start, runs so many rounds of workers
 /// over the nodes that these leave, and closes the journal; then writes each entry in a line with its
 /// place. A line with a fault ends the script, is reported in the last line written, and no round is run.
 ///
@@ -150,7 +151,7 @@ fn tell_session<W: Write>(
 pub fn live_lines<T: Threads + Wait + Sync, R: BufRead, W: Write, G: Gate + Sync>(
     rt: &T,
     alloc: Global,
-    config: Config,
+    start: Start,
     workers: usize,
     rounds: u64,
     gate: &G,
@@ -158,12 +159,12 @@ pub fn live_lines<T: Threads + Wait + Sync, R: BufRead, W: Write, G: Gate + Sync
     writer: &mut W,
 ) -> Result<Summary, ToolFault>
     requires { 0 < workers }
-    ensures whole { LivesWhole (G.is_free gate.now) (between (R.remaining reader.old) (R.remaining reader.new)) (between (W.contents writer.old) (W.contents writer.new)) config rounds result }
-    ensures steps { Lives (G.is_free gate.now) (between (R.remaining reader.old) (R.remaining reader.new)) (between (W.contents writer.old) (W.contents writer.new)) config rounds result }
+    ensures whole { LivesWhole (G.is_free gate.now) (between (R.remaining reader.old) (R.remaining reader.new)) (between (W.contents writer.old) (W.contents writer.new)) start rounds result }
+    ensures steps { Lives (G.is_free gate.now) (between (R.remaining reader.old) (R.remaining reader.new)) (between (W.contents writer.old) (W.contents writer.new)) start rounds result }
 {
     let script = read_script(alloc, reader)?;
     let rounds = rounds_of(&script, rounds);
-    match run_session(rt, alloc, config, &script.events, workers, rounds, gate) {
+    match run_session(rt, alloc, start, &script.events, workers, rounds, gate) {
         Ok(entries) => tell_session(alloc, &entries, &script, writer),
         Err(error) => Err(session_fault(error)),
     }

@@ -100,7 +100,7 @@ check_command = with_rule (with_rule (new_app (codes "check")) plain_rule) confi
 
 -- the subcommand `live`
 abbrev pub live_command : App
-live_command = with_options (new_app (codes "live")) workers_rule rounds_rule
+live_command = with_options_and_files (new_app (codes "live")) workers_rule rounds_rule
 
 -- the command `ynl`, which wants a subcommand, without those that there are
 abbrev pub bare_command : App

@@ -8,7 +8,7 @@ ghost use Rattle.clap.specs.Words.{found_of, rows_of};
 ghost use Rattle.clap.specs.declared.builder.command.Command.TheViews.{out-Command as fields_of};
 ghost use Rattle.ynl_words.specs.Words as spec;
 
-use crate::options::{value_in, with_options};
+use crate::options::{value_in, with_options_and_files};
 use crate::words::Kind;
 use clap::builder::ValueParser;
 use clap::{Arg, ArgMatches, Command};
@@ -72,15 +72,20 @@ With one worker the journal is the same each time; with more their entries may c
 line that is no event ends the input: no round is run then, and the last line of the output tells its
 fault, as for run.
 
+With --from the cluster begins from the state in that file, as save wrote it, and not from its
+opening state, and a fault of that text is told as for run. The workers go over the nodes that the
+state and the input leave. The places of the journal begin at 0, and audit --from reads it.
+
 Exit status:
   0  the journal was closed
-  1  a line of the input is no event, or the input is too long; or the configuration has a fault, as a
-     line on standard error tells: nothing is read
+  1  a line of the input is no event, or the input is too long; or the configuration or the state to
+     begin from has a fault, as a line on standard error tells: nothing is read
   2  the words of the command line are wrong, or ask for help
   3  reading, writing or memory failed, or the journal was not closed, as a line on standard error tells
 
-Example:
-  ynl live --workers 4 --config cluster.toml < events | ynl audit --config cluster.toml";
+Examples:
+  ynl live --workers 4 --config cluster.toml < events | ynl audit --config cluster.toml
+  ynl live --from state < events | ynl audit --from state";
 
 const WORKERS_HELP: &str = "How many workers there are, 1 to 64";
 
@@ -118,7 +123,7 @@ pub(crate) fn live_command<'a>(alloc: Global) -> Result<Command<'a>, AllocError>
     let bare = Command::new(alloc, "live")
         .about(LIVE_ABOUT)
         .after_help(LIVE_AFTER);
-    with_options(alloc, bare, workers_option(alloc), rounds_option(alloc))
+    with_options_and_files(alloc, bare, workers_option(alloc), rounds_option(alloc))
 }
 
 /// The number that a text is.
