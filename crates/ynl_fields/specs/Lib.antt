@@ -2,3 +2,4 @@ pub mod Reading
 pub mod Sound
 pub mod Trees
 pub mod Writing
+pub mod Cutting

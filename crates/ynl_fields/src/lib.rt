@@ -1,15 +1,19 @@
-//! Lines of JSON, whatever they tell: what stands under their keys, and the pieces that their texts are put together
-//! from.
+//! Lines of JSON, whatever they tell: what stands under their keys, the pieces that their texts are put together from,
+//! and those that lines in the compact form are cut into.
 #![tactic(auto)]
 
 pub use adding::{add, add_id, add_label, add_name, add_number, add_path, add_text};
 pub use blanks::is_blank;
+pub use cursor::Cursor;
+pub use cutting::{cut_number, cut_text, is_end, two_texts};
 pub use fields::Fields;
 pub use trees::{is_plain, tree_of};
 pub use values::parse;
 
 mod adding;
 mod blanks;
+mod cursor;
+mod cutting;
 mod fields;
 mod numbers;
 mod trees;

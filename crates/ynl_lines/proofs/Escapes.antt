@@ -1,10 +1,6 @@
 -- What needs no escape in a text of JSON.
-use Rattle.std.proofs.Common.{◌≡◌, ℕ, List, [], ◌∷◌, ◌++◌, true, refl, ap₂, arith}
-use Rattle.std.specs.List.{list_all}
-use Rattle.std.proofs.lemmas.Bool.{and_parts}
-use Rattle.std.proofs.lemmas.Bool.Decides.{nat_tests}
+use Rattle.std.proofs.Common.{◌≡◌, refl}
 use Rattle.json.specs.Print.{escape, escape_byte}
-use Rattle.json.proofs.Printed.Strings.{escape_byte_plain}
 use Rattle.ynl_resource.specs.declared.refusals.Refusal.{Refusal}
 use Rattle.ynl_resource.specs.Refusals.{word}
 use Rattle.ynl_resource.specs.declared.refusals.Refusal.TheVariants.{NoSuchLabel}
@@ -12,7 +8,6 @@ use Rattle.ynl_lines.specs.declared.faults.LineFault.TheVariants as line
 use Rattle.ynl_lines.specs.declared.faults.JournalFault.TheVariants as journal
 use Rattle.ynl_lines.specs.declared.faults.InputFault.{InputFault}
 use Rattle.ynl_lines.specs.declared.faults.InputFault.TheVariants.{Script, Journal}
-use Rattle.ynl_lines.specs.Compact.{is_word_byte}
 use Rattle.ynl_lines.specs.Writing.{input_fault_word}
 
 -- the word of a refusal needs no escape
@@ -33,12 +28,3 @@ escape_fault (Script line.Range) = refl
 escape_fault (Journal journal.Size) = refl
 escape_fault (Journal journal.Line) = refl
 escape_fault (Journal journal.Differs) = refl
-
--- ---- names, paths and ids
-
-word_plain : (x : ℕ) → is_word_byte x ≡ true → escape_byte x ≡ x ∷ []
-word_plain x h = escape_byte_plain x (λ e. let bad : x ≡ 34 = e in grind (arith, nat_tests)) (λ e. let bad : x ≡ 92 = e in grind (arith, nat_tests)) (grind (arith, nat_tests))
-
-pub escape_words : (xs : List ℕ) → list_all is_word_byte xs ≡ true → escape xs ≡ xs
-escape_words [] h = refl
-escape_words (x ∷ xs) h = ap₂ (λ a b. a ++ b) (word_plain x (and_parts (is_word_byte x) _ h).0) (escape_words xs (and_parts (is_word_byte x) _ h).1)

@@ -1,6 +1,5 @@
 -- What lines in the compact form are cut into, and the event of that: the first fault in its names and then in its ranges, or the event.
-use Rattle.std.specs.Prelude.{ℕ, List, ◌∷◌, ◌++◌, Bool, ◌||◌, ◌==◌, Option, option_map, Result, Ok, codes}
-use Rattle.ynl_resource.specs.NameText.{is_name_byte}
+use Rattle.std.specs.Prelude.{ℕ, List, ◌∷◌, ◌++◌, Option, option_map, Result, Ok, codes}
 use Rattle.ynl_resource.specs.Ranges.{most_clock, most_count, most_priority}
 use Rattle.ynl_model.specs.declared.proposals.Proposal.{Proposal}
 use Rattle.ynl_model.specs.declared.events.Event.{Event}
@@ -9,10 +8,6 @@ use Rattle.ynl_lines.specs.declared.faults.LineFault.{LineFault}
 use Rattle.ynl_lines.specs.declared.compact.Members.{Members}
 use Rattle.ynl_lines.specs.declared.compact.Members.TheVariants.{Ask, Submit, Release, Finish, Poll, Exited, Propose, Commit, Register, Usage}
 use Rattle.ynl_lines.specs.Reading.{◌>>=◌, name_at, label_at, optional_label_at, path_at, id_at, size_at, within, wanted_label_at, what_at}
-
--- whether a byte may stand in a name, a path or an id
-abbrev pub is_word_byte : ℕ → Bool
-is_word_byte b = is_name_byte b || (b == 46) || (b == 35)
 
 -- a line that begins with the name of an application
 abbrev pub application_line : List ℕ → List ℕ → List ℕ

@@ -8,8 +8,11 @@ ghost use Rattle.ynl_lines.specs.Compact as spec;
 ghost use Rattle.ynl_lines.specs.Reading.{event_of_line};
 
 use crate::compact_applications::of_application;
-use crate::cutting::{WORD, cut_number, cut_text, is_end, two_texts};
+use ynl_fields::{cut_number, cut_text, is_end, two_texts};
 use ynl_resource::Name;
+
+/// Where the first byte stands of the word of an event, behind `{"event":"` or `,"event":"`.
+pub const WORD: usize = 10;
 
 /// What stands before the node in the text of a heartbeat.
 const FRONT: &[u8] = b"{\"event\":\"heartbeat\",\"node\":\"";

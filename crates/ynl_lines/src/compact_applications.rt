@@ -6,8 +6,8 @@ ghost use Rattle.json.specs.Print.{escape};
 ghost use Rattle.ynl_lines.specs.Compact as spec;
 ghost use Rattle.ynl_lines.specs.Reading.{event_of_line};
 
-use crate::compact::Members;
-use crate::cutting::{WORD, cut_number, cut_text, is_end, two_texts};
+use crate::compact::{Members, WORD};
+use ynl_fields::{cut_number, cut_text, is_end, two_texts};
 
 /// The members of an ask, from what stands behind its application.
 fn ask_in<'a>(app: &'a str, rest: &'a [u8]) -> Option<Members<'a>>

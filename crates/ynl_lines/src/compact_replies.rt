@@ -6,10 +6,10 @@ ghost use Rattle.ynl_resource.specs.Amounts.{IsSmall};
 ghost use Rattle.ynl_lines.specs.Reading.{HasPriority, HasProposalNumbers};
 ghost use Rattle.ynl_lines.specs.ReadingReplies.{HasPendingNumbers, HasPlacedNumbers, IsReplyInRange};
 
-use crate::cursor::Cursor;
 use crate::keys::within;
 use crate::read_replies::MOST_AMOUNT;
 use std::alloc::{AllocError, Global};
+use ynl_fields::Cursor;
 use ynl_model::{Items, Pending, Placed, Proposal, Reply, What};
 use ynl_resource::{Label, MOST_CLOCK, MOST_COUNT, Refusal, Resource, Size};
 

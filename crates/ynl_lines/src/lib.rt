@@ -13,8 +13,6 @@ pub use write_replies::{put_placed, put_reply};
 mod compact;
 mod compact_applications;
 mod compact_replies;
-mod cursor;
-mod cutting;
 mod faults;
 mod keys;
 mod read;

@@ -7,7 +7,6 @@ ghost use Rattle.ynl_lines.specs.ReadingReplies.{MayBeTold, IsRead};
 ghost use Rattle.ynl_lines.specs.ReadingReplies as spec;
 
 use crate::compact_replies::cut_reply;
-use crate::cursor::Cursor;
 use crate::faults::{BadLine, LineFault};
 use crate::keys::{keys_are, number_at};
 use crate::read::{any_event, event_at, read_into};
@@ -16,7 +15,7 @@ use crate::write::put_line;
 use json::Scratch;
 use std::alloc::{AllocError, Global};
 use std::marker::Model;
-use ynl_fields::{Fields, parse};
+use ynl_fields::{Cursor, Fields, parse};
 use ynl_model::{Entry, Event, Reply};
 
 /// The place of a line, and its event.

@@ -7,6 +7,7 @@ pub use kinds::StateKind;
 pub use read::StateReader;
 pub use write::put_state_line;
 
+mod compact;
 mod faults;
 mod keys;
 mod kinds;

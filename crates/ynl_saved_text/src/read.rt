@@ -1,18 +1,20 @@
 //! From lines to what they tell of a state.
 
-ghost use Rattle.std.specs.Prelude.{◌≡◌, false, IfOk, OnErr, OnOk, IsUtf8, None, Some};
+ghost use Rattle.std.specs.Prelude.{◌≡◌, false, IfOk, OnErr, OnOk, IsTrue, IsUtf8, None, Ok, Some};
 ghost use Rattle.std.specs.Option.{option_map_or};
 ghost use Rattle.ynl_fields.specs.Reading.{Gives};
 ghost use Rattle.ynl_fields.specs.Trees.{data_at};
 ghost use Rattle.ynl_saved_text.specs.StateLines.{IsRanged};
 ghost use Rattle.ynl_saved_text.specs.StateLines as spec;
 
+use crate::compact::cut_line;
 use crate::faults::StateFault;
 use crate::kinds::{StateKind, is_end, kind_of, kind_of_line, may_follow};
 use crate::read_applications::{ask_at, finished_at, live_at};
 use crate::read_containers::container_at;
 use crate::read_partitions::{begin_at, end_at, node_at, partition_at};
 use crate::read_queues::{maximum_at, stopped_at};
+use crate::write::put_state_line;
 use json::Scratch;
 use std::alloc::{AllocError, Global};
 use std::marker::Model;
@@ -118,6 +120,32 @@ fn read_into(
     read_by_value(alloc, before, line, into)
 }
 
+/// Reads a line behind one of a kind, if it is just the text of what it tells, as most are, and returns whether it is.
+/// No value of JSON is made of it: what it seems to tell is put into `guess`, and the text of that is made in `text`.
+fn read_compact(
+    text: &mut Vec<u8>,
+    guess: &mut StateLine,
+    before: Option<StateKind>,
+    line: &[u8],
+    into: &mut StateLine,
+) -> Result<bool, AllocError>
+    ensures line { IfOk result (λ read. IsTrue read → spec.line_behind before line.now ≡ Ok into.new) }
+    ensures ranged { IfOk result (λ read. IsTrue read → IsRanged into.new) }
+    ensures kept { IfOk result (λ read. read ≡ false → into.new ≡ into.old) }
+    ensures none { OnErr result (into.new ≡ into.old) }
+{
+    if cut_line(line, guess).is_none() || !may_follow(before, kind_of_line(guess)) {
+        return Ok(false);
+    }
+    text.clear();
+    put_state_line(text, guess)?;
+    if text.as_slice() != line {
+        return Ok(false);
+    }
+    *into = *guess;
+    Ok(true)
+}
+
 /// The line that was read last, and its kind, once one was read.
 #[derive(Clone, Copy)]
 pub struct LastLine {
@@ -129,6 +157,8 @@ pub struct LastLine {
 #[derive(Drop)]
 pub struct StateReader {
     scratch: Scratch,
+    text: Vec<u8>,
+    guess: StateLine,
     held: LastLine,
 }
 
@@ -147,6 +177,8 @@ impl StateReader {
     {
         StateReader {
             scratch: Scratch::new(alloc),
+            text: Vec::new(alloc),
+            guess: StateLine::Begin,
             held: LastLine {
                 before: None,
                 line: StateLine::Begin,
@@ -194,6 +226,18 @@ impl StateReader {
         ensures none { OnErr result (self.new ≡ self.old) }
     {
         let before = self.held.before;
+        if let Ok(_) = str::from_utf8(line) {
+            if read_compact(
+                &mut self.text,
+                &mut self.guess,
+                before,
+                line,
+                &mut self.held.line,
+            )? {
+                self.held.before = Some(kind_of_line(&self.held.line));
+                return Ok(Ok(()));
+            }
+        }
         let read = read_into(alloc, &mut self.scratch, before, line, &mut self.held.line)?;
         if read.is_ok() {
             self.held.before = Some(kind_of_line(&self.held.line));

@@ -6,10 +6,7 @@ ghost use Rattle.std.specs.List.{list_all};
 ghost use Rattle.std.specs.Char.{is_ascii_digit};
 ghost use Rattle.std.specs.Str.Parse.{digits_value};
 ghost use Rattle.json.specs.Print.{escape};
-ghost use Rattle.ynl_lines.specs.Compact.{is_word_byte};
-
-/// Where the first byte stands of the word of an event, behind `{"event":"` or `,"event":"`.
-pub const WORD: usize = 10;
+ghost use Rattle.ynl_fields.specs.Cutting.{is_word_byte};
 
 /// What ends a text.
 const QUOTE: &[u8] = b"\"";

@@ -2,7 +2,7 @@ use Rattle.std.proofs.Common.{◌≡◌, ◌<◌, ◌&&◌, length, get_or, true
 use Rattle.std.proofs.lemmas.List.Folds.{list_all_more}
 use Rattle.std.specs.Char.{is_ascii_digit}
 use Rattle.ynl_fields.proofs.Escapes.{digits_more}
-use Rattle.ynl_lines.proofs.cutting.digits_in.Goals as goal
+use Rattle.ynl_fields.proofs.cutting.digits_in.Goals as goal
 
 pub loop-i-preserved : goal.loop-i-preserved
 loop-i-preserved c =

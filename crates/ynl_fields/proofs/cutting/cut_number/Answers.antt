@@ -1,7 +1,7 @@
 use Rattle.std.proofs.Common.{◌≡◌, ◌++◌, ◌-◌, length, take, drop, decimal, length-drop, arith, ap, ap₂, refl, sym, ◌∙◌}
 use Rattle.std.proofs.lemmas.List.{take-append-drop, take_all}
 use Rattle.ynl_fields.proofs.Escapes.{digits_back}
-use Rattle.ynl_lines.proofs.cutting.cut_number.Goals as goal
+use Rattle.ynl_fields.proofs.cutting.cut_number.Goals as goal
 
 pub returns-clause-cut : goal.returns-clause-cut
 returns-clause-cut c =

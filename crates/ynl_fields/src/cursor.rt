@@ -1,11 +1,10 @@
 //! A place in a line in the compact form, from which one piece after another is cut.
 
 ghost use Rattle.std.specs.Prelude.{◌≤◌, IfSome};
-ghost use Rattle.ynl_lines.specs.Reading.{HasClock};
+ghost use Rattle.ynl_fields.specs.Reading.{HasClock};
 
 use crate::cutting::{cut_number, cut_text};
-use crate::keys::{id_at, within_small};
-use ynl_resource::{Id, Label, Name};
+use ynl_resource::{Id, Label, Name, Path};
 
 /// What is left of a line. Each call cuts a piece from its front, with what stands before it in every such line; where it
 /// gives nothing, the line is in another form.
@@ -29,6 +28,11 @@ impl<'a> Cursor<'a> {
             }
             None => false,
         }
+    }
+
+    /// The byte that stands so far behind the front, if the line is so long.
+    pub fn ahead(&self, count: usize) -> Option<u8> {
+        self.rest.get(count).copied()
     }
 
     /// The object in front, of texts and numbers, or of one object of these behind its other members.
@@ -55,17 +59,33 @@ impl<'a> Cursor<'a> {
         Some(number)
     }
 
-    /// A number of 32 bits that is at most so large.
-    pub fn small(&mut self, front: &[u8], most: u32) -> Option<u32>
+    /// A number that is at most so large.
+    pub fn within(&mut self, front: &[u8], most: u64) -> Option<u64>
         ensures { IfSome result (λ n. n ≤ most) }
     {
         let number = self.number(front)?;
-        within_small(most, number).ok()
+        if number > most {
+            return None;
+        }
+        Some(number)
+    }
+
+    /// The same of a number of 32 bits.
+    pub fn small(&mut self, front: &[u8], most: u32) -> Option<u32>
+        ensures { IfSome result (λ n. n ≤ most) }
+    {
+        let number = self.within(front, u64::from(most))?;
+        Some(number as u32)
     }
 
     pub fn name(&mut self, front: &[u8]) -> Option<Name> {
         let text = self.text(front)?;
         Name::parse(text).ok()
+    }
+
+    pub fn path(&mut self, front: &[u8]) -> Option<Path> {
+        let text = self.text(front)?;
+        Path::parse(text).ok()
     }
 
     pub fn label(&mut self, front: &[u8]) -> Option<Label> {
@@ -77,7 +97,7 @@ impl<'a> Cursor<'a> {
         ensures { IfSome result (λ id. HasClock id) }
     {
         let text = self.text(front)?;
-        match id_at(text) {
+        match Id::parse(text) {
             Ok(id) => Some(id),
             Err(_) => None,
         }
