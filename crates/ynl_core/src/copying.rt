@@ -1,10 +1,8 @@
 //! A second cluster of the same state.
 
-ghost use Rattle.std.specs.Prelude.{◌≡◌, IfOk, IsTrue, false};
+ghost use Rattle.std.specs.Prelude.{◌≡◌, IfOk, IsTrue};
 ghost use Rattle.ynl_model.specs.Accepted.{is_accepted};
 ghost use Rattle.ynl_saved.specs.Restoring.{nothing_restored};
-ghost use Rattle.ynl_saved_laws.specs.Asks.{AllWithin};
-ghost use Rattle.ynl_saved_laws.specs.Lines.{IsRangedLine};
 ghost use Rattle.ynl_restoring.specs.Telling.{Tells};
 
 use crate::cluster::Core;
@@ -12,14 +10,13 @@ use crate::memory::NoMemory;
 use std::alloc::{AllocError, Global};
 use std::marker::Model;
 use ynl_queues::Config;
-use ynl_resource::MOST_COUNT;
 use ynl_restoring::Restoring;
 use ynl_saved::{LineSink, StateLine};
 
 /// Why no line more is taken.
 #[derive(Clone, Copy)]
 enum CopyFault {
-    /// The line does not go with those before it, or has a number out of range.
+    /// The line does not go with those before it.
     Unsound,
     /// Memory was refused, or the lines cannot be counted.
     NoMemory,
@@ -33,26 +30,6 @@ impl From<AllocError> for CopyFault {
 
     fn from(_error: AllocError) -> CopyFault {
         CopyFault::NoMemory
-    }
-}
-
-/// Whether the numbers of a line are in range: an ask may be for more, where an event said so.
-fn is_ranged(line: &StateLine) -> bool
-    ensures ranged { IsTrue result → IsRangedLine line.now }
-    ensures not { result ≡ false → IsRangedLine line.now → ⊥ }
-{
-    match line {
-        StateLine::Node(node) => {
-            // Opens the size, which is in range.
-            let _ = node.size.amount();
-            true
-        }
-        StateLine::Ask {
-            tenant: _,
-            app: _,
-            ask,
-        } => ask.count <= MOST_COUNT,
-        _ => true,
     }
 }
 
@@ -115,9 +92,6 @@ impl LineSink for Copying {
         if !self.is_whole || self.lines == u64::MAX {
             return Err(CopyFault::NoMemory);
         }
-        if !is_ranged(line) {
-            return Err(CopyFault::Unsound);
-        }
         self.is_whole = false;
         let taken = self.told.take(line)?;
         if !taken {
@@ -130,11 +104,10 @@ impl LineSink for Copying {
 }
 
 impl Core {
-    /// A second cluster of the same configuration and state, made by telling the lines of the state. Each ask of
-    /// the state is for at most 1,000,000 containers, as an ask that is read is. `Err` only if memory is refused.
+    /// A second cluster of the same configuration and state, made by telling the lines of the state. `Err` only
+    /// if memory is refused.
     pub fn copy(&self) -> Result<Core, NoMemory>
-        requires accepted { IsTrue (is_accepted self.now.config) }
-        requires counted { AllWithin self.now.state.leaves }
+        requires { IsTrue (is_accepted self.now.config) }
         ensures { IfOk result (λ core. core ≡ self.now) }
     {
         let config = self.config().copy(self.alloc)?;

@@ -6,7 +6,6 @@ ghost use Rattle.ynl_model.specs.Accepted.{is_accepted};
 ghost use Rattle.ynl_model.specs.Cluster.{opening};
 ghost use Rattle.ynl_model.specs.Events.{after, step};
 ghost use Rattle.ynl_model.specs.declared.events.Event.TheVariants.{Propose};
-ghost use Rattle.ynl_saved_laws.specs.Asks.{AllWithin};
 ghost use Rattle.ynl_journal.specs.Journal.{AgreesFrom, IsHistoryFrom, Journal, entry, events_in, replayed_from};
 
 use crate::replaying::entries_of;
@@ -65,11 +64,9 @@ impl Book {
     }
 
     /// A book without entries, of a cluster that has a state already: it goes on from there. As for
-    /// `Start::resumed`, its configuration is accepted, and each ask of its state is for at most 1,000,000
-    /// containers.
+    /// `Start::resumed`, its configuration is accepted.
     pub fn resume(alloc: Global, core: Core) -> Result<Book, NoMemory>
-        requires accepted { IsTrue (is_accepted core.config) }
-        requires counted { AllWithin core.state.leaves }
+        requires { IsTrue (is_accepted core.config) }
         ensures { IfOk result (λ book. book ≡ record { config = core.config; begun = core.state; entries = [] }) }
     {
         Book::begin(alloc, Arc::new(alloc, Start::resumed(core))?)

@@ -42,7 +42,6 @@ impl Start {
     ghost use Rattle.std.specs.Prelude.{◌≡◌, IfOk, IsTrue};
     ghost use Rattle.ynl_model.specs.Accepted.{is_accepted};
     ghost use Rattle.ynl_laws.specs.Working.{IsWorking};
-    ghost use Rattle.ynl_saved_laws.specs.Asks.{AllWithin};
     ghost use Rattle.ynl_core.specs.World.{opened};
 
     /// A cluster without nodes, applications or containers.
@@ -54,11 +53,9 @@ impl Start {
         }
     }
 
-    /// This cluster, which is kept as it is. As for `Core::copy`, its configuration is accepted, and each ask of
-    /// its state is for at most 1,000,000 containers: so it is with a state that is read.
+    /// This cluster, which is kept as it is. As for `Core::copy`, its configuration is accepted.
     pub fn resumed(core: Core) -> Start
-        requires accepted { IsTrue (is_accepted core.config) }
-        requires counted { AllWithin core.state.leaves }
+        requires { IsTrue (is_accepted core.config) }
         ensures { result ≡ core }
     {
         Start {

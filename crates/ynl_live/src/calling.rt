@@ -6,7 +6,6 @@ ghost use Rattle.ynl_model.specs.Events.{after, step};
 ghost use Rattle.ynl_model.specs.declared.events.Event.TheVariants.{Propose};
 ghost use Rattle.ynl_core.specs.Sightings.{IsSighting, reply_by, reply_before};
 ghost use Rattle.ynl_core.specs.World.{opened};
-ghost use Rattle.ynl_saved_laws.specs.Asks.{AllWithin};
 ghost use Rattle.ynl_journal.specs.Journal.{Journal, entry, events_in, replayed_from};
 ghost use Rattle.ynl_live.specs.Sightings.{IsOfNode};
 ghost use Rattle.ynl_live.specs.Seats.{passed};
@@ -67,11 +66,9 @@ impl Live {
     }
 
     /// A cluster that goes on from where this one stands, with a journal that has no entry, and the seat of its
-    /// first caller. As for `Start::resumed`, its configuration is accepted, and each ask of its state is for at
-    /// most 1,000,000 containers.
+    /// first caller. As for `Start::resumed`, its configuration is accepted.
     pub fn resume(alloc: Global, core: Core) -> Result<(Live, Seat), NoMemory>
-        requires accepted { IsTrue (is_accepted core.config) }
-        requires counted { AllWithin core.state.leaves }
+        requires { IsTrue (is_accepted core.config) }
         ensures { IfOk result (λ made. (made.0 ≡ core) × (made.1 ≡ record { calls = 0; front = 0 })) }
     {
         Live::begin(alloc, Start::resumed(core))

@@ -9,7 +9,8 @@ use Rattle.ynl_model.specs.Queues.{Config}
 use Rattle.ynl_saved.specs.declared.lines.StateLine.{StateLine}
 use Rattle.ynl_saved.specs.declared.lines.StateLine.TheVariants.{Begin, Partition, Node, Live, Ask, Finished, Container, Stopped, Maximum, End}
 use Rattle.ynl_saved.specs.Restoring.{is_sound_line, nothing_restored, restored_with}
-use Rattle.ynl_saved_laws.specs.Lines.{IsRangedLine}
+use Rattle.ynl_saved_laws.specs.Lines.{IsCountedLine}
+use Rattle.ynl_saved_laws.proofs.Within.{within-first, within-more}
 use Rattle.ynl_saved_text.specs.StateLines.{IsRanged, kind_of_line, line_behind}
 use Rattle.ynl_saved_text.specs.Texts.{Progress, bad_line, limit, line_or_fault, line_read, lines_read, no_progress, state_read, whole_read}
 use Rattle.ynl_saved_text.specs.declared.faults.StateFault.{StateFault}
@@ -18,18 +19,18 @@ use Rattle.ynl_saved_text.specs.declared.read.LastLine.{LastLine}
 use Rattle.ynl_restoring.specs.Telling.{Telling, Tells, TakesLine}
 use Rattle.ynl_restore.specs.Reading.{ComesTo, IsAt}
 
--- what is read of a line has its size and its count in range
-pub line-ranged : (line : StateLine) → IsRanged line → IsRangedLine line
-line-ranged Begin h = tt
-line-ranged (Partition label clock) h = tt
-line-ranged (Node node) h = h.0
-line-ranged (Live queue app user label master) h = tt
-line-ranged (Ask tenant app ask) h = h.1.1
-line-ranged (Finished queue app) h = tt
-line-ranged (Container placed) h = tt
-line-ranged (Stopped queue) h = tt
-line-ranged (Maximum queue label share) h = tt
-line-ranged (End lines) h = tt
+-- an ask that is read counts no more than an ask may
+pub line-counted : (line : StateLine) → IsRanged line → IsCountedLine line
+line-counted Begin h = tt
+line-counted (Partition label clock) h = tt
+line-counted (Node node) h = tt
+line-counted (Live queue app user label master) h = tt
+line-counted (Ask tenant app ask) h = h.1.1
+line-counted (Finished queue app) h = tt
+line-counted (Container placed) h = tt
+line-counted (Stopped queue) h = tt
+line-counted (Maximum queue label share) h = tt
+line-counted (End lines) h = tt
 
 module _ (c : Config) (told : Telling) (held : LastLine) (count : ℕ) (p : Progress) (at : IsAt c told held count p) (text : List ℕ) where
   -- a blank line is passed over
@@ -38,7 +39,7 @@ module _ (c : Config) (told : Telling) (held : LastLine) (count : ℕ) (p : Prog
   blank-step blank = (
     record p { count = p.count + 1 },
     ap (λ b. cond b (Ok (record p { count = p.count + 1 })) (line_or_fault c p (line_behind p.before text))) blank,
-    record { config = at.config; tells = at.tells; before = at.before; counted = ap (λ n. n + 1) at.counted; fewer = let fewer = at.fewer in omega (arith, fewer) },
+    record { config = at.config; tells = at.tells; before = at.before; counted = ap (λ n. n + 1) at.counted; fewer = let fewer = at.fewer in omega (arith, fewer); within = at.within },
   )
 
   module _ (written : is_blank text ≡ false) where
@@ -62,9 +63,9 @@ module _ (c : Config) (told : Telling) (held : LastLine) (count : ℕ) (p : Prog
     unsound-step line is unsound = line-is ∙ ap (line_or_fault c p) is ∙ ap (λ b. cond b (Ok (after line)) (Err (bad_line p Unsound))) unsound ∙ ap Err (counted Unsound)
 
     -- or is taken
-    pub sound-step : (new : Telling) (last : LastLine) → line_behind held.before text ≡ Ok last.line → last.before ≡ Some (kind_of_line last.line) → TakesLine told p.restored last.line new true
+    pub sound-step : (new : Telling) (last : LastLine) → line_behind held.before text ≡ Ok last.line → last.before ≡ Some (kind_of_line last.line) → TakesLine told p.restored last.line new true → IsCountedLine last.line
         → ComesTo c new last (count + 1) (Ok tt) (line_read c p text)
-    sound-step new last is kind takes = (
+    sound-step new last is kind takes in-range = (
       after last.line,
       line-is ∙ ap (line_or_fault c p) is ∙ ap (λ b. cond b (Ok (after last.line)) (Err (bad_line p Unsound))) (ap (λ c. is_sound_line c p.restored last.line) (sym at.config) ∙ takes.sound),
       record {
@@ -73,6 +74,7 @@ module _ (c : Config) (told : Telling) (held : LastLine) (count : ℕ) (p : Prog
         before = kind;
         counted = ap (λ n. n + 1) at.counted;
         fewer = let old = at.tells in let now = takes.told refl in let a = old.lines in let b = now.lines in let fewer = at.fewer in omega (arith, a, b, fewer);
+        within = let old = at.tells in within-more told.cluster.config old.accepted p.restored last.line old.known in-range takes.sound at.within;
       },
     )
 
@@ -87,7 +89,7 @@ left-more count n next (Some text) is bound shorter = omega (arith, is, bound, s
 
 -- before the first line
 pub at-first : (c : Config) (told : Telling) (held : LastLine) → told.cluster.config ≡ c → Tells told (nothing_restored c) → held.before ≡ None → IsAt c told held 0 (no_progress c)
-at-first c told held config tells none = record { config = config; tells = tells; before = none; counted = refl; fewer = let lines = tells.lines in omega (arith, lines) }
+at-first c told held config tells none = record { config = config; tells = tells; before = none; counted = refl; fewer = let lines = tells.lines in omega (arith, lines); within = within-first c }
 
 -- a text that is not too long is read line by line
 pub short-read : (c : Config) (text : List ℕ) → length text ≤ limit → state_read c text ≡ (lines_read c (no_progress c) (slice_split (λ (b : ℕ). b == 10) text) >>= whole_read)

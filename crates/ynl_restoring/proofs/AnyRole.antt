@@ -11,7 +11,7 @@ use Rattle.ynl_inventory.specs.Meaning.{app_name, what_of}
 use Rattle.ynl_inventory.specs.Sound.{CanTake}
 use Rattle.ynl_inventory.specs.declared.partition.Placement.{Placement}
 use Rattle.ynl_cluster.specs.Cluster.{ClusterView, path_of, state_in}
-use Rattle.ynl_restoring.specs.Standing.{CanStand, CanStandAsked, CanStandThere, MayStand, with_placed_then, with_stood}
+use Rattle.ynl_restoring.specs.Standing.{CanStand, CanStandFor, CanStandThere, MayStand, with_placed_then, with_stood}
 use Rattle.ynl_restoring.proofs.Clocks.{as-it-is}
 
 module _ (w : ClusterView) (clock : ℕ) (placed : Placement) (can : CanStandThere w clock placed) where
@@ -60,7 +60,7 @@ module _ (w : ClusterView) (clock : ℕ) (placed : Placement) (can : CanStandThe
     asked-role = subst (λ (r : Role). MayStand w.rows placed.app r can.node_row.partition can.partition.guests can.app_row) is can.role
 
     -- one that was asked for is placed
-    abbrev pub asked-stands : CanStandAsked w clock placed asked priority
+    abbrev pub asked-stands : CanStandFor w clock placed asked priority
     asked-stands = record {
       stands = record {
         node_row = can.node_row;
@@ -73,9 +73,8 @@ module _ (w : ClusterView) (clock : ℕ) (placed : Placement) (can : CanStandThe
         shown = can.shown;
         app_row = can.app_row;
         app_found = can.app_found;
-        role = asked-role.0;
+        role = asked-role;
         fits = can.fits;
       };
       role_is = is;
-      few = asked-role.1;
     }

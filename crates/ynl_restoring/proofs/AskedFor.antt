@@ -1,34 +1,43 @@
 -- A container that was asked for: one more is asked for, and then it is placed.
-use Rattle.std.proofs.Common.{◌≡◌, ℕ, true, nat_eq, List, [], ◌∷◌, ◌++◌, slice_get, Option, Some, option_map, refl, sym, ap, subst, ◌∙◌}
+use Rattle.std.proofs.Common.{◌≡◌, ℕ, nat_eq, List, [], ◌∷◌, ◌++◌, slice_get, Option, Some, option_map, refl, sym, ap, subst, ◌∙◌}
 use Rattle.std.specs.Prelude.{IfSome}
 use Rattle.std.specs.List.{AllByRecursion}
 use Rattle.std.specs.Map.{lookup}
 use Rattle.std.proofs.lemmas.Option.{same_Some}
 use Rattle.ynl_resource.specs.Amounts.{fits_in}
-use Rattle.ynl_resource.specs.Names.{same_name, same_path}
 use Rattle.ynl_resource.specs.declared.names.Name.{Name}
-use Rattle.ynl_model.specs.Applications.{Application, LeafApps, in_leaf, set_ask, take_one, with_app}
+use Rattle.ynl_model.specs.Applications.{Application, in_leaf, set_ask, take_one, with_app}
 use Rattle.ynl_model.specs.Changes.{taken}
 use Rattle.ynl_model.specs.Cluster.{State, in_partition}
-use Rattle.ynl_laws.proofs.Lists.{Each-all, Each-put, Each-weaker}
+use Rattle.ynl_laws.proofs.Lists.{Each-put}
 use Rattle.ynl_app_table.specs.declared.asks.Ask.{Ask}
 use Rattle.ynl_app_table.specs.Asks.{is_ask_of, with_ask}
 use Rattle.ynl_container_table.specs.declared.container.Role.{Role}
 use Rattle.ynl_inventory.specs.Changes.{with_asked}
 use Rattle.ynl_inventory.specs.Meaning.{app_name, app_of, application_of, ask_of, label_at, what_of}
 use Rattle.ynl_inventory.specs.Parts.{free_of}
-use Rattle.ynl_inventory.specs.Rows.{AppRow}
+use Rattle.ynl_inventory.specs.Rows.{AppRow, Rows}
 use Rattle.ynl_inventory.specs.Sound.{CanTake, HasPartition, IsAskedOn, IsSound}
 use Rattle.ynl_inventory.specs.declared.partition.Placement.{Placement}
 use Rattle.ynl_inventory.proofs.Asking.{app-asked, app-taken}
 use Rattle.ynl_inventory.proofs.Lookups.{changed-same}
-use Rattle.ynl_cluster.specs.Cluster.{ClusterView, label_of, maxima_in, path_of, state_in, stops_in}
-use Rattle.ynl_replies.proofs.Apps.{app-is}
-use Rattle.ynl_restoring.specs.Standing.{CanStand, CanStandAsked, one_more, placed_then, with_placed_then, with_stood}
-use Rattle.ynl_restoring.proofs.Clocks.{as-it-is, twice}
+use Rattle.ynl_cluster.specs.Cluster.{ClusterView, label_of, path_of, state_in}
+use Rattle.ynl_restoring.specs.Standing.{CanStand, CanStandAsked, KeepsApp, one_more, placed_then, with_placed_then, with_stood}
+use Rattle.ynl_restoring.proofs.Back.{both-back}
 use Rattle.ynl_restoring.proofs.NewAsks.{asked-partition, each-asked}
 use Rattle.ynl_restoring.proofs.OneMore.{asks-more, more-there, one-back}
-use Rattle.ynl_restoring.proofs.Owners.{own-apps}
+
+-- an application that asks is where it was, and so it is after what keeps it there
+pub keeps-asked : (w w1 : ClusterView) (app : ℕ) (ask : Ask) (row : AppRow) (asks : List Ask) → w1 ≡ record w { rows = with_asked app ask w.rows } → (new : Rows)
+    → KeepsApp w1.rows new app (record row { asks = asks }) → KeepsApp w.rows new app row
+keeps-asked w w1 app ask row asks e new h = record {
+  now = h.now;
+  found = h.found;
+  home = h.home;
+  path = h.path ∙ ap (λ (w : ClusterView). path_of w row.leaf) e;
+  name = h.name ∙ ap (λ (w : ClusterView). app_name w.rows.tenants row.tenant row.turn) e;
+  labels = λ p. h.labels p ∙ ap (λ (w : ClusterView). label_of w p) e;
+}
 
 module _ (w : ClusterView) (clock : ℕ) (placed : Placement) (asked priority : ℕ) (can : CanStandAsked w clock placed asked priority) where
   abbrev row : AppRow
@@ -97,21 +106,8 @@ module _ (w : ClusterView) (clock : ℕ) (placed : Placement) (asked priority : 
           ∙ sym (app-taken w.rows sound asked priority there name row1 each1)
           ∙ ap (λ asks. application_of w.rows name (record row { asks = asks })) (one-back asked priority placed.size row.asks (sound.apps placed.app row can.stands.app_found).asks)
 
-      apps-back : (apps : List Application) → AllByRecursion (λ (app : Application). same_name app.name name ≡ true → app ≡ found) apps
-          → (with_app name (taken (what_of w.rows.partitions placed.role)) (with_app name (set_ask (ask_of w.rows.partitions more)) (record { leaf = path_of w row.leaf; names = []; apps = apps }))).apps ≡ apps
-      apps-back apps own =
-          twice (λ (app : Application). same_name app.name name) (set_ask (ask_of w.rows.partitions more)) (taken (what_of w.rows.partitions placed.role)) (λ app. app) (λ app. refl) apps
-          (Each-weaker (λ (app : Application). same_name app.name name ≡ true → app ≡ found) _
-          (λ app k here. ap (λ (app : Application). taken (what_of w.rows.partitions placed.role) (set_ask (ask_of w.rows.partitions more) app)) (k here) ∙ same-app ∙ sym (k here)) apps own)
-          ∙ as-it-is (λ (app : Application). same_name app.name name) (λ app. app) apps (Each-all (λ (app : Application). same_name app.name name ≡ true → app ≡ app) (λ app here. refl) apps)
-
       leaves-back : in_leaf (path_of w row.leaf) (with_app name (taken (what_of w.rows.partitions placed.role))) (in_leaf (path_of w row.leaf) (with_app name (set_ask (ask_of w.rows.partitions more))) (state_in w).leaves) ≡ (state_in w).leaves
-      leaves-back =
-          twice (λ (other : LeafApps). same_path other.leaf (path_of w row.leaf)) (with_app name (set_ask (ask_of w.rows.partitions more))) (with_app name (taken (what_of w.rows.partitions placed.role))) (λ other. other) (λ other. refl) (state_in w).leaves
-          (Each-weaker (λ (other : LeafApps). same_path other.leaf (path_of w row.leaf) ≡ true → AllByRecursion (λ (app : Application). same_name app.name name ≡ true → app ≡ found) other.apps) _
-          (λ other own here. λ i. record other { apps = apps-back other.apps (own here) i }) (state_in w).leaves
-          (own-apps w sound (path_of w row.leaf) name found (app-is w.rows sound (stops_in w) (maxima_in w) placed.app row can.stands.app_found)))
-          ∙ as-it-is (λ (other : LeafApps). same_path other.leaf (path_of w row.leaf)) (λ other. other) (state_in w).leaves (Each-all (λ (other : LeafApps). same_path other.leaf (path_of w row.leaf) ≡ true → other ≡ other) (λ other here. refl) (state_in w).leaves)
+      leaves-back = both-back w sound placed.app row can.stands.app_found (set_ask (ask_of w.rows.partitions more)) (taken (what_of w.rows.partitions placed.role)) (λ app. refl) same-app
 
       -- what placing does to a state
       abbrev then-in : State → State

@@ -9,7 +9,9 @@ pub mod Finishing
 pub mod NewAsks
 pub mod Placing
 pub mod OneMore
+pub mod Back
 pub mod AskedFor
+pub mod Beside
 pub mod AnyRole
 pub mod Started
 mod Roles

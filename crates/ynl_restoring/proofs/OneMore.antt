@@ -14,7 +14,7 @@ use Rattle.ynl_inventory.proofs.Finding.{not-true}
 use Rattle.ynl_restoring.specs.Standing.{one_more}
 use Rattle.ynl_restoring.proofs.Clocks.{as-it-is}
 
-positive : (k : ℕ) → 0 < k → (k == 0) ≡ false
+pub positive : (k : ℕ) → 0 < k → (k == 0) ≡ false
 positive k h = not-true (k == 0) (λ same. let zero-is = eqb-true k 0 same in omega (arith, h, zero-is))
 
 module _ (p priority : ℕ) (size : Resource) where

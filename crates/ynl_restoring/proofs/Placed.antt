@@ -1,24 +1,20 @@
 -- A line's container is placed as it says.
-use Rattle.std.proofs.Common.{◌≡◌, ◌≤◌, ◌<◌, ◌+◌, ◌^◌, ℕ, Bool, true, false, ◌&&◌, nat_lt, List, find, slice_get, Option, Some, None, refl, sym, ap, subst, ◌∙◌, arith}
+use Rattle.std.proofs.Common.{◌≡◌, ◌≤◌, ◌<◌, ℕ, Bool, true, false, ◌&&◌, nat_lt, List, find, slice_get, Option, Some, None, refl, sym, ap, subst, ◌∙◌, arith}
 use Rattle.std.specs.Prelude.{IfSome}
 use Rattle.std.specs.List.{AllByRecursion}
 use Rattle.std.specs.Option.{option_and_then, option_map_or}
 use Rattle.ynl_resource.specs.Names.{same_name}
-use Rattle.ynl_resource.specs.Ranges.{most_count}
 use Rattle.ynl_resource.specs.declared.names.Name.{Name}
-use Rattle.ynl_model.specs.declared.applications.AskRow.{AskRow}
 use Rattle.ynl_model.specs.declared.containers.Placed.{Placed}
 use Rattle.ynl_model.specs.declared.nodes.Node.{Node}
 use Rattle.ynl_model.specs.Applications.{Application, LeafApps, find_app, row_of}
 use Rattle.ynl_model.specs.Cluster.{State, clock, node_of}
 use Rattle.ynl_model.specs.Queues.{Config}
-use Rattle.ynl_laws.proofs.Lists.{Each-find, Each-found, Each-unmap, found-passes}
+use Rattle.ynl_laws.proofs.Lists.{Each-find, Each-found, found-passes}
 use Rattle.ynl_laws.proofs.Names.{same-name_sym}
-use Rattle.ynl_app_table.specs.declared.asks.Ask.{Ask}
-use Rattle.ynl_app_table.specs.Asks.{find_ask, is_ask_of}
 use Rattle.ynl_container_table.specs.declared.container.Role.{Role}
 use Rattle.ynl_container_table.specs.declared.container.Role.TheVariants.{Master, Ask as Asked}
-use Rattle.ynl_inventory.specs.Meaning.{app_of, ask_of, node_of as node_of_row}
+use Rattle.ynl_inventory.specs.Meaning.{app_of, node_of as node_of_row}
 use Rattle.ynl_inventory.specs.Rows.{NodeRow, PartitionRow}
 use Rattle.ynl_inventory.specs.Sound.{IsFor, IsSound}
 use Rattle.ynl_inventory.specs.declared.partition.Placement.{Placement}
@@ -73,22 +69,9 @@ module _ (w : ClusterView) (sound : IsSound w.rows) (configured : IsFor w.config
       subst (λ n. row.stamp ≤ n) (clock-shown w sound configured (label_of w row.partition) row.partition is part.0 part.1)
       (Each-find (λ (n : Node). n.stamp ≤ clock (state_in w) n.label) (λ (n : Node). same_name n.name placed.node) (state_in w).nodes steady.shown (node_of_row w.rows.partitions row) stands.named.named).0
 
-  -- one more may be asked for
-  few : (asked priority : ℕ) → IfSome (find_ask asked priority named.row.asks) (λ ask. ask.count + 1 < 2 ^ 32)
-  few asked priority = go (find_ask asked priority named.row.asks) (Each-found (λ (ask : Ask). ask.count ≤ most_count) (is_ask_of asked priority) named.row.asks counts)
-    where
-      counts : AllByRecursion (λ (ask : Ask). ask.count ≤ most_count) named.row.asks
-      counts =
-          Each-unmap (ask_of w.rows.partitions) (λ (ask : AskRow). ask.count ≤ most_count) named.row.asks
-          (app-holds (λ (app : Application). AllByRecursion (λ (ask : AskRow). ask.count ≤ most_count) app.asks) (state_in w).leaves steady.counts placed.tenant placed.app (app_of w.rows (app, named.row)) named.named)
-
-      go : (o : Option Ask) → IfSome o (λ ask. ask.count ≤ most_count) → IfSome o (λ ask. ask.count + 1 < 2 ^ 32)
-      go None h = tt
-      go (Some ask) h = omega (arith, h)
-
   may-stand : (r : Role) → MayBe w app row.partition part.0.guests named.row r → MayStand w.rows app r row.partition part.0.guests named.row
   may-stand Master h = h
-  may-stand (Asked asked priority) h = (h, few asked priority)
+  may-stand (Asked asked priority) h = h
 
   module _ (is : IsRoleOf w app row.partition placed.what role) where
     abbrev can : CanStandThere w placed.id.clock placement

@@ -26,10 +26,10 @@ use Rattle.ynl_container_table.specs.declared.container.Role.{Role}
 use Rattle.ynl_container_table.specs.declared.container.Role.TheVariants.{Master, Ask as Asked}
 use Rattle.ynl_layout.specs.Paths.{path_at}
 use Rattle.ynl_inventory.specs.Apps.{containers_of, is_master_of}
-use Rattle.ynl_inventory.specs.Changes.{next_clock as next_of_row, next_clock_at, next_container, partition_of_node, ticked, with_at, with_clock, with_placed}
+use Rattle.ynl_inventory.specs.Changes.{next_clock as next_of_row, next_clock_at, next_container, partition_of_node, ticked, with_at, with_clock, with_placed, with_stamp, with_taken}
 use Rattle.ynl_inventory.specs.Meaning.{app_name, item_of, label_at, node_of, what_of}
 use Rattle.ynl_inventory.specs.Parts.{free_of, used_of}
-use Rattle.ynl_inventory.specs.Rows.{NodeRow, PartitionRow, Rows}
+use Rattle.ynl_inventory.specs.Rows.{AppRow, NodeRow, PartitionRow, Rows}
 use Rattle.ynl_inventory.specs.Sound.{CanShow, CanTake, HasPartition, IsFor, IsPlaceable, IsSound}
 use Rattle.ynl_inventory.specs.declared.partition.Placement.{Placement}
 use Rattle.ynl_inventory.proofs.Finding.{next-at, other-name, own-label}
@@ -37,7 +37,7 @@ use Rattle.ynl_inventory.proofs.Lookups.{at-same, changed-same, found-live, read
 use Rattle.ynl_inventory.proofs.Naming.{label-at, what-same}
 use Rattle.ynl_inventory.proofs.Updates.{each-number}
 use Rattle.ynl_cluster.specs.Cluster.{ClusterView, label_of, maxima_in, path_of, state_in, stops_in}
-use Rattle.ynl_restoring.specs.Standing.{CanStand, placed_then, with_placed_then}
+use Rattle.ynl_restoring.specs.Standing.{CanStand, KeepsApp, placed_then, with_placed_then}
 use Rattle.ynl_restoring.proofs.Clocks.{alike, as-it-is, clocks-own, twice}
 
 -- a clock that rises to the next
@@ -198,6 +198,21 @@ module _ (w : ClusterView) (sound : IsSound w.rows) (configured : IsFor w.config
 
     labels-after : (q : ℕ) → label_at after.partitions q ≡ label_at w.rows.partitions q
     labels-after q = label-at (partition_of_node before.nodes placed.node) (ticked comes) (λ row. refl) before.partitions q ∙ labels-before q
+
+    -- the application is where it was
+    pub keeps : (q shown node stamp : ℕ) → KeepsApp w.rows (with_stamp node stamp (with_clock q shown after)) placed.app can.app_row
+    keeps q shown node stamp = record {
+      now = with_taken placed.role can.app_row;
+      found = changed-same placed.app (with_taken placed.role) w.rows.apps ∙ ap (option_map (with_taken placed.role)) can.app_found;
+      home = ap (λ (row : AppRow). row.home) (only-asks placed.role);
+      path = ap (λ (row : AppRow). path_of w row.leaf) (only-asks placed.role);
+      name = ap (λ (row : AppRow). app_name w.rows.tenants row.tenant row.turn) (only-asks placed.role);
+      labels = λ p. label-at q (λ row. record row { clock = shown }) (λ row. refl) after.partitions p ∙ labels-after p;
+    }
+      where
+        only-asks : (r : Role) → with_taken r can.app_row ≡ record can.app_row { asks = (with_taken r can.app_row).asks }
+        only-asks Master = refl
+        only-asks (Asked asked priority) = refl
 
     -- ---- all steps together
 

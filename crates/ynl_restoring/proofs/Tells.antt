@@ -24,7 +24,7 @@ use Rattle.ynl_admission.specs.declared.queues.CellNumbers.{CellNumbers}
 use Rattle.ynl_saved.specs.declared.lines.StateLine.{StateLine}
 use Rattle.ynl_saved.specs.declared.lines.StateLine.TheVariants.{Ask, Container, End, Node, Partition}
 use Rattle.ynl_saved.specs.Restoring.{Restored, is_sound_line, maxima_of, partitions_of, restored_with, with_line}
-use Rattle.ynl_saved_laws.specs.Lines.{IsRangedLine}
+use Rattle.ynl_saved_laws.specs.Lines.{IsSizedLine}
 use Rattle.ynl_saved_laws.proofs.Restored.{IsRestored, among, nobody, restored-more}
 use Rattle.ynl_restoring.specs.Placing.{AreLasts, IsSteady, last_of}
 use Rattle.ynl_restoring.specs.Taking.{Takes}
@@ -48,13 +48,13 @@ module _ (t : Telling) (r : Restored) (h : Tells t r) where
       let tellable = saveable.tellable in
       let base = tellable.base in
       let ordered = base.ordered in
-      subst IsSteady h.state (record { finds = base.finds; shown = stamps-shown r.state ordered.stamps; counts = saveable.counts })
+      subst IsSteady h.state (record { finds = base.finds; shown = stamps-shown r.state ordered.stamps })
 
   -- a line that does not go with those before it changes nothing
   pub kind-refused : (line : StateLine) → is_sound_line c r line ≡ false → TakesKind t r line t false
   kind-refused line unsound = record { sound = unsound; config = refl; lines = refl; told = λ e. absurd (true≢false (sym e)); same = λ e. refl }
 
-  module _ (line : StateLine) (ranged : IsRangedLine line) (sound : is_sound_line c r line ≡ true) (w : ClusterView) (config : w.config ≡ c) (told : state_in w ≡ with_line line (state_in t.cluster)) where
+  module _ (line : StateLine) (sized : IsSizedLine line) (sound : is_sound_line c r line ≡ true) (w : ClusterView) (config : w.config ≡ c) (told : state_in w ≡ with_line line (state_in t.cluster)) where
     -- one that does is told then
     pub kind-taken : (partitions : List Label) → ((label : Label) → list_any (same_label label) partitions ≡ list_any (same_label label) (partitions_of line ++ r.partitions))
         → (maxima : List CellNumbers) → AreMaxima c maxima (maxima_of line ++ r.maxima) → (lasts : List ℕ) → AreLasts (state_in w) lasts
@@ -66,7 +66,7 @@ module _ (t : Telling) (r : Restored) (h : Tells t r) where
       told = λ e. record {
         state = ap (with_line line) h.state ∙ sym told;
         accepted = ap is_accepted config ∙ h.accepted;
-        known = subst (λ c. IsRestored c (restored_with line r)) (sym config) (restored-more c h.accepted r line h.known ranged sound);
+        known = subst (λ c. IsRestored c (restored_with line r)) (sym config) (restored-more c h.accepted r line h.known sized sound);
         partitions = parted;
         maxima = subst (λ c. AreMaxima c maxima (maxima_of line ++ r.maxima)) (sym config) set;
         lasts = last;
@@ -80,14 +80,14 @@ module _ (t : Telling) (r : Restored) (h : Tells t r) where
   kind-off line w takes = subst (λ (w : ClusterView). TakesKind t r line (record t { cluster = w }) false) (sym (takes.same refl)) (kind-refused line takes.sound)
 
   -- a line of a kind that tells neither a partition nor a maximum, and changes no row of a partition
-  pub plain-kind : (line : StateLine) → IsRangedLine line → partitions_of line ≡ [] → maxima_of line ≡ [] → (with_line line (state_in t.cluster)).partitions ≡ (state_in t.cluster).partitions
+  pub plain-kind : (line : StateLine) → IsSizedLine line → partitions_of line ≡ [] → maxima_of line ≡ [] → (with_line line (state_in t.cluster)).partitions ≡ (state_in t.cluster).partitions
       → (w : ClusterView) (taken : Bool) → Takes t.cluster r line w taken → TakesKind t r line (record t { cluster = w }) taken
-  plain-kind line ranged no-partition no-maximum rows w true takes =
-      kind-taken line ranged takes.sound w takes.config (takes.told refl) t.partitions
+  plain-kind line sized no-partition no-maximum rows w true takes =
+      kind-taken line sized takes.sound w takes.config (takes.told refl) t.partitions
       (λ label. h.partitions label ∙ ap (λ (more : List Label). list_any (same_label label) (more ++ r.partitions)) (sym no-partition)) t.maxima
       (subst (λ (more : List (Path × Label)). AreMaxima c t.maxima (more ++ r.maxima)) (sym no-maximum) h.maxima) t.lasts
       (ap (map last_of) (ap (λ (s : State). s.partitions) (takes.told refl) ∙ rows) ∙ h.lasts)
-  plain-kind line ranged no-partition no-maximum rows w false takes = kind-off line w takes
+  plain-kind line sized no-partition no-maximum rows w false takes = kind-off line w takes
 
   -- ---- partitions
 
@@ -160,14 +160,14 @@ no-lasts (label ∷ labels) = ap (λ ns. 0 ∷ ns) (no-lasts labels)
 -- ---- what is kept, as its view
 
 -- the same of a line that tells neither a partition nor a maximum
-pub plain-viewed : (s t : Telling) → s ≡ t → (r : Restored) → Tells t r → (line other : StateLine) → other ≡ line → IsRangedLine other → partitions_of line ≡ [] → maxima_of line ≡ []
+pub plain-viewed : (s t : Telling) → s ≡ t → (r : Restored) → Tells t r → (line other : StateLine) → other ≡ line → IsSizedLine line → partitions_of line ≡ [] → maxima_of line ≡ []
     → (with_line line (state_in s.cluster)).partitions ≡ (state_in s.cluster).partitions → (w : ClusterView) (taken : Bool) → ((r : Restored) → r.state ≡ state_in s.cluster → Takes s.cluster r line w taken)
     → TakesKind t r other (record s { cluster = w }) taken
-plain-viewed s t is r h line other same ranged no-partition no-maximum rows w taken takes =
+plain-viewed s t is r h line other same sized no-partition no-maximum rows w taken takes =
     let told = subst (λ (t : Telling). Tells t r) (sym is) h in
     subst (λ (t : Telling). TakesKind t r other (record s { cluster = w }) taken) is
     (subst (λ (line : StateLine). TakesKind s r line (record s { cluster = w }) taken) (sym same)
-    (plain-kind s r told line (subst IsRangedLine same ranged) no-partition no-maximum rows w taken (takes r told.state)))
+    (plain-kind s r told line sized no-partition no-maximum rows w taken (takes r told.state)))
 
 -- a container's line is taken
 pub container-viewed : (s t : Telling) → s ≡ t → (r : Restored) → Tells t r → (placed : Placed) (other : StateLine) → other ≡ Container placed → (w : ClusterView) (taken : Bool)
@@ -187,9 +187,9 @@ container-viewed s t is r h placed other same w taken takes lasts last =
         (kind-off s r told (Container placed) w its)
 
 -- a line by which nothing changes is taken where it goes with those before it
-pub still-told : (t : Telling) (r : Restored) → Tells t r → (line other : StateLine) → other ≡ line → IsRangedLine other → partitions_of line ≡ [] → maxima_of line ≡ []
+pub still-told : (t : Telling) (r : Restored) → Tells t r → (line other : StateLine) → other ≡ line → IsSizedLine line → partitions_of line ≡ [] → maxima_of line ≡ []
     → ((s : State) → with_line line s ≡ s) → (taken : Bool) → is_sound_line t.cluster.config r line ≡ taken → TakesKind t r other t taken
-still-told t r h line other same ranged no-partition no-maximum still taken sound =
+still-told t r h line other same sized no-partition no-maximum still taken sound =
     subst (λ (line : StateLine). TakesKind t r line t taken) (sym same)
-    (plain-kind t r h line (subst IsRangedLine same ranged) no-partition no-maximum (ap (λ (s : State). s.partitions) (still (state_in t.cluster))) t.cluster taken
+    (plain-kind t r h line sized no-partition no-maximum (ap (λ (s : State). s.partitions) (still (state_in t.cluster))) t.cluster taken
     (record { sound = sound; config = refl; told = λ e. sym (still (state_in t.cluster)); same = λ e. refl }))

@@ -3,13 +3,10 @@ use Rattle.std.specs.Prelude.{◌≡◌, ◌<◌, ◌≤◌, ℕ, Bool, true, fa
 use Rattle.std.specs.List.{AllByRecursion}
 use Rattle.std.specs.Map.{lookup}
 use Rattle.ynl_resource.specs.Amounts.{fits_in}
-use Rattle.ynl_resource.specs.Ranges.{most_count}
 use Rattle.ynl_resource.specs.declared.labels.Label.{Label}
-use Rattle.ynl_model.specs.declared.applications.AskRow.{AskRow}
 use Rattle.ynl_model.specs.declared.containers.Placed.{Placed}
 use Rattle.ynl_model.specs.declared.nodes.Node.{Node}
 use Rattle.ynl_model.specs.declared.proposals.What.{What}
-use Rattle.ynl_model.specs.Applications.{Application, LeafApps}
 use Rattle.ynl_model.specs.Cluster.{Partition, State, clock}
 use Rattle.ynl_laws.proofs.Events.Found.{FindsAll}
 use Rattle.ynl_container_table.specs.declared.container.Role.{Role}
@@ -24,11 +21,10 @@ use Rattle.ynl_admission.specs.Named.{IsNodeNamed, IsPartitionOf}
 use Rattle.ynl_saved.specs.Restoring.{last_clock}
 use Rattle.ynl_restoring.specs.Standing.{CanStandThere, MayHave, placed_then}
 
--- what a container's line asks of the state before it: live applications are found, no stamp is above its partition's clock, and no ask counts too much
+-- what a container's line asks of the state before it: live applications are found, and no stamp is above its partition's clock
 pub record IsSteady (s : State) : Type 0 where
   pub finds : FindsAll s.leaves
   pub shown : AllByRecursion (λ (node : Node). node.stamp ≤ clock s node.label) s.nodes
-  pub counts : AllByRecursion (λ (row : LeafApps). AllByRecursion (λ (app : Application). AllByRecursion (λ (ask : AskRow). ask.count ≤ most_count) app.asks) row.apps) s.leaves
 
 -- the clock of the last container of a partition, 0 where there is none
 abbrev pub last_of : Partition → ℕ

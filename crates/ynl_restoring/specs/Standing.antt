@@ -15,7 +15,8 @@ use Rattle.ynl_model.specs.declared.containers.Placed.{Placed}
 use Rattle.ynl_model.specs.Applications.{in_leaf, with_app}
 use Rattle.ynl_model.specs.Changes.{taken}
 use Rattle.ynl_model.specs.Cluster.{State, in_partition}
-use Rattle.ynl_inventory.specs.Meaning.{app_name, what_of}
+use Rattle.ynl_layout.specs.Paths.{path_at}
+use Rattle.ynl_inventory.specs.Meaning.{app_name, label_at, what_of}
 use Rattle.ynl_inventory.specs.Parts.{free_of}
 use Rattle.ynl_inventory.specs.Rows.{AppRow, NodeRow, PartitionRow, Rows}
 use Rattle.ynl_inventory.specs.Sound.{CanTake, IsAskedOn}
@@ -46,21 +47,40 @@ CanStand w clock placed = StandsWith (λ p guests row. CanTake w.rows placed.app
 abbrev pub MayHave : ℕ → ℕ → Bool → AppRow → Type 0
 MayHave asked p guests row = IsAskedOn row.home asked × ((asked ≡ p) ⊎ ((asked ≡ 0) × (guests ≡ true)))
 
--- so may an application whose container was asked for; one more may be asked for
+-- so may an application whose container was asked for
+pub record CanStandFor (w : ClusterView) (clock : ℕ) (placed : Placement) (asked priority : ℕ) : Type 0 where
+  pub stands : StandsWith (MayHave asked) w clock placed
+  pub role_is : placed.role ≡ Asked asked priority
+
+-- where one more may be asked for
 pub record CanStandAsked (w : ClusterView) (clock : ℕ) (placed : Placement) (asked priority : ℕ) : Type 0 where
   pub stands : StandsWith (MayHave asked) w clock placed
   pub role_is : placed.role ≡ Asked asked priority
   pub few : IfSome (find_ask asked priority stands.app_row.asks) (λ ask. ask.count + 1 < 2 ^ 32)
 
--- an application may have had a container of a role on a partition: its master at home, while it has none, or what it asked for, of which one more may
--- be asked for
+-- and where this is asked for
+pub record CanStandBeside (w : ClusterView) (clock : ℕ) (placed : Placement) (ask : Ask) : Type 0 where
+  pub stands : StandsWith (MayHave ask.partition) w clock placed
+  pub role_is : placed.role ≡ Asked ask.partition ask.priority
+  pub found : find_ask ask.partition ask.priority stands.app_row.asks ≡ Some ask
+
+-- an application may have had a container of a role on a partition: its master at home, while it has none, or what it asked for
 abbrev pub MayStand : Rows → ℕ → Role → ℕ → Bool → AppRow → Type 0
 MayStand v app Master p guests row = (row.home ≡ p) × (runs_at v app row ≡ false)
-MayStand v app (Asked asked priority) p guests row = MayHave asked p guests row × IfSome (find_ask asked priority row.asks) (λ ask. ask.count + 1 < 2 ^ 32)
+MayStand v app (Asked asked priority) p guests row = MayHave asked p guests row
 
 -- so may the application of a container, whatever that is for
 abbrev pub CanStandThere : ClusterView → ℕ → Placement → Type 0
 CanStandThere w clock placed = StandsWith (MayStand w.rows placed.app placed.role) w clock placed
+
+-- a live application has its home, its leaf and its name still, and the partitions have their labels
+pub record KeepsApp (old new : Rows) (app : ℕ) (row : AppRow) : Type 0 where
+  pub now : AppRow
+  pub found : lookup (nat_eq app) new.apps ≡ Some now
+  pub home : now.home ≡ row.home
+  pub path : path_at new.paths now.leaf ≡ path_at old.paths row.leaf
+  pub name : app_name new.tenants now.tenant now.turn ≡ app_name old.tenants row.tenant row.turn
+  pub labels : (p : ℕ) → label_at new.partitions p ≡ label_at old.partitions p
 
 -- an ask for one container more of a partition and a priority, of this size if there is none
 abbrev pub one_more : ℕ → ℕ → Resource → List Ask → Ask

@@ -8,7 +8,6 @@ ghost use Rattle.ynl_saved.specs.declared.lines.StateLine.TheVariants.{End, Maxi
 ghost use Rattle.ynl_resource.specs.declared.labels.Label.TheVariants.{Named};
 ghost use Rattle.ynl_model.specs.Accepted.{is_accepted};
 ghost use Rattle.ynl_saved.specs.Restoring.{is_sound_line, nothing_restored, Restored};
-ghost use Rattle.ynl_saved_laws.specs.Lines.{IsRangedLine};
 ghost use Rattle.ynl_restoring.specs.Telling.{Tells, TakesKind, TakesLine};
 
 use crate::applications::{take_finished, take_live};
@@ -129,10 +128,11 @@ impl Restoring {
 
     /// Takes the line of a node.
     fn take_node(&mut self, node: &Node) -> Result<bool, AllocError>
-        requires told { (r : Restored) × Tells self.old r }
-        requires ranged { IsRangedLine (NodeLine node.now) }
+        requires { (r : Restored) × Tells self.old r }
         ensures { IfOk result (λ taken. (r : Restored) → Tells self.old r → TakesKind self.old r (NodeLine node.now) self.new taken) }
     {
+        // Opens the size, which is in range.
+        let _ = node.size.amount();
         if !has_label(&self.partitions, &node.label) {
             return Ok(false);
         }
@@ -162,8 +162,7 @@ impl Restoring {
 
     /// Takes a line, and does not count it yet.
     fn take_kind(&mut self, line: &StateLine) -> Result<bool, AllocError>
-        requires told { (r : Restored) × Tells self.old r }
-        requires ranged { IsRangedLine line.now }
+        requires { (r : Restored) × Tells self.old r }
         ensures { IfOk result (λ taken. (r : Restored) → Tells self.old r → TakesKind self.old r line.now self.new taken) }
     {
         match line {
@@ -202,7 +201,6 @@ impl Restoring {
     /// fails if memory is refused, and then nothing is told of the cluster.
     pub fn take(&mut self, line: &StateLine) -> Result<bool, AllocError>
         requires told { (r : Restored) × Tells self.old r }
-        requires ranged { IsRangedLine line.now }
         requires few { self.old.lines + 1 < 2 ^ 64 }
         ensures { IfOk result (λ taken. (r : Restored) → Tells self.old r → TakesLine self.old r line.now self.new taken) }
     {

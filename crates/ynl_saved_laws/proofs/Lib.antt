@@ -30,6 +30,7 @@ pub mod Marked
 pub mod Counts
 pub mod Saveable
 pub mod Restored
+pub mod Within
 pub mod Retelling
 pub mod Walking
 pub mod Ranging

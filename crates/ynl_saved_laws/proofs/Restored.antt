@@ -1,5 +1,5 @@
--- What is known of what lines tell: it is known before any line, and stays with each line that is sound and tells numbers in range.
-use Rattle.std.proofs.Common.{◌≡◌, ◌≤◌, ℕ, Bool, true, false, cond, not, ◌&&◌, ◌||◌, is_some, List, [], ◌∷◌, ◌++◌, Option, Some, None, refl, sym, ap, subst, ◌∙◌, arith}
+-- What is known of what lines tell: it is known before any line, and stays with each line that is sound and tells a size in range.
+use Rattle.std.proofs.Common.{◌≡◌, ℕ, Bool, true, false, cond, not, ◌&&◌, ◌||◌, is_some, List, [], ◌∷◌, ◌++◌, Option, Some, None, refl, sym, ap, subst, ◌∙◌, arith}
 use Rattle.std.specs.List.{AllByRecursion, list_any}
 use Rattle.std.specs.Option.{option_map_or}
 use Rattle.std.specs.Prelude.{IsTrue, nat_le, nat_lt}
@@ -9,7 +9,6 @@ use Rattle.std.proofs.lemmas.Option.{none-some}
 use mathlib.Core.Bool.{true≢false}
 use Rattle.ynl_resource.specs.Amounts.{fits_in, IsSize}
 use Rattle.ynl_resource.specs.Names.{is_default, root, same_label, same_path}
-use Rattle.ynl_resource.specs.Ranges.{most_count}
 use Rattle.ynl_resource.specs.declared.amounts.Resource.{Resource}
 use Rattle.ynl_resource.specs.declared.labels.Label.{Label}
 use Rattle.ynl_resource.specs.declared.names.Name.{Name}
@@ -30,14 +29,11 @@ use Rattle.ynl_laws.specs.Working.{IsWorking}
 use Rattle.ynl_laws.proofs.Lists.{Each-append, Each-weaker, any-later}
 use Rattle.ynl_laws.proofs.Logic.{none-is, not-true}
 use Rattle.ynl_laws.proofs.Names.{same-label_path, same-label_self}
-use Rattle.ynl_saved_laws.specs.Asks.{AllWithin}
-use Rattle.ynl_saved_laws.specs.Lines.{IsRangedLine}
+use Rattle.ynl_saved_laws.specs.Lines.{IsSizedLine}
 use Rattle.ynl_saved_laws.proofs.Asked.{adds, tellable-asks}
-use Rattle.ynl_saved_laws.proofs.Changing.{Base}
 use Rattle.ynl_saved_laws.proofs.Clocked.{tellable-clock}
 use Rattle.ynl_saved_laws.proofs.Closed.{tellable-closed}
 use Rattle.ynl_saved_laws.proofs.Coming.{tellable-comes}
-use Rattle.ynl_saved_laws.proofs.Counts.{within-asks, within-closed, within-comes, within-opening}
 use Rattle.ynl_saved_laws.proofs.Joined.{tellable-node}
 use Rattle.ynl_saved_laws.proofs.Marked.{tellable-maximum, tellable-nothing, tellable-stop}
 use Rattle.ynl_saved_laws.proofs.Saveable.{IsSaveable, saveable-works}
@@ -53,7 +49,7 @@ pub record IsRestored (c : Config) (r : Restored) : Type 0 where
 
 -- it is known before any line
 pub restored-first : (c : Config) → IsTrue (is_accepted c) → IsRestored c (nothing_restored c)
-restored-first c accepted = record { saveable = record { tellable = tellable-nothing c accepted; sizes = tt; counts = within-opening c }; told = tt; on_told = tt }
+restored-first c accepted = record { saveable = record { tellable = tellable-nothing c accepted; sizes = tt }; told = tt; on_told = tt }
 
 -- the state works
 pub restored-works : (c : Config) (r : Restored) → IsRestored c r → IsWorking c r.state
@@ -111,15 +107,10 @@ module _ (c : Config) (accepted : IsTrue (is_accepted c)) (r : Restored) (h : Is
   sized : AllByRecursion (λ (node : NodeRow). IsSize node.size) (r.state).nodes
   sized = let saveable = h.saveable in saveable.sizes
 
-  -- and its counts
-  counted : AllWithin (r.state).leaves
-  counted = let saveable = h.saveable in saveable.counts
-
   -- after a line that tells neither a partition nor a node
-  same-nodes : (line : StateLine) → partitions_of line ≡ [] → (with_line line r.state).nodes ≡ (r.state).nodes → IsTellable c (with_line line r.state) → AllWithin (with_line line r.state).leaves →
-      IsRestored c (restored_with line r)
-  same-nodes line none nodes tellable counts = record {
-    saveable = record { tellable = tellable; sizes = subst (AllByRecursion (λ (node : NodeRow). IsSize node.size)) (sym nodes) sized; counts = counts };
+  same-nodes : (line : StateLine) → partitions_of line ≡ [] → (with_line line r.state).nodes ≡ (r.state).nodes → IsTellable c (with_line line r.state) → IsRestored c (restored_with line r)
+  same-nodes line none nodes tellable = record {
+    saveable = record { tellable = tellable; sizes = subst (AllByRecursion (λ (node : NodeRow). IsSize node.size)) (sym nodes) sized };
     told = subst (λ more. AllByRecursion (λ label. has_label c.labels label ≡ true) (more ++ r.partitions)) (sym none) h.told;
     on_told = subst (AllByRecursion (λ (node : NodeRow). list_any (same_label node.label) (partitions_of line ++ r.partitions) ≡ true)) (sym nodes)
         (subst (λ more. AllByRecursion (λ (node : NodeRow). list_any (same_label node.label) (more ++ r.partitions) ≡ true) (r.state).nodes) (sym none) h.on_told);
@@ -135,7 +126,6 @@ module _ (c : Config) (accepted : IsTrue (is_accepted c)) (r : Restored) (h : Is
         saveable = record {
           tellable = tellable-clock c r.state label shown is-tellable (nobody label r.partitions (r.state).nodes (not-true _ first.1) h.on_told) (leb-true shown (clock_limit c.labels label) all.1);
           sizes = sized;
-          counts = counted;
         };
         told = (first.0, h.told);
         on_told = Each-weaker _ _ (λ node on. any-later (same_label node.label) label r.partitions on) (r.state).nodes h.on_told;
@@ -154,7 +144,6 @@ module _ (c : Config) (accepted : IsTrue (is_accepted c)) (r : Restored) (h : Is
           tellable = tellable-node c r.state node is-tellable (among (λ label. has_label c.labels label ≡ true) node.label r.partitions first.0 h.told) (not-true _ first.1) (not-true _ places.1)
               (leb-true 1 node.stamp stamp.0) (leb-true node.stamp _ stamp.1);
           sizes = Each-append (λ (node : NodeRow). IsSize node.size) (r.state).nodes (node ∷ []) sized (size, tt);
-          counts = counted;
         };
         told = h.told;
         on_told = Each-append _ (r.state).nodes (node ∷ []) h.on_told (first.0, tt);
@@ -178,15 +167,15 @@ module _ (c : Config) (accepted : IsTrue (is_accepted c)) (r : Restored) (h : Is
         unused = not-true _ come.1;
         place = no-more _ _ all.1;
         none = refl;
-      }) is-tellable) (within-comes (new_app queue app user label master) (r.state).leaves refl counted)
+      }) is-tellable)
     where
       no-more : (m n : ℕ) → nat_lt m n ≡ true → nat_le n m ≡ false
       no-more m n e = grind (arith, nat_tests, e)
 
   -- after the line of an ask
-  after-ask : (tenant name : Name) (ask : AskRow) → ask.count ≤ most_count → is_sound_line c r (Ask tenant name ask) ≡ true → IsRestored c (restored_with (Ask tenant name ask) r)
+  after-ask : (tenant name : Name) (ask : AskRow) → is_sound_line c r (Ask tenant name ask) ≡ true → IsRestored c (restored_with (Ask tenant name ask) r)
   unfolding is_sound_line with_line
-  after-ask tenant name ask within sound =
+  after-ask tenant name ask sound =
       let found = found-test (may_ask c ask) (find_app (r.state).leaves tenant name) sound in
       let app : Application = found.0 in
       let all = and_parts ((is_default ask.label || same_label ask.label app.home) && nat_lt 0 ask.count && fits_in ask.size c.maximum_allocation && not
@@ -197,18 +186,15 @@ module _ (c : Config) (accepted : IsTrue (is_accepted c)) (r : Restored) (h : Is
       let after : State = record r.state { leaves = in_leaf app.leaf (with_app name (adds ask)) (r.state).leaves } in
       let same : with_line (Ask tenant name ask) r.state ≡ after = ap (λ o. option_map_or (λ
       (found : Application). record r.state { leaves = in_leaf found.leaf (with_app name (adds ask)) (r.state).leaves }) o r.state) found.1 in
-      let tellable : IsTellable c r.state = is-tellable in
-      let base : Base c r.state = tellable.base in
       same-nodes (Ask tenant name ask) refl (ap (λ (s : State). s.nodes) same)
-      (subst (IsTellable c) (sym same) (tellable-asks c accepted r.state tenant name ask app tellable found.1 (own-label ask.label app own.0) own.1 given.1 (none-is _ (not-true _ new.1)) all.1))
-      (subst (λ (s : State). AllWithin s.leaves) (sym same) (within-asks c accepted r.state tenant name app ask base.finds found.1 within counted))
+      (subst (IsTellable c) (sym same) (tellable-asks c accepted r.state tenant name ask app is-tellable found.1 (own-label ask.label app own.0) own.1 given.1 (none-is _ (not-true _ new.1)) all.1))
 
   -- after the line of a finished application
   after-finished : (queue : Path) (name : Name) → is_sound_line c r (Finished queue name) ≡ true → IsRestored c (restored_with (Finished queue name) r)
   unfolding is_sound_line with_line
   after-finished queue name sound =
       let come = and_parts (is_queue c queue && is_leaf c queue) _ sound in
-      same-nodes (Finished queue name) refl refl (tellable-closed c accepted r.state queue name is-tellable (not-true _ come.1)) (within-closed queue name (r.state).leaves counted)
+      same-nodes (Finished queue name) refl refl (tellable-closed c accepted r.state queue name is-tellable (not-true _ come.1))
 
   -- after the line of a container
   after-container : (k : Placed) → is_sound_line c r (Container k) ≡ true → IsRestored c (restored_with (Container k) r)
@@ -219,12 +205,12 @@ module _ (c : Config) (accepted : IsTrue (is_accepted c)) (r : Restored) (h : Is
       let later = and_parts (option_map_or (may_stand r.state k) (node_of r.state k.node) false) _ given.0 in
       let node = found-test (may_stand r.state k) (node_of r.state k.node) later.0 in
       let app = found-test (may_have c r.state k k.what) (find_app (r.state).leaves k.tenant k.app) all.1 in
-      same-nodes (Container k) refl refl (tellable-container c r.state k is-tellable node.0 node.1 node.2 later.1 given.1 app.0 app.1 app.2) counted
+      same-nodes (Container k) refl refl (tellable-container c r.state k is-tellable node.0 node.1 node.2 later.1 given.1 app.0 app.1 app.2)
 
   -- after the line of a queue that is stopped
   after-stopped : (queue : Path) → IsRestored c (restored_with (Stopped queue) r)
   unfolding with_line
-  after-stopped queue = same-nodes (Stopped queue) refl refl (tellable-stop c accepted r.state queue is-tellable) counted
+  after-stopped queue = same-nodes (Stopped queue) refl refl (tellable-stop c accepted r.state queue is-tellable)
 
   -- after the line of a maximum
   after-maximum : (queue : Path) (label : Label) (share : ℕ) → is_sound_line c r (Maximum queue label share) ≡ true → IsRestored c (restored_with (Maximum queue label share) r)
@@ -233,35 +219,35 @@ module _ (c : Config) (accepted : IsTrue (is_accepted c)) (r : Restored) (h : Is
       let all = and_parts (is_queue c queue && not (same_path queue root) && may_use c queue label && nat_le (capacity_on c queue label) share) _ sound in
       let high = and_parts (is_queue c queue && not (same_path queue root) && may_use c queue label) _ all.0 in
       let may = and_parts (is_queue c queue && not (same_path queue root)) _ high.0 in
-      same-nodes (Maximum queue label share) refl refl (tellable-maximum c accepted r.state queue label share may.1 high.1 is-tellable) counted
+      same-nodes (Maximum queue label share) refl refl (tellable-maximum c accepted r.state queue label share may.1 high.1 is-tellable)
 
   -- after the first line and the last one
   after-mark : (line : StateLine) → partitions_of line ≡ [] → with_line line r.state ≡ r.state → IsRestored c (restored_with line r)
-  after-mark line none same = same-nodes line none (ap (λ (s : State). s.nodes) same) (subst (IsTellable c) (sym same) is-tellable) (subst (λ (s : State). AllWithin s.leaves) (sym same) counted)
+  after-mark line none same = same-nodes line none (ap (λ (s : State). s.nodes) same) (subst (IsTellable c) (sym same) is-tellable)
 
--- it stays with each line that is sound and tells numbers in range
-pub restored-more : (c : Config) → IsTrue (is_accepted c) → (r : Restored) (line : StateLine) → IsRestored c r → IsRangedLine line → is_sound_line c r line ≡ true → IsRestored c (restored_with line r)
+-- it stays with each line that is sound and tells a size in range
+pub restored-more : (c : Config) → IsTrue (is_accepted c) → (r : Restored) (line : StateLine) → IsRestored c r → IsSizedLine line → is_sound_line c r line ≡ true → IsRestored c (restored_with line r)
 unfolding with_line
-restored-more c accepted r Begin h ranged sound = after-mark c accepted r h Begin refl refl
-restored-more c accepted r (Partition label shown) h ranged sound = after-partition c accepted r h label shown sound
-restored-more c accepted r (Node node) h ranged sound = after-node c accepted r h node ranged sound
-restored-more c accepted r (Live queue app user label master) h ranged sound = after-live c accepted r h queue app user label master sound
-restored-more c accepted r (Ask tenant app ask) h ranged sound = after-ask c accepted r h tenant app ask ranged sound
-restored-more c accepted r (Finished queue app) h ranged sound = after-finished c accepted r h queue app sound
-restored-more c accepted r (Container k) h ranged sound = after-container c accepted r h k sound
-restored-more c accepted r (Stopped queue) h ranged sound = after-stopped c accepted r h queue
-restored-more c accepted r (Maximum queue label share) h ranged sound = after-maximum c accepted r h queue label share sound
-restored-more c accepted r (End lines) h ranged sound = after-mark c accepted r h (End lines) refl refl
+restored-more c accepted r Begin h size sound = after-mark c accepted r h Begin refl refl
+restored-more c accepted r (Partition label shown) h size sound = after-partition c accepted r h label shown sound
+restored-more c accepted r (Node node) h size sound = after-node c accepted r h node size sound
+restored-more c accepted r (Live queue app user label master) h size sound = after-live c accepted r h queue app user label master sound
+restored-more c accepted r (Ask tenant app ask) h size sound = after-ask c accepted r h tenant app ask sound
+restored-more c accepted r (Finished queue app) h size sound = after-finished c accepted r h queue app sound
+restored-more c accepted r (Container k) h size sound = after-container c accepted r h k sound
+restored-more c accepted r (Stopped queue) h size sound = after-stopped c accepted r h queue
+restored-more c accepted r (Maximum queue label share) h size sound = after-maximum c accepted r h queue label share sound
+restored-more c accepted r (End lines) h size sound = after-mark c accepted r h (End lines) refl refl
 
--- and so it is known of what any lines tell that are sound one after another and tell numbers in range
-pub restored-on : (c : Config) → IsTrue (is_accepted c) → (lines : List StateLine) (r : Restored) → IsRestored c r → AllByRecursion IsRangedLine lines → (new : Restored) →
+-- and so it is known of what any lines tell that are sound one after another and tell sizes in range
+pub restored-on : (c : Config) → IsTrue (is_accepted c) → (lines : List StateLine) (r : Restored) → IsRestored c r → AllByRecursion IsSizedLine lines → (new : Restored) →
     restored_by c r lines ≡ Some new → IsRestored c new
-restored-on c accepted [] r h ranged new e = let same : r ≡ new = cc in subst (IsRestored c) same h
-restored-on c accepted (line ∷ lines) r h ranged new e =
+restored-on c accepted [] r h sized new e = let same : r ≡ new = cc in subst (IsRestored c) same h
+restored-on c accepted (line ∷ lines) r h sized new e =
     let first = first-sound c r line lines new e in
-    restored-on c accepted lines (restored_with line r) (restored-more c accepted r line h ranged.0 first.0) ranged.1 new first.1
+    restored-on c accepted lines (restored_with line r) (restored-more c accepted r line h sized.0 first.0) sized.1 new first.1
 
 -- and of what they tell of nothing
-pub restored-all : (c : Config) → IsTrue (is_accepted c) → (lines : List StateLine) (r : Restored) → AllByRecursion IsRangedLine lines → restored_by c (nothing_restored c) lines ≡ Some r →
+pub restored-all : (c : Config) → IsTrue (is_accepted c) → (lines : List StateLine) (r : Restored) → AllByRecursion IsSizedLine lines → restored_by c (nothing_restored c) lines ≡ Some r →
     IsRestored c r
-restored-all c accepted lines r ranged e = restored-on c accepted lines (nothing_restored c) (restored-first c accepted) ranged r e
+restored-all c accepted lines r sized e = restored-on c accepted lines (nothing_restored c) (restored-first c accepted) sized r e

@@ -29,14 +29,13 @@ pub restored-tells : (c : Config) → IsTrue (is_accepted c) → (r : Restored) 
 restored-tells c accepted r h = reached-tells c accepted r h []
 
 -- of each state that events in range reach all is known that was known of the one that lines told
-pub stays-restored : (c : Config) → IsTrue (is_accepted c) → (r : Restored) → IsRestored c r → (events : List Event) → AllByRecursion IsRanged events → AllByRecursion IsCounted events →
-    IsSaveable c (after c r.state events)
-stays-restored c accepted r h events ranged counted = saveable-after c accepted events r.state ranged counted h.saveable
+pub stays-restored : (c : Config) → IsTrue (is_accepted c) → (r : Restored) → IsRestored c r → (events : List Event) → AllByRecursion IsRanged events → IsSaveable c (after c r.state events)
+stays-restored c accepted r h events ranged = saveable-after c accepted events r.state ranged h.saveable
 
 -- each state works that events reach from one that lines told, where their sizes are in range
 pub reached-works : (c : Config) (r : Restored) → IsRestored c r → (events : List Event) → AreRanged events → IsWorking c (after c r.state events)
 reached-works c r h events ranged = working-after c events r.state ranged (restored-works c r h)
 
--- and no ask counts more than an ask may, where none does that they set
-pub reached-within : (c : Config) → IsTrue (is_accepted c) → (r : Restored) → IsRestored c r → (events : List Event) → AllByRecursion IsCounted events → AllWithin (after c r.state events).leaves
-reached-within c accepted r h events counted = let saveable = h.saveable in within-after c accepted events r.state saveable.tellable counted saveable.counts
+-- and no ask counts more than an ask may, where none does that lines told, and none that they set
+pub reached-within : (c : Config) → IsTrue (is_accepted c) → (r : Restored) → IsRestored c r → AllWithin r.state.leaves → (events : List Event) → AllByRecursion IsCounted events → AllWithin (after c r.state events).leaves
+reached-within c accepted r h within events counted = let saveable = h.saveable in within-after c accepted events r.state saveable.tellable counted within

@@ -11,15 +11,12 @@ use Rattle.ynl_model.specs.declared.events.Event.{Event}
 use Rattle.ynl_model.specs.declared.nodes.Node.{Node}
 use Rattle.ynl_laws.specs.Working.{IsRanged, IsWorking}
 use Rattle.ynl_laws.proofs.Soundness.Working.{working-step}
-use Rattle.ynl_saved_laws.specs.Asks.{AllWithin, IsCounted}
-use Rattle.ynl_saved_laws.proofs.Counts.{within-opening, within-step}
 use Rattle.ynl_saved_laws.proofs.Tellable.{IsTellable, tellable-opening, tellable-step}
 
--- its lines tell it, and its sizes and counts are in range
+-- its lines tell it, and its sizes are in range
 pub record IsSaveable (c : Config) (s : State) : Type 0 where
   pub tellable : IsTellable c s
   pub sizes : AllByRecursion (λ (node : Node). IsSize node.size) s.nodes
-  pub counts : AllWithin s.leaves
 
 -- such a state works
 pub saveable-works : (c : Config) (s : State) → IsSaveable c s → IsWorking c s
@@ -31,22 +28,16 @@ saveable-works c s h =
 
 -- it is known of the opening state
 pub saveable-opening : (c : Config) → IsTrue (is_accepted c) → IsSaveable c (opening c)
-saveable-opening c accepted = record { tellable = tellable-opening c accepted; sizes = tt; counts = within-opening c }
+saveable-opening c accepted = record { tellable = tellable-opening c accepted; sizes = tt }
 
 -- it stays with each event in range
-pub saveable-step : (c : Config) → IsTrue (is_accepted c) → (s : State) (event : Event) → IsRanged event → IsCounted event → IsSaveable c s → IsSaveable c (step c s event).state
-saveable-step c accepted s event ranged counted h =
+pub saveable-step : (c : Config) → IsTrue (is_accepted c) → (s : State) (event : Event) → IsRanged event → IsSaveable c s → IsSaveable c (step c s event).state
+saveable-step c accepted s event ranged h =
     let tellable = h.tellable in
-    let base = tellable.base in
     let works = working-step c s event ranged (saveable-works c s h) in
-    record {
-      tellable = tellable-step c accepted s event tellable;
-      sizes = works.sizes;
-      counts = within-step c s event base.kept counted h.counts;
-    }
+    record { tellable = tellable-step c accepted s event tellable; sizes = works.sizes }
 
 -- and with each list of them
-pub saveable-after : (c : Config) → IsTrue (is_accepted c) → (events : List Event) (s : State) → AllByRecursion IsRanged events → AllByRecursion IsCounted events → IsSaveable c s →
-    IsSaveable c (after c s events)
-saveable-after c accepted [] s ranged counted h = h
-saveable-after c accepted (event ∷ events) s ranged counted h = saveable-after c accepted events (step c s event).state ranged.1 counted.1 (saveable-step c accepted s event ranged.0 counted.0 h)
+pub saveable-after : (c : Config) → IsTrue (is_accepted c) → (events : List Event) (s : State) → AllByRecursion IsRanged events → IsSaveable c s → IsSaveable c (after c s events)
+saveable-after c accepted [] s ranged h = h
+saveable-after c accepted (event ∷ events) s ranged h = saveable-after c accepted events (step c s event).state ranged.1 (saveable-step c accepted s event ranged.0 h)

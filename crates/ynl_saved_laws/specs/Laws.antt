@@ -12,16 +12,16 @@ use Rattle.ynl_saved.specs.Restoring.{Restored, nothing_restored, restored_by}
 use Rattle.ynl_saved.specs.Saving.{state_lines}
 use Rattle.ynl_saved.specs.declared.lines.StateLine.{StateLine}
 use Rattle.ynl_saved_laws.specs.Asks.{AllWithin, IsCounted}
-use Rattle.ynl_saved_laws.specs.Lines.{IsRangedLine}
+use Rattle.ynl_saved_laws.specs.Lines.{IsCountedLine, IsSizedLine}
 
 -- the lines of a state are sound one after another, and tell that state
 abbrev pub IsTold : Config → State → Type 0
 IsTold c s = (r : Restored) × (restored_by c (nothing_restored c) (state_lines c s) ≡ Some r) × (r.state ≡ s)
 
--- under an accepted configuration, some lines whose sizes and counts are in range are sound one after another, and tell this
+-- under an accepted configuration, some lines whose sizes are in range are sound one after another, and tell this
 pub record Restores (c : Config) (lines : List StateLine) (r : Restored) : Type 0 where
   pub accepted : IsTrue (is_accepted c)
-  pub ranged : AllByRecursion IsRangedLine lines
+  pub sized : AllByRecursion IsSizedLine lines
   pub told : restored_by c (nothing_restored c) lines ≡ Some r
 
 -- of the state that such lines told, and of each that events reach from it, the lines are sound one after another, and tell that state
@@ -36,7 +36,7 @@ DoRestoredWork = (c : Config) (lines : List StateLine) (r : Restored) → Restor
 abbrev pub AreAsksWithin : Type 0
 AreAsksWithin = (c : Config) (events : List Event) → IsTrue (is_accepted c) → AllByRecursion IsCounted events → AllWithin (state_after c events).leaves
 
--- nor does one of the state that such lines told, and of each that such events reach from it
+-- nor does one of the state that lines told none of whose asks does, and of each that such events reach from it
 abbrev pub AreRestoredAsksWithin : Type 0
 AreRestoredAsksWithin =
-    (c : Config) (lines : List StateLine) (r : Restored) → Restores c lines r → (events : List Event) → AllByRecursion IsCounted events → AllWithin (after c r.state events).leaves
+    (c : Config) (lines : List StateLine) (r : Restored) → Restores c lines r → AllByRecursion IsCountedLine lines → (events : List Event) → AllByRecursion IsCounted events → AllWithin (after c r.state events).leaves

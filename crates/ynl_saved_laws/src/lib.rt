@@ -14,9 +14,9 @@ pub fn asks_stay_within()
     ensures { AreAsksWithin }
 {}
 
-/// Under an accepted configuration, where lines are sound one after another and their sizes and counts are in range, the
-/// lines of the state that they tell are sound one after another too, and tell that state. So it is with each state that
-/// events reach from it.
+/// Under an accepted configuration, where lines are sound one after another and their sizes are in range, the lines of
+/// the state that they tell are sound one after another too, and tell that state. So it is with each state that events
+/// reach from it.
 pub fn restored_states_are_told()
     ensures { AreRestoredTold }
 {}
@@ -28,7 +28,7 @@ pub fn restored_states_work()
 {}
 
 /// No ask of such a state counts more than an ask may, nor does one of a state that events reach from it, where none does
-/// that they set.
+/// that the lines tell or the events set.
 pub fn restored_asks_stay_within()
     ensures { AreRestoredAsksWithin }
 {}

@@ -3,4 +3,4 @@ use Rattle.ynl_saved_laws.proofs.Retelling.{reached-tells}
 use Rattle.ynl_saved_laws.proofs.restored_states_are_told.Goals as goal
 
 pub returns : goal.returns
-returns _ c lines r h events = reached-tells c h.accepted r (restored-all c h.accepted lines r h.ranged h.told) events
+returns _ c lines r h events = reached-tells c h.accepted r (restored-all c h.accepted lines r h.sized h.told) events

@@ -3,4 +3,4 @@ use Rattle.ynl_saved_laws.proofs.Retelling.{reached-works}
 use Rattle.ynl_saved_laws.proofs.restored_states_work.Goals as goal
 
 pub returns : goal.returns
-returns _ c lines r h events ranged = reached-works c r (restored-all c h.accepted lines r h.ranged h.told) events ranged
+returns _ c lines r h events ranged = reached-works c r (restored-all c h.accepted lines r h.sized h.told) events ranged

@@ -40,4 +40,5 @@ returns c =
           ∙ ap (λ b. cond b (Ok read.0.restored) (Err (record { fault = Cut; line = 0 }))) (ap (λ o. option_map_or is_end o false) (sym now.before) ∙ sym c.has_ended.ensures ∙ c.if-not-has_ended.false),
       now.config,
       now.tells,
+      now.within,
     )

@@ -12,4 +12,5 @@ returns-in_ok-resume-in-Ok c =
       its.1,
       subst (λ (configured : Config). IsRestored configured its.0) its.2 tells.known,
       c.in_ok-resume-in-Ok.ensures its.0 tells ∙ ap (λ (configured : Config). record { config = configured; state = (its.0).state }) its.2,
+      its.4,
     )

@@ -3,12 +3,13 @@ use Rattle.std.proofs.Common.{◌-◌, ◌∙◌, ℕ, sym, ap, subst}
 use Rattle.ynl_model.specs.Cluster.{in_partition}
 use Rattle.ynl_model.specs.Nodes.{stamped}
 use Rattle.ynl_slots.specs.Slots.{IsLive}
-use Rattle.ynl_inventory.specs.Changes.{with_clock, with_placed}
+use Rattle.ynl_inventory.specs.Changes.{with_clock, with_placed, with_stamp}
 use Rattle.ynl_inventory.specs.Parts.{node_row}
 use Rattle.ynl_inventory.specs.Rows.{Rows}
 use Rattle.ynl_inventory.specs.Sound.{CanShow, HasPartition}
 use Rattle.ynl_cluster.specs.Cluster.{ClusterView, label_of, state_in}
-use Rattle.ynl_restoring.proofs.Placing.{fits-there, has-after, live-after, may-after, partition-is, placeable, room-before, room-there, rows-before, set-before, shown-is, stamp-is, then-told}
+use Rattle.ynl_restoring.specs.Standing.{KeepsApp}
+use Rattle.ynl_restoring.proofs.Placing.{fits-there, has-after, keeps, live-after, may-after, partition-is, placeable, room-before, room-there, rows-before, set-before, shown-is, stamp-is, then-told}
 use Rattle.ynl_restoring.proofs.containers.place_then.Goals as goal
 
 pub place-number-requires : goal.place-number-requires
@@ -57,3 +58,15 @@ returns-clause-state c can =
     (λ row found.
     c.set_stamp.ensures.state row found
     ∙ ap (λ stamp. record (state_in c.set_clock-2.new.self) { nodes = stamped row.name (label_of c.set_clock-2.new.self row.partition) stamp (state_in c.set_clock-2.new.self).nodes }) (stamp-is c.args.cluster.now c.args.clock c.args.placed.now can (node_row c.node-row.result.now) (rw c.inventory-inventory.ensures.value at c.node-row.ensures)))
+
+pub returns-clause-keeps : goal.returns-clause-keeps
+returns-clause-keeps c can =
+    let read = rw c.inventory-inventory.ensures.value at c.node-row.ensures in
+    let before = rows-before c.args.cluster.now c.args.clock c.args.placed.now can (node_row c.node-row.result.now) read c.reserve_for.new.self c.set_clock.new.self c.in_ok-reserve_for.ensures.rows c.set_clock.ensures.rows in
+    let placed = ap (λ (w : ClusterView). w.rows) c.place-number.ensures.rows ∙ ap (with_placed c.place-number.result c.args.placed.now.node c.args.placed.now.app c.args.placed.now.role c.args.placed.now.size) before in
+    let rows =
+    ap (λ (w : ClusterView). w.rows) c.set_stamp.ensures.rows
+    ∙ ap (λ (w : ClusterView). with_stamp c.args.placed.now.node c.node-row.result.now.stamp w.rows) c.set_clock-2.ensures.rows
+    ∙ ap (λ (v : Rows). with_stamp c.args.placed.now.node c.node-row.result.now.stamp (with_clock c.node-row.result.now.partition c.clock-shown.result v)) placed in
+    subst (λ (v : Rows). KeepsApp c.args.cluster.now.rows v c.args.placed.now.app can.app_row) (sym rows)
+    (keeps c.args.cluster.now c.inventory-inventory.ensures.sound c.inventory-inventory.ensures.configured c.args.clock c.args.placed.now can c.place-number.result c.node-row.result.now.partition c.clock-shown.result c.args.placed.now.node c.node-row.result.now.stamp)

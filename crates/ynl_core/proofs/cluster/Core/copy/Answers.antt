@@ -19,7 +19,7 @@ module _ (c : In-Ok) where
   -- what the lines told is what the cluster is
   all : (r : Restored) × Tells c.tell.new.sink r × (record { config = c.tell.new.sink.cluster.config; state = r.state } ≡ c.args.self.now)
   all =
-      copied c.args.self.now c.requires.accepted (subst (λ (w : World). WorksAndIsTold w.config w.state) c.self.view_is c.self.invariant.working) c.requires.counted
+      copied c.args.self.now c.requires (subst (λ (w : World). WorksAndIsTold w.config w.state) c.self.view_is c.self.invariant.working)
       c.in_ok-copying.copying c.tell.new.sink c.in_ok-config.config c.in_ok-copying.ensures.config (c.in_ok-config.ensures ∙ c.config.ensures) c.in_ok-copying.ensures.told
       (subst (λ (s : Saved). TakesAll Follows c.in_ok-copying.copying (lines_before_end s.config s.state) c.tell.new.sink) c.in_ok-saving.ensures c.in-Ok.ensures)
 
@@ -28,7 +28,7 @@ resume-requires c = let told = all (goal.at.resume-requires c).In-Ok in subst (�
 
 pub unreachable-requires : goal.unreachable-requires
 unreachable-requires c =
-    never-unsound c.args.self.now c.requires.accepted (subst (λ (w : World). WorksAndIsTold w.config w.state) c.self.view_is c.self.invariant.working) c.requires.counted
+    never-unsound c.args.self.now c.requires (subst (λ (w : World). WorksAndIsTold w.config w.state) c.self.view_is c.self.invariant.working)
     c.in_ok-copying.copying c.tell.new.sink c.in_ok-config.config c.in_ok-copying.ensures.config (c.in_ok-config.ensures ∙ c.config.ensures) c.in_ok-copying.ensures.told
     (subst (λ (s : Saved). FailsAmong Follows c.in_ok-copying.copying (lines_before_end s.config s.state) c.tell.new.sink Unsound) c.in_ok-saving.ensures
     (subst (FailsAmong Follows c.in_ok-copying.copying (lines_before_end c.in_ok-saving.saving.config c.in_ok-saving.saving.state) c.tell.new.sink)

@@ -1,7 +1,7 @@
 -- A line more is read.
 use Rattle.std.proofs.Common.{◌∙◌, Err, sym, ap, arith}
 use Rattle.ynl_saved.specs.Restoring.{is_sound_line}
-use Rattle.ynl_restore.proofs.Steps.{blank-step, fault-step, sound-step, unsound-step}
+use Rattle.ynl_restore.proofs.Steps.{blank-step, fault-step, line-counted, sound-step, unsound-step}
 use Rattle.ynl_restore.proofs.reading.Reading.take.Goals as goal
 
 pub returns-then-is_blank-clause-step : goal.returns-then-is_blank-clause-step
@@ -28,4 +28,4 @@ pub returns-clause-step : goal.returns-clause-step
 returns-clause-step c configured p at =
     let takes = rw (c.if-not-branch.false, c.line.ensures) at c.in_ok-take.ensures p.restored at.tells in
     sound-step configured c.args.self.now.told c.args.self.now.lines c.args.self.now.count p at c.args.line.now (sym c.is_blank.ensures ∙ c.if-is_blank.false) c.take.new.self c.read.new.self
-    (rw c.in_default.is at c.in_ok-fault.ensures.line) (rw c.in_default.is at c.in_ok-fault.ensures.before) takes
+    (rw c.in_default.is at c.in_ok-fault.ensures.line) (rw c.in_default.is at c.in_ok-fault.ensures.before) takes (line-counted c.read.new.self.line (rw c.in_default.is at c.in_ok-fault.ensures.ranged))

@@ -20,5 +20,5 @@ returns c r h =
     let told = subst (λ (t : Telling). Tells t r) (sym c.self.view_is) h in
     let any = ap (list_any (same_label c.args.node.now.label)) (sym c.deref.ensures.value) ∙ sym c.has_label.ensures ∙ c.if-not-has_label.false in
     subst (λ (t : Telling). TakesKind t r (Node c.args.node.now) (record (telling_of c.self.inside) { cluster = c.take_node.new.cluster }) c.in_ok-taken.taken) c.self.view_is
-    (plain-kind (telling_of c.self.inside) r told (Node c.args.node.now) c.requires.ranged refl refl refl c.take_node.new.cluster c.in_ok-taken.taken
+    (plain-kind (telling_of c.self.inside) r told (Node c.args.node.now) c.amount.ensures.range refl refl refl c.take_node.new.cluster c.in_ok-taken.taken
     (c.in_ok-taken.ensures r told.state (sym (told.partitions c.args.node.now.label) ∙ any) (told-known (telling_of c.self.inside) r told c.args.node.now.label any)))
