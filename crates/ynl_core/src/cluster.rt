@@ -167,7 +167,9 @@ impl Core {
         self.cluster.config()
     }
 
-    /// The nodes, in the order of joining. Nothing changes; `Err` only if memory is refused.
+    /// The nodes, in the order of joining. Nothing changes; `Err` only if memory is refused. Clause `works` is of the
+    /// state, so it holds then too: it keeps what every state keeps, so the names of its nodes differ, and no partition
+    /// has more of them than it may.
     pub fn nodes(&self, alloc: Global) -> Result<Vec<Node>, NoMemory>
         ensures nodes { IfOk result (λ list. list.items ≡ self.now.state.nodes) }
         ensures works { IsWorking self.now.config self.now.state }

@@ -1,6 +1,6 @@
 //! The cluster that a journal leads to, and the history that its events make.
 
-ghost use Rattle.std.specs.Prelude.{◌≡◌, length, IfOk, OnOk};
+ghost use Rattle.std.specs.Prelude.{◌≡◌, ◌<◌, ℕ, length, take, IfOk, OnErr, OnOk};
 ghost use Rattle.ynl_journal.specs.BookFields.{written, entries_from};
 ghost use Rattle.ynl_journal.specs.Journal.{IsHistoryFrom, entry, events_in, replayed_from};
 
@@ -10,9 +10,11 @@ use ynl_model::{Entry, Event, Reply};
 use ynl_packed::{Entries, Events};
 
 /// Applies the entries' events to the cluster. Their replies are not looked at. `Err` only if memory is
-/// refused: the cluster is then the one that some of the first events lead to.
+/// refused: the cluster is then the one that the events before the refusal lead to.
 pub fn replay(core: &mut Core, entries: &[Entry]) -> Result<(), NoMemory>
-    ensures { OnOk result (core.new ≡ replayed_from core.old.config core.old.state entries.now) }
+    ensures ok { OnOk result (core.new ≡ replayed_from core.old.config core.old.state entries.now) }
+    ensures err { OnErr result ((n : ℕ) × (n < length entries.now)
+        × (core.new ≡ replayed_from core.old.config core.old.state (take n entries.now))) }
 {
     for entry in entries {
         core.answer(&entry.event)?;

@@ -83,7 +83,7 @@ impl Start {
         }
     }
 
-    /// The cluster itself. `Err` only if memory is refused, which one that has a state does not take.
+    /// The cluster itself. `Err` only if memory is refused.
     pub fn into_cluster(self, alloc: Global) -> Result<Core, NoMemory>
         ensures { IfOk result (λ core. core ≡ self) }
     {

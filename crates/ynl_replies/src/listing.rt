@@ -36,6 +36,7 @@ pub fn node_at(cluster: &Cluster, node: u32) -> Node
 fn add_node(list: &mut Vec<Node>, node: &Node) -> Result<(), AllocError>
     ensures { OnOk result (list.new.items ≡ list.old.items ++ node.now ∷ []) }
 {
+    // Field by field: `*node` is a copy that Rattle does not prove here, by a fault of its own.
     list.push(Node {
         name: node.name,
         label: node.label,

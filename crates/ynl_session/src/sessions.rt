@@ -120,7 +120,8 @@ fn dealt_nodes(
 }
 
 /// Calls the events on a cluster like the one of this start, runs so many rounds of workers over the nodes that
-/// these leave, and closes the journal. In each round the nodes, by name in byte order, are dealt out to the workers in turn.
+/// these leave, and closes the journal. In each round the nodes, by name in byte order, are dealt out to the
+/// workers in turn.
 ///
 /// `Unclosed` comes where the journal is not closed for another cause than want of memory, where an event of
 /// the script got another place than its number, or where a call was told that its seat is of another
