@@ -1,8 +1,9 @@
 //! The pieces of a text that is kept, added one by one. Names, labels, ids and numbers need no escape, so each stands in
 //! its text of JSON as it is. What is the same in every text comes as an array: its length is then known where it is
-//! copied, and no `memcpy` is called for it.
+//! copied, and no `memcpy` is called for it. Memory is asked for only where a text has no room for a piece, so a text
+//! that has room takes it without fail.
 
-ghost use Rattle.std.specs.Prelude.{◌≡◌, ◌++◌, OnOk, decimal};
+ghost use Rattle.std.specs.Prelude.{◌≡◌, ◌++◌, ◌+◌, ◌<◌, ◌≤◌, OnOk, OnErr, decimal, length, vec_len, vec_capacity};
 ghost use Rattle.json.specs.Print.{escape};
 ghost use Rattle.ynl_resource.specs.Texts.{label_text, id_text, path_text};
 ghost use Rattle.ynl_fields.specs.Sound.{IsLabel, IsName, IsPath};
@@ -22,7 +23,10 @@ fn name_bytes(name: &Name) -> &[u8]
 
 /// Adds bytes.
 pub fn add<const N: usize>(text: &mut Vec<u8>, more: &[u8; N]) -> Result<(), AllocError>
-    ensures { OnOk result (text.new.items ≡ text.old.items ++ more.now) }
+    ensures added { OnOk result (text.new.items ≡ text.old.items ++ more.now) }
+    ensures len { OnOk result (vec_len text.new ≡ vec_len text.old + length more.now) }
+    ensures capacity { vec_capacity text.old ≤ vec_capacity text.new }
+    ensures full { OnErr result (vec_capacity text.old < vec_len text.old + length more.now) }
 {
     text.extend_from_slice(more)
 }
@@ -33,7 +37,10 @@ pub fn add_text<const N: usize>(
     front: &[u8; N],
     more: &[u8],
 ) -> Result<(), AllocError>
-    ensures { OnOk result (text.new.items ≡ text.old.items ++ (front.now ++ more.now)) }
+    ensures added { OnOk result (text.new.items ≡ text.old.items ++ (front.now ++ more.now)) }
+    ensures len { OnOk result (vec_len text.new ≡ vec_len text.old + length (front.now ++ more.now)) }
+    ensures capacity { vec_capacity text.old ≤ vec_capacity text.new }
+    ensures full { OnErr result (vec_capacity text.old < vec_len text.old + length (front.now ++ more.now)) }
 {
     text.extend_from_slice(front)?;
     text.extend_from_slice(more)
@@ -46,6 +53,9 @@ pub fn add_name<const N: usize>(
     name: &Name,
 ) -> Result<(), AllocError>
     ensures added { OnOk result (text.new.items ≡ text.old.items ++ (front.now ++ escape name.now)) }
+    ensures len { OnOk result (vec_len text.new ≡ vec_len text.old + length (front.now ++ escape name.now)) }
+    ensures capacity { vec_capacity text.old ≤ vec_capacity text.new }
+    ensures full { OnErr result (vec_capacity text.old < vec_len text.old + length (front.now ++ escape name.now)) }
     ensures sound { IsName name.now }
 {
     add_text(text, front, name_bytes(name))
@@ -58,6 +68,9 @@ pub fn add_label<const N: usize>(
     label: &Label,
 ) -> Result<(), AllocError>
     ensures added { OnOk result (text.new.items ≡ text.old.items ++ (front.now ++ escape (label_text label.now))) }
+    ensures len { OnOk result (vec_len text.new ≡ vec_len text.old + length (front.now ++ escape (label_text label.now))) }
+    ensures capacity { vec_capacity text.old ≤ vec_capacity text.new }
+    ensures full { OnErr result (vec_capacity text.old < vec_len text.old + length (front.now ++ escape (label_text label.now))) }
     ensures sound { IsLabel label.now }
 {
     match label {
@@ -74,6 +87,9 @@ pub fn add_number<const N: usize>(
     number: u64,
 ) -> Result<(), AllocError>
     ensures added { OnOk result (text.new.items ≡ text.old.items ++ (front.now ++ decimal number)) }
+    ensures len { OnOk result (vec_len text.new ≡ vec_len text.old + length (front.now ++ decimal number)) }
+    ensures capacity { vec_capacity text.old ≤ vec_capacity text.new }
+    ensures full { OnErr result (vec_capacity text.old < vec_len text.old + length (front.now ++ decimal number)) }
     ensures plain { escape (decimal number) ≡ decimal number }
 {
     text.extend_from_slice(front)?;
@@ -86,7 +102,10 @@ pub fn add_number<const N: usize>(
 
 /// Adds the digits of a number.
 fn add_digits(text: &mut Vec<u8>, number: u64) -> Result<(), AllocError>
-    ensures { OnOk result (text.new.items ≡ text.old.items ++ decimal number) }
+    ensures added { OnOk result (text.new.items ≡ text.old.items ++ decimal number) }
+    ensures len { OnOk result (vec_len text.new ≡ vec_len text.old + length (decimal number)) }
+    ensures capacity { vec_capacity text.old ≤ vec_capacity text.new }
+    ensures full { OnErr result (vec_capacity text.old < vec_len text.old + length (decimal number)) }
 {
     let mut digits = Buffer::new();
     text.extend_from_slice(digits.format(number).as_bytes())
@@ -99,6 +118,9 @@ pub fn add_id<const N: usize>(
     id: &Id,
 ) -> Result<(), AllocError>
     ensures added { OnOk result (text.new.items ≡ text.old.items ++ (front.now ++ escape (id_text id.now))) }
+    ensures len { OnOk result (vec_len text.new ≡ vec_len text.old + length (front.now ++ escape (id_text id.now))) }
+    ensures capacity { vec_capacity text.old ≤ vec_capacity text.new }
+    ensures full { OnErr result (vec_capacity text.old < vec_len text.old + length (front.now ++ escape (id_text id.now))) }
     ensures sound { IsLabel id.now.label }
 {
     add_label(text, front, &id.label)?;
@@ -112,6 +134,9 @@ pub fn add_path<const N: usize>(
     path: &Path,
 ) -> Result<(), AllocError>
     ensures added { OnOk result (text.new.items ≡ text.old.items ++ (front.now ++ escape (path_text path.now))) }
+    ensures len { OnOk result (vec_len text.new ≡ vec_len text.old + length (front.now ++ escape (path_text path.now))) }
+    ensures capacity { vec_capacity text.old ≤ vec_capacity text.new }
+    ensures full { OnErr result (vec_capacity text.old < vec_len text.old + length (front.now ++ escape (path_text path.now))) }
     ensures sound { OnOk result (IsPath path.now) }
 {
     add_text(text, front, b"root")?;

@@ -1,1 +1,2 @@
+pub mod Measure
 pub mod Text

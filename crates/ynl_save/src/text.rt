@@ -1,6 +1,6 @@
 //! The text that the lines of a state come to.
 
-ghost use Rattle.std.specs.Prelude.{◌≡◌, ◌++◌, [], OnOk};
+ghost use Rattle.std.specs.Prelude.{◌≡◌, ◌++◌, ◌+◌, ◌<◌, ◌≤◌, [], OnErr, OnOk, length, vec_capacity, vec_len};
 ghost use Rattle.ynl_saved_text.specs.StateLines.{IsClocked};
 ghost use Rattle.ynl_saved_text.specs.Texts.{Reads, line_text};
 
@@ -32,9 +32,13 @@ impl From<AllocError> for TextFault {
     }
 }
 
-/// Adds the text of a line, with its newline.
-fn add_line(text: &mut Vec<u8>, line: &StateLine) -> Result<(), AllocError>
+/// Adds the text of a line, with its newline. Memory is asked for only where `text` has no room for it; where it is refused
+/// `text` may hold a front of it.
+pub fn add_line(text: &mut Vec<u8>, line: &StateLine) -> Result<(), AllocError>
     ensures added { OnOk result (text.new.items ≡ text.old.items ++ line_text line.now) }
+    ensures len { OnOk result (vec_len text.new ≡ vec_len text.old + length (line_text line.now)) }
+    ensures capacity { vec_capacity text.old ≤ vec_capacity text.new }
+    ensures full { OnErr result (vec_capacity text.old < vec_len text.old + length (line_text line.now)) }
     ensures reads { OnOk result (IsClocked line.now → Reads line.now) }
 {
     put_state_line(text, line)?;

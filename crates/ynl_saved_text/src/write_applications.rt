@@ -1,6 +1,6 @@
 //! The texts of the lines of applications, added piece by piece.
 
-ghost use Rattle.std.specs.Prelude.{◌≡◌, ◌++◌, ◌≤◌, OnOk};
+ghost use Rattle.std.specs.Prelude.{◌≡◌, ◌++◌, ◌+◌, ◌<◌, ◌≤◌, OnOk, OnErr, length, vec_capacity, vec_len};
 ghost use Rattle.serde_json.specs.Written.{compact_text};
 ghost use Rattle.ynl_fields.specs.Sound.{IsLabel, IsName, IsPath};
 ghost use Rattle.ynl_resource.specs.Amounts.{IsSize};
@@ -12,6 +12,7 @@ use ynl_fields::{add, add_label, add_name, add_number, add_path};
 use ynl_model::AskRow;
 use ynl_resource::{Label, Name, Path, Size};
 
+#[tactic(auto, unfolding(json::specs::Print::escape_byte))]
 pub fn add_live(
     text: &mut Vec<u8>,
     queue: &Path,
@@ -21,6 +22,8 @@ pub fn add_live(
     master: &Size,
 ) -> Result<(), AllocError>
     ensures added { OnOk result (text.new.items ≡ text.old.items ++ compact_text (spec.live_data queue.now app.now user.now label.now master.now)) }
+    ensures capacity { vec_capacity text.old ≤ vec_capacity text.new }
+    ensures full { OnErr result (vec_capacity text.old < vec_len text.old + length (compact_text (spec.live_data queue.now app.now user.now label.now master.now))) }
     ensures sound { OnOk result (IsPath queue.now × IsName app.now × IsName user.now × IsLabel label.now × IsSize master.now) }
 {
     let size = master.amount();
@@ -33,6 +36,7 @@ pub fn add_live(
     add(text, b"}")
 }
 
+#[tactic(auto, unfolding(json::specs::Print::escape_byte))]
 pub fn add_ask(
     text: &mut Vec<u8>,
     tenant: &Name,
@@ -40,6 +44,8 @@ pub fn add_ask(
     ask: &AskRow,
 ) -> Result<(), AllocError>
     ensures added { OnOk result (text.new.items ≡ text.old.items ++ compact_text (spec.ask_data tenant.now app.now ask.now)) }
+    ensures capacity { vec_capacity text.old ≤ vec_capacity text.new }
+    ensures full { OnErr result (vec_capacity text.old < vec_len text.old + length (compact_text (spec.ask_data tenant.now app.now ask.now))) }
     ensures sound { OnOk result (IsName tenant.now × IsName app.now × IsLabel ask.now.label × IsSize ask.now.size × (ask.now.priority ≤ most_priority)) }
 {
     let size = ask.size.amount();
@@ -53,8 +59,11 @@ pub fn add_ask(
     add(text, b"}")
 }
 
+#[tactic(auto, unfolding(json::specs::Print::escape_byte))]
 pub fn add_finished(text: &mut Vec<u8>, queue: &Path, app: &Name) -> Result<(), AllocError>
     ensures added { OnOk result (text.new.items ≡ text.old.items ++ compact_text (spec.finished_data queue.now app.now)) }
+    ensures capacity { vec_capacity text.old ≤ vec_capacity text.new }
+    ensures full { OnErr result (vec_capacity text.old < vec_len text.old + length (compact_text (spec.finished_data queue.now app.now))) }
     ensures sound { OnOk result (IsPath queue.now × IsName app.now) }
 {
     add_name(text, b"{\"app\":\"", app)?;

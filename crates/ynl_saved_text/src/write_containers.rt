@@ -1,6 +1,6 @@
 //! The texts of the lines of containers, added piece by piece.
 
-ghost use Rattle.std.specs.Prelude.{◌≡◌, ◌++◌, ◌≤◌, OnOk};
+ghost use Rattle.std.specs.Prelude.{◌≡◌, ◌++◌, ◌+◌, ◌<◌, ◌≤◌, OnOk, OnErr, length, vec_capacity, vec_len};
 ghost use Rattle.serde_json.specs.Written.{compact_text};
 ghost use Rattle.ynl_fields.specs.Sound.{IsLabel};
 ghost use Rattle.ynl_resource.specs.Ranges.{most_priority};
@@ -13,6 +13,7 @@ use ynl_model::{Placed, What};
 use ynl_resource::Label;
 
 /// Adds a container that was asked for.
+#[tactic(auto, unfolding(json::specs::Print::escape_byte))]
 fn add_asked(
     text: &mut Vec<u8>,
     placed: &Placed,
@@ -20,6 +21,8 @@ fn add_asked(
     priority: u32,
 ) -> Result<(), AllocError>
     ensures added { OnOk result (text.new.items ≡ text.old.items ++ compact_text (spec.asked_data placed.now label.now priority)) }
+    ensures capacity { vec_capacity text.old ≤ vec_capacity text.new }
+    ensures full { OnErr result (vec_capacity text.old < vec_len text.old + length (compact_text (spec.asked_data placed.now label.now priority))) }
     ensures sound { OnOk result (HasParts placed.now × IsLabel label.now × (priority ≤ most_priority)) }
 {
     let size = placed.size.amount();
@@ -39,8 +42,11 @@ fn add_asked(
 }
 
 /// Adds a container that is a master.
+#[tactic(auto, unfolding(json::specs::Print::escape_byte))]
 fn add_master(text: &mut Vec<u8>, placed: &Placed) -> Result<(), AllocError>
     ensures added { OnOk result (text.new.items ≡ text.old.items ++ compact_text (spec.master_data placed.now)) }
+    ensures capacity { vec_capacity text.old ≤ vec_capacity text.new }
+    ensures full { OnErr result (vec_capacity text.old < vec_len text.old + length (compact_text (spec.master_data placed.now))) }
     ensures sound { OnOk result (HasParts placed.now) }
 {
     let size = placed.size.amount();
@@ -59,6 +65,8 @@ fn add_master(text: &mut Vec<u8>, placed: &Placed) -> Result<(), AllocError>
 
 pub fn add_container(text: &mut Vec<u8>, placed: &Placed) -> Result<(), AllocError>
     ensures added { OnOk result (text.new.items ≡ text.old.items ++ compact_text (spec.container_by placed.now.what placed.now)) }
+    ensures capacity { vec_capacity text.old ≤ vec_capacity text.new }
+    ensures full { OnErr result (vec_capacity text.old < vec_len text.old + length (compact_text (spec.container_by placed.now.what placed.now))) }
     ensures sound { OnOk result (HasParts placed.now × IsWanted placed.now.what) }
 {
     match &placed.what {

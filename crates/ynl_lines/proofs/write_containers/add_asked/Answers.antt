@@ -15,4 +15,4 @@ returns-clause-added c =
     (λ e. asked_added p.app id label p.node p.tenant c.amount-size.result c.from.result old _ _ _ _ _ _ _ _ _
     c.in_ok-add_name.ensures.added c.in_ok-add_id.ensures.added c.in_ok-add_label.ensures.added c.in_ok-add_number.ensures.added c.in_ok-add_name-2.ensures.added c.in_ok-add_number-2.ensures.added c.in_ok-add_name-3.ensures.added c.in_ok-add_number-3.ensures.added e
     ∙ ap₂ (λ size priority. old ++ compact_text (asked_of p.app id label p.node p.tenant size priority)) c.amount-size.ensures.value c.from.ensures)
-    c.add.ensures
+    c.add.ensures.added

@@ -13,10 +13,10 @@ pub returns-clause-added : goal.returns-clause-added
 returns-clause-added g c =
     on_ok_weaker c.add.result
     (λ e. last_added g.T.Listed.told c.args.list.now c.loop-one.one-index c.loop-one.later _ _ _ c.loop-one-test.false c.loop-one.invariant.added e)
-    c.add.ensures
+    c.add.ensures.added
 
 pub returns-clause-sound : goal.returns-clause-sound
 returns-clause-sound g c =
     on_ok_weaker c.add.result
     (λ e. all_of g.T.Listed.is_sound c.args.list.now c.loop-one.one-index c.loop-one-test.false c.loop-one.invariant.sound)
-    c.add.ensures
+    c.add.ensures.added

@@ -14,4 +14,4 @@ returns-clause-added c =
     (λ e. master_added p.app id p.node p.tenant c.amount-size.result old _ _ _ _ _ _ _
     c.in_ok-add_name.ensures.added c.in_ok-add_id.ensures.added c.in_ok-add_number.ensures.added c.in_ok-add_name-2.ensures.added c.in_ok-add_name-3.ensures.added c.in_ok-add_number-2.ensures.added e
     ∙ ap (λ size. old ++ compact_text (master_of p.app id p.node p.tenant size)) c.amount-size.ensures.value)
-    c.add.ensures
+    c.add.ensures.added

@@ -12,4 +12,4 @@ returns-clause-added c =
     (λ e. pending_added c.amount-size.result c.from.result c.from-2.result old _ _ _ _ _ c.in_ok-add_number.ensures.added c.in_ok-add_number-2.ensures.added c.in_ok-add_number-3.ensures.added c.in_ok-add_number-4.ensures.added e
     ∙ ap (λ size. old ++ compact_text (pending_of size c.from.result c.from-2.result)) c.amount-size.ensures.value
     ∙ ap₂ (λ quantity priority. old ++ compact_text (pending_of p.size quantity priority)) c.from.ensures c.from-2.ensures)
-    c.add.ensures
+    c.add.ensures.added

@@ -10,4 +10,4 @@ returns-clause-added c =
     on_ok_weaker c.add.result
     (λ e. quote c.args.text.now.items c.add_name.new.text.items (codes "{\"app\":\"") c.args.app.now _ _ c.in_ok-add_name.ensures.added
     (quote c.add_name.new.text.items c.add_name-2.new.text.items (codes "\",\"event\":\"finish\",\"tenant\":\"") c.args.tenant.now _ _ c.in_ok-add_name-2.ensures.added e))
-    c.add.ensures
+    c.add.ensures.added

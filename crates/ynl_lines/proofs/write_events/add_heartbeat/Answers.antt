@@ -9,4 +9,4 @@ unfolding escape_byte
 returns-clause-added c =
     on_ok_weaker c.add.result
     (λ e. quote c.args.text.now.items c.add_name.new.text.items (codes "{\"event\":\"heartbeat\",\"node\":\"") c.args.node.now _ _ c.in_ok-add_name.ensures.added e)
-    c.add.ensures
+    c.add.ensures.added

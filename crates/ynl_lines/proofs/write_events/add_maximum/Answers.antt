@@ -15,4 +15,4 @@ returns-clause-added c =
     (join c.add_label.new.text.items c.add_number.new.text.items (codes "\",\"maximum\":") (decimal c.number.result) _ _ c.in_ok-add_number.ensures.added
     (quote c.add_number.new.text.items c.add_path.new.text.items (codes ",\"queue\":\"") (path_text c.args.queue.now) _ _ c.in_ok-add_path.ensures.added e))
     ∙ ap (λ maximum. c.args.text.now.items ++ compact_text (maximum_data c.args.queue.now c.args.label.now maximum)) c.number.ensures.value)
-    c.add.ensures
+    c.add.ensures.added

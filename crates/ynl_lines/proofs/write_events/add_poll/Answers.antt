@@ -12,4 +12,4 @@ returns-clause-added c =
     (λ e. quote c.args.text.now.items c.add_name.new.text.items (codes "{\"app\":\"") c.args.app.now _ _ c.in_ok-add_name.ensures.added
     (quote c.add_name.new.text.items c.add_label.new.text.items (codes "\",\"event\":\"poll\",\"label\":\"") (label_text c.args.label.now) _ _ c.in_ok-add_label.ensures.added
     (quote c.add_label.new.text.items c.add_name-2.new.text.items (codes "\",\"tenant\":\"") c.args.tenant.now _ _ c.in_ok-add_name-2.ensures.added e)))
-    c.add.ensures
+    c.add.ensures.added

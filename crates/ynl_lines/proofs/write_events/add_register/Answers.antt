@@ -16,4 +16,4 @@ returns-clause-added c =
     (quote c.add_number.new.text.items c.add_name.new.text.items (codes ",\"node\":\"") c.args.node.now _ _ c.in_ok-add_name.ensures.added
     (join c.add_name.new.text.items c.add_number-2.new.text.items (codes "\",\"vcores\":") (decimal c.amount-size.result.vcores) _ _ c.in_ok-add_number-2.ensures.added e)))
     ∙ ap (λ size. c.args.text.now.items ++ compact_text (register_data c.args.node.now c.args.label.now size)) c.amount-size.ensures.value)
-    c.add.ensures
+    c.add.ensures.added

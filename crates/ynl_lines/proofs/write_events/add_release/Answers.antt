@@ -11,4 +11,4 @@ returns-clause-added c =
     on_ok_weaker c.add.result
     (λ e. quote c.args.text.now.items c.add_id.new.text.items (codes "{\"event\":\"release\",\"id\":\"") (id_text c.args.id.now) _ _ c.in_ok-add_id.ensures.added
     (quote c.add_id.new.text.items c.add_name.new.text.items (codes "\",\"tenant\":\"") c.args.tenant.now _ _ c.in_ok-add_name.ensures.added e))
-    c.add.ensures
+    c.add.ensures.added

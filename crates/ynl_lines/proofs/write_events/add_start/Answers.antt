@@ -10,4 +10,4 @@ unfolding escape_byte
 returns-clause-added c =
     on_ok_weaker c.add.result
     (λ e. quote c.args.text.now.items c.add_path.new.text.items (codes "{\"event\":\"start\",\"queue\":\"") (path_text c.args.queue.now) _ _ c.in_ok-add_path.ensures.added e)
-    c.add.ensures
+    c.add.ensures.added

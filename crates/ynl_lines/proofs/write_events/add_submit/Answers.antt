@@ -17,4 +17,4 @@ returns-clause-added c =
     (quote c.add_path.new.text.items c.add_name-2.new.text.items (codes "\",\"user\":\"") c.args.user.now _ _ c.in_ok-add_name-2.ensures.added
     (join c.add_name-2.new.text.items c.add_number-2.new.text.items (codes "\",\"vcores\":") (decimal c.amount-size.result.vcores) _ _ c.in_ok-add_number-2.ensures.added e))))
     ∙ ap (λ size. c.args.text.now.items ++ compact_text (submit_data c.args.queue.now c.args.app.now c.args.user.now None size)) c.amount-size.ensures.value)
-    c.add.ensures
+    c.add.ensures.added

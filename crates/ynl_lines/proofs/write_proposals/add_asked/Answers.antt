@@ -14,4 +14,4 @@ returns-clause-added c =
     (λ e. proposed_asked_added p.app label p.node p.tenant c.amount-size.result c.from.result p.stamp old _ _ _ _ _ _ _ _ _
     c.in_ok-add_name.ensures.added c.in_ok-add_label.ensures.added c.in_ok-add_number.ensures.added c.in_ok-add_name-2.ensures.added c.in_ok-add_number-2.ensures.added c.in_ok-add_number-3.ensures.added c.in_ok-add_name-3.ensures.added c.in_ok-add_number-4.ensures.added e
     ∙ ap₂ (λ size priority. old ++ compact_text (proposed_asked_of p.app label p.node p.tenant size priority p.stamp)) c.amount-size.ensures.value c.from.ensures)
-    c.add.ensures
+    c.add.ensures.added

@@ -12,4 +12,4 @@ returns-clause-added c =
     (λ e. proposed_master_added p.app p.node p.tenant c.amount-size.result p.stamp old _ _ _ _ _ _ _
     c.in_ok-add_name.ensures.added c.in_ok-add_number.ensures.added c.in_ok-add_name-2.ensures.added c.in_ok-add_number-2.ensures.added c.in_ok-add_name-3.ensures.added c.in_ok-add_number-3.ensures.added e
     ∙ ap (λ size. old ++ compact_text (proposed_master_of p.app p.node p.tenant size p.stamp)) c.amount-size.ensures.value)
-    c.add.ensures
+    c.add.ensures.added

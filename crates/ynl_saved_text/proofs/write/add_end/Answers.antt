@@ -9,4 +9,4 @@ unfolding escape_byte
 returns-clause-added c =
     on_ok_weaker c.add.result
     (λ e. join c.args.text.now.items c.add_number.new.text.items (codes "{\"lines\":") (decimal c.args.lines) _ _ c.in_ok-add_number.ensures.added e)
-    c.add.ensures
+    c.add.ensures.added

@@ -17,4 +17,4 @@ returns-clause-added c =
     (join c.add_name.new.text.items c.add_number-2.new.text.items (codes "\",\"stamp\":") (decimal c.args.node.now.stamp) _ _ c.in_ok-add_number-2.ensures.added
     (join c.add_number-2.new.text.items c.add_number-3.new.text.items (codes ",\"state\":\"node\",\"vcores\":") (decimal c.amount-size.result.vcores) _ _ c.in_ok-add_number-3.ensures.added e))))
     ∙ ap (λ size. c.args.text.now.items ++ compact_text (node_data (record c.args.node.now { size = size }))) c.amount-size.ensures.value)
-    c.add.ensures
+    c.add.ensures.added

@@ -11,4 +11,4 @@ returns-clause-added c =
     on_ok_weaker c.add.result
     (λ e. join c.args.text.now.items c.add_number.new.text.items (codes "{\"clock\":") (decimal c.args.clock) _ _ c.in_ok-add_number.ensures.added
     (quote c.add_number.new.text.items c.add_label.new.text.items (codes ",\"label\":\"") (label_text c.args.label.now) _ _ c.in_ok-add_label.ensures.added e))
-    c.add.ensures
+    c.add.ensures.added

@@ -20,4 +20,4 @@ returns-clause-added c =
     (join c.add_name-2.new.text.items c.add_number-4.new.text.items (codes "\",\"vcores\":") (decimal c.amount-size.result.vcores) _ _ c.in_ok-add_number-4.ensures.added e))))))
     ∙ ap (λ size. c.args.text.now.items ++ compact_text (ask_data c.args.tenant.now c.args.app.now (record { label = c.args.ask.now.label; priority = c.from-2.result; count = c.from.result; size = size }))) c.amount-size.ensures.value
     ∙ ap₂ (λ priority count. c.args.text.now.items ++ compact_text (ask_data c.args.tenant.now c.args.app.now (record { label = c.args.ask.now.label; priority = priority; count = count; size = c.args.ask.now.size }))) c.from-2.ensures c.from.ensures)
-    c.add.ensures
+    c.add.ensures.added

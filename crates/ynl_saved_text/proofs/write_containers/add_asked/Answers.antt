@@ -20,4 +20,4 @@ returns-clause-added c =
     (quote c.add_number-2.new.text.items c.add_name-3.new.text.items (codes ",\"state\":\"container\",\"tenant\":\"") c.args.placed.now.tenant _ _ c.in_ok-add_name-3.ensures.added
     (join c.add_name-3.new.text.items c.add_number-3.new.text.items (codes "\",\"vcores\":") (decimal c.amount-size.result.vcores) _ _ c.in_ok-add_number-3.ensures.added e)))))))
     ∙ ap₂ (λ size priority. c.args.text.now.items ++ compact_text (asked_data (record c.args.placed.now { size = size }) c.args.label.now priority)) c.amount-size.ensures.value c.from.ensures)
-    c.add.ensures
+    c.add.ensures.added
