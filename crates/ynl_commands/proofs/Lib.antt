@@ -15,3 +15,4 @@ pub mod Readings
 pub mod Runs
 pub mod Scripts
 pub mod Tellings
+pub mod Sendings

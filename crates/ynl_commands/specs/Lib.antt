@@ -16,3 +16,4 @@ pub mod Telling
 pub mod Clusters
 pub mod Cutting
 pub mod Saving
+pub mod Sending

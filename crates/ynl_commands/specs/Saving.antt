@@ -48,6 +48,12 @@ Saves old new c s script (Ok (Ok summary)) = (summary.lines ≡ (saved c s scrip
 Saves old new c s script (Ok (Err fault)) = IsTooLong old new c s script fault
 Saves old new c s script (Err e) = LeavesFront old new (saved c s script).text e
 
+-- a state was written; or its text would be too long, and nothing is written
+abbrev pub SavesState : Option (List ℕ) → Option (List ℕ) → Config → State → Result (Result (Unit {0}) StateFault) ToolFault → Type 0
+SavesState old new c s (Ok (Ok done)) = Appends old new (state_text c s)
+SavesState old new c s (Ok (Err fault)) = (fault ≡ Size) × (limit < length (state_text c s)) × Appends old new []
+SavesState old new c s (Err e) = LeavesFront old new (state_text c s) e
+
 -- ---- the whole
 
 -- the whole input, where the reader tells its bytes

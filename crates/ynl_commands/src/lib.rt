@@ -25,4 +25,5 @@ pub mod lines_out;
 mod run;
 mod saving;
 mod script_in;
+mod state_out;
 mod tenant;

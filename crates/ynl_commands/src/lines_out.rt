@@ -1,9 +1,10 @@
 //! Text, written by single writes, and lines that are held back until there is much to write.
 
-ghost use Rattle.std.specs.Prelude.{◌≡◌, [], OnOk, OnErr, ◌++◌};
+ghost use Rattle.std.specs.Prelude.{◌≡◌, ◌<◌, [], OnOk, OnErr, ◌++◌, vec_capacity, vec_len};
 ghost use Rattle.std.specs.Io.KnownBytes.{Appends};
 ghost use Rattle.ynl_commands.specs.Lines.{AppendsPart, HoldsBack};
 ghost use Rattle.ynl_commands.specs.Run.{line_of};
+ghost use Rattle.ynl_commands.specs.Running.{held_limit};
 
 use std::alloc::AllocError;
 use std::io::Write;
@@ -62,6 +63,7 @@ pub fn write_held<W: Write>(writer: &mut W, held: &mut Vec<u8>) -> Result<(), Wr
     ensures ok { OnOk result (Appends (W.contents writer.old) (W.contents writer.new) held.old.items) }
     ensures none { OnOk result (held.new.items ≡ []) }
     ensures err { OnErr result (AppendsPart (W.contents writer.old) (W.contents writer.new) held.old.items) }
+    ensures capacity { vec_capacity held.new ≡ vec_capacity held.old }
 {
     write_text(writer, held)?;
     held.clear();
@@ -72,6 +74,8 @@ pub fn write_held<W: Write>(writer: &mut W, held: &mut Vec<u8>) -> Result<(), Wr
 pub fn write_on<W: Write>(writer: &mut W, held: &mut Vec<u8>) -> Result<(), WriteFault>
     ensures ok { OnOk result (HoldsBack (W.contents writer.old) (W.contents writer.new) held.new.items held.old.items) }
     ensures err { OnErr result (AppendsPart (W.contents writer.old) (W.contents writer.new) held.old.items) }
+    ensures short { OnOk result (vec_len held.new < held_limit) }
+    ensures capacity { vec_capacity held.new ≡ vec_capacity held.old }
 {
     if held.len() < HELD {
         return Ok(());

@@ -3,19 +3,38 @@
 ghost use Rattle.std.specs.Prelude.{◌≡◌, ◌≢◌, IfErr};
 ghost use Rattle.ynl_commands.specs.declared.run.ToolFault.TheVariants.{Read};
 ghost use Rattle.ynl_commands.specs.Input.{between};
-ghost use Rattle.ynl_commands.specs.Saving.{Saves, SavesScript, SavesWhole};
+ghost use Rattle.ynl_commands.specs.Saving.{Saves, SavesScript, SavesState, SavesWhole};
 ghost use Rattle.ynl_commands.specs.Script.{script_read};
 
 use crate::clusters::cluster_after;
-use crate::lines_out::write_text;
 use crate::run::{Summary, ToolFault, report};
 use crate::script_in::{Script, read_script};
+use crate::state_out::write_lines;
 use std::alloc::Global;
 use std::io::{BufRead, Write};
 use ynl_core::Core;
 use ynl_lines::InputFault;
-use ynl_save::write_state;
+use ynl_save::measure_state;
 use ynl_saved_text::StateFault;
+
+/// Writes the state of a cluster, where its text is not too long. The state is told twice, line by line: to measure its
+/// text, and to write it. All memory is taken before anything is written.
+fn save_state<W: Write>(
+    alloc: Global,
+    core: &Core,
+    writer: &mut W,
+) -> Result<Result<(), StateFault>, ToolFault>
+    ensures text { SavesState (W.contents writer.old) (W.contents writer.new) core.now.config core.now.state result }
+    ensures fault { IfErr result (λ e. e ≢ Read) }
+{
+    let saving = core.saving()?;
+    let size = match measure_state(alloc, &saving)? {
+        Ok(size) => size,
+        Err(fault) => return Ok(Err(fault)),
+    };
+    write_lines(alloc, &saving, size, writer)?;
+    Ok(Ok(()))
+}
 
 /// Writes what there is of a script.
 fn save<W: Write>(
@@ -32,11 +51,9 @@ fn save<W: Write>(
         return Ok(Ok(summary));
     }
     let core = cluster_after(core, &script.events)?;
-    let text = match write_state(alloc, &core)? {
-        Ok(text) => text,
-        Err(fault) => return Ok(Err(fault)),
-    };
-    write_text(writer, &text)?;
+    if let Err(fault) = save_state(alloc, &core, writer)? {
+        return Ok(Err(fault));
+    }
     Ok(Ok(Summary {
         lines: script.lines,
         fault: None,
@@ -44,8 +61,9 @@ fn save<W: Write>(
 }
 
 /// Reads the script, and only then writes the state of the cluster after its events, from the state that it is
-/// in, as `write_state` does. Of a script with a fault nothing is told but that fault, in one line. Where the
-/// state's text would be too long nothing is written, and the fault is `Size`.
+/// in: the text that `write_state` of `ynl_save` gives. Of a script with a fault nothing is told but that fault, in one
+/// line. Where the state's text would be too long nothing is written, and the fault is `Size`. Of the text at most some
+/// 65,536 bytes and twice the longest line are held.
 ///
 /// After a read fault nothing is written, nor where memory was refused; after a write fault a front of
 /// the text.
