@@ -1,13 +1,18 @@
-//! A scheduler that is opened, called and closed, a round and a list of events that are run, at the second try.
+//! A scheduler that is opened, or goes on from a cluster, is called and closed, a round and a list of events that are run, at
+//! the second try.
 
-use crate::events::{closed_len, one, opened, poll, tried, worked};
+ghost use Rattle.std.specs.Prelude.{IfOk, IsTrue};
+ghost use Rattle.ynl_model.specs.Accepted.{is_accepted};
+
+use crate::events::{closed_len, one, opened, poll, register, tried, worked};
 use crate::workers::{Started, gathered, open, play_script, run, script, turns};
 use std::alloc::Global;
 use std::process::Abort;
 use std::sync::Wait;
 use std::test::Fail;
 use std::thread::Threads;
-use ynl_core::{Answer, run as run_events};
+use ynl_config::{BUILT_IN, read_config};
+use ynl_core::{Answer, Core, run as run_events};
 use ynl_live::{CallFault, Cause, Live, Receipt, Seat, Unclosed};
 use ynl_model::{Event, Reply};
 use ynl_workers::{End, Unrun, WorkerEnd, run_round};
@@ -108,6 +113,41 @@ fn is_called_at_the_second_try(rt: HostRuntime) -> Result<(), Fail> {
     call_script(&rt, &live, &mut seat, &mut receipts)?;
     let len = closed_alone_again(&rt, alloc, live, seat, receipts)?;
     assert_eq!(rt; len, Some(5));
+    Ok(())
+}
+
+/// A cluster with a node, under a configuration that is accepted, as each is that is read.
+fn with_node(alloc: Global) -> Result<Core, Fail>
+    ensures { IfOk result (λ core. IsTrue (is_accepted core.config)) }
+{
+    let Ok(config) = read_config(alloc, BUILT_IN.as_bytes())? else {
+        return Err(Fail::new("no configuration"));
+    };
+    let mut core = Core::open(alloc, config)?;
+    let _joined = core.apply(register().ok_or("no event")?)?;
+    Ok(core)
+}
+
+/// A scheduler that goes on from there.
+fn resumed_again<R: Print>(rt: &R, alloc: Global) -> Result<(Live, Seat), Fail> {
+    match Live::resume(alloc, with_node(alloc)?) {
+        Ok(resumed) => Ok(resumed),
+        Err(_) => {
+            println!(rt; "refused")?;
+            Ok(Live::resume(alloc, with_node(alloc)?)?)
+        }
+    }
+}
+
+/// Its node cannot join once more, and its journal has that alone.
+#[test]
+fn goes_on_at_the_second_try(rt: HostRuntime) -> Result<(), Fail> {
+    let alloc = rt.alloc();
+    let (live, mut seat) = resumed_again(&rt, alloc)?;
+    let receipt = called_again(&rt, &live, &mut seat, &register().ok_or("no event")?)?;
+    assert!(rt; matches!(&receipt.reply, Reply::Refused(_)));
+    let len = closed_alone_again(&rt, alloc, live, seat, one(alloc, receipt)?)?;
+    assert_eq!(rt; len, Some(1));
     Ok(())
 }
 

@@ -1,12 +1,15 @@
-//! A book that is entered at the second try, its audit and its replay.
+//! A book that is entered, or goes on from a cluster, at the second try, its audit and its replay.
+
+ghost use Rattle.std.specs.Prelude.{IfOk, IsTrue};
+ghost use Rattle.ynl_model.specs.Accepted.{is_accepted};
 
 use std::alloc::Global;
 use std::process::Abort;
 use std::test::Fail;
-use ynl_config::built_in;
+use ynl_config::{BUILT_IN, built_in, read_config};
 use ynl_core::{Core, NoMemory, Sighted};
 use ynl_journal::{AuditFault, Book, Entry, audit, replay};
-use ynl_model::Event;
+use ynl_model::{Event, Reply};
 use ynl_resource::{Label, Name, Refusal, Size};
 
 /// A node joins, and joins again, which is refused; then it is ready for more.
@@ -163,4 +166,41 @@ fn enters_at_the_second_try(rt: HostRuntime) -> Result<(), Fail> {
     let alloc = rt.alloc();
     let mut book = Book::open(alloc, built_in(alloc)?)?;
     enters(&rt, alloc, &mut book)
+}
+
+/// A cluster with a node, under a configuration that is accepted, as each is that is read.
+fn with_node(alloc: Global) -> Result<Core, Fail>
+    ensures { IfOk result (λ core. IsTrue (is_accepted core.config)) }
+{
+    let Ok(config) = read_config(alloc, BUILT_IN.as_bytes())? else {
+        return Err(Fail::new("no configuration"));
+    };
+    let mut core = Core::open(alloc, config)?;
+    let _joined = core.apply(event(0)?)?;
+    Ok(core)
+}
+
+/// A book that goes on from there; where memory is refused, which a line tells, at the second try.
+fn resumed<R: Print>(rt: &R, alloc: Global) -> Result<Book, Fail> {
+    match Book::resume(alloc, with_node(alloc)?) {
+        Ok(book) => Ok(book),
+        Err(NoMemory) => {
+            println!(rt; "refused")?;
+            Ok(Book::resume(alloc, with_node(alloc)?)?)
+        }
+    }
+}
+
+/// Whether the node of the first event cannot join: it is there already.
+fn is_there(book: &mut Book) -> Result<bool, Fail> {
+    let (place, reply) = book.enter(event(0)?)?;
+    Ok(place == 0 && matches!(&reply, Reply::Refused(Refusal::NodeExists)))
+}
+
+#[test]
+fn goes_on_at_the_second_try(rt: HostRuntime) -> Result<(), Fail> {
+    let alloc = rt.alloc();
+    let mut book = resumed(&rt, alloc)?;
+    assert!(rt; is_there(&mut book)?);
+    Ok(())
 }
