@@ -1,23 +1,21 @@
 //! Explaining why an application waits, after a script.
 
-ghost use Rattle.std.specs.Prelude.{◌≡◌, ◌≢◌, IfOk, IfErr};
+ghost use Rattle.std.specs.Prelude.{◌≡◌, ◌≢◌, IfOk, IfErr, []};
 ghost use Rattle.ynl_commands.specs.declared.run.ToolFault.TheVariants.{Read};
+ghost use Rattle.ynl_commands.specs.Clusters.{rest_of};
 ghost use Rattle.ynl_commands.specs.Explaining.{answer, explanation, waits_text, Explains, ExplainsWhole};
 ghost use Rattle.ynl_commands.specs.Input.{between};
 ghost use Rattle.ynl_commands.specs.Running.{Writes};
-ghost use Rattle.ynl_commands.specs.Script.{script_read};
 
-use crate::clusters::cluster_after;
+use crate::clusters::{AppliedScript, apply_script};
 use crate::lines_out::write_text;
 use crate::run::{Summary, ToolFault, report};
-use crate::script_in::{Script, read_script};
 use std::alloc::{AllocError, Global};
 use std::io::{BufRead, Write};
 use ynl_check::Form;
 use ynl_core::{Core, NoMemory};
 use ynl_explain::{plain_text, told_text};
 use ynl_lines::InputFault;
-use ynl_packed::Events;
 use ynl_waits::Explained;
 use ynl_words::Question;
 
@@ -32,35 +30,28 @@ fn answer(alloc: Global, question: &Question, explained: &Explained) -> Result<V
     }
 }
 
-/// The text of why the application waits after the events.
-fn waits_text(
-    alloc: Global,
-    core: Core,
-    question: &Question,
-    events: &Events,
-) -> Result<Vec<u8>, NoMemory>
-    ensures { IfOk result (λ text. text.items ≡ waits_text core.config core.state question.now events.now) }
+/// The text of why the application waits.
+fn waits_text(alloc: Global, core: &Core, question: &Question) -> Result<Vec<u8>, NoMemory>
+    ensures { IfOk result (λ text. text.items ≡ waits_text core.now.config core.now.state question.now []) }
 {
-    let core = cluster_after(core, events)?;
     let explained = core.explain(&question.tenant, &question.app)?;
     Ok(answer(alloc, question, &explained)?)
 }
 
-/// Writes what is told of a script.
+/// Writes what is told of a script: why the application waits in the cluster that it left, or its fault.
 fn tell<W: Write>(
     alloc: Global,
-    core: Core,
     question: &Question,
-    script: &Script,
+    script: &AppliedScript,
     writer: &mut W,
 ) -> Result<Summary, ToolFault>
-    ensures text { Writes (W.contents writer.old) (W.contents writer.new) (explanation core.config core.state question.now (script_read script.now)) result }
+    ensures text { Writes (W.contents writer.old) (W.contents writer.new) (explanation script.now.core.config script.now.core.state question.now (rest_of script.now)) result }
     ensures fault { IfErr result (λ e. e ≢ Read) }
 {
     if let Some(fault) = script.fault {
         return report(alloc, writer, InputFault::Script(fault), script.lines);
     }
-    let text = waits_text(alloc, core, question, &script.events)?;
+    let text = waits_text(alloc, &script.core, question)?;
     write_text(writer, &text)?;
     Ok(Summary {
         lines: script.lines,
@@ -68,7 +59,7 @@ fn tell<W: Write>(
     })
 }
 
-/// Reads the script, and only then writes why the requests of the tenant's application wait after its
+/// Reads the script and applies each event as it is read, and only then writes why the requests of the tenant's application wait after its
 /// events, from the state that the cluster is in: a line for each request, or the reply of a refusal
 /// where there is no such application; or the same in sentences. Of a script with a fault nothing is told
 /// but that fault, in one line.
@@ -85,6 +76,6 @@ pub fn explain_lines<R: BufRead, W: Write>(
     ensures whole { ExplainsWhole (between (R.remaining reader.old) (R.remaining reader.new)) (between (W.contents writer.old) (W.contents writer.new)) core.config core.state question.now result }
     ensures steps { Explains (between (R.remaining reader.old) (R.remaining reader.new)) (between (W.contents writer.old) (W.contents writer.new)) core.config core.state question.now result }
 {
-    let script = read_script(alloc, reader)?;
-    tell(alloc, core, question, &script, writer)
+    let script = apply_script(alloc, core, reader)?;
+    tell(alloc, question, &script, writer)
 }

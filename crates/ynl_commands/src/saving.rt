@@ -2,13 +2,12 @@
 
 ghost use Rattle.std.specs.Prelude.{◌≡◌, ◌≢◌, IfErr};
 ghost use Rattle.ynl_commands.specs.declared.run.ToolFault.TheVariants.{Read};
+ghost use Rattle.ynl_commands.specs.Clusters.{rest_of};
 ghost use Rattle.ynl_commands.specs.Input.{between};
 ghost use Rattle.ynl_commands.specs.Saving.{Saves, SavesScript, SavesState, SavesWhole};
-ghost use Rattle.ynl_commands.specs.Script.{script_read};
 
-use crate::clusters::cluster_after;
+use crate::clusters::{AppliedScript, apply_script};
 use crate::run::{Summary, ToolFault, report};
-use crate::script_in::{Script, read_script};
 use crate::state_out::write_lines;
 use std::alloc::Global;
 use std::io::{BufRead, Write};
@@ -36,22 +35,20 @@ fn save_state<W: Write>(
     Ok(Ok(()))
 }
 
-/// Writes what there is of a script.
+/// Writes what there is of a script: the state that it left, or its fault.
 fn save<W: Write>(
     alloc: Global,
-    core: Core,
-    script: &Script,
+    script: &AppliedScript,
     writer: &mut W,
 ) -> Result<Result<Summary, StateFault>, ToolFault>
-    ensures text { Saves (W.contents writer.old) (W.contents writer.new) core.config core.state (script_read script.now) result }
+    ensures text { Saves (W.contents writer.old) (W.contents writer.new) script.now.core.config script.now.core.state (rest_of script.now) result }
     ensures fault { IfErr result (λ e. e ≢ Read) }
 {
     if let Some(fault) = script.fault {
         let summary = report(alloc, writer, InputFault::Script(fault), script.lines)?;
         return Ok(Ok(summary));
     }
-    let core = cluster_after(core, &script.events)?;
-    if let Err(fault) = save_state(alloc, &core, writer)? {
+    if let Err(fault) = save_state(alloc, &script.core, writer)? {
         return Ok(Err(fault));
     }
     Ok(Ok(Summary {
@@ -60,8 +57,8 @@ fn save<W: Write>(
     }))
 }
 
-/// Reads the script, and only then writes the state of the cluster after its events, from the state that it is
-/// in: the text that `write_state` of `ynl_save` gives. Of a script with a fault nothing is told but that fault, in one
+/// Reads the script and applies each event as it is read, and only then writes the state of the cluster, from the
+/// state that it is in: the text that `write_state` of `ynl_save` gives. Of a script with a fault nothing is told but that fault, in one
 /// line. Where the state's text would be too long nothing is written, and the fault is `Size`. Of the text at most some
 /// 65,536 bytes and twice the longest line are held.
 ///
@@ -76,6 +73,6 @@ pub fn save_lines<R: BufRead, W: Write>(
     ensures whole { SavesWhole (between (R.remaining reader.old) (R.remaining reader.new)) (between (W.contents writer.old) (W.contents writer.new)) core.config core.state result }
     ensures steps { SavesScript (between (R.remaining reader.old) (R.remaining reader.new)) (between (W.contents writer.old) (W.contents writer.new)) core.config core.state result }
 {
-    let script = read_script(alloc, reader)?;
-    save(alloc, core, &script, writer)
+    let script = apply_script(alloc, core, reader)?;
+    save(alloc, &script, writer)
 }
