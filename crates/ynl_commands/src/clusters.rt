@@ -20,17 +20,6 @@ pub struct AppliedScript {
     pub fault: Option<LineFault>,
 }
 
-impl From<NoMemory> for ReadFault {
-    ghost use Rattle.std.specs.Prelude.{◌≡◌};
-    ghost use Rattle.ynl_commands.specs.declared.lines_in.ReadFault.TheVariants as fault;
-
-    ghost from_gives = { λ _ e. e ≡ fault.NoMemory };
-
-    fn from(_error: NoMemory) -> ReadFault {
-        ReadFault::NoMemory
-    }
-}
-
 /// Applies what a line says to the cluster, or gives the line's fault.
 fn apply_line(
     alloc: Global,

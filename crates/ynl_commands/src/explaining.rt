@@ -59,10 +59,9 @@ fn tell<W: Write>(
     })
 }
 
-/// Reads the script and applies each event as it is read, and only then writes why the requests of the tenant's application wait after its
-/// events, from the state that the cluster is in: a line for each request, or the reply of a refusal
-/// where there is no such application; or the same in sentences. Of a script with a fault nothing is told
-/// but that fault, in one line.
+/// Reads the script, and applies each event as it is read, from the state that the cluster is in. Only then it writes
+/// why the requests of the tenant's application wait: a line for each request, or the reply of a refusal where there is
+/// no such application; or the same in sentences. Of a script with a fault nothing is told but that fault, in one line.
 ///
 /// After a read fault nothing is written, nor where memory was refused; after a write fault a front of
 /// the text.

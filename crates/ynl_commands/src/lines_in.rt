@@ -10,6 +10,7 @@ use std::alloc::{AllocError, Global};
 use std::io;
 use std::io::{BufRead, ErrorKind};
 use thiserror::Error;
+use ynl_core::NoMemory;
 
 /// The byte that ends a line.
 const NEWLINE: u8 = 10;
@@ -28,13 +29,13 @@ pub enum LineEnd {
     Budget,
 }
 
-/// Why a line could not be read.
+/// Why a line could not be read, or what it says not be kept or applied.
 #[derive(Clone, Copy, Debug, PartialEq, Eq, Error)]
 pub enum ReadFault {
     /// The reader failed.
     #[error("read fault")]
     Read,
-    /// There was no memory for the line.
+    /// There was no memory for the line, or for what it says.
     #[error("out of memory")]
     NoMemory,
 }
@@ -46,6 +47,17 @@ impl From<AllocError> for ReadFault {
     ghost from_gives = { λ _ e. e ≡ NoMemory };
 
     fn from(_e: AllocError) -> ReadFault {
+        ReadFault::NoMemory
+    }
+}
+
+impl From<NoMemory> for ReadFault {
+    ghost use Rattle.std.specs.Prelude.{◌≡◌};
+    ghost use Rattle.ynl_commands.specs.declared.lines_in.ReadFault.TheVariants as fault;
+
+    ghost from_gives = { λ _ e. e ≡ fault.NoMemory };
+
+    fn from(_e: NoMemory) -> ReadFault {
         ReadFault::NoMemory
     }
 }

@@ -57,10 +57,10 @@ fn save<W: Write>(
     }))
 }
 
-/// Reads the script and applies each event as it is read, and only then writes the state of the cluster, from the
-/// state that it is in: the text that `write_state` of `ynl_save` gives. Of a script with a fault nothing is told but that fault, in one
-/// line. Where the state's text would be too long nothing is written, and the fault is `Size`. Of the text at most some
-/// 65,536 bytes and twice the longest line are held.
+/// Reads the script, and applies each event as it is read, from the state that the cluster is in. Only then it writes
+/// the state after them: the text that `write_state` of `ynl_save` gives. Of a script with a fault nothing is told but
+/// that fault, in one line. Where the state's text would be too long nothing is written, and the fault is `Size`. Of
+/// the text at most some 65,536 bytes and twice the longest line are held, and of the script one line.
 ///
 /// After a read fault nothing is written, nor where memory was refused; after a write fault a front of
 /// the text.
