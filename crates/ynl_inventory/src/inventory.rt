@@ -78,15 +78,16 @@ impl Inventory {
         ensures state { IfOk result (λ inventory. IsOpening config.now inventory.rows) }
     {
         let draft = config.draft();
+        let seed = config.seed();
         let partitions = partitions_of(alloc, draft.labels())?;
-        let tenants = no_submissions(alloc, draft.queues().len() + 1, config.seed())?;
+        let tenants = no_submissions(alloc, draft.queues().len() + 1, seed)?;
         let layout = Layout::new(alloc, config)?;
         // Opens the layout, whose paths are a tree.
         let _ = layout.len();
         Ok(Inventory {
             layout,
             partitions,
-            nodes: Nodes::new(alloc),
+            nodes: Nodes::new(alloc, seed),
             apps: Apps::new(alloc),
             tenants,
             users: Users::new(alloc),

@@ -1,14 +1,15 @@
 -- Names as numbers: no two have one, so the maps have of each name what they should.
-use Rattle.std.proofs.Common.{◌≡◌, ℕ, zero, suc, ◌+◌, ◌*◌, ◌<◌, ◌≤◌, ◌^◌, Bool, true, false, cond, List, [], ◌∷◌, length, get_or, nat_le, Option, refl, sym, ap, ◌∙◌, ⊎_elim, Result, Ok, Err, OnErr, arith, ext_get_or, nat_cmp}
+use Rattle.std.proofs.Common.{◌≡◌, ℕ, zero, suc, ◌+◌, ◌*◌, ◌<◌, ◌≤◌, ◌^◌, Bool, true, false, cond, List, [], ◌∷◌, length, get_or, nat_le, Option, refl, sym, ap, ◌∙◌, ⊎_elim, Result, Ok, Err, OnErr, arith, ext_get_or, nat_eq}
 use Rattle.std.proofs.lemmas.Bool.{and_parts, cases_eq, eq-eqb, eqb-true}
 use Rattle.std.proofs.lemmas.Bool.Decides.{nat_tests}
 use Rattle.std.specs.BTreeMap.{BTreeMap, get, is_at}
+use Rattle.std.specs.HashMap.{HashMap, get as hashed}
 use Rattle.std.specs.Bool.{one_answer}
-use Rattle.std.specs.Cmp.{unsigned_ties}
 use Rattle.std.proofs.Math.Nat.{pow-le-pow_right}
 use Rattle.std.specs.Cmp.Lexicographic.{bytes_decides}
 use Rattle.std.specs.List.{list_all}
 use Rattle.ynl_resource.specs.declared.names.Name.{Name}
+use Rattle.ynl_resource.specs.declared.seeds.HashSeed.{HashSeed}
 use Rattle.ynl_resource.specs.NameText.{is_name, is_name_byte}
 use Rattle.ynl_resource.specs.Names.{same_name, name_order}
 use Rattle.ynl_node_table.specs.declared.numbers.Numbers.{Numbers}
@@ -55,10 +56,10 @@ same_code xs ys a b e =
     ext_get_or 0 xs ys told.0 told.1
 
 -- two short names have one number where they are the same
-at_code : (xs ys : Name) → is_name xs ≡ true → is_name ys ≡ true → is_at (nat_cmp (code_of xs (length xs))) (code_of ys (length ys)) ≡ same_name xs ys
+at_code : (xs ys : Name) → is_name xs ≡ true → is_name ys ≡ true → nat_eq (code_of xs (length xs)) (code_of ys (length ys)) ≡ same_name xs ys
 at_code xs ys a b =
-    one_answer (is_at (nat_cmp (code_of xs (length xs))) (code_of ys (length ys))) (same_name xs ys)
-    ((λ e. same_code xs ys a b (eqb-true (code_of xs (length xs)) (code_of ys (length ys)) (unsigned_ties (code_of xs (length xs)) (code_of ys (length ys)) ∙ e))), (λ same. sym (unsigned_ties (code_of xs (length xs)) (code_of ys (length ys))) ∙ eq-eqb (code_of xs (length xs)) (code_of ys (length ys)) (ap (λ (zs : List ℕ). code_of zs (length zs)) same)))
+    one_answer (nat_eq (code_of xs (length xs)) (code_of ys (length ys))) (same_name xs ys)
+    ((λ e. same_code xs ys a b (eqb-true (code_of xs (length xs)) (code_of ys (length ys)) e)), (λ same. eq-eqb (code_of xs (length xs)) (code_of ys (length ys)) (ap (λ (zs : List ℕ). code_of zs (length zs)) same)))
     (bytes_decides xs ys)
 
 -- names of which only one is short differ
@@ -72,14 +73,14 @@ is_long : (xs ys : List ℕ) → xs ≡ ys → 16 < length xs → nat_le (length
 is_long xs ys same small = let long = ap (λ (zs : List ℕ). length zs) same in grind (arith, nat_tests)
 
 -- a short name is looked for by its number
-pub short_is : (numbers : Numbers) (name : Name) (bytes : List ℕ) (code : ℕ) → bytes ≡ name → length bytes ≤ 16 → code ≡ code_of bytes (length bytes) → get nat_cmp numbers.short code ≡ number_in numbers name
+pub short_is : (numbers : Numbers) (name : Name) (bytes : List ℕ) (code : ℕ) → bytes ≡ name → length bytes ≤ 16 → code ≡ code_of bytes (length bytes) → hashed nat_eq numbers.short code ≡ number_in numbers name
 short_is numbers name bytes code same small is =
-    ap (get nat_cmp numbers.short) (is ∙ ap (λ (xs : List ℕ). code_of xs (length xs)) same)
-    ∙ ap (λ (b : Bool). cond b (get nat_cmp numbers.short (code_of name (length name))) (get name_order numbers.long name)) (sym (is_short bytes name same small))
+    ap (hashed nat_eq numbers.short) (is ∙ ap (λ (xs : List ℕ). code_of xs (length xs)) same)
+    ∙ ap (λ (b : Bool). cond b (hashed nat_eq numbers.short (code_of name (length name))) (get name_order numbers.long name)) (sym (is_short bytes name same small))
 
 -- what a short name comes to, in the map of short names, it comes to in both
-pub short_set : (numbers : Numbers) (short : BTreeMap ℕ ℕ) (name : Name) (bytes : List ℕ) (code : ℕ) (set : Option ℕ) → bytes ≡ name → length bytes ≤ 16 → code ≡ code_of bytes (length bytes) → is_name name ≡ true
-    → ((q : ℕ) → get nat_cmp short q ≡ cond (is_at (nat_cmp code) q) set (get nat_cmp numbers.short q))
+pub short_set : (numbers : Numbers) (short : HashMap ℕ ℕ HashSeed) (name : Name) (bytes : List ℕ) (code : ℕ) (set : Option ℕ) → bytes ≡ name → length bytes ≤ 16 → code ≡ code_of bytes (length bytes) → is_name name ≡ true
+    → ((q : ℕ) → hashed nat_eq short q ≡ cond (nat_eq code q) set (hashed nat_eq numbers.short q))
     → (other : Name) → is_name other ≡ true → number_in (record { short = short; long = numbers.long }) other ≡ cond (same_name name other) set (number_in numbers other)
 short_set numbers short name bytes code set same small is named sets other named_too = go (nat_le (length other) 16) refl
   where
@@ -87,10 +88,10 @@ short_set numbers short name bytes code set same small is named sets other named
     digits = is ∙ ap (λ (xs : List ℕ). code_of xs (length xs)) same
 
     go : (b : Bool) → nat_le (length other) 16 ≡ b
-        → cond b (get nat_cmp short (code_of other (length other))) (get name_order numbers.long other) ≡ cond (same_name name other) set (cond b (get nat_cmp numbers.short (code_of other (length other))) (get name_order numbers.long other))
+        → cond b (hashed nat_eq short (code_of other (length other))) (get name_order numbers.long other) ≡ cond (same_name name other) set (cond b (hashed nat_eq numbers.short (code_of other (length other))) (get name_order numbers.long other))
     go true q =
-        sets (code_of other (length other)) ∙ ap (λ (c : ℕ). cond (is_at (nat_cmp c) (code_of other (length other))) set (get nat_cmp numbers.short (code_of other (length other)))) digits
-        ∙ ap (λ (b : Bool). cond b set (get nat_cmp numbers.short (code_of other (length other)))) (at_code name other named named_too)
+        sets (code_of other (length other)) ∙ ap (λ (c : ℕ). cond (nat_eq c (code_of other (length other))) set (hashed nat_eq numbers.short (code_of other (length other)))) digits
+        ∙ ap (λ (b : Bool). cond b set (hashed nat_eq numbers.short (code_of other (length other)))) (at_code name other named named_too)
     go false q = sym (ap (λ (b : Bool). cond b set (get name_order numbers.long other)) (lengths_differ name other (is_short bytes name same small) q))
 
 -- and a longer one in the map of longer names
@@ -100,8 +101,8 @@ pub long_set : (numbers : Numbers) (long : BTreeMap Name ℕ) (name : Name) (byt
 long_set numbers long name bytes set same large sets other = go (nat_le (length other) 16) refl
   where
     go : (b : Bool) → nat_le (length other) 16 ≡ b
-        → cond b (get nat_cmp numbers.short (code_of other (length other))) (get name_order long other) ≡ cond (same_name name other) set (cond b (get nat_cmp numbers.short (code_of other (length other))) (get name_order numbers.long other))
-    go true q = sym (ap (λ (b : Bool). cond b set (get nat_cmp numbers.short (code_of other (length other)))) (other_name name other (λ e. let apart = lengths_differ other name q (is_long bytes name same large) in absurd (cc (apart, e, self_same other)))))
+        → cond b (hashed nat_eq numbers.short (code_of other (length other))) (get name_order long other) ≡ cond (same_name name other) set (cond b (hashed nat_eq numbers.short (code_of other (length other))) (get name_order numbers.long other))
+    go true q = sym (ap (λ (b : Bool). cond b set (hashed nat_eq numbers.short (code_of other (length other)))) (other_name name other (λ e. let apart = lengths_differ other name q (is_long bytes name same large) in absurd (cc (apart, e, self_same other)))))
     go false q = sets other ∙ ap (λ (b : Bool). cond b set (get name_order numbers.long other)) (at_same name other)
 
 -- what holds anyway

@@ -10,7 +10,7 @@ use crate::numbers::Numbers;
 use std::alloc::{AllocError, Global};
 use std::marker::Model;
 use std::ops::Index;
-use ynl_resource::{Name, Resource, Size};
+use ynl_resource::{HashSeed, Name, Resource, Size};
 use ynl_slots::{Chain, Slots};
 
 /// A node. Its partition is given by its number, as that of a container's request is.
@@ -52,14 +52,14 @@ impl Model for Nodes {
 }
 
 impl Nodes {
-    /// No nodes. It takes no memory.
-    pub fn new(alloc: Global) -> Nodes
+    /// No nodes, whose names are hashed with this seed. It takes no memory.
+    pub fn new(alloc: Global, seed: HashSeed) -> Nodes
         ensures entries { result.entries ≡ [] }
         ensures ready { result.ready ≡ false }
     {
         Nodes {
             rows: Slots::new(alloc),
-            numbers: Numbers::new(alloc),
+            numbers: Numbers::new(alloc, seed),
             ready: false,
         }
     }

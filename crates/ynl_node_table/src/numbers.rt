@@ -7,17 +7,17 @@ ghost use Rattle.ynl_resource.specs.Names.{same_name};
 ghost use Rattle.ynl_node_table.specs.Numbers.{code_of, number_in};
 
 use std::alloc::{AllocError, Global};
-use std::collections::BTreeMap;
-use ynl_resource::Name;
+use std::collections::{BTreeMap, HashMap};
+use ynl_resource::{HashSeed, Name};
 
 /// The most bytes of a name that is short: so many bytes are one `u128`.
 const SHORT: usize = 16;
 
-/// Numbers under names. A name takes 65 bytes, and most are far shorter: so a short one stands here as one number, of which
-/// a few lines of the cache hold many, and only a longer one in full. Names are chosen by strangers, so none is hashed.
+/// Numbers under names. A name takes 65 bytes, and most are far shorter: so a short one stands here as one number, which is
+/// hashed with the run's own keys, since strangers choose names; and only a longer one in full.
 #[derive(Drop)]
 pub(crate) struct Numbers {
-    short: BTreeMap<u128, u32>,
+    short: HashMap<u128, u32, HashSeed>,
     long: BTreeMap<Name, u32>,
 }
 
@@ -35,12 +35,12 @@ fn code(bytes: &[u8]) -> u128
 }
 
 impl Numbers {
-    /// No names.
-    pub(crate) fn new(alloc: Global) -> Numbers
+    /// No names, of which the short ones are hashed with this seed.
+    pub(crate) fn new(alloc: Global, seed: HashSeed) -> Numbers
         ensures { (name : NodeName) → number_in result name ≡ None }
     {
         Numbers {
-            short: BTreeMap::new(alloc),
+            short: HashMap::with_hasher(alloc, seed),
             long: BTreeMap::new(alloc),
         }
     }
