@@ -21,13 +21,8 @@ pub struct Choice {
     pub proposal: Option<Proposal>,
 }
 
-/// What a choice is found by.
-#[derive(Clone, Copy, PartialEq, Eq, PartialOrd, Ord)]
-struct Room {
-    memory: u64,
-    vcores: u64,
-    label: Label,
-}
+/// What a choice is found by: the memory and the virtual cores that are free, and the partition.
+type Room = (u64, u64, Label);
 
 /// The choices that are known. Where a row stands is a hint: what it leads to is compared before it is used.
 #[derive(Drop)]
@@ -37,11 +32,7 @@ pub struct Choices {
 }
 
 fn room_of(spot: &Spot) -> Room {
-    Room {
-        memory: spot.free.memory,
-        vcores: spot.free.vcores,
-        label: spot.node.label,
-    }
+    (spot.free.memory, spot.free.vcores, spot.node.label)
 }
 
 /// A proposal for another node, with that node's stamp.
@@ -80,22 +71,16 @@ impl Choices {
         }
     }
 
-    /// The row for a node, where it is known.
-    fn row_for(&self, spot: &Spot) -> Option<&Choice>
-        ensures { (c : Config) (s : State) → AreChoices c s self.now → IsSpot s spot.now → IfSome result (λ row. moved spot.now.node row.now.proposal ≡ proposed c s spot.now.node) }
-    {
-        let place = *self.places.get(&room_of(spot))?;
-        let row = self.rows.get(place)?;
-        if is_for(row, spot) { Some(row) } else { None }
-    }
-
     /// The choice on a node, where it is known; it may be that there is none.
     pub fn known_on(&self, spot: &Spot) -> Option<Option<Proposal>>
         ensures { (c : Config) (s : State) → AreChoices c s self.now → IsSpot s spot.now → IfSome result (λ known. known ≡ proposed c s spot.now.node) }
     {
-        match self.row_for(spot) {
-            Some(row) => Some(moved(&spot.node, &row.proposal)),
-            None => None,
+        let place = *self.places.get(&room_of(spot))?;
+        let row = self.rows.get(place)?;
+        if is_for(row, spot) {
+            Some(moved(&spot.node, &row.proposal))
+        } else {
+            None
         }
     }
 

@@ -76,7 +76,12 @@ pub fn add_open_spots(
 pub(crate) fn fits_any(size: &Resource, spots: &[Spot]) -> bool
     ensures { result ≡ fits_any size.now spots.now }
 {
-    spots.iter().any(|spot| size.fits_in(spot.free))
+    for spot in spots {
+        if size.fits_in(spot.free) {
+            return true;
+        }
+    }
+    false
 }
 
 fn greater_of(a: &Resource, b: &Resource) -> Resource

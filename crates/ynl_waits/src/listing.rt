@@ -96,19 +96,6 @@ pub fn add_where(
     add_clocks(told, guests)
 }
 
-fn add_guest_rooms(
-    told: &mut Vec<Reason>,
-    size: &Resource,
-    grounds: &[Ground],
-) -> Result<(), AllocError>
-    ensures { OnOk result (told.new.items ≡ told.old.items ++ flat_map (room_told size.now) grounds.now) }
-{
-    for ground in grounds {
-        add_room(told, size, ground)?;
-    }
-    Ok(())
-}
-
 /// Adds the partitions where a size fits on no node.
 pub fn add_rooms(
     told: &mut Vec<Reason>,
@@ -119,5 +106,8 @@ pub fn add_rooms(
     ensures { OnOk result (told.new.items ≡ told.old.items ++ flat_map (room_told size.now) (own.now ∷ guests.now)) }
 {
     add_room(told, size, own)?;
-    add_guest_rooms(told, size, guests)
+    for ground in guests {
+        add_room(told, size, ground)?;
+    }
+    Ok(())
 }
