@@ -11,7 +11,7 @@ ghost use Rattle.ynl_model.specs.declared.proposals.What.TheVariants.{Ask};
 ghost use Rattle.ynl_reasons.specs.Facts.{ask_wait, asks_waiting, found_of, masters_waiting, IsApplicant, IsAsking, IsFound};
 
 use crate::facts::{Facts, Found};
-use crate::grounds::{ground_of, guests_of};
+use crate::grounds::grounds_of;
 use crate::telling::{Asked, reasons_of};
 use std::alloc::{AllocError, Global};
 use ynl_model::{Items, Pending, What};
@@ -78,13 +78,12 @@ fn add_master<F: Facts>(
         size: found.master,
         count: 1,
     };
-    let own = ground_of(alloc, facts, query.spots, &found.home)?;
-    let guests = guests_of(alloc, facts, query.spots, &What::Master)?;
+    let grounds = grounds_of(alloc, facts, query.spots, &found.home, &What::Master)?;
     let asked = Asked {
         app: &found.applicant,
         request: &request,
-        own: &own,
-        guests: &guests,
+        own: &grounds.own,
+        guests: &grounds.guests,
     };
     add_wait(alloc, facts, known, &asked, waits)
 }
@@ -151,13 +150,12 @@ fn add_label<F: Facts>(
     if asks.is_empty() {
         return Ok(());
     }
-    let own = ground_of(alloc, facts, query.spots, label)?;
-    let guests = guests_of(alloc, facts, query.spots, &What::Ask(*label, 0))?;
+    let grounds = grounds_of(alloc, facts, query.spots, label, &What::Ask(*label, 0))?;
     let under = Under {
         label,
         asks: &asks,
-        own: &own,
-        guests: &guests,
+        own: &grounds.own,
+        guests: &grounds.guests,
     };
     add_asks(facts, known, query, &under, waits)
 }
@@ -194,8 +192,6 @@ fn waits_of<F: Facts>(
     requires { IsFound (F.state facts.now) tenant.now name.now found.now }
     ensures { IfOk result (λ waits. (live : Application) → find_app (F.state facts.now).leaves tenant.now name.now ≡ Some live → found.now ≡ found_of (F.state facts.now) live → waits.items ≡ map (wait (F.config facts.now) (F.state facts.now) (applicant (F.state facts.now) live)) (requests (F.config facts.now) (F.state facts.now) live)) }
 {
-    let mut known = Choices::new(alloc);
-    let mut waits = Vec::new(alloc);
     let spots = facts.spots(alloc)?;
     let labels = facts.labels(alloc)?;
     let query = Query {
@@ -205,6 +201,8 @@ fn waits_of<F: Facts>(
         app: &found.applicant,
         spots: &spots,
     };
+    let mut known = Choices::new(alloc);
+    let mut waits = Vec::new(alloc);
     add_master(facts, &mut known, &query, found, &mut waits)?;
     add_labels(facts, &mut known, &query, &labels, &mut waits)?;
     Ok(waits)

@@ -13,7 +13,7 @@ use ynl_waits::{Ground, Spot, has_nodes, spots_on};
 
 /// A partition, with those of all nodes that are there.
 #[tactic(auto, unfolding(ynl_waits::specs::Grounds::ground))]
-pub(crate) fn ground_of<F: Facts>(
+fn ground_of<F: Facts>(
     alloc: Global,
     facts: &F,
     spots: &[Spot],
@@ -65,7 +65,7 @@ fn guests_among<F: Facts>(
 
 /// The partitions with a node where a request may go as a guest.
 #[tactic(auto, unfolding(ynl_waits::specs::Grounds::guest_grounds))]
-pub(crate) fn guests_of<F: Facts>(
+fn guests_of<F: Facts>(
     alloc: Global,
     facts: &F,
     spots: &[Spot],
@@ -76,4 +76,28 @@ pub(crate) fn guests_of<F: Facts>(
 {
     let labels = facts.labels(alloc)?;
     guests_among(alloc, facts, spots, what, &labels)
+}
+
+/// The partitions where a request may go: its own, and those where it may be a guest.
+#[derive(Drop)]
+pub(crate) struct Grounds {
+    pub(crate) own: Ground,
+    pub(crate) guests: Vec<Ground>,
+}
+
+/// The partitions where a request may go, whose own has this label.
+pub(crate) fn grounds_of<F: Facts>(
+    alloc: Global,
+    facts: &F,
+    spots: &[Spot],
+    label: &Label,
+    what: &What,
+) -> Result<Grounds, AllocError>
+    requires { spots.now ≡ all_spots (F.state facts.now) }
+    ensures own { IfOk result (λ there. there.own ≡ ground (F.config facts.now) (F.state facts.now) label.now) }
+    ensures guests { IfOk result (λ there. there.guests.items ≡ guest_grounds (F.config facts.now) (F.state facts.now) what.now) }
+{
+    let own = ground_of(alloc, facts, spots, label)?;
+    let guests = guests_of(alloc, facts, spots, what)?;
+    Ok(Grounds { own, guests })
 }

@@ -1,10 +1,10 @@
 //! What is told of a request.
 
-ghost use Rattle.std.specs.Prelude.{◌≡◌, ◌++◌, IfOk, OnOk};
+ghost use Rattle.std.specs.Prelude.{◌≡◌, ◌++◌, IfOk, OnOk, filter};
 ghost use Rattle.std.specs.List.{AllByRecursion};
 ghost use Rattle.ynl_waits.specs.Choices.{AreChoices};
 ghost use Rattle.ynl_waits.specs.Grounds.{ground, guest_grounds};
-ghost use Rattle.ynl_waits.specs.Waits.{held_back, reasons, told_by, turn_told};
+ghost use Rattle.ynl_waits.specs.Waits.{held_back, is_chosen_on, next_told, reasons, told_by, turn_told};
 ghost use Rattle.ynl_reasons.specs.Facts.{IsAsking, IsSpotOf};
 
 use crate::choosing::{choice_on, chosen_among};
@@ -62,6 +62,25 @@ fn add_turn_on<F: Facts>(
     }
 }
 
+/// Where a request is next, of the nodes on which it may be placed.
+fn next_of<F: Facts>(
+    alloc: Global,
+    facts: &F,
+    known: &mut Choices,
+    asked: &Asked<'_>,
+    there: &[Spot],
+) -> Result<Vec<Reason>, AllocError>
+    requires known { AreChoices (F.config facts.now) (F.state facts.now) known.old }
+    requires spots { AllByRecursion (IsSpotOf (F.state facts.now)) there.now }
+    ensures told { IfOk result (λ told. told.items ≡ next_told (filter (is_chosen_on (F.config facts.now) (F.state facts.now) asked.now.app.now asked.now.request.now) there.now)) }
+    ensures known { AreChoices (F.config facts.now) (F.state facts.now) known.new }
+{
+    let chosen = chosen_among(alloc, facts, known, asked.app, asked.request, there)?;
+    let mut told = Vec::new(alloc);
+    add_next(&mut told, &chosen)?;
+    Ok(told)
+}
+
 /// What is told of a request, by the nodes on which it may be placed.
 #[tactic(auto, unfolding(ynl_waits::specs::Waits::told_by))]
 fn told_by<F: Facts>(
@@ -78,9 +97,7 @@ fn told_by<F: Facts>(
     ensures told { IfOk result (λ told. told.items ≡ told_by (F.config facts.now) (F.state facts.now) asked.now.app.now asked.now.request.now asked.now.own.now asked.now.guests.now there.now) }
     ensures known { AreChoices (F.config facts.now) (F.state facts.now) known.new }
 {
-    let mut told = Vec::new(alloc);
-    let chosen = chosen_among(alloc, facts, known, asked.app, asked.request, there)?;
-    add_next(&mut told, &chosen)?;
+    let mut told = next_of(alloc, facts, known, asked, there)?;
     if told.is_empty() {
         add_held_back(facts, asked, &mut told)?;
         add_turn_on(facts, known, there, &mut told)?;
