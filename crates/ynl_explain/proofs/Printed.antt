@@ -13,7 +13,7 @@ use Rattle.ynl_model.specs.declared.proposals.What.TheVariants.{Master, Ask}
 use Rattle.ynl_waits.specs.declared.waits.Reason.{Reason}
 use Rattle.ynl_waits.specs.declared.waits.Wait.{Wait}
 use Rattle.ynl_explain.specs.Objects.{tokens_of}
-use Rattle.ynl_explain.specs.Told.{ask_front, back, inside_tokens, master_front, reason_data, reasons_data, reasons_tokens, wait_by, wait_data}
+use Rattle.ynl_explain.specs.Told.{back, front, inside_tokens, reason_data, reasons_data, reasons_tokens, wait_by, wait_data}
 
 -- the tokens of reasons, with the bracket behind them
 listed : (reasons : List Reason) → flat_map (λ reason. tokens_of (reason_data reason)) reasons ++ end_array ∷ [] ≡ items_tokens (items_outline (items_of (map reason_data reasons)))
@@ -29,10 +29,10 @@ behind reasons more = ap (λ (ts : List Token). key (codes "reasons") ∷ begin_
 -- the tokens of a request
 inside : (what : What) (tenant app : Name) (wait : Wait) → begin_object ∷ (inside_tokens what tenant app wait ++ end_object ∷ []) ≡ tokens_of (wait_by what tenant app wait)
 inside Master tenant app wait =
-    ap (λ (ts : List Token). begin_object ∷ (master_front app wait ++ ts))
+    ap (λ (ts : List Token). begin_object ∷ (front Master app wait.request ++ ts))
     (append_assoc (reasons_tokens wait.reasons) (back tenant wait (codes "master")) (end_object ∷ []) ∙ behind wait.reasons (back tenant wait (codes "master") ++ end_object ∷ []))
 inside (Ask label priority) tenant app wait =
-    ap (λ (ts : List Token). begin_object ∷ (ask_front app wait priority ++ ts))
+    ap (λ (ts : List Token). begin_object ∷ (front (Ask label priority) app wait.request ++ ts))
     (append_assoc (reasons_tokens wait.reasons) (back tenant wait (codes "ask")) (end_object ∷ []) ∙ behind wait.reasons (back tenant wait (codes "ask") ++ end_object ∷ []))
 
 -- what is printed of them

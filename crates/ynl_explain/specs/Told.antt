@@ -16,6 +16,7 @@ use Rattle.ynl_explain.specs.Objects.{tokens_of}
 use Rattle.ynl_waits.specs.declared.waits.Turn.{Turn}
 use Rattle.ynl_waits.specs.declared.waits.Reason.{Reason}
 use Rattle.ynl_waits.specs.declared.waits.Reason.TheVariants as reason
+use Rattle.ynl_waits.specs.declared.waits.Request.{Request}
 use Rattle.ynl_waits.specs.declared.waits.Wait.{Wait}
 use Rattle.ynl_waits.specs.declared.waits.Explained.{Explained}
 use Rattle.ynl_waits.specs.declared.waits.Explained.TheVariants as explained
@@ -90,22 +91,25 @@ told_text tenant app (explained.Waits waits) = flat_map (wait_line tenant app) w
 abbrev pub reasons_tokens : List Reason → List Token
 reasons_tokens reasons = key (codes "reasons") ∷ begin_array ∷ (flat_map (λ reason. tokens_of (reason_data reason)) reasons ++ end_array ∷ [])
 
--- the tokens of the members of a request before its reasons, and behind them
-abbrev pub master_front : Name → Wait → List Token
-master_front app wait =
-    key (codes "app") ∷ string_token app ∷ key (codes "label") ∷ string_token (label_text wait.request.label)
-    ∷ key (codes "memory") ∷ number_token (decimal wait.request.size.memory) ∷ []
+-- the tokens of the members of a request before its reasons, by what it is for
+abbrev pub front : What → Name → Request → List Token
+front Master app request =
+    key (codes "app") ∷ string_token app ∷ key (codes "label") ∷ string_token (label_text request.label)
+    ∷ key (codes "memory") ∷ number_token (decimal request.size.memory) ∷ []
+front (Ask label priority) app request =
+    key (codes "app") ∷ string_token app ∷ key (codes "count") ∷ number_token (decimal request.count) ∷ key (codes "label") ∷ string_token (label_text request.label)
+    ∷ key (codes "memory") ∷ number_token (decimal request.size.memory) ∷ key (codes "priority") ∷ number_token (decimal priority) ∷ []
 
-abbrev pub ask_front : Name → Wait → ℕ → List Token
-ask_front app wait priority =
-    key (codes "app") ∷ string_token app ∷ key (codes "count") ∷ number_token (decimal wait.request.count) ∷ key (codes "label") ∷ string_token (label_text wait.request.label)
-    ∷ key (codes "memory") ∷ number_token (decimal wait.request.size.memory) ∷ key (codes "priority") ∷ number_token (decimal priority) ∷ []
-
+-- and behind them
 abbrev pub back : Name → Wait → List ℕ → List Token
 back tenant wait what =
     key (codes "tenant") ∷ string_token tenant ∷ key (codes "vcores") ∷ number_token (decimal wait.request.size.vcores) ∷ key (codes "what") ∷ string_token what ∷ []
 
+-- the word of what a request is for
+abbrev pub word_of : What → List ℕ
+word_of Master = codes "master"
+word_of (Ask label priority) = codes "ask"
+
 -- the tokens of the members of a request, by what it is for
 abbrev pub inside_tokens : What → Name → Name → Wait → List Token
-inside_tokens Master tenant app wait = master_front app wait ++ (reasons_tokens wait.reasons ++ back tenant wait (codes "master"))
-inside_tokens (Ask label priority) tenant app wait = ask_front app wait priority ++ (reasons_tokens wait.reasons ++ back tenant wait (codes "ask"))
+inside_tokens what tenant app wait = front what app wait.request ++ (reasons_tokens wait.reasons ++ back tenant wait (word_of what))

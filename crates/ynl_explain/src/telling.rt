@@ -4,7 +4,7 @@ ghost use Rattle.std.specs.Prelude.{◌≡◌, ◌++◌, ◌∷◌, [], OnOk, If
 ghost use Rattle.std.specs.List.{flat_map};
 ghost use Rattle.json.specs.Token.{begin_array, begin_object, end_object, key};
 ghost use Rattle.ynl_explain.specs.Objects.{tokens_of};
-ghost use Rattle.ynl_explain.specs.Told.{ask_front, back, inside_tokens, master_front, reason_data, reasons_tokens, told_text, wait_line};
+ghost use Rattle.ynl_explain.specs.Told.{back, front, inside_tokens, reason_data, reasons_tokens, told_text, wait_line, word_of};
 
 use crate::objects::{Content, put_members};
 use crate::reasons::put_reason;
@@ -13,7 +13,7 @@ use std::alloc::{AllocError, Global};
 use ynl_lines::write_reply;
 use ynl_model::{Reply, What};
 use ynl_resource::Name;
-use ynl_waits::{Explained, Reason, Wait};
+use ynl_waits::{Explained, Reason, Request, Wait};
 
 fn put_all(alloc: Global, line: &mut Writer, reasons: &[Reason]) -> Result<(), AllocError>
     ensures before { line.new.before ≡ line.old.before }
@@ -66,99 +66,63 @@ fn put_back<'a>(
     )
 }
 
-/// The members of a request for a master before its reasons.
-fn put_master_front<'a>(
+/// The members of a request before its reasons.
+fn put_front<'a>(
     alloc: Global,
     line: &mut Writer,
     app: &'a Name,
-    wait: &'a Wait,
+    request: &'a Request,
 ) -> Result<(), AllocError>
     ensures before { line.new.before ≡ line.old.before }
-    ensures tokens { OnOk result (line.new.tokens ≡ line.old.tokens ++ master_front app.now wait.now) }
+    ensures tokens { OnOk result (line.new.tokens ≡ line.old.tokens ++ front request.now.what app.now request.now) }
 {
-    let request = &wait.request;
-    put_members(
-        alloc,
-        line,
-        &[
-            ("app", Content::Named(app)),
-            ("label", Content::Labelled(&request.label)),
-            ("memory", Content::Memory(&request.size)),
-        ],
-    )
+    match &request.what {
+        What::Master => put_members(
+            alloc,
+            line,
+            &[
+                ("app", Content::Named(app)),
+                ("label", Content::Labelled(&request.label)),
+                ("memory", Content::Memory(&request.size)),
+            ],
+        ),
+        What::Ask(_, priority) => put_members(
+            alloc,
+            line,
+            &[
+                ("app", Content::Named(app)),
+                ("count", Content::Small(request.count)),
+                ("label", Content::Labelled(&request.label)),
+                ("memory", Content::Memory(&request.size)),
+                ("priority", Content::Small(*priority)),
+            ],
+        ),
+    }
 }
 
-/// A request for a master.
-fn put_master<'a>(
-    alloc: Global,
-    line: &mut Writer,
-    tenant: &'a Name,
-    app: &'a Name,
-    wait: &'a Wait,
-) -> Result<(), AllocError>
-    ensures before { line.new.before ≡ line.old.before }
-    ensures tokens { OnOk result (line.new.tokens ≡ line.old.tokens ++ (master_front app.now wait.now ++ (reasons_tokens wait.now.reasons ++ back tenant.now wait.now (codes "master")))) }
+/// The word of what a request is for.
+fn word_of(what: &What) -> &'static str
+    ensures { result.now ≡ word_of what.now }
 {
-    put_master_front(alloc, line, app, wait)?;
-    put_back(alloc, line, tenant, wait, "master")
-}
-
-/// The members of an ask before its reasons.
-fn put_ask_front<'a>(
-    alloc: Global,
-    line: &mut Writer,
-    app: &'a Name,
-    wait: &'a Wait,
-    priority: u32,
-) -> Result<(), AllocError>
-    ensures before { line.new.before ≡ line.old.before }
-    ensures tokens { OnOk result (line.new.tokens ≡ line.old.tokens ++ ask_front app.now wait.now priority) }
-{
-    let request = &wait.request;
-    put_members(
-        alloc,
-        line,
-        &[
-            ("app", Content::Named(app)),
-            ("count", Content::Small(request.count)),
-            ("label", Content::Labelled(&request.label)),
-            ("memory", Content::Memory(&request.size)),
-            ("priority", Content::Small(priority)),
-        ],
-    )
-}
-
-/// An ask.
-fn put_ask<'a>(
-    alloc: Global,
-    line: &mut Writer,
-    tenant: &'a Name,
-    app: &'a Name,
-    wait: &'a Wait,
-    priority: u32,
-) -> Result<(), AllocError>
-    ensures before { line.new.before ≡ line.old.before }
-    ensures tokens { OnOk result (line.new.tokens ≡ line.old.tokens ++ (ask_front app.now wait.now priority ++ (reasons_tokens wait.now.reasons ++ back tenant.now wait.now (codes "ask")))) }
-{
-    put_ask_front(alloc, line, app, wait, priority)?;
-    put_back(alloc, line, tenant, wait, "ask")
+    match what {
+        What::Master => "master",
+        What::Ask(_, _) => "ask",
+    }
 }
 
 /// The members of a request.
-fn put_inside<'a>(
+fn put_inside(
     alloc: Global,
     line: &mut Writer,
-    tenant: &'a Name,
-    app: &'a Name,
-    wait: &'a Wait,
+    tenant: &Name,
+    app: &Name,
+    wait: &Wait,
 ) -> Result<(), AllocError>
     ensures before { line.new.before ≡ line.old.before }
     ensures tokens { OnOk result (line.new.tokens ≡ line.old.tokens ++ inside_tokens wait.now.request.what tenant.now app.now wait.now) }
 {
-    match &wait.request.what {
-        What::Master => put_master(alloc, line, tenant, app, wait),
-        What::Ask(_, priority) => put_ask(alloc, line, tenant, app, wait, *priority),
-    }
+    put_front(alloc, line, app, &wait.request)?;
+    put_back(alloc, line, tenant, wait, word_of(&wait.request.what))
 }
 
 /// A request with its reasons.
