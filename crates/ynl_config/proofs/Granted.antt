@@ -12,7 +12,7 @@ use Rattle.ynl_queues.specs.declared.grants.Grant.{Grant}
 use Rattle.ynl_queues.specs.Grants.{total_at}
 use Rattle.ynl_queues.proofs.Totals.{StandBelow, total_below}
 use Rattle.ynl_resource.specs.Texts.{label_text, path_text}
-use Rattle.ynl_config.specs.Places.{Place, nowhere, told_text}
+use Rattle.ynl_config.specs.Places.{nowhere, told_text}
 use Rattle.ynl_config.specs.GrantTests as test
 use Rattle.ynl_config.specs.RowPlaces as spec
 

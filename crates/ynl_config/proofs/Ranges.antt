@@ -11,7 +11,7 @@ use Rattle.ynl_resource.specs.declared.amounts.Resource.{Resource}
 use Rattle.ynl_resource.specs.Refusals.{first_that_holds}
 use Rattle.ynl_model.specs.Nodes.{Labels}
 use Rattle.ynl_model.specs.declared.labels.LabelRow.{LabelRow}
-use Rattle.ynl_model.specs.Queues.{Access, QueueRow, Config}
+use Rattle.ynl_model.specs.Queues.{Access, Config}
 use Rattle.ynl_model.specs.declared.queues.LabelCapacity.{LabelCapacity}
 use Rattle.ynl_model.specs.Accepted.{label_faults, tree_faults, row_in_range, in_range, is_accepted}
 use Rattle.ynl_model.specs.declared.faults.LabelFault.{LabelFault}

@@ -1,22 +1,13 @@
 -- What a table's entries are as members.
-use Rattle.std.proofs.Common.{◌≡◌, ◌≤◌, ℕ, List, [], ◌∷◌, ◌&&◌, Result, refl, ap, ◌∙◌, map, take, length}
+use Rattle.std.proofs.Common.{◌≡◌, ◌≤◌, ℕ, List, [], ◌∷◌, Result, refl, ap, ◌∙◌, map, take, length}
 use Rattle.std.proofs.lemmas.List.{take_all}
 use Rattle.std.specs.Prelude.{string_bytes}
-use Rattle.std.specs.List.{list_all}
-use Rattle.std.specs.Map.{keys_of}
 use Rattle.toml.specs.Data.{Data}
 use Rattle.toml.specs.View.{view, items_view, members_view}
 use Rattle.toml.specs.declared.value.Value.{Value}
 use Rattle.toml.proofs.Views.{Entry}
-use Rattle.ynl_config.specs.declared.keys.TableKind.{TableKind}
-use Rattle.ynl_config.specs.Known.{is_known, all_known}
 use Rattle.ynl_config.specs.Earliest.{ConfigFault, all_of}
 use Rattle.ynl_config.specs.Tables.{values_in, pairs_in}
-
--- the keys of a table are those of its entries
-pub known_entries : (kind : TableKind) (es : List Entry) → list_all (λ key. is_known kind (string_bytes key)) (keys_of es) ≡ all_known kind (members_view es)
-known_entries kind [] = refl
-known_entries kind (e ∷ es) = ap (λ b. is_known kind (string_bytes e.0) && b) (known_entries kind es)
 
 -- the values of an array are those of its items
 pub values_read : {A : Type 0} (read : Data → A) (vs : List Value) → map (λ v. read (view v)) vs ≡ map read (values_in (items_view vs))

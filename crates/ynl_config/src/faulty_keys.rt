@@ -7,7 +7,6 @@ ghost use Rattle.std.specs.BTreeMap.{keys};
 ghost use Rattle.toml.specs.Data.{as_table, get_member};
 ghost use Rattle.toml.specs.View.{table_view, view, items_view};
 ghost use Rattle.ynl_resource.specs.Refusals.{first_that_holds};
-ghost use Rattle.ynl_config.specs.Known.{is_known};
 ghost use Rattle.ynl_config.specs.Tables.{values_in};
 ghost use Rattle.ynl_config.specs.Places.{is_name, is_table};
 ghost use Rattle.ynl_config.specs.Places as spec;
@@ -17,7 +16,7 @@ use crate::fields::{
     count_at, factor_at, find, flag_at, label_at, name_at, number_at, percent_at, stopped_at,
     text_at, version_at,
 };
-use crate::keys::{TableKind, is_known};
+use crate::keys::{TableKind, text_of_key, unknown_key};
 use crate::queues::{access_at, tenth};
 use crate::values::{Version, name_of};
 use std::alloc::{AllocError, Global};
@@ -45,30 +44,6 @@ fn first_key(keys: &[(&'static str, bool)]) -> Option<&'static str>
         }
     }
     None
-}
-
-fn unknown_entry(kind: TableKind, table: &Table) -> Option<&String>
-    ensures { option_map (λ key. key.now) result ≡ find (λ key. not (is_known kind (string_bytes key))) (keys table.now) }
-{
-    table.keys().find(|key| !is_known(kind, key.as_str()))
-}
-
-/// The text of a key.
-pub(crate) fn text_of_key(key: Option<&String>) -> Option<&str>
-    ensures { option_map (λ text. text.now) result ≡ option_map string_bytes (option_map (λ key. key.now) key.entry) }
-{
-    match key {
-        Some(key) => Some(key.as_str()),
-        None => None,
-    }
-}
-
-/// The first key that the table may not have.
-#[tactic(auto, unfolding(crate::specs::Places::unknown_key))]
-pub(crate) fn unknown_key(kind: TableKind, table: &Table) -> Option<&str>
-    ensures { option_map (λ key. key.now) result ≡ spec.unknown_key kind (table_view table.now) }
-{
-    text_of_key(unknown_entry(kind, table))
 }
 
 fn is_table(value: &Value) -> bool
@@ -198,16 +173,26 @@ pub(crate) fn is_name(text: &str) -> bool
     name_of(text).is_ok()
 }
 
-fn all_names(table: &Table) -> bool
-    ensures { result ≡ list_all (λ key. is_name (string_bytes key)) (keys table.now) }
+fn bad_entry(table: &Table) -> Option<&String>
+    ensures { option_map (λ key. key.now) result ≡ find (λ key. not (is_name (string_bytes key))) (keys table.now) }
 {
-    table.keys().all(|key| is_name(key.as_str()))
+    table.keys().find(|key| !is_name(key.as_str()))
+}
+
+/// The first key that is no name.
+pub(crate) fn bad_name(table: &Table) -> Option<&str>
+    ensures { option_map (λ key. key.now) result ≡ find (λ key. not (is_name key)) (spec.keys_in (table_view table.now)) }
+{
+    text_of_key(bad_entry(table))
 }
 
 fn are_names(table: &Table) -> bool
     ensures { result ≡ list_all is_name (spec.keys_in (table_view table.now)) }
 {
-    all_names(table)
+    match bad_name(table) {
+        Some(_) => false,
+        None => true,
+    }
 }
 
 /// Whether a table stands at `label` whose keys are names, if anything does.

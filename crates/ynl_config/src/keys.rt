@@ -1,11 +1,12 @@
 //! Which keys a table of a configuration may have.
 
-ghost use Rattle.std.specs.Prelude.{◌≡◌, string_bytes};
-ghost use Rattle.std.specs.List.{list_all, list_any};
+ghost use Rattle.std.specs.Prelude.{◌≡◌, find, not, option_map, string_bytes};
+ghost use Rattle.std.specs.List.{list_any};
 ghost use Rattle.std.specs.Str.{bytes_eq};
 ghost use Rattle.std.specs.BTreeMap.{keys};
 ghost use Rattle.toml.specs.View.{table_view};
 ghost use Rattle.ynl_config.specs.Known as spec;
+ghost use Rattle.ynl_config.specs.Places.{unknown_key};
 
 use crate::faults::ConfigFault;
 use toml::Table;
@@ -86,26 +87,36 @@ pub(crate) fn is_known(kind: TableKind, key: &str) -> bool
     }
 }
 
-fn keys_pass(kind: TableKind, table: &Table) -> bool
-    ensures { result ≡ list_all (λ key. spec.is_known kind (string_bytes key)) (keys table.now) }
+fn unknown_entry(kind: TableKind, table: &Table) -> Option<&String>
+    ensures { option_map (λ key. key.now) result ≡ find (λ key. not (spec.is_known kind (string_bytes key))) (keys table.now) }
 {
-    table.keys().all(|key| is_known(kind, key.as_str()))
+    table.keys().find(|key| !is_known(kind, key.as_str()))
 }
 
-fn all_known(kind: TableKind, table: &Table) -> bool
-    ensures { result ≡ spec.all_known kind (table_view table.now) }
+/// The text of a key.
+pub(crate) fn text_of_key(key: Option<&String>) -> Option<&str>
+    ensures { option_map (λ text. text.now) result ≡ option_map string_bytes (option_map (λ key. key.now) key.entry) }
 {
-    keys_pass(kind, table)
+    match key {
+        Some(key) => Some(key.as_str()),
+        None => None,
+    }
+}
+
+/// The first key that the table may not have.
+#[tactic(auto, unfolding(crate::specs::Places::unknown_key))]
+pub(crate) fn unknown_key(kind: TableKind, table: &Table) -> Option<&str>
+    ensures { option_map (λ key. key.now) result ≡ unknown_key kind (table_view table.now) }
+{
+    text_of_key(unknown_entry(kind, table))
 }
 
 /// Whether all keys are known, as a fault where they are not.
-#[tactic(auto, unfolding(crate::specs::Known::known_keys))]
 pub(crate) fn known_keys(kind: TableKind, table: &Table) -> Result<(), ConfigFault>
     ensures { result ≡ spec.known_keys kind (table_view table.now) }
 {
-    if all_known(kind, table) {
-        Ok(())
-    } else {
-        Err(ConfigFault::UnknownKey)
+    match unknown_key(kind, table) {
+        Some(_) => Err(ConfigFault::UnknownKey),
+        None => Ok(()),
     }
 }

@@ -6,7 +6,7 @@ ghost use Rattle.ynl_config.specs.Places.{told_of, place_of, nowhere, at_row, ro
 use crate::faults::ConfigFault;
 
 /// What is told of a value: a text of at most 256 bytes, an integer, or how many there are.
-#[derive(Debug, Drop, PartialEq, Eq)]
+#[derive(Drop)]
 pub enum ToldValue {
     Text(String),
     Integer(i64),
@@ -14,7 +14,7 @@ pub enum ToldValue {
 }
 
 /// The rows of a configuration.
-#[derive(Clone, Copy, Debug, PartialEq, Eq)]
+#[derive(Clone, Copy)]
 pub enum RowKind {
     Label,
     Queue,
@@ -34,7 +34,7 @@ impl RowKind {
 
 /// Where a fault is, and what is told of it; a part that says nothing of a fault is not there. Percentages are in
 /// hundredths of a percent.
-#[derive(Debug, Drop)]
+#[derive(Drop)]
 pub struct Place {
     /// The rows to which the place belongs, where it is not the top level.
     pub table: Option<RowKind>,
@@ -54,10 +54,16 @@ pub struct Place {
 }
 
 /// Why a text is no configuration, and where the first such fault is.
-#[derive(Debug, Drop)]
 pub struct Misplaced {
     pub fault: ConfigFault,
     pub place: Place,
+}
+
+// By hand, so that crates above call it: one that is derived is proved anew in each of them, with all that it holds.
+impl Drop for Misplaced {
+    fn drop(self) {
+        let Misplaced { fault: _, place: _ } = self;
+    }
 }
 
 impl Place {

@@ -12,8 +12,9 @@ ghost use Rattle.ynl_config.specs.Places.{told_of, place_of, first_from, is_name
 ghost use Rattle.ynl_config.specs.Places as spec;
 
 use crate::faults::ConfigFault;
-use crate::faulty_keys::{is_name, label_key, queue_key, share_key, text_of_key, top_key};
+use crate::faulty_keys::{bad_name, is_name, label_key, queue_key, share_key, top_key};
 use crate::fields::{find, version_at};
+use crate::keys::text_of_key;
 use crate::listed::trimmed;
 use crate::places::{Place, RowKind, ToldValue};
 use crate::telling::{told, told_at, told_text};
@@ -131,18 +132,6 @@ fn shares_in(table: &Table) -> Option<&Table>
         Some(value) => value.as_table(),
         None => None,
     }
-}
-
-fn bad_entry(shares: &Table) -> Option<&String>
-    ensures { option_map (λ key. key.now) result ≡ find (λ key. not (is_name (string_bytes key))) (keys shares.now) }
-{
-    shares.keys().find(|key| !is_name(key.as_str()))
-}
-
-fn bad_name(shares: &Table) -> Option<&str>
-    ensures { option_map (λ key. key.now) result ≡ find (λ key. not (is_name key)) (keys_in (table_view shares.now)) }
-{
-    text_of_key(bad_entry(shares))
 }
 
 /// The first key of a queue's shares of labels that names no label.

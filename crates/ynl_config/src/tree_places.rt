@@ -137,16 +137,23 @@ fn unknown_listed(config: &Draft, row: &QueueRow) -> Option<Name>
 fn unknown_name(config: &Draft, names: &[Name]) -> Option<Name>
     ensures { result ≡ find (spec.is_unknown config.now) names.now }
 {
-    names.iter().copied().find(|name| is_unknown(config, *name))
+    for i in 0..names.len() {
+        if is_unknown(config, names[i]) {
+            return Some(names[i]);
+        }
+    }
+    None
 }
 
 fn unknown_share(config: &Draft, shares: &[LabelCapacity]) -> Option<Name>
     ensures { result ≡ find (spec.is_unknown config.now) (map (λ given. given.label) shares.now) }
 {
-    shares
-        .iter()
-        .map(|given| given.label)
-        .find(|name| is_unknown(config, *name))
+    for i in 0..shares.len() {
+        if is_unknown(config, shares[i].label) {
+            return Some(shares[i].label);
+        }
+    }
+    None
 }
 
 fn unknown_shared(config: &Draft, row: &QueueRow) -> Option<Name>
@@ -200,11 +207,13 @@ fn name_beyond(config: &Draft, queue: &[Name]) -> Option<Name>
     let labels = config.labels();
     let below = config.grant(queue);
     let above = config.grant(parent_of(queue));
-    labels
-        .rows()
-        .iter()
-        .map(|row| row.name)
-        .find(|name| goes_beyond(labels, &below, &above, *name))
+    let rows = labels.rows();
+    for i in 0..rows.len() {
+        if goes_beyond(labels, &below, &above, rows[i].name) {
+            return Some(rows[i].name);
+        }
+    }
+    None
 }
 
 fn share_beyond(config: &Draft, row: &QueueRow) -> Option<Name>
@@ -212,10 +221,13 @@ fn share_beyond(config: &Draft, row: &QueueRow) -> Option<Name>
 {
     let labels = config.labels();
     let queue = config.grant(row.path.names());
-    row.capacities
-        .iter()
-        .map(|given| given.label)
-        .find(|name| !queue.may_use(labels, &Label::Named(*name)))
+    let shares = row.capacities.as_slice();
+    for i in 0..shares.len() {
+        if !queue.may_use(labels, &Label::Named(shares[i].label)) {
+            return Some(shares[i].label);
+        }
+    }
+    None
 }
 
 #[tactic(auto, unfolding(crate::specs::RowPlaces::label_beyond))]
@@ -245,23 +257,20 @@ fn is_low(labels: &Labels, queue: &Grant, label: &Label) -> bool
     capacity > maximum
 }
 
-fn low_label(labels: &Labels, queue: &Grant) -> Option<Label>
-    ensures { result ≡ find (test.is_low labels.now queue.now) (map (λ row. Named row.name) labels.now.rows) }
-{
-    labels
-        .rows()
-        .iter()
-        .map(|row| Label::Named(row.name))
-        .find(|label| is_low(labels, queue, label))
-}
-
 fn low_partition(labels: &Labels, queue: &Grant) -> Option<Label>
     ensures { result ≡ find (test.is_low labels.now queue.now) (partition_labels labels.now) }
 {
     if is_low(labels, queue, &Label::Unlabelled) {
         return Some(Label::Unlabelled);
     }
-    low_label(labels, queue)
+    let rows = labels.rows();
+    for i in 0..rows.len() {
+        let label = Label::Named(rows[i].name);
+        if is_low(labels, queue, &label) {
+            return Some(label);
+        }
+    }
+    None
 }
 
 #[tactic(auto, unfolding(crate::specs::RowPlaces::low_maximum))]
@@ -297,17 +306,6 @@ fn comes_out(labels: &Labels, queues: &[Grant], label: &Label) -> bool
     }
 }
 
-fn odd_label(labels: &Labels, queues: &[Grant]) -> Option<Label>
-    requires { length queues.now ≤ most_queues }
-    ensures { result ≡ find (λ label. not (test.comes_out labels.now queues.now label)) (map (λ row. Named row.name) labels.now.rows) }
-{
-    labels
-        .rows()
-        .iter()
-        .map(|row| Label::Named(row.name))
-        .find(|label| !comes_out(labels, queues, label))
-}
-
 fn odd_partition(labels: &Labels, queues: &[Grant]) -> Option<Label>
     requires { length queues.now ≤ most_queues }
     ensures { result ≡ find (λ label. not (test.comes_out labels.now queues.now label)) (partition_labels labels.now) }
@@ -315,7 +313,14 @@ fn odd_partition(labels: &Labels, queues: &[Grant]) -> Option<Label>
     if !comes_out(labels, queues, &Label::Unlabelled) {
         return Some(Label::Unlabelled);
     }
-    odd_label(labels, queues)
+    let rows = labels.rows();
+    for i in 0..rows.len() {
+        let label = Label::Named(rows[i].name);
+        if !comes_out(labels, queues, &label) {
+            return Some(label);
+        }
+    }
+    None
 }
 
 /// The place of a sum on a partition, with the queue's text.

@@ -2,7 +2,7 @@ use Rattle.std.proofs.Common.{◌∙◌, ap, option_map}
 use Rattle.std.specs.Prelude.{string_bytes}
 use Rattle.ynl_config.specs.Places.{unknown_key}
 use Rattle.ynl_config.proofs.PlaceViews.{find_keys}
-use Rattle.ynl_config.proofs.faulty_keys.unknown_key.Goals as goal
+use Rattle.ynl_config.proofs.keys.unknown_key.Goals as goal
 
 pub returns : goal.returns
 unfolding unknown_key
