@@ -3,6 +3,7 @@ pub mod Crowds
 pub mod Dots
 pub mod Faultless
 pub mod Gathered
+pub mod Known
 pub mod Mapped
 pub mod Paths
 pub mod PlaceMaps

@@ -1,6 +1,6 @@
 //! Which labels a queue may use: root all, and on the way down those that each row gives.
 
-ghost use Rattle.std.specs.Prelude.{◌≡◌, map, option_copied};
+ghost use Rattle.std.specs.Prelude.{◌≡◌, option_copied};
 ghost use Rattle.std.specs.List.{list_any};
 ghost use Rattle.ynl_model.specs.Queues.{given, accessible, may_use, Inherited, setting};
 ghost use Rattle.ynl_resource.specs.Names.{same_name};
@@ -18,24 +18,17 @@ fn lists(names: &[Name], name: &Name) -> bool
     names.iter().any(|listed| *name == *listed)
 }
 
-fn configures(labels: &Labels, name: &Name) -> bool
-    ensures { result ≡ list_any (same_name name.now) (map (λ row. row.name) labels.now.rows) }
-{
-    labels
-        .rows()
-        .iter()
-        .map(|row| row.name)
-        .any(|listed| *name == listed)
-}
-
 /// Whether a label is among those given, or among all that are configured where none are given.
+#[tactic(auto, using(crate::proofs::Known::known))]
 pub(crate) fn reaches(labels: &Labels, reach: Option<&[Name]>, label: &Label) -> bool
     ensures { result ≡ is_among (reached labels.now (option_copied reach.entry)) label.now }
 {
-    match (label, reach) {
-        (Label::Unlabelled, _) => true,
-        (Label::Named(name), None) => configures(labels, name),
-        (Label::Named(name), Some(names)) => lists(names, name),
+    let Some(names) = reach else {
+        return labels.has(label);
+    };
+    match label {
+        Label::Unlabelled => true,
+        Label::Named(name) => lists(names, name),
     }
 }
 

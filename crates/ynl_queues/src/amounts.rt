@@ -3,7 +3,7 @@
 ghost use Rattle.std.specs.Prelude.{◌≡◌, ℕ, IsTrue, IfSome};
 ghost use Rattle.ynl_queues.specs.Shares.{IsShareOf};
 ghost use Rattle.ynl_resource.specs.declared.paths.Path.{Path};
-ghost use Rattle.ynl_model.specs.Queues.{setting, written_capacity, written_maximum, capacity_on, configured_maximum, nested_floor, guaranteed};
+ghost use Rattle.ynl_model.specs.Queues.{capacity_on, configured_maximum, nested_floor, guaranteed};
 ghost use Rattle.ynl_resource.specs.Amounts.{scale_floor, fits_in, IsSmall};
 ghost use Rattle.ynl_resource.specs.Ranges.{whole};
 
@@ -48,24 +48,6 @@ pub fn nested_floor<F: Fn(&[Name]) -> Hundredths>(
 }
 
 impl Draft {
-    fn written_capacity(&self, queue: &[Name], label: &Label) -> Hundredths
-        ensures { result ≡ setting (written_capacity label.now) 0 self.now queue.now }
-    {
-        match self.row(queue) {
-            Some(row) => row.capacity_on(label),
-            None => Hundredths::NOTHING,
-        }
-    }
-
-    fn written_maximum(&self, queue: &[Name], label: &Label) -> Hundredths
-        ensures { result ≡ setting (written_maximum label.now) 0 self.now queue.now }
-    {
-        match self.row(queue) {
-            Some(row) => row.maximum_on(label),
-            None => Hundredths::NOTHING,
-        }
-    }
-
     /// The queue's capacity on a partition, where that is kept.
     fn kept_capacity(&self, queue: &[Name], label: &Label) -> Option<Hundredths>
         ensures { IfSome result (λ share. share ≡ capacity_on self.now queue.now label.now) }
@@ -77,30 +59,20 @@ impl Draft {
     }
 
     /// The queue's capacity on a partition, and nothing on a label that it may not use.
-    #[tactic(auto, unfolding(ynl_model::specs::Queues::capacity_on))]
     pub fn capacity_on(&self, queue: &[Name], label: &Label) -> Hundredths
         ensures { result ≡ capacity_on self.now queue.now label.now }
     {
         if let Some(share) = self.kept_capacity(queue, label) {
             return share;
         }
-        if self.may_use(queue, label) {
-            self.written_capacity(queue, label)
-        } else {
-            Hundredths::NOTHING
-        }
+        self.grant(queue).capacity_on(self.labels(), label)
     }
 
     /// The queue's configured maximum on a partition, and nothing on a label that it may not use.
-    #[tactic(auto, unfolding(ynl_model::specs::Queues::configured_maximum))]
     pub fn configured_maximum(&self, queue: &[Name], label: &Label) -> Hundredths
         ensures { result ≡ configured_maximum self.now queue.now label.now }
     {
-        if self.may_use(queue, label) {
-            self.written_maximum(queue, label)
-        } else {
-            Hundredths::NOTHING
-        }
+        self.grant(queue).maximum_on(self.labels(), label)
     }
 
     /// What the queue is guaranteed of a partition's total.

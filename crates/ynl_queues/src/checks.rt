@@ -5,7 +5,6 @@ ghost use Rattle.std.specs.Prelude.{◌≡◌, map, option_copied};
 ghost use Rattle.std.specs.List.{list_any, list_all};
 ghost use Rattle.ynl_resource.specs.Names.{same_path, root};
 ghost use Rattle.ynl_resource.specs.declared.labels.Label.TheVariants.{Named};
-ghost use Rattle.ynl_model.specs.Nodes.{has_label};
 ghost use Rattle.ynl_model.specs.Queues.{is_queue};
 ghost use Rattle.ynl_model.specs.Accepted.{all_differ, all_queues, parent_of, names_known_labels, stays_within};
 ghost use Rattle.ynl_queues.specs.Reach.{reached, is_among};
@@ -96,22 +95,6 @@ fn capacities_stay_within(
         .all(|given| reaches(labels, reach, &Label::Named(given.label)))
 }
 
-/// Whether all of the names are those of labels.
-fn know_names(labels: &Labels, names: &[Name]) -> bool
-    ensures { result ≡ list_all (λ name. has_label labels.now (Named name)) names.now }
-{
-    names.iter().all(|name| labels.has(&Label::Named(*name)))
-}
-
-/// Whether all that is given is on labels that are configured.
-fn know_labels(labels: &Labels, capacities: &[LabelCapacity]) -> bool
-    ensures { result ≡ list_all (λ given. has_label labels.now (Named given.label)) capacities.now }
-{
-    capacities
-        .iter()
-        .all(|given| labels.has(&Label::Named(given.label)))
-}
-
 impl Draft {
     /// Whether neither two queues have one path, nor one has root's.
     pub(crate) fn queues_differ(&self) -> bool
@@ -133,8 +116,8 @@ impl Draft {
         ensures { result ≡ names_known_labels self.now row.now }
     {
         let labels = self.labels();
-        know_names(labels, row.access.listed())
-            && know_labels(labels, &row.capacities)
+        names_stay_within(labels, None, row.access.listed())
+            && capacities_stay_within(labels, None, &row.capacities)
             && labels.has(&row.leaf.default_label)
     }
 
