@@ -9,3 +9,4 @@ pub mod Whole
 pub mod Plain
 pub mod Treed
 pub mod Printed
+pub mod Rows

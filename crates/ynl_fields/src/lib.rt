@@ -7,6 +7,7 @@ pub use blanks::is_blank;
 pub use cursor::Cursor;
 pub use cutting::{cut_number, cut_text, is_end, two_texts};
 pub use fields::Fields;
+pub use tables::find_word;
 pub use trees::{is_plain, tree_of};
 pub use values::parse;
 
@@ -16,5 +17,6 @@ mod cursor;
 mod cutting;
 mod fields;
 mod numbers;
+mod tables;
 mod trees;
 mod values;

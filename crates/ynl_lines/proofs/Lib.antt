@@ -1,7 +1,6 @@
 pub mod RoundTrip
 pub mod Sizes
 pub mod Texts
-pub mod Rows
 pub mod Lists
 pub mod ReplyTrip
 pub mod Escapes

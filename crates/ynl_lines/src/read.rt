@@ -1,8 +1,6 @@
 //! From lines to events.
 
-ghost use Rattle.std.specs.Prelude.{◌≡◌, option_map, IfOk, OnErr, OnOk, IsUtf8, Ok, Err, Some, None};
-ghost use Rattle.std.specs.List.{find};
-ghost use Rattle.std.specs.Str.{bytes_eq};
+ghost use Rattle.std.specs.Prelude.{◌≡◌, IfOk, OnErr, OnOk, IsUtf8, Ok, Err, Some, None};
 ghost use Rattle.serde_json.specs.View.{view};
 ghost use Rattle.ynl_fields.specs.Trees.{data_at};
 ghost use Rattle.ynl_lines.specs.Reading.{Gives, IsRanged};
@@ -23,7 +21,7 @@ use crate::read_queues::{maximum_at, start_at, stop_at, usage_at, usage_of};
 use json::Scratch;
 use std::alloc::{AllocError, Global};
 use std::marker::Model;
-use ynl_fields::{Fields, is_plain, parse, tree_of};
+use ynl_fields::{Fields, find_word, is_plain, parse, tree_of};
 use ynl_model::Event;
 use ynl_resource::Name;
 
@@ -48,38 +46,30 @@ pub enum Kind {
     Maximum,
 }
 
-/// The word of each kind, those that come most often first.
+/// The word of each kind.
 const KINDS: [(&str, Kind); 16] = [
-    ("heartbeat", Kind::Heartbeat),
-    ("ask", Kind::Ask),
-    ("submit", Kind::Submit),
-    ("release", Kind::Release),
-    ("exited", Kind::Exited),
-    ("finish", Kind::Finish),
     ("register", Kind::Register),
-    ("poll", Kind::Poll),
-    ("propose", Kind::Propose),
-    ("commit", Kind::Commit),
-    ("usage", Kind::Usage),
-    ("relabel", Kind::Relabel),
     ("lost", Kind::Lost),
+    ("relabel", Kind::Relabel),
+    ("heartbeat", Kind::Heartbeat),
+    ("exited", Kind::Exited),
+    ("submit", Kind::Submit),
+    ("ask", Kind::Ask),
+    ("release", Kind::Release),
+    ("finish", Kind::Finish),
     ("stop", Kind::Stop),
     ("start", Kind::Start),
+    ("poll", Kind::Poll),
+    ("usage", Kind::Usage),
+    ("propose", Kind::Propose),
+    ("commit", Kind::Commit),
     ("maximum", Kind::Maximum),
 ];
-
-/// The kind in the first row with this word.
-fn kind_in(rows: &[(&str, Kind)], word: &str) -> Option<Kind>
-    ensures { result ≡ option_map (λ row. row.1) (find (λ row. bytes_eq word.now row.0.now) rows.now) }
-{
-    let row = rows.iter().find(|row| word == row.0)?;
-    Some(row.1)
-}
 
 fn kind_of(word: &str) -> Option<Kind>
     ensures { result ≡ spec.kind_of word.now }
 {
-    kind_in(&KINDS, word)
+    find_word(&KINDS, word)
 }
 
 /// Reads the event of an object.

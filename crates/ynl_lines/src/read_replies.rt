@@ -12,7 +12,7 @@ use crate::read_containers::{each_pending, each_placed, placed_at};
 use crate::read_proposals::proposal_at;
 use serde_json::Value;
 use std::alloc::{AllocError, Global};
-use ynl_fields::Fields;
+use ynl_fields::{Fields, find_word};
 use ynl_model::Reply;
 use ynl_resource::{Refusal, Resource};
 
@@ -29,28 +29,22 @@ pub enum ReplyKind {
     Usage,
 }
 
+/// The word of each kind.
+const REPLY_KINDS: [(&str, ReplyKind); 8] = [
+    ("done", ReplyKind::Done),
+    ("refused", ReplyKind::Refused),
+    ("placed", ReplyKind::Placed),
+    ("proposal", ReplyKind::Proposal),
+    ("nothing", ReplyKind::Nothing),
+    ("committed", ReplyKind::Committed),
+    ("held", ReplyKind::Held),
+    ("usage", ReplyKind::Usage),
+];
+
 fn reply_kind_of(word: &str) -> Option<ReplyKind>
     ensures { result ≡ spec.reply_kind_of word.now }
 {
-    if word == "done" {
-        Some(ReplyKind::Done)
-    } else if word == "refused" {
-        Some(ReplyKind::Refused)
-    } else if word == "placed" {
-        Some(ReplyKind::Placed)
-    } else if word == "proposal" {
-        Some(ReplyKind::Proposal)
-    } else if word == "nothing" {
-        Some(ReplyKind::Nothing)
-    } else if word == "committed" {
-        Some(ReplyKind::Committed)
-    } else if word == "held" {
-        Some(ReplyKind::Held)
-    } else if word == "usage" {
-        Some(ReplyKind::Usage)
-    } else {
-        None
-    }
+    find_word(&REPLY_KINDS, word)
 }
 
 /// The kind of a reply, from its word.

@@ -3,6 +3,7 @@
 ghost use Rattle.std.specs.Prelude.{◌≡◌};
 ghost use Rattle.ynl_saved_text.specs.StateLines as spec;
 
+use ynl_fields::find_word;
 use ynl_saved::StateLine;
 
 /// Which line a word names.
@@ -38,33 +39,25 @@ pub fn kind_of_line(line: &StateLine) -> StateKind
     }
 }
 
+/// The word of each kind.
+const KINDS: [(&str, StateKind); 10] = [
+    ("begin", StateKind::Begin),
+    ("partition", StateKind::Partition),
+    ("node", StateKind::Node),
+    ("live", StateKind::Live),
+    ("ask", StateKind::Ask),
+    ("finished", StateKind::Finished),
+    ("container", StateKind::Container),
+    ("stopped", StateKind::Stopped),
+    ("maximum", StateKind::Maximum),
+    ("end", StateKind::End),
+];
+
 /// The kind that a word names, if it is a known one.
 pub fn kind_of(word: &str) -> Option<StateKind>
     ensures { result ≡ spec.kind_of word.now }
 {
-    if word == "begin" {
-        Some(StateKind::Begin)
-    } else if word == "partition" {
-        Some(StateKind::Partition)
-    } else if word == "node" {
-        Some(StateKind::Node)
-    } else if word == "live" {
-        Some(StateKind::Live)
-    } else if word == "ask" {
-        Some(StateKind::Ask)
-    } else if word == "finished" {
-        Some(StateKind::Finished)
-    } else if word == "container" {
-        Some(StateKind::Container)
-    } else if word == "stopped" {
-        Some(StateKind::Stopped)
-    } else if word == "maximum" {
-        Some(StateKind::Maximum)
-    } else if word == "end" {
-        Some(StateKind::End)
-    } else {
-        None
-    }
+    find_word(&KINDS, word)
 }
 
 /// The place of a kind in the order of the lines.

@@ -1,0 +1,5 @@
+use Rattle.ynl_fields.proofs.Rows.{first_is}
+use Rattle.ynl_saved_text.proofs.kinds.kind_of.Goals as goal
+
+pub returns : goal.returns
+returns c = rw first_is at c.find_word.ensures
