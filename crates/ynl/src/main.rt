@@ -16,17 +16,9 @@ use ynl_tool::{
 };
 
 fn main(rt: HostRuntime) -> ExitCode {
-    let args = match env::args(&rt) {
-        Ok(args) => args,
-        Err(error) if fault_of(&error) == ToolFault::NoMemory => return out_of_memory(&rt),
-        Err(_) => {
-            let _told = eprintln!(rt; "ynl: an argument is no text");
-            return ExitCode::from(2);
-        }
-    };
-    let words: Result<Vec<String>, AllocError> = args.collect(rt.alloc());
-    let Ok(words) = words else {
-        return out_of_memory(&rt);
+    let words = match read_words(&rt) {
+        Ok(words) => words,
+        Err(status) => return status,
     };
     match parse_words(rt.alloc(), words.as_slice()) {
         Ok(Job { kind, config, from }) => match kind {
@@ -34,24 +26,37 @@ fn main(rt: HostRuntime) -> ExitCode {
             Kind::Check(form) => check(&rt, form, config),
             Kind::Live(workers, rounds) => work_live(&rt, &rt, workers, rounds, config, from),
         },
-        Err(WordsFault::Words(error)) => {
-            let _told = eprint!(rt; "{error}");
-            ExitCode::from(2)
-        }
-        Err(WordsFault::BadName) => {
-            let _told = eprintln!(rt; "ynl: bad name");
-            ExitCode::from(2)
-        }
-        Err(WordsFault::Unpaired) => {
-            let _told = eprintln!(rt; "ynl: --tenant and --label go together");
-            ExitCode::from(2)
-        }
-        Err(WordsFault::FromWithTenant) => {
-            let _told = eprintln!(rt; "ynl: --from and --tenant do not go together");
-            ExitCode::from(2)
-        }
-        Err(WordsFault::NoMemory) => out_of_memory(&rt),
+        Err(fault) => tell_words_fault(&rt, fault),
     }
+}
+
+/// The words that the program is called with, or the status that it ends with where there are none.
+fn read_words(rt: &HostRuntime) -> Result<Vec<String>, ExitCode> {
+    let args = match env::args(rt) {
+        Ok(args) => args,
+        Err(error) if fault_of(&error) == ToolFault::NoMemory => return Err(out_of_memory(rt)),
+        Err(_) => {
+            let _told = eprintln!(rt; "ynl: an argument is no text");
+            return Err(ExitCode::from(2));
+        }
+    };
+    match args.collect(rt.alloc()) {
+        Ok(words) => Ok(words),
+        Err(AllocError) => Err(out_of_memory(rt)),
+    }
+}
+
+fn tell_words_fault(rt: &HostRuntime, fault: WordsFault) -> ExitCode {
+    let _told = match fault {
+        WordsFault::Words(error) => eprint!(rt; "{error}"),
+        WordsFault::BadName => eprintln!(rt; "ynl: bad name"),
+        WordsFault::Unpaired => eprintln!(rt; "ynl: --tenant and --label go together"),
+        WordsFault::FromWithTenant => {
+            eprintln!(rt; "ynl: --from and --tenant do not go together")
+        }
+        WordsFault::NoMemory => return out_of_memory(rt),
+    };
+    ExitCode::from(2)
 }
 
 fn open(rt: &HostRuntime, path: &str) -> Result<File, ToolFault> {

@@ -8,6 +8,7 @@
 #![tactic(auto)]
 
 pub use sessions::{SessionFault, run_session};
+pub use ynl_workers::{Gate, Go, Sight};
 
 mod dealing;
 mod handing;

@@ -18,8 +18,7 @@ use ynl_journal::Start;
 use ynl_lines::{InputFault, put_line};
 use ynl_model::Entry;
 use ynl_packed::Entries;
-use ynl_session::{SessionFault, run_session};
-use ynl_workers::{Gate, Go, Sight};
+use ynl_session::{Gate, Go, SessionFault, Sight, run_session};
 
 /// Lets each worker go on.
 pub(crate) struct FreeGate;
