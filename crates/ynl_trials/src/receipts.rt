@@ -10,11 +10,11 @@ use ynl_live::{Cause, Live, Receipt, Receipts, Seat, Unclosed};
 use ynl_model::{Event, Reply};
 use ynl_resource::{Name, Refusal};
 
-/// Two callers that called in turn, three times each.
+/// A scheduler, and the seats of its callers.
 #[derive(Drop)]
-struct Callers {
-    live: Live,
-    seats: Vec<Seat>,
+pub(crate) struct Callers {
+    pub(crate) live: Live,
+    pub(crate) seats: Vec<Seat>,
 }
 
 /// What their receipts are made to tell.
@@ -183,6 +183,7 @@ fn call_in_turn<R: Wait>(
     Some(())
 }
 
+/// Two callers that called in turn, three times each.
 fn two_callers<R: Wait>(
     rt: &R,
     alloc: Global,
@@ -245,7 +246,7 @@ fn lists_of(
 }
 
 /// The journal is not closed, for this cause. All that was handed in comes back.
-fn refused<R: Abort>(
+pub(crate) fn refused<R: Abort>(
     rt: &R,
     alloc: Global,
     callers: Callers,
@@ -263,7 +264,7 @@ fn refused<R: Abort>(
 }
 
 /// How many entries the closed journal has.
-fn closed(alloc: Global, callers: Callers, lists: &[Receipts]) -> Option<usize> {
+pub(crate) fn closed(alloc: Global, callers: Callers, lists: &[Receipts]) -> Option<usize> {
     let Callers { live, seats } = callers;
     ended(alloc, live, seats, lists).ok()
 }

@@ -1,5 +1,6 @@
 //! A script with every kind of event, answered at the second try; and what a cluster is asked beside events.
 
+use crate::views::registered;
 use std::alloc::Global;
 use std::ops::Range;
 use std::test::Fail;
@@ -49,24 +50,19 @@ fn event(number: u64) -> Result<Event, Fail> {
 
 /// A node, an application, and a heartbeat.
 fn start(number: u64) -> Result<Event, Fail> {
-    let node = Name::parse("g1")?;
-    let gpu = Label::parse("gpu")?;
     if number == 0 {
-        return Ok(Event::Register {
-            node,
-            label: gpu,
-            size: size(10000, 10)?,
-        });
+        return registered("g1", "gpu");
     }
     if number == 1 {
         return Ok(Event::Submit {
             queue: Path::parse("root.eng")?,
             app: Name::parse("j1")?,
             user: Name::parse("ann")?,
-            label: Some(gpu),
+            label: Some(Label::parse("gpu")?),
             master: size(1000, 1)?,
         });
     }
+    let node = Name::parse("g1")?;
     Ok(Event::Heartbeat { node })
 }
 

@@ -168,14 +168,6 @@ fn a_guest_is_planned_at_the_second_try(rt: HostRuntime) -> Result<(), Fail> {
     Ok(())
 }
 
-#[test]
-fn a_node_that_is_not_there_is_refused(rt: HostRuntime) -> Result<(), Fail> {
-    let core = given(rt.alloc(), SHARED, &ASKED)?;
-    let sighted = core.sight(&Name::parse("g2")?)?;
-    assert!(rt; matches!(&sighted, Sighted::Refused(Refusal::NoSuchNode)));
-    Ok(())
-}
-
 /// Whether what is planned for each node is what the cluster would choose there.
 fn plans_as_it_chooses(core: &Core, nodes: &[&str]) -> Result<bool, Fail> {
     let mut as_chosen = true;

@@ -7,7 +7,7 @@ use std::sync::Wait;
 use std::thread::Threads;
 use ynl_live::{Live, Receipts, Seat};
 use ynl_resource::Name;
-use ynl_workers::{End, Gate, run_round};
+use ynl_workers::{End, Gate, WorkerEnd, run_round};
 
 /// As many nodes are gone over in a round, if there are so many.
 const IN_A_ROUND: usize = 128;
@@ -63,6 +63,31 @@ impl Crew {
         Ok(lists)
     }
 
+    /// A seat for each worker.
+    fn split_seats(&self) -> anyhow::Result<Vec<Seat>> {
+        let mut seats = Vec::new(self.alloc);
+        for _ in 0..self.workers {
+            seats.push(self.seat.split())?;
+        }
+        Ok(seats)
+    }
+
+    /// Keeps what a worker hands back.
+    fn keep(&mut self, worker: WorkerEnd) -> anyhow::Result<()> {
+        let WorkerEnd {
+            seat,
+            receipts,
+            end,
+        } = worker;
+        if end != End::Whole {
+            return Err(anyhow::anyhow!("a worker was cut off"));
+        }
+        self.seats.push(seat)?;
+        let list = Receipts::of(self.alloc, &receipts)?;
+        self.lists.push(list)?;
+        Ok(())
+    }
+
     fn run_one_round<R: Threads + Wait + Sync, G: Gate + Sync>(
         &mut self,
         rt: &R,
@@ -71,26 +96,10 @@ impl Crew {
         round: u64,
     ) -> anyhow::Result<()> {
         let lists = self.deal(round)?;
-        let mut seats = Vec::new(self.alloc);
-        for _ in 0..self.workers {
-            seats.push(self.seat.split())?;
+        for worker in run_workers(rt, self.alloc, live, self.split_seats()?, &lists, gate)? {
+            self.keep(worker)?;
         }
-        if lists.len() != seats.len() {
-            return Err(anyhow::anyhow!("not a list for each seat"));
-        }
-        match run_round(rt, self.alloc, live, seats, &lists, gate) {
-            Ok(ends) => {
-                for end in ends {
-                    if end.end != End::Whole {
-                        return Err(anyhow::anyhow!("a worker was cut off"));
-                    }
-                    self.seats.push(end.seat)?;
-                    self.lists.push(Receipts::of(self.alloc, &end.receipts)?)?;
-                }
-                Ok(())
-            }
-            Err(_) => Err(anyhow::anyhow!("out of memory")),
-        }
+        Ok(())
     }
 
     pub(crate) fn run_rounds<R: Threads + Wait + Clock + Sync>(
@@ -105,5 +114,23 @@ impl Crew {
         }
         self.longest = watch.longest();
         Ok(())
+    }
+}
+
+/// A round of workers. It has no contract, since that of `run_round` would stand in the proof of its caller.
+fn run_workers<R: Threads + Wait + Sync, G: Gate + Sync>(
+    rt: &R,
+    alloc: Global,
+    live: &Live,
+    seats: Vec<Seat>,
+    lists: &[Vec<Name>],
+    gate: &G,
+) -> anyhow::Result<Vec<WorkerEnd>> {
+    if lists.len() != seats.len() {
+        return Err(anyhow::anyhow!("not a list for each seat"));
+    }
+    match run_round(rt, alloc, live, seats, lists, gate) {
+        Ok(ends) => Ok(ends),
+        Err(_) => Err(anyhow::anyhow!("out of memory")),
     }
 }

@@ -1,13 +1,14 @@
 //! Callers in four threads, and for what causes their journal is not closed.
 
-use crate::events::{called, closed_alone, closed_len, opened, poll, register, submit, tried};
+use crate::events::{called, closed_alone, opened, poll, register, submit};
+use crate::receipts::{Callers, closed, refused};
 use std::alloc::Global;
 use std::process::Abort;
 use std::sync::Wait;
 use std::test::Fail;
 use std::thread;
 use std::thread::Threads;
-use ynl_live::{CallFault, Cause, Live, Receipt, Seat, Unclosed};
+use ynl_live::{CallFault, Cause, Live, Receipt, Receipts, Seat};
 use ynl_model::Event;
 
 /// A seat in a thread of its own, and the receipts of its calls.
@@ -15,17 +16,12 @@ use ynl_model::Event;
 struct Caller {
     seat: Seat,
     receipts: Vec<Receipt>,
-    failed: bool,
 }
 
 /// Submits an application of its own, and polls it.
 fn two_events(alloc: Global, which: usize, number: u64) -> Option<[Event; 2]> {
     let app = format!(in alloc; "s{which}a{number}").ok()?;
     Some([submit(&app, 1)?, poll(&app)?])
-}
-
-fn call_once<R: Wait>(rt: &R, live: &Live, caller: &mut Caller, event: Event) -> Option<()> {
-    called(rt, live, &mut caller.seat, &mut caller.receipts, event)
 }
 
 fn call_twice<R: Wait>(
@@ -37,16 +33,15 @@ fn call_twice<R: Wait>(
     number: u64,
 ) -> Option<()> {
     for event in two_events(alloc, which, number)? {
-        call_once(rt, live, caller, event)?;
+        called(rt, live, &mut caller.seat, &mut caller.receipts, event)?;
     }
     Some(())
 }
 
+/// Calls a hundred times. What is not answered is missing in the closed journal.
 fn call_hundred<R: Wait>(rt: &R, alloc: Global, live: &Live, caller: &mut Caller, which: usize) {
     for number in 0..50 {
-        if call_twice(rt, alloc, live, caller, which, number).is_none() {
-            caller.failed = true;
-        }
+        let _answered = call_twice(rt, alloc, live, caller, which, number);
     }
 }
 
@@ -56,21 +51,16 @@ fn four_seats(alloc: Global, seat: &Seat) -> Result<Vec<Caller>, Fail> {
         callers.push(Caller {
             seat: seat.split(),
             receipts: Vec::new(alloc),
-            failed: false,
         })?;
     }
     Ok(callers)
 }
 
-/// A scheduler that four threads called, their seats, and their lists of receipts.
-#[derive(Drop)]
-struct Called {
-    live: Live,
-    seats: Vec<Seat>,
-    lists: Vec<Vec<Receipt>>,
-}
-
-fn four_callers<R: Threads + Wait + Abort + Sync>(rt: &R, alloc: Global) -> Result<Called, Fail> {
+/// A scheduler that four threads called, and their lists of receipts.
+fn four_callers<R: Threads + Wait + Sync>(
+    rt: &R,
+    alloc: Global,
+) -> Result<(Callers, Vec<Receipts>), Fail> {
     let (live, seat) = opened(alloc)?;
     let mut callers = four_seats(alloc, &seat)?;
     thread::for_each_mut(
@@ -79,60 +69,33 @@ fn four_callers<R: Threads + Wait + Abort + Sync>(rt: &R, alloc: Global) -> Resu
         4,
         &|which, caller: &mut Caller| call_hundred(rt, alloc, &live, caller, which),
     );
-    let (seats, lists) = handed_in(rt, alloc, callers)?;
-    Ok(Called { live, seats, lists })
+    let (seats, lists) = handed_in(alloc, callers)?;
+    Ok((Callers { live, seats }, lists))
 }
 
 /// The seats of the callers, and their lists of receipts.
-fn handed_in<R: Abort>(
-    rt: &R,
-    alloc: Global,
-    callers: Vec<Caller>,
-) -> Result<(Vec<Seat>, Vec<Vec<Receipt>>), Fail> {
+fn handed_in(alloc: Global, callers: Vec<Caller>) -> Result<(Vec<Seat>, Vec<Receipts>), Fail> {
     let mut seats = Vec::new(alloc);
     let mut lists = Vec::new(alloc);
     for caller in callers {
-        let Caller {
-            seat,
-            receipts,
-            failed,
-        } = caller;
-        assert!(rt; !failed);
+        let Caller { seat, receipts } = caller;
         seats.push(seat)?;
-        lists.push(receipts)?;
+        lists.push(Receipts::of(alloc, &receipts)?)?;
     }
     Ok((seats, lists))
-}
-
-/// The journal is not closed, for this cause. All that was handed in comes back.
-fn refused<R: Abort>(rt: &R, alloc: Global, called: Called, wanted: Cause) -> Result<Called, Fail> {
-    let Called { live, seats, lists } = called;
-    match tried(alloc, live, seats, lists.as_slice()) {
-        Ok(_) => Err(Fail::new("closed")),
-        Err(Unclosed { cause, live, seats }) => {
-            assert_eq!(rt; cause, wanted);
-            Ok(Called { live, seats, lists })
-        }
-    }
-}
-
-/// How many entries the closed journal has.
-fn closed(alloc: Global, called: Called) -> Option<usize> {
-    let Called { live, seats, lists } = called;
-    closed_len(alloc, live, seats, lists.as_slice())
 }
 
 #[test]
 fn closes_with_all_seats_and_receipts(rt: HostRuntime) -> Result<(), Fail> {
     let alloc = rt.alloc();
-    let mut called = four_callers(&rt, alloc)?;
-    let seat = called.seats.pop().ok_or("no seat")?;
-    let list = called.lists.pop().ok_or("no list")?;
-    let mut called = refused(&rt, alloc, called, Cause::SeatsMissing)?;
-    called.seats.push(seat)?;
-    let mut called = refused(&rt, alloc, called, Cause::ReceiptsMissing)?;
-    called.lists.push(list)?;
-    assert_eq!(rt; closed(alloc, called), Some(400));
+    let (mut callers, mut lists) = four_callers(&rt, alloc)?;
+    let seat = callers.seats.pop().ok_or("no seat")?;
+    let list = lists.pop().ok_or("no list")?;
+    let mut callers = refused(&rt, alloc, callers, &lists, Cause::SeatsMissing)?;
+    callers.seats.push(seat)?;
+    let callers = refused(&rt, alloc, callers, &lists, Cause::ReceiptsMissing)?;
+    lists.push(list)?;
+    assert_eq!(rt; closed(alloc, callers, &lists), Some(400));
     Ok(())
 }
 

@@ -4,6 +4,7 @@ ghost use Rattle.std.specs.Prelude.{◌≡◌, IfOk, length, vec_len};
 
 use std::alloc::{AllocError, Global};
 use std::test::Fail;
+use ynl_config::built_in;
 use ynl_core::{Answer, NoMemory, run};
 use ynl_model::{Event, Items, Placed, Reply, What};
 use ynl_queues::Config;
@@ -11,7 +12,7 @@ use ynl_resource::{Id, Label, Name, Path, Refusal, Size};
 use ynl_view::{pick, restrict, sole, view};
 
 /// A node of 10,000 MB joins a partition.
-fn registered(node: &str, label: &str) -> Result<Event, Fail> {
+pub(crate) fn registered(node: &str, label: &str) -> Result<Event, Fail> {
     Ok(Event::Register {
         node: Name::parse(node)?,
         label: Label::parse(label)?,
@@ -19,31 +20,9 @@ fn registered(node: &str, label: &str) -> Result<Event, Fail> {
     })
 }
 
-// Run with each allocation failing in turn: where memory is refused at the first try, which a line
-// tells, the second gives the value.
-fn configured(rt: &HostRuntime) -> Result<Config, Fail> {
-    match ynl_config::built_in(rt.alloc()) {
-        Ok(config) => Ok(config),
-        Err(AllocError) => {
-            println!(rt; "refused")?;
-            Ok(ynl_config::built_in(rt.alloc())?)
-        }
-    }
-}
-
 fn placed(alloc: Global, container: Placed) -> Result<Answer, AllocError> {
     let list = Vec::from_slice(alloc, &[container])?;
     Ok(Answer::Replied(Reply::Placed(Items::new(list))))
-}
-
-fn placed_again(rt: &HostRuntime, container: Placed) -> Result<Answer, Fail> {
-    match placed(rt.alloc(), container) {
-        Ok(answer) => Ok(answer),
-        Err(AllocError) => {
-            println!(rt; "refused")?;
-            Ok(placed(rt.alloc(), container)?)
-        }
-    }
 }
 
 /// Whether the answer is a list of containers that were placed.
@@ -81,19 +60,21 @@ fn container(tenant: Name) -> Result<Placed, Fail> {
 }
 
 /// The answers to two events, of which the second placed something.
-fn two_answers(rt: &HostRuntime, tenant: Name) -> Result<Vec<Answer>, Fail>
+fn two_answers(alloc: Global, tenant: Name) -> Result<Vec<Answer>, Fail>
     ensures { IfOk result (λ answers. vec_len answers ≡ 2) }
 {
-    let second = placed_again(rt, container(tenant)?)?;
-    let mut answers = Vec::new(rt.alloc());
+    let second = placed(alloc, container(tenant)?)?;
+    let mut answers = Vec::new(alloc);
     answers.push(Answer::NoMemory)?;
     answers.push(second)?;
     Ok(answers)
 }
 
+// Run with each allocation failing in turn: where memory is refused at the first try, which a line
+// tells, the second picks.
 fn picked(rt: &HostRuntime, config: &Config, tenant: &Name) -> Result<Vec<Answer>, Fail> {
     let events = [registered("d1", "")?, registered("g1", "gpu")?];
-    let answers = two_answers(rt, *tenant)?;
+    let answers = two_answers(rt.alloc(), *tenant)?;
     match seen_of(rt.alloc(), config, &events, &answers, tenant) {
         Ok(picked) => Ok(picked),
         Err(NoMemory) => {
@@ -106,7 +87,7 @@ fn picked(rt: &HostRuntime, config: &Config, tenant: &Name) -> Result<Vec<Answer
 #[test]
 fn picks_at_the_second_try(rt: HostRuntime) -> Result<(), Fail> {
     let eng = Name::parse("eng")?;
-    let config = configured(&rt)?;
+    let config = built_in(rt.alloc())?;
     assert!(rt; sole(&config, &eng, &Label::parse("gpu")?));
     let picked = picked(&rt, &config, &eng)?;
     assert_eq!(rt; picked.len(), 1);
@@ -138,7 +119,7 @@ fn is_refused(answer: &Answer, reason: Refusal) -> bool {
 fn nobody_submits_to_root(rt: HostRuntime) -> Result<(), Fail> {
     let alloc = rt.alloc();
     let event = submitted_to_root()?;
-    let nobody = restrict(alloc, &configured(&rt)?, &Name::parse("mkt")?)?;
+    let nobody = restrict(alloc, &built_in(alloc)?, &Name::parse("mkt")?)?;
     assert!(rt; nobody.queues().is_empty());
     let ran = run(alloc, nobody, &[event])?;
     for answer in ran.answers.as_slice() {

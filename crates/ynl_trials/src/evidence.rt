@@ -1,5 +1,6 @@
 //! Evidence of a book, handed out and audited at the second try.
 
+use crate::views::registered;
 use std::alloc::Global;
 use std::process::Abort;
 use std::test::Fail;
@@ -8,7 +9,7 @@ use ynl_core::NoMemory;
 use ynl_evidence::{EvidenceFault, Flaw, audit_evidence, evidence};
 use ynl_journal::{Book, Entry};
 use ynl_model::Event;
-use ynl_resource::{Label, Name, Size};
+use ynl_resource::{Label, Name};
 use ynl_view::sole;
 
 /// The evidence of the built-in configuration's tenant; where memory is refused, which a line tells, at the
@@ -60,22 +61,12 @@ fn audited<R: Print + Abort>(
 
 /// A node of the partition and one of DEFAULT, and a heartbeat of each.
 fn fill(book: &mut Book) -> Result<(), Fail> {
-    let size = Size::new(10000, 10).ok_or("no size")?;
-    let mine = Name::parse("g1")?;
-    let other = Name::parse("d1")?;
-    let label = Label::parse("gpu")?;
-    book.enter(Event::Register {
-        node: mine,
-        label,
-        size,
-    })?;
-    book.enter(Event::Register {
-        node: other,
-        label: Label::Unlabelled,
-        size,
-    })?;
-    book.enter(Event::Heartbeat { node: other })?;
-    book.enter(Event::Heartbeat { node: mine })?;
+    book.enter(registered("g1", "gpu")?)?;
+    book.enter(registered("d1", "")?)?;
+    for node in ["d1", "g1"] {
+        let node = Name::parse(node)?;
+        book.enter(Event::Heartbeat { node })?;
+    }
     Ok(())
 }
 

@@ -3,6 +3,7 @@
 ghost use Rattle.std.specs.Prelude.{IfOk, IsTrue};
 ghost use Rattle.ynl_model.specs.Accepted.{is_accepted};
 
+use crate::views::registered;
 use std::alloc::Global;
 use std::process::Abort;
 use std::test::Fail;
@@ -10,17 +11,15 @@ use ynl_config::{BUILT_IN, built_in, read_config};
 use ynl_core::{Core, NoMemory, Sighted};
 use ynl_journal::{AuditFault, Book, Entry, audit, replay};
 use ynl_model::{Event, Reply};
-use ynl_resource::{Label, Name, Refusal, Size};
+use ynl_resource::{Name, Refusal};
 
 /// A node joins, and joins again, which is refused; then it is ready for more.
 fn event(number: u64) -> Result<Event, Fail> {
-    let node = Name::parse("g1")?;
     if number == 2 {
+        let node = Name::parse("g1")?;
         return Ok(Event::Heartbeat { node });
     }
-    let label = Label::parse("gpu")?;
-    let size = Size::new(10000, 10).ok_or("no size")?;
-    Ok(Event::Register { node, label, size })
+    registered("g1", "gpu")
 }
 
 // Run with each allocation failing in turn: where memory is refused at the first try, which a line
