@@ -57,8 +57,7 @@ impl Apps {
         self.rows.get(number)
     }
 
-    /// Reserves room for one more application. It fails if memory is refused, if there are 2^32 - 1 applications, and
-    /// after 2^64 - 1 additions.
+    /// Reserves room for one more application. It fails if memory is refused, and if there are 2^32 - 1 applications.
     pub fn reserve_one(&mut self) -> Result<(), AllocError>
         ensures apps { self.new ≡ record self.old { room = self.new.room } }
         ensures ok { OnOk result (0 < self.new.room) }

@@ -26,7 +26,7 @@ fn save_state<W: Write>(
     ensures text { SavesState (W.contents writer.old) (W.contents writer.new) core.now.config core.now.state result }
     ensures fault { IfErr result (λ e. e ≢ Read) }
 {
-    let saving = core.saving()?;
+    let saving = core.saving();
     let size = match measure_state(alloc, &saving)? {
         Ok(size) => size,
         Err(fault) => return Ok(Err(fault)),

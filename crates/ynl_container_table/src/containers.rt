@@ -2,7 +2,7 @@
 
 ghost use Rattle.std.specs.Prelude.{◌≡◌, ◌<◌, ◌≤◌, ◌+◌, ◌++◌, ◌∷◌, [], length, map, nat_eq, option_copied, option_map, Some, IfOk, IsOk, OnOk, IfSome};
 ghost use Rattle.std.specs.Map.{lookup};
-ghost use Rattle.ynl_slots.specs.Slots.{IsLive, IsUnused, HasDistinctNumbers, without};
+ghost use Rattle.ynl_slots.specs.Slots.{number_in, IsAfter, IsLive, IsUnused, HasDistinctNumbers, without};
 ghost use Rattle.ynl_slots.specs.declared.chain.Chain.{Chain};
 ghost use Rattle.ynl_container_table.specs.Table.{IsAbove, IsRising, number_at};
 ghost use Rattle.ynl_container_table.specs.Chains.{IsNodeChain, IsAppChain, KeepsNodes, KeepsApps, IsFirstOfNode, IsFirstOfApp, IsNextOfNode, IsNextOfApp};
@@ -63,8 +63,7 @@ impl Containers {
         self.rows.len()
     }
 
-    /// Reserves room for one more container. It fails if memory is refused, if there are 2^32 - 1 containers, and after
-    /// 2^64 - 1 placements.
+    /// Reserves room for one more container. It fails if memory is refused, and if there are 2^32 - 1 containers.
     pub fn reserve_one(&mut self) -> Result<(), AllocError>
         ensures table { self.new ≡ record self.old { room = self.new.room } }
         ensures ok { OnOk result (0 < self.new.room) }
@@ -75,8 +74,7 @@ impl Containers {
         self.rows.reserve_one()
     }
 
-    /// Reserves room for so many more containers. It fails if memory is refused, past 2^32 - 1 containers, and past 2^64 - 1
-    /// placements.
+    /// Reserves room for so many more containers. It fails if memory is refused, and past 2^32 - 1 containers.
     pub fn reserve(&mut self, count: u32) -> Result<(), AllocError>
         ensures table { self.new ≡ record self.old { room = self.new.room } }
         ensures ok { OnOk result (count ≤ self.new.room) }
@@ -125,8 +123,7 @@ impl Containers {
         }
     }
 
-    /// The containers in the order of placement. It fails if memory is refused, and takes the time
-    /// of a sort.
+    /// The containers in the order of placement. It fails if memory is refused.
     pub fn copies(&self, alloc: Global) -> Result<Vec<Container>, AllocError>
         ensures { IfOk result (λ list. list.items ≡ map (λ e. e.1) self.now.entries) }
     {
@@ -134,12 +131,19 @@ impl Containers {
         containers_of(alloc, &rows)
     }
 
-    /// The numbers of the containers, in the order of placement. It fails if memory is refused, and takes
-    /// the time of a sort.
-    pub fn numbers(&self, alloc: Global) -> Result<Vec<u32>, AllocError>
-        ensures { IfOk result (λ numbers. numbers.items ≡ map (λ e. e.0) self.now.entries) }
+    /// The container that was placed first, if there is one.
+    pub fn first(&self) -> Option<u32>
+        ensures { result ≡ number_in self.now.entries 0 }
     {
-        self.rows.numbers(alloc)
+        self.rows.first()
+    }
+
+    /// The container that was placed next after one, if there is one.
+    pub fn next(&self, number: u32) -> Option<u32>
+        requires { IsLive number self.now.entries }
+        ensures { IsAfter number self.now.entries result }
+    {
+        self.rows.next(number)
     }
 
     /// The number of the container with a clock, if there is one.

@@ -248,12 +248,11 @@ impl Core {
         Ok(explain(self.alloc, &self.cluster, tenant, app)?)
     }
 
-    /// The state, to be told line by line. It fails if memory is refused.
-    pub fn saving(&self) -> Result<Saving<'_>, NoMemory>
-        ensures { IfOk result (λ saving. saving
-            ≡ record { config = self.now.config; state = self.now.state }) }
+    /// The state, to be told line by line, which takes no memory.
+    pub fn saving(&self) -> Saving<'_>
+        ensures { result ≡ record { config = self.now.config; state = self.now.state } }
     {
-        Ok(Saving::of(self.alloc, &self.cluster)?)
+        Saving::of(&self.cluster)
     }
 
     /// The most that one user may use of the leaf's part of a partition, where a container of this size

@@ -112,8 +112,7 @@ impl Core {
     {
         let config = self.config().copy(self.alloc)?;
         let mut copying = Copying::new(self.alloc, config)?;
-        let saving = self.saving()?;
-        match saving.tell(&mut copying) {
+        match self.saving().tell(&mut copying) {
             Ok(()) => Core::resume(self.alloc, copying.into_told()),
             Err(CopyFault::NoMemory) => Err(NoMemory),
             Err(CopyFault::Unsound) => unreachable!(),

@@ -2,7 +2,7 @@
 
 ghost use Rattle.std.specs.Prelude.{◌≡◌, ◌<◌, ◌≤◌, nat_eq, length, map, slice_get, option_map, Some, None, IfNone, nat_le, false, true, IfOk, IsOk, OnOk, OnErr, IfSome, IsSome};
 ghost use Rattle.std.specs.Map.{lookup};
-ghost use Rattle.ynl_slots.specs.Slots.{without, IsLive, IsUnused};
+ghost use Rattle.ynl_slots.specs.Slots.{number_in, without, IsAfter, IsLive, IsUnused};
 ghost use Rattle.ynl_app_table.specs.Chains.{chain_of};
 ghost use Rattle.ynl_inventory.specs.Changes.{partition_of_node, with_placed, with_ended, with_joined, with_dropped, with_node_gone, with_submitted, with_asked, with_tickets, with_app_gone, with_user_known, with_clock, with_stamp};
 ghost use Rattle.ynl_model.specs.Nodes.{rises};
@@ -337,12 +337,19 @@ impl Inventory {
         &self.nodes[number]
     }
 
-    /// The numbers of the nodes, in the order of joining. It fails if memory is refused, and takes
-    /// the time of a sort.
-    pub fn live_nodes(&self, alloc: Global) -> Result<Vec<u32>, AllocError>
-        ensures { IfOk result (λ numbers. numbers.items ≡ map (λ e. e.0) self.now.rows.nodes) }
+    /// The node that joined first, if there is one.
+    pub fn first_node(&self) -> Option<u32>
+        ensures { result ≡ number_in self.now.rows.nodes 0 }
     {
-        self.nodes.numbers(alloc)
+        self.nodes.first()
+    }
+
+    /// The node that joined next after one, if there is one.
+    pub fn next_node(&self, number: u32) -> Option<u32>
+        requires { IsLive number self.now.rows.nodes }
+        ensures { IsAfter number self.now.rows.nodes result }
+    {
+        self.nodes.next(number)
     }
 
     /// What is free of a node: what its containers leave.
@@ -404,8 +411,7 @@ impl Inventory {
         container_in(&self.partitions, p, number)
     }
 
-    /// The containers of a partition, in the order of placement. It fails if memory is refused, and
-    /// takes the time of a sort.
+    /// The containers of a partition, in the order of placement. It fails if memory is refused.
     pub fn containers(&self, alloc: Global, p: u8) -> Result<Vec<Container>, AllocError>
         requires { HasPartition self.now.rows p }
         ensures { IfOk result (λ list.
@@ -415,15 +421,23 @@ impl Inventory {
         part.containers.copies(alloc)
     }
 
-    /// The numbers of the containers of a partition, in the order of placement. It fails if memory is
-    /// refused, and takes the time of a sort.
-    pub fn container_numbers(&self, alloc: Global, p: u8) -> Result<Vec<u32>, AllocError>
+    /// The container of a partition that was placed first, if there is one.
+    pub fn first_container(&self, p: u8) -> Option<u32>
         requires { HasPartition self.now.rows p }
-        ensures { IfOk result (λ numbers.
-            numbers.items ≡ map (λ e. e.0) (containers_of self.now.rows p)) }
+        ensures { result ≡ number_in (containers_of self.now.rows p) 0 }
     {
         let part = &self.partitions[p as usize];
-        part.containers.numbers(alloc)
+        part.containers.first()
+    }
+
+    /// The container of a partition that was placed next after one, if there is one.
+    pub fn next_container(&self, p: u8, number: u32) -> Option<u32>
+        requires partition { HasPartition self.now.rows p }
+        requires live { IsLive number (containers_of self.now.rows p) }
+        ensures { IsAfter number (containers_of self.now.rows p) result }
+    {
+        let part = &self.partitions[p as usize];
+        part.containers.next(number)
     }
 
     /// The queues under numbers.

@@ -3,7 +3,7 @@
 ghost use Rattle.std.specs.Prelude.{◌≡◌, ◌++◌, ◌∷◌, [], length, map, nat_eq, false, true, option_copied, option_map, Some, None, IsTrue, IfOk, IfSome, OnErr, OnOk};
 ghost use Rattle.std.specs.Map.{lookup};
 ghost use Rattle.ynl_resource.specs.Amounts.{plus, less, fits_in, IsSmall};
-ghost use Rattle.ynl_slots.specs.Slots.{IsLive, IsUnused, HasDistinctNumbers, without};
+ghost use Rattle.ynl_slots.specs.Slots.{number_in, IsAfter, IsLive, IsUnused, HasDistinctNumbers, without};
 ghost use Rattle.ynl_node_table.specs.Nodes.{HasDistinctNames, Joins, Rejoins, number_of, with_change};
 
 use crate::numbers::Numbers;
@@ -73,11 +73,19 @@ impl Nodes {
         self.rows.len()
     }
 
-    /// The numbers of the nodes, in the order of joining. It fails if memory is refused, and takes the time of a sort.
-    pub fn numbers(&self, alloc: Global) -> Result<Vec<u32>, AllocError>
-        ensures { IfOk result (λ numbers. numbers.items ≡ map (λ e. e.0) self.now.entries) }
+    /// The node that joined first, if there is one.
+    pub fn first(&self) -> Option<u32>
+        ensures { result ≡ number_in self.now.entries 0 }
     {
-        self.rows.numbers(alloc)
+        self.rows.first()
+    }
+
+    /// The node that joined next after one, if there is one.
+    pub fn next(&self, number: u32) -> Option<u32>
+        requires { IsLive number self.now.entries }
+        ensures { IsAfter number self.now.entries result }
+    {
+        self.rows.next(number)
     }
 
     /// The node under a number, if there is one.
@@ -96,8 +104,8 @@ impl Nodes {
         self.numbers.get(name)
     }
 
-    /// A node comes last, with all of it free and no containers. It returns the number. It fails if memory is refused, if there
-    /// are 2^32 - 2 nodes, and after 2^64 - 2 calls.
+    /// A node comes last, with all of it free and no containers. It returns the number. It fails if memory is refused, and if
+    /// there are 2^32 - 2 nodes.
     pub fn join(
         &mut self,
         name: &Name,
@@ -129,8 +137,8 @@ impl Nodes {
         }
     }
 
-    /// Reserves room for a node that joins again. It fails if memory is refused, if there are
-    /// 2^32 - 1 nodes, and after 2^64 - 1 calls.
+    /// Reserves room for a node that joins again. It fails if memory is refused, and if there are
+    /// 2^32 - 1 nodes.
     pub fn reserve_one(&mut self) -> Result<(), AllocError>
         ensures ok { OnOk result (self.new ≡ record self.old { ready = true }) }
         ensures err { OnErr result (self.new ≡ self.old) }

@@ -4,13 +4,12 @@ use Rattle.std.specs.Prelude.{IfSome}
 use Rattle.std.specs.List.{AllByRecursion, Contains, list_any}
 use Rattle.std.proofs.lemmas.Bool.Decides.{nat_tests}
 use Rattle.std.specs.Map.{lookup}
-use Rattle.std.proofs.lemmas.List.{length-map, map-append, take_all, take_more}
+use Rattle.std.proofs.lemmas.List.{length-map}
 use Rattle.std.proofs.lemmas.Option.{get_or_from_slice_get, none-some, same_Some, slice_get-map}
 use Rattle.ynl_resource.specs.declared.amounts.Resource.{Resource}
 use Rattle.ynl_resource.specs.declared.labels.Label.{Label}
 use Rattle.ynl_model.specs.declared.nodes.Node.{Node}
 use Rattle.ynl_model.specs.Cluster.{free, is_spent, node_of as node_named}
-use Rattle.ynl_laws.proofs.Lists.{map-map}
 use Rattle.ynl_inventory.specs.Rows.{NodeRow, PartitionRow}
 use Rattle.ynl_inventory.specs.Meaning.{node_of}
 use Rattle.ynl_inventory.specs.Parts.{free_of}
@@ -22,8 +21,7 @@ use Rattle.ynl_search.proofs.FreeMeans.{free-means}
 use Rattle.ynl_search.proofs.Tests.{counted-some}
 use Rattle.ynl_cluster.specs.Cluster.{ClusterView, label_of, maxima_in, state_in, stops_in}
 use Rattle.ynl_admission.specs.Named.{IsNodeNamed, IsPartitionOf}
-use Rattle.ynl_waits.specs.Grounds.{all_spots, spot}
-use Rattle.ynl_waits.specs.declared.grounds.Spot.{Spot}
+use Rattle.ynl_waits.specs.Grounds.{spot}
 use Rattle.ynl_reading.specs.Readings.{IsNodeHere}
 
 abbrev Entry : Type 0
@@ -56,36 +54,6 @@ module _ (w : ClusterView) (sound : IsSound w.rows) where
 
   pub is-here : (node : Node) → Contains (state_in w).nodes node → (n : ℕ) → IsNodeNamed w node.name n → IsNodeHere w node n
   is-here node there n it = record { row = it.row; found = it.found; is = same_Some (node_of w.rows.partitions it.row) node (sym it.named ∙ found-here node there) }
-
-  -- the spots of the nodes so far
-  abbrev pub spots_to : ℕ → List Spot
-  spots_to i = map (λ (e : Entry). spot (state_in w) (node_of w.rows.partitions e.1)) (take i w.rows.nodes)
-
-  pub record IsNextNode (i n : ℕ) : Type 0 where
-    pub row : NodeRow
-    pub found : lookup (nat_eq n) w.rows.nodes ≡ Some row
-    pub next : spots_to (i + 1) ≡ spots_to i ++ spot (state_in w) (node_of w.rows.partitions row) ∷ []
-
-  pub next-node : (numbers : List ℕ) → numbers ≡ map (λ e. e.0) w.rows.nodes → (i n : ℕ) → i < length numbers → n ≡ get_or numbers i n → IsNextNode i n
-  next-node numbers are i n inside read =
-      let within : i < length w.rows.nodes = subst (λ k. i < k) (ap length are ∙ length-map w.rows.nodes (λ (e : Entry). e.0)) inside in
-      let there = place-there w.rows.nodes i within in
-      let number : n ≡ there.0.0 =
-      read ∙ ap (λ ns. get_or ns i n) are ∙ get_or_from_slice_get (map (λ (e : Entry). e.0) w.rows.nodes) i there.0.0 n (slice_get-map (λ (e : Entry). e.0) w.rows.nodes i ∙ ap (option_map (λ (e : Entry). e.0)) there.1) in
-      record {
-        row = there.0.1;
-        found = ap (λ m. lookup (nat_eq m) w.rows.nodes) number ∙ in-place (λ (e : Entry). lookup (nat_eq e.0) w.rows.nodes ≡ Some e.1) w.rows.nodes i there.0 each-found there.1;
-        next =
-            ap (map (λ (e : Entry). spot (state_in w) (node_of w.rows.partitions e.1)))
-            (take_more w.rows.nodes i there.0 within ∙ (λ j. take i w.rows.nodes ++ get_or_from_slice_get w.rows.nodes i there.0 there.0 there.1 j ∷ []))
-            ∙ map-append (λ (e : Entry). spot (state_in w) (node_of w.rows.partitions e.1)) (take i w.rows.nodes) (there.0 ∷ []);
-      }
-
-  pub all-nodes : (numbers : List ℕ) → numbers ≡ map (λ e. e.0) w.rows.nodes → (i : ℕ) → length numbers ≤ i → spots_to i ≡ all_spots (state_in w)
-  all-nodes numbers are i past =
-      let all : take i w.rows.nodes ≡ w.rows.nodes = take_all i w.rows.nodes (subst (λ k. k ≤ i) (ap length are ∙ length-map w.rows.nodes (λ (e : Entry). e.0)) past) in
-      ap (map (λ (e : Entry). spot (state_in w) (node_of w.rows.partitions e.1))) all
-      ∙ sym (map-map (spot (state_in w)) (λ (e : Entry). node_of w.rows.partitions e.1) w.rows.nodes)
 
 -- a node of a row with what is free on it
 pub spot-told : (w : ClusterView) → IsSound w.rows → (n : ℕ) (row : NodeRow) → lookup (nat_eq n) w.rows.nodes ≡ Some row → (label : Label) (left : Resource) → label ≡ label_of w row.partition → left ≡ free_of w.rows n

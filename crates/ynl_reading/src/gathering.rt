@@ -97,10 +97,11 @@ pub(crate) fn spots_of(alloc: Global, cluster: &Cluster) -> Result<Vec<Spot>, Al
     ensures { IfOk result (λ spots. spots.items ≡ all_spots (state_in cluster.now)) }
 {
     let inventory = cluster.inventory();
-    let nodes = inventory.live_nodes(alloc)?;
     let mut spots = Vec::new(alloc);
-    for i in 0..nodes.len() {
-        add(&mut spots, &spot_of(cluster, nodes[i]))?;
+    let mut next = inventory.first_node();
+    while let Some(number) = next {
+        add(&mut spots, &spot_of(cluster, number))?;
+        next = inventory.next_node(number);
     }
     Ok(spots)
 }

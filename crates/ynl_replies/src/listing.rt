@@ -46,14 +46,16 @@ fn add_node(list: &mut Vec<Node>, node: &Node) -> Result<(), AllocError>
     Ok(())
 }
 
-/// The nodes, in the order of joining. It fails if memory is refused, and takes the time of a sort.
+/// The nodes, in the order of joining. It fails if memory is refused.
 pub fn nodes(alloc: Global, cluster: &Cluster) -> Result<Vec<Node>, AllocError>
     ensures { IfOk result (λ list. list.items ≡ (state_in cluster.now).nodes) }
 {
-    let numbers = cluster.inventory().live_nodes(alloc)?;
+    let inventory = cluster.inventory();
     let mut list = Vec::new(alloc);
-    for i in 0..numbers.len() {
-        add_node(&mut list, &node_at(cluster, numbers[i]))?;
+    let mut next = inventory.first_node();
+    while let Some(number) = next {
+        add_node(&mut list, &node_at(cluster, number))?;
+        next = inventory.next_node(number);
     }
     Ok(list)
 }
@@ -85,8 +87,7 @@ fn add(list: &mut Vec<Placed>, placed: &Placed) -> Result<(), AllocError>
     Ok(())
 }
 
-/// The containers of a partition, in the order of placement. It fails if memory is refused, and
-/// takes the time of a sort.
+/// The containers of a partition, in the order of placement. It fails if memory is refused.
 pub fn containers(alloc: Global, cluster: &Cluster, p: u8) -> Result<Vec<Placed>, AllocError>
     requires { HasPartition cluster.now.rows p }
     ensures { IfOk result (λ list.

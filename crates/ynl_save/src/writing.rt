@@ -37,9 +37,8 @@ pub fn write_state(alloc: Global, core: &Core) -> Result<Result<Vec<u8>, StateFa
     ensures long { IfOk result (λ written. IfErr written (λ _.
         limit < length (state_text core.now.config core.now.state))) }
 {
-    let saving = core.saving()?;
     let mut text = StateText::new(alloc);
-    match add_state(&saving, &mut text) {
+    match add_state(&core.saving(), &mut text) {
         Ok(()) => Ok(Ok(text.into_text())),
         Err(TextFault::Size) => Ok(Err(StateFault::Size)),
         Err(TextFault::NoMemory) => Err(NoMemory),

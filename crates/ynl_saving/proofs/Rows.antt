@@ -1,16 +1,14 @@
 -- Rows in places, under their numbers, and what the model has there.
-use Rattle.std.proofs.Common.{◌≡◌, ◌<◌, ◌+◌, ℕ, zero, suc, Bool, true, false, cond, List, [], ◌∷◌, ◌++◌, length, map, filter, find, take, get_or, slice_get, Option, None, Some, option_map, is_some, nat_eq, refl, sym, ap, subst, ◌∙◌, arith, true≢false}
+use Rattle.std.proofs.Common.{◌≡◌, ◌<◌, ◌+◌, ℕ, zero, suc, Bool, true, false, cond, List, [], ◌∷◌, ◌++◌, length, map, filter, find, slice_get, Option, None, Some, option_map, is_some, nat_eq, refl, sym, ap, subst, ◌∙◌, arith, true≢false}
 use Rattle.std.specs.Prelude.{IfSome, flat_map}
 use Rattle.std.specs.Map.{lookup}
 use Rattle.std.specs.Option.{option_map_or, option_and_then}
-use Rattle.std.specs.List.{AllByRecursion}
 use Rattle.std.proofs.lemmas.Bool.Decides.{nat_tests}
-use Rattle.std.proofs.lemmas.List.{append_assoc, append-nil, length-map, length-take, map-append}
-use Rattle.std.proofs.lemmas.Option.{get_or_from_slice_get, same_Some, slice_get-get_or, slice_get-map, slice_get_read, slice_get_within}
+use Rattle.std.proofs.lemmas.List.{length-map}
+use Rattle.std.proofs.lemmas.Option.{get_or_from_slice_get, none-some, same_Some, slice_get-map, slice_get_within}
 use Rattle.std.specs.Option.{IsSome}
-use Rattle.std.specs.Prelude.{Vec}
-use Rattle.std.specs.declared.alloc.Global.{Global}
 use Rattle.ynl_model.specs.declared.containers.Placed.{Placed}
+use Rattle.ynl_model.specs.declared.nodes.Node.{Node}
 use Rattle.ynl_container_table.specs.declared.container.Container.{Container}
 use Rattle.ynl_admission.proofs.Submitting.{leaf-told as configured-leaf}
 use Rattle.ynl_replies.proofs.Following.{each-held}
@@ -23,24 +21,23 @@ use Rattle.ynl_model.specs.Applications.{LeafApps, find_app}
 use Rattle.ynl_model.specs.Cluster.{Partition}
 use Rattle.ynl_model.specs.Queues.{QueueRow, is_leaf}
 use Rattle.ynl_container_table.proofs.Removing.{at_live}
-use Rattle.ynl_layout.specs.Paths.{HasNumber, path_at}
+use Rattle.ynl_layout.specs.Paths.{path_at}
 use Rattle.ynl_submissions.specs.declared.submissions.Submission.{Submission}
-use Rattle.ynl_inventory.specs.Rows.{Rows, PartitionRow, AppRow}
+use Rattle.ynl_inventory.specs.Rows.{Rows, NodeRow, PartitionRow, AppRow}
 use Rattle.ynl_inventory.specs.Apps.{containers_of}
-use Rattle.ynl_inventory.specs.Meaning.{has_none_below, label_at, leaf_numbers, leaves_from, leaf_of, live_of, partition_of, placed_of, submitted_to, tenant_at}
+use Rattle.ynl_inventory.specs.Meaning.{has_none_below, label_at, leaves_from, leaf_of, live_of, node_of, partition_of, placed_of, submitted_to, tenant_at}
 use Rattle.ynl_inventory.specs.Parts.{Held, held_at}
 use Rattle.ynl_inventory.specs.Sound.{HasPartition, IsFor, IsLeaf, IsSound}
 use Rattle.ynl_inventory.proofs.AppsFound.{app-found, row-found}
 use Rattle.ynl_inventory.proofs.Lookups.{in-place, place-there}
-use Rattle.ynl_inventory.proofs.PartLists.{unmapped}
-use Rattle.ynl_inventory.proofs.Submitted.{app-submission, each-leaf}
+use Rattle.ynl_inventory.proofs.Submitted.{app-submission}
 use Rattle.ynl_cluster.specs.Cluster.{ClusterView, held_in, label_of, state_in}
 use Rattle.ynl_saved.specs.declared.lines.StateLine.{StateLine}
-use Rattle.ynl_saved.specs.declared.lines.StateLine.TheVariants.{Container as ContainerLine, Finished, Partition as PartitionLine}
+use Rattle.ynl_saved.specs.declared.lines.StateLine.TheVariants.{Container as ContainerLine, Finished, Node as NodeLine, Partition as PartitionLine}
 use Rattle.ynl_saved.specs.Saving.{app_lines, leaf_lines, live_lines, partition_line}
-use Rattle.ynl_saved.proofs.Handing.{take-one}
-use Rattle.ynl_laws.proofs.Lists.{Each-append}
-use Rattle.ynl_saving.specs.Told.{submission_lines}
+use Rattle.ynl_slots.specs.Slots.{number_in, HasDistinctNumbers}
+use Rattle.ynl_slots.proofs.Walks.{here, here_found}
+use Rattle.ynl_saving.specs.Told.{numbered, queue_lines, submission_lines}
 
 -- ---- leaves
 
@@ -125,28 +122,45 @@ module _ (w : ClusterView) (p : ℕ) where
       let there = place-there w.rows.partitions p has in
       (there.0, there.1, slice_get-map (partition_of w.rows) w.rows.partitions p ∙ ap (option_map (partition_of w.rows)) there.1)
 
+-- ---- nodes
+
+module _ (w : ClusterView) (sound : IsSound w.rows) (i n : ℕ) (found : number_in w.rows.nodes i ≡ Some n) where
+  -- the line of the node whose number is in a place is the one in that place
+  pub node-line-there : (node : Node) → ((row : NodeRow) → lookup (nat_eq n) w.rows.nodes ≡ Some row → node ≡ node_of w.rows.partitions row) → slice_get (map NodeLine (state_in w).nodes) i ≡ Some (NodeLine node)
+  node-line-there node told =
+      let there = here w.rows.nodes i n found in
+      slice_get-map NodeLine (state_in w).nodes i
+      ∙ ap (option_map NodeLine) (slice_get-map (λ (e : ℕ × NodeRow). node_of w.rows.partitions e.1) w.rows.nodes i ∙ ap (option_map (λ (e : ℕ × NodeRow). node_of w.rows.partitions e.1)) there.at)
+      ∙ ap (λ (node : Node). Some (NodeLine node)) (sym (told there.row (here_found w.rows.nodes i n there.row sound.node_numbers there.at)))
+
 -- ---- containers
 
-module _ (w : ClusterView) (sound : IsSound w.rows) (p : ℕ) (numbers : List ℕ) (are : numbers ≡ map (λ e. e.0) (containers_of w.rows p)) (i : ℕ) (inside : i < length numbers) where
-  -- the container whose number is in a place
-  container-at : (c : Container) × (slice_get (containers_of w.rows p) i ≡ Some (get_or numbers i 0, c)) × (held_at w.rows p (get_or numbers i 0) ≡ Some c)
-  container-at =
-      let own = unmapped (λ (e : ℕ × Container). e.0) (slice_get (containers_of w.rows p) i) (get_or numbers i 0)
-      (sym (slice_get-map (λ (e : ℕ × Container). e.0) (containers_of w.rows p) i) ∙ ap (λ ns. slice_get ns i) (sym are) ∙ slice_get-get_or numbers i 0 inside)
-      in
-      let held = in-place (λ (e : ℕ × Container). held_at w.rows p e.0 ≡ Some e.1) (containers_of w.rows p) i own.0 (each-held w.rows sound p) own.1 in
-      (own.0.1, own.1 ∙ ap (λ (n : ℕ). Some (n, own.0.1)) own.2, ap (held_at w.rows p) (sym own.2) ∙ held)
+-- the containers of a partition have numbers of their own
+pub containers-apart : (v : Rows) → IsSound v → (p : ℕ) → HasDistinctNumbers (containers_of v p)
+containers-apart v sound p = by (slice_get v.partitions p) refl
+  where
+    by : (o : Option PartitionRow) → slice_get v.partitions p ≡ o → HasDistinctNumbers (option_map_or (λ (row : PartitionRow). row.containers) o [])
+    by None is = tt
+    by (Some row) is = (sound.partitions p row is).numbers
 
-  pub container-held : (h : Held) → h ≡ held_in w → IsSome (held_at h.rows p (get_or numbers i 0))
-  container-held h is = subst (λ (h : Held). IsSome (held_at h.rows p (get_or numbers i 0))) (sym is) (ap is_some container-at.2)
+module _ (w : ClusterView) (sound : IsSound w.rows) (p i n : ℕ) (found : number_in (containers_of w.rows p) i ≡ Some n) where
+  -- the container whose number is in a place
+  container-at : (c : Container) × (slice_get (containers_of w.rows p) i ≡ Some (n, c)) × (held_at w.rows p n ≡ Some c)
+  container-at =
+      let there = here (containers_of w.rows p) i n found in
+      let held = in-place (λ (e : ℕ × Container). held_at w.rows p e.0 ≡ Some e.1) (containers_of w.rows p) i (n, there.row) (each-held w.rows sound p) there.at in
+      (there.row, there.at, held)
+
+  pub container-held : (h : Held) → h ≡ held_in w → IsSome (held_at h.rows p n)
+  container-held h is = subst (λ (h : Held). IsSome (held_at h.rows p n)) (sym is) (ap is_some container-at.2)
 
   -- its line is the one in that place
-  pub container-line-there : (h : Held) → h ≡ held_in w → (placed : Placed) → IfSome (held_at h.rows p (get_or numbers i 0)) (λ c. placed ≡ placed_of h.rows (label_at h.rows.partitions p) c)
+  pub container-line-there : (h : Held) → h ≡ held_in w → (placed : Placed) → IfSome (held_at h.rows p n) (λ c. placed ≡ placed_of h.rows (label_at h.rows.partitions p) c)
       → slice_get (map ContainerLine (map (λ e. placed_of w.rows (label_of w p) e.1) (containers_of w.rows p))) i ≡ Some (ContainerLine placed)
   container-line-there h is placed told =
       let own : placed ≡ placed_of w.rows (label_of w p) container-at.0 =
-      at_live (λ c. placed ≡ placed_of w.rows (label_of w p) c) (held_at w.rows p (get_or numbers i 0)) container-at.0
-      (subst (λ (h : Held). IfSome (held_at h.rows p (get_or numbers i 0)) (λ c. placed ≡ placed_of h.rows (label_at h.rows.partitions p) c)) is told) container-at.2
+      at_live (λ c. placed ≡ placed_of w.rows (label_of w p) c) (held_at w.rows p n) container-at.0
+      (subst (λ (h : Held). IfSome (held_at h.rows p n) (λ c. placed ≡ placed_of h.rows (label_at h.rows.partitions p) c)) is told) container-at.2
       in
       slice_get-map ContainerLine (map (λ (e : ℕ × Container). placed_of w.rows (label_of w p) e.1) (containers_of w.rows p)) i
       ∙ ap (option_map ContainerLine) (slice_get-map (λ (e : ℕ × Container). placed_of w.rows (label_of w p) e.1) (containers_of w.rows p) i ∙ ap (option_map (λ (e : ℕ × Container). placed_of w.rows (label_of w p) e.1)) container-at.1)
@@ -158,90 +172,55 @@ pub containers-told : (w : ClusterView) (p : ℕ) (row : PartitionRow) → slice
 containers-told w p _ at =
     (λ i. map ContainerLine (map (λ (e : ℕ × Container). placed_of w.rows (option_map_or (λ (own : PartitionRow). own.label) (at i) Unlabelled) e.1) (option_map_or (λ (own : PartitionRow). own.containers) (at i) [])))
 
--- the numbers of the containers of a partition
-abbrev pub numbers_in : PartitionRow → List ℕ
-numbers_in own = map (λ e. e.0) own.containers
-
--- they stand in its place among those of all
-pub numbers-at : (w : ClusterView) (p : ℕ) → HasPartition w.rows p → slice_get (map numbers_in w.rows.partitions) p ≡ Some (map (λ e. e.0) (containers_of w.rows p))
-numbers-at w p has =
-    let there = place-there w.rows.partitions p has in
-    slice_get-map numbers_in w.rows.partitions p ∙ ap (option_map numbers_in) there.1
-    ∙ ap (λ o. Some (map (λ e. e.0) (option_map_or (λ (own : PartitionRow). own.containers) o []))) (sym there.1)
-
-pub numbers-of : (w : ClusterView) (lists : List (Vec ℕ Global)) → map (λ list. list.items) lists ≡ map numbers_in w.rows.partitions
-    → (p : ℕ) → HasPartition w.rows p → (list : Vec ℕ Global) → list ≡ get_or lists p list → list.items ≡ map (λ e. e.0) (containers_of w.rows p)
-numbers-of w lists are p has list read =
-    let inside : p < length lists = subst (λ n. p < n) (sym (sym (length-map lists (λ (list : Vec ℕ Global). list.items)) ∙ ap length are ∙ length-map w.rows.partitions numbers_in)) has in
-    same_Some list.items (map (λ e. e.0) (containers_of w.rows p))
-    (sym (slice_get-map (λ (list : Vec ℕ Global). list.items) lists p ∙ ap (option_map (λ (list : Vec ℕ Global). list.items)) (slice_get_read lists (length lists) p list refl inside read))
-    ∙ ap (λ xs. slice_get xs p) are ∙ numbers-at w p has)
-
--- one more partition is listed
-pub numbers-more : (w : ClusterView) (lists new : List (Vec ℕ Global)) (p : ℕ) → map (λ list. list.items) lists ≡ take p (map numbers_in w.rows.partitions) → HasPartition w.rows p
-    → (list : Vec ℕ Global) → (h : Held) → h ≡ held_in w → list.items ≡ map (λ e. e.0) (containers_of h.rows p) → new ≡ lists ++ list ∷ [] → map (λ list. list.items) new ≡ take (p + 1) (map numbers_in w.rows.partitions)
-numbers-more w lists new p before has list h is numbers made =
-    ap (map (λ (list : Vec ℕ Global). list.items)) made ∙ map-append (λ (list : Vec ℕ Global). list.items) lists (list ∷ [])
-    ∙ (λ i. before i ++ (numbers ∙ ap (λ (h : Held). map (λ e. e.0) (containers_of h.rows p)) is) i ∷ [])
-    ∙ sym (take-one (map numbers_in w.rows.partitions) p (map (λ e. e.0) (containers_of w.rows p)) (numbers-at w p has))
-
 -- ---- the leaves
 
--- the leaves of paths from a number on, with one path more behind them
-leaves-behind : (all : List Path) (n : ℕ) (paths : List Path) (path : Path)
-    → leaves_from all n (paths ++ path ∷ []) ≡ leaves_from all n paths ++ cond (has_none_below all path) ((n + length paths) ∷ []) []
-leaves-behind all n [] path = append-nil (cond (has_none_below all path) (n ∷ []) []) ∙ (let same : n ≡ n + 0 = omega arith in ap (λ m. cond (has_none_below all path) (m ∷ []) []) same)
-leaves-behind all n (p ∷ ps) path =
-    ap (λ ls. cond (has_none_below all p) (n ∷ []) [] ++ ls)
-    (leaves-behind all (n + 1) ps path ∙ (let same : (n + 1) + length ps ≡ n + suc (length ps) = omega arith in ap (λ m. leaves_from all (n + 1) ps ++ cond (has_none_below all path) (m ∷ []) []) same))
-    ∙ sym (append_assoc (cond (has_none_below all p) (n ∷ []) []) (leaves_from all (n + 1) ps) (cond (has_none_below all path) ((n + suc (length ps)) ∷ []) []))
-
--- one more queue is looked at
-pub leaves-more : (all : List Path) (i : ℕ) (path : Path) → slice_get all i ≡ Some path
-    → leaves_from all 1 (take (i + 1) all) ≡ leaves_from all 1 (take i all) ++ cond (has_none_below all path) ((i + 1) ∷ []) []
-leaves-more all i path at =
-    ap (leaves_from all 1) (take-one all i path at) ∙ leaves-behind all 1 (take i all) path
-    ∙ (let same : 1 + length (take i all) ≡ i + 1 = omega (arith, taken) in ap (λ m. leaves_from all 1 (take i all) ++ cond (has_none_below all path) (m ∷ []) []) same)
+-- the leaves are told queue by queue
+pub leaves-told : (v : Rows) (n : ℕ) (paths : List Path) → flat_map leaf_lines (map (leaf_of v) (leaves_from v.paths n paths)) ≡ flat_map (queue_lines v) (numbered n paths)
+leaves-told v n [] = refl
+leaves-told v n (path ∷ paths) =
+    first (has_none_below v.paths path) (leaves_from v.paths (n + 1) paths)
+    ∙ ap (λ ls. queue_lines v (n, path) ++ ls) (leaves-told v (n + 1) paths)
   where
-    taken : length (take i all) ≡ i
-    taken = let counted = length-take i all in let inside = slice_get_within all i path at in omega (arith, counted, inside)
+    first : (b : Bool) (ns : List ℕ) → flat_map leaf_lines (map (leaf_of v) (cond b (n ∷ []) [] ++ ns)) ≡ cond b (leaf_lines (leaf_of v n)) [] ++ flat_map leaf_lines (map (leaf_of v) ns)
+    first true ns = refl
+    first false ns = refl
 
--- one more queue is listed where it is a leaf
-pub leaves-next : (w : ClusterView) → IsFor w.config w.rows → (i : ℕ) (row : QueueRow) → slice_get w.config.queues i ≡ Some row → (leaf : Bool) → leaf ≡ is_leaf w.config row.path
-    → (old new : List ℕ) → old ≡ leaves_from w.rows.paths 1 (take i w.rows.paths) → new ≡ old ++ cond leaf ((i + 1) ∷ []) [] → new ≡ leaves_from w.rows.paths 1 (take (i + 1) w.rows.paths)
-leaves-next w configured i row at leaf is old new before made =
-    made
-    ∙ (λ j. before j
-    ++ cond ((is ∙ sym (configured-leaf w configured row.path)) j) ((i + 1) ∷ []) [])
-    ∙ sym (leaves-more w.rows.paths i row.path (ap (λ (paths : List Path). slice_get paths i) configured.paths ∙ slice_get-map (λ (row : QueueRow). row.path) w.config.queues i ∙ ap (option_map (λ (row : QueueRow). row.path)) at))
+-- each queue has its number
+pub numbered-at : (n : ℕ) (paths : List Path) (i : ℕ) (path : Path) → slice_get paths i ≡ Some path → slice_get (numbered n paths) i ≡ Some (n + i, path)
+numbered-at n [] i path at = absurd (none-some path at)
+numbered-at n (p ∷ ps) zero path at = let same : n ≡ n + 0 = omega arith in λ j. Some (same j, same_Some p path at j)
+numbered-at n (p ∷ ps) (suc i) path at = let same : n + 1 + i ≡ n + suc i = omega arith in numbered-at (n + 1) ps i path at ∙ ap (λ (m : ℕ). Some (m, path)) same
 
--- below the queues of these numbers there is none
-each-low : (all : List Path) (k : ℕ) (paths : List Path) → ((i : ℕ) (path : Path) → slice_get paths i ≡ Some path → path_at all (k + i) ≡ path)
-    → AllByRecursion (λ q. has_none_below all (path_at all q) ≡ true) (leaves_from all k paths)
-each-low all k [] stand = tt
-each-low all k (path ∷ paths) stand =
-    Each-append (λ q. has_none_below all (path_at all q) ≡ true) (cond (has_none_below all path) (k ∷ []) []) (leaves_from all (k + 1) paths) (first (has_none_below all path) refl)
-    (each-low all (k + 1) paths (λ i other at. let next : k + suc i ≡ k + 1 + i = omega arith in subst (λ n. path_at all n ≡ other) next (stand (suc i) other at)))
-  where
-    first : (b : Bool) → has_none_below all path ≡ b → AllByRecursion (λ q. has_none_below all (path_at all q) ≡ true) (cond b (k ∷ []) [])
-    first true is = (let same : k + 0 ≡ k = omega arith in ap (has_none_below all) (subst (λ n. path_at all n ≡ path) same (stand 0 path refl)) ∙ is, tt)
-    first false is = tt
+pub length-numbered : (n : ℕ) (paths : List Path) → length (numbered n paths) ≡ length paths
+length-numbered n [] = refl
+length-numbered n (p ∷ ps) = ap suc (length-numbered (n + 1) ps)
 
-module _ (v : Rows) (leaves : List ℕ) (are : leaves ≡ leaf_numbers v.paths) (i : ℕ) (inside : i < length leaves) where
-  number-there : slice_get (leaf_numbers v.paths) i ≡ Some (get_or leaves i 0)
-  number-there = ap (λ ns. slice_get ns i) (sym are) ∙ slice_get-get_or leaves i 0 inside
+module _ (w : ClusterView) (configured : IsFor w.config w.rows) (i : ℕ) (row : QueueRow) (at : slice_get w.config.queues i ≡ Some row) where
+  -- a queue's path stands in its place
+  pub path-there : slice_get w.rows.paths i ≡ Some row.path
+  path-there = ap (λ (paths : List Path). slice_get paths i) configured.paths ∙ slice_get-map (λ (row : QueueRow). row.path) w.config.queues i ∙ ap (option_map (λ (row : QueueRow). row.path)) at
 
-  -- the queue of that number is a leaf
-  pub leaf-at : IsLeaf v (get_or leaves i 0)
-  leaf-at = record {
-    there = in-place (HasNumber v.paths) (leaf_numbers v.paths) i (get_or leaves i 0) (each-leaf v.paths) number-there;
-    none_below =
-        in-place (λ q. has_none_below v.paths (path_at v.paths q) ≡ true) (leaf_numbers v.paths) i (get_or leaves i 0)
-        (each-low v.paths 1 v.paths
-        (λ k path at. let next : 1 + k ≡ suc k = omega arith in ap (path_at v.paths) next ∙ get_or_from_slice_get v.paths k path root at))
-        number-there;
-  }
+  -- the queue is a leaf where it is one of the configuration
+  pub leaf-here : is_leaf w.config row.path ≡ true → IsLeaf w.rows (i + 1)
+  leaf-here leaf =
+      let next : suc i ≡ i + 1 = omega arith in
+      let path : path_at w.rows.paths (i + 1) ≡ row.path = ap (path_at w.rows.paths) (sym next) ∙ get_or_from_slice_get w.rows.paths i row.path root path-there in
+      let inside = slice_get_within w.rows.paths i row.path path-there in
+      record { there = omega (arith, inside); none_below = ap (has_none_below w.rows.paths) path ∙ configured-leaf w configured row.path ∙ leaf }
 
-  -- the row of the leaf whose number is in a place
-  pub leaf-row-at : slice_get (map (leaf_of v) (leaf_numbers v.paths)) i ≡ Some (leaf_of v (get_or leaves i 0))
-  leaf-row-at = slice_get-map (leaf_of v) (leaf_numbers v.paths) i ∙ ap (option_map (leaf_of v)) number-there
+  -- its lines are a leaf's, or none
+  pub queue-told : (leaf : Bool) → leaf ≡ is_leaf w.config row.path → (path : Path) → slice_get w.rows.paths i ≡ Some path → queue_lines w.rows (i + 1, path) ≡ cond leaf (leaf_lines (leaf_of w.rows (i + 1))) []
+  queue-told leaf told path there =
+      let own : path ≡ row.path = same_Some path row.path (sym there ∙ path-there) in
+      ap (λ (b : Bool). let ls : List StateLine = cond b (leaf_lines (leaf_of w.rows (i + 1))) [] in ls) (ap (has_none_below w.rows.paths) own ∙ configured-leaf w configured row.path ∙ sym told)
+
+-- the queue that stands in a place, with its number
+pub queue-at : (w : ClusterView) → IsFor w.config w.rows → (i : ℕ) → i < length w.config.queues → (path : Path) × (slice_get w.rows.paths i ≡ Some path) × (slice_get (numbered 1 w.rows.paths) i ≡ Some (i + 1, path))
+queue-at w configured i inside =
+    let there = place-there w.rows.paths i (subst (λ n. i < n) (sym (length-map w.config.queues (λ (row : QueueRow). row.path)) ∙ sym (ap length configured.paths)) inside) in
+    let same : 1 + i ≡ i + 1 = omega arith in
+    (there.0, there.1, numbered-at 1 w.rows.paths i there.0 there.1 ∙ ap (λ (n : ℕ). Some (n, there.0)) same)
+
+-- as many as the configuration has
+pub queues-counted : (w : ClusterView) → IsFor w.config w.rows → length (numbered 1 w.rows.paths) ≡ length w.config.queues
+queues-counted w configured = length-numbered 1 w.rows.paths ∙ ap length configured.paths ∙ length-map w.config.queues (λ (row : QueueRow). row.path)

@@ -1,19 +1,20 @@
 //! Applications are told, leaf by leaf.
 
-ghost use Rattle.std.specs.Prelude.{◌≡◌, ◌<◌, flat_map, length, map, nat_eq, slice_get, Some};
+ghost use Rattle.std.specs.Prelude.{◌≡◌, ◌<◌, ◌+◌, flat_map, length, map, nat_eq, slice_get, Some};
 ghost use Rattle.std.specs.Map.{lookup};
 ghost use Rattle.ynl_resource.specs.Names.{tenant_of};
 ghost use Rattle.ynl_resource.specs.declared.names.Name.{Name};
+ghost use Rattle.ynl_resource.specs.declared.paths.Path.{Path};
 ghost use Rattle.ynl_slots.specs.Slots.{IsLive};
 ghost use Rattle.ynl_submissions.specs.declared.submissions.Submission.{Submission};
 ghost use Rattle.ynl_inventory.specs.Rows.{AppRow};
-ghost use Rattle.ynl_inventory.specs.Meaning.{app_of, leaf_numbers, leaf_of, submitted_to};
+ghost use Rattle.ynl_inventory.specs.Meaning.{app_of, leaf_of, submitted_to};
 ghost use Rattle.ynl_inventory.specs.Sound.{IsLeaf};
 ghost use Rattle.ynl_cluster.specs.Cluster.{state_in};
 ghost use Rattle.ynl_saved.specs.declared.lines.StateLine.TheVariants.{Ask as AskLine};
 ghost use Rattle.ynl_saved.specs.Handing.{Hands};
 ghost use Rattle.ynl_saved.specs.Saving.{leaf_lines, live_lines};
-ghost use Rattle.ynl_saving.specs.Told.{submission_lines};
+ghost use Rattle.ynl_saving.specs.Told.{queue_lines, submission_lines};
 
 use crate::lines::{ask_line, live_line};
 use ynl_admission::tenant_of_leaf;
@@ -88,20 +89,32 @@ fn hand_leaf<S: LineSink>(cluster: &Cluster, leaf: usize, sink: &mut S) -> Resul
     Ok(())
 }
 
-/// All applications are told, leaf by leaf; these are the numbers of the leaves.
-pub(crate) fn hand_leaves<S: LineSink>(
-    cluster: &Cluster,
-    leaves: &[usize],
-    sink: &mut S,
-) -> Result<(), S::Fault>
-    requires { leaves.now ≡ leaf_numbers cluster.now.rows.paths }
+/// The applications of a queue are told, if it is a leaf.
+fn hand_queue<S: LineSink>(cluster: &Cluster, i: usize, sink: &mut S) -> Result<(), S::Fault>
+    requires { i < length cluster.now.config.queues }
+    ensures { (path : Path) → slice_get cluster.now.rows.paths i ≡ Some path
+        → Hands S.gives sink.old (queue_lines cluster.now.rows (i + 1, path)) sink.new result }
+{
+    // Opens the inventory, whose rows are those of the configuration.
+    let _ = cluster.inventory();
+    let config = cluster.config();
+    let row = &config.queues()[i];
+    if config.is_leaf(row.path.names()) {
+        hand_leaf(cluster, i + 1, sink)
+    } else {
+        Ok(())
+    }
+}
+
+/// All applications are told, leaf by leaf.
+pub(crate) fn hand_leaves<S: LineSink>(cluster: &Cluster, sink: &mut S) -> Result<(), S::Fault>
     ensures { Hands S.gives sink.old (flat_map leaf_lines (state_in cluster.now).leaves)
         sink.new result }
 {
-    // Opens the inventory, whose rows are sound.
+    // Opens the inventory, whose rows are those of the configuration.
     let _ = cluster.inventory();
-    for i in 0..leaves.len() {
-        hand_leaf(cluster, leaves[i], sink)?;
+    for i in 0..cluster.config().queues().len() {
+        hand_queue(cluster, i, sink)?;
     }
     Ok(())
 }

@@ -6,7 +6,6 @@ pub use saving::Saving;
 mod applications;
 mod containers;
 mod lines;
-mod order;
 mod partitions;
 mod queues;
 mod saving;

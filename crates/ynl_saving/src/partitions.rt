@@ -22,19 +22,15 @@ pub(crate) fn hand_partitions<S: LineSink>(cluster: &Cluster, sink: &mut S) -> R
     Ok(())
 }
 
-/// All nodes are told, which have these numbers in the order of joining.
-pub(crate) fn hand_nodes<S: LineSink>(
-    cluster: &Cluster,
-    numbers: &[u32],
-    sink: &mut S,
-) -> Result<(), S::Fault>
-    requires { numbers.now ≡ map (λ e. e.0) cluster.now.rows.nodes }
+/// All nodes are told, in the order of joining.
+pub(crate) fn hand_nodes<S: LineSink>(cluster: &Cluster, sink: &mut S) -> Result<(), S::Fault>
     ensures { Hands S.gives sink.old (map NodeLine (state_in cluster.now).nodes) sink.new result }
 {
-    // Opens the inventory, whose rows are sound.
-    let _ = cluster.inventory();
-    for i in 0..numbers.len() {
-        sink.take(&StateLine::Node(node_at(cluster, numbers[i])))?;
+    let inventory = cluster.inventory();
+    let mut next = inventory.first_node();
+    while let Some(number) = next {
+        sink.take(&StateLine::Node(node_at(cluster, number)))?;
+        next = inventory.next_node(number);
     }
     Ok(())
 }

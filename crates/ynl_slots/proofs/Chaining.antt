@@ -1,5 +1,5 @@
 -- How a chain keeps its numbers in order while the links of its rows are written.
-use Rattle.std.proofs.Common.{◌≡◌, ◌≢◌, ℕ, Bool, true, false, cond, is_some, IsSome, nat_eq, List, [], ◌∷◌, ◌++◌, map, Option, Some, None, option_map, refl, sym, ap, subst, ◌∙◌, inl, inr, arith, true≢false}
+use Rattle.std.proofs.Common.{◌≡◌, ◌≢◌, ℕ, zero, suc, Bool, true, false, cond, is_some, IsSome, nat_eq, List, [], ◌∷◌, ◌++◌, map, Option, Some, None, option_map, slice_get, refl, sym, ap, subst, ◌∙◌, inl, inr, arith, true≢false}
 use Rattle.std.specs.List.{AllByRecursion}
 use Rattle.std.specs.Map.{lookup}
 use Rattle.std.specs.Option.{option_or}
@@ -46,6 +46,10 @@ distinct_push : (xs : List ℕ) (k : ℕ) → AreDistinct xs → AllByRecursion 
 distinct_push [] k d h = (tt, tt)
 distinct_push (x ∷ xs) k d h = (all_append (λ m. m ≢ x) xs (k ∷ []) d.0 (λ e. h.0 (sym e), tt), distinct_push xs k d.1 h.1)
 
+pub apart_front : (xs : List ℕ) (k : ℕ) (ys : List ℕ) → AreDistinct (xs ++ k ∷ ys) → AllByRecursion (λ n. n ≢ k) xs
+apart_front [] k ys d = tt
+apart_front (x ∷ xs) k ys d = ((λ e. (all_back (λ m. m ≢ x) xs (k ∷ ys) d.0).0 (sym e)), apart_front xs k ys d.1)
+
 -- no number of ys is one of xs
 AreApart : List ℕ → List ℕ → Type 0
 AreApart xs ys = AllByRecursion (λ n. AllByRecursion (λ m. m ≢ n) ys) xs
@@ -54,7 +58,7 @@ distinct_front : (xs ys : List ℕ) → AreDistinct (xs ++ ys) → AreDistinct x
 distinct_front [] ys d = tt
 distinct_front (x ∷ xs) ys d = (all_front (λ m. m ≢ x) xs ys d.0, distinct_front xs ys d.1)
 
-distinct_back : (xs ys : List ℕ) → AreDistinct (xs ++ ys) → AreDistinct ys
+pub distinct_back : (xs ys : List ℕ) → AreDistinct (xs ++ ys) → AreDistinct ys
 distinct_back [] ys d = d
 distinct_back (x ∷ xs) ys d = distinct_back xs ys d.1
 
@@ -107,9 +111,9 @@ run_from at new before other (x ∷ xs) after r d same changed =
 
 -- ---- one write of links
 
-record AtSets (at new : ℕ → Option Links) (number : Option ℕ) (to : Links → Links) : Type 0 where
-  row : (n : ℕ) → number ≡ Some n → new n ≡ option_map to (at n)
-  others : (n : ℕ) → number ≢ Some n → new n ≡ at n
+pub record AtSets (at new : ℕ → Option Links) (number : Option ℕ) (to : Links → Links) : Type 0 where
+  pub row : (n : ℕ) → number ≡ Some n → new n ≡ option_map to (at n)
+  pub others : (n : ℕ) → number ≢ Some n → new n ≡ at n
 
 module _ {X : Type 0} (links : X → Links) (with_links : X → Links → X) (law : (row : X) (to : Links) → links (with_links row to) ≡ to) where
   at_sets : (number : Option ℕ) (to : Links → Links) (old new : List (ℕ × X)) → SetsLinks with_links number (λ r. to (links r)) old new → AtSets (links_at links old) (links_at links new) number to
@@ -187,7 +191,7 @@ to_one : (to : Links) (o : Option Links) → IsSome o → option_map (λ _. to) 
 to_one to None some = absurd (true≢false (sym some))
 to_one to (Some l) some = refl
 
-chain_append : (at mid new : ℕ → Option Links) (chain : Chain) (ns : List ℕ) (k : ℕ) → IsChain at chain ns → AllByRecursion (λ n. n ≢ k) ns
+pub chain_append : (at mid new : ℕ → Option Links) (chain : Chain) (ns : List ℕ) (k : ℕ) → IsChain at chain ns → AllByRecursion (λ n. n ≢ k) ns
     → AtSets at mid chain.last (next_set (Some k)) → AtSets mid new (Some k) (λ _. record { prev = chain.last; next = None }) → IsSome (mid k)
     → IsChain new (record { first = option_or chain.first (Some k); last = Some k }) (ns ++ k ∷ [])
 chain_append at mid new chain ns k c absent one two live = record {
@@ -227,7 +231,7 @@ last_beside front k [] end links prev next is =
 last_beside front k (y ∷ ys) end links prev next is =
     ap (λ o. cond (is_some o) end links.prev) next ∙ is ∙ last_append None front (k ∷ y ∷ ys) ∙ sym (last_append None front (y ∷ ys))
 
-chain_remove : (at mid new : ℕ → Option Links) (chain : Chain) (front : List ℕ) (k : ℕ) (back : List ℕ) (links : Links) → IsChain at chain (front ++ k ∷ back) → at k ≡ Some links
+pub chain_remove : (at mid new : ℕ → Option Links) (chain : Chain) (front : List ℕ) (k : ℕ) (back : List ℕ) (links : Links) → IsChain at chain (front ++ k ∷ back) → at k ≡ Some links
     → AtSets at mid links.prev (next_set links.next) → AtSets mid new links.next (prev_set links.prev)
     → IsChain new (record { first = cond (is_some links.prev) chain.first links.next; last = cond (is_some links.next) chain.last links.prev }) (front ++ back)
 unfolding AreApart
@@ -295,6 +299,17 @@ last_live links entries chain ns n c is =
 -- the links of a number between others name the ones beside it
 pub beside : (at : ℕ → Option Links) (front : List ℕ) (k : ℕ) (back : List ℕ) (chain : Chain) → IsChain at chain (front ++ k ∷ back) → at k ≡ Some (record { prev = last_or None front; next = first_or None back })
 beside at front k back chain c = (run_back at None front (k ∷ back) None c.run).0
+
+-- the links of a number in a place name the one in the next
+pub run_next : (at : ℕ → Option Links) (before : Option ℕ) (ns : List ℕ) (i k : ℕ) → IsRun at before ns None → slice_get ns i ≡ Some k → (to : Links) × (at k ≡ Some to) × (to.next ≡ slice_get ns (suc i))
+run_next at before [] i k r found = absurd (none-some k found)
+run_next at before (n ∷ ns) zero k r found =
+    (record { prev = before; next = first_or None ns }, ap at (sym (same_Some n k found)) ∙ r.0, first ns)
+  where
+    first : (ms : List ℕ) → first_or None ms ≡ slice_get ms 0
+    first [] = refl
+    first (m ∷ ms) = refl
+run_next at before (n ∷ ns) (suc i) k r found = run_next at (Some n) ns i k r.1 found
 
 module _ {X : Type 0} (links : X → Links) (entries : List (ℕ × X)) (chain : Chain) (front : List ℕ) (k : ℕ) (back : List ℕ) (c : IsChain (links_at links entries) chain (front ++ k ∷ back)) where
   pub middle_live : IsLive k entries

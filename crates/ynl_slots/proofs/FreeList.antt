@@ -1,5 +1,5 @@
 -- How each change of the slots keeps the count and the list of free slots.
-use Rattle.std.proofs.Common.{◌≡◌, ◌≢◌, ◌⊎◌, ℕ, zero, suc, ◌+◌, ◌-◌, ◌<◌, List, [], ◌∷◌, ◌++◌, map, length, get_or, set, Some, None, is_some, count_by, cond, slice_get, refl, sym, ap, subst, ◌∙◌, inl, inr, arith, length-set}
+use Rattle.std.proofs.Common.{◌≡◌, ◌≢◌, ◌⊎◌, ℕ, zero, suc, ◌+◌, ◌-◌, ◌<◌, List, [], ◌∷◌, ◌++◌, map, length, get_or, set, Some, None, is_some, IsSome, count_by, cond, slice_get, refl, sym, ap, subst, ◌∙◌, inl, inr, arith, length-set}
 use Rattle.std.proofs.lemmas.List.{map-set, map_push, length-map, length_push, get_or-map, get_or-set_same, get_or-set_other}
 use Rattle.std.proofs.lemmas.List.Sums.{sum_by-set, sum_by_push}
 use Rattle.std.proofs.lemmas.Option.{slice_get_within, slice_get-get_or, slice_get_read, get_or_from_slice_get}
@@ -31,8 +31,8 @@ module _ {T : Type 0} where
       (p.0, kept, IsFreeList-set slots number slot n p.0 (λ m below. off m (omega arith)) p.2)
 
   -- a live slot is on no list of free slots
-  live_is_off_list : (slots : List (Slot T)) (number turn : ℕ) (row : T) → slice_get slots number ≡ Some (Live turn row) → (m : ℕ) → IsFreeList slots (suc m) number → ⊥
-  live_is_off_list slots number turn row found m p = let listed = p.1 in cc
+  live_is_off_list : (slots : List (Slot T)) (number before after : ℕ) (row : T) → slice_get slots number ≡ Some (Live before after row) → (m : ℕ) → IsFreeList slots (suc m) number → ⊥
+  live_is_off_list slots number before after row found m p = let listed = p.1 in cc
 
   -- the count of rows after a write
   count-set : (slots : List (Slot T)) (number : ℕ) (old new : Slot T) → slice_get slots number ≡ Some old → count_by is_some (map row_of (set slots number new)) + cond (is_some (row_of old)) 1 0 ≡ count_by is_some (map row_of slots) + cond (is_some (row_of new)) 1 0
@@ -44,7 +44,7 @@ module _ {T : Type 0} where
       rw (map-set row_of slots number new, ← read) counted
 
   -- the first free slot is the end of slots that are all live, or it is free
-  free_cases : (slots : List (Slot T)) (len free : ℕ) → IsSound slots len free → ((free ≡ length slots) × (len ≡ length slots)) ⊎ ((after : ℕ) × (slice_get slots free ≡ Some (Free after)))
+  pub free_cases : (slots : List (Slot T)) (len free : ℕ) → IsSound slots len free → ((free ≡ length slots) × (len ≡ length slots)) ⊎ ((after : ℕ) × (slice_get slots free ≡ Some (Free after)))
   free_cases slots len free sound = by_count sound.spare sound.total sound.linked
     where
       by_count : (n : ℕ) → len + n ≡ length slots → IsFreeList slots n free → ((free ≡ length slots) × (len ≡ length slots)) ⊎ ((after : ℕ) × (slice_get slots free ≡ Some (Free after)))
@@ -71,44 +71,44 @@ module _ {T : Type 0} where
   pub read_at_free : (slots : List (Slot T)) (len free : ℕ) (slot : Slot T) → IsSound slots len free → free ≢ length slots → slot ≡ get_or slots free slot → slice_get slots free ≡ Some slot
   read_at_free slots len free slot sound before read = slice_get_read slots (length slots) free slot refl (free_within slots len free sound before) read
 
-  pub free_is_not_live : (slots : List (Slot T)) (len free turn : ℕ) (row : T) → IsSound slots len free → slice_get slots free ≡ Some (Live turn row) → ⊥
-  free_is_not_live slots len free turn row sound found =
+  pub free_is_not_live : (slots : List (Slot T)) (len free before after : ℕ) (row : T) → IsSound slots len free → slice_get slots free ≡ Some (Live before after row) → ⊥
+  free_is_not_live slots len free before after row sound found =
       let listed = (free_before_end slots len free sound (λ e. omega (arith, slice_get_within slots free _ found))).1 in
       cc
 
-  pub IsSound-push : (slots : List (Slot T)) (len free turn : ℕ) (row : T) → IsSound slots len free → free ≡ length slots → IsSound (slots ++ Live turn row ∷ []) (len + 1) (free + 1)
-  IsSound-push slots len free turn row sound at_end =
+  pub IsSound-push : (slots : List (Slot T)) (len free : ℕ) (live : Slot T) → IsSome (row_of live) → IsSound slots len free → free ≡ length slots → IsSound (slots ++ live ∷ []) (len + 1) (free + 1)
+  IsSound-push slots len free live some sound at_end =
       let full = full_at_end slots len free sound at_end in
-      let longer = length_push slots (Live turn row) in
+      let longer = length_push slots live in
       record {
-        counted = rw (map_push row_of slots (Live turn row), sum_by_push (λ o. cond (is_some o) 1 0) (map row_of slots) (Some row)) (ap (λ n. n + 1) sound.counted);
+        counted = rw (map_push row_of slots live, sum_by_push (λ o. cond (is_some o) 1 0) (map row_of slots) (row_of live), some) (ap (λ n. n + 1) sound.counted);
         spare = 0;
         total = omega arith;
         linked = omega arith;
       }
 
   -- the first free slot leaves the list: the rest of the list is shorter, so it does not come back to that number
-  pub IsSound-fill : (slots : List (Slot T)) (len free after turn : ℕ) (row : T) → IsSound slots len free → slice_get slots free ≡ Some (Free after) → IsSound (set slots free (Live turn row)) (len + 1) after
-  IsSound-fill slots len free after turn row sound found = by_count sound.spare sound.total sound.linked
+  pub IsSound-fill : (slots : List (Slot T)) (len free next : ℕ) (live : Slot T) → IsSome (row_of live) → IsSound slots len free → slice_get slots free ≡ Some (Free next) → IsSound (set slots free live) (len + 1) next
+  IsSound-fill slots len free next live some sound found = by_count sound.spare sound.total sound.linked
     where
-      by_count : (n : ℕ) → len + n ≡ length slots → IsFreeList slots n free → IsSound (set slots free (Live turn row)) (len + 1) after
+      by_count : (n : ℕ) → len + n ≡ length slots → IsFreeList slots n free → IsSound (set slots free live) (len + 1) next
       by_count zero total linked = absurd (omega (arith, slice_get_within slots free _ found))
       by_count (suc n) total linked =
           let listed = linked.1 in
-          let same : linked.0 ≡ after = cc in
+          let same : linked.0 ≡ next = cc in
           let off : (m : ℕ) → m < n → IsFreeList slots (suc m) free → ⊥ =
           λ m below p. omega (arith, IsFreeList-count_unique slots (suc m) (suc n) free p linked) in
           record {
-            counted = omega (arith, sound.counted, count-set slots free (Free after) (Live turn row) found);
+            counted = omega (arith, sound.counted, rw some at (count-set slots free (Free next) live found));
             spare = n;
-            total = omega (arith, length-set slots free (Live turn row));
-            linked = IsFreeList-set slots free (Live turn row) n after off (subst (IsFreeList slots n) same linked.2);
+            total = omega (arith, length-set slots free live);
+            linked = IsFreeList-set slots free live n next off (subst (IsFreeList slots n) same linked.2);
           }
 
-  pub IsSound-free : (slots : List (Slot T)) (len free number turn : ℕ) (row : T) → IsSound slots len free → slice_get slots number ≡ Some (Live turn row) → IsSound (set slots number (Free free)) (len - 1) number
-  IsSound-free slots len free number turn row sound found =
+  pub IsSound-free : (slots : List (Slot T)) (len free number before after : ℕ) (row : T) → IsSound slots len free → slice_get slots number ≡ Some (Live before after row) → IsSound (set slots number (Free free)) (len - 1) number
+  IsSound-free slots len free number before after row sound found =
       let within = slice_get_within slots number _ found in
-      let count = count-set slots number (Live turn row) (Free free) found in
+      let count = count-set slots number (Live before after row) (Free free) found in
       let counted = sound.counted in
       let total = sound.total in
       let written : slice_get (set slots number (Free free)) number ≡ Some (Free free) =
@@ -118,19 +118,14 @@ module _ {T : Type 0} where
         counted = omega arith;
         spare = suc sound.spare;
         total = omega (arith, length-set slots number (Free free));
-        linked = (free, written, IsFreeList-set slots number (Free free) sound.spare free (λ m _. live_is_off_list slots number turn row found m) sound.linked);
+        linked = (free, written, IsFreeList-set slots number (Free free) sound.spare free (λ m _. live_is_off_list slots number before after row found m) sound.linked);
       }
 
-  pub IsSound-rewrite : (slots : List (Slot T)) (len free number turn : ℕ) (old new : T) → IsSound slots len free → slice_get slots number ≡ Some (Live turn old) → IsSound (set slots number (Live turn new)) len free
-  IsSound-rewrite slots len free number turn old new sound found =
+  pub IsSound-rewrite : (slots : List (Slot T)) (len free number before after : ℕ) (row : T) (live : Slot T) → IsSome (row_of live) → IsSound slots len free → slice_get slots number ≡ Some (Live before after row) → IsSound (set slots number live) len free
+  IsSound-rewrite slots len free number before after row live some sound found =
       record {
-        counted = omega (arith, sound.counted, count-set slots number (Live turn old) (Live turn new) found);
+        counted = omega (arith, sound.counted, rw some at (count-set slots number (Live before after row) live found));
         spare = sound.spare;
-        total = omega (arith, sound.total, length-set slots number (Live turn new));
-        linked = IsFreeList-set slots number (Live turn new) sound.spare free (λ m _. live_is_off_list slots number turn old found m) sound.linked;
+        total = omega (arith, sound.total, length-set slots number live);
+        linked = IsFreeList-set slots number live sound.spare free (λ m _. live_is_off_list slots number before after row found m) sound.linked;
       }
-
-  -- a row is removed where one is live
-  pub some_live : (slots : List (Slot T)) (len free number turn : ℕ) (row : T) → IsSound slots len free → slice_get slots number ≡ Some (Live turn row) → 0 < len
-  some_live slots len free number turn row sound found =
-      omega (arith, sound.counted, count-set slots number (Live turn row) (Free free) found)

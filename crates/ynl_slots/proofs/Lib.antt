@@ -2,8 +2,10 @@ pub mod Lists
 pub mod FreeList
 pub mod Lookups
 pub mod Entries
-pub mod Pushes
+pub mod Chaining
+pub mod Ordered
+pub mod Slotted
+pub mod Order
 pub mod Room
 pub mod Calls
-pub mod Sorting
-pub mod Chaining
+pub mod Walks

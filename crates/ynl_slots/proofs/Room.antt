@@ -3,5 +3,5 @@ use Rattle.std.proofs.Common.{ℕ, ◌-◌, ◌^◌, ◌<◌, arith}
 use Rattle.ynl_slots.specs.Kept.{room_of}
 
 -- what room for one says
-pub room_bounds : (capacity len next : ℕ) → 0 < room_of capacity len next → (len < capacity) × (len < 2 ^ 32 - 1) × (next < 2 ^ 64 - 1)
-room_bounds capacity len next room = (omega arith, omega arith, omega arith)
+pub room_bounds : (capacity len : ℕ) → 0 < room_of capacity len → (len < capacity) × (len < 2 ^ 32 - 1)
+room_bounds capacity len room = (omega arith, omega arith)

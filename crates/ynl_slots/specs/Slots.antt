@@ -1,5 +1,5 @@
 -- Rows under the numbers of their slots, as a contract sees them.
-use Rattle.std.specs.Prelude.{◌≡◌, ◌≢◌, ⊤, ℕ, not, List, [], ◌∷◌, filter, map, nat_eq, if◌then◌else◌, IsSome, refl}
+use Rattle.std.specs.Prelude.{◌≡◌, ◌≢◌, ⊤, ℕ, not, ◌+◌, List, [], ◌∷◌, filter, map, nat_eq, slice_get, if◌then◌else◌, Option, Some, IsSome, refl}
 use Rattle.std.specs.List.{AllByRecursion}
 use Rattle.std.specs.Map.{lookup}
 use Rattle.std.specs.Coded.{Coded, code_by, coded×, coded_ℕ, coded_list}
@@ -18,6 +18,14 @@ numbered_code {T} code =
 -- a row is under the number
 abbrev pub IsLive : {X : Type 0} → ℕ → List (ℕ × X) → Type 0
 IsLive number entries = IsSome (lookup (nat_eq number) entries)
+
+-- the number of the entry in a place
+abbrev pub number_in : {X : Type 0} → List (ℕ × X) → ℕ → Option ℕ
+number_in entries i = slice_get (map (λ e. e.0) entries) i
+
+-- this is the number after one, in the order of the pushes
+abbrev pub IsAfter : {X : Type 0} → ℕ → List (ℕ × X) → Option ℕ → Type 0
+IsAfter number entries next = (i : ℕ) → number_in entries i ≡ Some number → next ≡ number_in entries (i + 1)
 
 -- no row is under the number
 abbrev pub IsUnused : {X : Type 0} → ℕ → List (ℕ × X) → Type 0

@@ -1,21 +1,25 @@
 //! Rows in slots, with a list of the free ones.
 
-ghost use Rattle.std.specs.Prelude.{◌≡◌, ◌≤◌, ◌<◌, ◌+◌, ◌^◌, ◌++◌, ◌∷◌, ◌==◌, [], length, map, Some, IsSome, IsOk, OnOk, IfOk, IfSome, slice_index_or, nat_eq, option_copied};
+ghost use Rattle.std.specs.Prelude.{◌≡◌, ◌≤◌, ◌<◌, ◌+◌, ◌-◌, ◌^◌, ◌++◌, ◌∷◌, ◌==◌, [], length, map, vec_capacity, None, Some, IsSome, IsOk, OnOk, IfOk, IfSome, slice_index_or, if◌then◌else◌, nat_eq, option_copied};
 ghost use Rattle.std.specs.Map.{lookup};
 ghost use Rattle.std.specs.Borrow.{Lends, sem};
-ghost use Rattle.ynl_slots.specs.Slots.{IsLive, IsUnused, IsOnly, HasDistinctNumbers, without};
-ghost use Rattle.ynl_slots.specs.Kept.{row_of, slot_with, pushes_of, turn_entry, turns_of};
+ghost use Rattle.ynl_slots.specs.Slots.{number_in, IsLive, IsAfter, IsUnused, IsOnly, HasDistinctNumbers, without};
+ghost use Rattle.ynl_slots.specs.Kept.{after_of, after_set, before_of, before_set, changed, filled, number_of, row_in, row_of, slot_at, slot_with, CanFill, Fills};
 
 use std::alloc::{AllocError, Global};
 use std::marker::Model;
 use std::mem;
 use std::ops::{Index, IndexMut};
 
+/// No slot has this number.
+const END: u32 = u32::MAX;
+
 #[derive(Drop)]
 enum Slot<T> {
     /// The next free slot, or how many slots there are.
     Free(u32),
-    Live { turn: u64, row: T },
+    /// A row, and the slots of the rows pushed before and after it.
+    Live { before: u32, after: u32, row: T },
 }
 
 /// Rows under the numbers of their slots. A row is found by its number in constant time. A removal takes no
@@ -27,8 +31,9 @@ pub struct Slots<T> {
     len: usize,
     /// The first free slot, or how many slots there are.
     free: u32,
-    /// The turn of the next push.
-    next: u64,
+    /// The slots of the rows that were pushed first and last.
+    first: u32,
+    last: u32,
 }
 
 impl<T> Model for Slots<T> {
@@ -55,8 +60,28 @@ impl<T> Slot<T> {
         ensures value { row_of self.old ≡ Some result.now }
     {
         match self {
-            Slot::Live { turn: _, row } => row,
+            Slot::Live { row, .. } => row,
             Slot::Free(_) => unreachable!(),
+        }
+    }
+
+    /// The row, if there is one, is followed by this one.
+    fn set_after(&mut self, to: u32)
+        ensures { self.new ≡ after_set to self.old }
+    {
+        match self {
+            Slot::Live { after, .. } => *after = to,
+            Slot::Free(_) => {}
+        }
+    }
+
+    /// The row, if there is one, follows this one.
+    fn set_before(&mut self, to: u32)
+        ensures { self.new ≡ before_set to self.old }
+    {
+        match self {
+            Slot::Live { before, .. } => *before = to,
+            Slot::Free(_) => {}
         }
     }
 }
@@ -70,7 +95,8 @@ impl<T> Slots<T> {
             slots: Vec::new(alloc),
             len: 0,
             free: 0,
-            next: 0,
+            first: END,
+            last: END,
         }
     }
 
@@ -89,15 +115,14 @@ impl<T> Slots<T> {
         self.len == 0
     }
 
-    /// Reserves room for one more row. It fails if memory is refused, if there are 2^32 - 1 rows, and after
-    /// 2^64 - 1 pushes.
+    /// Reserves room for one more row. It fails if memory is refused, and if there are 2^32 - 1 rows.
     pub fn reserve_one(&mut self) -> Result<(), AllocError>
         ensures entries { self.new.entries ≡ self.old.entries }
         ensures ok { OnOk result (0 < self.new.room) }
         ensures had_room { 0 < self.old.room → IsOk result }
         ensures room { self.old.room ≤ self.new.room }
     {
-        if self.len >= u32::MAX as usize || self.next == u64::MAX {
+        if self.len >= u32::MAX as usize {
             return Err(AllocError);
         }
         if self.len < self.slots.len() {
@@ -106,16 +131,14 @@ impl<T> Slots<T> {
         self.slots.reserve(1)
     }
 
-    /// Reserves room for so many more rows. It fails if memory is refused, past 2^32 - 1 rows, and past 2^64 - 1 pushes.
+    /// Reserves room for so many more rows. It fails if memory is refused, and past 2^32 - 1 rows.
     pub fn reserve(&mut self, count: u32) -> Result<(), AllocError>
         ensures entries { self.new.entries ≡ self.old.entries }
         ensures ok { OnOk result (count ≤ self.new.room) }
         ensures had_room { count ≤ self.old.room → IsOk result }
         ensures room { self.old.room ≤ self.new.room }
     {
-        if count as usize > u32::MAX as usize - self.len
-            || u64::from(count) > u64::MAX - self.next
-        {
+        if count as usize > u32::MAX as usize - self.len {
             return Err(AllocError);
         }
         let spare = self.slots.len() - self.len;
@@ -134,20 +157,15 @@ impl<T> Slots<T> {
     {
         let number = self.free;
         let live = Slot::Live {
-            turn: self.next,
+            before: self.last,
+            after: END,
             row,
         };
+        self.free = fill(&mut self.slots, number, live);
+        set_after(&mut self.slots, self.last, number);
+        self.first = end_of(self.first, self.first, number);
+        self.last = number;
         self.len += 1;
-        self.next += 1;
-        if number as usize == self.slots.len() {
-            self.slots.push_reserved(live);
-            self.free = number + 1;
-            return number;
-        }
-        match mem::replace(&mut self.slots[number as usize], live) {
-            Slot::Free(next) => self.free = next,
-            Slot::Live { turn: _, row: _ } => unreachable!(),
-        }
         number
     }
 
@@ -159,13 +177,19 @@ impl<T> Slots<T> {
         row_at(&self.slots, number)
     }
 
-    /// The numbers of the rows in the order of their pushes. It takes the time of a sort.
-    pub fn numbers(&self, alloc: Global) -> Result<Vec<u32>, AllocError>
-        ensures { IfOk result (λ numbers. numbers.items ≡ map (λ e. e.0) self.now.entries) }
+    /// The number of the row that was pushed first, if there is one.
+    pub fn first(&self) -> Option<u32>
+        ensures { result ≡ number_in self.now.entries 0 }
     {
-        let mut turns = turns(alloc, &self.slots)?;
-        turns.sort_by_key(|turn| turn.0)?;
-        rows_of(alloc, &turns)
+        some_number(self.first)
+    }
+
+    /// The number of the row that was pushed next after the one under a number, if there is one.
+    pub fn next(&self, number: u32) -> Option<u32>
+        requires { IsLive number self.now.entries }
+        ensures { IsAfter number self.now.entries result }
+    {
+        some_number(after_at(&self.slots, number))
     }
 
     /// Takes out the row under a number. The next push fills its slot.
@@ -175,9 +199,19 @@ impl<T> Slots<T> {
         ensures entries { self.new.entries ≡ without number self.old.entries }
         ensures room { self.old.room ≤ self.new.room }
     {
+        let before = before_at(&self.slots, number);
+        let after = after_at(&self.slots, number);
+        set_after(&mut self.slots, before, after);
+        set_before(&mut self.slots, after, before);
+        self.first = end_of(self.first, before, after);
+        self.last = end_of(self.last, after, before);
         let free = Slot::Free(self.free);
         match mem::replace(&mut self.slots[number as usize], free) {
-            Slot::Live { turn: _, row } => {
+            Slot::Live {
+                before: _,
+                after: _,
+                row,
+            } => {
                 self.len -= 1;
                 self.free = number;
                 row
@@ -196,7 +230,7 @@ impl<T> Index<u32> for Slots<T> {
 
     fn index(&self, number: u32) -> &T {
         match &self.slots[number as usize] {
-            Slot::Live { turn: _, row } => row,
+            Slot::Live { row, .. } => row,
             Slot::Free(_) => unreachable!(),
         }
     }
@@ -215,72 +249,99 @@ impl<T> IndexMut<u32> for Slots<T> {
 }
 
 impl<T: Copy> Slots<T> {
-    /// The rows in the order of their pushes. It takes the time of a sort.
+    /// The rows in the order of their pushes.
     pub fn copies(&self, alloc: Global) -> Result<Vec<T>, AllocError>
         ensures { IfOk result (λ rows. rows.items ≡ map (λ e. e.1) self.now.entries) }
     {
-        let mut pushes = pushes(alloc, &self.slots)?;
-        pushes.sort_by_key(|push| push.0)?;
-        rows_of(alloc, &pushes)
+        let mut rows = Vec::new(alloc);
+        rows.reserve(self.len())?;
+        let mut next = self.first();
+        while let Some(number) = next {
+            rows.push(self[number])?;
+            next = self.next(number);
+        }
+        Ok(rows)
     }
 }
 
-/// The turns and the rows of the live slots, in the order of the slots.
-fn pushes<T: Copy>(alloc: Global, slots: &[Slot<T>]) -> Result<Vec<(u64, T)>, AllocError>
-    ensures { IfOk result (λ pushes. pushes.items ≡ pushes_of slots.now) }
+/// A number, if a slot may have it.
+fn some_number(number: u32) -> Option<u32>
+    ensures { result ≡ number_of number }
 {
-    let mut pushes = Vec::new(alloc);
-    for slot in slots {
-        add_push(slot, &mut pushes)?;
-    }
-    Ok(pushes)
+    if number == END { None } else { Some(number) }
 }
 
-/// The turns and the numbers of the live slots, in the order of the slots.
-fn turns<T>(alloc: Global, slots: &[Slot<T>]) -> Result<Vec<(u64, u32)>, AllocError>
-    requires { length slots.now < 2 ^ 32 }
-    ensures { IfOk result (λ turns. turns.items ≡ turns_of 0 slots.now) }
+/// The end of the rows after a change: it is the same if a row stands beside the one that came or went.
+fn end_of(end: u32, beside: u32, other: u32) -> u32
+    ensures { result ≡ (if nat_eq beside (2 ^ 32 - 1) then other else end) }
 {
-    let mut turns = Vec::new(alloc);
-    for i in 0..slots.len() {
-        add_turn(&slots[i], i as u32, &mut turns)?;
-    }
-    Ok(turns)
+    if beside == END { other } else { end }
 }
 
-/// The turn and the number of a live slot come last.
-fn add_turn<T>(slot: &Slot<T>, number: u32, turns: &mut Vec<(u64, u32)>) -> Result<(), AllocError>
-    ensures { OnOk result (turns.new.items ≡ turns.old.items ++ turn_entry number slot.now) }
+/// The number of the row pushed before the one under a number.
+fn before_at<T>(slots: &[Slot<T>], number: u32) -> u32
+    ensures { result ≡ before_of (slot_at slots.now number) }
 {
-    if let Slot::Live { turn, row: _ } = slot {
-        turns.push((*turn, number))?;
+    match slots.get(number as usize) {
+        Some(Slot::Live { before, .. }) => *before,
+        _ => END,
     }
-    Ok(())
 }
 
-/// The rows of the pushes.
-fn rows_of<T: Copy>(alloc: Global, pushes: &[(u64, T)]) -> Result<Vec<T>, AllocError>
-    ensures { IfOk result (λ rows. rows.items ≡ map (λ push. push.1) pushes.now) }
+/// The number of the row pushed after it.
+fn after_at<T>(slots: &[Slot<T>], number: u32) -> u32
+    ensures { result ≡ after_of (slot_at slots.now number) }
 {
-    pushes.iter().map(|push| push.1).collect(alloc)
+    match slots.get(number as usize) {
+        Some(Slot::Live { after, .. }) => *after,
+        _ => END,
+    }
 }
 
-/// The turn and the row of a live slot come last.
-fn add_push<T: Copy>(slot: &Slot<T>, pushes: &mut Vec<(u64, T)>) -> Result<(), AllocError>
-    ensures { OnOk result (pushes.new.items ≡ pushes.old.items ++ pushes_of (slot.now ∷ [])) }
+/// The row under a number, if there is one, is followed by this one.
+fn set_after<T>(slots: &mut Vec<Slot<T>>, number: u32, to: u32)
+    ensures items { slots.new.items ≡ changed (after_set to) number slots.old.items }
+    ensures capacity { vec_capacity slots.new ≡ vec_capacity slots.old }
 {
-    if let Slot::Live { turn, row } = slot {
-        pushes.push((*turn, *row))?;
+    if (number as usize) < slots.len() {
+        slots[number as usize].set_after(to);
     }
-    Ok(())
+}
+
+/// The row under a number, if there is one, follows this one.
+fn set_before<T>(slots: &mut Vec<Slot<T>>, number: u32, to: u32)
+    ensures items { slots.new.items ≡ changed (before_set to) number slots.old.items }
+    ensures capacity { vec_capacity slots.new ≡ vec_capacity slots.old }
+{
+    if (number as usize) < slots.len() {
+        slots[number as usize].set_before(to);
+    }
+}
+
+/// Fills the first free slot, or one more if none is free. It returns the next free slot.
+fn fill<T>(slots: &mut Vec<Slot<T>>, free: u32, live: Slot<T>) -> u32
+    requires live { IsSome (row_of live) }
+    requires can { CanFill slots.old.items free (vec_capacity slots.old) }
+    ensures items { slots.new.items ≡ filled free live slots.old.items }
+    ensures sound { Fills slots.old.items free slots.new.items result }
+    ensures capacity { vec_capacity slots.new ≡ vec_capacity slots.old }
+{
+    if free as usize == slots.len() {
+        slots.push_reserved(live);
+        return free + 1;
+    }
+    match mem::replace(&mut slots[free as usize], live) {
+        Slot::Free(next) => next,
+        Slot::Live { .. } => unreachable!(),
+    }
 }
 
 /// The row in the slot of a number.
 fn row_at<T>(slots: &Vec<Slot<T>>, number: u32) -> Option<&T>
-    ensures { option_copied result ≡ slice_index_or (map row_of slots.now.items) number None }
+    ensures { option_copied result ≡ row_in slots.now.items number }
 {
     match slots.get(number as usize) {
-        Some(Slot::Live { turn: _, row }) => Some(row),
+        Some(Slot::Live { row, .. }) => Some(row),
         _ => None,
     }
 }

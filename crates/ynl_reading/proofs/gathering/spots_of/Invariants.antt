@@ -1,9 +1,13 @@
--- The nodes so far have their spots.
-use Rattle.std.proofs.Common.{◌≡◌, map, take}
+use Rattle.ynl_slots.proofs.Walks.{IsWalk, left_from}
 use Rattle.ynl_inventory.specs.Meaning.{node_of}
 use Rattle.ynl_cluster.specs.Cluster.{state_in}
 use Rattle.ynl_waits.specs.Grounds.{spot}
 use Rattle.ynl_reading.proofs.gathering.spots_of.Given as goal
 
-abbrev pub invariant-loop-i : goal.invariant-loop-i
-invariant-loop-i l = l.spots.items ≡ map (λ e. spot (state_in l.cluster) (node_of l.cluster.rows.partitions e.1)) (take l.i l.cluster.rows.nodes)
+-- the nodes before the next have their spots
+abbrev pub invariant-loop-next : goal.invariant-loop-next
+invariant-loop-next l = IsWalk (λ e. spot (state_in l.cluster) (node_of l.cluster.rows.partitions e.1)) l.cluster.rows.nodes l.next l.spots.items
+
+-- one less is left
+abbrev pub decreases-loop-next : goal.decreases-loop-next
+decreases-loop-next l = left_from l.next l.cluster.rows.nodes

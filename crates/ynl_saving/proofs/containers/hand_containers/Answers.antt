@@ -1,17 +1,16 @@
 -- The containers are told, partition by partition.
-use Rattle.std.proofs.Common.{◌∙◌, map, subst}
+use Rattle.std.proofs.Common.{map, subst}
 use Rattle.ynl_model.specs.Cluster.{Partition}
 use Rattle.ynl_cluster.specs.Cluster.{state_in}
 use Rattle.ynl_saved.specs.declared.lines.StateLine.TheVariants.{Container as ContainerLine}
 use Rattle.ynl_saved.specs.Handing.{FailsAmong, TakesAll}
 use Rattle.ynl_saved.proofs.Handing.{fails-on, fails-part, takes-part}
-use Rattle.ynl_saving.proofs.Rows.{containers-told, numbers-of, partition-counted, partition-there}
+use Rattle.ynl_saving.proofs.Rows.{containers-told, partition-counted, partition-there}
 use Rattle.ynl_saving.proofs.containers.hand_containers.Goals as goal
 
-pub hand_placed-requires-clause-numbers : goal.hand_placed-requires-clause-numbers
-hand_placed-requires-clause-numbers g c =
-    let has = partition-counted c.args.cluster.now c.loop-p.p c.inventory.result.now c.inventory.ensures.value c.partition_count-p-end.result c.partition_count-p-end.ensures.count c.loop-p-test.true in
-    c.deref.ensures.value ∙ numbers-of c.args.cluster.now c.args.numbers.now c.requires c.loop-p.p has c.index-numbers-p.result c.index-numbers-p.is
+pub hand_placed-requires : goal.hand_placed-requires
+hand_placed-requires g c =
+    partition-counted c.args.cluster.now c.loop-p.p c.inventory.result.now c.inventory.ensures.value c.partition_count-p-end.result c.partition_count-p-end.ensures.count c.loop-p-test.true
 
 pub returns-in_err-hand_placed : goal.returns-in_err-hand_placed
 returns-in_err-hand_placed g c =

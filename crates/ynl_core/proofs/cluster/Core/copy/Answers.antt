@@ -4,7 +4,7 @@ use Rattle.std.specs.Prelude.{IfOk}
 use Rattle.ynl_saved.specs.Handing.{FailsAmong, TakesAll}
 use Rattle.ynl_saved.specs.Restoring.{Restored}
 use Rattle.ynl_saved.specs.Saving.{lines_before_end}
-use Rattle.ynl_saving.specs.Ordered.{Saved}
+use Rattle.ynl_saving.specs.Saved.{Saved}
 use Rattle.ynl_restoring.specs.Telling.{Telling, Tells}
 use Rattle.ynl_core.specs.Copying.{Follows}
 use Rattle.ynl_core.specs.Reached.{WorksAndIsTold}
@@ -21,7 +21,7 @@ module _ (c : In-Ok) where
   all =
       copied c.args.self.now c.requires (subst (λ (w : World). WorksAndIsTold w.config w.state) c.self.view_is c.self.invariant.working)
       c.in_ok-copying.copying c.tell.new.sink c.in_ok-config.config c.in_ok-copying.ensures.config (c.in_ok-config.ensures ∙ c.config.ensures) c.in_ok-copying.ensures.told
-      (subst (λ (s : Saved). TakesAll Follows c.in_ok-copying.copying (lines_before_end s.config s.state) c.tell.new.sink) c.in_ok-saving.ensures c.in-Ok.ensures)
+      (subst (λ (s : Saved). TakesAll Follows c.in_ok-copying.copying (lines_before_end s.config s.state) c.tell.new.sink) c.saving.ensures c.in-Ok.ensures)
 
 pub resume-requires : goal.resume-requires
 resume-requires c = let told = all (goal.at.resume-requires c).In-Ok in subst (λ (t : Telling). (r : Restored) × Tells t r) (sym c.into_told.ensures) (told.0, told.1)
@@ -30,8 +30,8 @@ pub unreachable-requires : goal.unreachable-requires
 unreachable-requires c =
     never-unsound c.args.self.now c.requires (subst (λ (w : World). WorksAndIsTold w.config w.state) c.self.view_is c.self.invariant.working)
     c.in_ok-copying.copying c.tell.new.sink c.in_ok-config.config c.in_ok-copying.ensures.config (c.in_ok-config.ensures ∙ c.config.ensures) c.in_ok-copying.ensures.told
-    (subst (λ (s : Saved). FailsAmong Follows c.in_ok-copying.copying (lines_before_end s.config s.state) c.tell.new.sink Unsound) c.in_ok-saving.ensures
-    (subst (FailsAmong Follows c.in_ok-copying.copying (lines_before_end c.in_ok-saving.saving.config c.in_ok-saving.saving.state) c.tell.new.sink)
+    (subst (λ (s : Saved). FailsAmong Follows c.in_ok-copying.copying (lines_before_end s.config s.state) c.tell.new.sink Unsound) c.saving.ensures
+    (subst (FailsAmong Follows c.in_ok-copying.copying (lines_before_end c.saving.result.config c.saving.result.state) c.tell.new.sink)
     c.in-Err-Unsound.field-0-is c.in-Err-Unsound.ensures))
 
 pub returns-in-Ok : goal.returns-in-Ok

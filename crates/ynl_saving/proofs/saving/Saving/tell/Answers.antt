@@ -8,7 +8,7 @@ use Rattle.ynl_saved.specs.declared.lines.StateLine.TheVariants.{Begin, Containe
 use Rattle.ynl_saved.specs.Handing.{FailsAmong, Hands, TakesAll}
 use Rattle.ynl_saved.specs.Saving.{leaf_lines, lines_before_end, maxima_lines, partition_line, stop_lines}
 use Rattle.ynl_saved.proofs.Handing.{fails-behind, fails-front, fails-on, hands-behind, hands-one, takes-append}
-use Rattle.ynl_saving.specs.Ordered.{Saved, saved_of}
+use Rattle.ynl_saving.specs.Saved.{Saved, saved_of}
 use Rattle.ynl_saving.proofs.saving.Saving.tell.Goals as goal
 
 -- ---- the sections, and all lines up to each

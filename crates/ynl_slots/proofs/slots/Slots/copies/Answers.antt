@@ -1,13 +1,19 @@
-use Rattle.std.proofs.Common.{rules, ap, ◌∙◌}
-use Rattle.std.proofs.lemmas.List.Sorted.{IsNonDecreasingBy-from_sort_by_key, answers_always}
-use Rattle.ynl_slots.specs.Kept.{pushes_of}
-use Rattle.ynl_slots.proofs.Sorting.{sorted_rows}
+use Rattle.std.proofs.Common.{sym, ◌∙◌}
+use Rattle.std.proofs.lemmas.Option.{same_Some}
+use Rattle.ynl_slots.proofs.Walks.{here, here_found, here_live, left_less, walk_at, walk_end, walk_step}
 use Rattle.ynl_slots.proofs.slots.Slots.copies.Goals as goal
 
+pub index-requires : goal.index-requires
+index-requires g c = here_live c.args.self.now.entries c.loop-next.invariant.place _ (walk_at _ _ _ _ _ c.loop-next.invariant c.in-Some.is)
+
+pub loop-next-smaller : goal.loop-next-smaller
+loop-next-smaller g c = rw c.in-Some.is (left_less c.args.self.now.entries c.loop-next.invariant.place _ _ c.len.ensures.distinct (walk_at _ _ _ _ _ c.loop-next.invariant c.in-Some.is) c.next-next.ensures)
+
+pub loop-next-preserved : goal.loop-next-preserved
+loop-next-preserved g c =
+    let there = here c.args.self.now.entries c.loop-next.invariant.place c.in-Some.number (walk_at _ _ _ _ _ c.loop-next.invariant c.in-Some.is) in
+    let row = same_Some _ _ (sym c.index.ensures ∙ here_found c.args.self.now.entries c.loop-next.invariant.place _ _ c.len.ensures.distinct there.at) in
+    rw c.in_ok-push.ensures.items (walk_step _ c.args.self.now.entries _ _ _ c.loop-next.invariant c.in-Some.is there.row there.at _ c.next-next.ensures _ row)
+
 pub returns : goal.returns
-returns g c =
-    let all = c.in_ok-pushes.ensures ∙ ap pushes_of c.deref.ensures.value in
-    let sorted = IsNonDecreasingBy-from_sort_by_key (λ e. e.0) _ c.in_ok-sort_by_key.ensures.sorted (λ a r q k. search rules) in
-    let stable = c.in_ok-sort_by_key.ensures.stable (λ e. e.0) (answers_always _ _ _ (λ f a r h called. search rules)) in
-    let rows = sorted_rows c.self.inside.next c.self.inside.slots.items c.sort_by_key.new.self.items c.self.invariant.before (rw all at c.in_ok-sort_by_key.ensures.permutation) sorted (rw all at stable) in
-    rw (← c.self.view_is, ← rows, ← c.deref-2.ensures.value) c.rows_of.ensures
+returns g c = walk_end _ _ _ _ c.loop-next.invariant c.in_default.is

@@ -1,11 +1,10 @@
 use Rattle.std.proofs.Common.{sym, ◌∙◌}
-use Rattle.ynl_slots.proofs.Pushes.{lookup-is_row}
+use Rattle.ynl_slots.proofs.Order.{lookup_is}
 use Rattle.ynl_slots.proofs.Calls.{only_found}
 use Rattle.ynl_slots.proofs.slots.Slots.get.Goals as goal
 
 pub returns-clause-value : goal.returns-clause-value
-returns-clause-value g c =
-    rw (← c.self.view_is) (c.row_at.ensures ∙ sym (lookup-is_row c.self.inside.next c.args.number c.self.inside.slots.items c.self.invariant.before))
+returns-clause-value g c = rw (← c.self.view_is) (c.row_at.ensures ∙ sym (lookup_is _ _ _ _ c.self.invariant.ordered c.args.number))
 
 pub returns-clause-only : goal.returns-clause-only
-returns-clause-only g c = rw (← c.self.view_is) (only_found c.self.inside.next c.args.number c.self.inside.slots.items c.row_at.result c.row_at.ensures)
+returns-clause-only g c = rw (← c.self.view_is) (only_found _ _ _ _ c.self.invariant.ordered c.args.number c.row_at.result c.row_at.ensures)

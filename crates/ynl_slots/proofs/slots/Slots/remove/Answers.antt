@@ -1,37 +1,55 @@
-use Rattle.std.proofs.Common.{sym, ◌∙◌, arith, length-set}
+use Rattle.std.proofs.Common.{length, ap, sym, ◌∙◌, arith, length-set}
 use Rattle.std.proofs.lemmas.Option.{slice_get_within}
-use Rattle.ynl_slots.proofs.FreeList.{some_live, IsSound-free}
-use Rattle.ynl_slots.proofs.Pushes.{held_at, freed, before_free}
-use Rattle.ynl_slots.proofs.Calls.{not_free, row_read}
+use Rattle.ynl_slots.specs.Kept.{before_of, after_of, row_of, slot_at}
+use Rattle.ynl_slots.proofs.Calls.{held_row, held_not_free}
+use Rattle.ynl_slots.proofs.Order.{live_in, lookup_is, unlinked_is, held_until, removed_order, removed_rows, removed_sound, row_stands, length_stands}
 use Rattle.ynl_slots.proofs.slots.Slots.remove.Goals as goal
 
 pub index_mut-requires : goal.index_mut-requires
 index_mut-requires g c =
-    let held = held_at c.self.inside.next c.args.number c.self.inside.slots.items c.self.invariant.before (rw (← c.self.view_is) at c.requires) in
-    omega (arith, slice_get_within c.self.inside.slots.items c.args.number _ held.found)
-
-pub overflow_sub-self : goal.overflow_sub-self
-overflow_sub-self g c =
-    let held = held_at c.self.inside.next c.args.number c.self.inside.slots.items c.self.invariant.before (rw (← c.self.view_is) at c.requires) in
-    omega (arith, some_live c.self.inside.slots.items c.self.inside.len c.self.inside.free c.args.number held.turn held.row c.self.invariant.sound held.found)
+    let before = c.before_at-before.ensures ∙ ap (λ ss. before_of (slot_at ss c.args.number)) c.deref.ensures.value in
+    let after = c.after_at-after.ensures ∙ ap (λ ss. after_of (slot_at ss c.args.number)) c.deref-2.ensures.value in
+    let items = unlinked_is c.self.inside.slots.items _ _ c.args.number _ _ before after c.set_after.ensures.items c.set_before.ensures.items in
+    let live = live_in _ _ _ _ c.self.invariant.ordered c.args.number (rw (← c.self.view_is) at c.requires) in
+    omega (arith, slice_get_within _ c.args.number _ (held_until _ _ _ _ c.self.invariant.ordered c.self.invariant.fits c.args.number c.self.inside.free live).found, ap length items)
 
 pub invariant_of-self : goal.invariant_of-self
 invariant_of-self g c =
-    let held = held_at c.self.inside.next c.args.number c.self.inside.slots.items c.self.invariant.before (rw (← c.self.view_is) at c.requires) in
+    let before = c.before_at-before.ensures ∙ ap (λ ss. before_of (slot_at ss c.args.number)) c.deref.ensures.value in
+    let after = c.after_at-after.ensures ∙ ap (λ ss. after_of (slot_at ss c.args.number)) c.deref-2.ensures.value in
+    let items = unlinked_is c.self.inside.slots.items _ _ c.args.number _ _ before after c.set_after.ensures.items c.set_before.ensures.items in
+    let live = live_in _ _ _ _ c.self.invariant.ordered c.args.number (rw (← c.self.view_is) at c.requires) in
     record {
-      sound = rw c.replace.ensures.after (IsSound-free c.self.inside.slots.items c.self.inside.len c.self.inside.free c.args.number held.turn held.row c.self.invariant.sound held.found);
-      before = rw c.replace.ensures.after (before_free c.self.inside.next c.args.number c.self.inside.free c.self.inside.slots.items c.self.invariant.before);
-      fits = omega (arith, length-set c.self.inside.slots.items c.args.number c.replace.new.dest, c.self.invariant.fits);
+      sound = rw (c.replace.ensures.after, items) (removed_sound _ _ _ _ c.self.invariant.ordered c.self.invariant.fits c.args.number c.self.inside.free live c.self.invariant.sound);
+      ordered = rw (c.replace.ensures.after, items, c.end_of-self-inside.ensures, c.end_of-self-inside-2.ensures, before, after) (removed_order _ _ _ _ c.self.invariant.ordered c.self.invariant.fits c.args.number c.self.inside.free live);
+      fits = omega (arith, length-set c.set_before.new.slots.items c.args.number c.replace.new.dest, ap length items, length_stands _ _ _ _ c.self.invariant.ordered c.self.invariant.fits c.args.number c.self.inside.free live, c.self.invariant.fits);
     }
 
 pub unreachable-requires : goal.unreachable-requires
 unreachable-requires g c =
-    not_free c.self.inside.next c.args.number _ c.self.inside.slots.items c.index_mut.result.now c.self.invariant.before (rw (← c.self.view_is) at c.requires) c.index_mut.ensures.value (sym c.replace.ensures.value ∙ c.in-Free.is)
+    let before = c.before_at-before.ensures ∙ ap (λ ss. before_of (slot_at ss c.args.number)) c.deref.ensures.value in
+    let after = c.after_at-after.ensures ∙ ap (λ ss. after_of (slot_at ss c.args.number)) c.deref-2.ensures.value in
+    let items = unlinked_is c.self.inside.slots.items _ _ c.args.number _ _ before after c.set_after.ensures.items c.set_before.ensures.items in
+    let live = live_in _ _ _ _ c.self.invariant.ordered c.args.number (rw (← c.self.view_is) at c.requires) in
+    held_not_free _ c.args.number (held_until _ _ _ _ c.self.invariant.ordered c.self.invariant.fits c.args.number c.self.inside.free live) _ c.index_mut.result.now (rw items at c.index_mut.ensures.value) (sym c.replace.ensures.value ∙ c.in-Free.is)
 
 pub returns-clause-value : goal.returns-clause-value
 returns-clause-value g c =
-    rw (← c.self.view_is) (row_read c.self.inside.next c.args.number _ c.in-Live.row c.self.inside.slots.items c.index_mut.result.now c.self.invariant.before (rw (← c.self.view_is) at c.requires) c.index_mut.ensures.value (sym c.replace.ensures.value ∙ c.in-Live.is))
+    let before = c.before_at-before.ensures ∙ ap (λ ss. before_of (slot_at ss c.args.number)) c.deref.ensures.value in
+    let after = c.after_at-after.ensures ∙ ap (λ ss. after_of (slot_at ss c.args.number)) c.deref-2.ensures.value in
+    let items = unlinked_is c.self.inside.slots.items _ _ c.args.number _ _ before after c.set_after.ensures.items c.set_before.ensures.items in
+    let live = live_in _ _ _ _ c.self.invariant.ordered c.args.number (rw (← c.self.view_is) at c.requires) in
+    rw (← c.self.view_is) (
+    lookup_is _ _ _ _ c.self.invariant.ordered c.args.number
+    ∙ sym (row_stands _ _ _ _ c.self.invariant.ordered c.self.invariant.fits c.args.number c.self.inside.free live)
+    ∙ sym (held_row _ c.args.number (held_until _ _ _ _ c.self.invariant.ordered c.self.invariant.fits c.args.number c.self.inside.free live) c.index_mut.result.now (rw items at c.index_mut.ensures.value))
+    ∙ ap row_of (sym c.replace.ensures.value ∙ c.in-Live.is)
+    )
 
 pub returns-clause-entries : goal.returns-clause-entries
 returns-clause-entries g c =
-    rw (c.replace.ensures.after, ← c.self.view_is) (freed c.self.inside.next c.args.number c.self.inside.free c.self.inside.slots.items)
+    let before = c.before_at-before.ensures ∙ ap (λ ss. before_of (slot_at ss c.args.number)) c.deref.ensures.value in
+    let after = c.after_at-after.ensures ∙ ap (λ ss. after_of (slot_at ss c.args.number)) c.deref-2.ensures.value in
+    let items = unlinked_is c.self.inside.slots.items _ _ c.args.number _ _ before after c.set_after.ensures.items c.set_before.ensures.items in
+    let live = live_in _ _ _ _ c.self.invariant.ordered c.args.number (rw (← c.self.view_is) at c.requires) in
+    rw (c.replace.ensures.after, items, c.end_of-self-inside.ensures, before, after, ← c.self.view_is) (removed_rows _ _ _ _ c.self.invariant.ordered c.self.invariant.fits c.args.number c.self.inside.free live)
