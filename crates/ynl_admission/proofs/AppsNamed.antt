@@ -8,9 +8,9 @@ use Rattle.ynl_resource.specs.Names.{same_name, tenant_of, top_level}
 use Rattle.ynl_resource.specs.declared.names.Name.{Name}
 use Rattle.ynl_model.specs.Applications.{LeafApps, find_app, leaf_of as leaf_found, row_of}
 use Rattle.ynl_layout.specs.Paths.{HasNumber, path_at}
-use Rattle.ynl_submissions.specs.declared.submissions.Submission.{Submission}
-use Rattle.ynl_submissions.specs.Submissions.{turn_of}
-use Rattle.ynl_submissions.proofs.Turns.{turn_owns, unused_get}
+use Rattle.ynl_tables.specs.declared.submissions.submissions.Submission.{Submission}
+use Rattle.ynl_tables.specs.submissions.Submissions.{turn_of}
+use Rattle.ynl_tables.proofs.submissions.Turns.{turn_owns, unused_get}
 use Rattle.ynl_inventory.specs.Rows.{Rows}
 use Rattle.ynl_inventory.specs.Meaning.{app_name, app_number, application_of, has_none_below, live_of, submitted_in, submitted_to, tenant_at}
 use Rattle.ynl_inventory.specs.Sound.{IsSound, IsSubmission}

@@ -15,8 +15,8 @@ use Rattle.ynl_model.specs.Applications.{Application, is_ask_of as is_model_ask}
 use Rattle.ynl_model.specs.Check.{app_that}
 use Rattle.ynl_model.specs.Events.{is_foreign, is_one_too_many}
 use Rattle.ynl_slots.proofs.Lists.{all_from}
-use Rattle.ynl_app_table.specs.declared.asks.Ask.{Ask}
-use Rattle.ynl_app_table.specs.Asks.{find_ask, is_ask_of}
+use Rattle.ynl_tables.specs.declared.apps.asks.Ask.{Ask}
+use Rattle.ynl_tables.specs.apps.Asks.{find_ask, is_ask_of}
 use Rattle.ynl_inventory.specs.Rows.{AppRow}
 use Rattle.ynl_inventory.specs.Meaning.{app_of, ask_of}
 use Rattle.ynl_inventory.specs.Sound.{HasPartition, IsSound}

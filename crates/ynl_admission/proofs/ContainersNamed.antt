@@ -14,9 +14,9 @@ use Rattle.ynl_model.specs.Nodes.{has_label}
 use Rattle.ynl_laws.proofs.Lists.{Each-all, Each-find}
 use Rattle.ynl_laws.proofs.Names.{same-label_path, same-name_sym}
 use Rattle.ynl_layout.specs.Paths.{HasNumber, IsChildOf, path_at}
-use Rattle.ynl_container_table.specs.declared.container.Container.{Container}
-use Rattle.ynl_container_table.specs.declared.container.Role.TheVariants.{Ask as Asked}
-use Rattle.ynl_container_table.specs.Table.{number_at}
+use Rattle.ynl_tables.specs.declared.containers.container.Container.{Container}
+use Rattle.ynl_tables.specs.declared.containers.container.Role.TheVariants.{Ask as Asked}
+use Rattle.ynl_tables.specs.containers.Table.{number_at}
 use Rattle.ynl_inventory.specs.Apps.{is_master_role}
 use Rattle.ynl_inventory.specs.Rows.{NodeRow, PartitionRow}
 use Rattle.ynl_inventory.specs.Meaning.{container_with, node_of as node_of_row, placed_of}

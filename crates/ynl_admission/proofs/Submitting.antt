@@ -17,18 +17,18 @@ use Rattle.ynl_model.specs.declared.events.Event.TheVariants.{Submit}
 use Rattle.ynl_model.specs.declared.queues.LeafSettings.{LeafSettings}
 use Rattle.ynl_model.specs.Queues.{QueueRow, is_leaf, queue_row, setting}
 use Rattle.ynl_layout.specs.Paths.{HasNumber, path_at}
-use Rattle.ynl_lane.specs.Seats.{Seat, Seats}
+use Rattle.ynl_lanes.specs.lane.Seats.{Seat, Seats}
 use Rattle.ynl_inventory.specs.Meaning.{app_of, has_none_below, label_at, submitted_to, tenant_at}
 use Rattle.ynl_inventory.specs.Sound.{IsFor, IsLeaf, IsSound}
 use Rattle.ynl_inventory.proofs.Tenants.{tenant-top}
-use Rattle.ynl_seating.specs.Seating.{figures_of, seat_of, sitting}
-use Rattle.ynl_seating.proofs.Sharing.{are-sharing}
+use Rattle.ynl_cluster.specs.seating.Seating.{figures_of, seat_of, sitting}
+use Rattle.ynl_cluster.proofs.seating.Sharing.{are-sharing}
 use Rattle.ynl_admission.specs.declared.submissions.Target.{Target}
 use Rattle.ynl_admission.specs.Admitted.{CanSubmitAs, IsTarget}
 use Rattle.ynl_admission.proofs.AppsNamed.{used-is}
 use Rattle.ynl_admission.proofs.FirstReasons.{first-submit}
 use Rattle.ynl_admission.proofs.QueuesNamed.{queue-there}
-use Rattle.ynl_submissions.specs.Submissions.{turn_of}
+use Rattle.ynl_tables.specs.submissions.Submissions.{turn_of}
 use Rattle.ynl_cluster.specs.Cluster.{ClusterView, IsCell, IsLaneIn, maxima_in, path_of, state_in, stops_in}
 
 -- ---- leaves

@@ -8,11 +8,11 @@ use Rattle.ynl_resource.specs.declared.labels.Label.{Label}
 use Rattle.ynl_resource.specs.declared.paths.Path.{Path}
 use Rattle.ynl_model.specs.declared.applications.AskRow.{AskRow}
 use Rattle.ynl_layout.specs.Paths.{HasNumber}
-use Rattle.ynl_submissions.specs.Submissions.{turn_of}
+use Rattle.ynl_tables.specs.submissions.Submissions.{turn_of}
 use Rattle.ynl_model.specs.Events.{container_at, container_for, home_of}
 use Rattle.ynl_model.specs.Nodes.{has_label, is_full}
 use Rattle.ynl_model.specs.Queues.{accepts, is_leaf, may_use}
-use Rattle.ynl_container_table.specs.declared.container.Container.{Container}
+use Rattle.ynl_tables.specs.declared.containers.container.Container.{Container}
 use Rattle.ynl_inventory.specs.Apps.{is_master_role}
 use Rattle.ynl_inventory.specs.Rows.{PartitionRow}
 use Rattle.ynl_inventory.specs.Meaning.{ask_of, has_none_below, node_number, placed_of, submitted_to, tenant_at}

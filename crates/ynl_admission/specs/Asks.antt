@@ -1,8 +1,8 @@
 -- What is tested of an ask, by numbers.
 use Rattle.std.specs.Prelude.{ℕ, Bool, not, ◌&&◌, nat_eq, nat_le, nat_lt, List, count_by, is_some}
 use Rattle.ynl_resource.specs.Ranges.{most_asks}
-use Rattle.ynl_app_table.specs.declared.asks.Ask.{Ask}
-use Rattle.ynl_app_table.specs.Asks.{find_ask}
+use Rattle.ynl_tables.specs.declared.apps.asks.Ask.{Ask}
+use Rattle.ynl_tables.specs.apps.Asks.{find_ask}
 
 -- whether a partition is neither DEFAULT nor an application's home
 abbrev pub is_foreign_at : ℕ → ℕ → Bool

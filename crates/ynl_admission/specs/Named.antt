@@ -8,7 +8,7 @@ use Rattle.ynl_resource.specs.declared.paths.Path.{Path}
 use Rattle.ynl_model.specs.Applications.{find_app}
 use Rattle.ynl_model.specs.Cluster.{node_of}
 use Rattle.ynl_layout.specs.Paths.{HasNumber}
-use Rattle.ynl_container_table.specs.declared.container.Container.{Container}
+use Rattle.ynl_tables.specs.declared.containers.container.Container.{Container}
 use Rattle.ynl_inventory.specs.Rows.{AppRow, NodeRow, Rows}
 use Rattle.ynl_inventory.specs.Meaning.{app_of, node_of as node_of_row}
 use Rattle.ynl_inventory.specs.Parts.{held_at}

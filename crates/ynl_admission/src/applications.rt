@@ -14,11 +14,11 @@ ghost use Rattle.ynl_admission.specs.Named.{IsAppNamed, IsPartitionOf};
 ghost use Rattle.ynl_admission.specs.Admitted.{CanAskAs};
 
 use crate::partitions::partition_of;
-use ynl_app_table::{Ask, Asks};
 use ynl_cluster::Cluster;
 use ynl_inventory::Inventory;
 use ynl_model::AskRow;
 use ynl_resource::{Label, MOST_ASKS, Name, Refusal, Size};
+use ynl_tables::apps::{Ask, Asks};
 
 /// An application by its number, and what it asks for.
 #[derive(Clone, Copy)]

@@ -18,8 +18,8 @@ use crate::applications::tenant_of;
 use crate::nodes::node_named;
 use crate::partitions::{is_labelled, partition_of};
 use ynl_cluster::Cluster;
-use ynl_container_table::{Container, Role};
 use ynl_resource::{Id, Name, Refusal};
+use ynl_tables::containers::{Container, Role};
 
 /// A container by its number in its partition.
 #[derive(Clone, Copy)]

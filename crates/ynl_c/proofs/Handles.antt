@@ -30,7 +30,7 @@ use Rattle.std.specs.contracts.alloc.Global as heap
 use Rattle.std.proofs.alloc.Global.TheLaws as heap_laws
 use Rattle.std.specs.contracts.impls.GlobalAllocator.TheImpl.{ghosts}
 use Rattle.ynl_c.specs.Held.{held}
-use Rattle.ynl_desk.specs.contracts.desk.Desk as desk
+use Rattle.ynl_c.specs.contracts.desk.desk.Desk as desk
 use Rattle.ynl_c.specs.contracts.handle.Handle as handle
 use Rattle.ynl_c.proofs.Values.{al, both, Loose}
 

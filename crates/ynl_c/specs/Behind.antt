@@ -1,9 +1,9 @@
 -- What stands behind a handle, and the status of a call.
 use Rattle.std.specs.Prelude.{◌≡◌, ℕ, List, Option, Some, None, Ok, Err}
-use Rattle.ynl_desk.specs.declared.desk.Desk.{Desk}
-use Rattle.ynl_desk.specs.declared.faults.DeskFault.TheVariants.{Closed, NoMemory, Config, Line, Label, NoRoom}
-use Rattle.ynl_desk.specs.Standing.{Standing, standing, no_cluster}
-use Rattle.ynl_desk.specs.Calls.{Ended, Copies}
+use Rattle.ynl_c.specs.declared.desk.desk.Desk.{Desk}
+use Rattle.ynl_c.specs.declared.desk.faults.DeskFault.TheVariants.{Closed, NoMemory, Config, Line, Label, NoRoom}
+use Rattle.ynl_c.specs.desk.Standing.{Standing, standing, no_cluster}
+use Rattle.ynl_c.specs.desk.Calls.{Ended, Copies}
 
 -- what can be seen of the desk that a handle holds; of one that is closed, what is seen where nothing was opened yet
 abbrev pub behind : Option Desk → Standing

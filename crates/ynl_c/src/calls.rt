@@ -1,11 +1,11 @@
 //! The calls on a handle, and how each ends.
 
-ghost use Rattle.ynl_desk.specs.Calls.{Opens, Tells, Lists};
+ghost use Rattle.ynl_c.specs.desk.Calls.{Opens, Tells, Lists};
 ghost use Rattle.ynl_c.specs.Behind.{Replies, behind};
 
+use crate::desk::{DeskFault, HashSeed};
 use crate::handle::Handle;
 use std::alloc::{AllocError, Global};
-use ynl_desk::{DeskFault, HashSeed};
 
 impl Handle {
     /// Opens a cluster of the configuration that a text means, in which names are hashed with the seed.

@@ -2,15 +2,15 @@
 
 ghost use Rattle.std.specs.Prelude.{◌≡◌, Option, Some, None, IfOk, OnErr};
 ghost use Rattle.std.specs.Option.{MatchOption};
-ghost use Rattle.ynl_desk.specs.declared.desk.Desk.{Desk};
+ghost use Rattle.ynl_c.specs.declared.desk.desk.Desk.{Desk};
 ghost use Rattle.ynl_c.specs.Behind.{behind};
 
+use crate::desk::Desk;
 use crate::loose::Loose;
 use std::alloc::{AllocError, Global};
 use std::marker::{Model, Send};
 use std::mem::replace;
 use std::ptr::null_mut;
-use ynl_desk::Desk;
 
 /// A desk, or none where it is closed. C cannot take a struct that holds a `Box`, so it holds the box's pointer; a
 /// `Global` takes no bytes.
@@ -23,8 +23,8 @@ pub struct Handle {
 
 impl Model for Handle {
     ghost use Rattle.ynl_c.specs.Held.{held};
-    ghost use Rattle.ynl_desk.specs.declared.desk.Desk.{Desk};
-    ghost use Rattle.ynl_desk.specs.contracts.desk.Desk.{the_row};
+    ghost use Rattle.ynl_c.specs.declared.desk.desk.Desk.{Desk};
+    ghost use Rattle.ynl_c.specs.contracts.desk.desk.Desk.{the_row};
     ghost use Rattle.std.specs.Prelude.{Option};
     ghost use Rattle.std.specs.contracts.impls.GlobalAllocator.TheImpl.{ghosts};
 

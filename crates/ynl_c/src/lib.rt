@@ -3,18 +3,19 @@
 #![tactic(auto)]
 
 ghost use Rattle.std.specs.Prelude.{◌≡◌, None};
-ghost use Rattle.ynl_desk.specs.Calls.{Opens, Tells, Lists};
+ghost use Rattle.ynl_c.specs.desk.Calls.{Opens, Tells, Lists};
 ghost use Rattle.ynl_c.specs.Behind.{Came, Replies, behind};
 
 mod calls;
+pub mod desk;
 mod handle;
 mod loose;
 mod status;
 
+use crate::desk::{HashSeed, seed_of};
 use handle::Handle;
 use status::status_of;
 use std::alloc::Global;
-use ynl_desk::{HashSeed, seed_of};
 
 /// Opens a cluster of the configuration that a text means. A cluster that the handle had is let go then, and stays where
 /// the text is none. Names are hashed with a fixed seed.

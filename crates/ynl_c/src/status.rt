@@ -3,7 +3,7 @@
 ghost use Rattle.std.specs.Prelude.{◌≡◌};
 ghost use Rattle.ynl_c.specs.Behind as spec;
 
-use ynl_desk::DeskFault;
+use crate::desk::DeskFault;
 
 /// The number of how a call ended.
 pub fn status_of(ended: Result<(), DeskFault>) -> u32

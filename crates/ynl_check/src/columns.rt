@@ -7,7 +7,7 @@ use crate::pieces::{Piece, put_pieces};
 use crate::shares::{Numbers, Queue};
 use crate::style::Widths;
 use std::alloc::AllocError;
-use ynl_labels::Labels;
+use ynl_queues::labels::Labels;
 use ynl_queues::{Config, QueueRow};
 use ynl_resource::{Label, Name};
 

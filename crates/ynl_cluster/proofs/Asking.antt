@@ -5,21 +5,21 @@ use Rattle.std.specs.Map.{lookup}
 use Rattle.ynl_resource.specs.Amounts.{IsSize}
 use Rattle.ynl_model.specs.Applications.{in_leaf, set_ask, with_app}
 use Rattle.ynl_slots.specs.Slots.{IsLive}
-use Rattle.ynl_app_table.specs.declared.asks.Ask.{Ask}
-use Rattle.ynl_app_table.specs.Asks.{with_ask}
-use Rattle.ynl_lane.specs.Seats.{Seats}
+use Rattle.ynl_tables.specs.declared.apps.asks.Ask.{Ask}
+use Rattle.ynl_tables.specs.apps.Asks.{with_ask}
+use Rattle.ynl_lanes.specs.lane.Seats.{Seats}
 use Rattle.ynl_inventory.specs.Rows.{Rows, AppRow}
 use Rattle.ynl_inventory.specs.Changes.{with_asked}
 use Rattle.ynl_inventory.specs.Meaning.{app_name, ask_of, state_of}
 use Rattle.ynl_inventory.specs.Sound.{CanAsk, IsAskedOn, IsFor, IsSound}
 use Rattle.ynl_inventory.proofs.AppAsks.{asked-means, asked-sound}
 use Rattle.ynl_inventory.proofs.Lookups.{changed-live, live-found}
-use Rattle.ynl_ledger.specs.Ledger.{totals_in, uses_in, IsBounded}
-use Rattle.ynl_ledger.proofs.Bounded.{others}
-use Rattle.ynl_ledger.proofs.Ledger.{asking}
-use Rattle.ynl_seating.specs.Seating.{AreSeated}
-use Rattle.ynl_seating.specs.Steps.{AreSeatedBut}
-use Rattle.ynl_seating.proofs.RowChanges.{asked-but}
+use Rattle.ynl_cluster.specs.ledger.Ledger.{totals_in, uses_in, IsBounded}
+use Rattle.ynl_cluster.proofs.ledger.Bounded.{others}
+use Rattle.ynl_cluster.proofs.ledger.Ledger.{asking}
+use Rattle.ynl_cluster.specs.seating.Seating.{AreSeated}
+use Rattle.ynl_cluster.specs.seating.Steps.{AreSeatedBut}
+use Rattle.ynl_cluster.proofs.seating.RowChanges.{asked-but}
 use Rattle.ynl_cluster.specs.declared.cluster.Cluster.TheInside.{Inside}
 use Rattle.ynl_cluster.specs.Cluster.{ClusterView, maxima_in, path_of, state_in, stops_in}
 use Rattle.ynl_cluster.specs.Whole.{view_of, AreParts, AskSizes, IsCluster}

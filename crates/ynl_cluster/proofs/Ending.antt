@@ -8,9 +8,9 @@ use Rattle.std.proofs.lemmas.Option.{none-some}
 use Rattle.ynl_model.specs.declared.uses.Use.{Use}
 use Rattle.ynl_model.specs.Changes.{end}
 use Rattle.ynl_slots.specs.Slots.{HasDistinctNumbers, IsLive, without}
-use Rattle.ynl_container_table.specs.declared.container.Container.{Container}
-use Rattle.ynl_lane.specs.Rows.{IsUse}
-use Rattle.ynl_lane.specs.Seats.{Seats}
+use Rattle.ynl_tables.specs.declared.containers.container.Container.{Container}
+use Rattle.ynl_lanes.specs.lane.Rows.{IsUse}
+use Rattle.ynl_lanes.specs.lane.Seats.{Seats}
 use Rattle.ynl_inventory.specs.Rows.{Rows, PartitionRow}
 use Rattle.ynl_inventory.specs.Changes.{next_clock_at, ticked, with_at, with_dropped, with_ended}
 use Rattle.ynl_inventory.specs.Meaning.{placed_of, state_of}
@@ -20,12 +20,12 @@ use Rattle.ynl_inventory.proofs.Dropping.{dropped-for, dropped-sound}
 use Rattle.ynl_inventory.proofs.Ending.{ended-for, ended-means, ended-sound}
 use Rattle.ynl_inventory.proofs.Finding.{own-label}
 use Rattle.ynl_inventory.proofs.Lookups.{length-at}
-use Rattle.ynl_ledger.specs.Ledger.{totals_in, uses_in, IsBounded}
-use Rattle.ynl_ledger.proofs.Bounded.{dropping, ending}
-use Rattle.ynl_ledger.proofs.Calls.{stands-there}
-use Rattle.ynl_ledger.proofs.Sums.{changed-totals, dropped-totals}
-use Rattle.ynl_seating.specs.Seating.{user_use, AreSeated}
-use Rattle.ynl_seating.specs.Steps.{IsEnded}
+use Rattle.ynl_cluster.specs.ledger.Ledger.{totals_in, uses_in, IsBounded}
+use Rattle.ynl_cluster.proofs.ledger.Bounded.{dropping, ending}
+use Rattle.ynl_cluster.proofs.ledger.Calls.{stands-there}
+use Rattle.ynl_cluster.proofs.ledger.Sums.{changed-totals, dropped-totals}
+use Rattle.ynl_cluster.specs.seating.Seating.{user_use, AreSeated}
+use Rattle.ynl_cluster.specs.seating.Steps.{IsEnded}
 use Rattle.ynl_cluster.specs.declared.cluster.Cluster.TheInside.{Inside}
 use Rattle.ynl_cluster.specs.Cluster.{ClusterView, label_of, maxima_in, state_in, stops_in}
 use Rattle.ynl_cluster.specs.Whole.{view_of, AreNumbered, AreParts, AskSizes, IsCluster}

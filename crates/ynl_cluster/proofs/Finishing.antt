@@ -4,8 +4,8 @@ use Rattle.std.specs.Prelude.{IfSome}
 use Rattle.std.specs.Map.{lookup}
 use Rattle.ynl_model.specs.Applications.{finished, in_leaf}
 use Rattle.ynl_slots.specs.Slots.{IsLive}
-use Rattle.ynl_container_table.specs.declared.container.Container.{Container}
-use Rattle.ynl_lane.specs.Seats.{Seats}
+use Rattle.ynl_tables.specs.declared.containers.container.Container.{Container}
+use Rattle.ynl_lanes.specs.lane.Seats.{Seats}
 use Rattle.ynl_inventory.specs.Rows.{Rows, AppRow}
 use Rattle.ynl_inventory.specs.Changes.{with_app_gone}
 use Rattle.ynl_inventory.specs.Meaning.{app_name, state_of}
@@ -14,9 +14,9 @@ use Rattle.ynl_inventory.proofs.Gone.{gone-means, gone-sound}
 use Rattle.ynl_inventory.proofs.Lookups.{live-found}
 use Rattle.ynl_inventory.proofs.Updates.{at-number}
 use Rattle.ynl_inventory.proofs.NodeParts.{found-without}
-use Rattle.ynl_ledger.proofs.Bounded.{others}
-use Rattle.ynl_ledger.proofs.Ledger.{finishing}
-use Rattle.ynl_seating.specs.Seating.{AreSeated}
+use Rattle.ynl_cluster.proofs.ledger.Bounded.{others}
+use Rattle.ynl_cluster.proofs.ledger.Ledger.{finishing}
+use Rattle.ynl_cluster.specs.seating.Seating.{AreSeated}
 use Rattle.ynl_cluster.specs.declared.cluster.Cluster.TheInside.{Inside}
 use Rattle.ynl_cluster.specs.Cluster.{ClusterView, maxima_in, path_of, state_in, stops_in}
 use Rattle.ynl_cluster.specs.Whole.{view_of, AreParts, IsCluster}

@@ -15,15 +15,15 @@ use Rattle.ynl_inventory.specs.Sound.{HasPartition, IsFor, IsJoinable, IsSound}
 use Rattle.ynl_inventory.proofs.Finding.{own-label, unnamed}
 use Rattle.ynl_inventory.proofs.Joining.{joined-for, joined-means, joined-sound}
 use Rattle.ynl_inventory.proofs.Lookups.{place-there}
-use Rattle.ynl_ledger.specs.declared.totals.Total.{Total}
-use Rattle.ynl_ledger.specs.Totals.{grown, total_at, IsSmallTotal}
-use Rattle.ynl_ledger.specs.Ledger.{total_in, uses_in, IsBounded}
-use Rattle.ynl_ledger.proofs.Bounded.{joining as bounded-joining}
-use Rattle.ynl_ledger.proofs.Calls.{grown-totals, small-total}
-use Rattle.ynl_ledger.proofs.Ledger.{joining as ledger-joining}
-use Rattle.ynl_ledger.proofs.Means.{totals-mean}
-use Rattle.ynl_seating.specs.Seating.{AreSeated}
-use Rattle.ynl_seating.proofs.RowChanges.{joined-seated}
+use Rattle.ynl_cluster.specs.declared.ledger.totals.Total.{Total}
+use Rattle.ynl_cluster.specs.ledger.Totals.{grown, total_at, IsSmallTotal}
+use Rattle.ynl_cluster.specs.ledger.Ledger.{total_in, uses_in, IsBounded}
+use Rattle.ynl_cluster.proofs.ledger.Bounded.{joining as bounded-joining}
+use Rattle.ynl_cluster.proofs.ledger.Calls.{grown-totals, small-total}
+use Rattle.ynl_cluster.proofs.ledger.Ledger.{joining as ledger-joining}
+use Rattle.ynl_cluster.proofs.ledger.Means.{totals-mean}
+use Rattle.ynl_cluster.specs.seating.Seating.{AreSeated}
+use Rattle.ynl_cluster.proofs.seating.RowChanges.{joined-seated}
 use Rattle.ynl_cluster.specs.declared.cluster.Cluster.TheInside.{Inside}
 use Rattle.ynl_cluster.specs.Cluster.{ClusterView, label_of, maxima_in, state_in, stops_in}
 use Rattle.ynl_cluster.specs.Whole.{view_of, AreNumbered, AreParts, AskSizes, IsCluster}

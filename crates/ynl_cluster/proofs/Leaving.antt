@@ -5,10 +5,10 @@ use Rattle.std.specs.List.{AllByRecursion}
 use Rattle.std.specs.Option.{option_and_then, option_map_or}
 use Rattle.std.proofs.lemmas.Option.{none-some, same_Some}
 use Rattle.ynl_model.specs.Changes.{node_leaves}
-use Rattle.ynl_container_table.specs.declared.container.Container.{Container}
+use Rattle.ynl_tables.specs.declared.containers.container.Container.{Container}
 use Rattle.std.specs.Map.{lookup}
 use Rattle.ynl_slots.specs.Slots.{IsLive, without}
-use Rattle.ynl_container_table.specs.Chains.{IsFirst}
+use Rattle.ynl_tables.specs.containers.Chains.{IsFirst}
 use Rattle.ynl_inventory.specs.Rows.{Rows, PartitionRow, NodeRow}
 use Rattle.ynl_inventory.specs.Apps.{containers_of}
 use Rattle.ynl_inventory.specs.Changes.{partition_of_node, with_at, with_dropped, with_left, with_node_gone}
@@ -19,14 +19,14 @@ use Rattle.ynl_inventory.proofs.Dropping.{dropped-left, dropped-sound, gone-left
 use Rattle.ynl_inventory.proofs.Leaving.{left-means}
 use Rattle.ynl_inventory.proofs.Lookups.{at-same, live-found}
 use Rattle.ynl_inventory.proofs.Updates.{at-number, each-number}
-use Rattle.ynl_ledger.specs.declared.totals.Total.{Total}
-use Rattle.ynl_ledger.specs.Totals.{shrunk}
-use Rattle.ynl_ledger.specs.Ledger.{uses_in, IsBounded}
-use Rattle.ynl_ledger.proofs.Bounded.{leaving as bounded-leaving}
-use Rattle.ynl_ledger.proofs.Calls.{shrunk-totals}
-use Rattle.ynl_ledger.proofs.Ledger.{leaving as ledger-leaving}
-use Rattle.ynl_seating.specs.Seating.{AreSeated}
-use Rattle.ynl_seating.proofs.RowChanges.{left-seated}
+use Rattle.ynl_cluster.specs.declared.ledger.totals.Total.{Total}
+use Rattle.ynl_cluster.specs.ledger.Totals.{shrunk}
+use Rattle.ynl_cluster.specs.ledger.Ledger.{uses_in, IsBounded}
+use Rattle.ynl_cluster.proofs.ledger.Bounded.{leaving as bounded-leaving}
+use Rattle.ynl_cluster.proofs.ledger.Calls.{shrunk-totals}
+use Rattle.ynl_cluster.proofs.ledger.Ledger.{leaving as ledger-leaving}
+use Rattle.ynl_cluster.specs.seating.Seating.{AreSeated}
+use Rattle.ynl_cluster.proofs.seating.RowChanges.{left-seated}
 use Rattle.ynl_cluster.specs.declared.cluster.Cluster.TheInside.{Inside}
 use Rattle.ynl_cluster.specs.Cluster.{ClusterView, held_in, maxima_in, state_in, stops_in}
 use Rattle.ynl_cluster.specs.Leaving.{IsLeaving}

@@ -5,7 +5,7 @@ use Rattle.ynl_resource.specs.Names.{root}
 use Rattle.ynl_resource.specs.declared.paths.Path.{Path}
 use Rattle.ynl_laws.specs.Ways.{IsWay}
 use Rattle.ynl_layout.specs.Paths.{HasNumber, is_above, IsLine, IsTree}
-use Rattle.ynl_settings.proofs.SharesMean.{IsBelowRoot}
+use Rattle.ynl_layout.proofs.settings.SharesMean.{IsBelowRoot}
 
 take-own : (ns : List ℕ) → take (length ns) ns ≡ ns
 take-own [] = refl

@@ -17,16 +17,16 @@ use Rattle.ynl_inventory.specs.Sound.{HasNoContainers, HasPartition, IsFor, IsSo
 use Rattle.ynl_inventory.proofs.Dropping.{gone-left}
 use Rattle.ynl_inventory.proofs.Lookups.{length-at, live-found}
 use Rattle.ynl_inventory.proofs.Relabel.{relabelled-for, relabelled-means, relabelled-sound}
-use Rattle.ynl_ledger.specs.declared.totals.Total.{Total}
-use Rattle.ynl_ledger.specs.Totals.{grown, shrunk, total_at, IsSmallTotal}
-use Rattle.ynl_ledger.specs.Ledger.{nodes_on, total_in, total_of_nodes, uses_in, IsBounded}
-use Rattle.ynl_ledger.proofs.Bounded.{joining as bounded-joining}
-use Rattle.ynl_ledger.proofs.Calls.{grown-totals, has-total, small-total}
-use Rattle.ynl_ledger.proofs.Ledger.{joining as ledger-joining}
-use Rattle.ynl_ledger.proofs.Means.{totals-mean}
-use Rattle.ynl_ledger.proofs.Sums.{total-left}
-use Rattle.ynl_seating.specs.Seating.{AreSeated}
-use Rattle.ynl_seating.proofs.RowChanges.{joined-seated}
+use Rattle.ynl_cluster.specs.declared.ledger.totals.Total.{Total}
+use Rattle.ynl_cluster.specs.ledger.Totals.{grown, shrunk, total_at, IsSmallTotal}
+use Rattle.ynl_cluster.specs.ledger.Ledger.{nodes_on, total_in, total_of_nodes, uses_in, IsBounded}
+use Rattle.ynl_cluster.proofs.ledger.Bounded.{joining as bounded-joining}
+use Rattle.ynl_cluster.proofs.ledger.Calls.{grown-totals, has-total, small-total}
+use Rattle.ynl_cluster.proofs.ledger.Ledger.{joining as ledger-joining}
+use Rattle.ynl_cluster.proofs.ledger.Means.{totals-mean}
+use Rattle.ynl_cluster.proofs.ledger.Sums.{total-left}
+use Rattle.ynl_cluster.specs.seating.Seating.{AreSeated}
+use Rattle.ynl_cluster.proofs.seating.RowChanges.{joined-seated}
 use Rattle.ynl_cluster.specs.declared.cluster.Cluster.TheInside.{Inside}
 use Rattle.ynl_cluster.specs.Cluster.{ClusterView, label_of, maxima_in, state_in, stops_in}
 use Rattle.ynl_cluster.specs.Leaving.{IsLeaving}

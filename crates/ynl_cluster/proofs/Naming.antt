@@ -8,8 +8,8 @@ use Rattle.ynl_inventory.specs.Changes.{with_user, with_user_known}
 use Rattle.ynl_inventory.specs.Meaning.{state_of}
 use Rattle.ynl_inventory.specs.Sound.{IsSound}
 use Rattle.ynl_inventory.proofs.KnownUsers.{known-means}
-use Rattle.ynl_ledger.proofs.Bounded.{others}
-use Rattle.ynl_seating.proofs.RowChanges.{user-seated}
+use Rattle.ynl_cluster.proofs.ledger.Bounded.{others}
+use Rattle.ynl_cluster.proofs.seating.RowChanges.{user-seated}
 use Rattle.ynl_cluster.specs.declared.cluster.Cluster.TheInside.{Inside}
 use Rattle.ynl_cluster.specs.Cluster.{ClusterView, maxima_in, state_in, stops_in}
 use Rattle.ynl_cluster.specs.Whole.{view_of, AreParts, IsCluster}

@@ -11,22 +11,22 @@ use Rattle.ynl_model.specs.Cluster.{opening}
 use Rattle.ynl_model.specs.Nodes.{Labels, partition_labels}
 use Rattle.ynl_model.specs.Queues.{Config, QueueRow}
 use Rattle.ynl_layout.specs.Paths.{HasNumber, paths_of}
-use Rattle.ynl_settings.specs.declared.shares.Share.{Share}
-use Rattle.ynl_settings.specs.Shares.{configured_on, configured_share, configured_shares, HasCell}
-use Rattle.ynl_settings.proofs.SharesMean.{configured-are, maxima-opening}
-use Rattle.ynl_settings.proofs.StopsMean.{stops-opening}
-use Rattle.ynl_uses.specs.Tallies.{no_use, IsTable}
-use Rattle.ynl_lane.specs.Seats.{Seats}
-use Rattle.ynl_lane_table.specs.Lanes.{no_seats}
+use Rattle.ynl_layout.specs.declared.settings.shares.Share.{Share}
+use Rattle.ynl_layout.specs.settings.Shares.{configured_on, configured_share, configured_shares, HasCell}
+use Rattle.ynl_layout.proofs.settings.SharesMean.{configured-are, maxima-opening}
+use Rattle.ynl_layout.proofs.settings.StopsMean.{stops-opening}
+use Rattle.ynl_cluster.specs.uses.Tallies.{no_use, IsTable}
+use Rattle.ynl_lanes.specs.lane.Seats.{Seats}
+use Rattle.ynl_lanes.specs.table.Lanes.{no_seats}
 use Rattle.ynl_inventory.specs.Rows.{Rows}
 use Rattle.ynl_inventory.specs.Opening.{opening_partition, opening_rows, IsOpening}
 use Rattle.ynl_inventory.specs.Sound.{IsFor, IsSound}
-use Rattle.ynl_ledger.specs.declared.totals.Total.{Total}
-use Rattle.ynl_ledger.specs.Totals.{no_total}
-use Rattle.ynl_ledger.proofs.Opened.{opened}
-use Rattle.ynl_seating.specs.Seating.{AreSeated}
-use Rattle.ynl_seating.proofs.Starting.{is-seated_first}
-use Rattle.ynl_settings.specs.Meaning.{maxima_of, stops_of}
+use Rattle.ynl_cluster.specs.declared.ledger.totals.Total.{Total}
+use Rattle.ynl_cluster.specs.ledger.Totals.{no_total}
+use Rattle.ynl_cluster.proofs.ledger.Opened.{opened}
+use Rattle.ynl_cluster.specs.seating.Seating.{AreSeated}
+use Rattle.ynl_cluster.proofs.seating.Starting.{is-seated_first}
+use Rattle.ynl_layout.specs.settings.Meaning.{maxima_of, stops_of}
 use Rattle.ynl_cluster.specs.Cluster.{ClusterView, maxima_in, state_in, stops_in}
 use Rattle.ynl_cluster.specs.Whole.{AreParts, AreSettings}
 use Rattle.ynl_cluster.proofs.Numbers.{opening-numbers}

@@ -16,8 +16,8 @@ use Rattle.ynl_laws.proofs.Lists.{Each-weaker, filter-agree, filter-map, filter-
 use Rattle.ynl_slots.specs.Slots.{HasDistinctNumbers, IsUnused, without}
 use Rattle.ynl_slots.specs.Chain.{first_or}
 use Rattle.ynl_slots.proofs.Entries.{without-unused}
-use Rattle.ynl_container_table.specs.Chains.{numbers_of}
-use Rattle.ynl_container_table.specs.declared.container.Container.{Container}
+use Rattle.ynl_tables.specs.containers.Chains.{numbers_of}
+use Rattle.ynl_tables.specs.declared.containers.container.Container.{Container}
 use Rattle.ynl_inventory.specs.Rows.{Rows, PartitionRow, NodeRow, AppRow}
 use Rattle.ynl_inventory.specs.Apps.{containers_of}
 use Rattle.ynl_inventory.specs.Changes.{next_clock_at, ticked, with_at, with_ended}
@@ -28,7 +28,7 @@ use Rattle.ynl_inventory.proofs.Finding.{own-label}
 use Rattle.ynl_inventory.proofs.Lookups.{live-found}
 use Rattle.ynl_inventory.proofs.Naming.{label-at, node_name-changed, placed-same}
 use Rattle.ynl_inventory.proofs.Updates.{each-number}
-use Rattle.ynl_requests.proofs.Running.{owner-tells}
+use Rattle.ynl_cluster.proofs.requests.Running.{owner-tells}
 use Rattle.ynl_cluster.specs.Cluster.{name_in, tenant_in}
 
 -- ---- lists

@@ -13,8 +13,8 @@ use Rattle.ynl_model.specs.Cluster.{State}
 use Rattle.ynl_model.specs.Queues.{Config}
 use Rattle.ynl_slots.specs.Slots.{IsLive, without}
 use Rattle.ynl_slots.specs.Chain.{first_or}
-use Rattle.ynl_container_table.specs.Chains.{numbers_of, IsFirst}
-use Rattle.ynl_container_table.specs.declared.container.Container.{Container}
+use Rattle.ynl_tables.specs.containers.Chains.{numbers_of, IsFirst}
+use Rattle.ynl_tables.specs.declared.containers.container.Container.{Container}
 use Rattle.ynl_inventory.specs.Rows.{Rows, PartitionRow, AppRow}
 use Rattle.ynl_inventory.specs.Apps.{containers_of}
 use Rattle.ynl_inventory.specs.Changes.{ticked, with_app_gone, with_ended}

@@ -8,10 +8,10 @@ use Rattle.ynl_resource.specs.Amounts.{IsSize}
 use Rattle.ynl_model.specs.declared.uses.Use.{Use}
 use Rattle.ynl_model.specs.Changes.{place}
 use Rattle.ynl_slots.specs.Slots.{IsLive, IsUnused}
-use Rattle.ynl_container_table.specs.declared.container.Container.{Container}
-use Rattle.ynl_container_table.specs.declared.container.Role.{Role}
-use Rattle.ynl_lane.specs.Rows.{IsUse}
-use Rattle.ynl_lane.specs.Seats.{Seats}
+use Rattle.ynl_tables.specs.declared.containers.container.Container.{Container}
+use Rattle.ynl_tables.specs.declared.containers.container.Role.{Role}
+use Rattle.ynl_lanes.specs.lane.Rows.{IsUse}
+use Rattle.ynl_lanes.specs.lane.Seats.{Seats}
 use Rattle.ynl_inventory.specs.declared.partition.Placement.{Placement}
 use Rattle.ynl_inventory.specs.Rows.{Rows, PartitionRow, NodeRow}
 use Rattle.ynl_inventory.specs.Apps.{containers_of}
@@ -21,11 +21,11 @@ use Rattle.ynl_inventory.specs.Parts.{CanPlace}
 use Rattle.ynl_inventory.specs.Sound.{HasPartition, IsFor, IsPlaceable, IsSound}
 use Rattle.ynl_inventory.proofs.Lookups.{changed-live, found-live, length-at, read-changed}
 use Rattle.ynl_inventory.proofs.Placing.{placed-for, placed-means, placed-sound}
-use Rattle.ynl_ledger.specs.Ledger.{totals_in, uses_in, IsBounded}
-use Rattle.ynl_ledger.proofs.Bounded.{placing as bounded-placing}
-use Rattle.ynl_ledger.proofs.Sums.{changed-totals}
-use Rattle.ynl_seating.specs.Seating.{user_use, AreSeated}
-use Rattle.ynl_seating.specs.Steps.{IsPlaced}
+use Rattle.ynl_cluster.specs.ledger.Ledger.{totals_in, uses_in, IsBounded}
+use Rattle.ynl_cluster.proofs.ledger.Bounded.{placing as bounded-placing}
+use Rattle.ynl_cluster.proofs.ledger.Sums.{changed-totals}
+use Rattle.ynl_cluster.specs.seating.Seating.{user_use, AreSeated}
+use Rattle.ynl_cluster.specs.seating.Steps.{IsPlaced}
 use Rattle.ynl_cluster.specs.declared.cluster.Cluster.TheInside.{Inside}
 use Rattle.ynl_cluster.specs.Cluster.{ClusterView, held_in, maxima_in, state_in, stops_in}
 use Rattle.ynl_cluster.specs.Whole.{view_of, AreNumbered, AreParts, AskSizes, IsCluster}

@@ -17,21 +17,21 @@ use Rattle.ynl_model.specs.Queues.{accepts, guaranteed as guaranteed_of, maximum
 use Rattle.ynl_laws.specs.Uses.{use_of}
 use Rattle.ynl_laws.specs.Ways.{IsWay}
 use Rattle.ynl_layout.specs.Paths.{HasNumber, IsLine, IsTree, is_above, path_at, paths_of}
-use Rattle.ynl_settings.specs.Shares.{capacity_at, maximum_at, reached, shares_on, HasCell, IsWayIn}
-use Rattle.ynl_settings.proofs.MaximaMean.{AreLabels}
-use Rattle.ynl_settings.proofs.SharesMean.{AreConfigured, IsBelowRoot, guaranteed-means, most-means}
-use Rattle.ynl_settings.proofs.StopsMean.{stops-mean}
-use Rattle.ynl_uses.specs.Tallies.{AreSmall, HasPartition as HasUses, IsSmallUse, IsTotal}
+use Rattle.ynl_layout.specs.settings.Shares.{capacity_at, maximum_at, reached, shares_on, HasCell, IsWayIn}
+use Rattle.ynl_layout.proofs.settings.MaximaMean.{AreLabels}
+use Rattle.ynl_layout.proofs.settings.SharesMean.{AreConfigured, IsBelowRoot, guaranteed-means, most-means}
+use Rattle.ynl_layout.proofs.settings.StopsMean.{stops-mean}
+use Rattle.ynl_cluster.specs.uses.Tallies.{AreSmall, HasPartition as HasUses, IsSmallUse, IsTotal}
 use Rattle.ynl_inventory.specs.Rows.{Rows, PartitionRow}
 use Rattle.ynl_inventory.specs.Meaning.{label_at}
 use Rattle.ynl_inventory.specs.Sound.{HasPartition}
-use Rattle.ynl_ledger.specs.declared.totals.Total.{Total}
-use Rattle.ynl_ledger.specs.Ledger.{total_in, use_by, uses_in}
-use Rattle.ynl_ledger.specs.Meaning.{IsTotalOf}
-use Rattle.ynl_ledger.specs.Totals.{total_at}
-use Rattle.ynl_ledger.proofs.Calls.{has-total, has-uses, total-is}
-use Rattle.ynl_ledger.proofs.Means.{listed, totals-mean, uses-mean}
-use Rattle.ynl_ledger.proofs.Small.{total-small, uses-small}
+use Rattle.ynl_cluster.specs.declared.ledger.totals.Total.{Total}
+use Rattle.ynl_cluster.specs.ledger.Ledger.{total_in, use_by, uses_in}
+use Rattle.ynl_cluster.specs.ledger.Meaning.{IsTotalOf}
+use Rattle.ynl_cluster.specs.ledger.Totals.{total_at}
+use Rattle.ynl_cluster.proofs.ledger.Calls.{has-total, has-uses, total-is}
+use Rattle.ynl_cluster.proofs.ledger.Means.{listed, totals-mean, uses-mean}
+use Rattle.ynl_cluster.proofs.ledger.Small.{total-small, uses-small}
 use Rattle.ynl_cluster.specs.declared.cluster.Cluster.TheInside.{Inside}
 use Rattle.ynl_cluster.specs.Cluster.{ClusterView, label_of, maxima_in, path_of, state_in, stops_in, IsCell}
 use Rattle.ynl_cluster.specs.Whole.{view_of, IsCluster}

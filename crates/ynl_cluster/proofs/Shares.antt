@@ -7,10 +7,10 @@ use Rattle.ynl_resource.specs.declared.paths.Path.{Path}
 use Rattle.ynl_model.specs.declared.queues.LeafSettings.{LeafSettings}
 use Rattle.ynl_model.specs.Queues.{Config, QueueRow, capacity_on, maximum_on, queue_row}
 use Rattle.ynl_layout.specs.Paths.{HasNumber, IsTree, path_at, paths_of}
-use Rattle.ynl_settings.specs.Shares.{capacity_at, maximum_at}
-use Rattle.ynl_settings.proofs.MaximaMean.{maximum-means}
-use Rattle.ynl_settings.proofs.StopsMean.{other-path, own-path}
-use Rattle.ynl_lane_table.specs.Lanes.{IsLaneAt}
+use Rattle.ynl_layout.specs.settings.Shares.{capacity_at, maximum_at}
+use Rattle.ynl_layout.proofs.settings.MaximaMean.{maximum-means}
+use Rattle.ynl_layout.proofs.settings.StopsMean.{other-path, own-path}
+use Rattle.ynl_lanes.specs.table.Lanes.{IsLaneAt}
 use Rattle.ynl_inventory.specs.Sound.{HasPartition}
 use Rattle.ynl_cluster.specs.declared.cluster.Cluster.TheInside.{Inside}
 use Rattle.ynl_cluster.specs.Cluster.{ClusterView, label_of, maxima_in, path_of, state_in, IsCell}

@@ -15,9 +15,9 @@ use Rattle.ynl_layout.specs.Paths.{path_at}
 use Rattle.ynl_slots.specs.Slots.{IsLive, IsUnused}
 use Rattle.ynl_slots.proofs.Entries.{itself}
 use Rattle.ynl_slots.proofs.Lookups.{lookup-push}
-use Rattle.ynl_app_table.specs.declared.app.Tickets.{Tickets}
-use Rattle.ynl_lane.specs.Seats.{Seats}
-use Rattle.ynl_lane_table.specs.Lanes.{IsLaneAt}
+use Rattle.ynl_tables.specs.declared.apps.app.Tickets.{Tickets}
+use Rattle.ynl_lanes.specs.lane.Seats.{Seats}
+use Rattle.ynl_lanes.specs.table.Lanes.{IsLaneAt}
 use Rattle.ynl_inventory.specs.declared.submission.NewSubmission.{NewSubmission}
 use Rattle.ynl_inventory.specs.Rows.{Rows, AppRow}
 use Rattle.ynl_inventory.specs.Changes.{with_submitted, with_tickets}
@@ -27,12 +27,12 @@ use Rattle.ynl_inventory.proofs.AppChange.{LeavesOwner, app-means, app-sound}
 use Rattle.ynl_inventory.proofs.Lookups.{live-found, pushed-cases}
 use Rattle.ynl_inventory.proofs.Submitting.{row, submitted-means, submitted-sound}
 use Rattle.ynl_inventory.proofs.SubmitParts.{may-submit}
-use Rattle.ynl_ledger.specs.Ledger.{totals_in, uses_in, IsBounded}
-use Rattle.ynl_ledger.proofs.Bounded.{others}
-use Rattle.ynl_ledger.proofs.Ledger.{submitting, ticketing}
-use Rattle.ynl_seating.specs.Seating.{AreSeated}
-use Rattle.ynl_seating.specs.Steps.{IsReserved, IsUnseated}
-use Rattle.ynl_seating.proofs.Starting.{is-submitted_last}
+use Rattle.ynl_cluster.specs.ledger.Ledger.{totals_in, uses_in, IsBounded}
+use Rattle.ynl_cluster.proofs.ledger.Bounded.{others}
+use Rattle.ynl_cluster.proofs.ledger.Ledger.{submitting, ticketing}
+use Rattle.ynl_cluster.specs.seating.Seating.{AreSeated}
+use Rattle.ynl_cluster.specs.seating.Steps.{IsReserved, IsUnseated}
+use Rattle.ynl_cluster.proofs.seating.Starting.{is-submitted_last}
 use Rattle.ynl_cluster.specs.declared.cluster.Cluster.TheInside.{Inside}
 use Rattle.ynl_cluster.specs.Cluster.{ClusterView, label_of, maxima_in, path_of, state_in, stops_in}
 use Rattle.ynl_cluster.specs.Whole.{view_of, AreParts, AskSizes, AsksSizes, IsCluster}

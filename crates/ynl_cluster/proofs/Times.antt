@@ -11,11 +11,11 @@ use Rattle.ynl_inventory.specs.Sound.{CanShow, HasPartition, IsFor, IsSound}
 use Rattle.ynl_inventory.proofs.Finding.{own-label}
 use Rattle.ynl_inventory.proofs.Lookups.{place-there}
 use Rattle.ynl_inventory.proofs.Times.{clock-for, clock-means, stamp-for, stamp-means}
-use Rattle.ynl_ledger.specs.Ledger.{totals_in, uses_in, IsBounded}
-use Rattle.ynl_ledger.proofs.Bounded.{clocks as clock-bounded, stamps as stamp-bounded}
-use Rattle.ynl_ledger.proofs.Ledger.{clocks as clock-ledger, stamps as stamp-ledger}
-use Rattle.ynl_seating.specs.Seating.{AreSeated}
-use Rattle.ynl_seating.proofs.RowChanges.{clock-seated, stamp-seated}
+use Rattle.ynl_cluster.specs.ledger.Ledger.{totals_in, uses_in, IsBounded}
+use Rattle.ynl_cluster.proofs.ledger.Bounded.{clocks as clock-bounded, stamps as stamp-bounded}
+use Rattle.ynl_cluster.proofs.ledger.Ledger.{clocks as clock-ledger, stamps as stamp-ledger}
+use Rattle.ynl_cluster.specs.seating.Seating.{AreSeated}
+use Rattle.ynl_cluster.proofs.seating.RowChanges.{clock-seated, stamp-seated}
 use Rattle.ynl_cluster.specs.declared.cluster.Cluster.TheInside.{Inside}
 use Rattle.ynl_cluster.specs.Cluster.{ClusterView, label_of, maxima_in, state_in, stops_in}
 use Rattle.ynl_cluster.specs.Whole.{view_of, AreNumbered, AreParts, AskSizes, IsCluster}

@@ -9,17 +9,17 @@ use Rattle.ynl_resource.specs.Names.{root}
 use Rattle.ynl_resource.specs.declared.amounts.Resource.{Resource}
 use Rattle.ynl_model.specs.declared.uses.Use.{Use}
 use Rattle.ynl_laws.proofs.Amounts.{fits-trans}
-use Rattle.ynl_container_table.specs.declared.container.Container.{Container}
-use Rattle.ynl_uses.specs.Tallies.{raised_as, IsTotal}
-use Rattle.ynl_uses.specs.declared.tally.Counted.TheVariants.{Guest, Master, Asked}
-use Rattle.ynl_lane.specs.Rows.{IsUse}
+use Rattle.ynl_tables.specs.declared.containers.container.Container.{Container}
+use Rattle.ynl_cluster.specs.uses.Tallies.{raised_as, IsTotal}
+use Rattle.ynl_cluster.specs.declared.uses.tally.Counted.TheVariants.{Guest, Master, Asked}
+use Rattle.ynl_lanes.specs.lane.Rows.{IsUse}
 use Rattle.ynl_inventory.specs.Rows.{Rows, AppRow}
 use Rattle.ynl_inventory.specs.Apps.{containers_of, is_guest_role, is_master_role}
 use Rattle.ynl_inventory.specs.Sound.{HasPartition, IsSound}
 use Rattle.ynl_inventory.proofs.Used.{fits-parts}
-use Rattle.ynl_ledger.specs.Ledger.{is_below, total_in, use_by, use_where, IsBounded}
-use Rattle.ynl_ledger.proofs.Small.{nothing-fits, total-small, uses-within}
-use Rattle.ynl_seating.specs.Seating.{counts, is_of, user_use}
+use Rattle.ynl_cluster.specs.ledger.Ledger.{is_below, total_in, use_by, use_where, IsBounded}
+use Rattle.ynl_cluster.proofs.ledger.Small.{nothing-fits, total-small, uses-within}
+use Rattle.ynl_cluster.specs.seating.Seating.{counts, is_of, user_use}
 
 both-more : (a b size : Resource) → fits_in a b ≡ true → fits_in (plus size a) (plus b size) ≡ true
 both-more a b size h = grind (arith, nat_tests)

@@ -13,15 +13,15 @@ use Rattle.ynl_model.specs.Cluster.{State}
 use Rattle.ynl_model.specs.Nodes.{partition_labels}
 use Rattle.ynl_model.specs.Queues.{Config}
 use Rattle.ynl_layout.specs.Paths.{HasNumber, path_at, paths_of}
-use Rattle.ynl_settings.specs.declared.shares.Share.{Share}
-use Rattle.ynl_settings.specs.Meaning.{maxima_of, stops_of}
-use Rattle.ynl_lane.specs.Seats.{Seats}
-use Rattle.ynl_lane_table.specs.Lanes.{lane_at}
+use Rattle.ynl_layout.specs.declared.settings.shares.Share.{Share}
+use Rattle.ynl_layout.specs.settings.Meaning.{maxima_of, stops_of}
+use Rattle.ynl_lanes.specs.lane.Seats.{Seats}
+use Rattle.ynl_lanes.specs.table.Lanes.{lane_at}
 use Rattle.ynl_inventory.specs.Rows.{Rows, AppRow}
 use Rattle.ynl_inventory.specs.Meaning.{app_name, label_at, state_of}
 use Rattle.ynl_inventory.specs.Parts.{Held}
 use Rattle.ynl_inventory.specs.Sound.{HasPartition}
-use Rattle.ynl_seating.specs.Seating.{AreSeated}
+use Rattle.ynl_cluster.specs.seating.Seating.{AreSeated}
 
 -- its configuration, its rows, how many placements take no memory by partition, what is set of its queues, and whether a node may join again without memory
 pub record ClusterView : Type 0 where

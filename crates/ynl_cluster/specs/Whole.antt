@@ -5,14 +5,14 @@ use Rattle.ynl_model.specs.declared.uses.Use.{Use}
 use Rattle.ynl_model.specs.Nodes.{partition_labels}
 use Rattle.ynl_model.specs.Queues.{Config, capacity_on}
 use Rattle.ynl_layout.specs.Paths.{HasNumber, path_at, paths_of}
-use Rattle.ynl_settings.specs.declared.shares.Share.{Share}
-use Rattle.ynl_settings.specs.Shares.{capacity_at, HasCell}
-use Rattle.ynl_lane.specs.Seats.{Seats}
+use Rattle.ynl_layout.specs.declared.settings.shares.Share.{Share}
+use Rattle.ynl_layout.specs.settings.Shares.{capacity_at, HasCell}
+use Rattle.ynl_lanes.specs.lane.Seats.{Seats}
 use Rattle.ynl_inventory.specs.Rows.{Rows}
 use Rattle.ynl_inventory.specs.Sound.{IsFor, IsSound}
-use Rattle.ynl_ledger.specs.declared.totals.Total.{Total}
-use Rattle.ynl_ledger.specs.Ledger.{totals_in, uses_in, IsBounded}
-use Rattle.ynl_seating.specs.Seating.{AreSeated}
+use Rattle.ynl_cluster.specs.declared.ledger.totals.Total.{Total}
+use Rattle.ynl_cluster.specs.ledger.Ledger.{totals_in, uses_in, IsBounded}
+use Rattle.ynl_cluster.specs.seating.Seating.{AreSeated}
 use Rattle.ynl_cluster.specs.declared.cluster.Cluster.TheInside.{Inside}
 use Rattle.ynl_cluster.specs.Cluster.{ClusterView}
 pub use Rattle.ynl_cluster.specs.Cluster.{AreNumbered, AskSizes, AsksSizes}

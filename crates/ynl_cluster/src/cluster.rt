@@ -10,35 +10,35 @@ ghost use Rattle.ynl_model.specs.Changes.{app_finishes, end, node_joins, node_le
 ghost use Rattle.ynl_resource.specs.Ranges.{most_nodes};
 ghost use Rattle.ynl_laws.specs.Uses.{use_of};
 ghost use Rattle.ynl_layout.specs.Paths.{HasNumber};
-ghost use Rattle.ynl_uses.specs.Tallies.{IsSmallUse, IsTotal};
+ghost use Rattle.ynl_cluster.specs.uses.Tallies.{IsSmallUse, IsTotal};
 ghost use Rattle.ynl_slots.specs.Slots.{without, IsLive, IsUnused};
-ghost use Rattle.ynl_app_table.specs.declared.app.Tickets.{Tickets as TicketPair};
+ghost use Rattle.ynl_tables.specs.declared.apps.app.Tickets.{Tickets as TicketPair};
 ghost use Rattle.ynl_inventory.specs.Rows.{AppRow, NodeRow};
 ghost use Rattle.ynl_inventory.specs.Changes.{partition_of_node, with_app_gone, with_asked, with_dropped, with_ended, with_joined, with_left, with_node_gone, with_placed, with_submitted, with_clock, with_stamp, with_tickets, with_user_known};
 ghost use Rattle.ynl_inventory.specs.Meaning.{app_name, app_of, ask_of, item_of, node_number, node_of, placed_of};
 ghost use Rattle.ynl_inventory.specs.Parts.{CanPlace, LeavesRoom, containers_of, held_at};
 ghost use Rattle.ynl_inventory.specs.Sound.{CanAsk, CanShow, CanSubmit, HasNoContainers, HasPartition, IsFor, IsPlaceable, IsSound, OwnsNoContainers};
-ghost use Rattle.ynl_ledger.specs.Ledger.{total_in, IsBounded};
-ghost use Rattle.ynl_seating.specs.Seating.{AreSeated};
+ghost use Rattle.ynl_cluster.specs.ledger.Ledger.{total_in, IsBounded};
+ghost use Rattle.ynl_cluster.specs.seating.Seating.{AreSeated};
 ghost use Rattle.ynl_cluster.specs.Cluster.{held_in, label_of, path_of, state_in, AreNumbered, AskSizes, IsCell, IsLaneIn};
 ghost use Rattle.ynl_cluster.specs.Leaving.{IsLeaving};
 ghost use Rattle.ynl_cluster.specs.Finishing.{IsFinishing, OwnsNoneBefore};
 
+use crate::ledger::{Totals, tally_of};
+use crate::seating::{enter, follow_end, follow_placement, reserve, seat, unseat};
+use crate::uses::Uses;
 use crate::ways::way_to;
 use std::alloc::{AllocError, Global};
 use std::marker::Model;
-use ynl_app_table::Ask;
-use ynl_container_table::Container;
 use ynl_inventory::{Inventory, NewSubmission, Placement};
-use ynl_lane::Lane;
-use ynl_lane_table::Lanes;
-use ynl_ledger::{Totals, tally_of};
+use ynl_lanes::lane::Lane;
+use ynl_lanes::table::Lanes;
+use ynl_layout::settings::{Shares, Stops};
 use ynl_model::{LeafSettings, Use};
 use ynl_queues::Config;
 use ynl_resource::{Hundredths, MOST_NODES, Name, Resource, Size};
-use ynl_seating::{enter, follow_end, follow_placement, reserve, seat, unseat};
-use ynl_settings::{Shares, Stops};
-use ynl_uses::Uses;
+use ynl_tables::apps::Ask;
+use ynl_tables::containers::Container;
 
 /// A cluster under numbers. What its queues use and how much there is of each partition is kept
 /// beside its rows, and so are the lanes of those who wait. A contract sees the configuration, the

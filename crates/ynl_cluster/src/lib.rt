@@ -5,4 +5,8 @@
 pub use cluster::Cluster;
 
 mod cluster;
+pub mod ledger;
+pub mod requests;
+pub mod seating;
+pub mod uses;
 mod ways;

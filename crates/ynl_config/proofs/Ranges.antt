@@ -16,7 +16,7 @@ use Rattle.ynl_model.specs.declared.queues.LabelCapacity.{LabelCapacity}
 use Rattle.ynl_model.specs.Accepted.{label_faults, tree_faults, row_in_range, in_range, is_accepted}
 use Rattle.ynl_model.specs.declared.faults.LabelFault.{LabelFault}
 use Rattle.ynl_model.specs.declared.faults.TreeFault.{TreeFault}
-use Rattle.ynl_labels.specs.Built.{unless_fault, labels_of}
+use Rattle.ynl_queues.specs.labels.Built.{unless_fault, labels_of}
 use Rattle.ynl_queues.specs.Written.{WrittenRow, row_of, made_of, built_of}
 use Rattle.ynl_queues.proofs.Faultless.{built_faultless}
 use Rattle.ynl_config.specs.declared.keys.TableKind.TheVariants as kind

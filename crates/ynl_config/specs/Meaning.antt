@@ -9,7 +9,7 @@ use Rattle.ynl_model.specs.declared.faults.TreeFault.{TreeFault}
 use Rattle.ynl_model.specs.declared.faults.TreeFault.TheVariants as tree
 use Rattle.ynl_model.specs.Queues.{Config}
 use Rattle.ynl_model.specs.Accepted.{is_accepted}
-use Rattle.ynl_labels.specs.Built.{labels_of}
+use Rattle.ynl_queues.specs.labels.Built.{labels_of}
 use Rattle.ynl_queues.specs.Written.{built_of}
 use Rattle.ynl_config.specs.Earliest.{ConfigFault, ◌>>=◌}
 use Rattle.ynl_config.specs.declared.faults.ConfigFault.TheVariants as fault

@@ -12,8 +12,8 @@ use crate::written::{Written, written_in};
 use std::alloc::{AllocError, Global};
 use toml::Table;
 use toml::de::Error;
-use ynl_labels::Labels;
 use ynl_queues::Config;
+use ynl_queues::labels::Labels;
 
 /// A text has at most so many bytes.
 pub(crate) const MOST_BYTES: usize = 1_048_576;

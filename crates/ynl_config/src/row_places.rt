@@ -16,8 +16,8 @@ use crate::telling::told_text;
 use crate::tree_places::place_in_tree;
 use crate::written::Written;
 use std::alloc::{AllocError, Global};
-use ynl_labels::Labels;
 use ynl_model::LabelRow;
+use ynl_queues::labels::Labels;
 use ynl_queues::{Draft, WrittenQueue, above, as_written, count_together, is_too_deep};
 use ynl_resource::{MOST_CHILDREN, MOST_QUEUES, Name, Path};
 

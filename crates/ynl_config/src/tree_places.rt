@@ -17,8 +17,8 @@ use crate::faults::ConfigFault;
 use crate::places::{Place, RowKind};
 use crate::telling::told_text;
 use std::alloc::{AllocError, Global};
-use ynl_labels::Labels;
 use ynl_model::LabelCapacity;
+use ynl_queues::labels::Labels;
 use ynl_queues::{Draft, Grant, QueueRow, parent_of, total_capacity};
 use ynl_resource::{Label, Name, Path, WHOLE};
 

@@ -31,7 +31,7 @@ use Rattle.ynl_model.specs.Events.{accepted, answered, commits, done, held, serv
 use Rattle.ynl_inventory.specs.Rows.{AppRow}
 use Rattle.ynl_inventory.specs.Meaning.{app_name, app_of, ask_of, item_of, node_of, placed_of}
 use Rattle.ynl_inventory.specs.Sound.{IsSound}
-use Rattle.ynl_requests.proofs.Tables.{tabled}
+use Rattle.ynl_cluster.proofs.requests.Tables.{tabled}
 use Rattle.ynl_cluster.specs.Cluster.{ClusterView, label_of, maxima_in, name_in, path_of, state_in, stops_in, tenant_in}
 use Rattle.ynl_admission.specs.Admitted.{CanAskAs, CanExit, CanJoin, CanRelabel, CanRelease, CanSubmitAs}
 use Rattle.ynl_admission.specs.Named.{IsAppNamed, IsCellBelowRoot, IsNodeNamed, IsPartitionOf, IsQueueOf}

@@ -11,13 +11,13 @@ use Rattle.ynl_waits.specs.Laws.{AreWanted, OfEach}
 use Rattle.ynl_waits.specs.declared.waits.Explained.{Explained}
 use Rattle.ynl_waits.specs.declared.waits.Wait.{Wait}
 use Rattle.ynl_waits.proofs.Following.{IsKnown}
-use Rattle.ynl_app_table.specs.declared.asks.Ask.{Ask}
+use Rattle.ynl_tables.specs.declared.apps.asks.Ask.{Ask}
 use Rattle.ynl_inventory.specs.Meaning.{ask_of, partition_of}
 use Rattle.ynl_inventory.specs.Rows.{PartitionRow}
 use Rattle.ynl_inventory.specs.Sound.{IsFor, IsSound}
-use Rattle.ynl_requests.proofs.Live.{among-live}
-use Rattle.ynl_requests.proofs.Members.{Among, flat-among}
-use Rattle.ynl_requests.proofs.Tables.{distinct, tabled}
+use Rattle.ynl_cluster.proofs.requests.Live.{among-live}
+use Rattle.ynl_cluster.proofs.requests.Members.{Among, flat-among}
+use Rattle.ynl_cluster.proofs.requests.Tables.{distinct, tabled}
 use Rattle.ynl_cluster.specs.Cluster.{ClusterView, maxima_in, state_in, stops_in}
 use Rattle.ynl_core.specs.World.{World}
 use Rattle.ynl_core.proofs.Stepping.{world_in}

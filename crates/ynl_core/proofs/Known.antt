@@ -14,8 +14,8 @@ use Rattle.ynl_inventory.specs.Rows.{PartitionRow, Rows}
 use Rattle.ynl_cluster.specs.Cluster.{ClusterView, state_in}
 use Rattle.ynl_resource.specs.declared.labels.Label.TheVariants.{Unlabelled}
 use Rattle.ynl_model.specs.Service.{asks_for}
-use Rattle.ynl_shut.specs.Notes.{Notes, Row, Table, noted_at, noted_in}
-use Rattle.ynl_shut.specs.Shut.{AreAtLeast, AreShut, IsRight}
+use Rattle.ynl_search.specs.notes.Notes.{Notes, Row, Table, noted_at, noted_in}
+use Rattle.ynl_search.specs.notes.Shut.{AreAtLeast, AreShut, IsRight}
 
 -- what a note is right of
 abbrev Told : Type 0

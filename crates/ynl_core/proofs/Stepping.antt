@@ -18,9 +18,9 @@ use Rattle.ynl_resource.specs.Amounts.{fits_in, nothing}
 use Rattle.ynl_resource.specs.declared.amounts.Resource.{Resource}
 use Rattle.ynl_resource.specs.declared.labels.Label.{Label}
 use Rattle.ynl_resource.specs.declared.paths.Path.{Path}
-use Rattle.ynl_shut.specs.declared.noted.Noted.{Noted}
-use Rattle.ynl_shut.specs.Notes.{Changes, IsEmpty, Notes, forgotten, noted_in, nothing_noted}
-use Rattle.ynl_shut.specs.Shut.{AreShut, IsRight}
+use Rattle.ynl_search.specs.declared.notes.noted.Noted.{Noted}
+use Rattle.ynl_search.specs.notes.Notes.{Changes, IsEmpty, Notes, forgotten, noted_in, nothing_noted}
+use Rattle.ynl_search.specs.notes.Shut.{AreShut, IsRight}
 use Rattle.ynl_core.specs.Reached.{WorksAndIsTold}
 use Rattle.ynl_core.specs.World.{Answers, World}
 

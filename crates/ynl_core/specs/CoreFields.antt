@@ -1,6 +1,6 @@
 -- What a cluster's fields mean.
 use Rattle.ynl_cluster.specs.Cluster.{state_in}
-use Rattle.ynl_shut.specs.Shut.{AreShut}
+use Rattle.ynl_search.specs.notes.Shut.{AreShut}
 use Rattle.ynl_core.specs.declared.cluster.Core.TheInside.{Inside}
 use Rattle.ynl_core.specs.Reached.{WorksAndIsTold}
 use Rattle.ynl_core.specs.World.{World}

@@ -13,7 +13,7 @@ use ynl_inventory::NewSubmission;
 use ynl_model::{AskRow, Reply};
 use ynl_replies as replies;
 use ynl_resource::{Label, Name, Path, Size};
-use ynl_shut::{ask, finish, submit};
+use ynl_search::notes::{ask, finish, submit};
 
 impl Core {
     /// An application comes to a leaf.

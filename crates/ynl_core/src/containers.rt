@@ -10,8 +10,8 @@ use crate::memory::NoMemory;
 use ynl_admission as admission;
 use ynl_model::{Proposal, Reply};
 use ynl_resource::{Id, Name};
+use ynl_search::notes::{end, place};
 use ynl_service::{check, proposed};
-use ynl_shut::{end, place};
 
 impl Core {
     /// A container ended by itself.

@@ -9,9 +9,9 @@ use Rattle.ynl_model.specs.declared.queues.StopRow.{StopRow}
 use Rattle.ynl_model.specs.declared.queues.MaximumRow.{MaximumRow}
 use Rattle.ynl_model.specs.Applications.{in_leaf, set_ask, with_app}
 use Rattle.ynl_layout.specs.Paths.{path_at}
-use Rattle.ynl_app_table.specs.declared.asks.Ask.{Ask}
-use Rattle.ynl_app_table.specs.Asks.{AreAsks, is_ask_of, with_ask}
-use Rattle.ynl_app_table.proofs.Asking.{asks_dropped, asks_put}
+use Rattle.ynl_tables.specs.declared.apps.asks.Ask.{Ask}
+use Rattle.ynl_tables.specs.apps.Asks.{AreAsks, is_ask_of, with_ask}
+use Rattle.ynl_tables.proofs.apps.Asking.{asks_dropped, asks_put}
 use Rattle.ynl_laws.proofs.Lists.{all-of}
 use Rattle.ynl_slots.proofs.Lists.{all_from}
 use Rattle.ynl_inventory.specs.Rows.{Rows, AppRow}

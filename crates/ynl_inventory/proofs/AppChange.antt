@@ -19,9 +19,9 @@ use Rattle.ynl_model.specs.declared.queues.StopRow.{StopRow}
 use Rattle.ynl_model.specs.declared.queues.MaximumRow.{MaximumRow}
 use Rattle.ynl_model.specs.Applications.{Application, in_leaf, with_app}
 use Rattle.ynl_layout.specs.Paths.{HasNumber, path_at}
-use Rattle.ynl_app_table.specs.Asks.{AreAsks}
-use Rattle.ynl_container_table.specs.declared.container.Container.{Container}
-use Rattle.ynl_submissions.specs.declared.submissions.Submission.{Submission}
+use Rattle.ynl_tables.specs.apps.Asks.{AreAsks}
+use Rattle.ynl_tables.specs.declared.containers.container.Container.{Container}
+use Rattle.ynl_tables.specs.declared.submissions.submissions.Submission.{Submission}
 use Rattle.ynl_inventory.specs.Rows.{Rows, PartitionRow, AppRow}
 use Rattle.ynl_inventory.specs.Meaning.{app_name, submitted_to, submitted_in, tenant_at, placed_of, partition_of, application_of, live_of, leaf_of, leaf_numbers, state_of}
 use Rattle.ynl_inventory.specs.Changes.{with_app_changed}

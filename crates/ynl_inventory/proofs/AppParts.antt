@@ -4,13 +4,13 @@ use Rattle.std.specs.Prelude.{slice_set}
 use Rattle.std.specs.Map.{lookup}
 use Rattle.std.proofs.lemmas.Option.{same_Some, slice_get-map, slice_get_within}
 use Rattle.ynl_slots.specs.Slots.{Numbered, IsLive, without}
-use Rattle.ynl_app_table.specs.declared.app.AppRow.{AppRow as AppPart}
-use Rattle.ynl_app_table.specs.declared.app.Tickets.{Tickets}
-use Rattle.ynl_app_table.specs.Apps.{with_app}
-use Rattle.ynl_container_table.specs.declared.container.Container.{Container}
-use Rattle.ynl_container_table.specs.Fields.{of_rows}
-use Rattle.ynl_container_table.proofs.Rows.{lookup-of_rows, of_rows-without}
-use Rattle.ynl_submissions.specs.Submissions.{Listing, with_finished}
+use Rattle.ynl_tables.specs.declared.apps.app.AppRow.{AppRow as AppPart}
+use Rattle.ynl_tables.specs.declared.apps.app.Tickets.{Tickets}
+use Rattle.ynl_tables.specs.apps.Apps.{with_app}
+use Rattle.ynl_tables.specs.declared.containers.container.Container.{Container}
+use Rattle.ynl_tables.specs.containers.Fields.{of_rows}
+use Rattle.ynl_tables.proofs.containers.Rows.{lookup-of_rows, of_rows-without}
+use Rattle.ynl_tables.specs.submissions.Submissions.{Listing, with_finished}
 use Rattle.ynl_inventory.specs.declared.inventory.Inventory.TheInside.{Inside}
 use Rattle.ynl_inventory.specs.Rows.{Rows, AppRow}
 use Rattle.ynl_inventory.specs.Meaning.{submitted_to}

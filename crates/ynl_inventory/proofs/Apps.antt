@@ -13,7 +13,7 @@ use Rattle.ynl_laws.specs.Numbers.{Differ}
 use Rattle.ynl_laws.proofs.Lists.{any-later}
 use Rattle.ynl_laws.proofs.Names.{same-name_self, same-name_sym}
 use Rattle.ynl_slots.proofs.Entries.{itself}
-use Rattle.ynl_submissions.specs.declared.submissions.Submission.{Submission}
+use Rattle.ynl_tables.specs.declared.submissions.submissions.Submission.{Submission}
 use Rattle.ynl_inventory.specs.Rows.{Rows, AppRow}
 use Rattle.ynl_inventory.specs.Meaning.{application_of, live_of}
 

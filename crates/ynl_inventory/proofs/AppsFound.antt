@@ -14,12 +14,12 @@ use Rattle.ynl_model.specs.Applications.{Application, LeafApps, find_app, leaf_o
 use Rattle.ynl_layout.specs.Paths.{HasNumber, path_at}
 use Rattle.ynl_laws.proofs.Lists.{Each-all, Each-weaker, any-later, find-map, find-nothing}
 use Rattle.ynl_laws.proofs.Names.{same-name_self, same-name_sym}
-use Rattle.ynl_submissions.specs.declared.submissions.Submission.{Submission}
+use Rattle.ynl_tables.specs.declared.submissions.submissions.Submission.{Submission}
 use Rattle.ynl_inventory.specs.Rows.{Rows}
 use Rattle.ynl_inventory.specs.Meaning.{has_none_below, leaf_numbers, leaves_from, leaf_of, live_of, submitted_in, submitted_to, tenant_at}
 use Rattle.ynl_inventory.specs.Sound.{IsSound, IsSubmission, IsTenant}
-use Rattle.ynl_submissions.specs.Submissions.{turn_of}
-use Rattle.ynl_submissions.proofs.Turns.{unused_get}
+use Rattle.ynl_tables.specs.submissions.Submissions.{turn_of}
+use Rattle.ynl_tables.proofs.submissions.Turns.{unused_get}
 use Rattle.ynl_inventory.proofs.Submitted.{each-leaf, tenant-there, submission}
 use Rattle.ynl_inventory.proofs.Apps.{Entry, in_leaf, leaf-of_name, has-name, only-named, name_of, none-found, some-found}
 

@@ -6,8 +6,8 @@ use Rattle.std.proofs.lemmas.Bool.{and_parts}
 use Rattle.std.proofs.lemmas.Bool.Decides.{nat_tests}
 use Rattle.ynl_resource.specs.Tables.{put, update, without}
 use Rattle.ynl_laws.proofs.Lists.{Each-filter, Each-find, Each-put, Each-update}
-use Rattle.ynl_app_table.specs.declared.asks.Ask.{Ask}
-use Rattle.ynl_app_table.specs.Asks.{is_ask_of, is_spent, lowered, find_ask, with_ask, with_one_taken}
+use Rattle.ynl_tables.specs.declared.apps.asks.Ask.{Ask}
+use Rattle.ynl_tables.specs.apps.Asks.{is_ask_of, is_spent, lowered, find_ask, with_ask, with_one_taken}
 use Rattle.ynl_inventory.specs.Rows.{Rows}
 use Rattle.ynl_inventory.specs.Sound.{HasPartition, IsAskedOn, IsSound}
 

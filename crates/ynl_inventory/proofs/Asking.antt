@@ -7,8 +7,8 @@ use Rattle.ynl_resource.specs.Names.{same_label}
 use Rattle.ynl_resource.specs.Tables.{put, update, without}
 use Rattle.ynl_model.specs.declared.applications.AskRow.{AskRow}
 use Rattle.ynl_model.specs.Applications.{is_ask_of as is_model_ask, set_ask, take_one}
-use Rattle.ynl_app_table.specs.declared.asks.Ask.{Ask}
-use Rattle.ynl_app_table.specs.Asks.{is_ask_of, is_spent, lowered, with_ask, with_one_taken}
+use Rattle.ynl_tables.specs.declared.apps.asks.Ask.{Ask}
+use Rattle.ynl_tables.specs.apps.Asks.{is_ask_of, is_spent, lowered, with_ask, with_one_taken}
 use Rattle.ynl_laws.proofs.Lists.{Each-update, Each-weaker}
 use Rattle.ynl_laws.proofs.Names.{same-label_path, same-label_self}
 use Rattle.ynl_slots.proofs.Entries.{itself}

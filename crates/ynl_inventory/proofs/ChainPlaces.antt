@@ -5,11 +5,11 @@ use Rattle.std.proofs.lemmas.Option.{slice_get_within}
 use Rattle.ynl_slots.specs.Slots.{Numbered, IsLive, IsUnused}
 use Rattle.ynl_slots.specs.declared.chain.Chain.{Chain}
 use Rattle.ynl_slots.proofs.Lookups.{unused_from_lookup}
-use Rattle.ynl_app_table.specs.declared.app.AppRow.{AppRow as AppPart}
-use Rattle.ynl_app_table.specs.Apps.{with_app, with_change}
-use Rattle.ynl_app_table.specs.Chains.{no_chain, with_place}
-use Rattle.ynl_app_table.proofs.Chaining.{with_place-live, chains_stay}
-use Rattle.ynl_container_table.proofs.Removing.{at_live}
+use Rattle.ynl_tables.specs.declared.apps.app.AppRow.{AppRow as AppPart}
+use Rattle.ynl_tables.specs.apps.Apps.{with_app, with_change}
+use Rattle.ynl_tables.specs.apps.Chains.{no_chain, with_place}
+use Rattle.ynl_tables.proofs.apps.Chaining.{with_place-live, chains_stay}
+use Rattle.ynl_tables.proofs.containers.Removing.{at_live}
 use Rattle.ynl_inventory.specs.declared.partition.Partition.{Partition}
 use Rattle.ynl_inventory.specs.Parts.{AddsPlaces, HasGuestPlaces, HasMorePlaces}
 use Rattle.ynl_inventory.proofs.Lookups.{changed-twice, live-after, live-found, pushed-live, some-after}

@@ -16,8 +16,8 @@ use Rattle.ynl_model.specs.Nodes.{rises, stamped, is_at}
 use Rattle.ynl_model.specs.Cluster.{State, Partition, is_partition, in_partition, next_clock}
 use Rattle.ynl_model.specs.Changes.{changed_at}
 use Rattle.ynl_slots.specs.Slots.{HasDistinctNumbers}
-use Rattle.ynl_container_table.specs.declared.container.Container.{Container}
-use Rattle.ynl_container_table.specs.Table.{IsRising}
+use Rattle.ynl_tables.specs.declared.containers.container.Container.{Container}
+use Rattle.ynl_tables.specs.containers.Table.{IsRising}
 use Rattle.ynl_inventory.specs.Rows.{Rows, PartitionRow, NodeRow}
 use Rattle.ynl_inventory.specs.Meaning.{label_at, placed_of, partition_of, node_of, leaf_numbers, state_of}
 use Rattle.ynl_inventory.specs.Changes.{ticked, next_clock as next_of_row, next_clock_at, with_changed}

@@ -22,8 +22,8 @@ use Rattle.ynl_model.specs.Cluster.{Partition, is_partition, containers_on}
 use Rattle.ynl_model.specs.Events.{container_at, container_for}
 use Rattle.ynl_slots.specs.Slots.{HasDistinctNumbers}
 use Rattle.ynl_slots.proofs.Entries.{itself}
-use Rattle.ynl_container_table.specs.declared.container.Container.{Container}
-use Rattle.ynl_container_table.specs.Table.{number_at}
+use Rattle.ynl_tables.specs.declared.containers.container.Container.{Container}
+use Rattle.ynl_tables.specs.containers.Table.{number_at}
 use Rattle.ynl_inventory.specs.Rows.{Rows, PartitionRow, NodeRow, AppRow}
 use Rattle.ynl_inventory.specs.Meaning.{label_at, owner_of, placed_of, partition_of, container_with, state_of}
 use Rattle.ynl_inventory.specs.Sound.{IsContainer, IsPartition, IsSound}

@@ -8,7 +8,7 @@ use Rattle.std.proofs.lemmas.Option.{same_Some}
 use Rattle.ynl_laws.proofs.Lists.{filter-all}
 use Rattle.ynl_slots.specs.Slots.{without}
 use Rattle.ynl_slots.proofs.Entries.{itself}
-use Rattle.ynl_container_table.specs.declared.container.Container.{Container}
+use Rattle.ynl_tables.specs.declared.containers.container.Container.{Container}
 use Rattle.ynl_model.specs.Queues.{Config}
 use Rattle.ynl_inventory.specs.Rows.{Rows, PartitionRow, NodeRow}
 use Rattle.ynl_inventory.specs.Changes.{with_at, partition_of_node, with_left, with_dropped, with_node_gone}

@@ -16,8 +16,8 @@ use Rattle.ynl_model.specs.Changes.{changed_at, end}
 use Rattle.ynl_slots.specs.Slots.{without}
 use Rattle.ynl_slots.proofs.Entries.{itself, distinct_without}
 use Rattle.ynl_slots.proofs.Lookups.{lookup-without}
-use Rattle.ynl_container_table.specs.declared.container.Container.{Container}
-use Rattle.ynl_container_table.proofs.Clocks.{rising_without}
+use Rattle.ynl_tables.specs.declared.containers.container.Container.{Container}
+use Rattle.ynl_tables.proofs.containers.Clocks.{rising_without}
 use Rattle.ynl_inventory.specs.Rows.{Rows, PartitionRow, NodeRow}
 use Rattle.ynl_inventory.specs.Meaning.{node_name, placed_of, state_of}
 use Rattle.ynl_inventory.specs.Changes.{next_clock as next_of_row, with_ended}

@@ -10,8 +10,8 @@ use Rattle.ynl_laws.proofs.Lists.{Each-filter, Each-map, Each-unmap}
 use Rattle.ynl_laws.specs.Numbers.{Differ}
 use Rattle.ynl_resource.specs.Names.{same_name}
 use Rattle.ynl_slots.specs.Slots.{HasDistinctNumbers}
-use Rattle.ynl_container_table.specs.declared.container.Container.{Container}
-use Rattle.ynl_container_table.specs.Table.{IsRising}
+use Rattle.ynl_tables.specs.declared.containers.container.Container.{Container}
+use Rattle.ynl_tables.specs.containers.Table.{IsRising}
 use Rattle.ynl_inventory.specs.Apps.{HasOneMasterEach}
 use Rattle.ynl_inventory.proofs.Updates.{later-found, unused-apart}
 

@@ -4,8 +4,8 @@ use Rattle.std.specs.Map.{lookup}
 use Rattle.std.specs.Option.{option_map_or}
 use Rattle.std.proofs.lemmas.Option.{slice_get-map}
 use Rattle.ynl_resource.specs.Amounts.{nothing, less, fits_in, IsSmall}
-use Rattle.ynl_node_table.specs.declared.nodes.NodeRow.{NodeRow as NodePart}
-use Rattle.ynl_container_table.proofs.Rows.{lookup-of_rows}
+use Rattle.ynl_tables.specs.declared.nodes.nodes.NodeRow.{NodeRow as NodePart}
+use Rattle.ynl_tables.proofs.containers.Rows.{lookup-of_rows}
 use Rattle.ynl_inventory.specs.declared.inventory.Inventory.TheInside.{Inside}
 use Rattle.ynl_inventory.specs.Rows.{PartitionRow, NodeRow}
 use Rattle.ynl_inventory.specs.Apps.{containers_of}

@@ -20,9 +20,9 @@ use Rattle.ynl_layout.specs.Paths.{path_at}
 use Rattle.ynl_slots.specs.Slots.{IsLive, without}
 use Rattle.ynl_slots.proofs.Entries.{distinct_without, itself, lookup-without-other, other as apart_numbers}
 use Rattle.ynl_slots.proofs.Lookups.{lookup-without}
-use Rattle.ynl_container_table.specs.declared.container.Container.{Container}
-use Rattle.ynl_submissions.specs.declared.submissions.Submission.{Submission}
-use Rattle.ynl_submissions.specs.Submissions.{with_finished}
+use Rattle.ynl_tables.specs.declared.containers.container.Container.{Container}
+use Rattle.ynl_tables.specs.declared.submissions.submissions.Submission.{Submission}
+use Rattle.ynl_tables.specs.submissions.Submissions.{with_finished}
 use Rattle.ynl_inventory.specs.Rows.{Rows, PartitionRow, AppRow}
 use Rattle.ynl_inventory.specs.Meaning.{app_name, application_of, leaf_of, live_of, owner_of, partition_of, placed_of, state_of, submitted_in, submitted_to, tenant_at}
 use Rattle.ynl_inventory.specs.Changes.{with_app_gone}

@@ -18,7 +18,7 @@ use Rattle.ynl_model.specs.Cluster.{State, is_partition, in_partition, next_cloc
 use Rattle.ynl_model.specs.Changes.{node_joins}
 use Rattle.ynl_slots.proofs.Entries.{distinct_push}
 use Rattle.ynl_slots.proofs.Lookups.{lookup-push}
-use Rattle.ynl_container_table.specs.declared.container.Container.{Container}
+use Rattle.ynl_tables.specs.declared.containers.container.Container.{Container}
 use Rattle.ynl_inventory.specs.Rows.{Rows, PartitionRow, NodeRow}
 use Rattle.ynl_inventory.specs.Meaning.{label_at, placed_of, partition_of, node_of, leaf_numbers, state_of}
 use Rattle.ynl_inventory.specs.Changes.{next_clock as next_of_row, next_clock_at, ticked, with_joined}

@@ -2,10 +2,10 @@
 use Rattle.std.proofs.Common.{◌≡◌, ◌≤◌, ℕ, length, is_some, IfSome, Some, nat_eq, sym, ap, subst, ◌∙◌, arith}
 use Rattle.std.specs.Map.{lookup}
 use Rattle.ynl_slots.specs.Slots.{IsLive}
-use Rattle.ynl_container_table.specs.declared.container.Container.{Container}
-use Rattle.ynl_container_table.specs.declared.container.Role.{Role}
-use Rattle.ynl_container_table.specs.declared.container.Role.TheVariants.{Master, Ask as Asked}
-use Rattle.ynl_container_table.proofs.Removing.{at_live}
+use Rattle.ynl_tables.specs.declared.containers.container.Container.{Container}
+use Rattle.ynl_tables.specs.declared.containers.container.Role.{Role}
+use Rattle.ynl_tables.specs.declared.containers.container.Role.TheVariants.{Master, Ask as Asked}
+use Rattle.ynl_tables.proofs.containers.Removing.{at_live}
 use Rattle.ynl_inventory.specs.Rows.{Rows, NodeRow, AppRow}
 use Rattle.ynl_inventory.specs.Sound.{HasPartition, IsRole, IsContainer}
 use Rattle.ynl_inventory.proofs.Lookups.{live-found}

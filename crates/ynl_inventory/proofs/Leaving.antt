@@ -18,7 +18,7 @@ use Rattle.ynl_model.specs.Cluster.{Partition, is_partition, in_partition}
 use Rattle.ynl_model.specs.Changes.{node_leaves}
 use Rattle.ynl_slots.proofs.Entries.{lookup-without-other, distinct_without}
 use Rattle.ynl_slots.proofs.Lookups.{lookup-without}
-use Rattle.ynl_container_table.specs.declared.container.Container.{Container}
+use Rattle.ynl_tables.specs.declared.containers.container.Container.{Container}
 use Rattle.ynl_inventory.specs.Rows.{Rows, PartitionRow, NodeRow}
 use Rattle.ynl_inventory.specs.Meaning.{label_at, node_name, placed_of, partition_of, node_of, leaf_numbers, state_of}
 use Rattle.ynl_inventory.specs.Changes.{partition_of_node, with_left}

@@ -10,8 +10,8 @@ use mathlib.Core.Logic.{◌⊎◌}
 use Rattle.ynl_slots.specs.Slots.{IsLive, IsUnused, HasDistinctNumbers}
 use Rattle.ynl_slots.proofs.Lookups.{lookup-push, lookup-unused}
 use Rattle.ynl_slots.proofs.Entries.{itself, other, distinct_alike}
-use Rattle.ynl_app_table.specs.Apps.{with_change}
-use Rattle.ynl_app_table.proofs.Rows.{lookup-with_change}
+use Rattle.ynl_tables.specs.apps.Apps.{with_change}
+use Rattle.ynl_tables.proofs.apps.Rows.{lookup-with_change}
 use Rattle.ynl_inventory.specs.Changes.{with_at}
 
 module _ {X : Type 0} where

@@ -8,7 +8,7 @@ use Rattle.std.proofs.lemmas.Option.{same_Some}
 use Rattle.ynl_laws.proofs.Lists.{Each-weaker, find-append_none, find-nothing}
 use Rattle.ynl_slots.specs.Slots.{HasDistinctNumbers, without}
 use Rattle.ynl_slots.proofs.Entries.{itself, other}
-use Rattle.ynl_container_table.specs.declared.container.Container.{Container}
+use Rattle.ynl_tables.specs.declared.containers.container.Container.{Container}
 use Rattle.ynl_inventory.specs.Apps.{HasOneMasterEach, is_master_role, is_master_of, master_in}
 use Rattle.ynl_inventory.proofs.Finding.{not-true}
 use Rattle.ynl_inventory.proofs.Updates.{each-number}

@@ -4,10 +4,10 @@ use Rattle.std.specs.Map.{lookup}
 use Rattle.std.specs.Option.{option_map_or}
 use Rattle.std.proofs.lemmas.Option.{none-some, same_Some}
 use Rattle.ynl_resource.specs.declared.names.Name.{Name}
-use Rattle.ynl_app_table.specs.declared.app.AppRow.{AppRow as AppPart}
-use Rattle.ynl_container_table.proofs.Rows.{lookup-of_rows}
-use Rattle.ynl_submissions.specs.declared.submissions.Submission.{Submission}
-use Rattle.ynl_submissions.specs.Submissions.{Listing}
+use Rattle.ynl_tables.specs.declared.apps.app.AppRow.{AppRow as AppPart}
+use Rattle.ynl_tables.proofs.containers.Rows.{lookup-of_rows}
+use Rattle.ynl_tables.specs.declared.submissions.submissions.Submission.{Submission}
+use Rattle.ynl_tables.specs.submissions.Submissions.{Listing}
 use Rattle.ynl_inventory.specs.declared.inventory.Inventory.TheInside.{Inside}
 use Rattle.ynl_inventory.specs.Rows.{Rows, AppRow}
 use Rattle.ynl_inventory.specs.Meaning.{app_name, submitted_to}

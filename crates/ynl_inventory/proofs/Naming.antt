@@ -11,13 +11,13 @@ use Rattle.ynl_model.specs.declared.proposals.What.TheVariants.{Ask as Asked}
 use Rattle.ynl_layout.specs.Paths.{path_at}
 use Rattle.ynl_slots.specs.Slots.{IsLive, without}
 use Rattle.ynl_slots.proofs.Entries.{lookup-without-other}
-use Rattle.ynl_app_table.specs.Apps.{with_change}
-use Rattle.ynl_app_table.specs.declared.asks.Ask.{Ask}
-use Rattle.ynl_container_table.specs.declared.container.Container.{Container}
-use Rattle.ynl_container_table.specs.declared.container.Role.{Role}
-use Rattle.ynl_container_table.specs.declared.container.Role.TheVariants as role
-use Rattle.ynl_submissions.specs.declared.submissions.Submission.{Submission}
-use Rattle.ynl_submissions.specs.Submissions.{with_finished}
+use Rattle.ynl_tables.specs.apps.Apps.{with_change}
+use Rattle.ynl_tables.specs.declared.apps.asks.Ask.{Ask}
+use Rattle.ynl_tables.specs.declared.containers.container.Container.{Container}
+use Rattle.ynl_tables.specs.declared.containers.container.Role.{Role}
+use Rattle.ynl_tables.specs.declared.containers.container.Role.TheVariants as role
+use Rattle.ynl_tables.specs.declared.submissions.submissions.Submission.{Submission}
+use Rattle.ynl_tables.specs.submissions.Submissions.{with_finished}
 use Rattle.ynl_inventory.specs.Rows.{Rows, PartitionRow, NodeRow, AppRow}
 use Rattle.ynl_inventory.specs.Meaning.{label_at, node_name, submitted_to, app_name, tenant_name, what_of, owner_of, placed_of, partition_of, node_of, ask_of, application_of, live_of}
 use Rattle.ynl_inventory.specs.Changes.{with_at, with_taken}

@@ -15,13 +15,13 @@ use Rattle.ynl_slots.specs.Slots.{IsLive, IsUnused, without}
 use Rattle.ynl_slots.specs.Chain.{IsChain}
 use Rattle.ynl_slots.proofs.Entries.{other}
 use Rattle.ynl_slots.proofs.Lookups.{lookup-without}
-use Rattle.ynl_node_table.specs.declared.nodes.NodeRow.{NodeRow as NodePart}
-use Rattle.ynl_node_table.specs.Nodes.{Joins, no_chain, number_of}
-use Rattle.ynl_container_table.specs.declared.container.Container.{Container}
-use Rattle.ynl_container_table.specs.Chains.{IsNodeChain}
-use Rattle.ynl_container_table.specs.Fields.{of_rows}
-use Rattle.ynl_container_table.proofs.Numbers.{no_numbers}
-use Rattle.ynl_container_table.proofs.Rows.{lookup-of_rows, of_rows-push, of_rows-without, unused_of_rows}
+use Rattle.ynl_tables.specs.declared.nodes.nodes.NodeRow.{NodeRow as NodePart}
+use Rattle.ynl_tables.specs.nodes.Nodes.{Joins, no_chain, number_of}
+use Rattle.ynl_tables.specs.declared.containers.container.Container.{Container}
+use Rattle.ynl_tables.specs.containers.Chains.{IsNodeChain}
+use Rattle.ynl_tables.specs.containers.Fields.{of_rows}
+use Rattle.ynl_tables.proofs.containers.Numbers.{no_numbers}
+use Rattle.ynl_tables.proofs.containers.Rows.{lookup-of_rows, of_rows-push, of_rows-without, unused_of_rows}
 use Rattle.ynl_inventory.specs.declared.partition.Partition.{Partition}
 use Rattle.ynl_inventory.specs.declared.inventory.Inventory.TheInside.{Inside}
 use Rattle.ynl_inventory.specs.Rows.{Rows, NodeRow}

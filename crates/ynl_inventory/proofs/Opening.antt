@@ -21,7 +21,7 @@ use Rattle.ynl_laws.proofs.Logic.{not-true}
 use Rattle.ynl_laws.proofs.Names.{same-label_self}
 use Rattle.ynl_queues.specs.Trees.{HasTree}
 use Rattle.ynl_layout.specs.Paths.{IsTree, path_at, paths_of}
-use Rattle.ynl_submissions.specs.declared.submissions.Submission.{Submission}
+use Rattle.ynl_tables.specs.declared.submissions.submissions.Submission.{Submission}
 use Rattle.ynl_resource.specs.declared.names.Name.{Name}
 use Rattle.ynl_inventory.specs.Rows.{Rows, PartitionRow}
 use Rattle.ynl_inventory.specs.Meaning.{has_none_below, label_at, leaf_of, leaves_from, live_of, partition_of, submitted_in, tenant_at}

@@ -9,12 +9,12 @@ use Rattle.ynl_slots.specs.Slots.{IsLive, with_row}
 use Rattle.ynl_slots.specs.declared.chain.Chain.{Chain}
 use Rattle.ynl_slots.proofs.Entries.{itself, other}
 use Rattle.ynl_slots.proofs.Lookups.{lookup-with_row}
-use Rattle.ynl_app_table.specs.declared.app.AppRow.{AppRow as AppPart}
-use Rattle.ynl_app_table.specs.Apps.{with_change}
-use Rattle.ynl_app_table.specs.Chains.{chain_of, no_chain}
-use Rattle.ynl_container_table.specs.declared.container.Role.{Role}
-use Rattle.ynl_container_table.specs.declared.container.Role.TheVariants.{Master, Ask as Asked}
-use Rattle.ynl_container_table.specs.Fields.{of_rows}
+use Rattle.ynl_tables.specs.declared.apps.app.AppRow.{AppRow as AppPart}
+use Rattle.ynl_tables.specs.apps.Apps.{with_change}
+use Rattle.ynl_tables.specs.apps.Chains.{chain_of, no_chain}
+use Rattle.ynl_tables.specs.declared.containers.container.Role.{Role}
+use Rattle.ynl_tables.specs.declared.containers.container.Role.TheVariants.{Master, Ask as Asked}
+use Rattle.ynl_tables.specs.containers.Fields.{of_rows}
 use Rattle.ynl_inventory.specs.Changes.{with_at}
 use Rattle.ynl_inventory.specs.Parts.{taken_part}
 use Rattle.ynl_inventory.proofs.Lookups.{live-found}

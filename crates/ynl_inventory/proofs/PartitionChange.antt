@@ -12,7 +12,7 @@ use Rattle.ynl_slots.specs.Slots.{HasDistinctNumbers}
 use Rattle.ynl_model.specs.Nodes.{clock_limit}
 use Rattle.ynl_model.specs.Queues.{Config}
 use Rattle.ynl_model.specs.Service.{takes_guests}
-use Rattle.ynl_submissions.specs.declared.submissions.Submission.{Submission}
+use Rattle.ynl_tables.specs.declared.submissions.submissions.Submission.{Submission}
 use Rattle.ynl_inventory.specs.Rows.{Rows, PartitionRow, NodeRow, AppRow}
 use Rattle.ynl_inventory.specs.Meaning.{label_at, live_of, leaf_of, submitted_in}
 use Rattle.ynl_inventory.specs.Changes.{with_at}

@@ -9,12 +9,12 @@ use Rattle.ynl_resource.specs.Amounts.{less, fits_in, IsSmall}
 use Rattle.ynl_laws.proofs.Lists.{Each-weaker}
 use Rattle.ynl_slots.specs.Slots.{IsLive}
 use Rattle.ynl_slots.proofs.Entries.{itself, other}
-use Rattle.ynl_node_table.specs.declared.nodes.NodeRow.{NodeRow as NodePart}
-use Rattle.ynl_app_table.specs.declared.app.AppRow.{AppRow as AppPart}
-use Rattle.ynl_app_table.specs.declared.asks.Ask.{Ask}
-use Rattle.ynl_app_table.specs.Apps.{with_change}
-use Rattle.ynl_app_table.specs.Chains.{chain_of}
-use Rattle.ynl_container_table.specs.Chains.{IsNodeChain, IsAppChain, KeepsNodes, KeepsApps}
+use Rattle.ynl_tables.specs.declared.nodes.nodes.NodeRow.{NodeRow as NodePart}
+use Rattle.ynl_tables.specs.declared.apps.app.AppRow.{AppRow as AppPart}
+use Rattle.ynl_tables.specs.declared.apps.asks.Ask.{Ask}
+use Rattle.ynl_tables.specs.apps.Apps.{with_change}
+use Rattle.ynl_tables.specs.apps.Chains.{chain_of}
+use Rattle.ynl_tables.specs.containers.Chains.{IsNodeChain, IsAppChain, KeepsNodes, KeepsApps}
 use Rattle.ynl_inventory.specs.declared.partition.Partition.{Partition}
 use Rattle.ynl_inventory.specs.Apps.{master_in}
 use Rattle.ynl_inventory.specs.Parts.{used_of, HasGuestPlaces, HasPlaces, AreLinked}

@@ -22,15 +22,15 @@ use Rattle.ynl_layout.specs.Paths.{path_at}
 use Rattle.ynl_slots.specs.Slots.{IsUnused}
 use Rattle.ynl_slots.proofs.Entries.{distinct_push, itself}
 use Rattle.ynl_slots.proofs.Lookups.{lookup-push}
-use Rattle.ynl_container_table.specs.declared.container.Container.{Container}
-use Rattle.ynl_container_table.specs.declared.container.Role.{Role}
-use Rattle.ynl_container_table.specs.declared.container.Role.TheVariants.{Master, Ask as Asked}
+use Rattle.ynl_tables.specs.declared.containers.container.Container.{Container}
+use Rattle.ynl_tables.specs.declared.containers.container.Role.{Role}
+use Rattle.ynl_tables.specs.declared.containers.container.Role.TheVariants.{Master, Ask as Asked}
 use Rattle.ynl_laws.proofs.Lists.{all-of, none-found}
 use Rattle.ynl_slots.proofs.Lists.{all_from}
-use Rattle.ynl_app_table.specs.Asks.{AreAsks}
-use Rattle.ynl_app_table.proofs.Asking.{asks_taken}
-use Rattle.ynl_container_table.specs.Table.{IsAbove}
-use Rattle.ynl_container_table.proofs.Clocks.{rising_push}
+use Rattle.ynl_tables.specs.apps.Asks.{AreAsks}
+use Rattle.ynl_tables.proofs.apps.Asking.{asks_taken}
+use Rattle.ynl_tables.specs.containers.Table.{IsAbove}
+use Rattle.ynl_tables.proofs.containers.Clocks.{rising_push}
 use Rattle.ynl_inventory.specs.Rows.{Rows, PartitionRow, NodeRow, AppRow}
 use Rattle.ynl_inventory.specs.Meaning.{node_name, owner_of, app_name, what_of, placed_of, application_of, node_of, item_of, state_of}
 use Rattle.ynl_inventory.specs.Changes.{next_clock as next_of_row, partition_of_node, next_container, with_changed, with_taken, with_placed}

@@ -5,11 +5,11 @@ use Rattle.std.specs.Map.{lookup}
 use Rattle.ynl_resource.specs.Amounts.{IsSize}
 use Rattle.ynl_model.specs.Nodes.{rises}
 use Rattle.ynl_slots.specs.Slots.{without, HasDistinctNumbers, IsLive, IsUnused}
-use Rattle.ynl_node_table.specs.declared.nodes.NodeRow.{NodeRow as NodePart}
-use Rattle.ynl_node_table.specs.Nodes.{HasDistinctNames, Rejoins}
-use Rattle.ynl_node_table.proofs.Names.{unnamed_without}
-use Rattle.ynl_container_table.specs.Fields.{of_rows}
-use Rattle.ynl_container_table.proofs.Rows.{lookup-of_rows, of_rows-without, unused_of_rows}
+use Rattle.ynl_tables.specs.declared.nodes.nodes.NodeRow.{NodeRow as NodePart}
+use Rattle.ynl_tables.specs.nodes.Nodes.{HasDistinctNames, Rejoins}
+use Rattle.ynl_tables.proofs.nodes.Names.{unnamed_without}
+use Rattle.ynl_tables.specs.containers.Fields.{of_rows}
+use Rattle.ynl_tables.proofs.containers.Rows.{lookup-of_rows, of_rows-without, unused_of_rows}
 use Rattle.ynl_inventory.specs.declared.partition.Partition.{Partition}
 use Rattle.ynl_inventory.specs.declared.inventory.Inventory.TheInside.{Inside}
 use Rattle.ynl_inventory.specs.Rows.{Rows, NodeRow}

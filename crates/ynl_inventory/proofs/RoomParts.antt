@@ -6,11 +6,11 @@ use Rattle.std.proofs.lemmas.List.{length-map}
 use Rattle.ynl_inventory.specs.declared.inventory.Inventory.TheInside.{Inside}
 use Rattle.ynl_inventory.specs.Sound.{HasPartition}
 use Rattle.ynl_resource.specs.Amounts.{less, fits_in}
-use Rattle.ynl_node_table.specs.declared.nodes.NodeRow.{NodeRow as NodePart}
-use Rattle.ynl_app_table.specs.declared.app.AppRow.{AppRow as AppPart}
-use Rattle.ynl_app_table.specs.Chains.{chain_of}
-use Rattle.ynl_container_table.specs.Table.{Table}
-use Rattle.ynl_container_table.specs.Chains.{IsNodeChain, IsAppChain}
+use Rattle.ynl_tables.specs.declared.nodes.nodes.NodeRow.{NodeRow as NodePart}
+use Rattle.ynl_tables.specs.declared.apps.app.AppRow.{AppRow as AppPart}
+use Rattle.ynl_tables.specs.apps.Chains.{chain_of}
+use Rattle.ynl_tables.specs.containers.Table.{Table}
+use Rattle.ynl_tables.specs.containers.Chains.{IsNodeChain, IsAppChain}
 use Rattle.ynl_inventory.specs.declared.partition.Partition.{Partition}
 use Rattle.ynl_inventory.specs.Apps.{master_in}
 use Rattle.ynl_inventory.specs.Parts.{Held, LeavesRoom, held_of, partition_row, used_of, AreLinked}

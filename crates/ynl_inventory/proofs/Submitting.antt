@@ -20,8 +20,8 @@ use Rattle.ynl_layout.specs.Paths.{HasNumber, path_at}
 use Rattle.ynl_slots.specs.Slots.{IsLive, IsUnused}
 use Rattle.ynl_slots.proofs.Entries.{distinct_push, itself, lookup-push-other, other as apart_numbers}
 use Rattle.ynl_slots.proofs.Lookups.{lookup-push}
-use Rattle.ynl_container_table.specs.declared.container.Container.{Container}
-use Rattle.ynl_submissions.specs.declared.submissions.Submission.{Submission}
+use Rattle.ynl_tables.specs.declared.containers.container.Container.{Container}
+use Rattle.ynl_tables.specs.declared.submissions.submissions.Submission.{Submission}
 use Rattle.ynl_inventory.specs.Rows.{Rows, PartitionRow, AppRow}
 use Rattle.ynl_inventory.specs.Meaning.{app_name, application_of, has_none_below, label_at, leaf_of, live_of, owner_of, partition_of, placed_of, state_of, submitted_in, submitted_to, tenant_at}
 use Rattle.ynl_inventory.specs.Changes.{new_app, with_at, with_submitted}

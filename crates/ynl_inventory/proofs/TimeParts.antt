@@ -4,10 +4,10 @@ use Rattle.std.specs.Prelude.{slice_set}
 use Rattle.std.specs.Map.{lookup}
 use Rattle.std.proofs.lemmas.Option.{slice_get-map}
 use Rattle.ynl_resource.specs.Amounts.{fits_in, less, IsSmall}
-use Rattle.ynl_node_table.specs.declared.nodes.NodeRow.{NodeRow as NodePart}
-use Rattle.ynl_node_table.specs.Nodes.{with_change}
-use Rattle.ynl_container_table.specs.Fields.{of_rows}
-use Rattle.ynl_container_table.specs.Chains.{IsNodeChain}
+use Rattle.ynl_tables.specs.declared.nodes.nodes.NodeRow.{NodeRow as NodePart}
+use Rattle.ynl_tables.specs.nodes.Nodes.{with_change}
+use Rattle.ynl_tables.specs.containers.Fields.{of_rows}
+use Rattle.ynl_tables.specs.containers.Chains.{IsNodeChain}
 use Rattle.ynl_inventory.specs.declared.partition.Partition.{Partition}
 use Rattle.ynl_inventory.specs.declared.inventory.Inventory.TheInside.{Inside}
 use Rattle.ynl_inventory.specs.Changes.{with_clock, with_stamp}

@@ -13,7 +13,7 @@ use Rattle.ynl_model.specs.declared.queues.MaximumRow.{MaximumRow}
 use Rattle.ynl_model.specs.Queues.{Config}
 use Rattle.ynl_model.specs.Nodes.{stamped, is_at}
 use Rattle.ynl_model.specs.Cluster.{is_partition, in_partition}
-use Rattle.ynl_container_table.specs.declared.container.Container.{Container}
+use Rattle.ynl_tables.specs.declared.containers.container.Container.{Container}
 use Rattle.ynl_inventory.specs.Rows.{Rows, PartitionRow, NodeRow}
 use Rattle.ynl_inventory.specs.Meaning.{partition_of, node_of, leaf_of, leaf_numbers, state_of}
 use Rattle.ynl_inventory.specs.Changes.{with_clock, with_stamp}
@@ -24,7 +24,7 @@ use Rattle.ynl_inventory.proofs.Updates.{at-number, update-place, update-number,
 use Rattle.ynl_inventory.proofs.Finding.{other-label, other-name}
 use Rattle.ynl_inventory.proofs.PartitionChange.{many as moved-many, labels as moved-labels, leaf-stays, each-partition, moved-sound, moved-for}
 use Rattle.ynl_inventory.proofs.Kept.{kept-container}
-use Rattle.ynl_container_table.proofs.Removing.{at_live}
+use Rattle.ynl_tables.proofs.containers.Removing.{at_live}
 
 -- ---- the clock of a partition
 

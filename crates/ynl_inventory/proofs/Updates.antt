@@ -12,7 +12,7 @@ use Rattle.ynl_laws.specs.Numbers.{Differ}
 use Rattle.ynl_laws.proofs.Names.{same-name_sym, same-name_self}
 use Rattle.ynl_slots.specs.Slots.{IsUnused, HasDistinctNumbers, without}
 use Rattle.ynl_slots.proofs.Entries.{itself, other}
-use Rattle.ynl_app_table.specs.Apps.{with_change}
+use Rattle.ynl_tables.specs.apps.Apps.{with_change}
 use Rattle.ynl_inventory.specs.Changes.{with_at}
 use Rattle.ynl_inventory.proofs.Lookups.{in-place}
 

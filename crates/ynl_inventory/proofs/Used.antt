@@ -8,7 +8,7 @@ use Rattle.ynl_slots.specs.Slots.{HasDistinctNumbers, IsUnused, without}
 use Rattle.ynl_slots.proofs.Entries.{without-unused}
 use Rattle.ynl_resource.specs.Amounts.{nothing, plus, less, fits_in, total_of, IsSmall}
 use Rattle.ynl_resource.specs.declared.amounts.Resource.{Resource}
-use Rattle.ynl_container_table.specs.declared.container.Container.{Container}
+use Rattle.ynl_tables.specs.declared.containers.container.Container.{Container}
 use Rattle.ynl_inventory.specs.Parts.{used_of}
 
 plus-nothing : (a : Resource) → plus nothing a ≡ a

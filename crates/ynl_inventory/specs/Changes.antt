@@ -8,14 +8,14 @@ use Rattle.ynl_resource.specs.declared.names.Name.{Name}
 use Rattle.ynl_resource.specs.Names.{same_name}
 use Rattle.ynl_model.specs.Nodes.{rises}
 use Rattle.ynl_slots.specs.Slots.{without}
-use Rattle.ynl_app_table.specs.declared.asks.Ask.{Ask}
-use Rattle.ynl_app_table.specs.declared.app.Tickets.{Tickets}
-use Rattle.ynl_app_table.specs.Apps.{no_tickets, with_change}
-use Rattle.ynl_app_table.specs.Asks.{with_ask, with_one_taken}
-use Rattle.ynl_container_table.specs.declared.container.Container.{Container}
-use Rattle.ynl_container_table.specs.declared.container.Role.{Role}
-use Rattle.ynl_container_table.specs.declared.container.Role.TheVariants.{Master, Ask as Asked}
-use Rattle.ynl_submissions.specs.Submissions.{with_finished}
+use Rattle.ynl_tables.specs.declared.apps.asks.Ask.{Ask}
+use Rattle.ynl_tables.specs.declared.apps.app.Tickets.{Tickets}
+use Rattle.ynl_tables.specs.apps.Apps.{no_tickets, with_change}
+use Rattle.ynl_tables.specs.apps.Asks.{with_ask, with_one_taken}
+use Rattle.ynl_tables.specs.declared.containers.container.Container.{Container}
+use Rattle.ynl_tables.specs.declared.containers.container.Role.{Role}
+use Rattle.ynl_tables.specs.declared.containers.container.Role.TheVariants.{Master, Ask as Asked}
+use Rattle.ynl_tables.specs.submissions.Submissions.{with_finished}
 use Rattle.ynl_inventory.specs.Rows.{Rows, PartitionRow, NodeRow, AppRow}
 
 -- the row in a place changes

@@ -20,13 +20,13 @@ use Rattle.ynl_model.specs.declared.queues.StopRow.{StopRow}
 use Rattle.ynl_model.specs.declared.queues.MaximumRow.{MaximumRow}
 use Rattle.ynl_model.specs.Service.{Item, item_of as item, last_name}
 use Rattle.ynl_layout.specs.Paths.{path_at}
-use Rattle.ynl_app_table.specs.declared.asks.Ask.{Ask}
-use Rattle.ynl_container_table.specs.declared.container.Container.{Container}
-use Rattle.ynl_container_table.specs.declared.container.Role.{Role}
-use Rattle.ynl_container_table.specs.declared.container.Role.TheVariants as role
-use Rattle.ynl_container_table.specs.Table.{number_at}
-use Rattle.ynl_submissions.specs.declared.submissions.Submission.{Submission}
-use Rattle.ynl_submissions.specs.Submissions.{turn_of}
+use Rattle.ynl_tables.specs.declared.apps.asks.Ask.{Ask}
+use Rattle.ynl_tables.specs.declared.containers.container.Container.{Container}
+use Rattle.ynl_tables.specs.declared.containers.container.Role.{Role}
+use Rattle.ynl_tables.specs.declared.containers.container.Role.TheVariants as role
+use Rattle.ynl_tables.specs.containers.Table.{number_at}
+use Rattle.ynl_tables.specs.declared.submissions.submissions.Submission.{Submission}
+use Rattle.ynl_tables.specs.submissions.Submissions.{turn_of}
 use Rattle.ynl_inventory.specs.Rows.{Rows, PartitionRow, NodeRow, AppRow}
 
 -- ---- names of numbers

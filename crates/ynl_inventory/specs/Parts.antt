@@ -7,16 +7,16 @@ use Rattle.ynl_resource.specs.Amounts.{nothing, less, fits_in, total_of, IsSmall
 use Rattle.ynl_resource.specs.declared.amounts.Resource.{Resource}
 use Rattle.ynl_slots.specs.Slots.{Numbered, IsLive}
 use Rattle.ynl_slots.specs.declared.chain.Chain.{Chain}
-use Rattle.ynl_node_table.specs.declared.nodes.NodeRow.{NodeRow as NodePart}
-use Rattle.ynl_app_table.specs.declared.app.AppRow.{AppRow as AppPart}
-use Rattle.ynl_app_table.specs.Apps.{with_app}
-use Rattle.ynl_app_table.specs.Chains.{chain_of, no_chain}
-use Rattle.ynl_container_table.specs.declared.container.Container.{Container}
-use Rattle.ynl_container_table.specs.declared.container.Role.{Role}
-use Rattle.ynl_container_table.specs.declared.container.Role.TheVariants.{Master, Ask as Asked}
-use Rattle.ynl_app_table.specs.Asks.{with_one_taken}
-use Rattle.ynl_container_table.specs.Chains.{IsNodeChain, IsAppChain}
-use Rattle.ynl_container_table.specs.Fields.{of_rows}
+use Rattle.ynl_tables.specs.declared.nodes.nodes.NodeRow.{NodeRow as NodePart}
+use Rattle.ynl_tables.specs.declared.apps.app.AppRow.{AppRow as AppPart}
+use Rattle.ynl_tables.specs.apps.Apps.{with_app}
+use Rattle.ynl_tables.specs.apps.Chains.{chain_of, no_chain}
+use Rattle.ynl_tables.specs.declared.containers.container.Container.{Container}
+use Rattle.ynl_tables.specs.declared.containers.container.Role.{Role}
+use Rattle.ynl_tables.specs.declared.containers.container.Role.TheVariants.{Master, Ask as Asked}
+use Rattle.ynl_tables.specs.apps.Asks.{with_one_taken}
+use Rattle.ynl_tables.specs.containers.Chains.{IsNodeChain, IsAppChain}
+use Rattle.ynl_tables.specs.containers.Fields.{of_rows}
 use Rattle.ynl_inventory.specs.declared.partition.Placement.{Placement}
 use Rattle.ynl_inventory.specs.declared.partition.Partition.{Partition}
 use Rattle.ynl_inventory.specs.declared.submission.NewSubmission.{NewSubmission}

@@ -4,10 +4,10 @@ use Rattle.ynl_resource.specs.declared.amounts.Resource.{Resource}
 use Rattle.ynl_resource.specs.declared.names.Name.{Name}
 use Rattle.ynl_resource.specs.declared.labels.Label.{Label}
 use Rattle.ynl_resource.specs.declared.paths.Path.{Path}
-use Rattle.ynl_app_table.specs.declared.asks.Ask.{Ask}
-use Rattle.ynl_app_table.specs.declared.app.Tickets.{Tickets}
-use Rattle.ynl_container_table.specs.declared.container.Container.{Container}
-use Rattle.ynl_submissions.specs.declared.submissions.Submission.{Submission}
+use Rattle.ynl_tables.specs.declared.apps.asks.Ask.{Ask}
+use Rattle.ynl_tables.specs.declared.apps.app.Tickets.{Tickets}
+use Rattle.ynl_tables.specs.declared.containers.container.Container.{Container}
+use Rattle.ynl_tables.specs.declared.submissions.submissions.Submission.{Submission}
 
 -- a partition: its label, whether it takes guests, how far its clock goes, what that shows, and the containers there in the order of placement
 pub record PartitionRow : Type 0 where

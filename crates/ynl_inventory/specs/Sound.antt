@@ -12,14 +12,14 @@ use Rattle.ynl_laws.specs.Numbers.{Differ}
 use Rattle.ynl_laws.specs.Working.{Pairs}
 use Rattle.ynl_layout.specs.Paths.{IsTree, HasNumber, path_at, paths_of}
 use Rattle.ynl_slots.specs.Slots.{HasDistinctNumbers, IsLive, IsUnused}
-use Rattle.ynl_app_table.specs.declared.asks.Ask.{Ask}
-use Rattle.ynl_app_table.specs.Asks.{find_ask, AreAsks}
-use Rattle.ynl_container_table.specs.declared.container.Container.{Container}
-use Rattle.ynl_container_table.specs.declared.container.Role.{Role}
-use Rattle.ynl_container_table.specs.declared.container.Role.TheVariants.{Master, Ask as Asked}
-use Rattle.ynl_container_table.specs.Table.{IsRising}
-use Rattle.ynl_submissions.specs.declared.submissions.Submission.{Submission}
-use Rattle.ynl_submissions.specs.Submissions.{turn_of}
+use Rattle.ynl_tables.specs.declared.apps.asks.Ask.{Ask}
+use Rattle.ynl_tables.specs.apps.Asks.{find_ask, AreAsks}
+use Rattle.ynl_tables.specs.declared.containers.container.Container.{Container}
+use Rattle.ynl_tables.specs.declared.containers.container.Role.{Role}
+use Rattle.ynl_tables.specs.declared.containers.container.Role.TheVariants.{Master, Ask as Asked}
+use Rattle.ynl_tables.specs.containers.Table.{IsRising}
+use Rattle.ynl_tables.specs.declared.submissions.submissions.Submission.{Submission}
+use Rattle.ynl_tables.specs.submissions.Submissions.{turn_of}
 use Rattle.ynl_inventory.specs.declared.submission.NewSubmission.{NewSubmission}
 use Rattle.ynl_inventory.specs.Rows.{Rows, PartitionRow, NodeRow, AppRow}
 use Rattle.ynl_inventory.specs.Meaning.{has_none_below, label_at, submitted_to, tenant_at}

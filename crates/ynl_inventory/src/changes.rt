@@ -4,17 +4,17 @@ ghost use Rattle.std.specs.Prelude.{◌≡◌, nat_eq, IfSome, IsTrue};
 ghost use Rattle.std.specs.Map.{lookup};
 ghost use Rattle.ynl_resource.specs.Amounts.{fits_in, less, plus, IsSmall};
 ghost use Rattle.ynl_slots.specs.Slots.{IsLive, with_row};
-ghost use Rattle.ynl_node_table.specs.Nodes.{with_change};
-ghost use Rattle.ynl_app_table.specs.Apps.{with_app};
-ghost use Rattle.ynl_app_table.specs.Chains.{chain_of};
+ghost use Rattle.ynl_tables.specs.nodes.Nodes.{with_change};
+ghost use Rattle.ynl_tables.specs.apps.Apps.{with_app};
+ghost use Rattle.ynl_tables.specs.apps.Chains.{chain_of};
 ghost use Rattle.ynl_inventory.specs.Parts.{released_part, taken_part};
 
 use crate::partition::Placement;
-use ynl_app_table::Apps;
-use ynl_container_table::{Container, Role};
-use ynl_node_table::Nodes;
 use ynl_resource::Size;
 use ynl_slots::Chain;
+use ynl_tables::apps::Apps;
+use ynl_tables::containers::{Container, Role};
+use ynl_tables::nodes::Nodes;
 
 /// A node has one more container of this size: its chain, the clock that is its stamp, and what is free of it.
 pub(crate) fn used(nodes: &mut Nodes, node: u32, chain: Chain, clock: u64, size: Size)

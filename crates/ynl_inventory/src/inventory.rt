@@ -3,13 +3,13 @@
 ghost use Rattle.std.specs.Prelude.{◌≡◌, ◌<◌, ◌≤◌, nat_eq, length, map, slice_get, option_map, Some, None, IfNone, nat_le, false, true, IfOk, IsOk, OnOk, OnErr, IfSome, IsSome};
 ghost use Rattle.std.specs.Map.{lookup};
 ghost use Rattle.ynl_slots.specs.Slots.{number_in, without, IsAfter, IsLive, IsUnused};
-ghost use Rattle.ynl_app_table.specs.Chains.{chain_of};
+ghost use Rattle.ynl_tables.specs.apps.Chains.{chain_of};
 ghost use Rattle.ynl_inventory.specs.Changes.{partition_of_node, with_placed, with_ended, with_joined, with_dropped, with_node_gone, with_submitted, with_asked, with_tickets, with_app_gone, with_user_known, with_clock, with_stamp};
 ghost use Rattle.ynl_model.specs.Nodes.{rises};
-ghost use Rattle.ynl_container_table.specs.Chains.{IsFirst, IsNext};
-ghost use Rattle.ynl_container_table.specs.Table.{number_at};
-ghost use Rattle.ynl_submissions.specs.Submissions.{turn_of};
-ghost use Rattle.ynl_users.specs.Users.{IsNew};
+ghost use Rattle.ynl_tables.specs.containers.Chains.{IsFirst, IsNext};
+ghost use Rattle.ynl_tables.specs.containers.Table.{number_at};
+ghost use Rattle.ynl_tables.specs.submissions.Submissions.{turn_of};
+ghost use Rattle.ynl_tables.specs.users.Users.{IsNew};
 ghost use Rattle.ynl_inventory.specs.Meaning.{app_name, app_number, label_at, node_number, submitted_to, tenant_name};
 ghost use Rattle.ynl_layout.specs.Paths.{HasNumber};
 ghost use Rattle.ynl_inventory.specs.Opening.{opening_rows, IsOpening};
@@ -24,15 +24,15 @@ use crate::start::{no_submissions, partitions_of};
 use crate::submission::{NewSubmission, new_row};
 use std::alloc::{AllocError, Global};
 use std::marker::Model;
-use ynl_app_table::{AppRow, Apps, Ask, Tickets};
-use ynl_container_table::Container;
 use ynl_layout::Layout;
-use ynl_node_table::{NodeRow, Nodes};
 use ynl_queues::Config;
 use ynl_resource::{Label, Name, Resource, Size};
 use ynl_slots::Chain;
-use ynl_submissions::Submissions;
-use ynl_users::Users;
+use ynl_tables::apps::{AppRow, Apps, Ask, Tickets};
+use ynl_tables::containers::Container;
+use ynl_tables::nodes::{NodeRow, Nodes};
+use ynl_tables::submissions::Submissions;
+use ynl_tables::users::Users;
 
 /// What a cluster holds under numbers. A partition's number is its place, DEFAULT first; a tenant's is that of its top-level
 /// queue. A contract sees the rows.

@@ -4,14 +4,14 @@ ghost use Rattle.std.specs.Map.{lookup};
 ghost use Rattle.ynl_model.specs.Nodes.{rises};
 ghost use Rattle.std.specs.Prelude.{nat_eq, Some, IfSome, OnOk, ◌≡◌, ◌<◌, ◌≤◌, ◌+◌, ◌++◌, ◌∷◌, []};
 ghost use Rattle.ynl_slots.specs.Slots.{IsLive, IsUnused, without};
-ghost use Rattle.ynl_container_table.specs.Table.{IsAbove};
-ghost use Rattle.ynl_container_table.specs.Chains.{IsNodeChain, IsAppChain, KeepsNodes, KeepsApps};
+ghost use Rattle.ynl_tables.specs.containers.Table.{IsAbove};
+ghost use Rattle.ynl_tables.specs.containers.Chains.{IsNodeChain, IsAppChain, KeepsNodes, KeepsApps};
 ghost use Rattle.ynl_inventory.specs.Parts.{placed_on};
 
 use std::alloc::AllocError;
-use ynl_container_table::{Container, Containers, Role};
 use ynl_resource::{Label, Size};
 use ynl_slots::Chain;
+use ynl_tables::containers::{Container, Containers, Role};
 
 /// A partition: whether it takes guests, its clock and how far that goes, and the containers there.
 #[derive(Drop)]

@@ -6,9 +6,9 @@ ghost use Rattle.ynl_inventory.specs.Sound.{IsAskedThere};
 ghost use Rattle.ynl_inventory.specs.Parts.{held_at, IsHeldIn};
 
 use crate::inventory::Inventory;
-use ynl_container_table::{Container, Role};
 use ynl_model::{Placed, What};
 use ynl_resource::Id;
+use ynl_tables::containers::{Container, Role};
 
 impl Inventory {
     /// The container under a number in a partition, as the model has it.

@@ -7,7 +7,7 @@ ghost use Rattle.ynl_inventory.specs.Parts.{HasGuestPlaces, HasMorePlaces};
 
 use crate::partition::Partition;
 use std::alloc::AllocError;
-use ynl_app_table::{Apps, Ask};
+use ynl_tables::apps::{Apps, Ask};
 
 /// How many numbers there are for partitions.
 const NUMBERS: usize = 256;

@@ -7,10 +7,10 @@ ghost use Rattle.ynl_inventory.specs.Parts.{partition_row};
 
 use crate::partition::Partition;
 use std::alloc::{AllocError, Global};
-use ynl_container_table::Containers;
-use ynl_labels::Labels;
+use ynl_queues::labels::Labels;
 use ynl_resource::{HashSeed, Label};
-use ynl_submissions::Submissions;
+use ynl_tables::containers::Containers;
+use ynl_tables::submissions::Submissions;
 
 /// The partition of a label, without containers.
 fn partition_of(alloc: Global, labels: &Labels, label: Label) -> Partition

@@ -4,8 +4,8 @@ ghost use Rattle.std.specs.Prelude.{IfOk};
 ghost use Rattle.ynl_inventory.specs.Parts.{IsNewRow};
 
 use std::alloc::{AllocError, Global};
-use ynl_app_table::{AppRow, NewApp};
 use ynl_resource::Size;
+use ynl_tables::apps::{AppRow, NewApp};
 
 /// What is known of an application when it is submitted, by numbers.
 #[derive(Clone, Copy)]

@@ -1,7 +1,4 @@
-pub mod Laws
-pub mod Lows
-pub mod Order
-pub mod TestLemmas
-pub mod Tests
-pub mod UserOrder
-pub mod Users
+pub mod lows
+pub mod lane
+pub mod table
+pub mod firsts

@@ -1,13 +1,7 @@
-//! The least that a leaf's waiting requests need on a partition, and the tests with which a search skips
-//! those that cannot be placed.
+//! What waits in the leaves: the applications that may use a partition, in lanes, and the least that is wanted there.
 #![tactic(auto)]
 
-pub use laws::{lows_pass, none_fits, none_may_be_had, user_lows_pass};
-pub use low::Low;
-pub use users::UserLow;
-pub use within::{Within, WithinLimit};
-
-mod laws;
-mod low;
-mod users;
-mod within;
+pub mod firsts;
+pub mod lane;
+pub mod lows;
+pub mod table;

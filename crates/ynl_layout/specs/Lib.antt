@@ -1,3 +1,4 @@
 pub mod Paths
 pub mod Fields
 pub mod Building
+pub mod settings

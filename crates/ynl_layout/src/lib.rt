@@ -5,3 +5,4 @@ pub use layout::Layout;
 
 mod building;
 mod layout;
+pub mod settings;

@@ -9,7 +9,7 @@ use mathlib.Core.Bool.{true≢false}
 use Rattle.ynl_resource.specs.declared.names.Name.{Name}
 use Rattle.ynl_resource.specs.Names.{same_name, name_order}
 use Rattle.ynl_resource.specs.Tables.{without}
-use Rattle.ynl_roster.proofs.Rising.{each_append, each_then, each_filter}
+use Rattle.ynl_nodes.proofs.roster.Rising.{each_append, each_then, each_filter}
 use Rattle.ynl_model.specs.declared.nodes.Node.{Node}
 use Rattle.ynl_nodes.specs.Nodes.{Indexes}
 

@@ -9,7 +9,7 @@ use Rattle.ynl_resource.specs.Names.{same_name, same_label}
 use Rattle.ynl_resource.specs.Tables.{without, update}
 use Rattle.ynl_model.specs.declared.nodes.Node.{Node}
 use Rattle.ynl_model.specs.Nodes.{is_at}
-use Rattle.ynl_roster.specs.Roster.{with_at, IsOnly}
+use Rattle.ynl_nodes.specs.roster.Roster.{with_at, IsOnly}
 use Rattle.ynl_nodes.proofs.Indexed.{Known, Owns, Absent, one_test}
 
 -- the entries of a number are those whose nodes pass a test

@@ -17,7 +17,7 @@ use Rattle.ynl_resource.specs.Names.{same_label}
 use Rattle.ynl_resource.specs.Tables.{without, update}
 use Rattle.ynl_model.specs.declared.nodes.Node.{Node}
 use Rattle.ynl_model.specs.Nodes.{nodes_of}
-use Rattle.ynl_roster.proofs.Rising.{each_append}
+use Rattle.ynl_nodes.proofs.roster.Rising.{each_append}
 use Rattle.ynl_nodes.specs.declared.sums.Sum.{Sum}
 use Rattle.ynl_nodes.specs.declared.sums.SumRow.{SumRow}
 use Rattle.ynl_nodes.specs.Sums.{no_nodes, sum_of, sum_at, raised, lowered}

@@ -8,7 +8,7 @@ use Rattle.ynl_resource.specs.Names.{same_name, same_label, name_order}
 use Rattle.ynl_resource.specs.Tables.{without}
 use Rattle.ynl_model.specs.declared.nodes.Node.{Node}
 use Rattle.ynl_model.specs.Nodes.{is_at}
-use Rattle.ynl_roster.specs.Roster.{Numbered}
+use Rattle.ynl_nodes.specs.roster.Roster.{Numbered}
 use Rattle.ynl_nodes.specs.Nodes.{AreIndexed, IsSpot}
 use Rattle.ynl_nodes.proofs.Indexed.{Absent}
 use Rattle.ynl_nodes.proofs.Places.{found_by, gone_by, none_by, stays_by, agrees_name, agrees_at, nowhere_at, nowhere_absent}

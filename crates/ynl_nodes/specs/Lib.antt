@@ -1,3 +1,4 @@
 pub mod Sums
 pub mod Nodes
 pub mod NodeFields
+pub mod roster

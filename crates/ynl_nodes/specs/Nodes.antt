@@ -6,7 +6,7 @@ use Rattle.std.specs.BTreeMap.{BTreeMap, get}
 use Rattle.ynl_resource.specs.declared.names.Name.{Name}
 use Rattle.ynl_resource.specs.Names.{name_order}
 use Rattle.ynl_model.specs.declared.nodes.Node.{Node}
-use Rattle.ynl_roster.specs.Roster.{Numbered, IsOnly}
+use Rattle.ynl_nodes.specs.roster.Roster.{Numbered, IsOnly}
 
 -- each node's name leads to its number, and each number that a name leads to is at most the highest, and of no node of another name
 pub record Indexes (leads : Name → ℕ → Type 0) (entries : List (ℕ × Node)) (top : ℕ) : Type 0 where

@@ -4,5 +4,6 @@
 pub use nodes::Nodes;
 
 mod nodes;
+pub mod roster;
 mod spots;
 mod sums;

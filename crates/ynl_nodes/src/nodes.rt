@@ -3,6 +3,7 @@
 ghost use Rattle.std.specs.Prelude.{◌≡◌, [], Some, None, false, IfOk, OnOk, OnErr};
 ghost use Rattle.ynl_model.specs.Nodes.{find_node, is_full, joined, left};
 
+use crate::roster::Roster;
 use crate::spots::spot_of;
 use crate::sums::{SumRow, lower, open_row, raise, sum_at};
 use std::alloc::{AllocError, Global};
@@ -10,7 +11,6 @@ use std::collections::BTreeMap;
 use std::marker::Model;
 use ynl_model::Node;
 use ynl_resource::{Label, MOST_NODES, Name};
-use ynl_roster::Roster;
 
 /// Nodes in the order of joining, no two of one name. A node is found by its name in few steps, and what the nodes of
 /// a label come to is kept. A contract sees the list.

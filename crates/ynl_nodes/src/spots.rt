@@ -5,10 +5,10 @@ ghost use Rattle.std.specs.List.{AllByRecursion};
 ghost use Rattle.ynl_resource.specs.Names.{same_name};
 ghost use Rattle.ynl_nodes.specs.Nodes.{AreIndexed, IsSpot};
 
+use crate::roster::Roster;
 use std::collections::BTreeMap;
 use ynl_model::Node;
 use ynl_resource::Name;
-use ynl_roster::Roster;
 
 /// A node, and the number under which it stands.
 #[derive(Clone, Copy)]

@@ -7,9 +7,9 @@ ghost use Rattle.ynl_resource.specs.Names.{same_name};
 ghost use Rattle.ynl_queues.specs.Reach.{reached, is_among};
 
 use crate::draft::Draft;
+use crate::labels::Labels;
 use crate::rows::Access;
 use crate::ways::step_at;
-use ynl_labels::Labels;
 use ynl_resource::{Label, Name};
 
 fn lists(names: &[Name], name: &Name) -> bool

@@ -13,11 +13,11 @@ ghost use Rattle.ynl_resource.specs.Ranges.{most_queues};
 
 use crate::config::Config;
 use crate::draft::Draft;
+use crate::labels::Labels;
 use crate::rows::QueueRow;
 use crate::texts::{any_too_deep, are_too_many};
 use crate::written::WrittenQueue;
 use std::alloc::{AllocError, Global};
-use ynl_labels::Labels;
 use ynl_model::TreeFault;
 use ynl_resource::Size;
 

@@ -11,9 +11,9 @@ ghost use Rattle.ynl_queues.specs.Reach.{reached, is_among};
 
 use crate::access::reaches;
 use crate::draft::Draft;
+use crate::labels::Labels;
 use crate::rows::QueueRow;
 use crate::ways::parent_of;
-use ynl_labels::Labels;
 use ynl_model::LabelCapacity;
 use ynl_resource::{Label, Name, Path};
 

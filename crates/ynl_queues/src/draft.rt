@@ -7,10 +7,10 @@ ghost use Rattle.ynl_resource.specs.declared.labels.Label.TheVariants.{Unlabelle
 ghost use Rattle.ynl_queues.specs.Index.{IsIndexOf, IsKeptOf, AreShares, has_below};
 
 use crate::index::{IndexRow, LabelShares, QueueIndex, all_shares, has_below};
+use crate::labels::Labels;
 use crate::rows::{QueueRow, copy_rows};
 use std::alloc::{AllocError, Global};
 use std::marker::Model;
-use ynl_labels::Labels;
 use ynl_resource::{Hundredths, Label, Name, Size};
 
 /// What a configuration has, whatever faults it has: the labels, the queues below root, the most

@@ -5,8 +5,8 @@ ghost use Rattle.ynl_resource.specs.declared.labels.Label.{Label};
 
 use crate::access::reaches;
 use crate::draft::Draft;
+use crate::labels::Labels;
 use crate::rows::QueueRow;
-use ynl_labels::Labels;
 use ynl_resource::{Hundredths, Label, Name};
 
 /// A queue's row, if it has one, and the labels that it may use: those given, or all that are

@@ -12,11 +12,11 @@ ghost use Rattle.ynl_queues.specs.Index.{AreSteps, IsKeptOf, ArePlaces, AreShare
 
 use crate::draft::Draft;
 use crate::grants::Grant;
+use crate::labels::Labels;
 use crate::rows::QueueRow;
 use crate::ways::{is_within, step_at};
 use std::alloc::{AllocError, Global};
 use std::collections::BTreeMap;
-use ynl_labels::Labels;
 use ynl_resource::{Hundredths, Label, Name, Path};
 
 /// What is kept of a queue: the places of those on the way to it, where each of them has a row, and

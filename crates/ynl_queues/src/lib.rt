@@ -25,6 +25,7 @@ mod draft;
 mod grants;
 mod index;
 mod indexed;
+pub mod labels;
 mod rows;
 mod sums;
 mod texts;

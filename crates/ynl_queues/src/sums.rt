@@ -13,10 +13,10 @@ ghost use Rattle.ynl_resource.specs.Ranges.{most_queues, whole};
 
 use crate::draft::Draft;
 use crate::grants::Grant;
+use crate::labels::Labels;
 use crate::rows::QueueRow;
 use crate::ways::parent_of;
 use std::alloc::{AllocError, Global};
-use ynl_labels::Labels;
 use ynl_resource::{Label, Name, WHOLE};
 
 /// Whether the maximum is at least the capacity.

@@ -17,7 +17,7 @@ use Rattle.ynl_model.specs.Nodes.{has_label}
 use Rattle.ynl_model.specs.Queues.{Config, QueueRow, is_queue}
 use Rattle.ynl_layout.specs.Paths.{HasNumber, path_at}
 use Rattle.ynl_slots.proofs.Lists.{all_from}
-use Rattle.ynl_app_table.specs.declared.asks.Ask.{Ask}
+use Rattle.ynl_tables.specs.declared.apps.asks.Ask.{Ask}
 use Rattle.ynl_inventory.specs.Rows.{AppRow, Rows}
 use Rattle.ynl_inventory.specs.Apps.{runs_at}
 use Rattle.ynl_inventory.specs.Meaning.{app_of, ask_of, has_none_below, label_at}
@@ -25,18 +25,18 @@ use Rattle.ynl_inventory.specs.Sound.{HasPartition, IsApp, IsAskedOn, IsFor, IsL
 use Rattle.ynl_inventory.proofs.Asked.{on-there}
 use Rattle.ynl_inventory.proofs.AppsFound.{leaves}
 use Rattle.ynl_inventory.proofs.Submitted.{app-submission}
-use Rattle.ynl_requests.proofs.Live.{IsOfRow, among-live}
-use Rattle.ynl_requests.proofs.Running.{runs-means}
-use Rattle.ynl_requests.proofs.Members.{Among, flat-among}
-use Rattle.ynl_seating.specs.Seating.{shares, user_use}
-use Rattle.ynl_seating.proofs.UserUse.{is-user_use}
+use Rattle.ynl_cluster.proofs.requests.Live.{IsOfRow, among-live}
+use Rattle.ynl_cluster.proofs.requests.Running.{runs-means}
+use Rattle.ynl_cluster.proofs.requests.Members.{Among, flat-among}
+use Rattle.ynl_cluster.specs.seating.Seating.{shares, user_use}
+use Rattle.ynl_cluster.proofs.seating.UserUse.{is-user_use}
 use Rattle.ynl_cluster.specs.Cluster.{ClusterView, label_of, maxima_in, name_in, path_of, state_in, stops_in}
 use Rattle.ynl_admission.specs.Named.{IsAppNamed, IsPartitionOf}
 use Rattle.ynl_admission.proofs.LabelsKnown.{label-known}
 use Rattle.ynl_admission.proofs.QueuesNamed.{queue-there}
 use Rattle.ynl_replies.proofs.Apps.{app-is}
 use Rattle.ynl_waits.specs.declared.waits.Applicant.{Applicant}
-use Rattle.ynl_reasons.specs.Facts.{found_of, IsAsking}
+use Rattle.ynl_reading.specs.reasons.Facts.{found_of, IsAsking}
 use Rattle.ynl_reading.specs.Readings.{IsAskerOf}
 
 -- what is found of a list is among it

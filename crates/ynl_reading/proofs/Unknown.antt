@@ -24,7 +24,7 @@ use Rattle.ynl_laws.proofs.Lists.{Each-map, find-nothing}
 use Rattle.ynl_laws.proofs.Names.{same-label_path, same-path}
 use Rattle.ynl_layout.specs.Paths.{path_at}
 use Rattle.ynl_slots.proofs.Lists.{all_from, filter_none}
-use Rattle.ynl_app_table.specs.declared.asks.Ask.{Ask}
+use Rattle.ynl_tables.specs.declared.apps.asks.Ask.{Ask}
 use Rattle.ynl_inventory.specs.Rows.{AppRow, NodeRow}
 use Rattle.ynl_inventory.specs.Meaning.{app_of, ask_of, node_of}
 use Rattle.ynl_inventory.specs.Sound.{HasPartition, IsApp, IsFor, IsSound}

@@ -9,7 +9,7 @@ use Rattle.ynl_model.specs.Queues.{Config, queue_row}
 use Rattle.ynl_inventory.specs.Rows.{AppRow, NodeRow}
 use Rattle.ynl_inventory.specs.Meaning.{node_of}
 use Rattle.ynl_cluster.specs.Cluster.{ClusterView, path_of}
-use Rattle.ynl_seating.specs.Seating.{shares}
+use Rattle.ynl_cluster.specs.seating.Seating.{shares}
 use Rattle.ynl_admission.specs.Named.{IsPartitionOf}
 use Rattle.ynl_waits.specs.declared.waits.Applicant.{Applicant}
 

@@ -10,15 +10,15 @@ ghost use Rattle.ynl_slots.specs.Slots.{IsLive};
 ghost use Rattle.ynl_inventory.specs.Rows.{AppRow};
 ghost use Rattle.ynl_inventory.specs.Meaning.{app_of};
 ghost use Rattle.ynl_cluster.specs.Cluster.{path_of, state_in};
-ghost use Rattle.ynl_reasons.specs.Facts.{found_of, IsAsking};
+ghost use Rattle.ynl_reading.specs.reasons.Facts.{found_of, IsAsking};
 ghost use Rattle.ynl_reading.specs.Readings.{IsAskerOf};
 
 use crate::cells::leaf_of;
+use crate::reasons::Found;
 use std::alloc::{AllocError, Global};
 use ynl_admission::{app_named, partition_of};
 use ynl_cluster::Cluster;
 use ynl_model::Pending;
-use ynl_reasons::Found;
 use ynl_replies::{path_of, pending};
 use ynl_resource::{Label, Name, Path, Resource};
 use ynl_service::used_by;

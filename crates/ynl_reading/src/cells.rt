@@ -5,7 +5,7 @@ ghost use Rattle.ynl_model.specs.Cluster.{guaranteed, maximum};
 ghost use Rattle.ynl_laws.specs.Uses.{use_of};
 ghost use Rattle.ynl_cluster.specs.Cluster.{state_in};
 ghost use Rattle.ynl_admission.specs.Named.{IsCellBelowRoot, IsCellOf};
-ghost use Rattle.ynl_reasons.specs.Facts.{IsAsking};
+ghost use Rattle.ynl_reading.specs.reasons.Facts.{IsAsking};
 ghost use Rattle.ynl_reading.specs.Readings.{IsNowhere};
 
 use ynl_admission::{CellNumbers, partition_of, queue_of};

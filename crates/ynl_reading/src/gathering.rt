@@ -20,8 +20,8 @@ use ynl_cluster::Cluster;
 use ynl_model::{Node, Proposal};
 use ynl_queues::Config;
 use ynl_resource::Label;
+use ynl_search::notes::Shut;
 use ynl_service::proposed;
-use ynl_shut::Shut;
 use ynl_waits::Spot;
 
 /// The labels of all partitions: DEFAULT first, then as configured.

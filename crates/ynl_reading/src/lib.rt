@@ -9,3 +9,4 @@ mod cells;
 mod gathering;
 mod limits;
 mod reading;
+pub mod reasons;

@@ -8,11 +8,11 @@ use crate::asking::{asks_in, found_in, user_used_at};
 use crate::cells::{leaf_guaranteed, leaf_used, maximum_at, used_at};
 use crate::gathering::{choice_on, is_spent, labels_of, spots_of, takes_guests};
 use crate::limits::{master_limit_of, user_limit_of};
+use crate::reasons::{Facts, Found, explain as explain_by};
 use std::alloc::{AllocError, Global};
 use std::marker::Model;
 use ynl_cluster::Cluster;
 use ynl_model::{Node, Pending, Proposal};
-use ynl_reasons::{Facts, Found, explain as explain_by};
 use ynl_resource::{Label, Name, Resource, Size};
 use ynl_waits::{Applicant, Explained, Spot};
 

@@ -14,9 +14,9 @@ use Rattle.ynl_model.specs.Cluster.{containers_on, is_of}
 use Rattle.ynl_model.specs.Events.{pending, pending_on, sorted}
 use Rattle.ynl_laws.proofs.Lists.{filter-agree, filter-map}
 use Rattle.ynl_slots.proofs.Lists.{all_from}
-use Rattle.ynl_app_table.specs.declared.app.AppRow.{AppRow as AppPart}
-use Rattle.ynl_app_table.specs.declared.asks.Ask.{Ask}
-use Rattle.ynl_container_table.specs.declared.container.Container.{Container}
+use Rattle.ynl_tables.specs.declared.apps.app.AppRow.{AppRow as AppPart}
+use Rattle.ynl_tables.specs.declared.apps.asks.Ask.{Ask}
+use Rattle.ynl_tables.specs.declared.containers.container.Container.{Container}
 use Rattle.ynl_inventory.specs.Rows.{Rows, PartitionRow, AppRow}
 use Rattle.ynl_inventory.specs.Apps.{containers_of}
 use Rattle.ynl_inventory.specs.Meaning.{app_of, application_of, ask_of, label_at, placed_of, state_of}
@@ -27,7 +27,7 @@ use Rattle.ynl_inventory.proofs.Asked.{asked-there}
 use Rattle.ynl_inventory.proofs.Finding.{containers-at, own-label}
 use Rattle.ynl_inventory.proofs.Lookups.{place-there}
 use Rattle.ynl_inventory.proofs.Submitted.{app-submitted}
-use Rattle.ynl_ledger.proofs.Means.{label-tells}
+use Rattle.ynl_cluster.proofs.ledger.Means.{label-tells}
 use Rattle.ynl_cluster.specs.Cluster.{ClusterView, held_in, label_of, maxima_in, name_in, stops_in, tenant_in}
 use Rattle.ynl_cluster.proofs.Own.{own-means}
 use Rattle.ynl_replies.specs.Pending.{pending_at}

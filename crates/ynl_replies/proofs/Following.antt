@@ -10,8 +10,8 @@ use Rattle.std.proofs.lemmas.Option.{none-some, same_Some, slice_get-map}
 use Rattle.ynl_model.specs.declared.containers.Placed.{Placed}
 use Rattle.ynl_laws.proofs.Lists.{Each-both, Each-filter, Each-split, Each-weaker, filter-passes}
 use Rattle.ynl_slots.specs.Chain.{first_or}
-use Rattle.ynl_container_table.specs.Chains.{IsFirst, IsNext}
-use Rattle.ynl_container_table.specs.declared.container.Container.{Container}
+use Rattle.ynl_tables.specs.containers.Chains.{IsFirst, IsNext}
+use Rattle.ynl_tables.specs.declared.containers.container.Container.{Container}
 use Rattle.ynl_inventory.specs.Rows.{Rows, PartitionRow}
 use Rattle.ynl_inventory.specs.Apps.{containers_of}
 use Rattle.ynl_inventory.specs.Meaning.{label_at, placed_of}

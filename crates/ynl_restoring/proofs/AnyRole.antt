@@ -5,8 +5,8 @@ use Rattle.ynl_model.specs.declared.proposals.What.TheVariants as what
 use Rattle.ynl_model.specs.Applications.{Application, LeafApps, in_leaf, with_app}
 use Rattle.ynl_model.specs.Changes.{taken}
 use Rattle.ynl_laws.proofs.Lists.{Each-all}
-use Rattle.ynl_container_table.specs.declared.container.Role.{Role}
-use Rattle.ynl_container_table.specs.declared.container.Role.TheVariants.{Master, Ask as Asked}
+use Rattle.ynl_tables.specs.declared.containers.container.Role.{Role}
+use Rattle.ynl_tables.specs.declared.containers.container.Role.TheVariants.{Master, Ask as Asked}
 use Rattle.ynl_inventory.specs.Meaning.{app_name, what_of}
 use Rattle.ynl_inventory.specs.Sound.{CanTake}
 use Rattle.ynl_inventory.specs.declared.partition.Placement.{Placement}

@@ -10,9 +10,9 @@ use Rattle.ynl_model.specs.Applications.{Application, in_leaf, set_ask, take_one
 use Rattle.ynl_model.specs.Changes.{taken}
 use Rattle.ynl_model.specs.Cluster.{State, in_partition}
 use Rattle.ynl_laws.proofs.Lists.{Each-put}
-use Rattle.ynl_app_table.specs.declared.asks.Ask.{Ask}
-use Rattle.ynl_app_table.specs.Asks.{is_ask_of, with_ask}
-use Rattle.ynl_container_table.specs.declared.container.Role.{Role}
+use Rattle.ynl_tables.specs.declared.apps.asks.Ask.{Ask}
+use Rattle.ynl_tables.specs.apps.Asks.{is_ask_of, with_ask}
+use Rattle.ynl_tables.specs.declared.containers.container.Role.{Role}
 use Rattle.ynl_inventory.specs.Changes.{with_asked}
 use Rattle.ynl_inventory.specs.Meaning.{app_name, app_of, application_of, ask_of, label_at, what_of}
 use Rattle.ynl_inventory.specs.Parts.{free_of}

@@ -11,9 +11,9 @@ use Rattle.ynl_resource.specs.declared.names.Name.{Name}
 use Rattle.ynl_model.specs.Applications.{Application, in_leaf, set_ask, with_app}
 use Rattle.ynl_model.specs.Cluster.{State, in_partition}
 use Rattle.ynl_laws.proofs.Lists.{Each-find, Each-put}
-use Rattle.ynl_app_table.specs.declared.asks.Ask.{Ask}
-use Rattle.ynl_app_table.specs.Asks.{find_ask, is_ask_of, with_ask}
-use Rattle.ynl_container_table.specs.declared.container.Role.TheVariants.{Ask as Asked}
+use Rattle.ynl_tables.specs.declared.apps.asks.Ask.{Ask}
+use Rattle.ynl_tables.specs.apps.Asks.{find_ask, is_ask_of, with_ask}
+use Rattle.ynl_tables.specs.declared.containers.container.Role.TheVariants.{Ask as Asked}
 use Rattle.ynl_inventory.specs.Changes.{with_asked}
 use Rattle.ynl_inventory.specs.Meaning.{app_name, app_of, application_of, ask_of}
 use Rattle.ynl_inventory.specs.Parts.{free_of}

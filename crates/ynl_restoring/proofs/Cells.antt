@@ -13,12 +13,12 @@ use Rattle.ynl_resource.specs.declared.paths.Path.{Path}
 use Rattle.ynl_model.specs.Nodes.{partition_labels}
 use Rattle.ynl_laws.proofs.Lists.{Each-append, Each-weaker}
 use Rattle.ynl_layout.specs.Paths.{HasNumber, path_at, paths_of}
-use Rattle.ynl_settings.proofs.StopsMean.{other-path, own-path}
+use Rattle.ynl_layout.proofs.settings.StopsMean.{other-path, own-path}
 use Rattle.ynl_inventory.specs.Rows.{PartitionRow}
 use Rattle.ynl_inventory.specs.Sound.{IsFor, IsSound}
 use Rattle.ynl_inventory.proofs.Asking.{same-label}
 use Rattle.ynl_inventory.proofs.Lookups.{place-there}
-use Rattle.ynl_requests.proofs.Members.{any-agree}
+use Rattle.ynl_cluster.proofs.requests.Members.{any-agree}
 use Rattle.ynl_cluster.specs.Cluster.{ClusterView, label_of}
 use Rattle.ynl_admission.specs.declared.queues.CellNumbers.{CellNumbers}
 use Rattle.ynl_admission.specs.Named.{IsCellBelowRoot}

@@ -14,8 +14,8 @@ use Rattle.ynl_model.specs.Nodes.{clock_limit, has_label, nodes_of}
 use Rattle.ynl_model.specs.Queues.{Config}
 use Rattle.ynl_laws.proofs.Lists.{Each-map, Each-unkept, Each-unmap}
 use Rattle.ynl_laws.proofs.Names.{same-label_path, same-label_self}
-use Rattle.ynl_container_table.specs.declared.container.Container.{Container}
-use Rattle.ynl_container_table.proofs.Removing.{at_live}
+use Rattle.ynl_tables.specs.declared.containers.container.Container.{Container}
+use Rattle.ynl_tables.proofs.containers.Removing.{at_live}
 use Rattle.ynl_inventory.specs.Rows.{NodeRow, PartitionRow}
 use Rattle.ynl_inventory.specs.Meaning.{label_at, node_of, partition_of}
 use Rattle.ynl_inventory.specs.Sound.{CanShow, HasPartition, IsFor, IsSound}

@@ -14,7 +14,7 @@ use Rattle.ynl_model.specs.Cluster.{State}
 use Rattle.ynl_model.specs.Events.{has_most_apps}
 use Rattle.ynl_model.specs.Queues.{Config, is_leaf, is_queue, may_use, setting}
 use Rattle.ynl_layout.specs.Paths.{HasNumber, path_at}
-use Rattle.ynl_submissions.specs.Submissions.{turn_of}
+use Rattle.ynl_tables.specs.submissions.Submissions.{turn_of}
 use Rattle.ynl_inventory.specs.Changes.{with_user, with_user_known}
 use Rattle.ynl_inventory.specs.Meaning.{has_none_below, submitted_to, tenant_at}
 use Rattle.ynl_inventory.specs.Sound.{CanSubmit, HasPartition, IsFor, IsLeaf, IsSound}

@@ -20,12 +20,12 @@ use Rattle.ynl_model.specs.Queues.{Config, is_leaf, is_queue}
 use Rattle.ynl_laws.proofs.Lists.{Each-weaker, filter-all}
 use Rattle.ynl_laws.proofs.Logic.{none-is, not-true}
 use Rattle.ynl_laws.proofs.Names.{same-name_self}
-use Rattle.ynl_app_table.specs.declared.app.Tickets.{Tickets}
+use Rattle.ynl_tables.specs.declared.apps.app.Tickets.{Tickets}
 use Rattle.ynl_layout.specs.Paths.{path_at}
 use Rattle.ynl_slots.specs.Slots.{IsLive, IsUnused}
 use Rattle.ynl_slots.proofs.Entries.{itself}
 use Rattle.ynl_slots.proofs.Lookups.{lookup-push}
-use Rattle.ynl_submissions.specs.declared.submissions.Submission.{Submission}
+use Rattle.ynl_tables.specs.declared.submissions.submissions.Submission.{Submission}
 use Rattle.ynl_inventory.specs.Changes.{new_app as new_row, with_submitted, with_tickets}
 use Rattle.ynl_inventory.specs.Meaning.{app_of, submitted_to}
 use Rattle.ynl_inventory.specs.Rows.{AppRow}

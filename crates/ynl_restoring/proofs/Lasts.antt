@@ -11,8 +11,8 @@ use Rattle.ynl_model.specs.declared.containers.Placed.{Placed}
 use Rattle.ynl_model.specs.Cluster.{Partition, is_partition}
 use Rattle.ynl_laws.proofs.Lists.{Each-weaker}
 use Rattle.ynl_laws.proofs.Names.{same-label_path, same-label_self}
-use Rattle.ynl_container_table.specs.declared.container.Container.{Container}
-use Rattle.ynl_container_table.specs.Table.{IsRising}
+use Rattle.ynl_tables.specs.declared.containers.container.Container.{Container}
+use Rattle.ynl_tables.specs.containers.Table.{IsRising}
 use Rattle.ynl_inventory.specs.Meaning.{partition_of, placed_of}
 use Rattle.ynl_inventory.specs.Rows.{PartitionRow}
 use Rattle.ynl_inventory.specs.Sound.{IsSound}

@@ -11,8 +11,8 @@ use Rattle.ynl_model.specs.Cluster.{State}
 use Rattle.ynl_model.specs.Queues.{Config, capacity_on, is_queue, may_use}
 use Rattle.ynl_laws.proofs.Logic.{and-false}
 use Rattle.ynl_layout.specs.Paths.{path_at}
-use Rattle.ynl_settings.specs.Meaning.{stops_of}
-use Rattle.ynl_settings.proofs.StopsMean.{other-path, own-path}
+use Rattle.ynl_layout.specs.settings.Meaning.{stops_of}
+use Rattle.ynl_layout.proofs.settings.StopsMean.{other-path, own-path}
 use Rattle.ynl_inventory.specs.Sound.{IsFor, IsSound}
 use Rattle.ynl_cluster.specs.Cluster.{ClusterView, state_in}
 use Rattle.ynl_admission.specs.Named.{IsQueueOf}

@@ -29,9 +29,9 @@ use Rattle.ynl_laws.proofs.Lists.{Each-weaker, none-found}
 use Rattle.ynl_laws.proofs.Logic.{and-false, either-false, either-true, is_some-map, not-false}
 use Rattle.ynl_laws.proofs.Names.{same-label_path, same-label_self}
 use Rattle.ynl_slots.proofs.Lists.{all_from}
-use Rattle.ynl_container_table.proofs.Removing.{at_live}
-use Rattle.ynl_app_table.specs.declared.asks.Ask.{Ask}
-use Rattle.ynl_app_table.specs.Asks.{find_ask as find_row, is_ask_of as is_row_of}
+use Rattle.ynl_tables.proofs.containers.Removing.{at_live}
+use Rattle.ynl_tables.specs.declared.apps.asks.Ask.{Ask}
+use Rattle.ynl_tables.specs.apps.Asks.{find_ask as find_row, is_ask_of as is_row_of}
 use Rattle.ynl_inventory.specs.Rows.{AppRow}
 use Rattle.ynl_inventory.specs.Meaning.{app_name, app_of, ask_of}
 use Rattle.ynl_inventory.specs.Sound.{HasPartition, IsAskedOn, IsFor, IsSound}

@@ -8,8 +8,8 @@ use Rattle.ynl_resource.specs.Tables.{put, update, without}
 use Rattle.ynl_resource.specs.declared.amounts.Resource.{Resource}
 use Rattle.ynl_laws.proofs.Lists.{Each-weaker, filter-all}
 use Rattle.ynl_laws.proofs.Logic.{and-false}
-use Rattle.ynl_app_table.specs.declared.asks.Ask.{Ask}
-use Rattle.ynl_app_table.specs.Asks.{find_ask, is_ask_of, is_spent, lowered, with_ask, with_one_taken, AreApart, AreAsks}
+use Rattle.ynl_tables.specs.declared.apps.asks.Ask.{Ask}
+use Rattle.ynl_tables.specs.apps.Asks.{find_ask, is_ask_of, is_spent, lowered, with_ask, with_one_taken, AreApart, AreAsks}
 use Rattle.ynl_inventory.proofs.Finding.{not-true}
 use Rattle.ynl_restoring.specs.Standing.{one_more}
 use Rattle.ynl_restoring.proofs.Clocks.{as-it-is}

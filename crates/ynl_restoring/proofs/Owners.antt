@@ -15,8 +15,8 @@ use Rattle.ynl_model.specs.Changes.{all_own}
 use Rattle.ynl_model.specs.Cluster.{Partition, is_of}
 use Rattle.ynl_laws.proofs.Lists.{Each-map, Each-weaker, filter-nothing}
 use Rattle.ynl_laws.proofs.Names.{same-name_sym, same-path}
-use Rattle.ynl_container_table.specs.declared.container.Container.{Container}
-use Rattle.ynl_submissions.specs.declared.submissions.Submission.{Submission}
+use Rattle.ynl_tables.specs.declared.containers.container.Container.{Container}
+use Rattle.ynl_tables.specs.declared.submissions.submissions.Submission.{Submission}
 use Rattle.ynl_layout.specs.Paths.{HasNumber, path_at}
 use Rattle.ynl_inventory.specs.Meaning.{application_of, leaf_numbers, leaf_of, live_of, owner_of, partition_of, placed_of, submitted_in, tenant_at}
 use Rattle.ynl_inventory.specs.Rows.{AppRow, PartitionRow}

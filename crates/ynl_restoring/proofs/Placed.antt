@@ -12,8 +12,8 @@ use Rattle.ynl_model.specs.Cluster.{State, clock, node_of}
 use Rattle.ynl_model.specs.Queues.{Config}
 use Rattle.ynl_laws.proofs.Lists.{Each-find, Each-found, found-passes}
 use Rattle.ynl_laws.proofs.Names.{same-name_sym}
-use Rattle.ynl_container_table.specs.declared.container.Role.{Role}
-use Rattle.ynl_container_table.specs.declared.container.Role.TheVariants.{Master, Ask as Asked}
+use Rattle.ynl_tables.specs.declared.containers.container.Role.{Role}
+use Rattle.ynl_tables.specs.declared.containers.container.Role.TheVariants.{Master, Ask as Asked}
 use Rattle.ynl_inventory.specs.Meaning.{app_of, node_of as node_of_row}
 use Rattle.ynl_inventory.specs.Rows.{NodeRow, PartitionRow}
 use Rattle.ynl_inventory.specs.Sound.{IsFor, IsSound}

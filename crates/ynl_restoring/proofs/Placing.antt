@@ -20,10 +20,10 @@ use Rattle.ynl_model.specs.Queues.{Config}
 use Rattle.ynl_model.specs.Service.{Item}
 use Rattle.ynl_laws.proofs.Lists.{Each-all, Each-append, Each-map, Each-weaker}
 use Rattle.ynl_slots.specs.Slots.{IsLive}
-use Rattle.ynl_container_table.specs.declared.container.Container.{Container}
-use Rattle.ynl_container_table.proofs.Removing.{at_live}
-use Rattle.ynl_container_table.specs.declared.container.Role.{Role}
-use Rattle.ynl_container_table.specs.declared.container.Role.TheVariants.{Master, Ask as Asked}
+use Rattle.ynl_tables.specs.declared.containers.container.Container.{Container}
+use Rattle.ynl_tables.proofs.containers.Removing.{at_live}
+use Rattle.ynl_tables.specs.declared.containers.container.Role.{Role}
+use Rattle.ynl_tables.specs.declared.containers.container.Role.TheVariants.{Master, Ask as Asked}
 use Rattle.ynl_layout.specs.Paths.{path_at}
 use Rattle.ynl_inventory.specs.Apps.{containers_of, is_master_of}
 use Rattle.ynl_inventory.specs.Changes.{next_clock as next_of_row, next_clock_at, next_container, partition_of_node, ticked, with_at, with_clock, with_placed, with_stamp, with_taken}

@@ -18,7 +18,7 @@ use Rattle.ynl_laws.proofs.Names.{same-label_self, same-name_self}
 use Rattle.ynl_slots.specs.Slots.{IsLive, IsUnused}
 use Rattle.ynl_slots.proofs.Entries.{itself, live-pushed}
 use Rattle.ynl_slots.proofs.Lookups.{lookup-push}
-use Rattle.ynl_container_table.specs.declared.container.Container.{Container}
+use Rattle.ynl_tables.specs.declared.containers.container.Container.{Container}
 use Rattle.ynl_inventory.specs.Changes.{next_clock_at, ticked, with_clock, with_joined}
 use Rattle.ynl_inventory.specs.Rows.{NodeRow, PartitionRow}
 use Rattle.ynl_inventory.specs.Sound.{CanShow, HasPartition, IsFor, IsSound}

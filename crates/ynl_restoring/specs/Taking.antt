@@ -10,7 +10,7 @@ use Rattle.ynl_admission.specs.declared.applications.Asking.{Asking}
 use Rattle.ynl_admission.specs.Admitted.{CanAskAs}
 use Rattle.ynl_admission.specs.Named.{IsPartitionOf, IsQueueOf}
 use Rattle.ynl_layout.specs.Paths.{HasNumber}
-use Rattle.ynl_submissions.specs.Submissions.{turn_of}
+use Rattle.ynl_tables.specs.submissions.Submissions.{turn_of}
 use Rattle.ynl_resource.specs.declared.names.Name.{Name}
 use Rattle.ynl_resource.specs.declared.paths.Path.{Path}
 use Rattle.ynl_inventory.specs.Sound.{IsLeaf}

@@ -1,16 +1,16 @@
 //! Containers that stand as lines tell.
 
 ghost use Rattle.std.specs.Prelude.{◌≡◌, ◌<◌, ◌+◌, ◌^◌, IfSome, MatchOption, OnOk, Some};
-ghost use Rattle.ynl_app_table.specs.Asks.{find_ask};
+ghost use Rattle.ynl_tables.specs.apps.Asks.{find_ask};
 ghost use Rattle.ynl_cluster.specs.Cluster.{state_in};
 ghost use Rattle.ynl_restoring.specs.Standing.{one_more, with_placed_then, with_stood, CanStand, CanStandAsked, CanStandBeside, CanStandFor, CanStandThere, KeepsApp};
 
 use std::alloc::AllocError;
-use ynl_app_table::{Ask, Asks};
 use ynl_cluster::Cluster;
-use ynl_container_table::Role;
 use ynl_inventory::Placement;
 use ynl_resource::Size;
+use ynl_tables::apps::{Ask, Asks};
+use ynl_tables::containers::Role;
 
 /// A container is placed as of this clock, after which its partition's clock and its node's stamp are what
 /// they were. It fails if memory is refused.

@@ -22,10 +22,10 @@ use crate::containers::stand;
 use std::alloc::AllocError;
 use ynl_admission::{app_named, is_too_large, node_named, partition_of};
 use ynl_cluster::Cluster;
-use ynl_container_table::Role;
 use ynl_inventory::{Inventory, Placement};
 use ynl_model::{Placed, What};
 use ynl_resource::{Label, Size};
+use ynl_tables::containers::Role;
 
 /// Whether a partition has a label.
 fn is_labelled(inventory: &Inventory, p: u8, label: &Label) -> bool

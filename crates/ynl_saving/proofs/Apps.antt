@@ -9,8 +9,8 @@ use Rattle.ynl_resource.specs.declared.labels.Label.{Label}
 use Rattle.ynl_resource.specs.declared.names.Name.{Name}
 use Rattle.ynl_resource.specs.declared.paths.Path.{Path}
 use Rattle.ynl_layout.specs.Paths.{HasNumber, path_at}
-use Rattle.ynl_app_table.specs.declared.asks.Ask.{Ask}
-use Rattle.ynl_submissions.specs.declared.submissions.Submission.{Submission}
+use Rattle.ynl_tables.specs.declared.apps.asks.Ask.{Ask}
+use Rattle.ynl_tables.specs.declared.submissions.submissions.Submission.{Submission}
 use Rattle.ynl_inventory.specs.Rows.{Rows, AppRow}
 use Rattle.ynl_inventory.specs.Meaning.{app_name, app_of, application_of, ask_of, label_at, live_of, submitted_to, tenant_name}
 use Rattle.ynl_inventory.specs.Sound.{HasPartition, IsSound}

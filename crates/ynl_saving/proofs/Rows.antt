@@ -9,7 +9,7 @@ use Rattle.std.proofs.lemmas.Option.{get_or_from_slice_get, none-some, same_Some
 use Rattle.std.specs.Option.{IsSome}
 use Rattle.ynl_model.specs.declared.containers.Placed.{Placed}
 use Rattle.ynl_model.specs.declared.nodes.Node.{Node}
-use Rattle.ynl_container_table.specs.declared.container.Container.{Container}
+use Rattle.ynl_tables.specs.declared.containers.container.Container.{Container}
 use Rattle.ynl_admission.proofs.Submitting.{leaf-told as configured-leaf}
 use Rattle.ynl_replies.proofs.Following.{each-held}
 use Rattle.ynl_resource.specs.Names.{root, same_name}
@@ -20,9 +20,9 @@ use Rattle.ynl_resource.specs.declared.paths.Path.{Path}
 use Rattle.ynl_model.specs.Applications.{LeafApps, find_app}
 use Rattle.ynl_model.specs.Cluster.{Partition}
 use Rattle.ynl_model.specs.Queues.{QueueRow, is_leaf}
-use Rattle.ynl_container_table.proofs.Removing.{at_live}
+use Rattle.ynl_tables.proofs.containers.Removing.{at_live}
 use Rattle.ynl_layout.specs.Paths.{path_at}
-use Rattle.ynl_submissions.specs.declared.submissions.Submission.{Submission}
+use Rattle.ynl_tables.specs.declared.submissions.submissions.Submission.{Submission}
 use Rattle.ynl_inventory.specs.Rows.{Rows, NodeRow, PartitionRow, AppRow}
 use Rattle.ynl_inventory.specs.Apps.{containers_of}
 use Rattle.ynl_inventory.specs.Meaning.{has_none_below, label_at, leaves_from, leaf_of, live_of, node_of, partition_of, placed_of, submitted_to, tenant_at}

@@ -5,10 +5,10 @@ use Rattle.std.specs.Option.{option_and_then, option_map_or}
 use Rattle.std.proofs.lemmas.Bool.Decides.{nat_tests}
 use Rattle.std.proofs.lemmas.Option.{same_Some}
 use Rattle.ynl_resource.specs.declared.names.Name.{Name}
-use Rattle.ynl_container_table.proofs.Removing.{at_live}
+use Rattle.ynl_tables.proofs.containers.Removing.{at_live}
 use Rattle.ynl_layout.specs.Paths.{path_at}
 use Rattle.ynl_slots.specs.Slots.{IsLive}
-use Rattle.ynl_submissions.specs.declared.submissions.Submission.{Submission}
+use Rattle.ynl_tables.specs.declared.submissions.submissions.Submission.{Submission}
 use Rattle.ynl_inventory.specs.Rows.{AppRow, Rows}
 use Rattle.ynl_inventory.specs.Meaning.{app_of, application_of, live_of, submitted_to}
 use Rattle.ynl_inventory.specs.Parts.{Held}

@@ -6,7 +6,7 @@ ghost use Rattle.ynl_resource.specs.Names.{tenant_of};
 ghost use Rattle.ynl_resource.specs.declared.names.Name.{Name};
 ghost use Rattle.ynl_resource.specs.declared.paths.Path.{Path};
 ghost use Rattle.ynl_slots.specs.Slots.{IsLive};
-ghost use Rattle.ynl_submissions.specs.declared.submissions.Submission.{Submission};
+ghost use Rattle.ynl_tables.specs.declared.submissions.submissions.Submission.{Submission};
 ghost use Rattle.ynl_inventory.specs.Rows.{AppRow};
 ghost use Rattle.ynl_inventory.specs.Meaning.{app_of, leaf_of, submitted_to};
 ghost use Rattle.ynl_inventory.specs.Sound.{IsLeaf};

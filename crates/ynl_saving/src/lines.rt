@@ -4,7 +4,7 @@ ghost use Rattle.std.specs.Prelude.{◌≡◌, ◌<◌, length, nat_eq, slice_ge
 ghost use Rattle.std.specs.Map.{lookup};
 ghost use Rattle.ynl_resource.specs.Names.{tenant_of};
 ghost use Rattle.ynl_slots.specs.Slots.{IsLive};
-ghost use Rattle.ynl_app_table.specs.declared.asks.Ask.{Ask as AskPart};
+ghost use Rattle.ynl_tables.specs.declared.apps.asks.Ask.{Ask as AskPart};
 ghost use Rattle.ynl_inventory.specs.Rows.{AppRow};
 ghost use Rattle.ynl_inventory.specs.Meaning.{app_of, ask_of};
 ghost use Rattle.ynl_inventory.specs.Sound.{HasPartition};

@@ -14,17 +14,17 @@ use Rattle.ynl_model.specs.Service.{Item, asks_for, has_room, is_eligible, items
 use Rattle.ynl_laws.specs.Decided.{below}
 use Rattle.ynl_laws.proofs.Names.{same-name_self, same-path, within-self, within-trans}
 use Rattle.ynl_layout.specs.Paths.{AreChildren, CoverBelow, HasNumber, IsChild, IsTree, names_of, path_at}
-use Rattle.ynl_descent.specs.Scenes.{AreAllBelow, HasNone, Scene}
-use Rattle.ynl_descent.proofs.Turns.{counts-less}
+use Rattle.ynl_search.specs.descent.Scenes.{AreAllBelow, HasNone, Scene}
+use Rattle.ynl_search.proofs.descent.Turns.{counts-less}
 use Rattle.ynl_inventory.specs.Rows.{Rows, AppRow}
 use Rattle.ynl_inventory.specs.Meaning.{has_none_below}
 use Rattle.ynl_inventory.specs.Sound.{HasPartition, IsLeaf, IsSound}
 use Rattle.ynl_inventory.proofs.AppChange.{path-self}
 use Rattle.ynl_inventory.proofs.Finding.{not-true}
 use Rattle.ynl_inventory.proofs.Submitted.{app-submission}
-use Rattle.ynl_requests.specs.Requests.{Request, Wants, asked, wanted}
-use Rattle.ynl_requests.proofs.Members.{Among, among-contained, among-filter, any-among, contained-among, map-among, place-among}
-use Rattle.ynl_requests.proofs.Wanted.{asked-means, wanted-means}
+use Rattle.ynl_cluster.specs.requests.Requests.{Request, Wants, asked, wanted}
+use Rattle.ynl_cluster.proofs.requests.Members.{Among, among-contained, among-filter, any-among, contained-among, map-among, place-among}
+use Rattle.ynl_cluster.proofs.requests.Wanted.{asked-means, wanted-means}
 use Rattle.ynl_cluster.specs.Cluster.{ClusterView, label_of, maxima_in, state_in, stops_in}
 use Rattle.ynl_search.specs.Scenes.{guest_scene, own_scene, queues_below}
 

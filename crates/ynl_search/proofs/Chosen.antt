@@ -17,9 +17,9 @@ use Rattle.ynl_laws.specs.Descent.{IsBelow}
 use Rattle.ynl_laws.specs.First.{AreUntied, IsFirst, is_later}
 use Rattle.ynl_laws.proofs.Service.First.{is_first_chosen_untied}
 use Rattle.ynl_laws.proofs.Totals.Untied.{are-tabled-untied}
-use Rattle.ynl_container_table.specs.declared.container.Role.{Role}
-use Rattle.ynl_container_table.specs.declared.container.Role.TheVariants.{Master, Ask as Asked}
-use Rattle.ynl_app_table.specs.Asks.{find_ask}
+use Rattle.ynl_tables.specs.declared.containers.container.Role.{Role}
+use Rattle.ynl_tables.specs.declared.containers.container.Role.TheVariants.{Master, Ask as Asked}
+use Rattle.ynl_tables.specs.apps.Asks.{find_ask}
 use Rattle.ynl_inventory.specs.Rows.{Rows, AppRow, NodeRow, PartitionRow}
 use Rattle.ynl_inventory.specs.Apps.{runs_at}
 use Rattle.ynl_inventory.specs.Changes.{partition_of_node}
@@ -28,8 +28,8 @@ use Rattle.ynl_inventory.specs.Parts.{free_of}
 use Rattle.ynl_inventory.specs.Sound.{CanTake, HasPartition, IsAskedThere, IsFor, IsSound}
 use Rattle.ynl_inventory.proofs.Finding.{not-true, own-label}
 use Rattle.ynl_inventory.proofs.Lookups.{place-there}
-use Rattle.ynl_requests.proofs.Members.{Among, among-contained, among-filter, any-among, contained-among, filter-among}
-use Rattle.ynl_requests.proofs.Tables.{distinct, tabled}
+use Rattle.ynl_cluster.proofs.requests.Members.{Among, among-contained, among-filter, any-among, contained-among, filter-among}
+use Rattle.ynl_cluster.proofs.requests.Tables.{distinct, tabled}
 use Rattle.ynl_cluster.specs.Cluster.{ClusterView, maxima_in, state_in, stops_in}
 use Rattle.ynl_search.specs.declared.found.Found.{Found}
 use Rattle.ynl_search.specs.Choosing.{MayBePlaced}

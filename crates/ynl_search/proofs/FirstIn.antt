@@ -9,27 +9,27 @@ use Rattle.std.proofs.lemmas.Bool.Decides.{nat_tests}
 use Rattle.std.proofs.lemmas.Option.{none-some, same_Some}
 use Rattle.ynl_resource.specs.Amounts.{fits_in, plus}
 use Rattle.ynl_resource.specs.declared.amounts.Resource.{Resource}
-use Rattle.ynl_limits.specs.Limits.{limit_of}
+use Rattle.ynl_search.specs.limits.Limits.{limit_of}
 use Rattle.ynl_model.specs.Service.{Item}
-use Rattle.ynl_app_table.specs.declared.asks.Ask.{Ask}
-use Rattle.ynl_lane.specs.declared.kinds.Kind.TheVariants as kind
-use Rattle.ynl_lane.specs.Seats.{Seat, first_given, given}
+use Rattle.ynl_tables.specs.declared.apps.asks.Ask.{Ask}
+use Rattle.ynl_lanes.specs.declared.lane.kinds.Kind.TheVariants as kind
+use Rattle.ynl_lanes.specs.lane.Seats.{Seat, first_given, given}
 use Rattle.ynl_inventory.specs.Rows.{Rows, AppRow}
 use Rattle.ynl_inventory.specs.Apps.{is_master_role, runs_at}
-use Rattle.ynl_seating.specs.Seating.{figures_of, seat_of, seats_of, shares, sits, user_use}
-use Rattle.ynl_requests.specs.First.{Asker, IsFirstPassing, IsNotAfter, IsPassing, ranks_after}
-use Rattle.ynl_requests.specs.Requests.{Request, ask_request, asked, item_for, master_request, master_wanted, wanted}
-use Rattle.ynl_requests.proofs.Members.{Among, among-contained, among-either, among-filter, among-map, contained-among, each-among, filter-among, left-among, map-among, right-among}
-use Rattle.ynl_requests.proofs.Order.{Precedes, precedes-place}
+use Rattle.ynl_cluster.specs.seating.Seating.{figures_of, seat_of, seats_of, shares, sits, user_use}
+use Rattle.ynl_cluster.specs.requests.First.{Asker, IsFirstPassing, IsNotAfter, IsPassing, ranks_after}
+use Rattle.ynl_cluster.specs.requests.Requests.{Request, ask_request, asked, item_for, master_request, master_wanted, wanted}
+use Rattle.ynl_cluster.proofs.requests.Members.{Among, among-contained, among-either, among-filter, among-map, contained-among, each-among, filter-among, left-among, map-among, right-among}
+use Rattle.ynl_cluster.proofs.requests.Order.{Precedes, precedes-place}
 use Rattle.ynl_search.specs.declared.found.Found.{Found}
 use Rattle.ynl_search.specs.declared.leaf.LeafTests.{LeafTests}
-use Rattle.ynl_shut.specs.Lanes.{IsLaneOf}
+use Rattle.ynl_search.specs.notes.Lanes.{IsLaneOf}
 use Rattle.ynl_search.specs.InLeaf.{first_own, first_within, found_ask, found_master, gives_ask, gives_master, is_open_to}
 use Rattle.ynl_search.specs.Leaves.{most_of, passes_ask, passes_master, room_of}
 use Rattle.ynl_search.specs.Lowest.{lowest}
 use Rattle.ynl_search.proofs.FirstOver.{AreExclusive, IsFirstAt, either, first-either, first-none, first-some, found_of}
 use Rattle.ynl_search.proofs.LowestAsk.{IsLowest, lowest-is, lowest-none}
-use Rattle.ynl_shut.proofs.Found.{found-among, among-found}
+use Rattle.ynl_search.proofs.notes.Found.{found-among, among-found}
 use Rattle.ynl_search.proofs.SeatGiven.{ask-given, ask-is, master-given, master-is}
 
 -- what is found of an asker

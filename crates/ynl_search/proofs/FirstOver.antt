@@ -7,9 +7,9 @@ use Rattle.std.proofs.lemmas.Bool.{false_from_ne_true}
 use Rattle.std.proofs.lemmas.Bool.Decides.{nat_tests}
 use Rattle.std.proofs.lemmas.Option.{none-some, same_Some}
 use Rattle.ynl_slots.specs.Slots.{HasDistinctNumbers, IsUnused}
-use Rattle.ynl_lane.specs.Seats.{IsSeat, Seat, first_given, given_or, seats_before, seats_up_to}
-use Rattle.ynl_requests.proofs.Members.{Among}
-use Rattle.ynl_requests.proofs.Order.{IsIn, Precedes, not-in}
+use Rattle.ynl_lanes.specs.lane.Seats.{IsSeat, Seat, first_given, given_or, seats_before, seats_up_to}
+use Rattle.ynl_cluster.proofs.requests.Members.{Among}
+use Rattle.ynl_cluster.proofs.requests.Order.{IsIn, Precedes, not-in}
 
 -- ---- over entries
 

@@ -9,7 +9,7 @@ use Rattle.ynl_model.specs.declared.containers.Placed.{Placed}
 use Rattle.ynl_model.specs.declared.queues.StopRow.{StopRow}
 use Rattle.ynl_model.specs.declared.queues.MaximumRow.{MaximumRow}
 use Rattle.ynl_model.specs.Cluster.{containers_on, free, sizes}
-use Rattle.ynl_container_table.specs.declared.container.Container.{Container}
+use Rattle.ynl_tables.specs.declared.containers.container.Container.{Container}
 use Rattle.ynl_inventory.specs.Rows.{Rows, NodeRow, PartitionRow}
 use Rattle.ynl_inventory.specs.Meaning.{node_of, placed_of, state_of}
 use Rattle.ynl_inventory.specs.Parts.{free_of, used_of}

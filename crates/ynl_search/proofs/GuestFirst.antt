@@ -21,35 +21,35 @@ use Rattle.ynl_model.specs.declared.queues.MaximumRow.{MaximumRow}
 use Rattle.ynl_laws.specs.Descent.{IsBelow}
 use Rattle.ynl_laws.specs.First.{IsFirst, is_later}
 use Rattle.ynl_layout.specs.Paths.{path_at}
-use Rattle.ynl_app_table.specs.declared.asks.Ask.{Ask}
-use Rattle.ynl_lanes.specs.Lows.{no_size}
-use Rattle.ynl_lane.specs.Rows.{IsUse}
-use Rattle.ynl_lane.specs.Kinds.{of_kind}
-use Rattle.ynl_lane.specs.declared.kinds.Kind.TheVariants as kind
-use Rattle.ynl_lane.specs.Seats.{Seat, first_given, given, may_have, nothing_waits}
+use Rattle.ynl_tables.specs.declared.apps.asks.Ask.{Ask}
+use Rattle.ynl_lanes.specs.lows.Lows.{no_size}
+use Rattle.ynl_lanes.specs.lane.Rows.{IsUse}
+use Rattle.ynl_lanes.specs.lane.Kinds.{of_kind}
+use Rattle.ynl_lanes.specs.declared.lane.kinds.Kind.TheVariants as kind
+use Rattle.ynl_lanes.specs.lane.Seats.{Seat, first_given, given, may_have, nothing_waits}
 use Rattle.ynl_inventory.specs.Rows.{Rows, AppRow}
 use Rattle.ynl_inventory.specs.Meaning.{item_of, label_at, state_of}
 use Rattle.ynl_inventory.specs.Sound.{IsLeaf, IsSound}
 use Rattle.ynl_inventory.specs.Apps.{runs_at}
-use Rattle.ynl_seating.specs.Seating.{figures_of, least_asked, seat_of, seats_of, sits, user_use, waits_at}
-use Rattle.ynl_seating.proofs.Leasts.{are-met}
-use Rattle.ynl_requests.specs.First.{Asker, IsFirstPassing, IsNotAfter, IsPassing, item_by, ranks_after}
-use Rattle.ynl_requests.specs.Requests.{Request, ask_request, asked, item_for}
-use Rattle.ynl_requests.proofs.First.{first-means}
-use Rattle.ynl_requests.proofs.Members.{Among, among-contained, among-filter, among-map, contained-among, each-among, filter-among, map-among}
-use Rattle.ynl_requests.proofs.Order.{Precedes, precedes-place}
-use Rattle.ynl_requests.proofs.Wanted.{asked-means}
+use Rattle.ynl_cluster.specs.seating.Seating.{figures_of, least_asked, seat_of, seats_of, sits, user_use, waits_at}
+use Rattle.ynl_cluster.proofs.seating.Leasts.{are-met}
+use Rattle.ynl_cluster.specs.requests.First.{Asker, IsFirstPassing, IsNotAfter, IsPassing, item_by, ranks_after}
+use Rattle.ynl_cluster.specs.requests.Requests.{Request, ask_request, asked, item_for}
+use Rattle.ynl_cluster.proofs.requests.First.{first-means}
+use Rattle.ynl_cluster.proofs.requests.Members.{Among, among-contained, among-filter, among-map, contained-among, each-among, filter-among, map-among}
+use Rattle.ynl_cluster.proofs.requests.Order.{Precedes, precedes-place}
+use Rattle.ynl_cluster.proofs.requests.Wanted.{asked-means}
 use Rattle.ynl_search.specs.declared.found.Found.{Found}
 use Rattle.ynl_search.specs.Guests.{FirstGuestIsModel, IsGuestAsked, first_guest, gives_guest, is_guest_for, no_limit}
-use Rattle.ynl_shut.specs.Lanes.{IsLaneOf}
+use Rattle.ynl_search.specs.notes.Lanes.{IsLaneOf}
 use Rattle.ynl_search.specs.InLeaf.{found_ask}
 use Rattle.ynl_search.specs.Laws.{is_asked, item_found, no_item}
 use Rattle.ynl_search.specs.Lowest.{lowest}
 use Rattle.ynl_search.proofs.FirstIn.{found_by}
 use Rattle.ynl_search.proofs.FirstOver.{IsFirstAt, first-none, first-some}
-use Rattle.ynl_shut.proofs.Listed.{listed}
+use Rattle.ynl_search.proofs.notes.Listed.{listed}
 use Rattle.ynl_search.proofs.LowestAsk.{IsLowest, lowest-is, lowest-none}
-use Rattle.ynl_shut.proofs.Found.{among-found, found-among}
+use Rattle.ynl_search.proofs.notes.Found.{among-found, found-among}
 use Rattle.ynl_search.proofs.SeatGiven.{none-waits}
 use Rattle.ynl_search.proofs.Wanted.{guest-asked}
 

@@ -10,13 +10,13 @@ use Rattle.ynl_model.specs.Cluster.{State, free}
 use Rattle.ynl_model.specs.Service.{Item, asks_for, has_room}
 use Rattle.ynl_laws.specs.Decided.{below}
 use Rattle.ynl_laws.proofs.Amounts.{fits-trans}
-use Rattle.ynl_descent.specs.Scenes.{HasNone}
+use Rattle.ynl_search.specs.descent.Scenes.{HasNone}
 use Rattle.ynl_inventory.proofs.Finding.{not-true}
-use Rattle.ynl_requests.proofs.Members.{among-contained, among-filter, contained-among}
+use Rattle.ynl_cluster.proofs.requests.Members.{among-contained, among-filter, contained-among}
 use Rattle.ynl_cluster.specs.Cluster.{ClusterView, path_of, state_in}
-use Rattle.ynl_shut.specs.declared.noted.Noted.{Noted}
-use Rattle.ynl_shut.specs.Notes.{Notes, has_in, noted_in}
-use Rattle.ynl_shut.specs.Shut.{AreAtLeast, AreOwnRight, AreShut}
+use Rattle.ynl_search.specs.declared.notes.noted.Noted.{Noted}
+use Rattle.ynl_search.specs.notes.Notes.{Notes, has_in, noted_in}
+use Rattle.ynl_search.specs.notes.Shut.{AreAtLeast, AreOwnRight, AreShut}
 use Rattle.ynl_search.specs.Scenes.{guest_scene}
 use Rattle.ynl_search.specs.Shut.{IsGuestless}
 

@@ -14,14 +14,14 @@ use Rattle.ynl_inventory.specs.Meaning.{has_none_below, leaf_numbers, leaf_of, l
 use Rattle.ynl_inventory.proofs.Finding.{not-true}
 use Rattle.ynl_inventory.proofs.Submitted.{app-submission}
 use Rattle.ynl_inventory.proofs.Updates.{each-number}
-use Rattle.ynl_lane.specs.Seats.{Seat, Seats, each_once}
+use Rattle.ynl_lanes.specs.lane.Seats.{Seat, Seats, each_once}
 use Rattle.ynl_model.specs.Queues.{Config, QueueRow, queue_row, setting}
 use Rattle.ynl_model.specs.declared.queues.LeafSettings.{LeafSettings}
 use Rattle.ynl_resource.specs.declared.paths.Path.{Path}
 use Rattle.ynl_model.specs.Limits.{distinct, users}
 use Rattle.ynl_inventory.specs.Sound.{IsSound}
-use Rattle.ynl_seating.specs.Seating.{figures_of, seat_of, shares, sits, sitting}
-use Rattle.ynl_seating.proofs.Sharing.{are-users}
+use Rattle.ynl_cluster.specs.seating.Seating.{figures_of, seat_of, shares, sits, sitting}
+use Rattle.ynl_cluster.proofs.seating.Sharing.{are-users}
 use Rattle.ynl_cluster.specs.Cluster.{ClusterView, IsCell, IsLaneIn, label_of, maxima_in, path_of, state_in, stops_in}
 use Rattle.ynl_model.specs.declared.uses.Use.{Use}
 use Rattle.ynl_laws.specs.Uses.{use_of}

@@ -14,22 +14,22 @@ use Rattle.ynl_model.specs.Service.{Item, is_eligible, items_for, key}
 use Rattle.ynl_laws.specs.Descent.{IsBelow}
 use Rattle.ynl_laws.specs.First.{IsFirst, is_later}
 use Rattle.ynl_layout.specs.Paths.{path_at}
-use Rattle.ynl_lane.specs.Seats.{Seat}
+use Rattle.ynl_lanes.specs.lane.Seats.{Seat}
 use Rattle.ynl_inventory.specs.Rows.{Rows, AppRow}
 use Rattle.ynl_inventory.specs.Meaning.{item_of, label_at, state_of}
 use Rattle.ynl_inventory.specs.Sound.{HasPartition, IsLeaf, IsSound}
 use Rattle.ynl_inventory.specs.Apps.{is_master_role}
 use Rattle.ynl_inventory.proofs.Finding.{not-true}
-use Rattle.ynl_seating.specs.Seating.{user_use}
-use Rattle.ynl_seating.proofs.UserUse.{is-user_use}
-use Rattle.ynl_requests.specs.First.{Asker, IsFirstPassing, item_by}
-use Rattle.ynl_requests.specs.Requests.{Request, item_for, wanted}
-use Rattle.ynl_requests.proofs.First.{first-means}
-use Rattle.ynl_requests.proofs.Members.{among-contained, contained-among, filter-among}
-use Rattle.ynl_requests.proofs.Running.{what-master}
-use Rattle.ynl_requests.proofs.Wanted.{wanted-means}
-use Rattle.ynl_shut.specs.Lanes.{IsLaneOf}
-use Rattle.ynl_shut.proofs.Listed.{listed}
+use Rattle.ynl_cluster.specs.seating.Seating.{user_use}
+use Rattle.ynl_cluster.proofs.seating.UserUse.{is-user_use}
+use Rattle.ynl_cluster.specs.requests.First.{Asker, IsFirstPassing, item_by}
+use Rattle.ynl_cluster.specs.requests.Requests.{Request, item_for, wanted}
+use Rattle.ynl_cluster.proofs.requests.First.{first-means}
+use Rattle.ynl_cluster.proofs.requests.Members.{among-contained, contained-among, filter-among}
+use Rattle.ynl_cluster.proofs.requests.Running.{what-master}
+use Rattle.ynl_cluster.proofs.requests.Wanted.{wanted-means}
+use Rattle.ynl_search.specs.notes.Lanes.{IsLaneOf}
+use Rattle.ynl_search.proofs.notes.Listed.{listed}
 use Rattle.ynl_search.specs.declared.leaf.LeafTests.{LeafTests}
 use Rattle.ynl_search.specs.InLeaf.{first_own}
 use Rattle.ynl_search.specs.Laws.{FirstOwnIsModel, IsOwnWanted, is_wanted, item_found, no_item}

@@ -12,9 +12,9 @@ use Rattle.ynl_laws.specs.Decided.{below}
 use Rattle.ynl_laws.specs.Descent.{IsBelow, IsBelowSome}
 use Rattle.ynl_laws.proofs.Amounts.{fits-trans}
 use Rattle.ynl_layout.specs.Paths.{names_of, path_at}
-use Rattle.ynl_descent.specs.Scenes.{Scene}
+use Rattle.ynl_search.specs.descent.Scenes.{Scene}
 use Rattle.ynl_cluster.specs.Cluster.{ClusterView, path_of, state_in}
-use Rattle.ynl_shut.specs.Shut.{AreAtLeast}
+use Rattle.ynl_search.specs.notes.Shut.{AreAtLeast}
 use Rattle.ynl_search.specs.declared.place.Place.{Place}
 use Rattle.ynl_search.specs.Scenes.{IsReached}
 use Rattle.ynl_search.proofs.Below.{HaveLeaves}

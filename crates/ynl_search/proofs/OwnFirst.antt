@@ -2,8 +2,8 @@
 use Rattle.std.proofs.Common.{◌≡◌, ℕ, List, Option, Some, sym, ap, ◌∙◌, option_map}
 use Rattle.std.specs.Option.{option_and_then, option_or}
 use Rattle.ynl_resource.specs.declared.amounts.Resource.{Resource}
-use Rattle.ynl_lane.specs.declared.kinds.Kind.TheVariants as kind
-use Rattle.ynl_lane.specs.Seats.{Seat, first_given, given, seats_up_to}
+use Rattle.ynl_lanes.specs.declared.lane.kinds.Kind.TheVariants as kind
+use Rattle.ynl_lanes.specs.lane.Seats.{Seat, first_given, given, seats_up_to}
 use Rattle.ynl_inventory.specs.Rows.{Rows}
 use Rattle.ynl_search.specs.declared.found.Found.{Found}
 use Rattle.ynl_search.specs.declared.leaf.LeafTests.{LeafTests}

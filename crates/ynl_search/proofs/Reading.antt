@@ -7,26 +7,26 @@ use Rattle.ynl_resource.specs.Names.{is_within, root, way_to}
 use Rattle.ynl_model.specs.declared.nodes.Node.{Node}
 use Rattle.ynl_model.specs.Service.{within_master_share, within_user_limit}
 use Rattle.ynl_model.specs.Cluster.{free}
-use Rattle.ynl_lane.specs.Rows.{IsUse}
-use Rattle.ynl_lane.specs.Seats.{Seat}
+use Rattle.ynl_lanes.specs.lane.Rows.{IsUse}
+use Rattle.ynl_lanes.specs.lane.Seats.{Seat}
 use Rattle.ynl_inventory.specs.Rows.{AppRow}
 use Rattle.ynl_inventory.specs.Sound.{IsLeaf, IsSound}
-use Rattle.ynl_seating.specs.Seating.{user_use}
-use Rattle.ynl_ledger.specs.Ledger.{IsBounded}
+use Rattle.ynl_cluster.specs.seating.Seating.{user_use}
+use Rattle.ynl_cluster.specs.ledger.Ledger.{IsBounded}
 use Rattle.ynl_cluster.specs.Cluster.{ClusterView, IsCell, label_of, maxima_in, path_of, state_in, stops_in}
 use Rattle.ynl_cluster.proofs.Users.{user-small}
-use Rattle.ynl_descent.specs.Scenes.{IsFirstBelow}
+use Rattle.ynl_search.specs.descent.Scenes.{IsFirstBelow}
 use Rattle.ynl_search.specs.declared.found.Found.{Found}
 use Rattle.ynl_search.specs.declared.leaf.LeafTests.{LeafTests}
 use Rattle.ynl_search.specs.Guests.{first_guest}
-use Rattle.ynl_shut.specs.Lanes.{IsLaneOf}
+use Rattle.ynl_search.specs.notes.Lanes.{IsLaneOf}
 use Rattle.ynl_search.specs.InLeaf.{first_own}
 use Rattle.ynl_search.specs.Laws.{is_asked, is_wanted, item_asked, item_wanted}
 use Rattle.ynl_search.specs.Leaves.{AreLimits, AreTests}
 use Rattle.ynl_search.specs.Places.{allows}
 use Rattle.ynl_search.specs.Shut.{HasNoneIn}
 use Rattle.ynl_search.specs.declared.headroom.Headroom.{Headroom}
-use Rattle.ynl_shut.specs.Shut.{keeps_maximum}
+use Rattle.ynl_search.specs.notes.Shut.{keeps_maximum}
 use Rattle.ynl_search.specs.Scenes.{IsFirstGuest, IsFirstOwn, guest_scene, own_scene}
 use Rattle.ynl_search.proofs.GuestFirst.{guest-is-asked, guest-means}
 use Rattle.ynl_search.proofs.LeafFirst.{leaf-first, leaf-wanted, none-limited}

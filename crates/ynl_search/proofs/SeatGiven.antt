@@ -9,21 +9,21 @@ use Rattle.ynl_resource.specs.Amounts.{IsSize, amount, fits_in, plus, smaller_of
 use Rattle.ynl_resource.specs.declared.amounts.Resource.{Resource}
 use Rattle.ynl_laws.proofs.Amounts.{fits-trans}
 use Rattle.ynl_slots.specs.Slots.{HasDistinctNumbers}
-use Rattle.ynl_app_table.specs.declared.asks.Ask.{Ask}
-use Rattle.ynl_lanes.specs.Lows.{no_size}
-use Rattle.ynl_limits.specs.Limits.{limit_of}
-use Rattle.ynl_limits.proofs.UserLimit.{limit-grows}
-use Rattle.ynl_lane.specs.declared.kinds.Kind.{Kind}
-use Rattle.ynl_lane.specs.declared.kinds.Kind.TheVariants as kind
-use Rattle.ynl_lane.specs.Kinds.{of_kind}
-use Rattle.ynl_lane.specs.Seats.{Seat, given, may_have, nothing_waits}
+use Rattle.ynl_tables.specs.declared.apps.asks.Ask.{Ask}
+use Rattle.ynl_lanes.specs.lows.Lows.{no_size}
+use Rattle.ynl_search.specs.limits.Limits.{limit_of}
+use Rattle.ynl_search.proofs.limits.UserLimit.{limit-grows}
+use Rattle.ynl_lanes.specs.declared.lane.kinds.Kind.{Kind}
+use Rattle.ynl_lanes.specs.declared.lane.kinds.Kind.TheVariants as kind
+use Rattle.ynl_lanes.specs.lane.Kinds.{of_kind}
+use Rattle.ynl_lanes.specs.lane.Seats.{Seat, given, may_have, nothing_waits}
 use Rattle.ynl_inventory.specs.Rows.{Rows, AppRow}
 use Rattle.ynl_inventory.specs.Apps.{runs_at}
-use Rattle.ynl_seating.specs.Seating.{figures_of, least_asked, seat_of, seats_of, sits, ticket_on, user_use, waits_at}
-use Rattle.ynl_seating.proofs.Leasts.{are-met}
-use Rattle.ynl_requests.proofs.Members.{Among, each-among, filter-among, map-among}
-use Rattle.ynl_shut.specs.Lanes.{IsSizedRow}
-use Rattle.ynl_shut.proofs.Found.{among-found, found-among}
+use Rattle.ynl_cluster.specs.seating.Seating.{figures_of, least_asked, seat_of, seats_of, sits, ticket_on, user_use, waits_at}
+use Rattle.ynl_cluster.proofs.seating.Leasts.{are-met}
+use Rattle.ynl_cluster.proofs.requests.Members.{Among, each-among, filter-among, map-among}
+use Rattle.ynl_search.specs.notes.Lanes.{IsSizedRow}
+use Rattle.ynl_search.proofs.notes.Found.{among-found, found-among}
 use Rattle.ynl_search.specs.declared.found.Found.{Found}
 use Rattle.ynl_search.specs.declared.leaf.LeafTests.{LeafTests}
 use Rattle.ynl_search.specs.InLeaf.{found_ask, found_master, gives_ask, gives_master, is_open_to, used_on}

@@ -15,11 +15,11 @@ use Rattle.ynl_laws.specs.Descent.{IsBelow, IsBelowSome}
 use Rattle.ynl_laws.proofs.Lists.{all-weaker}
 use Rattle.ynl_laws.proofs.Names.{within-trans}
 use Rattle.ynl_layout.specs.Paths.{names_of, path_at}
-use Rattle.ynl_descent.specs.Scenes.{Scene}
+use Rattle.ynl_search.specs.descent.Scenes.{Scene}
 use Rattle.ynl_inventory.specs.Sound.{HasPartition}
 use Rattle.ynl_inventory.proofs.Finding.{not-true}
 use Rattle.ynl_cluster.specs.Cluster.{ClusterView, label_of, path_of, state_in}
-use Rattle.ynl_shut.specs.Shut.{keeps_below, keeps_maximum}
+use Rattle.ynl_search.specs.notes.Shut.{keeps_below, keeps_maximum}
 use Rattle.ynl_search.specs.declared.headroom.Headroom.{Headroom}
 use Rattle.ynl_search.specs.declared.place.Place.{Place}
 use Rattle.ynl_search.specs.Scenes.{IsReached}

@@ -17,13 +17,13 @@ use Rattle.ynl_model.specs.Service.{Item, eligible, is_eligible, items_for}
 use Rattle.ynl_laws.specs.Decided.{below}
 use Rattle.ynl_laws.specs.Descent.{IsBelow}
 use Rattle.ynl_laws.proofs.Amounts.{fits-trans}
-use Rattle.ynl_descent.specs.Scenes.{HasNone}
+use Rattle.ynl_search.specs.descent.Scenes.{HasNone}
 use Rattle.ynl_inventory.proofs.Finding.{not-true}
-use Rattle.ynl_requests.proofs.Members.{among-contained, among-filter, contained-among, filter-among}
+use Rattle.ynl_cluster.proofs.requests.Members.{among-contained, among-filter, contained-among, filter-among}
 use Rattle.ynl_cluster.specs.Cluster.{ClusterView, label_of, path_of, state_in}
-use Rattle.ynl_shut.specs.declared.noted.Noted.{Noted}
-use Rattle.ynl_shut.specs.Notes.{Changes, Notes, Table, has_at, noted, noted_at}
-use Rattle.ynl_shut.specs.Shut.{AreGuestsRight, AreOwnRight, AreShut, IsRight, IsShut, keeps_below, keeps_maximum}
+use Rattle.ynl_search.specs.declared.notes.noted.Noted.{Noted}
+use Rattle.ynl_search.specs.notes.Notes.{Changes, Notes, Table, has_at, noted, noted_at}
+use Rattle.ynl_search.specs.notes.Shut.{AreGuestsRight, AreOwnRight, AreShut, IsRight, IsShut, keeps_below, keeps_maximum}
 use Rattle.ynl_search.specs.declared.place.Place.{Place}
 use Rattle.ynl_search.specs.declared.headroom.Headroom.{Headroom}
 use Rattle.ynl_search.specs.Places.{IsPlace, allows, can_take}

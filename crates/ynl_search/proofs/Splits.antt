@@ -13,7 +13,7 @@ use Rattle.ynl_model.specs.Service.{Item, has_room, is_eligible, within_master_s
 use Rattle.ynl_laws.proofs.Lists.{all-weaker}
 use Rattle.ynl_laws.proofs.Names.{same-name_sym}
 use Rattle.ynl_laws.proofs.Service.Decided.{way-below}
-use Rattle.ynl_shut.specs.Shut.{keeps_below, keeps_maximum}
+use Rattle.ynl_search.specs.notes.Shut.{keeps_below, keeps_maximum}
 use Rattle.ynl_search.specs.Places.{can_take}
 
 -- what holds of all that is made of a list

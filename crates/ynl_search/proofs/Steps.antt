@@ -13,7 +13,7 @@ use Rattle.ynl_resource.specs.declared.paths.Path.{Path}
 use Rattle.ynl_model.specs.Queues.{Config, capacity_on, guaranteed as guaranteed_of, maximum as maximum_of, maximum_on, nested_floor}
 use Rattle.ynl_model.specs.Cluster.{State, guaranteed, maximum, total}
 use Rattle.ynl_laws.specs.Decided.{below}
-use Rattle.ynl_shut.specs.Shut.{keeps_maximum}
+use Rattle.ynl_search.specs.notes.Shut.{keeps_maximum}
 use Rattle.ynl_search.specs.Places.{can_take}
 
 -- the way to a queue ends with it

@@ -8,9 +8,9 @@ use Rattle.ynl_model.specs.Cluster.{guaranteed, used}
 use Rattle.ynl_model.specs.Service.{Item, last_name}
 use Rattle.ynl_laws.specs.Decided.{below}
 use Rattle.ynl_layout.specs.Paths.{IsChild, names_of, path_at}
-use Rattle.ynl_descent.specs.declared.standing.Standing.{Standing}
-use Rattle.ynl_descent.specs.Scenes.{AreAllBelow, HasNone, Scene}
-use Rattle.ynl_descent.specs.Turns.{IsStanding}
+use Rattle.ynl_search.specs.declared.descent.standing.Standing.{Standing}
+use Rattle.ynl_search.specs.descent.Scenes.{AreAllBelow, HasNone, Scene}
+use Rattle.ynl_search.specs.descent.Turns.{IsStanding}
 use Rattle.ynl_inventory.specs.Sound.{IsLeaf}
 use Rattle.ynl_cluster.specs.Cluster.{ClusterView, label_of, path_of, state_in}
 use Rattle.ynl_search.specs.declared.place.Place.{Place}

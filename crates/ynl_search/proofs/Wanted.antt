@@ -5,15 +5,15 @@ use Rattle.std.specs.Option.{option_map_or}
 use Rattle.std.proofs.lemmas.Bool.{and_from}
 use Rattle.std.proofs.lemmas.Bool.Decides.{nat_tests}
 use Rattle.ynl_model.specs.Service.{Item}
-use Rattle.ynl_app_table.specs.declared.asks.Ask.{Ask}
-use Rattle.ynl_app_table.specs.Asks.{find_ask, is_ask_of}
-use Rattle.ynl_container_table.specs.declared.container.Role.{Role}
-use Rattle.ynl_container_table.specs.declared.container.Role.TheVariants.{Master, Ask as Asked}
+use Rattle.ynl_tables.specs.declared.apps.asks.Ask.{Ask}
+use Rattle.ynl_tables.specs.apps.Asks.{find_ask, is_ask_of}
+use Rattle.ynl_tables.specs.declared.containers.container.Role.{Role}
+use Rattle.ynl_tables.specs.declared.containers.container.Role.TheVariants.{Master, Ask as Asked}
 use Rattle.ynl_inventory.specs.Rows.{Rows, AppRow}
 use Rattle.ynl_inventory.specs.Apps.{runs_at}
-use Rattle.ynl_requests.specs.First.{Asker, IsFirstPassing}
-use Rattle.ynl_requests.specs.Requests.{Request, ask_request, asked, master_request, master_wanted, wanted}
-use Rattle.ynl_requests.proofs.Members.{Among, among-contained, among-either, among-filter, among-map}
+use Rattle.ynl_cluster.specs.requests.First.{Asker, IsFirstPassing}
+use Rattle.ynl_cluster.specs.requests.Requests.{Request, ask_request, asked, master_request, master_wanted, wanted}
+use Rattle.ynl_cluster.proofs.requests.Members.{Among, among-contained, among-either, among-filter, among-map}
 use Rattle.ynl_search.specs.declared.found.Found.{Found}
 use Rattle.ynl_search.specs.Laws.{asks_role, is_asked, is_wanted, item_found, item_if, no_item, wants_role}
 use Rattle.ynl_search.proofs.FirstIn.{found_by}

@@ -14,16 +14,16 @@ use Rattle.ynl_model.specs.Service.{asks_for, has_room, key}
 use Rattle.ynl_laws.specs.Descent.{IsBelow}
 use Rattle.ynl_laws.specs.First.{IsFirst, is_later}
 use Rattle.ynl_layout.specs.Paths.{path_at}
-use Rattle.ynl_app_table.specs.declared.asks.Ask.{Ask}
-use Rattle.ynl_lane.specs.Rows.{IsUse}
-use Rattle.ynl_lane.specs.Seats.{Seat, first_given, given}
-use Rattle.ynl_lane.specs.declared.kinds.Kind.TheVariants as kind
+use Rattle.ynl_tables.specs.declared.apps.asks.Ask.{Ask}
+use Rattle.ynl_lanes.specs.lane.Rows.{IsUse}
+use Rattle.ynl_lanes.specs.lane.Seats.{Seat, first_given, given}
+use Rattle.ynl_lanes.specs.declared.lane.kinds.Kind.TheVariants as kind
 use Rattle.ynl_inventory.specs.Rows.{Rows, AppRow}
 use Rattle.ynl_inventory.specs.Meaning.{state_of}
 use Rattle.ynl_inventory.specs.Sound.{IsLeaf, IsSound}
-use Rattle.ynl_seating.specs.Seating.{user_use}
+use Rattle.ynl_cluster.specs.seating.Seating.{user_use}
 use Rattle.ynl_search.specs.declared.found.Found.{Found}
-use Rattle.ynl_shut.specs.Lanes.{IsLaneOf}
+use Rattle.ynl_search.specs.notes.Lanes.{IsLaneOf}
 use Rattle.ynl_search.specs.InLeaf.{found_ask}
 use Rattle.ynl_search.specs.Laws.{is_asked, item_found}
 use Rattle.ynl_search.specs.Lowest.{lowest}

@@ -3,12 +3,12 @@ use Rattle.std.specs.Prelude.{ℕ, Bool, ◌&&◌, nat_eq, List, Option, Some, N
 use Rattle.std.specs.Map.{lookup}
 use Rattle.std.specs.Option.{option_and_then, option_or}
 use Rattle.ynl_resource.specs.declared.amounts.Resource.{Resource}
-use Rattle.ynl_app_table.specs.declared.asks.Ask.{Ask}
-use Rattle.ynl_container_table.specs.declared.container.Role.TheVariants.{Master, Ask as Asked}
-use Rattle.ynl_lane.specs.declared.kinds.Kind.TheVariants as kind
-use Rattle.ynl_lane.specs.Seats.{Seat, first_given, given, seats_up_to}
+use Rattle.ynl_tables.specs.declared.apps.asks.Ask.{Ask}
+use Rattle.ynl_tables.specs.declared.containers.container.Role.TheVariants.{Master, Ask as Asked}
+use Rattle.ynl_lanes.specs.declared.lane.kinds.Kind.TheVariants as kind
+use Rattle.ynl_lanes.specs.lane.Seats.{Seat, first_given, given, seats_up_to}
 use Rattle.ynl_inventory.specs.Rows.{Rows, AppRow}
-use Rattle.ynl_seating.specs.Seating.{ticket_on}
+use Rattle.ynl_cluster.specs.seating.Seating.{ticket_on}
 use Rattle.ynl_search.specs.declared.found.Found.{Found}
 use Rattle.ynl_search.specs.declared.leaf.LeafTests.{LeafTests}
 use Rattle.ynl_search.specs.Lowest.{lowest}

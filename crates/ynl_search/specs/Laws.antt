@@ -14,17 +14,17 @@ use Rattle.ynl_model.specs.Service.{Item, eligible, key}
 use Rattle.ynl_laws.specs.Descent.{IsBelow}
 use Rattle.ynl_laws.specs.First.{IsFirst, is_later}
 use Rattle.ynl_layout.specs.Paths.{path_at}
-use Rattle.ynl_lane.specs.Seats.{Seat}
-use Rattle.ynl_app_table.specs.Asks.{find_ask}
-use Rattle.ynl_container_table.specs.declared.container.Role.{Role}
-use Rattle.ynl_container_table.specs.declared.container.Role.TheVariants.{Master, Ask as Asked}
+use Rattle.ynl_lanes.specs.lane.Seats.{Seat}
+use Rattle.ynl_tables.specs.apps.Asks.{find_ask}
+use Rattle.ynl_tables.specs.declared.containers.container.Role.{Role}
+use Rattle.ynl_tables.specs.declared.containers.container.Role.TheVariants.{Master, Ask as Asked}
 use Rattle.ynl_inventory.specs.Rows.{Rows, AppRow}
 use Rattle.ynl_inventory.specs.Apps.{runs_at}
 use Rattle.ynl_inventory.specs.Meaning.{item_of, label_at, state_of}
 use Rattle.ynl_inventory.specs.Sound.{HasPartition, IsLeaf, IsSound}
 use Rattle.ynl_search.specs.declared.found.Found.{Found}
 use Rattle.ynl_search.specs.declared.leaf.LeafTests.{LeafTests}
-use Rattle.ynl_shut.specs.Lanes.{IsLaneOf}
+use Rattle.ynl_search.specs.notes.Lanes.{IsLaneOf}
 use Rattle.ynl_search.specs.InLeaf.{first_own}
 use Rattle.ynl_search.specs.Leaves.{AreTests}
 

@@ -12,7 +12,7 @@ use Rattle.ynl_model.specs.declared.nodes.Node.{Node}
 use Rattle.ynl_model.specs.declared.queues.LeafSettings.{LeafSettings}
 use Rattle.ynl_model.specs.declared.uses.Use.{Use}
 use Rattle.ynl_laws.specs.Uses.{use_of}
-use Rattle.ynl_limits.specs.Limits.{limit_of}
+use Rattle.ynl_search.specs.limits.Limits.{limit_of}
 use Rattle.ynl_search.specs.declared.leaf.LeafTests.{LeafTests}
 use Rattle.ynl_search.specs.Places.{allows, can_take}
 

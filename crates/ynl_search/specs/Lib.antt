@@ -7,3 +7,6 @@ pub mod Guests
 pub mod Scenes
 pub mod Shut
 pub mod Choosing
+pub mod limits
+pub mod descent
+pub mod notes

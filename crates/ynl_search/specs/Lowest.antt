@@ -1,6 +1,6 @@
 -- The ask of an application that comes first.
 use Rattle.std.specs.Prelude.{Bool, true, nat_le, nat_lt, List, fold, Option, None, Some, if◌then◌else◌}
-use Rattle.ynl_app_table.specs.declared.asks.Ask.{Ask}
+use Rattle.ynl_tables.specs.declared.apps.asks.Ask.{Ask}
 
 -- of the best so far and one more that of the lower priority number, and the best so far where they have one
 abbrev pub lower_of : Option Ask → Ask → Option Ask

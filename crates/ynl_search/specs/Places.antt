@@ -8,8 +8,8 @@ use Rattle.ynl_resource.specs.declared.labels.Label.{Label}
 use Rattle.ynl_resource.specs.declared.paths.Path.{Path}
 use Rattle.ynl_model.specs.Queues.{Config, capacity_on, maximum_on}
 use Rattle.ynl_model.specs.Cluster.{State, guaranteed, maximum, used}
-use Rattle.ynl_uses.specs.Tallies.{IsTotal}
-use Rattle.ynl_shut.specs.Shut.{keeps_maximum}
+use Rattle.ynl_cluster.specs.uses.Tallies.{IsTotal}
+use Rattle.ynl_search.specs.notes.Shut.{keeps_maximum}
 use Rattle.ynl_search.specs.declared.headroom.Headroom.{Headroom}
 use Rattle.ynl_search.specs.declared.place.Place.{Place}
 use Rattle.ynl_search.specs.declared.place.Cell.{Cell}

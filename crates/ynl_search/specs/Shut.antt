@@ -11,8 +11,8 @@ use Rattle.ynl_model.specs.Cluster.{State}
 use Rattle.ynl_model.specs.Service.{Item, asks_for, items_for}
 use Rattle.ynl_laws.specs.Descent.{IsBelow}
 use Rattle.ynl_cluster.specs.Cluster.{ClusterView, label_of, path_of, state_in}
-use Rattle.ynl_shut.specs.declared.noted.Noted.{Noted}
-use Rattle.ynl_shut.specs.Shut.{IsRight, IsShut, keeps_below, keeps_maximum}
+use Rattle.ynl_search.specs.declared.notes.noted.Noted.{Noted}
+use Rattle.ynl_search.specs.notes.Shut.{IsRight, IsShut, keeps_below, keeps_maximum}
 use Rattle.ynl_search.specs.declared.headroom.Headroom.{Headroom}
 use Rattle.ynl_search.specs.Places.{allows}
 

@@ -8,17 +8,17 @@ ghost use Rattle.ynl_inventory.specs.Rows.{NodeRow};
 ghost use Rattle.ynl_inventory.specs.Meaning.{node_of};
 ghost use Rattle.ynl_inventory.specs.Sound.{IsSound};
 ghost use Rattle.ynl_cluster.specs.Cluster.{state_in};
-ghost use Rattle.ynl_shut.specs.Shut.{AreShut};
+ghost use Rattle.ynl_search.specs.notes.Shut.{AreShut};
 ghost use Rattle.ynl_search.specs.Choosing.{IsChosen, IsFirstGuestOn, IsFirstOwnOn, MayBePlaced};
 
+use crate::descent::descend;
 use crate::found::Found;
 use crate::guest_tree::GuestTree;
+use crate::notes::Shut;
 use crate::open_child::is_passed;
 use crate::own_tree::OwnTree;
 use crate::queues::{reach, root_at};
 use ynl_cluster::Cluster;
-use ynl_descent::descend;
-use ynl_shut::Shut;
 
 /// The first of all requests that are eligible on a node, if there is one. Queues below which there
 /// is none are noted.

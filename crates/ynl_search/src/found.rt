@@ -1,7 +1,7 @@
 //! A request that was found.
 
-use ynl_container_table::Role;
 use ynl_resource::Size;
+use ynl_tables::containers::Role;
 
 /// A request that was found: of which application, for what, and how large.
 #[derive(Clone, Copy)]

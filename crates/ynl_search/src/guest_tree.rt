@@ -1,14 +1,14 @@
 //! The tree of queues in which guests are looked for.
 
+use crate::descent::{Standing, Tree};
 use crate::found::Found;
 use crate::leasts::{is_guestless, least_asked_of_children};
 use crate::leaves::first_guest_in_leaf;
+use crate::notes::Shut;
 use crate::queues::{child_in, reach, standing_at};
 use crate::reached::Reached;
 use ynl_cluster::Cluster;
-use ynl_descent::{Standing, Tree};
 use ynl_resource::Resource;
-use ynl_shut::Shut;
 
 /// The tree of queues with the asks for DEFAULT for which a node has room.
 #[derive(Drop)]
@@ -20,7 +20,7 @@ pub(crate) struct GuestTree<'a> {
 
 impl<'a> Tree for GuestTree<'a> {
     ghost use Rattle.ynl_cluster.specs.Cluster.{path_of};
-    ghost use Rattle.ynl_shut.specs.Shut.{AreShut};
+    ghost use Rattle.ynl_search.specs.notes.Shut.{AreShut};
     ghost use Rattle.ynl_search.specs.Laws.{item_asked};
     ghost use Rattle.ynl_search.specs.Scenes.{branch_at, guest_scene, IsGuestQueue, node_at, queues_below};
 

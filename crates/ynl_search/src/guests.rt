@@ -6,10 +6,10 @@ ghost use Rattle.ynl_search.specs.Guests.{first_guest, gives_guest};
 
 use crate::found::Found;
 use crate::lowest::{SizeTest, lowest};
-use ynl_container_table::Role;
 use ynl_inventory::Inventory;
-use ynl_lane::{Kind, Lane, Request};
+use ynl_lanes::lane::{Kind, Lane, Request};
 use ynl_resource::{Resource, Size};
+use ynl_tables::containers::Role;
 
 /// More than any user uses: a guest has no limit.
 const NO_LIMIT: Resource = Resource {

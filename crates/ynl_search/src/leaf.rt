@@ -2,12 +2,12 @@
 
 ghost use Rattle.std.specs.Prelude.{◌≡◌};
 ghost use Rattle.ynl_resource.specs.Amounts.{scale_floor};
-ghost use Rattle.ynl_lane.specs.Rows.{IsUse};
-ghost use Rattle.ynl_uses.specs.Tallies.{IsTotal};
+ghost use Rattle.ynl_lanes.specs.lane.Rows.{IsUse};
+ghost use Rattle.ynl_cluster.specs.uses.Tallies.{IsTotal};
 
 use crate::headroom::Headroom;
+use crate::limits::Limits;
 use crate::place::Place;
-use ynl_limits::Limits;
 use ynl_model::{LeafSettings, Use};
 use ynl_queues::share_of;
 use ynl_resource::{Resource, Size};
@@ -45,8 +45,8 @@ impl LeafTests {
     ghost use Rattle.ynl_resource.specs.declared.paths.Path.{Path};
     ghost use Rattle.ynl_model.specs.Queues.{Config};
     ghost use Rattle.ynl_model.specs.Cluster.{State};
-    ghost use Rattle.ynl_uses.specs.Tallies.{IsSmallUse};
-    ghost use Rattle.ynl_limits.specs.Limits.{limit_of};
+    ghost use Rattle.ynl_cluster.specs.uses.Tallies.{IsSmallUse};
+    ghost use Rattle.ynl_search.specs.limits.Limits.{limit_of};
     ghost use Rattle.ynl_search.specs.Leaves.{AreLimits, AreTests, IsLeafKept, keeps_limit, keeps_share, most_of, passes_ask, passes_master, room_of};
     ghost use Rattle.ynl_search.specs.Places.{HasAmounts, IsPlace, IsSmallPlace};
 

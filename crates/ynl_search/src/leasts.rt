@@ -5,16 +5,16 @@ ghost use Rattle.ynl_resource.specs.declared.labels.Label.TheVariants.{Unlabelle
 ghost use Rattle.ynl_model.specs.Service.{asks_for, items_for};
 ghost use Rattle.ynl_inventory.specs.Sound.{HasPartition};
 ghost use Rattle.ynl_cluster.specs.Cluster.{label_of, path_of, state_in, IsCell as IsThere};
-ghost use Rattle.ynl_shut.specs.Shut.{AreAtLeast, AreShut};
+ghost use Rattle.ynl_search.specs.notes.Shut.{AreAtLeast, AreShut};
 ghost use Rattle.ynl_search.specs.Scenes.{IsReached};
 ghost use Rattle.ynl_search.specs.Shut.{IsGuestless};
 
+use crate::notes::{Shut, least_asked, least_in, less_of};
 use crate::place::ANY;
 use crate::queues::is_leaf;
 use crate::reached::Reached;
 use ynl_cluster::Cluster;
 use ynl_resource::Resource;
-use ynl_shut::{Shut, least_asked, least_in, less_of};
 
 /// What each request below a queue on a partition is for at least: by what waits in it if it is a leaf, and else by what is
 /// noted of it.

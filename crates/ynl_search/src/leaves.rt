@@ -15,11 +15,11 @@ ghost use Rattle.ynl_search.specs.Shut.{HasNoneIn, IsShutIn};
 use crate::found::Found;
 use crate::guests::first_guest;
 use crate::leaf::LeafTests;
+use crate::notes::lane_of;
 use crate::own::first_own;
 use crate::place::{Cell, Place};
 use ynl_cluster::Cluster;
 use ynl_resource::Resource;
-use ynl_shut::lane_of;
 
 /// A queue below root on a partition.
 pub fn cell_of(cluster: &Cluster, p: u8, queue: usize) -> Cell

@@ -12,6 +12,7 @@ pub use queues::{child_at, child_in, reach, root_at, standing_at};
 pub use reached::Reached;
 
 mod choosing;
+pub mod descent;
 mod found;
 mod guest_tree;
 mod guests;
@@ -20,7 +21,9 @@ pub mod laws;
 mod leaf;
 mod leasts;
 mod leaves;
+pub mod limits;
 mod lowest;
+pub mod notes;
 mod open_child;
 mod own;
 mod own_tree;

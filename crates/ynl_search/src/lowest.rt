@@ -4,8 +4,8 @@ ghost use Rattle.std.specs.Prelude.{◌≡◌, ◌&&◌, nat_eq, Bool};
 ghost use Rattle.ynl_resource.specs.declared.amounts.Resource.{Resource as Amount};
 ghost use Rattle.ynl_search.specs.Lowest.{is_lower, lowest, with_one};
 
-use ynl_app_table::Ask;
 use ynl_resource::Size;
+use ynl_tables::apps::Ask;
 
 /// A test of sizes.
 pub(crate) trait SizeTest {

@@ -4,18 +4,18 @@ ghost use Rattle.std.specs.Prelude.{◌≡◌, ◌<◌, IfSome, IsTrue, false, l
 ghost use Rattle.ynl_model.specs.Cluster.{maximum};
 ghost use Rattle.ynl_inventory.specs.Sound.{HasPartition};
 ghost use Rattle.ynl_cluster.specs.Cluster.{label_of, path_of, state_in, IsCell as IsThere};
-ghost use Rattle.ynl_shut.specs.Shut.{AreShut};
+ghost use Rattle.ynl_search.specs.notes.Shut.{AreShut};
 ghost use Rattle.ynl_search.specs.Places.{any_room};
 ghost use Rattle.ynl_search.specs.Scenes.{HasAmountsIn, IsReached};
 ghost use Rattle.ynl_search.specs.Shut.{HasNoneIn, IsClosedIn, IsShutIn, covers, is_passed};
 
+use crate::notes::{Noted, Shut, lane_of};
 use crate::place::{ANY, Place};
 use crate::queues::{child_in, is_leaf};
 use crate::reached::Reached;
 use ynl_cluster::Cluster;
-use ynl_lane::Kind;
+use ynl_lanes::lane::Kind;
 use ynl_resource::Resource;
-use ynl_shut::{Noted, Shut, lane_of};
 
 /// Whether a room that is noted of a queue covers another: what fits in the other fits in it.
 pub(crate) fn covers(noted: Option<Resource>, room: &Resource) -> bool

@@ -1,21 +1,21 @@
 //! The first request of a leaf that may be placed.
 
 ghost use Rattle.std.specs.Prelude.{◌≡◌, IfSome, option_map};
-ghost use Rattle.ynl_lane.specs.Rows.{IsUse};
+ghost use Rattle.ynl_lanes.specs.lane.Rows.{IsUse};
 ghost use Rattle.ynl_inventory.specs.Parts.{app_row};
-ghost use Rattle.ynl_seating.specs.Seating.{ticket_on};
-ghost use Rattle.ynl_lane.specs.Seats.{IsSeat};
+ghost use Rattle.ynl_cluster.specs.seating.Seating.{ticket_on};
+ghost use Rattle.ynl_lanes.specs.lane.Seats.{IsSeat};
 ghost use Rattle.ynl_search.specs.InLeaf.{first_ask, first_master, first_own, gives_ask, gives_master};
 ghost use Rattle.ynl_search.specs.Leaves.{passes_ask};
 
 use crate::found::Found;
 use crate::leaf::LeafTests;
 use crate::lowest::{SizeTest, lowest};
-use ynl_app_table::AppRow;
-use ynl_container_table::Role;
 use ynl_inventory::Inventory;
-use ynl_lane::{Kind, Lane, Request};
+use ynl_lanes::lane::{Kind, Lane, Request};
 use ynl_resource::{Resource, Size};
+use ynl_tables::apps::AppRow;
+use ynl_tables::containers::Role;
 
 /// The ticket of an application on a partition, if it has one.
 pub fn ticket_of(row: &AppRow, p: u8) -> Option<u32>

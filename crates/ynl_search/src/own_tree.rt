@@ -3,21 +3,21 @@
 ghost use Rattle.std.specs.Prelude.{◌<◌};
 ghost use Rattle.ynl_inventory.specs.Sound.{IsLeaf};
 ghost use Rattle.ynl_cluster.specs.Cluster.{IsCell};
-ghost use Rattle.ynl_shut.specs.Shut.{AreShut};
+ghost use Rattle.ynl_search.specs.notes.Shut.{AreShut};
 ghost use Rattle.ynl_search.specs.Places.{IsSmallPlace};
 ghost use Rattle.ynl_search.specs.Scenes.{HasAmountsIn};
 
+use crate::descent::{Standing, Tree};
 use crate::found::Found;
 use crate::leasts::least_to_note;
 use crate::leaves::{first_in_leaf, is_shut_leaf};
+use crate::notes::{Noted, Shut};
 use crate::open_child::{is_child_open, is_passed, room_to_note};
 use crate::place::{ANY, Place};
 use crate::queues::{child_in, reach, standing_at};
 use crate::reached::Reached;
 use ynl_cluster::Cluster;
-use ynl_descent::{Standing, Tree};
 use ynl_resource::Resource;
-use ynl_shut::{Noted, Shut};
 
 /// The tree of queues with the requests that are eligible on a node of a partition, which has so
 /// much free.

@@ -8,9 +8,9 @@ ghost use Rattle.ynl_resource.specs.declared.names.Name.{Name};
 ghost use Rattle.ynl_resource.specs.declared.paths.Path.{Path};
 ghost use Rattle.ynl_model.specs.Queues.{Config};
 ghost use Rattle.ynl_model.specs.Cluster.{State, maximum as maximum_of, total as total_of, used as used_of};
-ghost use Rattle.ynl_uses.specs.Tallies.{IsTotal};
+ghost use Rattle.ynl_cluster.specs.uses.Tallies.{IsTotal};
 ghost use Rattle.ynl_laws.specs.Decided.{below};
-ghost use Rattle.ynl_shut.specs.Shut.{keeps_maximum};
+ghost use Rattle.ynl_search.specs.notes.Shut.{keeps_maximum};
 ghost use Rattle.ynl_search.specs.Places.{IsCell, IsPlace, IsSmallPlace, allows, in_any_room};
 
 use crate::headroom::Headroom;

@@ -6,15 +6,15 @@ ghost use Rattle.ynl_model.specs.Cluster.{guaranteed, maximum, used};
 ghost use Rattle.ynl_layout.specs.Paths.{HasNumber, IsChild};
 ghost use Rattle.ynl_inventory.specs.Sound.{HasPartition, IsLeaf};
 ghost use Rattle.ynl_cluster.specs.Cluster.{label_of, path_of, state_in};
-ghost use Rattle.ynl_shut.specs.Shut.{keeps_maximum};
+ghost use Rattle.ynl_search.specs.notes.Shut.{keeps_maximum};
 ghost use Rattle.ynl_search.specs.Places.{IsSmallPlace, allows};
 ghost use Rattle.ynl_search.specs.Scenes.{HasAmountsIn, IsPlaceOf, IsReached};
 
+use crate::descent::Standing;
 use crate::leaves::cell_of;
 use crate::place::Place;
 use crate::reached::Reached;
 use ynl_cluster::Cluster;
-use ynl_descent::Standing;
 use ynl_queues::share_of;
 use ynl_resource::Resource;
 

@@ -15,8 +15,8 @@ use Rattle.ynl_model.specs.Queues.{is_queue, may_use}
 use Rattle.ynl_model.specs.Service.{takes_guests}
 use Rattle.ynl_model.specs.Check.{comes_as_guest, has_access}
 use Rattle.ynl_laws.proofs.Names.{same-label_path}
-use Rattle.ynl_container_table.specs.declared.container.Role.{Role}
-use Rattle.ynl_container_table.specs.declared.container.Role.TheVariants.{Master, Ask as Asked}
+use Rattle.ynl_tables.specs.declared.containers.container.Role.{Role}
+use Rattle.ynl_tables.specs.declared.containers.container.Role.TheVariants.{Master, Ask as Asked}
 use Rattle.ynl_inventory.specs.Rows.{PartitionRow}
 use Rattle.ynl_inventory.specs.Meaning.{what_of}
 use Rattle.ynl_inventory.specs.Sound.{HasPartition, IsAskedThere, IsFor, IsSound}

@@ -6,8 +6,8 @@ use Rattle.ynl_model.specs.Changes.{Beat, beat}
 use Rattle.ynl_laws.specs.Working.{IsWorking}
 use Rattle.ynl_slots.specs.Slots.{IsLive}
 use Rattle.ynl_cluster.specs.Cluster.{ClusterView, state_in}
-use Rattle.ynl_shut.specs.Notes.{Notes}
-use Rattle.ynl_shut.specs.Shut.{AreShut}
+use Rattle.ynl_search.specs.notes.Notes.{Notes}
+use Rattle.ynl_search.specs.notes.Shut.{AreShut}
 use Rattle.ynl_service.specs.Serving.{HasRoom, IsNode, IsNoStep, IsServed, IsStep}
 use Rattle.ynl_service.proofs.Beats.{beat-end, beat-stamp, restamped}
 

@@ -16,7 +16,7 @@ use Rattle.ynl_model.specs.Check.{commit_reasons, has_access, proposed_item, wan
 use Rattle.ynl_model.specs.Cluster.{State}
 use Rattle.ynl_model.specs.Events.{reasons}
 use Rattle.ynl_model.specs.Service.{Item, item_of as item}
-use Rattle.ynl_container_table.specs.declared.container.Role.{Role}
+use Rattle.ynl_tables.specs.declared.containers.container.Role.{Role}
 use Rattle.ynl_inventory.specs.Rows.{AppRow, NodeRow}
 use Rattle.ynl_inventory.specs.Apps.{runs_at}
 use Rattle.ynl_inventory.specs.Meaning.{app_of, item_of, node_of}

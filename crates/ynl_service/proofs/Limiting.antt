@@ -12,20 +12,20 @@ use Rattle.ynl_resource.specs.declared.refusals.Refusal.TheVariants.{OverMaximum
 use Rattle.ynl_model.specs.declared.nodes.Node.{Node}
 use Rattle.ynl_model.specs.Cluster.{State, free}
 use Rattle.ynl_model.specs.Service.{Item, within_maximum, within_master_share, within_user_limit}
-use Rattle.ynl_container_table.specs.declared.container.Role.{Role}
-use Rattle.ynl_container_table.specs.declared.container.Role.TheVariants.{Master, Ask as Asked}
-use Rattle.ynl_lane.specs.Seats.{Seat}
+use Rattle.ynl_tables.specs.declared.containers.container.Role.{Role}
+use Rattle.ynl_tables.specs.declared.containers.container.Role.TheVariants.{Master, Ask as Asked}
+use Rattle.ynl_lanes.specs.lane.Seats.{Seat}
 use Rattle.ynl_inventory.specs.Rows.{AppRow}
 use Rattle.ynl_inventory.specs.Apps.{is_master_role}
 use Rattle.ynl_inventory.specs.Meaning.{item_of}
 use Rattle.ynl_inventory.specs.Sound.{HasPartition, IsLeaf, IsSound}
 use Rattle.ynl_inventory.proofs.Submitted.{app-submission}
-use Rattle.ynl_seating.specs.Seating.{shares, ticket_on, user_use}
-use Rattle.ynl_seating.proofs.UserUse.{is-user_use}
+use Rattle.ynl_cluster.specs.seating.Seating.{shares, ticket_on, user_use}
+use Rattle.ynl_cluster.proofs.seating.UserUse.{is-user_use}
 use Rattle.ynl_cluster.specs.Cluster.{ClusterView, label_of, maxima_in, path_of, state_in, stops_in}
 use Rattle.ynl_search.specs.declared.leaf.LeafTests.{LeafTests}
 use Rattle.ynl_search.specs.declared.place.Place.{Place}
-use Rattle.ynl_shut.specs.Lanes.{IsLaneOf}
+use Rattle.ynl_search.specs.notes.Lanes.{IsLaneOf}
 use Rattle.ynl_search.specs.Leaves.{AreTests, keeps_limit, keeps_share}
 use Rattle.ynl_search.specs.Places.{IsPlace, allows}
 use Rattle.ynl_search.specs.Scenes.{IsPlaceOf}

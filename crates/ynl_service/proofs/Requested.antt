@@ -14,14 +14,14 @@ use Rattle.ynl_model.specs.Cluster.{State, free}
 use Rattle.ynl_model.specs.Service.{Item, has_room, some_eligible, within_maximum, within_master_share, within_user_limit}
 use Rattle.ynl_model.specs.Check.{comes_as_guest}
 use Rattle.ynl_slots.proofs.Lists.{all_from}
-use Rattle.ynl_container_table.specs.declared.container.Role.{Role}
-use Rattle.ynl_container_table.specs.declared.container.Role.TheVariants.{Master, Ask as Asked}
+use Rattle.ynl_tables.specs.declared.containers.container.Role.{Role}
+use Rattle.ynl_tables.specs.declared.containers.container.Role.TheVariants.{Master, Ask as Asked}
 use Rattle.ynl_inventory.specs.Rows.{AppRow, NodeRow}
 use Rattle.ynl_inventory.specs.Meaning.{item_of, node_of, what_of}
 use Rattle.ynl_inventory.specs.Parts.{free_of}
 use Rattle.ynl_inventory.specs.Sound.{CanTake, HasPartition, IsAskedOn, IsFor, IsPlaceable, IsSound}
 use Rattle.ynl_inventory.proofs.Asked.{ask-there}
-use Rattle.ynl_seating.specs.Seating.{shares}
+use Rattle.ynl_cluster.specs.seating.Seating.{shares}
 use Rattle.ynl_cluster.specs.Cluster.{ClusterView, label_of, maxima_in, state_in, stops_in}
 use Rattle.ynl_search.proofs.FreeMeans.{free-means}
 use Rattle.ynl_service.specs.Checking.{limit_reasons, request_reasons}

@@ -11,17 +11,17 @@ use Rattle.ynl_model.specs.declared.applications.AskRow.{AskRow}
 use Rattle.ynl_model.specs.Applications.{is_ask_of as is_model_ask}
 use Rattle.ynl_model.specs.Check.{has_access, same_size, wants}
 use Rattle.ynl_slots.proofs.Lists.{all_from}
-use Rattle.ynl_app_table.specs.declared.asks.Ask.{Ask}
-use Rattle.ynl_app_table.specs.Asks.{find_ask, is_ask_of}
-use Rattle.ynl_container_table.specs.declared.container.Role.{Role}
-use Rattle.ynl_container_table.specs.declared.container.Role.TheVariants.{Master, Ask as Asked}
+use Rattle.ynl_tables.specs.declared.apps.asks.Ask.{Ask}
+use Rattle.ynl_tables.specs.apps.Asks.{find_ask, is_ask_of}
+use Rattle.ynl_tables.specs.declared.containers.container.Role.{Role}
+use Rattle.ynl_tables.specs.declared.containers.container.Role.TheVariants.{Master, Ask as Asked}
 use Rattle.ynl_inventory.specs.Rows.{AppRow, PartitionRow}
 use Rattle.ynl_inventory.specs.Apps.{runs_at}
 use Rattle.ynl_inventory.specs.Meaning.{app_of, ask_of, what_of}
 use Rattle.ynl_inventory.specs.Sound.{CanTake, HasPartition, IsAskedThere, IsFor, IsSound}
 use Rattle.ynl_inventory.proofs.Asked.{asked-there}
 use Rattle.ynl_inventory.proofs.Asking.{same-ask, same-label}
-use Rattle.ynl_requests.proofs.Running.{runs-means}
+use Rattle.ynl_cluster.proofs.requests.Running.{runs-means}
 use Rattle.ynl_cluster.specs.Cluster.{ClusterView, label_of, maxima_in, state_in, stops_in}
 use Rattle.ynl_service.specs.Checking.{is_wanted_at}
 use Rattle.ynl_service.proofs.Accessing.{open-tells}

@@ -9,9 +9,9 @@ ghost use Rattle.ynl_service.specs.Checking.{is_for_at, is_known, is_on_default,
 
 use ynl_admission::partition_of;
 use ynl_cluster::Cluster;
-use ynl_container_table::Role;
 use ynl_model::What;
 use ynl_resource::Name;
+use ynl_tables::containers::Role;
 
 /// What is wanted, by number, if its label is that of a partition.
 fn role_of(cluster: &Cluster, what: &What) -> Option<Role>

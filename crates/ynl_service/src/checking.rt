@@ -7,27 +7,27 @@ ghost use Rattle.ynl_resource.specs.Amounts.{fits_in};
 ghost use Rattle.ynl_resource.specs.Refusals.{first_that_holds};
 ghost use Rattle.ynl_model.specs.Check.{commit_reasons, same_size};
 ghost use Rattle.ynl_slots.specs.Slots.{IsLive};
-ghost use Rattle.ynl_app_table.specs.Asks.{find_ask};
+ghost use Rattle.ynl_tables.specs.apps.Asks.{find_ask};
 ghost use Rattle.ynl_inventory.specs.Rows.{AppRow as Row};
 ghost use Rattle.ynl_inventory.specs.Apps.{runs_at};
 ghost use Rattle.ynl_inventory.specs.Meaning.{item_of, node_of};
 ghost use Rattle.ynl_inventory.specs.Parts.{app_row, free_of};
 ghost use Rattle.ynl_inventory.specs.Sound.{IsPlaceable};
 ghost use Rattle.ynl_cluster.specs.Cluster.{state_in};
-ghost use Rattle.ynl_shut.specs.Shut.{AreShut};
+ghost use Rattle.ynl_search.specs.notes.Shut.{AreShut};
 ghost use Rattle.ynl_service.specs.Checking.{is_wanted_at, IsProposed, request_reasons};
 
 use crate::access::{accessible, comes_as_guest};
 use crate::limits::limit_refusal;
 use ynl_admission::{app_named, placing};
-use ynl_app_table::{AppRow, Asks};
 use ynl_cluster::Cluster;
-use ynl_container_table::Role;
 use ynl_inventory::Placement;
 use ynl_model::Proposal;
 use ynl_resource::{Refusal, Size};
+use ynl_search::notes::Shut;
 use ynl_search::some_own;
-use ynl_shut::Shut;
+use ynl_tables::apps::{AppRow, Asks};
+use ynl_tables::containers::Role;
 
 fn is_same_size(a: &Size, b: &Size) -> bool
     ensures { result ≡ same_size a.now b.now }

@@ -8,12 +8,12 @@ ghost use Rattle.ynl_model.specs.declared.nodes.Node.{Node};
 ghost use Rattle.ynl_model.specs.Cluster.{free};
 ghost use Rattle.ynl_layout.specs.Paths.{HasNumber};
 ghost use Rattle.ynl_slots.specs.Slots.{IsLive};
-ghost use Rattle.ynl_lane.specs.Rows.{IsUse};
+ghost use Rattle.ynl_lanes.specs.lane.Rows.{IsUse};
 ghost use Rattle.ynl_inventory.specs.Rows.{AppRow};
 ghost use Rattle.ynl_inventory.specs.Apps.{is_master_role};
 ghost use Rattle.ynl_inventory.specs.Meaning.{item_of};
 ghost use Rattle.ynl_inventory.specs.Sound.{HasPartition};
-ghost use Rattle.ynl_seating.specs.Seating.{shares, user_use};
+ghost use Rattle.ynl_cluster.specs.seating.Seating.{shares, user_use};
 ghost use Rattle.ynl_cluster.specs.Cluster.{label_of, state_in};
 ghost use Rattle.ynl_search.specs.Leaves.{keeps_share};
 ghost use Rattle.ynl_search.specs.Places.{IsSmallPlace};
@@ -21,11 +21,11 @@ ghost use Rattle.ynl_search.specs.Scenes.{IsPlaceOf};
 ghost use Rattle.ynl_service.specs.Checking.{limit_reasons};
 
 use ynl_cluster::Cluster;
-use ynl_container_table::Role;
 use ynl_inventory::Placement;
 use ynl_resource::{Refusal, Resource};
+use ynl_search::notes::lane_of;
 use ynl_search::{LeafTests, Place, child_at, root_at, tests_of, ticket_of};
-use ynl_shut::lane_of;
+use ynl_tables::containers::Role;
 
 /// The place of a queue on a partition where so much is free: the queues on the way to it are gone
 /// through from root.

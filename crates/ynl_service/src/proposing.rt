@@ -7,14 +7,14 @@ ghost use Rattle.ynl_slots.specs.Slots.{IsLive};
 ghost use Rattle.ynl_inventory.specs.Rows.{NodeRow};
 ghost use Rattle.ynl_inventory.specs.Meaning.{node_of};
 ghost use Rattle.ynl_cluster.specs.Cluster.{state_in};
-ghost use Rattle.ynl_shut.specs.Shut.{AreShut};
+ghost use Rattle.ynl_search.specs.notes.Shut.{AreShut};
 ghost use Rattle.ynl_search.specs.Choosing.{IsNamed};
 ghost use Rattle.ynl_service.specs.Proposals.{IsProposal};
 
 use ynl_cluster::Cluster;
 use ynl_model::Proposal;
+use ynl_search::notes::Shut;
 use ynl_search::{Found, choose};
-use ynl_shut::Shut;
 
 /// What is there to be placed on a node, as a proposal.
 fn proposal(cluster: &Cluster, node: u32, found: &Found) -> Proposal

@@ -7,15 +7,15 @@ ghost use Rattle.ynl_laws.specs.Working.{IsWorking};
 ghost use Rattle.ynl_slots.specs.Slots.{IsLive};
 ghost use Rattle.ynl_inventory.specs.Sound.{IsSound};
 ghost use Rattle.ynl_cluster.specs.Cluster.{state_in};
-ghost use Rattle.ynl_shut.specs.Shut.{AreShut};
+ghost use Rattle.ynl_search.specs.notes.Shut.{AreShut};
 ghost use Rattle.ynl_service.specs.Serving.{CanBePlaced, HasRoom, IsNext, IsNode, IsNoStep, IsServed, IsStep};
 
 use ynl_cluster::Cluster;
 use ynl_inventory::Placement;
 use ynl_model::Placed;
 use ynl_resource::Id;
+use ynl_search::notes::{Shut, place};
 use ynl_search::{Found, choose};
-use ynl_shut::{Shut, place};
 
 /// What is placed next on a node: nothing where the clock of its partition is spent.
 fn next(cluster: &Cluster, shut: &mut Shut, node: u32) -> Option<Found>

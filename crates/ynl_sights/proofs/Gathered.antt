@@ -5,12 +5,12 @@ use Rattle.std.specs.Map.{lookup}
 use Rattle.std.proofs.lemmas.List.{append_assoc}
 use Rattle.std.proofs.lemmas.Option.{none-some, same_Some}
 use Rattle.ynl_resource.specs.declared.names.Name.{Name}
-use Rattle.ynl_lane.specs.Seats.{Seat, Seats}
+use Rattle.ynl_lanes.specs.lane.Seats.{Seat, Seats}
 use Rattle.ynl_inventory.specs.Rows.{AppRow}
 use Rattle.ynl_inventory.specs.Meaning.{app_name}
 use Rattle.ynl_inventory.specs.Parts.{Held}
-use Rattle.ynl_seating.specs.Seating.{shares, ticket_on, user_use}
-use Rattle.ynl_seating.proofs.Starting.{are-found}
+use Rattle.ynl_cluster.specs.seating.Seating.{shares, ticket_on, user_use}
+use Rattle.ynl_cluster.proofs.seating.Starting.{are-found}
 use Rattle.ynl_cluster.specs.Cluster.{ClusterView, IsLaneIn, held_in}
 use Rattle.ynl_sights.specs.Copying.{one_by_one}
 

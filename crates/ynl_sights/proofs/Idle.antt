@@ -6,27 +6,27 @@ use Rattle.std.proofs.lemmas.Bool.{and_parts, or_right}
 use Rattle.std.proofs.lemmas.Bool.Decides.{nat_tests}
 use Rattle.ynl_resource.specs.Amounts.{IsSize, fits_in}
 use Rattle.ynl_resource.specs.declared.amounts.Resource.{Resource}
-use Rattle.ynl_app_table.specs.declared.asks.Ask.{Ask}
-use Rattle.ynl_lanes.specs.Lows.{IsBelow, no_size}
-use Rattle.ynl_lanes.specs.Order.{below-trans}
-use Rattle.ynl_lane.specs.declared.kinds.Kind.{Kind}
-use Rattle.ynl_lane.specs.declared.kinds.Kind.TheVariants as kind
-use Rattle.ynl_lane.specs.Kinds.{of_kind}
-use Rattle.ynl_lane.specs.Seats.{Seat, Seats}
-use Rattle.ynl_lane_table.specs.Lanes.{lane_at}
-use Rattle.ynl_lane.specs.Waiting.{IsWaiting}
+use Rattle.ynl_tables.specs.declared.apps.asks.Ask.{Ask}
+use Rattle.ynl_lanes.specs.lows.Lows.{IsBelow, no_size}
+use Rattle.ynl_lanes.specs.lows.Order.{below-trans}
+use Rattle.ynl_lanes.specs.declared.lane.kinds.Kind.{Kind}
+use Rattle.ynl_lanes.specs.declared.lane.kinds.Kind.TheVariants as kind
+use Rattle.ynl_lanes.specs.lane.Kinds.{of_kind}
+use Rattle.ynl_lanes.specs.lane.Seats.{Seat, Seats}
+use Rattle.ynl_lanes.specs.table.Lanes.{lane_at}
+use Rattle.ynl_lanes.specs.lane.Waiting.{IsWaiting}
 use Rattle.ynl_inventory.specs.Rows.{Rows, AppRow}
 use Rattle.ynl_inventory.specs.Apps.{runs_at}
 use Rattle.ynl_inventory.specs.Sound.{IsSound}
 use Rattle.ynl_inventory.proofs.Used.{fits-parts}
-use Rattle.ynl_requests.specs.Laws.{in_leaf}
-use Rattle.ynl_requests.specs.Requests.{Request, ask_request, asked, item_for, master_request, master_wanted}
-use Rattle.ynl_seating.specs.Seating.{least_asked, shares, ticket_on, user_use, waits_at}
-use Rattle.ynl_seating.proofs.Leasts.{are-leasts}
-use Rattle.ynl_seating.proofs.Starting.{are-found}
+use Rattle.ynl_cluster.specs.requests.Laws.{in_leaf}
+use Rattle.ynl_cluster.specs.requests.Requests.{Request, ask_request, asked, item_for, master_request, master_wanted}
+use Rattle.ynl_cluster.specs.seating.Seating.{least_asked, shares, ticket_on, user_use, waits_at}
+use Rattle.ynl_cluster.proofs.seating.Leasts.{are-leasts}
+use Rattle.ynl_cluster.proofs.seating.Starting.{are-found}
 use Rattle.ynl_cluster.specs.Cluster.{AskSizes, ClusterView, IsCell, IsLaneIn}
-use Rattle.ynl_shut.specs.Lanes.{IsLaneOf}
-use Rattle.ynl_shut.proofs.LaneOf.{lane-is}
+use Rattle.ynl_search.specs.notes.Lanes.{IsLaneOf}
+use Rattle.ynl_search.proofs.notes.LaneOf.{lane-is}
 use Rattle.ynl_sights.specs.Copying.{items_in, kind_wanted}
 use Rattle.ynl_sights.proofs.Places.{each-own, IsOwn}
 

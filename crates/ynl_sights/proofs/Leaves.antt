@@ -20,7 +20,7 @@ use Rattle.ynl_inventory.specs.Sound.{IsSound}
 use Rattle.ynl_inventory.proofs.Lookups.{place-there}
 use Rattle.ynl_inventory.proofs.Submitted.{app-submission}
 use Rattle.ynl_inventory.proofs.Updates.{each-number}
-use Rattle.ynl_requests.specs.Requests.{Request, item_for}
+use Rattle.ynl_cluster.specs.requests.Requests.{Request, item_for}
 use Rattle.ynl_sights.specs.Copying.{items_in}
 use Rattle.ynl_sights.proofs.Gathered.{read-at}
 

@@ -14,17 +14,17 @@ use Rattle.ynl_model.specs.Cluster.{State, runs, waits}
 use Rattle.ynl_model.specs.Service.{Item, ask_item, asks_for, asks_of, items_for, master_item, masters_for}
 use Rattle.ynl_laws.proofs.Lists.{Each-kept, filter-agree, filter-map, flat-map, map-map}
 use Rattle.ynl_slots.proofs.Lists.{all_from}
-use Rattle.ynl_app_table.specs.declared.asks.Ask.{Ask}
+use Rattle.ynl_tables.specs.declared.apps.asks.Ask.{Ask}
 use Rattle.ynl_inventory.specs.Rows.{AppRow}
 use Rattle.ynl_inventory.specs.Apps.{runs_at}
 use Rattle.ynl_inventory.specs.Meaning.{app_of, ask_of, leaf_numbers, leaf_of}
 use Rattle.ynl_inventory.specs.Sound.{HasPartition, IsApp, IsSound}
 use Rattle.ynl_inventory.proofs.Asked.{asked-there}
 use Rattle.ynl_inventory.proofs.Updates.{each-number}
-use Rattle.ynl_requests.specs.Laws.{in_leaf}
-use Rattle.ynl_requests.specs.Requests.{ask_request, asked, item_for, master_request, master_wanted}
-use Rattle.ynl_requests.proofs.Running.{label-tells, runs-means}
-use Rattle.ynl_seating.proofs.Turns.{in-order}
+use Rattle.ynl_cluster.specs.requests.Laws.{in_leaf}
+use Rattle.ynl_cluster.specs.requests.Requests.{ask_request, asked, item_for, master_request, master_wanted}
+use Rattle.ynl_cluster.proofs.requests.Running.{label-tells, runs-means}
+use Rattle.ynl_cluster.proofs.seating.Turns.{in-order}
 use Rattle.ynl_cluster.specs.Cluster.{ClusterView, label_of, maxima_in, state_in, stops_in}
 use Rattle.ynl_sights.specs.Copying.{items_in}
 

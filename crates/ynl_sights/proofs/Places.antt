@@ -13,18 +13,18 @@ use Rattle.ynl_laws.proofs.Lists.{Each-kept, map-map}
 use Rattle.ynl_layout.specs.Paths.{path_at}
 use Rattle.ynl_slots.specs.Slots.{HasDistinctNumbers}
 use Rattle.ynl_slots.proofs.Entries.{itself, other}
-use Rattle.ynl_lane.specs.Seats.{Seat, Seats}
+use Rattle.ynl_lanes.specs.lane.Seats.{Seat, Seats}
 use Rattle.ynl_inventory.specs.Rows.{Rows, AppRow}
 use Rattle.ynl_inventory.specs.Meaning.{app_of, state_of}
 use Rattle.ynl_inventory.specs.Sound.{IsSound, IsLeaf}
 use Rattle.ynl_inventory.proofs.Filters.{filter-distinct}
 use Rattle.ynl_inventory.proofs.Lookups.{in-place}
 use Rattle.ynl_inventory.proofs.Updates.{each-number}
-use Rattle.ynl_requests.specs.Laws.{in_leaf}
-use Rattle.ynl_requests.proofs.Order.{place, place-is}
-use Rattle.ynl_seating.specs.Seating.{figures_of, seat_of, shares, sitting}
-use Rattle.ynl_seating.proofs.Sharing.{leaf-row}
-use Rattle.ynl_seating.proofs.Turns.{in-order}
+use Rattle.ynl_cluster.specs.requests.Laws.{in_leaf}
+use Rattle.ynl_cluster.proofs.requests.Order.{place, place-is}
+use Rattle.ynl_cluster.specs.seating.Seating.{figures_of, seat_of, shares, sitting}
+use Rattle.ynl_cluster.proofs.seating.Sharing.{leaf-row}
+use Rattle.ynl_cluster.proofs.seating.Turns.{in-order}
 use Rattle.ynl_cluster.specs.Cluster.{ClusterView, IsCell, IsLaneIn}
 use Rattle.ynl_sights.specs.Copying.{AreAppsOf}
 

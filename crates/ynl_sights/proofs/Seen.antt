@@ -12,16 +12,16 @@ use Rattle.ynl_model.specs.declared.proposals.What.TheVariants.{Master, Ask as A
 use Rattle.ynl_model.specs.Cluster.{State, user_used}
 use Rattle.ynl_model.specs.Service.{Item, key, place_in_leaf, rank, standing}
 use Rattle.ynl_queues.proofs.Prefixes.{way_end}
-use Rattle.ynl_app_table.specs.declared.asks.Ask.{Ask}
+use Rattle.ynl_tables.specs.declared.apps.asks.Ask.{Ask}
 use Rattle.ynl_inventory.specs.Rows.{AppRow}
 use Rattle.ynl_inventory.specs.Apps.{runs_at}
 use Rattle.ynl_inventory.specs.Meaning.{app_of}
 use Rattle.ynl_inventory.specs.Sound.{HasPartition, IsLeaf, IsSound}
 use Rattle.ynl_inventory.proofs.Submitted.{app-submission}
-use Rattle.ynl_requests.specs.Laws.{in_leaf}
-use Rattle.ynl_requests.specs.Requests.{ask_request, asked, item_for, master_request, master_wanted}
-use Rattle.ynl_seating.specs.Seating.{user_use}
-use Rattle.ynl_seating.proofs.UserUse.{is-user_use}
+use Rattle.ynl_cluster.specs.requests.Laws.{in_leaf}
+use Rattle.ynl_cluster.specs.requests.Requests.{ask_request, asked, item_for, master_request, master_wanted}
+use Rattle.ynl_cluster.specs.seating.Seating.{user_use}
+use Rattle.ynl_cluster.proofs.seating.UserUse.{is-user_use}
 use Rattle.ynl_cluster.specs.Cluster.{ClusterView, label_of, maxima_in, path_of, state_in, stops_in}
 use Rattle.ynl_sights.specs.declared.rows.Way.{Way}
 use Rattle.ynl_sights.specs.declared.rows.Limits.{Limits}

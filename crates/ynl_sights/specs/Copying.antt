@@ -7,15 +7,15 @@ use Rattle.ynl_resource.specs.declared.paths.Path.{Path}
 use Rattle.ynl_model.specs.Cluster.{masters_used}
 use Rattle.ynl_model.specs.Limits.{user_limit, master_limit}
 use Rattle.ynl_model.specs.Service.{Item, no_master_in, standing}
-use Rattle.ynl_app_table.specs.declared.asks.Ask.{Ask}
-use Rattle.ynl_lane.specs.declared.kinds.Kind.{Kind}
-use Rattle.ynl_lane.specs.declared.kinds.Kind.TheVariants as kind
+use Rattle.ynl_tables.specs.declared.apps.asks.Ask.{Ask}
+use Rattle.ynl_lanes.specs.declared.lane.kinds.Kind.{Kind}
+use Rattle.ynl_lanes.specs.declared.lane.kinds.Kind.TheVariants as kind
 use Rattle.ynl_inventory.specs.Rows.{Rows, AppRow}
 use Rattle.ynl_inventory.specs.Apps.{runs_at}
 use Rattle.ynl_inventory.specs.Meaning.{app_name}
-use Rattle.ynl_requests.specs.Laws.{in_leaf}
-use Rattle.ynl_requests.specs.Requests.{Request, asked, item_for, master_wanted}
-use Rattle.ynl_seating.specs.Seating.{user_use}
+use Rattle.ynl_cluster.specs.requests.Laws.{in_leaf}
+use Rattle.ynl_cluster.specs.requests.Requests.{Request, asked, item_for, master_wanted}
+use Rattle.ynl_cluster.specs.seating.Seating.{user_use}
 use Rattle.ynl_cluster.specs.Cluster.{ClusterView, label_of, path_of, state_in}
 use Rattle.ynl_search.specs.declared.place.Place.{Place}
 use Rattle.ynl_search.specs.Places.{IsSmallPlace}

@@ -7,7 +7,7 @@ use Rattle.ynl_resource.specs.declared.paths.Path.{Path}
 use Rattle.ynl_model.specs.declared.proposals.What.{What}
 use Rattle.ynl_model.specs.declared.proposals.What.TheVariants.{Master, Ask as Asked}
 use Rattle.ynl_model.specs.Service.{Item, Key, Standing, rank}
-use Rattle.ynl_limits.specs.Limits.{limit_of}
+use Rattle.ynl_search.specs.limits.Limits.{limit_of}
 use Rattle.ynl_sights.specs.Sights.{Reach, Tests, Bid, Offer}
 use Rattle.ynl_sights.specs.declared.rows.Margin.{Margin}
 use Rattle.ynl_sights.specs.declared.rows.QueueSight.{QueueSight}

@@ -7,7 +7,7 @@ ghost use Rattle.ynl_slots.specs.Slots.{IsLive};
 ghost use Rattle.ynl_inventory.specs.Rows.{NodeRow};
 ghost use Rattle.ynl_inventory.specs.Meaning.{node_of};
 ghost use Rattle.ynl_inventory.specs.Sound.{HasPartition};
-ghost use Rattle.ynl_requests.specs.Requests.{asked, master_wanted};
+ghost use Rattle.ynl_cluster.specs.requests.Requests.{asked, master_wanted};
 ghost use Rattle.ynl_cluster.specs.Cluster.{label_of, state_in, IsCell};
 ghost use Rattle.ynl_sights.specs.Copying.{bids_at, offers_at};
 ghost use Rattle.ynl_sights.specs.Rows.{asks_in, guest_bids_in, masters_in, offers_in};
@@ -19,7 +19,7 @@ use crate::sights::Sight;
 use crate::ways::{limits_of, start, way_of};
 use std::alloc::{AllocError, Global};
 use ynl_cluster::Cluster;
-use ynl_lane::Kind;
+use ynl_lanes::lane::Kind;
 use ynl_model::Node;
 
 /// Adds a queue with what is wanted of it on a partition. One of which nothing is wanted, as of any

@@ -5,22 +5,22 @@ ghost use Rattle.std.specs.Bool.{OnTrue};
 ghost use Rattle.std.specs.Map.{lookup};
 ghost use Rattle.ynl_slots.specs.Slots.{IsLive};
 ghost use Rattle.ynl_layout.specs.Paths.{HasNumber};
-ghost use Rattle.ynl_lane.specs.Rows.{IsUse};
+ghost use Rattle.ynl_lanes.specs.lane.Rows.{IsUse};
 ghost use Rattle.ynl_inventory.specs.Rows.{AppRow};
 ghost use Rattle.ynl_inventory.specs.Sound.{HasPartition, IsAskedOn};
-ghost use Rattle.ynl_requests.specs.Laws.{in_leaf};
-ghost use Rattle.ynl_seating.specs.Seating.{shares, user_use};
+ghost use Rattle.ynl_cluster.specs.requests.Laws.{in_leaf};
+ghost use Rattle.ynl_cluster.specs.seating.Seating.{shares, user_use};
 ghost use Rattle.ynl_cluster.specs.Cluster.{IsCell};
 ghost use Rattle.ynl_sights.specs.Copying.{asked_shown, asks_shown, items_in, kind_shown, kind_wanted, master_shown, one_by_one, shown, shown_as, AreAppsOf};
 
 use crate::rows::{Offered, Wanted};
 use std::alloc::{AllocError, Global};
-use ynl_app_table::Ask;
 use ynl_cluster::Cluster;
-use ynl_lane::Kind;
-use ynl_lanes::Low;
+use ynl_lanes::lane::Kind;
+use ynl_lanes::lows::Low;
 use ynl_resource::{Resource, Size};
 use ynl_search::ticket_of;
+use ynl_tables::apps::Ask;
 
 /// What the user of an application uses of its leaf's part of a partition that it shares.
 fn used_by(cluster: &Cluster, p: u8, app: u32) -> Resource

@@ -2,11 +2,11 @@
 
 ghost use Rattle.std.specs.Prelude.{◌≡◌, map};
 ghost use Rattle.ynl_resource.specs.Names.{tenant_of};
-ghost use Rattle.ynl_lane.specs.Rows.{IsUse};
-ghost use Rattle.ynl_uses.specs.Tallies.{IsTotal};
+ghost use Rattle.ynl_lanes.specs.lane.Rows.{IsUse};
+ghost use Rattle.ynl_cluster.specs.uses.Tallies.{IsTotal};
 
-use ynl_limits::Limits as UserLimits;
 use ynl_resource::{Name, Resource, Size};
+use ynl_search::limits::Limits as UserLimits;
 
 /// What a queue uses of the partition, and the most that it may use.
 #[derive(Clone, Copy)]

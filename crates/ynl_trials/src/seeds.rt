@@ -6,7 +6,7 @@ use std::io::ErrorKind;
 use std::random::RandomSource;
 use std::test::Fail;
 use ynl_resource::{HashSeed, Name};
-use ynl_submissions::Submissions;
+use ynl_tables::submissions::Submissions;
 
 // Gives this byte again and again, or none at all.
 #[derive(Drop)]

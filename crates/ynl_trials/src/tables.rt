@@ -3,9 +3,9 @@
 
 use std::test::Fail;
 use ynl_config::built_in;
-use ynl_container_table::Containers;
 use ynl_queues::Config;
 use ynl_resource::{Label, Path};
+use ynl_tables::containers::Containers;
 
 #[test]
 fn a_table_has_room(rt: HostRuntime) -> Result<(), Fail> {

@@ -7,8 +7,8 @@ ghost use Rattle.ynl_model.specs.Nodes.{has_label, is_exclusive};
 ghost use Rattle.ynl_model.specs.Queues.{may_use};
 ghost use Rattle.ynl_model.specs.View.{is_sole, top_levels};
 
-use ynl_labels::Labels;
 use ynl_queues::Config;
+use ynl_queues::labels::Labels;
 use ynl_resource::{Label, Name};
 
 /// Whether the label is configured by a name, as an exclusive one.

@@ -4,7 +4,7 @@ use Rattle.toml.proofs.OnLiterals.{toml_on_literals}
 use Rattle.ynl_resource.specs.Texts.{read_name, read_label, read_path}
 use Rattle.ynl_model.specs.Queues.{is_leaf, accessible, may_use, capacity_on, configured_maximum}
 use Rattle.ynl_model.specs.Accepted.{label_faults, tree_faults}
-use Rattle.ynl_labels.specs.Built.{labels_of}
+use Rattle.ynl_queues.specs.labels.Built.{labels_of}
 use Rattle.ynl_queues.specs.Written.{row_of, written_faults, built_of}
 use Rattle.ynl_config.specs.Access.{access_of}
 use Rattle.ynl_config.specs.Known.{is_known, known_keys}

@@ -1,9 +1,9 @@
 -- Two changes of one application are one.
 use Rattle.std.proofs.Common.{◌≡◌, ℕ, sym, ap, ◌∙◌}
 use Rattle.ynl_slots.specs.Slots.{Numbered, with_row}
-use Rattle.ynl_app_table.specs.declared.app.AppRow.{AppRow}
-use Rattle.ynl_app_table.specs.Apps.{with_app}
-use Rattle.ynl_container_table.specs.declared.container.Role.{Role}
+use Rattle.ynl_tables.specs.declared.apps.app.AppRow.{AppRow}
+use Rattle.ynl_tables.specs.apps.Apps.{with_app}
+use Rattle.ynl_tables.specs.declared.containers.container.Role.{Role}
 use Rattle.std.proofs.Common.{None}
 use Rattle.ynl_inventory.specs.Parts.{released_part}
 use Rattle.ynl_inventory.proofs.Lookups.{live-after, changed-twice}

@@ -3,14 +3,14 @@ use Rattle.std.proofs.Common.{◌≡◌, ℕ, IfSome, option_map, nat_eq, sym, a
 use Rattle.std.specs.Map.{lookup}
 use Rattle.ynl_slots.specs.Slots.{Numbered, IsLive, with_row}
 use Rattle.ynl_slots.specs.declared.chain.Chain.{Chain}
-use Rattle.ynl_app_table.specs.declared.app.AppRow.{AppRow}
-use Rattle.ynl_app_table.specs.Apps.{with_app}
-use Rattle.ynl_app_table.specs.Chains.{chain_of}
-use Rattle.ynl_app_table.specs.Asks.{with_one_taken}
-use Rattle.ynl_container_table.specs.declared.container.Role.{Role}
+use Rattle.ynl_tables.specs.declared.apps.app.AppRow.{AppRow}
+use Rattle.ynl_tables.specs.apps.Apps.{with_app}
+use Rattle.ynl_tables.specs.apps.Chains.{chain_of}
+use Rattle.ynl_tables.specs.apps.Asks.{with_one_taken}
+use Rattle.ynl_tables.specs.declared.containers.container.Role.{Role}
 use Rattle.std.proofs.Common.{Some}
 use Rattle.ynl_inventory.specs.Parts.{taken_part}
-use Rattle.ynl_container_table.proofs.Removing.{at_live}
+use Rattle.ynl_tables.proofs.containers.Removing.{at_live}
 use Rattle.ynl_inventory.proofs.Lookups.{changed-same, live-after, live-found, changed-twice}
 use Rattle.ynl_inventory.proofs.PartLists.{chain-same, taken-chains}
 use Rattle.ynl_inventory.proofs.changes.taken.Goals as goal

@@ -1,8 +1,8 @@
 -- Three changes of one node are one.
 use Rattle.std.proofs.Common.{ℕ, List, IsTrue, ap, ◌∙◌}
 use Rattle.ynl_resource.specs.Amounts.{fits_in, less}
-use Rattle.ynl_node_table.specs.declared.nodes.NodeRow.{NodeRow}
-use Rattle.ynl_node_table.specs.Nodes.{NodesView, with_change}
+use Rattle.ynl_tables.specs.declared.nodes.nodes.NodeRow.{NodeRow}
+use Rattle.ynl_tables.specs.nodes.Nodes.{NodesView, with_change}
 use Rattle.ynl_inventory.proofs.Lookups.{live-after, some-after, changed-twice}
 use Rattle.ynl_inventory.proofs.changes.used.Goals as goal
 

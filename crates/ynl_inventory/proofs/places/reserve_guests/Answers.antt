@@ -4,7 +4,7 @@ use Rattle.std.specs.Map.{lookup}
 use Rattle.std.proofs.lemmas.Bool.{cases_eq}
 use Rattle.std.proofs.lemmas.Option.{same_Some, slice_get_read}
 use Rattle.ynl_slots.specs.Slots.{Numbered, IsLive}
-use Rattle.ynl_app_table.specs.declared.app.AppRow.{AppRow as AppPart}
+use Rattle.ynl_tables.specs.declared.apps.app.AppRow.{AppRow as AppPart}
 use Rattle.ynl_inventory.specs.declared.partition.Partition.{Partition}
 use Rattle.ynl_inventory.specs.Parts.{HasMorePlaces}
 use Rattle.ynl_inventory.proofs.ChainPlaces.{all-places, more-again, more-live, more-place, no-more}

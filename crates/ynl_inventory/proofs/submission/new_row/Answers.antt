@@ -1,8 +1,8 @@
 -- The row of a new application has no chains, and places for two.
 use Rattle.std.proofs.Common.{sym, ap, subst, ◌∙◌}
 use Rattle.ynl_slots.specs.Slots.{IsLive}
-use Rattle.ynl_app_table.specs.declared.app.AppRow.{AppRow as AppPart}
-use Rattle.ynl_app_table.specs.Chains.{chain_of}
+use Rattle.ynl_tables.specs.declared.apps.app.AppRow.{AppRow as AppPart}
+use Rattle.ynl_tables.specs.apps.Chains.{chain_of}
 use Rattle.ynl_inventory.specs.Parts.{app_row}
 use Rattle.ynl_inventory.proofs.ChainPlaces.{place-adds}
 use Rattle.ynl_inventory.proofs.submission.new_row.Goals as goal

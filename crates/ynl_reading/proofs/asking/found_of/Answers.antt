@@ -9,7 +9,7 @@ use Rattle.ynl_inventory.specs.Meaning.{app_name, app_of, label_at}
 use Rattle.ynl_inventory.specs.Parts.{Held, app_row}
 use Rattle.ynl_inventory.specs.Sound.{HasPartition}
 use Rattle.ynl_cluster.specs.Cluster.{state_in}
-use Rattle.ynl_reasons.specs.Facts.{found_of}
+use Rattle.ynl_reading.specs.reasons.Facts.{found_of}
 use Rattle.ynl_reading.proofs.Askers.{found-told, leaf-below_root, leaf-there}
 use Rattle.ynl_reading.proofs.asking.found_of.Goals as goal
 

@@ -3,8 +3,8 @@ use Rattle.std.proofs.Common.{◌≡◌, ◌-◌, ◌<◌, List, filter, length,
 use Rattle.std.specs.Prelude.{IfSome}
 use Rattle.ynl_model.specs.declared.containers.Placed.{Placed}
 use Rattle.ynl_slots.specs.Slots.{IsLive}
-use Rattle.ynl_container_table.specs.Chains.{IsFirst, IsNext}
-use Rattle.ynl_container_table.specs.declared.container.Container.{Container}
+use Rattle.ynl_tables.specs.containers.Chains.{IsFirst, IsNext}
+use Rattle.ynl_tables.specs.declared.containers.container.Container.{Container}
 use Rattle.ynl_inventory.specs.Apps.{containers_of}
 use Rattle.ynl_inventory.specs.Meaning.{label_at, placed_of}
 use Rattle.ynl_inventory.specs.Parts.{Held, held_at}

@@ -2,7 +2,7 @@
 use Rattle.std.proofs.Common.{◌≡◌, ◌∙◌, ◌&&◌, ◌||◌, nat_eq, sym, ap}
 use Rattle.std.proofs.lemmas.Option.{same_Some}
 use Rattle.ynl_laws.proofs.Logic.{and-false}
-use Rattle.ynl_container_table.proofs.Removing.{at_live}
+use Rattle.ynl_tables.proofs.containers.Removing.{at_live}
 use Rattle.ynl_inventory.specs.Parts.{app_row}
 use Rattle.ynl_inventory.specs.Rows.{AppRow, PartitionRow}
 use Rattle.ynl_inventory.proofs.Lookups.{place-there}

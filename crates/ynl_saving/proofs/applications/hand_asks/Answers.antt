@@ -5,7 +5,7 @@ use Rattle.ynl_resource.specs.Names.{tenant_of}
 use Rattle.ynl_saved.specs.declared.lines.StateLine.{StateLine}
 use Rattle.ynl_saved.specs.declared.lines.StateLine.TheVariants.{Ask as AskLine}
 use Rattle.ynl_saved.proofs.Handing.{fails-next, fails-on, takes-lines, takes-next}
-use Rattle.ynl_app_table.specs.declared.asks.Ask.{Ask}
+use Rattle.ynl_tables.specs.declared.apps.asks.Ask.{Ask}
 use Rattle.ynl_inventory.specs.Rows.{AppRow, Rows}
 use Rattle.ynl_inventory.specs.Meaning.{app_of, ask_of}
 use Rattle.ynl_inventory.specs.Parts.{app_row}

@@ -2,7 +2,7 @@
 use Rattle.std.proofs.Common.{◌≡◌, ◌<◌, ◌≤◌, ◌∙◌, length, List, sym, ap, subst}
 use Rattle.std.specs.Prelude.{flat_map}
 use Rattle.ynl_resource.specs.declared.names.Name.{Name}
-use Rattle.ynl_submissions.specs.declared.submissions.Submission.{Submission}
+use Rattle.ynl_tables.specs.declared.submissions.submissions.Submission.{Submission}
 use Rattle.ynl_inventory.specs.Meaning.{submitted_to, tenant_at}
 use Rattle.ynl_inventory.proofs.Lookups.{place-there}
 use Rattle.ynl_saved.specs.Handing.{FailsAmong, TakesAll}

@@ -1,7 +1,7 @@
 -- A submission is told by whether it is live.
 use Rattle.std.proofs.Common.{◌≡◌, ◌∷◌, ◌∙◌, [], refl, sym, subst}
 use Rattle.ynl_resource.specs.declared.names.Name.{Name}
-use Rattle.ynl_submissions.specs.declared.submissions.Submission.{Submission}
+use Rattle.ynl_tables.specs.declared.submissions.submissions.Submission.{Submission}
 use Rattle.ynl_inventory.specs.Meaning.{submitted_to}
 use Rattle.ynl_inventory.proofs.Lookups.{place-there}
 use Rattle.ynl_saved.specs.declared.lines.StateLine.TheVariants.{Finished}

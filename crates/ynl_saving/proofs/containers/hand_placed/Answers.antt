@@ -1,7 +1,7 @@
 -- The containers of a partition are told one after another.
 use Rattle.std.proofs.Common.{◌+◌, ℕ, map, sym, subst, ◌∙◌, arith}
 use Rattle.std.proofs.lemmas.List.{length-map}
-use Rattle.ynl_container_table.specs.declared.container.Container.{Container}
+use Rattle.ynl_tables.specs.declared.containers.container.Container.{Container}
 use Rattle.ynl_slots.specs.Slots.{IsAfter, IsLive}
 use Rattle.ynl_slots.proofs.Walks.{here_live, left_less, past_all}
 use Rattle.ynl_inventory.specs.Apps.{containers_of}

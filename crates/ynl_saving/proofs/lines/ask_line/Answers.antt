@@ -4,14 +4,14 @@ use Rattle.std.specs.Prelude.{IfSome}
 use Rattle.std.specs.Map.{lookup}
 use Rattle.std.proofs.lemmas.Option.{same_Some, slice_get_read}
 use Rattle.ynl_resource.specs.Names.{tenant_of}
-use Rattle.ynl_app_table.specs.declared.asks.Ask.{Ask}
+use Rattle.ynl_tables.specs.declared.apps.asks.Ask.{Ask}
 use Rattle.ynl_layout.specs.Paths.{HasNumber}
 use Rattle.ynl_inventory.specs.Rows.{AppRow}
 use Rattle.ynl_inventory.specs.Meaning.{app_name, app_of, ask_of, label_at, tenant_name}
 use Rattle.ynl_inventory.specs.Parts.{Held, app_row}
 use Rattle.ynl_inventory.specs.Sound.{HasPartition}
 use Rattle.ynl_inventory.proofs.PlacedRead.{tenant-below}
-use Rattle.ynl_container_table.proofs.Removing.{at_live}
+use Rattle.ynl_tables.proofs.containers.Removing.{at_live}
 use Rattle.ynl_saved.specs.declared.lines.StateLine.TheVariants.{Ask as AskLine}
 use Rattle.ynl_saving.proofs.Apps.{ask-partition, ask-told, tenant-number}
 use Rattle.ynl_saving.proofs.lines.ask_line.Goals as goal

@@ -7,7 +7,7 @@ use Rattle.ynl_inventory.specs.Rows.{AppRow}
 use Rattle.ynl_inventory.specs.Meaning.{app_name, app_of, label_at}
 use Rattle.ynl_inventory.specs.Parts.{Held, app_row}
 use Rattle.ynl_inventory.specs.Sound.{HasPartition}
-use Rattle.ynl_container_table.proofs.Removing.{at_live}
+use Rattle.ynl_tables.proofs.containers.Removing.{at_live}
 use Rattle.ynl_saved.specs.Saving.{live_line}
 use Rattle.ynl_saving.proofs.Apps.{live-told}
 use Rattle.ynl_saving.proofs.Rows.{leaf-above, leaf-of-row}

@@ -3,14 +3,14 @@ use Rattle.std.specs.Prelude.{option_map}
 use Rattle.ynl_resource.specs.Names.{is_within, root}
 use Rattle.ynl_resource.specs.declared.paths.Path.{Path}
 use Rattle.ynl_model.specs.declared.nodes.Node.{Node}
-use Rattle.ynl_descent.specs.Scenes.{HasNone, IsFirstBelow}
+use Rattle.ynl_search.specs.descent.Scenes.{HasNone, IsFirstBelow}
 use Rattle.ynl_inventory.specs.Parts.{Held, free_of}
 use Rattle.ynl_inventory.proofs.Lookups.{live-found}
 use Rattle.ynl_cluster.specs.Cluster.{path_of, state_in}
 use Rattle.ynl_resource.specs.declared.amounts.Resource.{Resource}
 use Rattle.ynl_resource.specs.declared.labels.Label.TheVariants.{Unlabelled}
 use Rattle.ynl_model.specs.Service.{asks_for}
-use Rattle.ynl_shut.specs.Shut.{AreAtLeast}
+use Rattle.ynl_search.specs.notes.Shut.{AreAtLeast}
 use Rattle.ynl_search.specs.declared.place.Place.{Place}
 use Rattle.ynl_search.specs.Laws.{item_asked}
 use Rattle.ynl_search.specs.Scenes.{IsGuestQueue, guest_scene, node_at}

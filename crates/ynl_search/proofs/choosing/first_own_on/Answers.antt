@@ -4,7 +4,7 @@ use Rattle.std.specs.Map.{lookup}
 use Rattle.ynl_resource.specs.Names.{is_within, root}
 use Rattle.ynl_resource.specs.declared.paths.Path.{Path}
 use Rattle.ynl_model.specs.declared.nodes.Node.{Node}
-use Rattle.ynl_descent.specs.Scenes.{HasNone, IsFirstBelow}
+use Rattle.ynl_search.specs.descent.Scenes.{HasNone, IsFirstBelow}
 use Rattle.ynl_inventory.specs.Rows.{NodeRow}
 use Rattle.ynl_inventory.specs.Meaning.{node_of}
 use Rattle.ynl_inventory.specs.Parts.{Held, free_of, node_row}

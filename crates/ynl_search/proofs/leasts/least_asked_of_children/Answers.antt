@@ -4,7 +4,7 @@ use Rattle.ynl_resource.specs.declared.labels.Label.{Label}
 use Rattle.ynl_resource.specs.declared.labels.Label.TheVariants.{Unlabelled}
 use Rattle.ynl_model.specs.Service.{asks_for}
 use Rattle.ynl_cluster.specs.Cluster.{path_of, state_in}
-use Rattle.ynl_shut.specs.Shut.{AreAtLeast}
+use Rattle.ynl_search.specs.notes.Shut.{AreAtLeast}
 use Rattle.ynl_search.proofs.Below.{HaveLeaves, asks-stand}
 use Rattle.ynl_search.proofs.LeastBelow.{least-all, least-more}
 use Rattle.ynl_search.proofs.leasts.least_asked_of_children.Goals as goal

@@ -2,7 +2,7 @@ use Rattle.std.proofs.Common.{ℕ, ◌<◌, ◌+◌, get_or, subst, sym, arith}
 use Rattle.ynl_resource.specs.declared.amounts.Resource.{Resource}
 use Rattle.ynl_model.specs.Service.{items_for}
 use Rattle.ynl_cluster.specs.Cluster.{label_of, path_of, state_in}
-use Rattle.ynl_shut.specs.Shut.{AreAtLeast}
+use Rattle.ynl_search.specs.notes.Shut.{AreAtLeast}
 use Rattle.ynl_search.proofs.Below.{request-stands}
 use Rattle.ynl_search.proofs.LeastBelow.{least-all, least-more}
 use Rattle.ynl_search.proofs.leasts.least_of_children.Goals as goal

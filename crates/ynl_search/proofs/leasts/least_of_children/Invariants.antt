@@ -1,7 +1,7 @@
 use Rattle.std.proofs.Common.{ℕ, ◌<◌, get_or}
 use Rattle.ynl_model.specs.Service.{items_for}
 use Rattle.ynl_cluster.specs.Cluster.{label_of, path_of, state_in}
-use Rattle.ynl_shut.specs.Shut.{AreAtLeast}
+use Rattle.ynl_search.specs.notes.Shut.{AreAtLeast}
 use Rattle.ynl_search.proofs.leasts.least_of_children.Given as goal
 
 abbrev pub invariant-loop-i : goal.invariant-loop-i

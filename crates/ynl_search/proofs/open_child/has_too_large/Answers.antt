@@ -1,6 +1,6 @@
 use Rattle.std.proofs.Common.{sym, ◌∙◌, true≢false}
 use Rattle.std.proofs.lemmas.Bool.{not-true}
-use Rattle.ynl_shut.proofs.Least.{least-none}
+use Rattle.ynl_search.proofs.notes.Least.{least-none}
 use Rattle.ynl_search.proofs.open_child.has_too_large.Goals as goal
 
 pub returns-then-not-fits : goal.returns-then-not-fits

@@ -1,8 +1,8 @@
 -- What was found first has the ticket of a seat, and what stands first of both kinds is found in the leaf.
 use Rattle.std.proofs.Common.{◌≡◌, ℕ, Option, Some, IfSome, sym, subst, ap, ◌∙◌, option_map}
 use Rattle.std.specs.Option.{option_or}
-use Rattle.ynl_lane.specs.declared.kinds.Kind.TheVariants as kind
-use Rattle.ynl_lane.specs.Seats.{IsSeat, given}
+use Rattle.ynl_lanes.specs.declared.lane.kinds.Kind.TheVariants as kind
+use Rattle.ynl_lanes.specs.lane.Seats.{IsSeat, given}
 use Rattle.ynl_search.specs.declared.found.Found.{Found}
 use Rattle.ynl_search.specs.InLeaf.{gives_master}
 use Rattle.ynl_search.proofs.FirstOver.{seat-found}

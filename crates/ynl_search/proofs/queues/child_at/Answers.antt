@@ -2,7 +2,7 @@ use Rattle.std.proofs.Common.{ℕ, ◌&&◌, ap, sym, subst, ◌∙◌}
 use Rattle.ynl_resource.specs.declared.paths.Path.{Path}
 use Rattle.ynl_model.specs.Service.{last_name}
 use Rattle.ynl_cluster.specs.Cluster.{label_of, path_of, state_in}
-use Rattle.ynl_shut.specs.Shut.{keeps_maximum}
+use Rattle.ynl_search.specs.notes.Shut.{keeps_maximum}
 use Rattle.ynl_search.specs.Places.{IsCell, IsPlace, allows}
 use Rattle.ynl_search.proofs.queues.child_at.Goals as goal
 

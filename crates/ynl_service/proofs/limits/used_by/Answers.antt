@@ -5,7 +5,7 @@ use Rattle.std.specs.Map.{lookup}
 use Rattle.std.proofs.lemmas.Option.{none-some, same_Some}
 use Rattle.ynl_inventory.specs.Rows.{AppRow}
 use Rattle.ynl_inventory.specs.Parts.{app_row}
-use Rattle.ynl_seating.specs.Seating.{shares, user_use}
+use Rattle.ynl_cluster.specs.seating.Seating.{shares, user_use}
 use Rattle.ynl_service.proofs.Limiting.{leaf-is, ticket-there, used-at}
 use Rattle.ynl_service.proofs.limits.used_by.Goals as goal
 

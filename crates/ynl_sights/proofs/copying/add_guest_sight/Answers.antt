@@ -1,6 +1,6 @@
 use Rattle.std.proofs.Common.{List, map, sym, ap, ◌∙◌}
 use Rattle.ynl_resource.specs.declared.labels.Label.{Label}
-use Rattle.ynl_requests.specs.Requests.{asked}
+use Rattle.ynl_cluster.specs.requests.Requests.{asked}
 use Rattle.ynl_sights.specs.Copying.{bids_at}
 use Rattle.ynl_sights.specs.Rows.{bids_by, guest_bids_in}
 use Rattle.ynl_sights.specs.declared.rows.Offered.{Offered}

@@ -1,5 +1,5 @@
 use Rattle.ynl_cluster.specs.Cluster.{label_of}
-use Rattle.ynl_requests.specs.Requests.{asked, master_wanted}
+use Rattle.ynl_cluster.specs.requests.Requests.{asked, master_wanted}
 use Rattle.ynl_sights.specs.Copying.{offers_at}
 use Rattle.ynl_sights.specs.Rows.{asks_in, masters_in}
 use Rattle.ynl_sights.proofs.Leaves.{added}

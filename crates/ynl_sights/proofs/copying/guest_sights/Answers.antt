@@ -6,7 +6,7 @@ use Rattle.ynl_model.specs.Service.{asks_for, takes_guests}
 use Rattle.ynl_layout.specs.Paths.{HasNumber}
 use Rattle.ynl_inventory.specs.Meaning.{leaf_numbers}
 use Rattle.ynl_inventory.specs.Parts.{Held}
-use Rattle.ynl_requests.specs.Requests.{asked}
+use Rattle.ynl_cluster.specs.requests.Requests.{asked}
 use Rattle.ynl_cluster.specs.Cluster.{label_of, state_in}
 use Rattle.ynl_sights.specs.Sights.{bid_of}
 use Rattle.ynl_sights.specs.Rows.{guest_bids_in}

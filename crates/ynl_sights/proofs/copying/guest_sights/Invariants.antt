@@ -1,6 +1,6 @@
 use Rattle.std.proofs.Common.{◌≡◌}
 use Rattle.std.specs.Prelude.{flat_map}
-use Rattle.ynl_requests.specs.Requests.{asked}
+use Rattle.ynl_cluster.specs.requests.Requests.{asked}
 use Rattle.ynl_sights.specs.Copying.{bids_at}
 use Rattle.ynl_sights.specs.Rows.{guest_bids_in}
 use Rattle.ynl_sights.proofs.Leaves.{leaves_before}

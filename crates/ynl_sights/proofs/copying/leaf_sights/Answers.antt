@@ -6,7 +6,7 @@ use Rattle.ynl_resource.specs.declared.paths.Path.{Path}
 use Rattle.ynl_layout.specs.Paths.{HasNumber}
 use Rattle.ynl_inventory.specs.Meaning.{leaf_numbers}
 use Rattle.ynl_inventory.specs.Parts.{Held}
-use Rattle.ynl_requests.specs.Requests.{asked, master_wanted}
+use Rattle.ynl_cluster.specs.requests.Requests.{asked, master_wanted}
 use Rattle.ynl_cluster.specs.Cluster.{label_of, state_in}
 use Rattle.ynl_sights.specs.Sights.{offer_of}
 use Rattle.ynl_sights.specs.Rows.{asks_in, masters_in}

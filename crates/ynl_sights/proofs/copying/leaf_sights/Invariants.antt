@@ -1,7 +1,7 @@
 use Rattle.std.proofs.Common.{◌≡◌}
 use Rattle.std.specs.Prelude.{flat_map}
 use Rattle.ynl_cluster.specs.Cluster.{label_of}
-use Rattle.ynl_requests.specs.Requests.{asked, master_wanted}
+use Rattle.ynl_cluster.specs.requests.Requests.{asked, master_wanted}
 use Rattle.ynl_sights.specs.Copying.{offers_at}
 use Rattle.ynl_sights.specs.Rows.{asks_in, masters_in}
 use Rattle.ynl_sights.proofs.Leaves.{leaves_before}

@@ -2,7 +2,7 @@
 use Rattle.std.proofs.Common.{◌≡◌, ◌<◌, length, nat_eq, get_or, List, Option, Some, sym, ap, subst, ◌∙◌}
 use Rattle.std.specs.Prelude.{IfSome}
 use Rattle.std.specs.Map.{lookup}
-use Rattle.ynl_app_table.specs.declared.asks.Ask.{Ask}
+use Rattle.ynl_tables.specs.declared.apps.asks.Ask.{Ask}
 use Rattle.ynl_inventory.specs.Rows.{AppRow}
 use Rattle.ynl_inventory.specs.Parts.{app_row}
 use Rattle.ynl_inventory.specs.Sound.{IsAskedOn}

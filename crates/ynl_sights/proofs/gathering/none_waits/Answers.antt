@@ -1,6 +1,6 @@
 use Rattle.std.proofs.Common.{◌≡◌, [], ap, ◌∙◌, sym}
 use Rattle.ynl_resource.specs.Amounts.{fits_in}
-use Rattle.ynl_lanes.specs.Lows.{no_size}
+use Rattle.ynl_lanes.specs.lows.Lows.{no_size}
 use Rattle.ynl_sights.specs.Copying.{items_in, kind_wanted}
 use Rattle.ynl_sights.proofs.Gathered.{on-true}
 use Rattle.ynl_sights.proofs.Idle.{idle}

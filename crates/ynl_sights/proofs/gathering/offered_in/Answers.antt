@@ -1,6 +1,6 @@
 use Rattle.std.proofs.Common.{ap, is_some, map}
 use Rattle.std.proofs.lemmas.Option.{slice_get-get_or}
-use Rattle.ynl_requests.specs.Laws.{in_leaf}
+use Rattle.ynl_cluster.specs.requests.Laws.{in_leaf}
 use Rattle.ynl_sights.specs.Copying.{kind_shown, shown}
 use Rattle.ynl_sights.proofs.Gathered.{taken}
 use Rattle.ynl_sights.proofs.Places.{app-at}

@@ -1,5 +1,5 @@
 use Rattle.std.proofs.Common.{◌≡◌, map, take}
-use Rattle.ynl_requests.specs.Laws.{in_leaf}
+use Rattle.ynl_cluster.specs.requests.Laws.{in_leaf}
 use Rattle.ynl_sights.specs.Copying.{kind_shown, one_by_one, shown}
 use Rattle.ynl_sights.proofs.gathering.offered_in.Given as goal
 

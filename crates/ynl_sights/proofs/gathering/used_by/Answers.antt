@@ -6,7 +6,7 @@ use Rattle.std.proofs.lemmas.Option.{none-some, same_Some}
 use Rattle.ynl_inventory.specs.Rows.{AppRow}
 use Rattle.ynl_inventory.specs.Parts.{app_row}
 use Rattle.ynl_inventory.proofs.Submitted.{app-submission}
-use Rattle.ynl_seating.specs.Seating.{shares, user_use}
+use Rattle.ynl_cluster.specs.seating.Seating.{shares, user_use}
 use Rattle.ynl_sights.proofs.Gathered.{used-at}
 use Rattle.ynl_sights.proofs.gathering.used_by.Goals as goal
 

@@ -2,8 +2,8 @@
 use Rattle.std.proofs.Common.{not, sym, ap, subst, ◌∙◌}
 use Rattle.ynl_resource.specs.Amounts.{nothing}
 use Rattle.ynl_model.specs.declared.uses.Use.{Use}
-use Rattle.ynl_limits.specs.declared.limits.Limits.{Limits}
-use Rattle.ynl_limits.specs.Limits.{limit_of}
+use Rattle.ynl_search.specs.declared.limits.limits.Limits.{Limits}
+use Rattle.ynl_search.specs.limits.Limits.{limit_of}
 use Rattle.ynl_cluster.specs.Cluster.{label_of, path_of, state_in}
 use Rattle.ynl_search.specs.Leaves.{AreTests}
 use Rattle.ynl_search.proofs.Steps.{maximum-root}

@@ -12,7 +12,7 @@ use Rattle.std.proofs.alloc.Global.TheSendSync as heap
 use Rattle.std.proofs.Crossing.{frees}
 use Rattle.ynl_c.specs.Held.{held}
 use Rattle.ynl_c.specs.contracts.handle.Handle.{the_row, the_type}
-use Rattle.ynl_desk.proofs.desk.Desk.TheSendSync as desk
+use Rattle.ynl_c.proofs.desk.desk.Desk.TheSendSync as desk
 use Rattle.ynl_c.proofs.Handles.{D, tok}
 
 held_keyless : (a : Global) (p : Ptr) (x : Option D.Denot) → Keyless (held (tok a) D p x)

@@ -2,7 +2,7 @@
 use Rattle.std.proofs.Common.{nat_eq, sym, ap, subst, ◌∙◌}
 use Rattle.std.specs.Map.{lookup}
 use Rattle.ynl_slots.specs.Slots.{IsLive}
-use Rattle.ynl_container_table.specs.Chains.{IsFirst}
+use Rattle.ynl_tables.specs.containers.Chains.{IsFirst}
 use Rattle.ynl_inventory.specs.Changes.{partition_of_node}
 use Rattle.ynl_inventory.specs.Apps.{containers_of}
 use Rattle.ynl_inventory.specs.Parts.{Held, node_row}

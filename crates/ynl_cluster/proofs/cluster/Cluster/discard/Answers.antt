@@ -2,7 +2,7 @@
 use Rattle.std.proofs.Common.{ap, ◌∙◌, inr}
 use Rattle.ynl_inventory.specs.Changes.{with_dropped}
 use Rattle.ynl_inventory.specs.Parts.{app_row}
-use Rattle.ynl_ledger.proofs.Calls.{dropped-uses, has-uses, leaf-number, line-inside, line-is, stands-there}
+use Rattle.ynl_cluster.proofs.ledger.Calls.{dropped-uses, has-uses, leaf-number, line-inside, line-is, stands-there}
 use Rattle.ynl_cluster.specs.Cluster.{ClusterView}
 use Rattle.ynl_cluster.specs.Whole.{view_of}
 use Rattle.ynl_cluster.proofs.Ending.{held-in, lanes-before, live-after, parts-after, small-after}

@@ -2,7 +2,7 @@
 use Rattle.std.proofs.Common.{◌≡◌, Some, ap, subst, ◌∙◌, inl}
 use Rattle.ynl_inventory.specs.Changes.{with_ended}
 use Rattle.ynl_inventory.specs.Parts.{LeavesRoom, app_row, held_at}
-use Rattle.ynl_ledger.proofs.Calls.{has-uses, leaf-number, line-inside, line-is, lowered-uses, stands-there}
+use Rattle.ynl_cluster.proofs.ledger.Calls.{has-uses, leaf-number, line-inside, line-is, lowered-uses, stands-there}
 use Rattle.ynl_cluster.specs.Cluster.{ClusterView}
 use Rattle.ynl_cluster.specs.Whole.{view_of}
 use Rattle.ynl_cluster.proofs.Ending.{held-in, lanes-before, live-after, parts-after, small-after, state-after}

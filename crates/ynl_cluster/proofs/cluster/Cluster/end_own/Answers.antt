@@ -1,7 +1,7 @@
 -- What is known where an application's containers of a partition end.
 use Rattle.std.proofs.Common.{Some, None, sym, subst}
 use Rattle.ynl_slots.specs.Slots.{IsLive}
-use Rattle.ynl_container_table.specs.Chains.{IsFirst}
+use Rattle.ynl_tables.specs.containers.Chains.{IsFirst}
 use Rattle.ynl_inventory.specs.Apps.{containers_of}
 use Rattle.ynl_inventory.specs.Parts.{Held}
 use Rattle.ynl_inventory.specs.Sound.{HasPartition}

@@ -1,7 +1,7 @@
 -- What is known of the rows of a cluster.
 use Rattle.std.proofs.Common.{◌≡◌, length, subst}
 use Rattle.ynl_inventory.specs.Sound.{IsFor, IsSound}
-use Rattle.ynl_ledger.specs.Ledger.{IsBounded}
+use Rattle.ynl_cluster.specs.ledger.Ledger.{IsBounded}
 use Rattle.ynl_cluster.specs.Cluster.{ClusterView}
 use Rattle.ynl_cluster.specs.Whole.{AreNumbered, AskSizes}
 use Rattle.ynl_cluster.proofs.cluster.Cluster.inventory.Goals as goal

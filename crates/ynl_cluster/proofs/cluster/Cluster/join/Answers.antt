@@ -3,7 +3,7 @@ use Rattle.std.proofs.Common.{ap, subst, ◌∙◌}
 use Rattle.ynl_slots.specs.Slots.{IsUnused}
 use Rattle.ynl_inventory.specs.Changes.{with_joined}
 use Rattle.ynl_inventory.specs.Parts.{Held}
-use Rattle.ynl_ledger.proofs.Calls.{has-total}
+use Rattle.ynl_cluster.proofs.ledger.Calls.{has-total}
 use Rattle.ynl_cluster.specs.Cluster.{ClusterView}
 use Rattle.ynl_cluster.specs.Whole.{view_of}
 use Rattle.ynl_cluster.proofs.Joining.{has-before, parts-after, small-before, state-after, unnamed-before}

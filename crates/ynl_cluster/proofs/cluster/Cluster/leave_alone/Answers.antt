@@ -2,7 +2,7 @@
 use Rattle.std.proofs.Common.{ap, ◌∙◌}
 use Rattle.ynl_inventory.specs.Changes.{with_node_gone}
 use Rattle.ynl_inventory.specs.Parts.{Held, node_row}
-use Rattle.ynl_ledger.proofs.Calls.{has-total}
+use Rattle.ynl_cluster.proofs.ledger.Calls.{has-total}
 use Rattle.ynl_cluster.specs.Cluster.{ClusterView}
 use Rattle.ynl_cluster.specs.Whole.{view_of}
 use Rattle.ynl_cluster.proofs.Leaving.{empty-before, node-there, parts-after, place-there}

@@ -3,7 +3,7 @@ use Rattle.std.proofs.Common.{◌≡◌, ap, subst, false, ◌∙◌}
 use Rattle.ynl_slots.specs.Slots.{without, IsUnused}
 use Rattle.ynl_inventory.specs.Changes.{with_joined, with_node_gone}
 use Rattle.ynl_inventory.specs.Parts.{Held, node_row}
-use Rattle.ynl_ledger.proofs.Calls.{has-total}
+use Rattle.ynl_cluster.proofs.ledger.Calls.{has-total}
 use Rattle.ynl_cluster.specs.Cluster.{ClusterView}
 use Rattle.ynl_cluster.proofs.Leaving.{empty-before, node-there, place-there}
 use Rattle.ynl_cluster.proofs.Moving.{at-row, has-before, moved-view, parts-after, total-small, total-there}

@@ -4,9 +4,9 @@ use Rattle.ynl_resource.specs.Names.{root}
 use Rattle.ynl_model.specs.Nodes.{partition_labels}
 use Rattle.ynl_model.specs.Queues.{Config}
 use Rattle.ynl_layout.specs.Paths.{paths_of}
-use Rattle.ynl_uses.specs.Tallies.{no_use, IsTable}
-use Rattle.ynl_lane_table.specs.Lanes.{no_seats}
-use Rattle.ynl_ledger.specs.Totals.{no_total}
+use Rattle.ynl_cluster.specs.uses.Tallies.{no_use, IsTable}
+use Rattle.ynl_lanes.specs.table.Lanes.{no_seats}
+use Rattle.ynl_cluster.specs.ledger.Totals.{no_total}
 use Rattle.ynl_cluster.proofs.Opening.{many-labels, many-queues, opened-means, parts-opened, settings-opened}
 use Rattle.ynl_cluster.proofs.cluster.Cluster.new.Goals as goal
 

@@ -6,7 +6,7 @@ use Rattle.ynl_inventory.specs.Rows.{NodeRow}
 use Rattle.ynl_inventory.specs.Changes.{partition_of_node, with_placed}
 use Rattle.ynl_inventory.specs.Parts.{LeavesRoom, app_row, containers_of, node_row}
 use Rattle.ynl_inventory.proofs.Lookups.{found-live}
-use Rattle.ynl_ledger.proofs.Calls.{has-uses, leaf-number, line-inside, line-is, raised-uses, small-uses}
+use Rattle.ynl_cluster.proofs.ledger.Calls.{has-uses, leaf-number, line-inside, line-is, raised-uses, small-uses}
 use Rattle.ynl_cluster.specs.Cluster.{ClusterView}
 use Rattle.ynl_cluster.specs.Whole.{view_of}
 use Rattle.ynl_cluster.proofs.Placing.{app-live, lanes-before, live-after, may, node-live, parts-after, place-after, small-after, state-after}

@@ -1,6 +1,6 @@
 -- What is known where a node moves with nothing on it.
 use Rattle.std.proofs.Common.{◌<◌, length, sym, subst}
-use Rattle.ynl_ledger.specs.Ledger.{nodes_on}
+use Rattle.ynl_cluster.specs.ledger.Ledger.{nodes_on}
 use Rattle.ynl_resource.specs.Ranges.{most_nodes}
 use Rattle.ynl_cluster.proofs.Moving.{cleared, few-nodes, moved-rows, moved-state, row-there, still-has, unused-before}
 use Rattle.ynl_cluster.proofs.cluster.Cluster.relabel.Goals as goal

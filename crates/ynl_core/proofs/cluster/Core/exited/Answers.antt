@@ -5,7 +5,7 @@ use Rattle.ynl_model.specs.declared.replies.Reply.TheVariants.{Done}
 use Rattle.ynl_cluster.specs.Cluster.{ClusterView}
 use Rattle.ynl_core.proofs.Accepted as does
 use Rattle.ynl_core.proofs.Stepping.{works}
-use Rattle.ynl_container_table.specs.declared.container.Container.{Container}
+use Rattle.ynl_tables.specs.declared.containers.container.Container.{Container}
 use Rattle.ynl_model.specs.Changes.{end}
 use Rattle.ynl_inventory.specs.Meaning.{placed_of}
 use Rattle.ynl_cluster.specs.Cluster.{label_of, state_in}

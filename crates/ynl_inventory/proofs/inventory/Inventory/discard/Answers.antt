@@ -1,7 +1,7 @@
 -- What is known where a container goes with its node.
 use Rattle.std.proofs.Common.{◌≡◌, ◌<◌, map, slice_get, Some, nat_eq, sym, ap, subst, ◌∙◌, arith}
 use Rattle.std.specs.Map.{lookup}
-use Rattle.ynl_node_table.specs.Nodes.{NodesView}
+use Rattle.ynl_tables.specs.nodes.Nodes.{NodesView}
 use Rattle.ynl_inventory.specs.declared.partition.Partition.{Partition}
 use Rattle.ynl_inventory.specs.Changes.{with_dropped}
 use Rattle.ynl_inventory.specs.Parts.{Held, LeavesRoom, held_at}

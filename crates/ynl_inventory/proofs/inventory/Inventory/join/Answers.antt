@@ -1,9 +1,9 @@
 -- A node joins: no container is on it yet.
 use Rattle.std.proofs.Common.{◌≡◌, map, None, slice_get, Some, ap, subst, ◌∙◌}
 use Rattle.std.specs.Prelude.{slice_set}
-use Rattle.ynl_container_table.specs.Fields.{of_rows}
-use Rattle.ynl_container_table.proofs.Removing.{at_live}
-use Rattle.ynl_container_table.proofs.Rows.{unused_of_rows}
+use Rattle.ynl_tables.specs.containers.Fields.{of_rows}
+use Rattle.ynl_tables.proofs.containers.Removing.{at_live}
+use Rattle.ynl_tables.proofs.containers.Rows.{unused_of_rows}
 use Rattle.ynl_model.specs.Nodes.{rises}
 use Rattle.ynl_slots.specs.Slots.{IsUnused}
 use Rattle.ynl_inventory.specs.declared.partition.Partition.{Partition}

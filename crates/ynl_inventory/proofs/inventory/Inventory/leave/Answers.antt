@@ -1,7 +1,7 @@
 -- A node without containers leaves: nothing hung on it.
 use Rattle.std.proofs.Common.{refl, sym, ap, subst, ◌∙◌}
 use Rattle.ynl_slots.specs.Slots.{without, IsLive}
-use Rattle.ynl_node_table.specs.Nodes.{NodesView}
+use Rattle.ynl_tables.specs.nodes.Nodes.{NodesView}
 use Rattle.ynl_inventory.specs.Changes.{with_node_gone}
 use Rattle.ynl_inventory.specs.Sound.{HasNoContainers}
 use Rattle.ynl_inventory.specs.Parts.{held_of, Held, IsInventory}

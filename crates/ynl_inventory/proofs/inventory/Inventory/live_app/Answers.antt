@@ -2,8 +2,8 @@
 use Rattle.std.proofs.Common.{◌≡◌, Option, None, Some, nat_eq, option_copied, option_map, refl, ap, ◌∙◌, sym}
 use Rattle.std.specs.Borrow.{Bor}
 use Rattle.std.specs.Map.{lookup}
-use Rattle.ynl_app_table.specs.declared.app.AppRow.{AppRow}
-use Rattle.ynl_container_table.proofs.Rows.{lookup-of_rows}
+use Rattle.ynl_tables.specs.declared.apps.app.AppRow.{AppRow}
+use Rattle.ynl_tables.proofs.containers.Rows.{lookup-of_rows}
 use Rattle.ynl_inventory.specs.Parts.{Held, app_row}
 use Rattle.ynl_inventory.proofs.inventory.Inventory.live_app.Goals as goal
 

@@ -8,7 +8,7 @@ use Rattle.ynl_model.specs.Nodes.{Labels, partition_labels}
 use Rattle.std.proofs.lemmas.List.{length-map}
 use Rattle.ynl_resource.specs.Names.{root}
 use Rattle.std.specs.Prelude.{replicate}
-use Rattle.ynl_container_table.specs.Fields.{of_rows}
+use Rattle.ynl_tables.specs.containers.Fields.{of_rows}
 use Rattle.ynl_inventory.specs.declared.inventory.Inventory.TheInside.{Inside}
 use Rattle.ynl_inventory.specs.Opening.{opening_partition, opening_rows, IsOpening}
 use Rattle.ynl_inventory.specs.Sound.{IsFor, IsSound}

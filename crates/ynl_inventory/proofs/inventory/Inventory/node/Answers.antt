@@ -3,7 +3,7 @@ use Rattle.std.proofs.Common.{nat_eq, sym, ap, subst, ◌∙◌}
 use Rattle.std.proofs.Common.{option_map}
 use Rattle.std.specs.Map.{lookup}
 use Rattle.ynl_slots.specs.Slots.{IsLive}
-use Rattle.ynl_container_table.proofs.Rows.{lookup-of_rows}
+use Rattle.ynl_tables.proofs.containers.Rows.{lookup-of_rows}
 use Rattle.ynl_inventory.specs.Parts.{Held, node_row}
 use Rattle.ynl_inventory.proofs.NodeParts.{node-live}
 use Rattle.ynl_inventory.proofs.inventory.Inventory.node.Goals as goal

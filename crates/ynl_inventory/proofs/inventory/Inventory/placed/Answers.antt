@@ -1,7 +1,7 @@
 -- The container under the number is held there.
 use Rattle.std.proofs.Common.{◌≡◌, sym, subst}
 use Rattle.std.specs.Prelude.{IfSome}
-use Rattle.ynl_container_table.specs.declared.container.Container.{Container}
+use Rattle.ynl_tables.specs.declared.containers.container.Container.{Container}
 use Rattle.ynl_inventory.specs.Meaning.{label_at, placed_of}
 use Rattle.ynl_inventory.proofs.inventory.Inventory.placed.Goals as goal
 

@@ -1,7 +1,7 @@
 -- The stamp of a node is set: its containers stay.
 use Rattle.std.proofs.Common.{refl, sym, ap, subst, ◌∙◌}
 use Rattle.ynl_slots.specs.Slots.{IsLive}
-use Rattle.ynl_node_table.specs.Nodes.{NodesView, with_change}
+use Rattle.ynl_tables.specs.nodes.Nodes.{NodesView, with_change}
 use Rattle.ynl_inventory.specs.Changes.{with_stamp}
 use Rattle.ynl_inventory.specs.Parts.{Held, held_of, IsInventory}
 use Rattle.ynl_inventory.proofs.NodeParts.{node-live}

@@ -4,11 +4,11 @@ use Rattle.std.specs.Prelude.{slice_set}
 use Rattle.std.proofs.lemmas.Option.{slice_get_read}
 use Rattle.ynl_resource.specs.declared.names.Name.{Name}
 use Rattle.ynl_slots.specs.Slots.{Numbered, IsUnused}
-use Rattle.ynl_app_table.specs.declared.app.AppRow.{AppRow as AppPart}
-use Rattle.ynl_container_table.specs.Fields.{of_rows}
-use Rattle.ynl_container_table.proofs.Removing.{at_live}
-use Rattle.ynl_container_table.proofs.Rows.{unused_of_rows}
-use Rattle.ynl_submissions.specs.Submissions.{Listing, turn_of}
+use Rattle.ynl_tables.specs.declared.apps.app.AppRow.{AppRow as AppPart}
+use Rattle.ynl_tables.specs.containers.Fields.{of_rows}
+use Rattle.ynl_tables.proofs.containers.Removing.{at_live}
+use Rattle.ynl_tables.proofs.containers.Rows.{unused_of_rows}
+use Rattle.ynl_tables.specs.submissions.Submissions.{Listing, turn_of}
 use Rattle.ynl_inventory.specs.declared.submission.NewSubmission.{NewSubmission}
 use Rattle.ynl_inventory.specs.declared.inventory.Inventory.TheInside.{Inside}
 use Rattle.ynl_inventory.specs.Changes.{with_submitted}

@@ -1,7 +1,7 @@
 -- A container's names are those of the rows.
 use Rattle.std.proofs.Common.{◌≡◌, subst}
 use Rattle.std.specs.Prelude.{IfSome}
-use Rattle.ynl_container_table.specs.declared.container.Container.{Container}
+use Rattle.ynl_tables.specs.declared.containers.container.Container.{Container}
 use Rattle.ynl_inventory.specs.Meaning.{label_at, placed_of}
 use Rattle.ynl_inventory.specs.Parts.{app_row, node_row}
 use Rattle.ynl_inventory.proofs.PlacedRead.{has-partition, node-there, app-there, asked-there, tenant-below, tenant-there, placed-is}

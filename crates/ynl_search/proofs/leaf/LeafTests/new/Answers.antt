@@ -5,7 +5,7 @@ use Rattle.ynl_resource.specs.Ranges.{whole}
 use Rattle.ynl_model.specs.declared.uses.Use.{Use}
 use Rattle.ynl_model.specs.Cluster.{counted, is_master}
 use Rattle.ynl_model.specs.Limits.{master_limit}
-use Rattle.ynl_limits.proofs.UserLimit.{limit_is}
+use Rattle.ynl_search.proofs.limits.UserLimit.{limit_is}
 use Rattle.ynl_search.proofs.Tests.{counted-some}
 use Rattle.ynl_search.proofs.leaf.LeafTests.new.Goals as goal
 

@@ -1,0 +1,149 @@
+-- What the calls find: the lanes against the rows after a container was placed, or went.
+use Rattle.std.proofs.Common.{◌≡◌, ℕ, Bool, true, false, not, ◌&&◌, ◌||◌, List, [], slice_get, Option, Some, None, find, is_some, nat_eq, ◌==◌, true≢false, refl, sym, ap, subst, ◌∙◌, inl, inr}
+use mathlib.Core.Logic.{◌⊎◌}
+use Rattle.std.specs.Map.{lookup}
+use Rattle.std.specs.Option.{option_and_then, option_map_or}
+use Rattle.std.proofs.lemmas.Bool.{and_from, and_parts, eqb-true, or_left, or_right}
+use Rattle.std.proofs.lemmas.Option.{none-some, slice_get_within}
+use Rattle.ynl_resource.specs.Amounts.{plus}
+use Rattle.ynl_resource.specs.declared.amounts.Resource.{Resource}
+use Rattle.ynl_laws.proofs.Lists.{Each-find}
+use Rattle.ynl_slots.proofs.Entries.{itself}
+use Rattle.ynl_slots.proofs.Lists.{all_from}
+use Rattle.ynl_tables.specs.apps.Asks.{is_ask_of}
+use Rattle.ynl_tables.specs.declared.apps.asks.Ask.{Ask}
+use Rattle.ynl_slots.specs.Slots.{IsLive, without}
+use Rattle.ynl_tables.specs.apps.Apps.{with_change}
+use Rattle.ynl_tables.specs.declared.containers.container.Container.{Container}
+use Rattle.ynl_tables.specs.declared.containers.container.Role.{Role}
+use Rattle.ynl_tables.specs.declared.containers.container.Role.TheVariants.{Master, Ask as Asked}
+use Rattle.ynl_lanes.specs.lane.Seats.{Seats}
+use Rattle.ynl_inventory.specs.Rows.{Rows, PartitionRow, NodeRow, AppRow}
+use Rattle.ynl_inventory.specs.Apps.{is_guest_role}
+use Rattle.ynl_inventory.specs.Changes.{next_clock_at, next_container, partition_of_node, with_dropped, with_ended, with_placed, with_taken}
+use Rattle.ynl_inventory.specs.Parts.{containers_of}
+use Rattle.ynl_inventory.specs.Sound.{CanTake, HasPartition, IsAskedOn, IsSound}
+use Rattle.ynl_inventory.proofs.Lookups.{live-found, read-changed}
+use Rattle.ynl_cluster.specs.seating.Seating.{is_shared, shares}
+use Rattle.ynl_cluster.specs.seating.Steps.{AreSeatedBut, AreUsedBut, IsEnded, IsPlaced}
+use Rattle.ynl_cluster.proofs.seating.Carrying.{ChangesContainers}
+use Rattle.ynl_cluster.proofs.seating.Coming.{guest-came, guest-went, home-came, home-went}
+use Rattle.ynl_cluster.proofs.seating.Entered.{home-shared}
+use Rattle.ynl_cluster.proofs.seating.RowChanges.{dropped-changes, ended-changes, itself-keeps, placed-changes, same-rows, taken-keeps}
+
+-- where a container of an application may stand: its master at home; and what was asked for where the application shares, there or as a guest of DEFAULT
+abbrev MayStand : ℕ → AppRow → Role → Type 0
+MayStand p row Master = p ≡ row.home
+MayStand p row (Asked asked priority) = (shares asked row ≡ true) × ((p ≡ asked) ⊎ (asked ≡ 0))
+
+-- what is placed may stand there
+may-stand : (v : Rows) → IsSound v → (app : ℕ) (row : AppRow) → lookup (nat_eq app) v.apps ≡ Some row → (p : ℕ) (guests : Bool) (r : Role) → CanTake v app p guests row r → MayStand p row r
+may-stand v sound app row found p guests Master can = sym can.0
+may-stand v sound app row found p guests (Asked asked priority) can = (go (find (is_ask_of asked priority) row.asks) refl can.0, there can.1)
+  where
+    there : (asked ≡ p) ⊎ ((asked ≡ 0) × (guests ≡ true)) → (p ≡ asked) ⊎ (asked ≡ 0)
+    there (inl is) = inl (sym is)
+    there (inr is) = inr is.0
+
+    on : (ask : Ask) → IsAskedOn row.home ask.partition → shares ask.partition row ≡ true
+    on ask (inl is) = or_right (nat_eq ask.partition 0) (nat_eq row.home ask.partition) (ap (nat_eq row.home) is ∙ itself row.home)
+    on ask (inr is) = or_left (nat_eq ask.partition 0) (nat_eq row.home ask.partition) (ap (λ m. nat_eq m 0) is)
+
+    go : (o : Option Ask) → find (is_ask_of asked priority) row.asks ≡ o → is_some o ≡ true → shares asked row ≡ true
+    go None is some = absurd (true≢false (sym some))
+    go (Some ask) is some =
+        let its = Each-find (λ ask. IsAskedOn row.home ask.partition) (is_ask_of asked priority) row.asks
+        (all_from (λ ask. IsAskedOn row.home ask.partition) row.asks (sound.apps app row found).asked) ask is in
+        let same : ask.partition ≡ asked = eqb-true ask.partition asked (and_parts (ask.partition == asked) (ask.priority == priority) its.1).0 in
+        ap (λ m. shares m row) (sym same) ∙ on ask its.0
+
+module _ (node app : ℕ) (r : Role) (size : Resource) (v : Rows) (lanes : List (List Seats)) (start : IsPlaced node app r size v lanes) where
+  abbrev before : Rows
+  before = start.before
+
+  abbrev place : ℕ
+  place = partition_of_node before.nodes node
+
+  abbrev after : Rows
+  after = with_placed start.number node app r size before
+
+  has : HasPartition before place
+  has =
+      let stands : start.can.node_row.partition ≡ place = sym (ap (λ o. option_map_or (λ (row : NodeRow). row.partition) o 0) start.can.node_found) in
+      subst (HasPartition before) stands (slice_get_within before.partitions start.can.node_row.partition start.can.partition start.can.partition_found)
+
+  stood : MayStand place start.can.app_row r
+  stood =
+      subst (λ m. MayStand m start.can.app_row r) (sym (ap (λ o. option_map_or (λ (row : NodeRow). row.partition) o 0) start.can.node_found))
+      (may-stand before start.sound app start.can.app_row start.can.app_found start.can.node_row.partition start.can.partition.guests r start.can.role)
+
+  -- its application shares the partition, unless it is a guest there
+  shared : is_shared before.apps place (start.number, next_container before node app r size) ≡ true
+  shared =
+      ap (λ o. is_guest_role place r || option_map_or (shares place) o false) start.can.app_found ∙ by r stood
+    where
+      by : (role : Role) → MayStand place start.can.app_row role → (is_guest_role place role || shares place start.can.app_row) ≡ true
+      by Master home = ap (λ m. shares m start.can.app_row) home ∙ home-shared start.can.app_row
+      by (Asked asked priority) (own, inl same) = or_right (is_guest_role place (Asked asked priority)) (shares place start.can.app_row) (ap (λ m. shares m start.can.app_row) same ∙ own)
+      by (Asked asked priority) (own, inr default) = go (nat_eq place 0)
+        where
+          go : (b : Bool) → ((nat_eq asked 0 && not b) || (b || nat_eq start.can.app_row.home place)) ≡ true
+          go true = or_right (nat_eq asked 0 && false) true refl
+          go false = or_left (nat_eq asked 0 && true) (nat_eq start.can.app_row.home place) (and_from (nat_eq asked 0) true (ap (λ m. nat_eq m 0) default) refl)
+
+  -- the node is still in its partition
+  place-of : partition_of_node v.nodes node ≡ place
+  place-of =
+      ap (λ (w : Rows). partition_of_node w.nodes node) start.rows
+      ∙ read-changed (λ (row : NodeRow). row.partition) 0 node node (λ row. record row { stamp = next_clock_at before.partitions place }) (λ row. refl) before.nodes
+
+  module _ (p : ℕ) (at : p ≡ partition_of_node v.nodes node) where
+    is : place ≡ p
+    is = sym (at ∙ place-of)
+
+    pub placed-guest : is_guest_role p r ≡ true → AreSeatedBut app v lanes
+    placed-guest guest =
+        subst (λ w. AreSeatedBut app w lanes) (sym start.rows)
+        (guest-came before after (next_container before node app r size) (with_taken r) (taken-keeps r) refl start.can.app_row start.can.app_found place start.number lanes start.seated
+        (placed-changes before start.number node app r size has) shared (ap (λ m. is_guest_role m r) is ∙ guest))
+
+    pub placed-home : is_guest_role p r ≡ false → AreUsedBut app p (λ less more. more ≡ plus less size) v lanes
+    placed-home home =
+        subst (λ w. AreUsedBut app p (λ less more. more ≡ plus less size) w lanes) (sym start.rows)
+        (subst (λ m. AreUsedBut app m (λ less more. more ≡ plus less size) after lanes) is
+        (home-came before after (next_container before node app r size) (with_taken r) (taken-keeps r) refl start.can.app_row start.can.app_found place start.number lanes start.seated
+        (placed-changes before start.number node app r size has) shared (ap (λ m. is_guest_role m r) is ∙ home)))
+
+module _ (p : ℕ) (c : Container) (v : Rows) (lanes : List (List Seats)) (live : IsLive c.app v.apps) (start : IsEnded p c v lanes) where
+  -- the container stood there
+  held : (lookup (nat_eq start.number) (containers_of start.before p) ≡ Some c) × HasPartition start.before p
+  held = go (slice_get start.before.partitions p) refl start.held
+    where
+      go : (o : Option PartitionRow) → slice_get start.before.partitions p ≡ o → option_and_then (λ (row : PartitionRow). lookup (nat_eq start.number) row.containers) o ≡ Some c
+          → (lookup (nat_eq start.number) (option_map_or (λ (row : PartitionRow). row.containers) o []) ≡ Some c) × HasPartition start.before p
+      go None none at = absurd (none-some c at)
+      go (Some row) there at = (at, slice_get_within start.before.partitions p row there)
+
+  -- it goes from the containers there, and no application changes
+  changes : ChangesContainers p (without start.number) start.before v × (v.apps ≡ start.before.apps)
+  changes = go start.rows
+    where
+      go : ((v ≡ with_ended p start.number c.node start.before) ⊎ (v ≡ with_dropped p start.number start.before)) → ChangesContainers p (without start.number) start.before v × (v.apps ≡ start.before.apps)
+      go (inl is) =
+          (subst (ChangesContainers p (without start.number) start.before) (sym is) (ended-changes start.before p start.number c.node held.1), ap (λ (w : Rows). w.apps) is)
+      go (inr is) =
+          (subst (ChangesContainers p (without start.number) start.before) (sym is) (dropped-changes start.before p start.number held.1), ap (λ (w : Rows). w.apps) is)
+
+  found : (row : AppRow) × (lookup (nat_eq c.app) start.before.apps ≡ Some row)
+  found = let own = live-found c.app v.apps live in (own.0, ap (lookup (nat_eq c.app)) (sym changes.1) ∙ own.1)
+
+  apps-are : v.apps ≡ with_change c.app (λ row. row) start.before.apps
+  apps-are = changes.1 ∙ sym (same-rows c.app start.before.apps)
+
+  pub ended-guest : is_guest_role p c.role ≡ true → AreSeatedBut c.app v lanes
+  ended-guest guest =
+      guest-went start.before v c (λ row. row) itself-keeps apps-are found.0 found.1 p start.number lanes start.seated changes.0 start.numbers held.0 guest
+
+  pub ended-home : is_guest_role p c.role ≡ false → AreUsedBut c.app p (λ more less. more ≡ plus less c.size) v lanes
+  ended-home home =
+      home-went start.before v c (λ row. row) itself-keeps apps-are found.0 found.1 p start.number lanes start.seated changes.0 start.numbers held.0 home

@@ -1,9 +1,0 @@
-//! Values in places, and the first place from some place on whose value passes a test.
-#![tactic(auto)]
-
-pub use firsts::Firsts;
-pub use least::{Least, Test};
-
-mod firsts;
-mod least;
-mod tree;

@@ -1,6 +1,0 @@
-use Rattle.std.proofs.Common.{◌≡◌}
-use Rattle.ynl_lane.specs.Apps.{apps_before}
-use Rattle.ynl_lane.proofs.rows.Rows.apps.Given as goal
-
-abbrev pub invariant-loop-slot : goal.invariant-loop-slot
-invariant-loop-slot l = l.apps.items ≡ apps_before l.slot l.self.seats.entries

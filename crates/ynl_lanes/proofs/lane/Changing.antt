@@ -1,0 +1,215 @@
+-- What is kept of the rows where some change.
+use Rattle.std.proofs.Common.{◌≡◌, ◌≢◌, ℕ, true, ◌&&◌, arith, ⊎_elim, List, [], get_or, set, length, Some, option_map, nat_eq, refl, sym, ap, subst, ◌∙◌, length-set, get_or-set_same, get_or-set_other}
+use Rattle.std.specs.Map.{lookup}
+use Rattle.std.specs.Option.{option_map_or}
+use Rattle.std.proofs.lemmas.Bool.{and_parts, cases_eq}
+use Rattle.std.proofs.lemmas.Bool.Decides.{nat_tests}
+use Rattle.std.proofs.lemmas.Option.{same_Some}
+use Rattle.ynl_resource.specs.declared.amounts.Resource.{Resource}
+use Rattle.ynl_resource.specs.Amounts.{nothing}
+use Rattle.ynl_slots.specs.Slots.{IsOnly, HasDistinctNumbers, with_row}
+use Rattle.ynl_slots.proofs.Lookups.{only_from_distinct}
+use Rattle.ynl_lanes.specs.lows.Lows.{no_size}
+use Rattle.ynl_lanes.specs.declared.lane.kinds.Kind.{Kind}
+use Rattle.ynl_lanes.specs.declared.lane.kinds.Kind.TheVariants.{Master, Ask}
+use Rattle.ynl_lanes.specs.declared.lane.kinds.Both.{Both}
+use Rattle.ynl_lanes.specs.declared.lane.levels.Level.{Level}
+use Rattle.ynl_lanes.specs.declared.lane.levels.Level.TheVariants.{Lane, User}
+use Rattle.ynl_lanes.specs.declared.lane.rows.SeatRow.{SeatRow}
+use Rattle.ynl_lanes.specs.declared.lane.rows.UserRow.{UserRow}
+use Rattle.ynl_lanes.specs.declared.lane.rows.Rows.{Rows}
+use Rattle.ynl_lanes.specs.lane.Changes.{SetsWaits, SetsValues, SetsUsed, shown, ShowSame, ShowsOther}
+use Rattle.ynl_lanes.specs.lane.Kinds.{of_kind}
+use Rattle.ynl_lanes.specs.lane.Levels.{slot_in, IsIn, IsBefore, AreIn}
+use Rattle.ynl_lanes.specs.lane.Lines.{values_of, IsLine}
+use Rattle.ynl_lanes.specs.lane.Found.{EachSeat}
+use Rattle.ynl_lanes.specs.lane.Rows.{of_user, own_tickets, own_values, used_by, tickets_in, HasWaits, EachUser, IsUse, IsUserRow, IsSeated, IsStood, AreStoodBut, IsKept}
+use Rattle.ynl_lanes.specs.lane.Waiting.{IsWaiting}
+use Rattle.ynl_lanes.proofs.lane.Lists.{found_written, found_other, each_written, all_written, ordered_written, distinct_with_row, with_row-same}
+use Rattle.ynl_lanes.proofs.lane.Found.{one_at}
+use Rattle.ynl_lanes.proofs.lane.Searching.{own_slot-in, own_line, own_value}
+use Rattle.ynl_lanes.proofs.lane.Stood.{line_changed}
+use Rattle.ynl_lanes.specs.lows.Users.{no_user, IsBelowRequest}
+
+-- a seat that stays in its slots
+pub in_written : (level : Level) (tickets : List ℕ) (ticket : ℕ) (row next : SeatRow) (seats : List (ℕ × SeatRow)) → AreIn level tickets seats → IsOnly ticket row seats → slot_in level next ≡ slot_in level row → AreIn level tickets (with_row ticket next seats)
+in_written level tickets ticket row next seats h only same = record {
+  in_line = all_written (IsIn level tickets) (IsIn level tickets) ticket next row seats only
+      (λ e is row_is key slot at. is slot (ap (slot_in level) row_is ∙ sym same ∙ at) ∙ ap Some key) (λ e is. is) h.in_line;
+  ordered = ordered_written (IsBefore level) ticket next row seats only
+      (λ e before m n at there. before m n (sym same ∙ at) there) (λ e before m n at there. before m n at (sym same ∙ there)) h.ordered;
+}
+
+-- something of a user whose row is another one, and of the other users
+pub of_written : {X : Type 0} (f : UserRow → X) (none : X) (user : ℕ) (row next : UserRow) (users : List (ℕ × UserRow)) → lookup (nat_eq user) users ≡ Some row → of_user f none user (with_row user next users) ≡ f next
+of_written f none user row next users found = ap (λ o. option_map_or f o none) (found_written user next row users found)
+
+pub of_other : {X : Type 0} (f : UserRow → X) (none : X) (other user : ℕ) (next : UserRow) (users : List (ℕ × UserRow)) → other ≢ user → of_user f none other (with_row user next users) ≡ of_user f none other users
+of_other f none other user next users apart = ap (λ o. option_map_or f o none) (found_other other user next users apart)
+
+-- the line of each user keeps its tickets
+pub same_tickets : (user : ℕ) (row next : UserRow) (users : List (ℕ × UserRow)) → lookup (nat_eq user) users ≡ Some row → next.line.tickets.items ≡ row.line.tickets.items → (other : ℕ) → own_tickets other (with_row user next users) ≡ own_tickets other users
+same_tickets user row next users found tickets other = ⊎_elim
+    (λ same. ap (λ k. own_tickets k (with_row user next users)) same ∙ of_written (λ (r : UserRow). r.line.tickets.items) [] user row next users found ∙ tickets ∙ sym (ap (λ o. option_map_or (λ (r : UserRow). r.line.tickets.items) o []) found) ∙ ap (λ k. own_tickets k users) (sym same))
+    (λ apart. of_other (λ (r : UserRow). r.line.tickets.items) [] other user next users apart)
+    (cases_eq other user)
+
+-- a user's row with as long a line, and no more used than may be
+pub users_written : (user : ℕ) (row next : UserRow) (users : List (ℕ × UserRow)) → lookup (nat_eq user) users ≡ Some row → IsUserRow user next → EachUser IsUserRow users → EachUser IsUserRow (with_row user next users)
+users_written user row next users found here h = each_written IsUserRow IsUserRow user next row users found here (λ n x apart there is. is) h
+
+pub shown_written : (user : ℕ) (row next : UserRow) (users : List (ℕ × UserRow)) → lookup (nat_eq user) users ≡ Some row → shown next ≡ shown row → ShowSame users (with_row user next users)
+shown_written user row next users found same other = ⊎_elim
+    (λ is. ap (λ k. option_map shown (lookup (nat_eq k) (with_row user next users))) is ∙ ap (option_map shown) (found_written user next row users found) ∙ ap Some same ∙ sym (ap (option_map shown) found) ∙ ap (λ k. option_map shown (lookup (nat_eq k) users)) (sym is))
+    (λ apart. ap (option_map shown) (found_other other user next users apart))
+    (cases_eq other user)
+
+-- other things wait at a seat
+module _ (rows new : Rows) (kept : IsKept rows) (ticket : ℕ) (waits : Both Resource) (row : SeatRow) (found : lookup (nat_eq ticket) rows.seats.entries ≡ Some row) (seats : new.seats.entries ≡ with_row ticket (record row { waits = waits }) rows.seats.entries)
+    (values : SetsValues row.user row.own_slot waits rows.users.entries new.users.entries) (line : new.line ≡ rows.line) where
+  next_values : (kind : Kind) → values_of kind values.next.line ≡ set (values_of kind values.row.line) row.own_slot (of_kind kind waits)
+  next_values Master = values.masters
+  next_values Ask = values.asks
+
+  own_new : (kind : Kind) → own_values kind row.user new.users.entries ≡ set (values_of kind values.row.line) row.own_slot (of_kind kind waits)
+  own_new kind = ap (own_values kind row.user) values.entries ∙ of_written (λ (r : UserRow). values_of kind r.line) [] row.user values.row values.next rows.users.entries values.found ∙ next_values kind
+
+  own_old : (kind : Kind) → own_values kind row.user rows.users.entries ≡ values_of kind values.row.line
+  own_old kind = ap (λ o. option_map_or (λ (r : UserRow). values_of kind r.line) o []) values.found
+
+  waits_here : HasWaits new.users.entries ticket (record row { waits = waits })
+  waits_here kind =
+      let inside = (own_value rows kept.seated kind row.user values.row values.found ticket row found refl).0 in
+      ap (λ vs. get_or vs row.own_slot no_size) (own_new kind) ∙ get_or-set_same (values_of kind values.row.line) row.own_slot (of_kind kind waits) no_size inside
+
+  waits_there : (n : ℕ) (x : SeatRow) → n ≢ ticket → lookup (nat_eq n) rows.seats.entries ≡ Some x → HasWaits rows.users.entries n x → HasWaits new.users.entries n x
+  waits_there n x apart there h kind = ⊎_elim own other (cases_eq x.user row.user)
+    where
+      own : x.user ≡ row.user → get_or (own_values kind x.user new.users.entries) x.own_slot no_size ≡ of_kind kind x.waits
+      own same =
+          let away : x.own_slot ≢ row.own_slot = λ at. (
+          let line = own_line rows kept.seated row.user values.row values.found in
+          apart (one_at (User row.user) values.row.line.tickets.items rows.seats.entries n ticket row.own_slot x row line.1 there (own_slot-in row.user x same ∙ ap Some at) found (own_slot-in row.user row refl)).0) in
+          ap (λ k. get_or (own_values kind k new.users.entries) x.own_slot no_size) same ∙ ap (λ vs. get_or vs x.own_slot no_size) (own_new kind)
+          ∙ get_or-set_other (values_of kind values.row.line) row.own_slot x.own_slot (of_kind kind waits) no_size away
+          ∙ ap (λ vs. get_or vs x.own_slot no_size) (sym (own_old kind)) ∙ ap (λ k. get_or (own_values kind k rows.users.entries) x.own_slot no_size) (sym same) ∙ h kind
+
+      other : x.user ≢ row.user → get_or (own_values kind x.user new.users.entries) x.own_slot no_size ≡ of_kind kind x.waits
+      other away = ap (λ vs. get_or vs x.own_slot no_size) (ap (own_values kind x.user) values.entries ∙ of_other (λ (r : UserRow). values_of kind r.line) [] x.user row.user values.next rows.users.entries away) ∙ h kind
+
+  next_row : IsUserRow row.user values.next
+  next_row =
+      let was = kept.seated.users row.user values.row values.found in
+      record {
+        line = line_changed values.row.line values.next.line was.line values.tickets (λ k. ap length (next_values k) ∙ length-set (values_of k values.row.line) row.own_slot (of_kind k waits));
+        small = subst IsUse (sym values.used) was.small;
+      }
+
+  pub seated_entered : IsSeated new
+  seated_entered = record {
+    distinct = subst HasDistinctNumbers (sym seats) (distinct_with_row ticket (record row { waits = waits }) rows.seats.entries kept.seated.distinct);
+    lines = lines;
+    waits = subst (λ es. EachSeat (HasWaits new.users.entries) es) (sym seats) (each_written (HasWaits rows.users.entries) (HasWaits new.users.entries) ticket (record row { waits = waits }) row rows.seats.entries found waits_here waits_there kept.seated.waits);
+    line = subst IsLine (sym line) kept.seated.line;
+    users = subst (EachUser IsUserRow) (sym values.entries) (users_written row.user values.row values.next rows.users.entries values.found next_row kept.seated.users);
+  }
+    where
+      only : IsOnly ticket row rows.seats.entries
+      only = only_from_distinct ticket row rows.seats.entries kept.seated.distinct found
+
+      lines : (level : Level) → AreIn level (tickets_in level new) new.seats.entries
+      lines Lane = subst (λ ts. AreIn Lane ts new.seats.entries) (sym (ap (λ l. l.tickets.items) line)) (subst (AreIn Lane rows.line.tickets.items) (sym seats) (in_written Lane rows.line.tickets.items ticket row (record row { waits = waits }) rows.seats.entries (kept.seated.lines Lane) only refl))
+      lines (User user) = subst (λ ts. AreIn (User user) ts new.seats.entries) (sym (ap (own_tickets user) values.entries ∙ same_tickets row.user values.row values.next rows.users.entries values.found values.tickets user))
+          (subst (AreIn (User user) (own_tickets user rows.users.entries)) (sym seats) (in_written (User user) (own_tickets user rows.users.entries) ticket row (record row { waits = waits }) rows.seats.entries (kept.seated.lines (User user)) only refl))
+
+  pub but_entered : (kind : Kind) → AreStoodBut row.user kind new
+  but_entered kind =
+      subst (λ es. EachSeat (λ _ e. e.user ≢ row.user → IsWaiting (of_kind kind e.waits) → IsStood kind es new.users.entries (values_of kind new.line) e) es) (sym seats)
+      (subst (λ l. EachSeat (λ _ e. e.user ≢ row.user → IsWaiting (of_kind kind e.waits) → IsStood kind (with_row ticket (record row { waits = waits }) rows.seats.entries) new.users.entries (values_of kind l) e) (with_row ticket (record row { waits = waits }) rows.seats.entries)) (sym line)
+      (each_written (λ _ e. IsWaiting (of_kind kind e.waits) → IsStood kind rows.seats.entries rows.users.entries (values_of kind rows.line) e)
+      (λ _ e. e.user ≢ row.user → IsWaiting (of_kind kind e.waits) → IsStood kind (with_row ticket (record row { waits = waits }) rows.seats.entries) new.users.entries (values_of kind rows.line) e)
+      ticket (record row { waits = waits }) row rows.seats.entries found (λ away waiting. absurd (away refl)) (λ n e apart there h away waiting. others e away (h waiting)) (kept.stood kind)))
+    where
+      others : (e : SeatRow) → e.user ≢ row.user → IsStood kind rows.seats.entries rows.users.entries (values_of kind rows.line) e → IsStood kind (with_row ticket (record row { waits = waits }) rows.seats.entries) new.users.entries (values_of kind rows.line) e
+      others e away h =
+          let apart : h.ticket ≢ ticket = λ same. (
+          let is : h.stand ≡ row = same_Some _ _ (sym h.found ∙ ap (λ k. lookup (nat_eq k) rows.seats.entries) same ∙ found) in
+          away (sym h.user ∙ ap (λ (x : SeatRow). x.user) is)) in
+          record {
+            ticket = h.ticket;
+            stand = h.stand;
+            found = found_other h.ticket ticket (record row { waits = waits }) rows.seats.entries apart ∙ h.found;
+            user = h.user;
+            waits = h.waits;
+            front = h.front;
+            low = subst (λ u. IsBelowRequest (get_or (values_of kind rows.line) h.stand.slot no_user) u (of_kind kind e.waits)) (sym (ap (used_by e.user) values.entries ∙ of_other (λ (r : UserRow). r.used) nothing e.user row.user values.next rows.users.entries away)) h.low;
+          }
+
+  pub shown_entered : ShowSame rows.users.entries new.users.entries
+  shown_entered other = ap (λ us. option_map shown (lookup (nat_eq other) us)) values.entries ∙ shown_written row.user values.row values.next rows.users.entries values.found (λ i. record { user = values.user_is i; used = values.used i; live = values.live i }) other
+
+-- a user uses another amount
+module _ (rows new : Rows) (kept : IsKept rows) (user : ℕ) (used : Resource) (small : IsUse used) (seats : new.seats ≡ rows.seats) (sets : SetsUsed user used rows.users.entries new.users.entries) (line : new.line ≡ rows.line) where
+  same_values : (kind : Kind) (other : ℕ) → own_values kind other new.users.entries ≡ own_values kind other rows.users.entries
+  same_values kind other = ap (own_values kind other) sets.entries ∙ ⊎_elim
+      (λ same. ap (λ k. own_values kind k (with_row user (record sets.row { used = used }) rows.users.entries)) same ∙ of_written (λ (r : UserRow). values_of kind r.line) [] user sets.row (record sets.row { used = used }) rows.users.entries sets.found ∙ sym (ap (λ o. option_map_or (λ (r : UserRow). values_of kind r.line) o []) sets.found) ∙ ap (λ k. own_values kind k rows.users.entries) (sym same))
+      (λ apart. of_other (λ (r : UserRow). values_of kind r.line) [] other user (record sets.row { used = used }) rows.users.entries apart)
+      (cases_eq other user)
+
+  pub seated_used : IsSeated new
+  seated_used = record {
+    distinct = subst (λ s. HasDistinctNumbers s.entries) (sym seats) kept.seated.distinct;
+    lines = lines;
+    waits = subst (λ s. EachSeat (HasWaits new.users.entries) s.entries) (sym seats) (λ n e there kind. ap (λ vs. get_or vs e.own_slot no_size) (same_values kind e.user) ∙ kept.seated.waits n e there kind);
+    line = subst IsLine (sym line) kept.seated.line;
+    users = subst (EachUser IsUserRow) (sym sets.entries) (users_written user sets.row (record sets.row { used = used }) rows.users.entries sets.found (record { line = (kept.seated.users user sets.row sets.found).line; small = small }) kept.seated.users);
+  }
+    where
+      lines : (level : Level) → AreIn level (tickets_in level new) new.seats.entries
+      lines Lane = subst (λ l. AreIn Lane l.tickets.items new.seats.entries) (sym line) (subst (λ s. AreIn Lane rows.line.tickets.items s.entries) (sym seats) (kept.seated.lines Lane))
+      lines (User other) = subst (λ ts. AreIn (User other) ts new.seats.entries) (sym (ap (own_tickets other) sets.entries ∙ same_tickets user sets.row (record sets.row { used = used }) rows.users.entries sets.found refl other))
+          (subst (λ s. AreIn (User other) (own_tickets other rows.users.entries) s.entries) (sym seats) (kept.seated.lines (User other)))
+
+  pub but_used : (kind : Kind) → AreStoodBut user kind new
+  but_used kind =
+      subst (λ s. EachSeat (λ _ e. e.user ≢ user → IsWaiting (of_kind kind e.waits) → IsStood kind s.entries new.users.entries (values_of kind new.line) e) s.entries) (sym seats)
+      (subst (λ l. EachSeat (λ _ e. e.user ≢ user → IsWaiting (of_kind kind e.waits) → IsStood kind rows.seats.entries new.users.entries (values_of kind l) e) rows.seats.entries) (sym line)
+      (λ n e there away waiting. (let h = kept.stood kind n e there waiting in record {
+        ticket = h.ticket;
+        stand = h.stand;
+        found = h.found;
+        user = h.user;
+        waits = h.waits;
+        front = h.front;
+        low = subst (λ u. IsBelowRequest (get_or (values_of kind rows.line) h.stand.slot no_user) u (of_kind kind e.waits)) (sym (ap (used_by e.user) sets.entries ∙ of_other (λ (r : UserRow). r.used) nothing e.user user (record sets.row { used = used }) rows.users.entries away)) h.low;
+      })))
+
+  pub shown_used : ShowsOther user (λ s. record s { used = used }) rows.users.entries new.users.entries
+  shown_used = record {
+    own = ap (λ us. option_map shown (lookup (nat_eq user) us)) sets.entries ∙ ap (option_map shown) (found_written user (record sets.row { used = used }) sets.row rows.users.entries sets.found) ∙ sym (ap (option_map (λ row. record (shown row) { used = used })) sets.found);
+    others = λ other apart. ap (λ us. option_map shown (lookup (nat_eq other) us)) sets.entries ∙ ap (option_map shown) (found_other other user (record sets.row { used = used }) rows.users.entries apart);
+  }
+
+-- ---- what waited already
+
+both-same : (a b : Both Resource) → ((nat_eq a.master.memory b.master.memory && nat_eq a.master.vcores b.master.vcores) ≡ true) → ((nat_eq a.ask.memory b.ask.memory && nat_eq a.ask.vcores b.ask.vcores) ≡ true) → a ≡ b
+both-same a b master ask = λ i. record { master = amount-same a.master b.master master i; ask = amount-same a.ask b.ask ask i }
+  where
+    amount-same : (x y : Resource) → (nat_eq x.memory y.memory && nat_eq x.vcores y.vcores) ≡ true → x ≡ y
+    amount-same x y h =
+        let parts = and_parts (nat_eq x.memory y.memory) (nat_eq x.vcores y.vcores) h in
+        let memory = parts.0 in
+        let vcores = parts.1 in
+        let m : x.memory ≡ y.memory = grind (arith, nat_tests) in
+        let v : x.vcores ≡ y.vcores = grind (arith, nat_tests) in
+        λ i. record { memory = m i; vcores = v i }
+
+-- where the same is entered that waits at a seat, the seats are as before
+pub waits-same : (ticket : ℕ) (row : SeatRow) (waits : Both Resource) (es : List (ℕ × SeatRow)) → HasDistinctNumbers es → lookup (nat_eq ticket) es ≡ Some row
+    → ((nat_eq row.waits.master.memory waits.master.memory && nat_eq row.waits.master.vcores waits.master.vcores) ≡ true)
+    → ((nat_eq row.waits.ask.memory waits.ask.memory && nat_eq row.waits.ask.vcores waits.ask.vcores) ≡ true) → SetsWaits ticket waits es es
+waits-same ticket row waits es distinct found master ask = record {
+  row = row;
+  found = found;
+  entries = sym (ap (λ w. with_row ticket (record row { waits = w }) es) (sym (both-same row.waits waits master ask)) ∙ with_row-same ticket row es (only_from_distinct ticket row es distinct found));
+}

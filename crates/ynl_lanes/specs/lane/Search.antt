@@ -1,0 +1,48 @@
+-- What a search of the rows finds.
+use Rattle.std.specs.Prelude.{◌≡◌, ℕ, ◌<◌, ◌≤◌, List, Option, Some, IsSome, nat_eq}
+use Rattle.std.specs.Map.{lookup}
+use Rattle.ynl_resource.specs.declared.amounts.Resource.{Resource}
+use Rattle.ynl_lanes.specs.declared.lows.within.WithinLimit.{WithinLimit}
+use Rattle.ynl_lanes.specs.lows.Tests.{MayHave}
+use Rattle.ynl_lanes.specs.declared.lane.kinds.Kind.{Kind}
+use Rattle.ynl_lanes.specs.declared.lane.rows.SeatRow.{SeatRow}
+use Rattle.ynl_lanes.specs.declared.lane.rows.UserRow.{UserRow}
+use Rattle.ynl_lanes.specs.declared.lane.search.Found.{Found}
+use Rattle.ynl_lanes.specs.lane.Kinds.{of_kind}
+use Rattle.ynl_lanes.specs.lane.Found.{EachSeat}
+use Rattle.ynl_lanes.specs.lane.Rows.{used_by}
+use Rattle.ynl_lanes.specs.lane.Waiting.{IsWaiting}
+
+-- each of some seats whose application is given something stands in this slot or behind it
+abbrev pub NoneBefore : {F : Type 0} → (SeatRow → Type 0) → (ℕ → Option F) → List (ℕ × SeatRow) → ℕ → Type 0
+NoneBefore holds gives seats slot = EachSeat (λ _ row. holds row → IsSome (gives row.app) → slot ≤ row.slot) seats
+
+-- the first of some seats whose application is given something, which stands before a slot
+pub record IsFirstGiven {F : Type 0} (holds : SeatRow → Type 0) (gives : ℕ → Option F) (seats : List (ℕ × SeatRow)) (limit : ℕ) (found : Found F) : Type 0 where
+  pub row : SeatRow
+  pub there : lookup (nat_eq found.ticket) seats ≡ Some row
+  pub at : row.slot ≡ found.slot
+  pub before : found.slot < limit
+  pub here : holds row
+  pub given : gives row.app ≡ Some found.given
+  pub first : NoneBefore holds gives seats found.slot
+
+-- the seat is of this user, and what waits there passes a test
+pub record IsOwn (user : ℕ) (kind : Kind) (passes : Resource → Type 0) (row : SeatRow) : Type 0 where
+  pub own : row.user ≡ user
+  pub fits : passes (of_kind kind row.waits)
+
+-- something waits at the seat that fits, and keeps the user within the limit
+pub record IsWithin (kind : Kind) (test : WithinLimit) (users : List (ℕ × UserRow)) (row : SeatRow) : Type 0 where
+  pub waiting : IsWaiting (of_kind kind row.waits)
+  pub may : MayHave test (used_by row.user users) (of_kind kind row.waits)
+
+-- and it is of this user
+pub record IsOwnWithin (user : ℕ) (kind : Kind) (test : WithinLimit) (users : List (ℕ × UserRow)) (row : SeatRow) : Type 0 where
+  pub own : row.user ≡ user
+  pub within : IsWithin kind test users row
+
+-- so it is with the user of the seat in a slot
+abbrev pub IsStandWithin : ℕ → Kind → WithinLimit → List (ℕ × SeatRow) → List (ℕ × UserRow) → SeatRow → Type 0
+IsStandWithin stand kind test seats users row =
+    (ticket : ℕ) × (own : SeatRow) × (lookup (nat_eq ticket) seats ≡ Some own) × (own.slot ≡ stand) × IsOwnWithin own.user kind test users row

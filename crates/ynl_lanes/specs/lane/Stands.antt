@@ -1,0 +1,31 @@
+-- Where users stand in a lane.
+use Rattle.std.specs.Prelude.{◌≡◌, ◌≢◌, ℕ, ◌≤◌, List, length, Some, nat_eq, slice_index_or}
+use Rattle.std.specs.Map.{lookup}
+use Rattle.ynl_lanes.specs.declared.lows.users.UserLow.{UserLow}
+use Rattle.ynl_lanes.specs.lows.Users.{no_user}
+use Rattle.ynl_lanes.specs.declared.lane.kinds.Kind.{Kind}
+use Rattle.ynl_lanes.specs.declared.lane.line.Line.{Line}
+use Rattle.ynl_lanes.specs.declared.lane.rows.SeatRow.{SeatRow}
+use Rattle.ynl_lanes.specs.lane.Kinds.{of_kind}
+use Rattle.ynl_lanes.specs.lane.Lines.{values_of}
+use Rattle.ynl_lanes.specs.lane.Found.{EachSeat}
+use Rattle.ynl_lanes.specs.lane.Waiting.{IsWaiting}
+
+-- the user's first seat at which something of a kind waits
+pub record IsFirstWaiting (user : ℕ) (kind : Kind) (seats : List (ℕ × SeatRow)) (ticket : ℕ) : Type 0 where
+  pub row : SeatRow
+  pub found : lookup (nat_eq ticket) seats ≡ Some row
+  pub own : row.user ≡ user
+  pub waits : IsWaiting (of_kind kind row.waits)
+  pub first : EachSeat (λ _ e. e.user ≡ user → IsWaiting (of_kind kind e.waits) → row.slot ≤ e.slot) seats
+
+-- nothing of a kind waits at any of the user's seats
+abbrev pub NoneWaits : ℕ → Kind → List (ℕ × SeatRow) → Type 0
+NoneWaits user kind seats = EachSeat (λ _ e. e.user ≡ user → ¬ (IsWaiting (of_kind kind e.waits))) seats
+
+-- of the values in a lane, only some of a kind at the seats of a user change
+pub record ChangesStand (user : ℕ) (kind : Kind) (seats : List (ℕ × SeatRow)) (old new : Line UserLow) : Type 0 where
+  pub tickets : new.tickets.items ≡ old.tickets.items
+  pub count : (k : Kind) → length (values_of k new) ≡ length (values_of k old)
+  pub kinds : (k : Kind) → k ≢ kind → values_of k new ≡ values_of k old
+  pub others : EachSeat (λ _ e. e.user ≢ user → slice_index_or (values_of kind new) e.slot no_user ≡ slice_index_or (values_of kind old) e.slot no_user) seats

@@ -1,0 +1,35 @@
+//! The applications of a lane's seats.
+
+ghost use Rattle.std.specs.Prelude.{◌≡◌, ◌+◌, map, IfOk, OnOk};
+ghost use Rattle.ynl_lanes.specs.lane.Apps.{apps_before};
+ghost use Rattle.ynl_lanes.specs.lane.Rows.{IsSeated};
+
+use crate::lane::levels::{Level, seat_at};
+use crate::lane::rows::Rows;
+use std::alloc::{AllocError, Global};
+
+impl Rows {
+    /// The application of the seat in a slot, if one stands there, comes last.
+    fn add_app(&self, slot: usize, apps: &mut Vec<u32>) -> Result<(), AllocError>
+        requires { IsSeated self.now }
+        ensures { OnOk result (apps.old.items ≡ apps_before slot self.now.seats.entries → apps.new.items ≡ apps_before (slot + 1) self.now.seats.entries) }
+    {
+        let tickets = self.line.tickets.as_slice();
+        if let Some((_ticket, row)) = seat_at(&self.seats, Level::Lane, tickets, slot) {
+            apps.push(row.app)?;
+        }
+        Ok(())
+    }
+
+    /// The applications of all seats, in the order of the lane. It goes from slot to slot, so it needs no sort.
+    pub(crate) fn apps(&self, alloc: Global) -> Result<Vec<u32>, AllocError>
+        requires { IsSeated self.now }
+        ensures { IfOk result (λ apps. apps.items ≡ map (λ e. e.1.app) self.now.seats.entries) }
+    {
+        let mut apps = Vec::with_capacity(alloc, self.seats.len())?;
+        for slot in 0..self.line.tickets.len() {
+            self.add_app(slot, &mut apps)?;
+        }
+        Ok(apps)
+    }
+}

@@ -1,0 +1,5 @@
+//! The lanes of all leaves on all partitions.
+
+pub use lanes::Lanes;
+
+mod lanes;

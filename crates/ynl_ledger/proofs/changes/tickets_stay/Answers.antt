@@ -1,5 +1,0 @@
-use Rattle.ynl_ledger.proofs.Ledger.{ticketing}
-use Rattle.ynl_ledger.proofs.changes.tickets_stay.Goals as goal
-
-pub returns : goal.returns
-returns c = ticketing

@@ -1,8 +1,0 @@
-//! The ledger of a cluster before any event.
-
-ghost use Rattle.ynl_ledger.specs.Opening.{AreAllOpened};
-
-/// Before any event nothing is used, and there are no nodes.
-pub fn all_are_opened()
-    ensures { AreAllOpened }
-{}

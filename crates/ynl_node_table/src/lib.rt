@@ -1,7 +1,0 @@
-//! The nodes of a cluster under numbers: in the order of joining, and by name.
-#![tactic(auto)]
-
-pub use nodes::{NodeRow, Nodes};
-
-mod nodes;
-mod numbers;

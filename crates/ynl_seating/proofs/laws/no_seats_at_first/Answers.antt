@@ -1,5 +1,0 @@
-use Rattle.ynl_seating.proofs.Starting.{is-seated_first}
-use Rattle.ynl_seating.proofs.laws.no_seats_at_first.Goals as goal
-
-pub returns : goal.returns
-returns c = is-seated_first

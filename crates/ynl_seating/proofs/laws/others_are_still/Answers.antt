@@ -1,5 +1,0 @@
-use Rattle.ynl_seating.proofs.RowChanges.{joined-seated, left-seated, user-seated}
-use Rattle.ynl_seating.proofs.laws.others_are_still.Goals as goal
-
-pub returns : goal.returns
-returns c = record { joined = joined-seated; left = left-seated; user = user-seated }

@@ -1,5 +1,0 @@
-use Rattle.ynl_seating.proofs.Sharing.{are-sharing}
-use Rattle.ynl_seating.proofs.laws.seats_are_of_those_who_share.Goals as goal
-
-pub returns : goal.returns
-returns c = are-sharing

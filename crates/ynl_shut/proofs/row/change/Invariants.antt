@@ -1,6 +1,0 @@
-use Rattle.std.proofs.Common.{◌≡◌}
-use Rattle.ynl_shut.proofs.Forgetting.{IsChanged}
-use Rattle.ynl_shut.proofs.row.change.Given as goal
-
-abbrev pub invariant-loop-i : goal.invariant-loop-i
-invariant-loop-i l = IsChanged l.queues l.i l.low l.fn.row.notes.items l.row.notes.items × (l.row.known ≡ l.fn.row.known)

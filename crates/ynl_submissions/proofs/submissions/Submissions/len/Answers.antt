@@ -1,7 +1,0 @@
-use Rattle.std.proofs.Common.{subst}
-use Rattle.ynl_submissions.specs.Submissions.{Listing, HasDistinctNames}
-use Rattle.ynl_submissions.proofs.Turns.{distinct_names}
-use Rattle.ynl_submissions.proofs.submissions.Submissions.len.Goals as goal
-
-pub returns-clause-distinct : goal.returns-clause-distinct
-returns-clause-distinct c = subst (λ (t : Listing). HasDistinctNames t.entries) c.self.view_is (distinct_names c.self.inside.by_name.entries c.len.ensures.unique)

@@ -1,7 +1,0 @@
-//! The applications that were submitted to a tenant, by their names and in the order of submission.
-#![tactic(auto)]
-
-pub use submissions::{Submission, Submissions};
-
-mod key;
-mod submissions;

@@ -1,0 +1,11 @@
+use Rattle.std.proofs.Common.{sym, subst}
+use Rattle.ynl_tables.specs.containers.Table.{Table}
+use Rattle.ynl_tables.specs.containers.Chains.{IsFirstOfApp}
+use Rattle.ynl_tables.proofs.containers.Linking.{first_is}
+use Rattle.ynl_tables.proofs.containers.Placing.{containers_of, app_links}
+use Rattle.ynl_tables.proofs.containers.Rows.{distinct_of_rows}
+use Rattle.ynl_tables.proofs.containers.containers.Containers.first_of_app.Goals as goal
+
+pub returns : goal.returns
+returns c = subst (λ o. IsFirstOfApp c.args.self.now c.args.chain.now o) (sym c.first.ensures) (subst (λ (t : Table). IsFirstOfApp t c.args.chain.now c.args.chain.now.first) c.self.view_is
+    (λ k chain. first_is (λ x. x.app) (containers_of c.self.inside.rows.entries) (distinct_of_rows (λ row. row.container) c.self.inside.rows.entries c.self.invariant.distinct) (app_links c.self.inside.rows.entries) c.args.chain.now k chain))

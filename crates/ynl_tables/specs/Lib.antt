@@ -1,0 +1,5 @@
+pub mod containers
+pub mod nodes
+pub mod apps
+pub mod submissions
+pub mod users

@@ -1,0 +1,5 @@
+//! The users of a cluster under numbers.
+
+pub use users::Users;
+
+mod users;

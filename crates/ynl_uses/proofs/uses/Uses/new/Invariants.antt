@@ -1,7 +1,0 @@
-use Rattle.std.proofs.Common.{◌≡◌, length, ◌≤◌, ◌-◌, ◌+◌}
-use Rattle.ynl_uses.specs.Tallies.{IsTable, no_use}
-use Rattle.ynl_uses.specs.Fields.{uses_of}
-use Rattle.ynl_uses.proofs.uses.Uses.new.Given as goal
-
-abbrev pub invariant-loop : goal.invariant-loop
-invariant-loop l = IsTable l.counter l.queues no_use (uses_of (record { rows = l.rows }))

@@ -1,8 +1,0 @@
-//! What the queues use of the partitions, by numbers.
-#![tactic(auto)]
-
-pub use tally::{Counted, Tally};
-pub use uses::Uses;
-
-mod tally;
-mod uses;
