@@ -2,14 +2,15 @@
 
 ghost use Rattle.std.specs.Prelude.{◌≡◌, IfOk, vec_len};
 
+use crate::values::{label, name, path, size};
 use std::alloc::{AllocError, Global};
+use std::process::Abort;
 use std::sync::Wait;
-use std::test::Fail;
 use ynl_config::read_config;
+use ynl_core::NoMemory;
 use ynl_live::{Cause, Live, Receipt, Receipts, Seat, Unclosed, close};
 use ynl_model::{Event, Reply};
 use ynl_queues::Config;
-use ynl_resource::{Label, Name, Path, Size};
 
 /// Two tenants: eng has gpu for itself alone, in two leaves, and mkt has ssd, which is lent.
 const WORKED: &str = "\
@@ -46,54 +47,42 @@ accessible-node-labels = \"ssd\"
 capacity = 100
 ";
 
-pub(crate) fn worked(alloc: Global) -> Option<Config> {
-    read_config(alloc, WORKED.as_bytes()).ok()?.ok()
+pub(crate) fn worked<R: Abort>(rt: &R, alloc: Global) -> Result<Config, NoMemory> {
+    let read = read_config(alloc, WORKED.as_bytes())?;
+    Ok(read.expect(rt, "a configuration"))
 }
 
-pub(crate) fn register() -> Option<Event> {
-    register_node("g1")
+pub(crate) fn submit<R: Abort>(rt: &R, app: &str, memory: u64) -> Event {
+    Event::Submit {
+        queue: path(rt, "root.eng.ml"),
+        app: name(rt, app),
+        user: name(rt, "ann"),
+        label: Some(label(rt, "gpu")),
+        master: size(rt, memory, 1),
+    }
 }
 
-pub(crate) fn register_node(node: &str) -> Option<Event> {
-    Some(Event::Register {
-        node: Name::parse(node).ok()?,
-        label: Label::parse("gpu").ok()?,
-        size: Size::new(10000, 10)?,
-    })
-}
-
-pub(crate) fn submit(app: &str, memory: u64) -> Option<Event> {
-    Some(Event::Submit {
-        queue: Path::parse("root.eng.ml").ok()?,
-        app: Name::parse(app).ok()?,
-        user: Name::parse("ann").ok()?,
-        label: Some(Label::parse("gpu").ok()?),
-        master: Size::new(memory, 1)?,
-    })
-}
-
-pub(crate) fn ask() -> Option<Event> {
-    Some(Event::Ask {
-        tenant: Name::parse("eng").ok()?,
-        app: Name::parse("j1").ok()?,
-        label: Label::parse("gpu").ok()?,
+pub(crate) fn ask<R: Abort>(rt: &R) -> Event {
+    Event::Ask {
+        tenant: name(rt, "eng"),
+        app: name(rt, "j1"),
+        label: label(rt, "gpu"),
         priority: 1,
         count: 2,
-        size: Size::new(2000, 2)?,
-    })
+        size: size(rt, 2000, 2),
+    }
 }
 
-pub(crate) fn poll(app: &str) -> Option<Event> {
-    Some(Event::Poll {
-        tenant: Name::parse("eng").ok()?,
-        app: Name::parse(app).ok()?,
-        label: Label::parse("gpu").ok()?,
-    })
+pub(crate) fn poll<R: Abort>(rt: &R, app: &str) -> Event {
+    Event::Poll {
+        tenant: name(rt, "eng"),
+        app: name(rt, app),
+        label: label(rt, "gpu"),
+    }
 }
 
-pub(crate) fn opened(alloc: Global) -> Result<(Live, Seat), Fail> {
-    let config = worked(alloc).ok_or("no configuration")?;
-    Ok(Live::open(alloc, config)?)
+pub(crate) fn opened<R: Abort>(rt: &R, alloc: Global) -> Result<(Live, Seat), NoMemory> {
+    Live::open(alloc, worked(rt, alloc)?)
 }
 
 /// Calls once, and keeps the receipt.
@@ -177,15 +166,16 @@ fn kept_lists(alloc: Global, lists: &[Vec<Receipt>]) -> Result<Vec<Receipts>, Al
 }
 
 /// The number of entries of the closed journal of one caller.
-pub(crate) fn closed_alone(
+pub(crate) fn closed_alone<R: Abort>(
+    rt: &R,
     alloc: Global,
     live: Live,
     seat: Seat,
     receipts: Vec<Receipt>,
-) -> Result<Option<usize>, Fail> {
-    let seats = one(alloc, seat)?;
-    let lists = one(alloc, receipts)?;
-    Ok(closed_len(alloc, live, seats, lists.as_slice()))
+) -> Option<usize> {
+    let seats = one(alloc, seat).expect(rt, "memory");
+    let lists = one(alloc, receipts).expect(rt, "memory");
+    closed_len(alloc, live, seats, lists.as_slice())
 }
 
 pub(crate) fn closed_len(

@@ -2,9 +2,9 @@
 
 use crate::streams::{FailsOnce, Sink};
 use std::alloc::Global;
+use std::process::Abort;
 use std::sync::Wait;
 use std::sync::atomic::{AtomicU64, Ordering};
-use std::test::Fail;
 use std::thread::Threads;
 use ynl_config::built_in;
 use ynl_core::Core;
@@ -20,23 +20,22 @@ const ALL_KINDS: &[u8] =
     b"{\"event\":\"register\",\"label\":\"gpu\",\"memory\":10000,\"node\":\"g1\",\"vcores\":10}\n{\"app\":\"j1\",\"event\":\"submit\",\"label\":\"gpu\",\"memory\":1000,\"queue\":\"root.eng\",\"user\":\"ann\",\"vcores\":1}\n{\"event\":\"heartbeat\",\"node\":\"g1\"}\n{\"app\":\"j1\",\"count\":2,\"event\":\"ask\",\"label\":\"gpu\",\"memory\":1000,\"priority\":1,\"tenant\":\"eng\",\"vcores\":1}\n{\"event\":\"propose\",\"node\":\"g1\"}\n{\"event\":\"commit\",\"proposal\":{\"app\":\"j1\",\"label\":\"gpu\",\"memory\":1000,\"node\":\"g1\",\"priority\":1,\"stamp\":2,\"tenant\":\"eng\",\"vcores\":1,\"what\":\"ask\"}}\n{\"event\":\"heartbeat\",\"node\":\"g1\"}\n{\"app\":\"j1\",\"event\":\"poll\",\"label\":\"gpu\",\"tenant\":\"eng\"}\n{\"event\":\"usage\",\"label\":\"gpu\",\"queue\":\"root.eng\"}\n{\"event\":\"release\",\"id\":\"gpu#3\",\"tenant\":\"eng\"}\n{\"event\":\"exited\",\"id\":\"gpu#4\",\"node\":\"g1\"}\n{\"event\":\"maximum\",\"label\":\"gpu\",\"maximum\":10000,\"queue\":\"root.eng\"}\n{\"event\":\"stop\",\"queue\":\"root.eng\"}\n{\"event\":\"start\",\"queue\":\"root.eng\"}\n{\"app\":\"j1\",\"event\":\"finish\",\"tenant\":\"eng\"}\n{\"event\":\"relabel\",\"label\":\"\",\"node\":\"g1\"}\n{\"event\":\"lost\",\"node\":\"g1\"}\n";
 
 /// Runs the events by a reader that fails at that look.
-fn run_once(alloc: Global, looks: u64, writer: &mut Sink) -> Result<Ended, Fail> {
+fn run_once<R: Abort>(rt: &R, alloc: Global, looks: u64, writer: &mut Sink) -> Ended {
     let mut reader = FailsOnce {
         left: ALL_KINDS,
         looks,
     };
-    let core = Core::open(alloc, built_in(alloc)?)?;
-    Ok(run_lines(alloc, core, &mut reader, writer).err())
+    let config = built_in(alloc).expect(rt, "memory");
+    let core = Core::open(alloc, config).expect(rt, "memory");
+    run_lines(alloc, core, &mut reader, writer).err()
 }
 
 /// The replies to all events.
-fn all_replies(alloc: Global) -> Result<Vec<u8>, Fail> {
+fn all_replies<R: Abort>(rt: &R, alloc: Global) -> Vec<u8> {
     let mut writer = Sink::new(Vec::new(alloc));
-    let ended = run_once(alloc, u64::MAX, &mut writer)?;
-    if ended.is_some() {
-        return Err(Fail::new("a fault"));
-    }
-    Ok(writer.taken)
+    let ended = run_once(rt, alloc, u64::MAX, &mut writer);
+    assert!(rt; ended.is_none());
+    writer.taken
 }
 
 fn lines(text: &[u8]) -> usize {
@@ -44,24 +43,23 @@ fn lines(text: &[u8]) -> usize {
 }
 
 /// Whether a reader that fails at that look ends the run there, behind one write of the replies to the lines before it.
-fn ends_at(alloc: Global, looks: usize, replies: &[u8]) -> Result<bool, Fail> {
+fn ends_at<R: Abort>(rt: &R, alloc: Global, looks: usize, replies: &[u8]) -> bool {
     let mut writer = Sink::new(Vec::new(alloc));
-    let ended = run_once(alloc, looks as u64, &mut writer)?;
+    let ended = run_once(rt, alloc, looks as u64, &mut writer);
     let is_front = replies.starts_with(&writer.taken) && lines(&writer.taken) == looks;
-    Ok(ended == Some(ToolFault::Read) && is_front && writer.calls == u64::from(looks > 0))
+    ended == Some(ToolFault::Read) && is_front && writer.calls == u64::from(looks > 0)
 }
 
 // Each look takes a line, the last one the end. That an error ends the run no contract says, since none names
 // what a reader fails with: also an error that is met while replies are held back. Nor does one say that lines which
 // come together cost one write.
 #[test]
-fn ends_where_a_reader_fails_once(rt: HostRuntime) -> Result<(), Fail> {
+fn ends_where_a_reader_fails_once(rt: HostRuntime) {
     let alloc = rt.alloc();
-    let replies = all_replies(alloc)?;
+    let replies = all_replies(&rt, alloc);
     for looks in 0..=lines(ALL_KINDS) {
-        assert!(rt; ends_at(alloc, looks, &replies)?, "{looks}");
+        assert!(rt; ends_at(&rt, alloc, looks, &replies), "{looks}");
     }
-    Ok(())
 }
 
 /// Two nodes, and a master for each of them.
@@ -101,27 +99,26 @@ impl Gate for Free {
 }
 
 /// Has two workers go over the nodes, once.
-fn live_once<R: Threads + Wait + Sync>(
+fn live_once<R: Threads + Wait + Abort + Sync>(
     rt: &R,
     alloc: Global,
     gate: &Free,
     writer: &mut Sink,
-) -> Result<Ended, Fail> {
+) -> Ended {
     let mut reader = FailsOnce {
         left: TWO_NODES,
         looks: u64::MAX,
     };
-    let start = Start::opened(built_in(alloc)?);
-    Ok(live_lines(rt, alloc, start, 2, 1, gate, &mut reader, writer).err())
+    let start = Start::opened(built_in(alloc).expect(rt, "memory"));
+    live_lines(rt, alloc, start, 2, 1, gate, &mut reader, writer).err()
 }
 
 // Whichever worker comes first, each is answered a master, so that the second commits too.
 #[test]
-fn lives_with_as_many_workers_as_asked(rt: HostRuntime) -> Result<(), Fail> {
+fn lives_with_as_many_workers_as_asked(rt: HostRuntime) {
     let mut writer = Sink::new(Vec::new(rt.alloc()));
     let gate = Free::new();
-    let ended = live_once(&rt, rt.alloc(), &gate, &mut writer)?;
+    let ended = live_once(&rt, rt.alloc(), &gate, &mut writer);
     assert!(rt; ended.is_none());
-    assert_eq!(rt; gate.second.load(Ordering::SeqCst), 1);
-    Ok(())
+    assert!(rt; gate.second.load(Ordering::SeqCst) == 1);
 }

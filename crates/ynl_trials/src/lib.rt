@@ -42,6 +42,8 @@ mod streams;
 #[cfg(test)]
 mod tables;
 #[cfg(test)]
+mod values;
+#[cfg(test)]
 mod views;
 #[cfg(test)]
 mod watch;

@@ -1,5 +1,6 @@
 //! Lines that are read and written by the calls that give values, at the second try.
 
+use crate::values::tell_refused;
 use std::alloc::{AllocError, Global};
 use std::test::Fail;
 use ynl_lines::{read_event, read_line, write_event, write_line};
@@ -65,7 +66,7 @@ fn are_read_and_written_at_the_second_try(rt: HostRuntime) -> Result<(), Fail> {
     let have = match have_their_texts(rt.alloc()) {
         Ok(have) => have,
         Err(AllocError) => {
-            println!(rt; "refused")?;
+            tell_refused(&rt);
             have_their_texts(rt.alloc())?
         }
     };

@@ -5,6 +5,7 @@ use crate::crew::Crew;
 use crate::writer::Writer;
 use std::alloc::Global;
 use std::io::{BufWriter, Eprint, Write};
+use std::process::Abort;
 use std::rt::Clock;
 use std::sync::Wait;
 use std::thread::{Threads, join_mut};
@@ -58,61 +59,75 @@ fn load_of(alloc: Global, text: &str) -> anyhow::Result<Load> {
 
 /// Has the workers and the caller beside them at work at once, and answers how long that took, in
 /// milliseconds.
-fn put_to_work<R: Threads + Wait + Clock + Sync>(
+fn put_to_work<R: Threads + Wait + Clock + Abort + Sync>(
     rt: &R,
     live: &Live,
     load: Load,
     crew: &mut Crew,
     writer: &mut Writer,
-) -> anyhow::Result<u128> {
-    let start = Instant::now(rt)?;
-    let (rounds, steps) = join_mut(
+) -> u128 {
+    let start = Instant::now(rt).expect(rt, "a clock");
+    join_mut(
         rt,
         &mut || crew.run_rounds(rt, live, load.rounds),
         &mut || writer.take_steps(rt, live, load.steps, load.nodes),
     );
-    rounds?;
-    steps?;
-    Ok(start.elapsed(rt)?.as_millis())
+    start.elapsed(rt).expect(rt, "a clock").as_millis()
 }
 
 /// The closed journal of all callers.
-fn closed(alloc: Global, live: Live, crew: Crew, writer: Writer) -> anyhow::Result<Entries> {
+fn closed<R: Abort>(rt: &R, alloc: Global, live: Live, crew: Crew, writer: Writer) -> Entries {
     let Writer { seat, receipts, .. } = writer;
     let Crew {
         mut seats,
         mut lists,
         ..
     } = crew;
-    seats.push(seat)?;
-    lists.push(receipts)?;
+    seats.push(seat).expect(rt, "memory");
+    lists.push(receipts).expect(rt, "memory");
     match close(alloc, live, seats, &lists) {
-        Ok(Closed { entries, .. }) => Ok(entries),
-        Err(unclosed) => Err(unclosed.cause.into()),
+        Ok(Closed { entries, .. }) => entries,
+        Err(unclosed) => panic!(rt; "{}", unclosed.cause),
     }
 }
 
+/// Registers the nodes, and has the crew and the writer do the rest of the load. Answers the milliseconds of that.
+fn play<R: Threads + Wait + Clock + Abort + Sync>(
+    rt: &R,
+    live: &Live,
+    load: Load,
+    crew: &mut Crew,
+    writer: &mut Writer,
+) -> u128 {
+    writer.register_nodes(rt, live, load.nodes);
+    writer.submit_waiting(rt, live, load.waiting);
+    put_to_work(rt, live, load, crew, writer)
+}
+
 /// The entries of the load, with its figures on standard error.
-fn played<R: Threads + Wait + Clock + Eprint + Sync>(
+fn played<R: Threads + Wait + Clock + Eprint + Abort + Sync>(
     rt: &R,
     alloc: Global,
     load: Load,
-) -> anyhow::Result<Entries> {
-    let (live, seat) = Live::open(alloc, built_in(alloc)?)?;
-    let mut crew = Crew::new(alloc, seat.split(), load.workers, load.nodes)?;
+) -> Entries {
+    let config = built_in(alloc).expect(rt, "memory");
+    let (live, seat) = Live::open(alloc, config).expect(rt, "memory");
+    let mut crew = Crew::new(rt, alloc, seat.split(), load.workers, load.nodes);
     let mut writer = Writer::new(alloc, seat);
-    writer.register_nodes(rt, &live, load.nodes)?;
-    writer.submit_waiting(rt, &live, load.waiting)?;
-    let took = put_to_work(rt, &live, load, &mut crew, &mut writer)?;
+    let took = play(rt, &live, load, &mut crew, &mut writer);
     let (commit, call) = (crew.longest, writer.longest);
-    let entries = closed(alloc, live, crew, writer)?;
+    let entries = closed(rt, alloc, live, crew, writer);
     let calls = (entries.len() as u64)
         .saturating_sub(load.nodes)
         .saturating_sub(load.waiting);
+    tell_figures(rt, calls, took, commit, call);
+    entries
+}
+
+fn tell_figures<R: Eprint + Abort>(rt: &R, calls: u64, took: u128, commit: u64, call: u64) {
     eprintln!(rt;
         "{calls} calls in {took} ms; longest commit of a worker {commit} us, longest call beside them {call} us"
-    )?;
-    Ok(entries)
+    ).expect(rt, "standard error");
 }
 
 fn write_entry<W: Write>(
@@ -140,16 +155,22 @@ fn write_journal<W: Write + Drop>(alloc: Global, to: W, entries: &Entries) -> an
     Ok(())
 }
 
+/// Whether each entry has a reply, and all of them pass their audit.
+fn is_history<R: Abort>(rt: &R, alloc: Global, entries: &[Entry]) -> bool {
+    let config = built_in(alloc).expect(rt, "memory");
+    let mut core = Core::open(alloc, config).expect(rt, "memory");
+    entries.iter().all(|entry| entry.reply.is_some()) && audit(&mut core, entries).is_ok()
+}
+
 /// The journal of a crew and a caller closes, has each reply, and passes its audit. Where `LOAD` is set, it is written.
 #[test]
 fn crew_and_caller_leave_one_history(rt: HostRuntime) -> anyhow::Result<()> {
     let alloc = rt.alloc();
     if let Ok(text) = env::var(&rt, "LOAD") {
-        let entries = played(&rt, alloc, load_of(alloc, &text)?)?;
+        let entries = played(&rt, alloc, load_of(alloc, &text)?);
         return write_journal(alloc, io::writer(&rt), &entries);
     }
-    let entries = played(&rt, alloc, LITTLE)?.to_vec()?;
-    assert!(rt; entries.iter().all(|entry| entry.reply.is_some()));
-    assert!(rt; audit(&mut Core::open(alloc, built_in(alloc)?)?, &entries).is_ok());
+    let entries = played(&rt, alloc, LITTLE).to_vec()?;
+    assert!(rt; is_history(&rt, alloc, &entries));
     Ok(())
 }

@@ -2,6 +2,7 @@
 
 use crate::events::{called, closed_alone, one, opened, receipt_of, reply_with, tried, two};
 use crate::refusals::closed_again;
+use crate::values::{heartbeat, label, name, size, tell_refused};
 use crate::workers::{Started, play_script};
 use std::alloc::Global;
 use std::process::Abort;
@@ -10,7 +11,7 @@ use std::test::Fail;
 use ynl_core::Sighted;
 use ynl_live::{CallFault, Cause, Live, Receipt, Seat, Unclosed};
 use ynl_model::{Event, Proposal, Reply, What};
-use ynl_resource::{Label, Name, Refusal, Size};
+use ynl_resource::{Name, Refusal};
 use ynl_sights::plan;
 
 // Run with each allocation failing in turn: where memory is refused at the first try, which a line
@@ -20,15 +21,15 @@ fn seen_again<R: Wait + Print + Abort>(
     live: &Live,
     seat: &mut Seat,
     node: &Name,
-) -> Result<(u64, Sighted), Fail> {
+) -> Result<(u64, Sighted), CallFault> {
     let before = (seat.calls(), seat.front());
     match live.sight(rt, seat, node) {
         Err(CallFault::NoMemory) => {
-            println!(rt; "refused")?;
-            assert_eq!(rt; (seat.calls(), seat.front()), before);
-            Ok(live.sight(rt, seat, node)?)
+            tell_refused(rt);
+            assert!(rt; (seat.calls(), seat.front()) == before);
+            live.sight(rt, seat, node)
         }
-        answer => Ok(answer?),
+        answer => answer,
     }
 }
 
@@ -46,15 +47,15 @@ fn planned(node: Name, place: u64, sighted: &Sighted) -> Receipt {
 }
 
 /// The proposal of the first of two containers that the script's application asks for.
-fn first_asked() -> Option<Proposal> {
-    Some(Proposal {
-        node: Name::parse("g1").ok()?,
+fn first_asked<R: Abort>(rt: &R) -> Proposal {
+    Proposal {
+        node: name(rt, "g1"),
         stamp: 2,
-        tenant: Name::parse("eng").ok()?,
-        app: Name::parse("j1").ok()?,
-        what: What::Ask(Label::parse("gpu").ok()?, 1),
-        size: Size::new(2000, 2)?,
-    })
+        tenant: name(rt, "eng"),
+        app: name(rt, "j1"),
+        what: What::Ask(label(rt, "gpu"), 1),
+        size: size(rt, 2000, 2),
+    }
 }
 
 fn proposes(receipt: &Receipt, proposal: &Proposal) -> bool {
@@ -70,7 +71,7 @@ fn plan_again<R: Wait + Print + Abort>(
     live: &Live,
     seat: &mut Seat,
     node: Name,
-) -> Result<Receipt, Fail> {
+) -> Result<Receipt, CallFault> {
     let (place, sighted) = seen_again(rt, live, seat, &node)?;
     Ok(planned(node, place, &sighted))
 }
@@ -81,12 +82,11 @@ fn overtake<R: Wait + Print + Abort>(
     started: &mut Started,
     other: &mut Seat,
     others: &mut Vec<Receipt>,
-    node: Name,
 ) -> Result<(), Fail> {
-    let receipt = plan_again(rt, &started.live, &mut started.seat, node)?;
-    let heartbeat = Event::Heartbeat { node };
+    let receipt = plan_again(rt, &started.live, &mut started.seat, name(rt, "g1"))?;
+    let heartbeat = heartbeat(rt, "g1");
     called(rt, &started.live, other, others, heartbeat).ok_or("not called")?;
-    let proposal = first_asked().ok_or("no proposal")?;
+    let proposal = first_asked(rt);
     assert!(rt; receipt.place == 4 && proposes(&receipt, &proposal));
     started.receipts.push(receipt)?;
     let commit = Event::Commit { proposal };
@@ -109,11 +109,10 @@ fn call<R: Wait>(rt: &R, started: &mut Started, event: Event) -> Option<()> {
 fn overtaken<R: Wait + Print + Abort>(
     rt: &R,
     alloc: Global,
-    node: Name,
 ) -> Result<(Live, Vec<Seat>, Vec<Vec<Receipt>>), Fail> {
     let mut started = play_script(rt, alloc)?;
     let (mut other, mut others) = (started.seat.split(), Vec::new(alloc));
-    overtake(rt, &mut started, &mut other, &mut others, node)?;
+    overtake(rt, &mut started, &mut other, &mut others)?;
     let Started {
         live,
         seat,
@@ -125,10 +124,9 @@ fn overtaken<R: Wait + Print + Abort>(
 }
 
 /// Has the first list's fifth receipt, which is the propose's, tell this reply.
-fn retell(lists: &mut Vec<Vec<Receipt>>, proposal: Option<Proposal>) -> Option<()> {
-    let receipt = receipt_of(lists, 0, 4)?;
+fn retell<R: Abort>(rt: &R, lists: &mut Vec<Vec<Receipt>>, proposal: Option<Proposal>) {
+    let receipt = receipt_of(lists, 0, 4).expect(rt, "a receipt");
     reply_with(receipt, Reply::Proposed(proposal));
-    Some(())
 }
 
 fn is_stale(lists: &Vec<Vec<Receipt>>) -> bool {
@@ -145,53 +143,42 @@ fn is_stale(lists: &Vec<Vec<Receipt>>) -> bool {
 #[test]
 fn is_planned_at_the_second_try(rt: HostRuntime) -> Result<(), Fail> {
     let alloc = rt.alloc();
-    let (live, seats, mut lists) = overtaken(&rt, alloc, Name::parse("g1")?)?;
+    let (live, seats, mut lists) = overtaken(&rt, alloc)?;
     assert!(rt; is_stale(&lists));
-    retell(&mut lists, None).ok_or("no receipt")?;
-    let Err(Unclosed { cause, live, seats }) = tried(alloc, live, seats, lists.as_slice()) else {
-        return Err(Fail::new("closed"));
-    };
+    retell(&rt, &mut lists, None);
+    let ended = tried(alloc, live, seats, lists.as_slice());
+    let Unclosed { cause, live, seats } = ended.expect_err(&rt, "closed");
     assert!(rt; cause == Cause::Mismatch(4) || cause == Cause::NoMemory);
-    retell(&mut lists, first_asked()).ok_or("no receipt")?;
-    let len = closed_again(&rt, alloc, live, seats, lists.as_slice())?;
-    assert_eq!(rt; len, Some(7));
+    retell(&rt, &mut lists, Some(first_asked(&rt)));
+    let len = closed_again(&rt, alloc, live, seats, lists.as_slice());
+    assert!(rt; len == Some(7));
     Ok(())
 }
 
 /// The receipt of a propose on a node that is not there. Its seat sees nothing of another scheduler, and stays as it is.
-fn sees_nothing<R: Wait + Abort>(
-    rt: &R,
-    first: &Live,
-    other: &Live,
-    seat: &mut Seat,
-) -> Result<Receipt, Fail> {
-    let node = Name::parse("g1")?;
-    let receipt = refused(rt, first, seat, node)?;
+fn sees_nothing<R: Wait + Abort>(rt: &R, first: &Live, other: &Live, seat: &mut Seat) -> Receipt {
+    let node = name(rt, "g1");
+    let receipt = refused(rt, first, seat, node);
     let fault = other.sight(rt, seat, &node).err();
-    assert_eq!(rt; fault, Some(CallFault::Behind(0)));
-    assert_eq!(rt; (seat.calls(), seat.front()), (1, 1));
-    Ok(receipt)
+    assert!(rt; fault == Some(CallFault::Behind(0)));
+    assert!(rt; seat.calls() == 1 && seat.front() == 1);
+    receipt
 }
 
-fn refused<R: Wait + Abort>(
-    rt: &R,
-    live: &Live,
-    seat: &mut Seat,
-    node: Name,
-) -> Result<Receipt, Fail> {
-    let (place, sighted) = live.sight(rt, seat, &node)?;
+fn refused<R: Wait + Abort>(rt: &R, live: &Live, seat: &mut Seat, node: Name) -> Receipt {
+    let (place, sighted) = live.sight(rt, seat, &node).expect(rt, "a sight");
     assert!(rt; matches!(&sighted, Sighted::Refused(Refusal::NoSuchNode)));
-    Ok(planned(node, place, &sighted))
+    planned(node, place, &sighted)
 }
 
 #[test]
-fn a_seat_of_another_sees_nothing(rt: HostRuntime) -> Result<(), Fail> {
+fn a_seat_of_another_sees_nothing(rt: HostRuntime) {
     let alloc = rt.alloc();
-    let (first, mut seat) = opened(alloc)?;
-    let (other, own) = opened(alloc)?;
-    let receipt = sees_nothing(&rt, &first, &other, &mut seat)?;
-    assert_eq!(rt; closed_alone(alloc, other, own, Vec::new(alloc))?, Some(0));
-    let receipts = one(alloc, receipt)?;
-    assert_eq!(rt; closed_alone(alloc, first, seat, receipts)?, Some(1));
-    Ok(())
+    let (first, mut seat) = opened(&rt, alloc).expect(&rt, "memory");
+    let (other, own) = opened(&rt, alloc).expect(&rt, "memory");
+    let receipt = sees_nothing(&rt, &first, &other, &mut seat);
+    let closed = closed_alone(&rt, alloc, other, own, Vec::new(alloc));
+    assert!(rt; closed == Some(0));
+    let receipts = one(alloc, receipt).expect(&rt, "memory");
+    assert!(rt; closed_alone(&rt, alloc, first, seat, receipts) == Some(1));
 }

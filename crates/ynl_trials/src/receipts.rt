@@ -1,14 +1,14 @@
 //! Receipts that are exchanged, altered, missing, there twice or of another scheduler: the journal is not closed,
 //! and is where the right ones are handed in after all.
 
-use crate::events::{ask, ended, opened, poll, register_node, submit, two};
+use crate::events::{ask, ended, opened, poll, submit, two};
+use crate::values::{heartbeat, registered};
 use std::alloc::Global;
 use std::process::Abort;
 use std::sync::Wait;
-use std::test::Fail;
 use ynl_live::{Cause, Live, Receipt, Receipts, Seat, Unclosed};
 use ynl_model::{Event, Reply};
-use ynl_resource::{Name, Refusal};
+use ynl_resource::Refusal;
 
 /// A scheduler, and the seats of its callers.
 #[derive(Drop)]
@@ -127,16 +127,19 @@ const EXCHANGED_NEIGHBOURS: &[(&str, &str)] = &[
 ];
 
 /// A node that registers, and an application that is given its master and a container on `g1`.
-fn script(node: &str) -> Option<[Event; 6]> {
-    let node = register_node(node)?;
-    let beat = Event::Heartbeat {
-        node: Name::parse("g1").ok()?,
-    };
-    Some([node, submit("j1", 1000)?, beat, ask()?, beat, poll("j1")?])
+fn script<R: Abort>(rt: &R, node: &str) -> [Event; 6] {
+    [
+        registered(rt, node, "gpu"),
+        submit(rt, "j1", 1000),
+        heartbeat(rt, "g1"),
+        ask(rt),
+        heartbeat(rt, "g1"),
+        poll(rt, "j1"),
+    ]
 }
 
 /// A receipt that is made to tell this.
-fn altered(receipt: Receipt, tells: Tells, other: Event) -> Receipt {
+fn altered(receipt: Receipt, tells: Tells, other: &Event) -> Receipt {
     let Receipt {
         place,
         event,
@@ -155,7 +158,7 @@ fn altered(receipt: Receipt, tells: Tells, other: Event) -> Receipt {
         },
         Tells::AnotherEvent => Receipt {
             place,
-            event: other,
+            event: *other,
             reply,
         },
         Tells::AnotherReply => Receipt {
@@ -167,54 +170,51 @@ fn altered(receipt: Receipt, tells: Tells, other: Event) -> Receipt {
 }
 
 /// Calls on the seats in turn, and puts the receipts behind those that are there.
-fn call_in_turn<R: Wait>(
+fn call_in_turn<R: Wait + Abort>(
     rt: &R,
     callers: &mut Callers,
     receipts: &mut Vec<Receipt>,
     node: &str,
     tells: Tells,
-) -> Option<()> {
-    let other = submit("j7", 1000)?;
-    for (number, event) in script(node)?.into_iter().enumerate() {
-        let seat = callers.seats.get_mut(number % 2)?;
-        let receipt = callers.live.call(rt, seat, event).ok()?;
-        receipts.push(altered(receipt, tells, other)).ok()?;
+) {
+    let other = submit(rt, "j7", 1000);
+    for (number, event) in script(rt, node).into_iter().enumerate() {
+        let seat = callers.seats.get_mut(number % 2).expect(rt, "a seat");
+        let receipt = callers.live.call(rt, seat, event).expect(rt, "a receipt");
+        receipts
+            .push(altered(receipt, tells, &other))
+            .expect(rt, "memory");
     }
-    Some(())
 }
 
 /// Two callers that called in turn, three times each.
-fn two_callers<R: Wait>(
+fn two_callers<R: Wait + Abort>(
     rt: &R,
     alloc: Global,
     receipts: &mut Vec<Receipt>,
     node: &str,
     tells: Tells,
-) -> Result<Callers, Fail> {
-    let (live, first) = opened(alloc)?;
+) -> Callers {
+    let (live, first) = opened(rt, alloc).expect(rt, "memory");
     let second = first.split();
-    let seats = two(alloc, first, second)?;
+    let seats = two(alloc, first, second).expect(rt, "memory");
     let mut callers = Callers { live, seats };
-    call_in_turn(rt, &mut callers, receipts, node, tells).ok_or("not called")?;
-    Ok(callers)
+    call_in_turn(rt, &mut callers, receipts, node, tells);
+    callers
 }
 
 /// Two callers, and all receipts that a row has.
-fn callers_of_rows<R: Wait>(
-    rt: &R,
-    alloc: Global,
-    receipts: &mut Vec<Receipt>,
-) -> Result<Callers, Fail> {
-    let callers = two_callers(rt, alloc, receipts, "g1", Tells::TheTruth)?;
+fn callers_of_rows<R: Wait + Abort>(rt: &R, alloc: Global, receipts: &mut Vec<Receipt>) -> Callers {
+    let callers = two_callers(rt, alloc, receipts, "g1", Tells::TheTruth);
     for tells in [
         Tells::AnotherPlace,
         Tells::AnotherEvent,
         Tells::AnotherReply,
     ] {
-        let _others = two_callers(rt, alloc, receipts, "g1", tells)?;
+        let _others = two_callers(rt, alloc, receipts, "g1", tells);
     }
-    let _others = two_callers(rt, alloc, receipts, "g2", Tells::TheTruth)?;
-    Ok(callers)
+    let _others = two_callers(rt, alloc, receipts, "g2", Tells::TheTruth);
+    callers
 }
 
 /// The number of the receipt that a digit or a letter of a row means.
@@ -226,23 +226,25 @@ fn number_of(sign: u8) -> usize {
     }
 }
 
-fn list_of(alloc: Global, receipts: &[Receipt], signs: &str) -> Result<Receipts, Fail> {
+fn list_of<R: Abort>(rt: &R, alloc: Global, receipts: &[Receipt], signs: &str) -> Receipts {
     let mut list = Receipts::new(alloc);
     for sign in signs.bytes() {
-        let receipt = receipts.get(number_of(sign)).ok_or("no receipt")?;
-        list.push(receipt)?;
+        let receipt = receipts.get(number_of(sign)).expect(rt, "a receipt");
+        list.push(receipt).expect(rt, "memory");
     }
-    Ok(list)
+    list
 }
 
-fn lists_of(
+fn lists_of<R: Abort>(
+    rt: &R,
     alloc: Global,
     receipts: &[Receipt],
     first: &str,
     second: &str,
-) -> Result<Vec<Receipts>, Fail> {
-    let first = list_of(alloc, receipts, first)?;
-    Ok(two(alloc, first, list_of(alloc, receipts, second)?)?)
+) -> Vec<Receipts> {
+    let first = list_of(rt, alloc, receipts, first);
+    let second = list_of(rt, alloc, receipts, second);
+    two(alloc, first, second).expect(rt, "memory")
 }
 
 /// The journal is not closed, for this cause. All that was handed in comes back.
@@ -252,15 +254,12 @@ pub(crate) fn refused<R: Abort>(
     callers: Callers,
     lists: &[Receipts],
     wanted: Cause,
-) -> Result<Callers, Fail> {
+) -> Callers {
     let Callers { live, seats } = callers;
-    match ended(alloc, live, seats, lists) {
-        Ok(_) => Err(Fail::new("closed")),
-        Err(Unclosed { cause, live, seats }) => {
-            assert_eq!(rt; cause, wanted);
-            Ok(Callers { live, seats })
-        }
-    }
+    let ended = ended(alloc, live, seats, lists);
+    let Unclosed { cause, live, seats } = ended.expect_err(rt, "closed");
+    assert!(rt; cause == wanted);
+    Callers { live, seats }
 }
 
 /// How many entries the closed journal has.
@@ -270,40 +269,33 @@ pub(crate) fn closed(alloc: Global, callers: Callers, lists: &[Receipts]) -> Opt
 }
 
 /// Tries the rows, and then the right receipts.
-fn try_rows<R: Wait + Abort>(
-    rt: &R,
-    alloc: Global,
-    mut callers: Callers,
-    receipts: &[Receipt],
-) -> Result<(), Fail> {
+fn try_rows<R: Wait + Abort>(rt: &R, alloc: Global, mut callers: Callers, receipts: &[Receipt]) {
     for rows in [EXCHANGED, TWICE, MISSING, ALTERED] {
         for (first, second, cause) in rows {
-            let lists = lists_of(alloc, receipts, first, second)?;
-            callers = refused(rt, alloc, callers, &lists, *cause)?;
+            let lists = lists_of(rt, alloc, receipts, first, second);
+            callers = refused(rt, alloc, callers, &lists, *cause);
         }
     }
-    let lists = lists_of(alloc, receipts, "024", "135")?;
-    assert_eq!(rt; closed(alloc, callers, &lists), Some(6));
-    Ok(())
+    let lists = lists_of(rt, alloc, receipts, "024", "135");
+    assert!(rt; closed(alloc, callers, &lists) == Some(6));
 }
 
 #[test]
-fn closes_where_no_receipt_is_altered(rt: HostRuntime) -> Result<(), Fail> {
+fn closes_where_no_receipt_is_altered(rt: HostRuntime) {
     let alloc = rt.alloc();
     let mut receipts = Vec::new(alloc);
-    let callers = callers_of_rows(&rt, alloc, &mut receipts)?;
-    try_rows(&rt, alloc, callers, &receipts)
+    let callers = callers_of_rows(&rt, alloc, &mut receipts);
+    try_rows(&rt, alloc, callers, &receipts);
 }
 
 /// Nothing ties a receipt to its seat but the number of calls, and that places rise.
 #[test]
-fn closes_where_neighbours_are_exchanged(rt: HostRuntime) -> Result<(), Fail> {
+fn closes_where_neighbours_are_exchanged(rt: HostRuntime) {
     let alloc = rt.alloc();
     for (first, second) in EXCHANGED_NEIGHBOURS {
         let mut receipts = Vec::new(alloc);
-        let callers = two_callers(&rt, alloc, &mut receipts, "g1", Tells::TheTruth)?;
-        let lists = lists_of(alloc, &receipts, first, second)?;
-        assert_eq!(rt; closed(alloc, callers, &lists), Some(6));
+        let callers = two_callers(&rt, alloc, &mut receipts, "g1", Tells::TheTruth);
+        let lists = lists_of(&rt, alloc, &receipts, first, second);
+        assert!(rt; closed(alloc, callers, &lists) == Some(6));
     }
-    Ok(())
 }

@@ -1,31 +1,31 @@
 //! A scheduler that is opened, or goes on from a cluster, is called and closed, a round and a list of events that are run, at
 //! the second try.
 
-ghost use Rattle.std.specs.Prelude.{IfOk, IsTrue};
-ghost use Rattle.ynl_model.specs.Accepted.{is_accepted};
+ghost use Rattle.std.specs.Prelude.{◌≡◌, length, vec_len};
 
-use crate::events::{closed_len, one, opened, poll, register, tried, worked};
+use crate::events::{closed_len, one, opened, poll, tried, worked};
+use crate::journals::with_node;
+use crate::values::{registered, tell_refused};
 use crate::workers::{Started, gathered, open, play_script, run, script, turns};
 use std::alloc::Global;
 use std::process::Abort;
 use std::sync::Wait;
 use std::test::Fail;
 use std::thread::Threads;
-use ynl_config::{BUILT_IN, read_config};
-use ynl_core::{Answer, Core, run as run_events};
+use ynl_core::{Answer, NoMemory, run as run_events};
 use ynl_live::{CallFault, Cause, Live, Receipt, Seat, Unclosed};
 use ynl_model::{Event, Reply};
+use ynl_resource::Name;
 use ynl_workers::{End, Unrun, WorkerEnd, run_round};
 
 // Run with each allocation failing in turn: where memory is refused at the first try, which a line
 // tells, the second goes on.
-fn opened_again<R: Print>(rt: &R, alloc: Global) -> Result<(Live, Seat), Fail> {
-    let config = worked(alloc).ok_or("no configuration")?;
-    match Live::open(alloc, config) {
+fn opened_again<R: Print + Abort>(rt: &R, alloc: Global) -> Result<(Live, Seat), NoMemory> {
+    match opened(rt, alloc) {
         Ok(opened) => Ok(opened),
-        Err(_) => {
-            println!(rt; "refused")?;
-            opened(alloc)
+        Err(NoMemory) => {
+            tell_refused(rt);
+            opened(rt, alloc)
         }
     }
 }
@@ -36,35 +36,35 @@ fn called_again<R: Wait + Print + Abort>(
     live: &Live,
     seat: &mut Seat,
     event: &Event,
-) -> Result<Receipt, Fail> {
+) -> Result<Receipt, CallFault> {
     let before = (seat.calls(), seat.front());
     match live.call(rt, seat, *event) {
         Err(CallFault::NoMemory) => {
-            println!(rt; "refused")?;
-            assert_eq!(rt; (seat.calls(), seat.front()), before);
+            tell_refused(rt);
+            assert!(rt; (seat.calls(), seat.front()) == before);
             let receipt = live.call(rt, seat, *event)?;
-            assert_eq!(rt; receipt.place, before.1);
+            assert!(rt; receipt.place == before.1);
             Ok(receipt)
         }
-        answer => Ok(answer?),
+        answer => answer,
     }
 }
 
-pub(crate) fn closed_again<R: Print>(
+pub(crate) fn closed_again<R: Print + Abort>(
     rt: &R,
     alloc: Global,
     live: Live,
     seats: Vec<Seat>,
     lists: &[Vec<Receipt>],
-) -> Result<Option<usize>, Fail> {
+) -> Option<usize> {
     match tried(alloc, live, seats, lists) {
-        Ok(len) => Ok(Some(len)),
+        Ok(len) => Some(len),
         Err(Unclosed { cause, live, seats }) => {
             if cause != Cause::NoMemory {
-                return Ok(None);
+                return None;
             }
-            println!(rt; "refused")?;
-            Ok(closed_len(alloc, live, seats, lists))
+            tell_refused(rt);
+            closed_len(alloc, live, seats, lists)
         }
     }
 }
@@ -77,16 +77,16 @@ fn holds_one(reply: &Reply) -> bool {
 }
 
 /// One caller's part of it.
-fn closed_alone_again<R: Print>(
+fn closed_alone_again<R: Print + Abort>(
     rt: &R,
     alloc: Global,
     live: Live,
     seat: Seat,
     receipts: Vec<Receipt>,
-) -> Result<Option<usize>, Fail> {
+) -> Result<Option<usize>, NoMemory> {
     let seats = one(alloc, seat)?;
     let lists = one(alloc, receipts)?;
-    closed_again(rt, alloc, live, seats, lists.as_slice())
+    Ok(closed_again(rt, alloc, live, seats, lists.as_slice()))
 }
 
 /// What four events placed is told by a poll, which is the fifth.
@@ -96,10 +96,10 @@ fn call_script<R: Wait + Print + Abort>(
     seat: &mut Seat,
     receipts: &mut Vec<Receipt>,
 ) -> Result<(), Fail> {
-    for event in script().ok_or("no script")? {
+    for event in script(rt) {
         receipts.push(called_again(rt, live, seat, &event)?)?;
     }
-    let last = called_again(rt, live, seat, &poll("j1").ok_or("no event")?)?;
+    let last = called_again(rt, live, seat, &poll(rt, "j1"))?;
     assert!(rt; holds_one(&last.reply));
     receipts.push(last)?;
     Ok(())
@@ -112,29 +112,17 @@ fn is_called_at_the_second_try(rt: HostRuntime) -> Result<(), Fail> {
     let mut receipts = Vec::with_capacity(alloc, 5)?;
     call_script(&rt, &live, &mut seat, &mut receipts)?;
     let len = closed_alone_again(&rt, alloc, live, seat, receipts)?;
-    assert_eq!(rt; len, Some(5));
+    assert!(rt; len == Some(5));
     Ok(())
 }
 
-/// A cluster with a node, under a configuration that is accepted, as each is that is read.
-fn with_node(alloc: Global) -> Result<Core, Fail>
-    ensures { IfOk result (λ core. IsTrue (is_accepted core.config)) }
-{
-    let Ok(config) = read_config(alloc, BUILT_IN.as_bytes())? else {
-        return Err(Fail::new("no configuration"));
-    };
-    let mut core = Core::open(alloc, config)?;
-    let _joined = core.apply(register().ok_or("no event")?)?;
-    Ok(core)
-}
-
-/// A scheduler that goes on from there.
-fn resumed_again<R: Print>(rt: &R, alloc: Global) -> Result<(Live, Seat), Fail> {
-    match Live::resume(alloc, with_node(alloc)?) {
+/// A scheduler that goes on from a cluster with a node.
+fn resumed_again<R: Print + Abort>(rt: &R, alloc: Global) -> Result<(Live, Seat), NoMemory> {
+    match Live::resume(alloc, with_node(rt, alloc)?) {
         Ok(resumed) => Ok(resumed),
-        Err(_) => {
-            println!(rt; "refused")?;
-            Ok(Live::resume(alloc, with_node(alloc)?)?)
+        Err(NoMemory) => {
+            tell_refused(rt);
+            Live::resume(alloc, with_node(rt, alloc)?)
         }
     }
 }
@@ -144,34 +132,47 @@ fn resumed_again<R: Print>(rt: &R, alloc: Global) -> Result<(Live, Seat), Fail> 
 fn goes_on_at_the_second_try(rt: HostRuntime) -> Result<(), Fail> {
     let alloc = rt.alloc();
     let (live, mut seat) = resumed_again(&rt, alloc)?;
-    let receipt = called_again(&rt, &live, &mut seat, &register().ok_or("no event")?)?;
+    let receipt = called_again(&rt, &live, &mut seat, &registered(&rt, "g1", "gpu"))?;
     assert!(rt; matches!(&receipt.reply, Reply::Refused(_)));
     let len = closed_alone_again(&rt, alloc, live, seat, one(alloc, receipt)?)?;
-    assert_eq!(rt; len, Some(1));
+    assert!(rt; len == Some(1));
     Ok(())
 }
 
+/// A round of workers that are handed the lists of their nodes.
+fn round_again<R: Threads + Wait + Sync + Print + Abort>(
+    rt: &R,
+    alloc: Global,
+    live: &Live,
+    seats: Vec<Seat>,
+    lists: &[Vec<Name>],
+) -> Result<Vec<WorkerEnd>, NoMemory>
+    requires { length lists.now ≡ vec_len seats }
+{
+    match run_round(rt, alloc, live, seats, lists, &open()) {
+        Ok(ends) => Ok(ends),
+        Err(Unrun { seats }) => {
+            tell_refused(rt);
+            run(rt, alloc, live, seats, lists, &open())
+        }
+    }
+}
+
 /// A round of one worker, over the node once.
-fn run_again<R: Threads + Wait + Sync + Print>(
+fn run_again<R: Threads + Wait + Sync + Print + Abort>(
     rt: &R,
     alloc: Global,
     live: &Live,
     seat: Seat,
-) -> Result<WorkerEnd, Fail> {
+) -> Result<WorkerEnd, NoMemory> {
     let seats = one(alloc, seat)?;
-    let lists = one(alloc, turns(alloc, 1)?)?;
-    let mut ends = match run_round(rt, alloc, live, seats, &lists, &open()) {
-        Ok(ends) => ends,
-        Err(Unrun { seats }) => {
-            println!(rt; "refused")?;
-            run(rt, alloc, live, seats, &lists, &open())?
-        }
-    };
-    Ok(ends.pop().ok_or("no worker")?)
+    let lists = one(alloc, turns(rt, alloc, 1)?)?;
+    let mut ends = round_again(rt, alloc, live, seats, &lists)?;
+    Ok(ends.pop().expect(rt, "a worker"))
 }
 
 /// The worker with these receipts before its own.
-fn joined(mut receipts: Vec<Receipt>, worker: WorkerEnd) -> Result<WorkerEnd, Fail> {
+fn joined(mut receipts: Vec<Receipt>, worker: WorkerEnd) -> Result<WorkerEnd, NoMemory> {
     let WorkerEnd {
         seat,
         receipts: more,
@@ -193,11 +194,11 @@ fn worked_again<R: Threads + Wait + Sync + Print + Abort>(
     alloc: Global,
     live: &Live,
     first: WorkerEnd,
-) -> Result<WorkerEnd, Fail> {
+) -> Result<WorkerEnd, NoMemory> {
     if first.end == End::Whole {
         return Ok(first);
     }
-    println!(rt; "refused")?;
+    tell_refused(rt);
     assert!(rt; first.end == End::NoMemory && first.receipts.len() < 2);
     let WorkerEnd { seat, receipts, .. } = first;
     joined(receipts, run_again(rt, alloc, live, seat)?)
@@ -208,10 +209,10 @@ fn whole_worker<R: Threads + Wait + Sync + Print + Abort>(
     rt: &R,
     alloc: Global,
     started: &Started,
-) -> Result<WorkerEnd, Fail> {
+) -> Result<WorkerEnd, NoMemory> {
     let first = run_again(rt, alloc, &started.live, started.seat.split())?;
     let worker = worked_again(rt, alloc, &started.live, first)?;
-    assert_eq!(rt; worker.end, End::Whole);
+    assert!(rt; worker.end == End::Whole);
     Ok(worker)
 }
 
@@ -224,8 +225,8 @@ fn round_is_run_at_the_second_try(rt: HostRuntime) -> Result<(), Fail> {
     let worker = whole_worker(&rt, alloc, &started)?;
     let entries = 4 + worker.receipts.len();
     let (live, seats, lists) = gathered(alloc, started, one(alloc, worker)?)?;
-    let len = closed_again(&rt, alloc, live, seats, lists.as_slice())?;
-    assert_eq!(rt; len, Some(entries));
+    let len = closed_again(&rt, alloc, live, seats, lists.as_slice());
+    assert!(rt; len == Some(entries));
     Ok(())
 }
 
@@ -233,19 +234,18 @@ fn is_answered(answer: &Answer) -> bool {
     matches!(answer, Answer::Replied(_))
 }
 
-/// Whether a run answers each of these events.
-fn is_run(alloc: Global, events: &[Event]) -> Option<bool> {
-    let ran = run_events(alloc, worked(alloc)?, events).ok()?;
-    Some(ran.answers.as_slice().iter().all(is_answered))
+/// Whether a run answers each event of the script.
+fn is_run<R: Abort>(rt: &R, alloc: Global) -> Result<bool, NoMemory> {
+    let ran = run_events(alloc, worked(rt, alloc)?, &script(rt))?;
+    Ok(ran.answers.as_slice().iter().all(is_answered))
 }
 
 #[test]
 fn events_are_run_at_the_second_try(rt: HostRuntime) -> Result<(), Fail> {
     let alloc = rt.alloc();
-    let events = script().ok_or("no script")?;
-    if is_run(alloc, &events) != Some(true) {
-        println!(rt; "refused")?;
-        assert!(rt; is_run(alloc, &events) == Some(true));
+    if is_run(&rt, alloc) != Ok(true) {
+        tell_refused(&rt);
+        assert!(rt; is_run(&rt, alloc)?);
     }
     Ok(())
 }

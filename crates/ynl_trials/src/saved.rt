@@ -1,5 +1,6 @@
 //! Lines of a saved state, which no command reads yet, at the second try.
 
+use crate::values::tell_refused;
 use std::alloc::{AllocError, Global};
 use std::test::Fail;
 use ynl_saved_text::{StateFault, StateReader, put_state_line};
@@ -87,7 +88,7 @@ fn a_state_is_read_and_written_at_the_second_try(rt: HostRuntime) -> Result<(), 
     let are = match are_as_they_should(alloc) {
         Ok(are) => are,
         Err(_) => {
-            println!(rt; "refused")?;
+            tell_refused(&rt);
             are_as_they_should(alloc)?
         }
     };

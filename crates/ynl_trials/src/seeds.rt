@@ -3,8 +3,8 @@
 use std::hash::{BuildHasher, Hasher};
 use std::io;
 use std::io::ErrorKind;
+use std::process::Abort;
 use std::random::RandomSource;
-use std::test::Fail;
 use ynl_resource::{HashSeed, Name};
 use ynl_tables::submissions::Submissions;
 
@@ -32,12 +32,11 @@ fn hash_by(byte: u8) -> Option<u64> {
 }
 
 #[test]
-fn keys_are_made_of_the_random_bytes(rt: HostRuntime) -> Result<(), Fail> {
-    assert_eq!(rt; hash_by(1), hash_by(1));
-    assert_ne!(rt; hash_by(1), hash_by(2));
-    assert_ne!(rt; hash_by(1), Some(HashSeed::fixed().hash_one(7u64)));
+fn keys_are_made_of_the_random_bytes(rt: HostRuntime) {
+    assert!(rt; hash_by(1) == hash_by(1));
+    assert!(rt; hash_by(1) != hash_by(2));
+    assert!(rt; hash_by(1) != Some(HashSeed::fixed().hash_one(7u64)));
     assert!(rt; HashSeed::random(&Source { byte: None }).is_err());
-    Ok(())
 }
 
 // The lowest eight bits of the hash of a name, by which a table of up to 256 rows finds its place.
@@ -63,34 +62,31 @@ fn sharing(number: u32) -> Option<Name> {
 }
 
 // Submits the name, if it was not, and tells its turn.
-fn submit(submissions: &mut Submissions, name: &Name) -> Result<u32, Fail> {
-    submissions.reserve_one()?;
+fn submit<R: Abort>(rt: &R, submissions: &mut Submissions, name: &Name) -> u32 {
+    submissions.reserve_one().expect(rt, "memory");
     match submissions.find(name) {
-        Some(turn) => Ok(turn),
-        None => Ok(submissions.submit(name, 1, 1)),
+        Some(turn) => turn,
+        None => submissions.submit(name, 1, 1),
     }
 }
 
 // Submits all names that share a place, and tells how many there were, if each had the next turn.
-fn submit_all(submissions: &mut Submissions) -> Result<u32, Fail> {
+fn submit_all<R: Abort>(rt: &R, submissions: &mut Submissions) -> u32 {
     let mut count = 0;
     for number in 0..17576u32 {
         if let Some(name) = sharing(number) {
-            if submit(submissions, &name)? != count {
-                return Err(Fail::new("another turn"));
-            }
+            assert!(rt; submit(rt, submissions, &name) == count);
             count = count.saturating_add(1);
         }
     }
-    Ok(count)
+    count
 }
 
 #[test]
-fn names_that_share_a_place_are_told_apart(rt: HostRuntime) -> Result<(), Fail> {
+fn names_that_share_a_place_are_told_apart(rt: HostRuntime) {
     let mut submissions = Submissions::new(rt.alloc(), HashSeed::fixed());
-    let count = submit_all(&mut submissions)?;
+    let count = submit_all(&rt, &mut submissions);
     assert!(rt; count > 32);
     // Each is found at its turn.
-    assert_eq!(rt; submit_all(&mut submissions)?, count);
-    Ok(())
+    assert!(rt; submit_all(&rt, &mut submissions) == count);
 }

@@ -2,58 +2,50 @@
 
 ghost use Rattle.std.specs.Prelude.{◌<◌};
 
-use crate::events::{ask, register_node, submit, worked};
+use crate::events::{ask, submit, worked};
+use crate::values::{name, registered};
 use crate::workers::{HaltsAt, open};
 use std::alloc::Global;
+use std::process::Abort;
 use std::sync::Wait;
-use std::test::Fail;
 use std::thread::Threads;
 use ynl_journal::Start;
 use ynl_model::{Entry, Event};
 use ynl_packed::Events;
-use ynl_resource::Name;
 use ynl_session::run_session;
 use ynl_workers::Gate;
 
 /// Two nodes, and an application that waits for its master and asks for two containers.
-pub(crate) fn script() -> Option<[Event; 4]> {
-    Some([
-        register_node("g2")?,
-        register_node("g1")?,
-        submit("j1", 1000)?,
-        ask()?,
-    ])
+fn script<R: Abort>(rt: &R) -> [Event; 4] {
+    [
+        registered(rt, "g2", "gpu"),
+        registered(rt, "g1", "gpu"),
+        submit(rt, "j1", 1000),
+        ask(rt),
+    ]
 }
 
 /// The closed journal of the script and so many rounds.
-fn played<R: Threads + Wait + Sync, G: Gate + Sync>(
+fn played<R: Threads + Wait + Abort + Sync, G: Gate + Sync>(
     rt: &R,
     alloc: Global,
     workers: usize,
     rounds: u64,
     gate: &G,
-) -> Result<Vec<Entry>, Fail>
+) -> Vec<Entry>
     requires { 0 < workers }
 {
-    let events = Events::of(alloc, &script().ok_or("no script")?)?;
-    let config = worked(alloc).ok_or("no configuration")?;
-    let entries = run_session(
-        rt,
-        alloc,
-        Start::opened(config),
-        &events,
-        workers,
-        rounds,
-        gate,
-    )?;
-    Ok(entries.to_vec()?)
+    let events = Events::of(alloc, &script(rt)).expect(rt, "memory");
+    let start = Start::opened(worked(rt, alloc).expect(rt, "memory"));
+    let ran = run_session(rt, alloc, start, &events, workers, rounds, gate);
+    ran.expect(rt, "a journal").to_vec().expect(rt, "memory")
 }
 
 /// How often a node is asked about.
-fn times_asked(entries: &[Entry], name: &str) -> Result<usize, Fail> {
-    let node = Name::parse(name)?;
+fn times_asked<R: Abort>(rt: &R, entries: &[Entry], node: &str) -> usize {
+    let node = name(rt, node);
     let event = Event::Propose { node };
-    Ok(entries.iter().filter(|entry| entry.event == event).count())
+    entries.iter().filter(|entry| entry.event == event).count()
 }
 
 fn commits(entries: &[Entry]) -> usize {
@@ -73,22 +65,20 @@ fn others(entries: &[Entry]) -> usize {
 
 /// Each round begins anew with the first node, where the worker is halted.
 #[test]
-fn session_that_is_halted_commits_nothing(rt: HostRuntime) -> Result<(), Fail> {
-    let entries = played(&rt, rt.alloc(), 1, 2, &HaltsAt::turn(0))?;
-    assert_eq!(rt; commits(&entries), 0);
-    assert_eq!(rt; times_asked(&entries, "g1")?, 2);
-    assert_eq!(rt; entries.len(), 6);
-    Ok(())
+fn session_that_is_halted_commits_nothing(rt: HostRuntime) {
+    let entries = played(&rt, rt.alloc(), 1, 2, &HaltsAt::turn(0));
+    assert!(rt; commits(&entries) == 0);
+    assert!(rt; times_asked(&rt, &entries, "g1") == 2);
+    assert!(rt; entries.len() == 6);
 }
 
 /// The first two workers have a turn each, of which the gate was asked and told.
 #[test]
-fn workers_may_be_more_than_nodes(rt: HostRuntime) -> Result<(), Fail> {
+fn workers_may_be_more_than_nodes(rt: HostRuntime) {
     let gate = open();
-    let entries = played(&rt, rt.alloc(), 5, 1, &gate)?;
-    assert_eq!(rt; gate.noted(), (101, 101));
-    assert_eq!(rt; times_asked(&entries, "g1")?, 1);
-    assert_eq!(rt; times_asked(&entries, "g2")?, 1);
-    assert_eq!(rt; others(&entries), 6);
-    Ok(())
+    let entries = played(&rt, rt.alloc(), 5, 1, &gate);
+    assert!(rt; gate.noted() == (101, 101));
+    assert!(rt; times_asked(&rt, &entries, "g1") == 1);
+    assert!(rt; times_asked(&rt, &entries, "g2") == 1);
+    assert!(rt; others(&entries) == 6);
 }

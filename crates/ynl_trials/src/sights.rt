@@ -1,12 +1,14 @@
 //! What is planned from a copy of a cluster is what the cluster would have chosen when it was copied.
 
+use crate::values::{heartbeat, label, name, size, tell_refused};
 use std::alloc::Global;
 use std::process::Abort;
 use std::test::Fail;
+use ynl_config::read_config;
 use ynl_core::{Core, NoMemory, Sighted};
 use ynl_lines::read_event;
 use ynl_model::{Event, Proposal, Reply, What};
-use ynl_resource::{Label, Name, Refusal, Size};
+use ynl_resource::{Label, Refusal};
 use ynl_sights::plan;
 
 /// Two labels, of which ssd may take guests, and leaves two and one below root.
@@ -86,51 +88,52 @@ const GUESTS: [&str; 6] = [
     r#"{"app":"x1","count":2,"event":"ask","label":"","memory":2000,"priority":1,"tenant":"eng","vcores":2}"#,
 ];
 
-fn event_of(alloc: Global, line: &str) -> Result<Event, Fail> {
-    match read_event(alloc, line.as_bytes()) {
-        Ok(Ok(event)) => Ok(event),
-        Ok(Err(fault)) => Err(Fail::new(fault.word())),
-        Err(e) => Err(e.into()),
-    }
+fn event_of<R: Abort>(rt: &R, alloc: Global, line: &str) -> Result<Event, NoMemory> {
+    let read = read_event(alloc, line.as_bytes())?;
+    Ok(read.expect(rt, "an event"))
 }
 
 /// The proposal of a container that an application of eng asks for.
-fn asked(node: &str, stamp: u64, app: &str, label: Label) -> Result<Proposal, Fail> {
-    Ok(Proposal {
-        node: Name::parse(node)?,
+fn asked<R: Abort>(rt: &R, node: &str, stamp: u64, app: &str, label: Label) -> Proposal {
+    Proposal {
+        node: name(rt, node),
         stamp,
-        tenant: Name::parse("eng")?,
-        app: Name::parse(app)?,
+        tenant: name(rt, "eng"),
+        app: name(rt, app),
         what: What::Ask(label, 1),
-        size: Size::new(2000, 2).ok_or("no size")?,
-    })
+        size: size(rt, 2000, 2),
+    }
 }
 
-fn opened(alloc: Global, config: &str) -> Result<Core, Fail> {
-    let Ok(config) = ynl_config::read_config(alloc, config.as_bytes())? else {
-        return Err(Fail::new("no configuration"));
-    };
-    Ok(Core::open(alloc, config)?)
+fn opened<R: Abort>(rt: &R, alloc: Global, config: &str) -> Result<Core, NoMemory> {
+    let read = read_config(alloc, config.as_bytes())?;
+    Core::open(alloc, read.expect(rt, "a configuration"))
+}
+
+/// Gives the line to the cluster.
+fn give<R: Abort>(rt: &R, alloc: Global, core: &mut Core, line: &str) -> Result<(), NoMemory> {
+    let _reply = core.apply(event_of(rt, alloc, line)?)?;
+    Ok(())
 }
 
 /// A cluster that was given the lines.
-fn given(alloc: Global, config: &str, lines: &[&str]) -> Result<Core, Fail> {
-    let mut core = opened(alloc, config)?;
+fn given<R: Abort>(rt: &R, alloc: Global, config: &str, lines: &[&str]) -> Result<Core, NoMemory> {
+    let mut core = opened(rt, alloc, config)?;
     for line in lines {
-        let _reply = core.apply(event_of(alloc, line)?)?;
+        give(rt, alloc, &mut core, line)?;
     }
     Ok(core)
 }
 
 // Run with each allocation failing in turn: where memory is refused at the first try, which a line
 // tells, the second copies.
-fn seen(rt: &HostRuntime, core: &Core, node: &str) -> Result<Sighted, Fail> {
-    let name = Name::parse(node)?;
-    match core.sight(&name) {
+fn seen<R: Print + Abort>(rt: &R, core: &Core, node: &str) -> Result<Sighted, NoMemory> {
+    let node = name(rt, node);
+    match core.sight(&node) {
         Ok(sighted) => Ok(sighted),
         Err(NoMemory) => {
-            println!(rt; "refused")?;
-            Ok(core.sight(&name)?)
+            tell_refused(rt);
+            core.sight(&node)
         }
     }
 }
@@ -146,12 +149,10 @@ fn planned(sighted: &Sighted) -> Option<Proposal> {
 /// The cluster goes on, the copy does not.
 #[test]
 fn a_copy_is_planned_from_at_the_second_try(rt: HostRuntime) -> Result<(), Fail> {
-    let alloc = rt.alloc();
-    let mut core = given(alloc, SHARED, &ASKED)?;
+    let mut core = given(&rt, rt.alloc(), SHARED, &ASKED)?;
     let sighted = seen(&rt, &core, "g1")?;
-    let node = Name::parse("g1")?;
-    let _placed = core.apply(Event::Heartbeat { node })?;
-    let proposal = asked("g1", 2, "j1", Label::parse("gpu")?)?;
+    let _placed = core.apply(heartbeat(&rt, "g1"))?;
+    let proposal = asked(&rt, "g1", 2, "j1", label(&rt, "gpu"));
     assert!(rt; planned(&sighted) == Some(proposal));
     let reply = core.apply(Event::Commit { proposal })?;
     assert!(rt; matches!(&reply, Reply::Refused(Refusal::Stale)));
@@ -160,35 +161,33 @@ fn a_copy_is_planned_from_at_the_second_try(rt: HostRuntime) -> Result<(), Fail>
 
 #[test]
 fn a_guest_is_planned_at_the_second_try(rt: HostRuntime) -> Result<(), Fail> {
-    let alloc = rt.alloc();
-    let core = given(alloc, SHARED, &GUESTS)?;
+    let core = given(&rt, rt.alloc(), SHARED, &GUESTS)?;
     let sighted = seen(&rt, &core, "s1")?;
-    let proposal = asked("s1", 1, "x1", Label::Unlabelled)?;
+    let proposal = asked(&rt, "s1", 1, "x1", Label::Unlabelled);
     assert!(rt; planned(&sighted) == Some(proposal));
     Ok(())
 }
 
 /// Whether what is planned for each node is what the cluster would choose there.
-fn plans_as_it_chooses(core: &Core, nodes: &[&str]) -> Result<bool, Fail> {
+fn plans_as_it_chooses<R: Abort>(rt: &R, core: &Core, nodes: &[&str]) -> bool {
     let mut as_chosen = true;
     for node in nodes {
-        let name = Name::parse(node)?;
-        let sighted = core.sight(&name)?;
-        as_chosen = as_chosen && planned(&sighted) == core.choose(&name);
+        let node = name(rt, node);
+        let sighted = core.sight(&node).expect(rt, "memory");
+        as_chosen = as_chosen && planned(&sighted) == core.choose(&node);
     }
-    Ok(as_chosen)
+    as_chosen
 }
 
 /// Gives the lines to a cluster, and answers whether what is planned is what is chosen after each.
-fn agrees(alloc: Global, config: &str, lines: &[&str], nodes: &[&str]) -> Result<bool, Fail> {
-    let mut core = opened(alloc, config)?;
+fn agrees<R: Abort>(rt: &R, alloc: Global, config: &str, lines: &[&str], nodes: &[&str]) -> bool {
+    let mut core = opened(rt, alloc, config).expect(rt, "memory");
+    let mut as_chosen = true;
     for line in lines {
-        let _reply = core.apply(event_of(alloc, line)?)?;
-        if !plans_as_it_chooses(&core, nodes)? {
-            return Ok(false);
-        }
+        give(rt, alloc, &mut core, line).expect(rt, "memory");
+        as_chosen = as_chosen && plans_as_it_chooses(rt, &core, nodes);
     }
-    Ok(true)
+    as_chosen
 }
 
 /// Leaves of two tenants on gpu and DEFAULT, users at their limits, masters over their share, maxima that are reached, guests,
@@ -228,13 +227,9 @@ const LONG: [&str; 5] = [
 ];
 
 #[test]
-fn plans_are_choices(rt: HostRuntime) -> Result<(), Fail> {
+fn plans_are_choices(rt: HostRuntime) {
     let alloc = rt.alloc();
-    let shared = agrees(alloc, SHARED, &MORNING, &["g1", "d1", "s1"])?;
-    assert!(rt; shared);
-    let guests = agrees(alloc, SHARED, &GUESTS, &["g1", "d1", "s1"])?;
-    assert!(rt; guests);
-    let deep = agrees(alloc, DEEP, &LONG, &["d1"])?;
-    assert!(rt; deep);
-    Ok(())
+    assert!(rt; agrees(&rt, alloc, SHARED, &MORNING, &["g1", "d1", "s1"]));
+    assert!(rt; agrees(&rt, alloc, SHARED, &GUESTS, &["g1", "d1", "s1"]));
+    assert!(rt; agrees(&rt, alloc, DEEP, &LONG, &["d1"]));
 }

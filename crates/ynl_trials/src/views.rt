@@ -2,28 +2,16 @@
 
 ghost use Rattle.std.specs.Prelude.{◌≡◌, IfOk, length, vec_len};
 
-use std::alloc::{AllocError, Global};
+use crate::values::{id, label, name, path, registered, size, tell_refused};
+use std::alloc::Global;
+use std::process::Abort;
 use std::test::Fail;
 use ynl_config::built_in;
 use ynl_core::{Answer, NoMemory, run};
 use ynl_model::{Event, Items, Placed, Reply, What};
 use ynl_queues::Config;
-use ynl_resource::{Id, Label, Name, Path, Refusal, Size};
+use ynl_resource::{Label, Name, Refusal};
 use ynl_view::{pick, restrict, sole, view};
-
-/// A node of 10,000 MB joins a partition.
-pub(crate) fn registered(node: &str, label: &str) -> Result<Event, Fail> {
-    Ok(Event::Register {
-        node: Name::parse(node)?,
-        label: Label::parse(label)?,
-        size: Size::new(10000, 10).ok_or("no size")?,
-    })
-}
-
-fn placed(alloc: Global, container: Placed) -> Result<Answer, AllocError> {
-    let list = Vec::from_slice(alloc, &[container])?;
-    Ok(Answer::Replied(Reply::Placed(Items::new(list))))
-}
 
 /// Whether the answer is a list of containers that were placed.
 fn is_placed(answer: &Answer) -> bool {
@@ -36,74 +24,77 @@ fn seen_of(
     events: &[Event],
     answers: &[Answer],
     tenant: &Name,
+    gpu: &Label,
 ) -> Result<Vec<Answer>, NoMemory>
     requires { length events.now ≡ length answers.now }
 {
     let alone = restrict(alloc, config, tenant)?;
-    let Ok(gpu) = Label::parse("gpu") else {
-        return Err(NoMemory);
-    };
-    let seen = view(alloc, &alone, events, tenant, &gpu)?;
+    let seen = view(alloc, &alone, events, tenant, gpu)?;
     pick(alloc, answers, &seen.places)
 }
 
 /// A container of the tenant's, placed on a node.
-fn container(tenant: Name) -> Result<Placed, Fail> {
-    Ok(Placed {
-        id: Id::parse("gpu#2")?,
+fn container<R: Abort>(rt: &R, tenant: Name) -> Placed {
+    Placed {
+        id: id(rt, "gpu#2"),
         node: tenant,
         tenant,
         app: tenant,
         what: What::Master,
-        size: Size::new(1000, 1).ok_or("no size")?,
-    })
+        size: size(rt, 1000, 1),
+    }
 }
 
 /// The answers to two events, of which the second placed something.
-fn two_answers(alloc: Global, tenant: Name) -> Result<Vec<Answer>, Fail>
+fn two_answers(alloc: Global, placed: Placed) -> Result<Vec<Answer>, NoMemory>
     ensures { IfOk result (λ answers. vec_len answers ≡ 2) }
 {
-    let second = placed(alloc, container(tenant)?)?;
+    let list = Items::new(Vec::from_slice(alloc, &[placed])?);
     let mut answers = Vec::new(alloc);
     answers.push(Answer::NoMemory)?;
-    answers.push(second)?;
+    answers.push(Answer::Replied(Reply::Placed(list)))?;
     Ok(answers)
 }
 
 // Run with each allocation failing in turn: where memory is refused at the first try, which a line
 // tells, the second picks.
-fn picked(rt: &HostRuntime, config: &Config, tenant: &Name) -> Result<Vec<Answer>, Fail> {
-    let events = [registered("d1", "")?, registered("g1", "gpu")?];
-    let answers = two_answers(rt.alloc(), *tenant)?;
-    match seen_of(rt.alloc(), config, &events, &answers, tenant) {
+fn picked<R: Print + Abort>(
+    rt: &R,
+    alloc: Global,
+    config: &Config,
+    tenant: &Name,
+    gpu: &Label,
+) -> Result<Vec<Answer>, NoMemory> {
+    let events = [registered(rt, "d1", ""), registered(rt, "g1", "gpu")];
+    let answers = two_answers(alloc, container(rt, *tenant))?;
+    match seen_of(alloc, config, &events, &answers, tenant, gpu) {
         Ok(picked) => Ok(picked),
         Err(NoMemory) => {
-            println!(rt; "refused")?;
-            Ok(seen_of(rt.alloc(), config, &events, &answers, tenant)?)
+            tell_refused(rt);
+            seen_of(alloc, config, &events, &answers, tenant, gpu)
         }
     }
 }
 
 #[test]
 fn picks_at_the_second_try(rt: HostRuntime) -> Result<(), Fail> {
-    let eng = Name::parse("eng")?;
+    let (eng, gpu) = (name(&rt, "eng"), label(&rt, "gpu"));
     let config = built_in(rt.alloc())?;
-    assert!(rt; sole(&config, &eng, &Label::parse("gpu")?));
-    let picked = picked(&rt, &config, &eng)?;
-    assert_eq!(rt; picked.len(), 1);
-    assert!(rt; picked.iter().all(is_placed));
+    assert!(rt; sole(&config, &eng, &gpu));
+    let picked = picked(&rt, rt.alloc(), &config, &eng, &gpu)?;
+    assert!(rt; picked.len() == 1 && picked.iter().all(is_placed));
     Ok(())
 }
 
 /// An application comes to root.
-fn submitted_to_root() -> Result<Event, Fail> {
-    Ok(Event::Submit {
-        queue: Path::parse("root")?,
-        app: Name::parse("j1")?,
-        user: Name::parse("ann")?,
+fn submitted_to_root<R: Abort>(rt: &R) -> Event {
+    Event::Submit {
+        queue: path(rt, "root"),
+        app: name(rt, "j1"),
+        user: name(rt, "ann"),
         label: None,
-        master: Size::new(1, 1).ok_or("no size")?,
-    })
+        master: size(rt, 1, 1),
+    }
 }
 
 /// Whether the event is refused for this reason.
@@ -116,14 +107,13 @@ fn is_refused(answer: &Answer, reason: Refusal) -> bool {
 
 // No text of a configuration leaves root without a queue.
 #[test]
-fn nobody_submits_to_root(rt: HostRuntime) -> Result<(), Fail> {
+fn nobody_submits_to_root(rt: HostRuntime) {
     let alloc = rt.alloc();
-    let event = submitted_to_root()?;
-    let nobody = restrict(alloc, &built_in(alloc)?, &Name::parse("mkt")?)?;
+    let config = built_in(alloc).expect(&rt, "memory");
+    let nobody = restrict(alloc, &config, &name(&rt, "mkt")).expect(&rt, "memory");
     assert!(rt; nobody.queues().is_empty());
-    let ran = run(alloc, nobody, &[event])?;
+    let ran = run(alloc, nobody, &[submitted_to_root(&rt)]).expect(&rt, "memory");
     for answer in ran.answers.as_slice() {
         assert!(rt; is_refused(answer, Refusal::NotALeaf));
     }
-    Ok(())
 }

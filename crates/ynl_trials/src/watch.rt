@@ -1,6 +1,7 @@
 //! How long the commits of workers take.
 
 use std::alloc::Global;
+use std::process::Abort;
 use std::rt::Clock;
 use std::sync::atomic::{AtomicU64, Ordering};
 use std::time::{Duration, Instant};
@@ -36,22 +37,24 @@ impl<R> Drop for Watch<'_, R> {
     }
 }
 
-impl<'a, R: Clock> Watch<'a, R> {
-    pub(crate) fn new(rt: &'a R, alloc: Global, workers: u64) -> anyhow::Result<Watch<'a, R>> {
-        let mut times = Vec::new(alloc);
-        for _ in 0..workers {
-            times.push(Times {
-                began: AtomicU64::new(0),
-                longest: AtomicU64::new(0),
-            })?;
-        }
-        Ok(Watch {
-            rt,
-            start: Instant::now(rt)?,
-            times,
-        })
+/// A gate for so many workers, with a watch that starts now.
+pub(crate) fn watched<R: Clock + Abort>(rt: &R, alloc: Global, workers: u64) -> Watch<'_, R> {
+    let mut times = Vec::new(alloc);
+    for _ in 0..workers {
+        let time = Times {
+            began: AtomicU64::new(0),
+            longest: AtomicU64::new(0),
+        };
+        times.push(time).expect(rt, "memory");
     }
+    Watch {
+        rt,
+        start: Instant::now(rt).expect(rt, "a clock"),
+        times,
+    }
+}
 
+impl<R: Clock> Watch<'_, R> {
     /// Microseconds since the start, and 0 where the clock fails.
     fn now(&self) -> u64 {
         match self.start.elapsed(self.rt) {

@@ -2,16 +2,17 @@
 
 ghost use Rattle.std.specs.Prelude.{◌≡◌, length, vec_len};
 
-use crate::events::{ask, called, closed_len, one, opened, register, submit, two};
-use std::alloc::Global;
+use crate::events::{ask, called, closed_len, one, opened, submit, two};
+use crate::values::{heartbeat, id, name, registered};
+use std::alloc::{AllocError, Global};
 use std::process::Abort;
 use std::rt::Clock;
 use std::sync::Wait;
 use std::sync::atomic::{AtomicU64, Ordering};
-use std::test::Fail;
 use std::thread;
 use std::thread::Threads;
 use std::time::Duration;
+use ynl_core::NoMemory;
 use ynl_live::{Live, Receipt, Seat};
 use ynl_model::{Event, Reply};
 use ynl_resource::{Id, Name, Refusal};
@@ -158,21 +159,20 @@ pub(crate) struct Started {
     pub(crate) receipts: Vec<Receipt>,
 }
 
-pub(crate) fn script() -> Option<[Event; 4]> {
-    let node = Name::parse("g1").ok()?;
-    Some([
-        register()?,
-        submit("j1", 1000)?,
-        Event::Heartbeat { node },
-        ask()?,
-    ])
+pub(crate) fn script<R: Abort>(rt: &R) -> [Event; 4] {
+    [
+        registered(rt, "g1", "gpu"),
+        submit(rt, "j1", 1000),
+        heartbeat(rt, "g1"),
+        ask(rt),
+    ]
 }
 
-pub(crate) fn play_script<R: Wait>(rt: &R, alloc: Global) -> Result<Started, Fail> {
-    let (live, mut seat) = opened(alloc)?;
+pub(crate) fn play_script<R: Wait + Abort>(rt: &R, alloc: Global) -> Result<Started, NoMemory> {
+    let (live, mut seat) = opened(rt, alloc)?;
     let mut receipts = Vec::new(alloc);
-    for event in script().ok_or("no script")? {
-        called(rt, &live, &mut seat, &mut receipts, event).ok_or("not called")?;
+    for event in script(rt) {
+        called(rt, &live, &mut seat, &mut receipts, event).ok_or(NoMemory)?;
     }
     Ok(Started {
         live,
@@ -182,9 +182,12 @@ pub(crate) fn play_script<R: Wait>(rt: &R, alloc: Global) -> Result<Started, Fai
 }
 
 /// The node so many times.
-pub(crate) fn turns(alloc: Global, count: usize) -> Result<Vec<Name>, Fail> {
-    let node = Name::parse("g1")?;
-    Ok(vec![in alloc; node; count]?)
+pub(crate) fn turns<R: Abort>(
+    rt: &R,
+    alloc: Global,
+    count: usize,
+) -> Result<Vec<Name>, AllocError> {
+    vec![in alloc; name(rt, "g1"); count]
 }
 
 /// The last reply of a worker.
@@ -211,7 +214,7 @@ pub(crate) fn gathered(
     alloc: Global,
     started: Started,
     ends: Vec<WorkerEnd>,
-) -> Result<(Live, Vec<Seat>, Vec<Vec<Receipt>>), Fail> {
+) -> Result<(Live, Vec<Seat>, Vec<Vec<Receipt>>), AllocError> {
     let Started {
         live,
         seat,
@@ -235,23 +238,24 @@ pub(crate) fn run<R: Threads + Wait + Sync, G: Gate + Sync>(
     seats: Vec<Seat>,
     lists: &[Vec<Name>],
     gate: &G,
-) -> Result<Vec<WorkerEnd>, Fail>
+) -> Result<Vec<WorkerEnd>, NoMemory>
     requires { length lists.now ≡ vec_len seats }
 {
     match run_round(rt, alloc, live, seats, lists, gate) {
         Ok(ends) => Ok(ends),
-        Err(_) => Err(Fail::new("not run")),
+        Err(_) => Err(NoMemory),
     }
 }
 
 /// How many entries the closed journal of the script and of all workers has.
-fn closed_after(
+fn closed_after<R: Abort>(
+    rt: &R,
     alloc: Global,
     started: Started,
     ends: Vec<WorkerEnd>,
-) -> Result<Option<usize>, Fail> {
-    let (live, seats, lists) = gathered(alloc, started, ends)?;
-    Ok(closed_len(alloc, live, seats, lists.as_slice()))
+) -> Option<usize> {
+    let (live, seats, lists) = gathered(alloc, started, ends).expect(rt, "memory");
+    closed_len(alloc, live, seats, lists.as_slice())
 }
 
 /// Two workers, of which one is stale, and the other's container is committed.
@@ -260,42 +264,59 @@ fn ends_of_two<R: Threads + Wait + Abort + Clock + Sync>(
     alloc: Global,
     started: &Started,
     in_plan: bool,
-) -> Result<Vec<WorkerEnd>, Fail> {
-    let seats = two(alloc, started.seat.split(), started.seat.split())?;
-    let lists = two(alloc, turns(alloc, 1)?, turns(alloc, 1)?)?;
+) -> Vec<WorkerEnd> {
+    let seats = two(alloc, started.seat.split(), started.seat.split()).expect(rt, "memory");
     let gate = Overlap::new(rt, in_plan);
-    let ends = run(rt, alloc, &started.live, seats, &lists, &gate)?;
-    assert_eq!(rt; gate.late.load(Ordering::SeqCst), 0);
-    Ok(ends)
+    let ends = run(
+        rt,
+        alloc,
+        &started.live,
+        seats,
+        &two_turns(rt, alloc),
+        &gate,
+    );
+    assert!(rt; gate.late.load(Ordering::SeqCst) == 0);
+    ends.expect(rt, "memory")
+}
+
+/// A turn for each of two workers.
+fn two_turns<R: Abort>(rt: &R, alloc: Global) -> Vec<Vec<Name>>
+    ensures { vec_len result ≡ 2 }
+{
+    let first = turns(rt, alloc, 1).expect(rt, "memory");
+    let second = turns(rt, alloc, 1).expect(rt, "memory");
+    two(alloc, first, second).expect(rt, "memory")
 }
 
 fn two_that_overlap<R: Threads + Wait + Abort + Clock + Sync>(
     rt: &R,
     alloc: Global,
     in_plan: bool,
-) -> Result<(), Fail> {
-    let started = play_script(rt, alloc)?;
-    let ends = ends_of_two(rt, alloc, &started, in_plan)?;
-    let id = Id::parse("gpu#3")?;
-    assert!(rt; ends.first().is_some_and(is_stale));
-    assert!(rt;
-        ends.last()
-            .is_some_and(|worker| is_committed_as(worker, id))
-    );
-    assert_eq!(rt; closed_after(alloc, started, ends)?, Some(8));
-    Ok(())
+) {
+    let started = play_script(rt, alloc).expect(rt, "memory");
+    let ends = ends_of_two(rt, alloc, &started, in_plan);
+    assert!(rt; are_overlapped(&ends, id(rt, "gpu#3")));
+    assert!(rt; closed_after(rt, alloc, started, ends) == Some(8));
+}
+
+/// Whether the first worker is stale, and the last one's container is committed.
+fn are_overlapped(ends: &[WorkerEnd], id: Id) -> bool {
+    match ends {
+        [first, last] => is_stale(first) && is_committed_as(last, id),
+        _ => false,
+    }
 }
 
 #[test]
-fn workers_overlap_before_the_commit(rt: HostRuntime) -> Result<(), Fail> {
-    two_that_overlap(&rt, rt.alloc(), false)
+fn workers_overlap_before_the_commit(rt: HostRuntime) {
+    two_that_overlap(&rt, rt.alloc(), false);
 }
 
 /// While worker 0 is about to plan, with its copy of what the choice reads, worker 1 plans and commits: worker 0 has no lock,
 /// or worker 1's commit would be late.
 #[test]
-fn workers_overlap_before_the_plan(rt: HostRuntime) -> Result<(), Fail> {
-    two_that_overlap(&rt, rt.alloc(), true)
+fn workers_overlap_before_the_plan(rt: HostRuntime) {
+    two_that_overlap(&rt, rt.alloc(), true);
 }
 
 /// How the one worker of a round ended, and how many receipts it has.
@@ -307,41 +328,35 @@ fn told(ends: &[WorkerEnd]) -> Option<(End, usize)> {
 }
 
 /// A round of one worker over three turns on the node, which is halted at one of them.
-fn halted<R: Threads + Wait + Sync>(
+fn halted<R: Threads + Wait + Abort + Sync>(
     rt: &R,
     alloc: Global,
     started: &Started,
     turn: u64,
-) -> Result<Vec<WorkerEnd>, Fail> {
-    let seats = one(alloc, started.seat.split())?;
-    let lists = one(alloc, turns(alloc, 3)?)?;
-    run(
-        rt,
-        alloc,
-        &started.live,
-        seats,
-        &lists,
-        &HaltsAt::turn(turn),
-    )
+) -> Vec<WorkerEnd> {
+    let seats = one(alloc, started.seat.split()).expect(rt, "memory");
+    let turns = turns(rt, alloc, 3).expect(rt, "memory");
+    let lists = one(alloc, turns).expect(rt, "memory");
+    let gate = HaltsAt::turn(turn);
+    run(rt, alloc, &started.live, seats, &lists, &gate).expect(rt, "memory")
 }
 
 /// How a worker ends that is halted at a turn of three, how many receipts it has, and how many entries the closed
 /// journal.
-fn halted_at<R: Threads + Wait + Sync>(
+fn halted_at<R: Threads + Wait + Abort + Sync>(
     rt: &R,
     alloc: Global,
     turn: u64,
-) -> Result<(Option<(End, usize)>, Option<usize>), Fail> {
-    let started = play_script(rt, alloc)?;
-    let ends = halted(rt, alloc, &started, turn)?;
-    let end = told(&ends);
-    Ok((end, closed_after(alloc, started, ends)?))
+) -> (Option<(End, usize)>, Option<usize>) {
+    let started = play_script(rt, alloc).expect(rt, "memory");
+    let ends = halted(rt, alloc, &started, turn);
+    (told(&ends), closed_after(rt, alloc, started, ends))
 }
 
 // A worker is halted before the commit. Two containers are asked for: the third propose is answered none, so no gate
 // is met there.
 #[test]
-fn a_halted_workers_journal_is_closed(rt: HostRuntime) -> Result<(), Fail> {
+fn a_halted_workers_journal_is_closed(rt: HostRuntime) {
     let alloc = rt.alloc();
     for (turn, end, entries) in [
         (0, (End::Halted, 1), 5),
@@ -349,9 +364,8 @@ fn a_halted_workers_journal_is_closed(rt: HostRuntime) -> Result<(), Fail> {
         (2, (End::Whole, 5), 9),
     ] {
         assert!(rt;
-            halted_at(&rt, alloc, turn)? == (Some(end), Some(entries)),
+            halted_at(&rt, alloc, turn) == (Some(end), Some(entries)),
             "{turn}"
         );
     }
-    Ok(())
 }
