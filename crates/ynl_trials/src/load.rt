@@ -40,20 +40,21 @@ const LITTLE: Load = Load {
 
 /// What `bench/live` asks for: the numbers of the workers, the nodes, the rounds, the caller's steps, and the
 /// applications that wait for good.
-fn load_of(alloc: Global, text: &str) -> anyhow::Result<Load> {
+fn load_of<R: Abort>(rt: &R, alloc: Global, text: &str) -> Load {
     let mut numbers = Vec::new(alloc);
     for word in text.split(' ') {
-        numbers.push(word.parse::<u64>()?)?;
+        let number = word.parse::<u64>().expect(rt, "a number");
+        numbers.push(number).expect(rt, "memory");
     }
     match numbers.as_slice() {
-        [workers, nodes, rounds, steps, waiting] => Ok(Load {
+        [workers, nodes, rounds, steps, waiting] => Load {
             workers: *workers,
             nodes: *nodes,
             rounds: *rounds,
             steps: *steps,
             waiting: *waiting,
-        }),
-        _ => Err(anyhow::anyhow!("not five numbers")),
+        },
+        _ => panic!(rt; "not five numbers"),
     }
 }
 
@@ -130,29 +131,20 @@ fn tell_figures<R: Eprint + Abort>(rt: &R, calls: u64, took: u128, commit: u64, 
     ).expect(rt, "standard error");
 }
 
-fn write_entry<W: Write>(
-    alloc: Global,
-    to: &mut W,
-    place: usize,
-    entry: &Entry,
-) -> anyhow::Result<()> {
-    if entry.reply.is_none() {
-        return Err(anyhow::anyhow!("an entry has no reply"));
-    }
-    let line = write_line(alloc, place as u64, entry)?;
-    to.write_all(line.as_slice())?;
-    to.write_all(b"\n")?;
-    Ok(())
+fn write_entry<R: Abort, W: Write>(rt: &R, alloc: Global, to: &mut W, place: usize, entry: &Entry) {
+    assert!(rt; entry.reply.is_some());
+    let line = write_line(alloc, place as u64, entry).expect(rt, "memory");
+    to.write_all(line.as_slice()).expect(rt, "standard output");
+    to.write_all(b"\n").expect(rt, "standard output");
 }
 
-fn write_journal<W: Write + Drop>(alloc: Global, to: W, entries: &Entries) -> anyhow::Result<()> {
-    let mut writer = BufWriter::new(alloc, to)?;
+fn write_journal<R: Abort, W: Write + Drop>(rt: &R, alloc: Global, to: W, entries: &Entries) {
+    let mut writer = BufWriter::new(alloc, to).expect(rt, "memory");
     for place in 0..entries.len() {
-        let entry = entries.get(place)?;
-        write_entry(alloc, &mut writer, place, &entry)?;
+        let entry = entries.get(place).expect(rt, "memory");
+        write_entry(rt, alloc, &mut writer, place, &entry);
     }
-    writer.flush()?;
-    Ok(())
+    writer.flush().expect(rt, "standard output");
 }
 
 /// Whether each entry has a reply, and all of them pass their audit.
@@ -164,13 +156,13 @@ fn is_history<R: Abort>(rt: &R, alloc: Global, entries: &[Entry]) -> bool {
 
 /// The journal of a crew and a caller closes, has each reply, and passes its audit. Where `LOAD` is set, it is written.
 #[test]
-fn crew_and_caller_leave_one_history(rt: HostRuntime) -> anyhow::Result<()> {
+fn crew_and_caller_leave_one_history(rt: HostRuntime) {
     let alloc = rt.alloc();
     if let Ok(text) = env::var(&rt, "LOAD") {
-        let entries = played(&rt, alloc, load_of(alloc, &text)?);
-        return write_journal(alloc, io::writer(&rt), &entries);
+        let entries = played(&rt, alloc, load_of(&rt, alloc, &text));
+        write_journal(&rt, alloc, io::writer(&rt), &entries);
+        return;
     }
-    let entries = played(&rt, alloc, LITTLE).to_vec()?;
+    let entries = played(&rt, alloc, LITTLE).to_vec().expect(&rt, "memory");
     assert!(rt; is_history(&rt, alloc, &entries));
-    Ok(())
 }
