@@ -1,18 +1,68 @@
 //! Replies as bytes.
 
-ghost use Rattle.std.specs.Prelude.{◌≡◌, ◌++◌, OnOk, IfOk};
-ghost use Rattle.ynl_packed.specs.Fits.{FitsReply};
-ghost use Rattle.ynl_packed.specs.Spelling.{reply_bytes};
+ghost use Rattle.std.specs.Prelude.{◌≡◌, ◌++◌, OnOk, IfOk, IfSome};
+ghost use Rattle.ynl_packed.specs.Fits.{FitsProposal, FitsReply};
+ghost use Rattle.ynl_packed.specs.Spelling.{option_bytes, proposal_bytes, reply_bytes};
+ghost use Rattle.ynl_model.specs.declared.replies.Reply.TheVariants as kind;
 ghost use Rattle.ynl_packed.specs.Reading.{Gives, refused_at, placed_at, proposed_at, committed_at, held_at, usage_reply_at, reply_of, reply_at};
 
 use crate::cursor::Cursor;
 use crate::kept::{Kept, items_at, put_items};
 use crate::writing::{put_amount, put_long, put_proposal};
 use std::alloc::{AllocError, Global};
-use ynl_model::{Placed, Reply};
-use ynl_resource::Refusal;
+use ynl_model::{Items, Pending, Placed, Proposal, Reply};
+use ynl_resource::{Refusal, Resource};
 
-/// Adds a reply.
+fn put_proposed(bytes: &mut Vec<u8>, found: &Option<Proposal>) -> Result<(), AllocError>
+    ensures put { OnOk result (bytes.new.items
+        ≡ bytes.old.items ++ option_bytes proposal_bytes found.now) }
+    ensures fits { OnOk result (IfSome found.now FitsProposal) }
+{
+    match found {
+        None => Ok(bytes.push(0)?),
+        Some(proposal) => {
+            bytes.push(1)?;
+            put_proposal(bytes, proposal)
+        }
+    }
+}
+
+fn put_held(
+    bytes: &mut Vec<u8>,
+    containers: &Items<Placed>,
+    asks: &Items<Pending>,
+) -> Result<(), AllocError>
+    ensures put { OnOk result (bytes.new.items
+        ≡ bytes.old.items ++ reply_bytes (kind.Held containers.now asks.now)) }
+    ensures fits { OnOk result (FitsReply (kind.Held containers.now asks.now)) }
+{
+    bytes.push(5)?;
+    put_items(bytes, containers)?;
+    put_items(bytes, asks)
+}
+
+fn put_usage(
+    bytes: &mut Vec<u8>,
+    used: &Resource,
+    guaranteed: &Resource,
+    maximum: &Resource,
+    masters: &Resource,
+    guests: &Resource,
+) -> Result<(), AllocError>
+    ensures put { OnOk result (bytes.new.items
+        ≡ bytes.old.items ++ reply_bytes (kind.Usage used.now guaranteed.now maximum.now masters.now guests.now)) }
+    ensures fits { OnOk result
+        (FitsReply (kind.Usage used.now guaranteed.now maximum.now masters.now guests.now)) }
+{
+    bytes.push(6)?;
+    put_amount(bytes, used)?;
+    put_amount(bytes, guaranteed)?;
+    put_amount(bytes, maximum)?;
+    put_amount(bytes, masters)?;
+    put_amount(bytes, guests)
+}
+
+/// Adds a reply. Those of many fields have functions of their own, as a proof of many steps takes long.
 pub(crate) fn put_reply(bytes: &mut Vec<u8>, reply: &Reply) -> Result<(), AllocError>
     ensures put { OnOk result (bytes.new.items ≡ bytes.old.items ++ reply_bytes reply.now) }
     ensures fits { OnOk result (FitsReply reply.now) }
@@ -27,38 +77,22 @@ pub(crate) fn put_reply(bytes: &mut Vec<u8>, reply: &Reply) -> Result<(), AllocE
             bytes.push(2)?;
             put_items(bytes, containers)
         }
-        Reply::Proposed(None) => {
+        Reply::Proposed(found) => {
             bytes.push(3)?;
-            Ok(bytes.push(0)?)
-        }
-        Reply::Proposed(Some(proposal)) => {
-            bytes.push(3)?;
-            bytes.push(1)?;
-            put_proposal(bytes, proposal)
+            put_proposed(bytes, found)
         }
         Reply::Committed(container) => {
             bytes.push(4)?;
             container.put(bytes)
         }
-        Reply::Held { containers, asks } => {
-            bytes.push(5)?;
-            put_items(bytes, containers)?;
-            put_items(bytes, asks)
-        }
+        Reply::Held { containers, asks } => put_held(bytes, containers, asks),
         Reply::Usage {
             used,
             guaranteed,
             maximum,
             masters,
             guests,
-        } => {
-            bytes.push(6)?;
-            put_amount(bytes, used)?;
-            put_amount(bytes, guaranteed)?;
-            put_amount(bytes, maximum)?;
-            put_amount(bytes, masters)?;
-            put_amount(bytes, guests)
-        }
+        } => put_usage(bytes, used, guaranteed, maximum, masters, guests),
     }
 }
 
