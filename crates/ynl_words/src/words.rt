@@ -33,7 +33,7 @@ use ynl_check::Form;
 use ynl_resource::{Label, Name};
 
 /// What is to be explained: why an application of a tenant waits, and in which form.
-#[derive(Clone, Copy, PartialEq, Eq)]
+#[derive(Clone, Copy)]
 pub struct Question {
     pub tenant: Name,
     pub app: Name,
@@ -41,7 +41,7 @@ pub struct Question {
 }
 
 /// What the program is asked to do on one thread: such a job waits for nothing but its input.
-#[derive(Clone, Copy, PartialEq, Eq)]
+#[derive(Clone, Copy)]
 pub enum SequentialKind {
     /// To answer the events of an input.
     Run,
@@ -60,7 +60,7 @@ pub enum SequentialKind {
 }
 
 /// What the program is asked to do.
-#[derive(Clone, Copy, PartialEq, Eq)]
+#[derive(Clone, Copy)]
 pub enum Kind {
     /// A job that needs one thread.
     Sequential(SequentialKind),
@@ -71,7 +71,7 @@ pub enum Kind {
 }
 
 /// A piece of work for the program.
-#[derive(Clone, Copy, PartialEq, Eq)]
+#[derive(Clone, Copy)]
 pub struct Job<'a> {
     pub kind: Kind,
     /// The file of the configuration, where one is named.
