@@ -7,9 +7,9 @@ ghost use Rattle.ynl_model.specs.Accepted.{is_accepted};
 ghost use Rattle.ynl_config.specs.Meaning.{most_bytes, config_of};
 ghost use Rattle.ynl_config.specs.Tables.{written_in};
 ghost use Rattle.ynl_config.specs.Places.{place_of, nowhere};
-ghost use Rattle.ynl_config.specs.Misplaced.{meant, first_place, place_together, told_place, word_of};
+ghost use Rattle.ynl_config.specs.Misplaced.{first_place, place_together, told_place, word_of};
 
-use crate::config::{MOST_BYTES, build, parse};
+use crate::config::{MOST_BYTES, config_in, parse};
 use crate::faults::ConfigFault;
 use crate::places::{Misplaced, Place};
 use crate::row_places::place_together;
@@ -34,17 +34,6 @@ fn syntax_line(alloc: Global, text: &[u8]) -> Result<Option<u64>, AllocError> {
     match error.span() {
         Some(span) => Ok(Some(line_of(text, span.start))),
         None => Err(AllocError),
-    }
-}
-
-/// The configuration that a table means.
-#[tactic(auto, unfolding(crate::specs::Meaning::built))]
-fn config_in(alloc: Global, table: &Table) -> Result<Result<Config, ConfigFault>, AllocError>
-    ensures { IfOk result (λ read. read ≡ meant (table_view table.now)) }
-{
-    match written_in(alloc, table)? {
-        Ok(written) => build(alloc, written),
-        Err(fault) => Ok(Err(fault)),
     }
 }
 

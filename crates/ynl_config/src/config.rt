@@ -6,6 +6,7 @@ ghost use Rattle.toml.specs.Errors.{IsMemory};
 ghost use Rattle.toml.specs.View.{table_view};
 ghost use Rattle.ynl_model.specs.Accepted.{is_accepted};
 ghost use Rattle.ynl_config.specs.Meaning as spec;
+ghost use Rattle.ynl_config.specs.Misplaced.{meant};
 
 use crate::faults::ConfigFault;
 use crate::written::{Written, written_in};
@@ -45,10 +46,7 @@ pub(crate) fn parse(alloc: Global, bytes: &[u8]) -> Result<Option<Table>, AllocE
 
 /// The configuration of what is written.
 #[tactic(auto, unfolding(crate::specs::Meaning::built))]
-pub(crate) fn build(
-    alloc: Global,
-    written: Written,
-) -> Result<Result<Config, ConfigFault>, AllocError>
+fn build(alloc: Global, written: Written) -> Result<Result<Config, ConfigFault>, AllocError>
     ensures { IfOk result (λ config. config ≡ spec.built written) }
 {
     let numbers = written.numbers;
@@ -66,6 +64,20 @@ pub(crate) fn build(
     match built {
         Ok(config) => Ok(Ok(config)),
         Err(fault) => Ok(Err(ConfigFault::from(fault))),
+    }
+}
+
+/// The configuration that a table means.
+#[tactic(auto, unfolding(crate::specs::Meaning::built))]
+pub(crate) fn config_in(
+    alloc: Global,
+    table: &Table,
+) -> Result<Result<Config, ConfigFault>, AllocError>
+    ensures { IfOk result (λ read. read ≡ meant (table_view table.now)) }
+{
+    match written_in(alloc, table)? {
+        Ok(written) => build(alloc, written),
+        Err(fault) => Ok(Err(fault)),
     }
 }
 
@@ -87,8 +99,5 @@ pub fn read_config(alloc: Global, text: &[u8]) -> Result<Result<Config, ConfigFa
     let Some(table) = parse(alloc, text)? else {
         return Ok(Err(ConfigFault::Syntax));
     };
-    match written_in(alloc, &table)? {
-        Ok(written) => build(alloc, written),
-        Err(fault) => Ok(Err(fault)),
-    }
+    config_in(alloc, &table)
 }

@@ -58,8 +58,7 @@ fn at_key(
 ) -> Result<Place, AllocError>
     ensures { IfOk result (λ p. place_of p ≡ spec.at_key fault (place_of place) (table_view table.now) key.now) }
 {
-    let mut place = place;
-    place.key = told_text(alloc, key)?;
+    let mut place = place.with_key(alloc, key)?;
     place.value = told_value(alloc, fault, table, key)?;
     Ok(place)
 }
@@ -215,9 +214,8 @@ fn place_without_table(
     let Some(name) = name_without_table(shares) else {
         return Ok(None);
     };
-    let mut place = row_of_queue(alloc, row, table)?;
-    place.key = told_text(alloc, "label")?;
-    place.label = told_text(alloc, name)?;
+    let place = row_of_queue(alloc, row, table)?.with_key(alloc, "label")?;
+    let mut place = place.with_label(alloc, name)?;
     place.value = told_at(alloc, shares, name)?;
     Ok(Some(place))
 }
@@ -267,8 +265,7 @@ fn place_in_share(
     let Some(key) = share_key(fault, version, share) else {
         return Ok(None);
     };
-    let mut place = place;
-    place.label = told_text(alloc, name)?;
+    let place = place.with_label(alloc, name)?;
     Ok(Some(at_key(alloc, fault, place, share, key)?))
 }
 

@@ -3,11 +3,11 @@
 ghost use Rattle.std.specs.Prelude.{◌≡◌, IfOk, option_map, option_and_then};
 ghost use Rattle.toml.specs.Data.{get_member};
 ghost use Rattle.toml.specs.View.{table_view, view};
-ghost use Rattle.ynl_config.specs.Places.{told_of};
+ghost use Rattle.ynl_config.specs.Places.{told_of, place_of};
 ghost use Rattle.ynl_config.specs.Places as spec;
 
 use crate::fields::find;
-use crate::places::ToldValue;
+use crate::places::{Place, ToldValue};
 use std::alloc::{AllocError, Global};
 use toml::{Table, Value};
 
@@ -50,5 +50,28 @@ pub(crate) fn told_at(
     match find(table, key) {
         Some(value) => told(alloc, value),
         None => Ok(None),
+    }
+}
+
+// They take the place, so that no caller has one to let go where memory is refused.
+impl Place {
+    /// The place with this key.
+    pub(crate) fn with_key(self, alloc: Global, key: &str) -> Result<Place, AllocError>
+        ensures { IfOk result (λ p. place_of p
+            ≡ record (place_of self) { key = spec.told_text key.now }) }
+    {
+        let mut place = self;
+        place.key = told_text(alloc, key)?;
+        Ok(place)
+    }
+
+    /// The place with this label.
+    pub(crate) fn with_label(self, alloc: Global, label: &str) -> Result<Place, AllocError>
+        ensures { IfOk result (λ p. place_of p
+            ≡ record (place_of self) { label = spec.told_text label.now }) }
+    {
+        let mut place = self;
+        place.label = told_text(alloc, label)?;
+        Ok(place)
     }
 }

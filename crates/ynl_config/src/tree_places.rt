@@ -87,10 +87,8 @@ fn at_label(
 ) -> Result<Place, AllocError>
     ensures { IfOk result (λ p. place_of p ≡ spec.at_label number path.now key.now label.now) }
 {
-    let mut place = path_place(alloc, number, path)?;
-    place.key = told_text(alloc, key)?;
-    place.label = told_text(alloc, label.as_str())?;
-    Ok(place)
+    let place = path_place(alloc, number, path)?.with_key(alloc, key)?;
+    place.with_label(alloc, label.as_str())
 }
 
 /// The labels at fault of a queue's row: of those listed, the default label, and of those of its shares.
@@ -327,11 +325,11 @@ fn odd_partition(labels: &Labels, queues: &[Grant]) -> Option<Label>
 fn sum_place(alloc: Global, text: &str, label: &Label, sum: u64) -> Result<Place, AllocError>
     ensures { IfOk result (λ p. place_of p ≡ record nowhere { queue = told_text text.now; label = told_text (label_text label.now); sum = Some sum }) }
 {
+    let queue = told_text(alloc, text)?;
     let mut place = Place::nowhere();
-    place.queue = told_text(alloc, text)?;
-    place.label = told_text(alloc, label.as_str())?;
+    place.queue = queue;
     place.sum = Some(sum);
-    Ok(place)
+    place.with_label(alloc, label.as_str())
 }
 
 /// The place of the first partition of which what stands just below a queue comes to something else, with the
