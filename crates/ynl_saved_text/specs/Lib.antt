@@ -2,3 +2,4 @@ pub mod Keys
 pub mod StateLines
 pub mod Sound
 pub mod Texts
+pub mod Members

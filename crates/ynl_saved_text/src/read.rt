@@ -33,23 +33,38 @@ fn in_order(before: Option<StateKind>, kind: StateKind) -> Result<StateKind, Sta
     }
 }
 
+/// The line of a kind.
+fn line_by(kind: StateKind, object: &Fields<'_, '_>) -> Result<StateLine, StateFault>
+    ensures line { result ≡ spec.line_by kind (data_at object.now.stands) }
+    ensures ranged { IfOk result (λ line. IsRanged line) }
+{
+    match kind {
+        StateKind::Begin => begin_at(object),
+        StateKind::Partition => partition_at(object),
+        StateKind::Node => node_at(object),
+        StateKind::Live => live_at(object),
+        StateKind::Ask => ask_at(object),
+        StateKind::Finished => finished_at(object),
+        StateKind::Container => container_at(object),
+        StateKind::Stopped => stopped_at(object),
+        StateKind::Maximum => maximum_at(object),
+        StateKind::End => end_at(object),
+    }
+}
+
 /// Reads a line of a kind.
-fn line_by(kind: StateKind, object: &Fields<'_, '_>, into: &mut StateLine) -> Result<(), StateFault>
+fn read_by(kind: StateKind, object: &Fields<'_, '_>, into: &mut StateLine) -> Result<(), StateFault>
     ensures line { Gives (λ _. into.new) result (spec.line_by kind (data_at object.now.stands)) }
     ensures ranged { OnOk result (IsRanged into.new) }
     ensures kept { OnErr result (into.new ≡ into.old) }
 {
-    match kind {
-        StateKind::Begin => begin_at(object, into),
-        StateKind::Partition => partition_at(object, into),
-        StateKind::Node => node_at(object, into),
-        StateKind::Live => live_at(object, into),
-        StateKind::Ask => ask_at(object, into),
-        StateKind::Finished => finished_at(object, into),
-        StateKind::Container => container_at(object, into),
-        StateKind::Stopped => stopped_at(object, into),
-        StateKind::Maximum => maximum_at(object, into),
-        StateKind::End => end_at(object, into),
+    // No `?`, which gets no proof where the value has a name in it.
+    match line_by(kind, object) {
+        Ok(line) => {
+            *into = line;
+            Ok(())
+        }
+        Err(fault) => Err(fault),
     }
 }
 
@@ -70,7 +85,7 @@ fn line_at(
     };
     let kind = kind_of(word).ok_or(StateFault::Kind)?;
     let kind = in_order(before, kind)?;
-    line_by(kind, object, into)
+    read_by(kind, object, into)
 }
 
 /// Reads a line by the value that serde_json reads of it.

@@ -1,8 +1,8 @@
 //! From objects to the lines of applications.
 
-ghost use Rattle.std.specs.Prelude.{◌≡◌, OnErr, OnOk};
-ghost use Rattle.ynl_fields.specs.Reading.{Gives};
+ghost use Rattle.std.specs.Prelude.{◌≡◌, IfOk};
 ghost use Rattle.ynl_fields.specs.Trees.{data_at};
+ghost use Rattle.ynl_saved_text.specs.Members as members;
 ghost use Rattle.ynl_saved_text.specs.StateLines.{IsRanged};
 ghost use Rattle.ynl_saved_text.specs.StateLines as spec;
 
@@ -17,10 +17,9 @@ use ynl_saved::StateLine;
 
 /// `live`: an application that is not finished, with its home label and the size of its master.
 #[tactic(auto, unfolding(crate::specs::StateLines::live_at))]
-pub fn live_at(object: &Fields<'_, '_>, into: &mut StateLine) -> Result<(), StateFault>
-    ensures line { Gives (λ _. into.new) result (spec.live_at (data_at object.now.stands)) }
-    ensures ranged { OnOk result (IsRanged into.new) }
-    ensures kept { OnErr result (into.new ≡ into.old) }
+pub fn live_at(object: &Fields<'_, '_>) -> Result<StateLine, StateFault>
+    ensures line { result ≡ spec.live_at (data_at object.now.stands) }
+    ensures ranged { IfOk result (λ line. IsRanged line) }
 {
     keys_are(object, 7)?;
     let app = text_at(object, "app")?;
@@ -29,27 +28,40 @@ pub fn live_at(object: &Fields<'_, '_>, into: &mut StateLine) -> Result<(), Stat
     let queue = text_at(object, "queue")?;
     let user = text_at(object, "user")?;
     let vcores = number_at(object, "vcores")?;
+    live_of(app, label, memory, queue, user, vcores)
+}
+
+/// A live application, from what stands under its keys.
+fn live_of(
+    app: &str,
+    label: &str,
+    memory: u64,
+    queue: &str,
+    user: &str,
+    vcores: u64,
+) -> Result<StateLine, StateFault>
+    ensures line { result ≡ members.live_of app.now label.now memory queue.now user.now vcores }
+    ensures ranged { IfOk result (λ line. IsRanged line) }
+{
     let app = name_at(app)?;
     let label = label_at(label)?;
     let queue = path_at(queue)?;
     let user = name_at(user)?;
     let master = size_at(memory, vcores)?;
-    *into = StateLine::Live {
+    Ok(StateLine::Live {
         queue,
         app,
         user,
         label,
         master,
-    };
-    Ok(())
+    })
 }
 
 /// `ask`: what an application asks for.
 #[tactic(auto, unfolding(crate::specs::StateLines::ask_at))]
-pub fn ask_at(object: &Fields<'_, '_>, into: &mut StateLine) -> Result<(), StateFault>
-    ensures line { Gives (λ _. into.new) result (spec.ask_at (data_at object.now.stands)) }
-    ensures ranged { OnOk result (IsRanged into.new) }
-    ensures kept { OnErr result (into.new ≡ into.old) }
+pub fn ask_at(object: &Fields<'_, '_>) -> Result<StateLine, StateFault>
+    ensures line { result ≡ spec.ask_at (data_at object.now.stands) }
+    ensures ranged { IfOk result (λ line. IsRanged line) }
 {
     keys_are(object, 8)?;
     let app = text_at(object, "app")?;
@@ -59,13 +71,29 @@ pub fn ask_at(object: &Fields<'_, '_>, into: &mut StateLine) -> Result<(), State
     let priority = number_at(object, "priority")?;
     let tenant = text_at(object, "tenant")?;
     let vcores = number_at(object, "vcores")?;
+    ask_of(app, count, label, memory, priority, tenant, vcores)
+}
+
+/// An ask, from what stands under its keys.
+fn ask_of(
+    app: &str,
+    count: u64,
+    label: &str,
+    memory: u64,
+    priority: u64,
+    tenant: &str,
+    vcores: u64,
+) -> Result<StateLine, StateFault>
+    ensures line { result ≡ members.ask_of app.now count label.now memory priority tenant.now vcores }
+    ensures ranged { IfOk result (λ line. IsRanged line) }
+{
     let app = name_at(app)?;
     let label = label_at(label)?;
     let tenant = name_at(tenant)?;
     let count = within_small(MOST_COUNT, count)?;
     let priority = within_small(u32::MAX, priority)?;
     let size = size_at(memory, vcores)?;
-    *into = StateLine::Ask {
+    Ok(StateLine::Ask {
         tenant,
         app,
         ask: AskRow {
@@ -74,22 +102,19 @@ pub fn ask_at(object: &Fields<'_, '_>, into: &mut StateLine) -> Result<(), State
             count,
             size,
         },
-    };
-    Ok(())
+    })
 }
 
 /// `finished`: an application that is finished.
 #[tactic(auto, unfolding(crate::specs::StateLines::finished_at))]
-pub fn finished_at(object: &Fields<'_, '_>, into: &mut StateLine) -> Result<(), StateFault>
-    ensures line { Gives (λ _. into.new) result (spec.finished_at (data_at object.now.stands)) }
-    ensures ranged { OnOk result (IsRanged into.new) }
-    ensures kept { OnErr result (into.new ≡ into.old) }
+pub fn finished_at(object: &Fields<'_, '_>) -> Result<StateLine, StateFault>
+    ensures line { result ≡ spec.finished_at (data_at object.now.stands) }
+    ensures ranged { IfOk result (λ line. IsRanged line) }
 {
     keys_are(object, 3)?;
     let app = text_at(object, "app")?;
     let queue = text_at(object, "queue")?;
     let app = name_at(app)?;
     let queue = path_at(queue)?;
-    *into = StateLine::Finished { queue, app };
-    Ok(())
+    Ok(StateLine::Finished { queue, app })
 }

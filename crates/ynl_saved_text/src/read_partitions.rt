@@ -1,6 +1,6 @@
 //! From objects to the lines of partitions and nodes, and to the first and the last line.
 
-ghost use Rattle.std.specs.Prelude.{◌≡◌, OnErr, OnOk};
+ghost use Rattle.std.specs.Prelude.{◌≡◌, IfOk};
 ghost use Rattle.ynl_fields.specs.Reading.{Gives};
 ghost use Rattle.ynl_fields.specs.Trees.{data_at};
 ghost use Rattle.ynl_saved_text.specs.StateLines.{IsRanged};
@@ -30,40 +30,35 @@ fn version_at(number: u64) -> Result<(), StateFault>
 
 /// `begin`: the version.
 #[tactic(auto, unfolding(crate::specs::StateLines::begin_at))]
-pub fn begin_at(object: &Fields<'_, '_>, into: &mut StateLine) -> Result<(), StateFault>
-    ensures line { Gives (λ _. into.new) result (spec.begin_at (data_at object.now.stands)) }
-    ensures ranged { OnOk result (IsRanged into.new) }
-    ensures kept { OnErr result (into.new ≡ into.old) }
+pub fn begin_at(object: &Fields<'_, '_>) -> Result<StateLine, StateFault>
+    ensures line { result ≡ spec.begin_at (data_at object.now.stands) }
+    ensures ranged { IfOk result (λ line. IsRanged line) }
 {
     keys_are(object, 2)?;
     let number = number_at(object, "version")?;
     version_at(number)?;
-    *into = StateLine::Begin;
-    Ok(())
+    Ok(StateLine::Begin)
 }
 
 /// `partition`: its clock.
 #[tactic(auto, unfolding(crate::specs::StateLines::partition_at))]
-pub fn partition_at(object: &Fields<'_, '_>, into: &mut StateLine) -> Result<(), StateFault>
-    ensures line { Gives (λ _. into.new) result (spec.partition_at (data_at object.now.stands)) }
-    ensures ranged { OnOk result (IsRanged into.new) }
-    ensures kept { OnErr result (into.new ≡ into.old) }
+pub fn partition_at(object: &Fields<'_, '_>) -> Result<StateLine, StateFault>
+    ensures line { result ≡ spec.partition_at (data_at object.now.stands) }
+    ensures ranged { IfOk result (λ line. IsRanged line) }
 {
     keys_are(object, 3)?;
     let clock = number_at(object, "clock")?;
     let label = text_at(object, "label")?;
     let label = label_at(label)?;
     let clock = within(MOST_CLOCK, clock)?;
-    *into = StateLine::Partition { label, clock };
-    Ok(())
+    Ok(StateLine::Partition { label, clock })
 }
 
 /// `node`: its partition, its size and its stamp.
 #[tactic(auto, unfolding(crate::specs::StateLines::node_at))]
-pub fn node_at(object: &Fields<'_, '_>, into: &mut StateLine) -> Result<(), StateFault>
-    ensures line { Gives (λ _. into.new) result (spec.node_at (data_at object.now.stands)) }
-    ensures ranged { OnOk result (IsRanged into.new) }
-    ensures kept { OnErr result (into.new ≡ into.old) }
+pub fn node_at(object: &Fields<'_, '_>) -> Result<StateLine, StateFault>
+    ensures line { result ≡ spec.node_at (data_at object.now.stands) }
+    ensures ranged { IfOk result (λ line. IsRanged line) }
 {
     keys_are(object, 6)?;
     let label = text_at(object, "label")?;
@@ -75,24 +70,21 @@ pub fn node_at(object: &Fields<'_, '_>, into: &mut StateLine) -> Result<(), Stat
     let name = name_at(node)?;
     let stamp = within(MOST_CLOCK, stamp)?;
     let size = size_at(memory, vcores)?;
-    *into = StateLine::Node(Node {
+    Ok(StateLine::Node(Node {
         name,
         label,
         size,
         stamp,
-    });
-    Ok(())
+    }))
 }
 
 /// `end`: how many lines stand before it.
 #[tactic(auto, unfolding(crate::specs::StateLines::end_at))]
-pub fn end_at(object: &Fields<'_, '_>, into: &mut StateLine) -> Result<(), StateFault>
-    ensures line { Gives (λ _. into.new) result (spec.end_at (data_at object.now.stands)) }
-    ensures ranged { OnOk result (IsRanged into.new) }
-    ensures kept { OnErr result (into.new ≡ into.old) }
+pub fn end_at(object: &Fields<'_, '_>) -> Result<StateLine, StateFault>
+    ensures line { result ≡ spec.end_at (data_at object.now.stands) }
+    ensures ranged { IfOk result (λ line. IsRanged line) }
 {
     keys_are(object, 2)?;
     let lines = number_at(object, "lines")?;
-    *into = StateLine::End { lines };
-    Ok(())
+    Ok(StateLine::End { lines })
 }

@@ -1,7 +1,6 @@
 //! From objects to the lines of queues.
 
-ghost use Rattle.std.specs.Prelude.{◌≡◌, OnErr, OnOk};
-ghost use Rattle.ynl_fields.specs.Reading.{Gives};
+ghost use Rattle.std.specs.Prelude.{◌≡◌, IfOk};
 ghost use Rattle.ynl_fields.specs.Trees.{data_at};
 ghost use Rattle.ynl_saved_text.specs.StateLines.{IsRanged};
 ghost use Rattle.ynl_saved_text.specs.StateLines as spec;
@@ -13,24 +12,21 @@ use ynl_saved::StateLine;
 
 /// `stopped`: a queue that is stopped.
 #[tactic(auto, unfolding(crate::specs::StateLines::stopped_at))]
-pub fn stopped_at(object: &Fields<'_, '_>, into: &mut StateLine) -> Result<(), StateFault>
-    ensures line { Gives (λ _. into.new) result (spec.stopped_at (data_at object.now.stands)) }
-    ensures ranged { OnOk result (IsRanged into.new) }
-    ensures kept { OnErr result (into.new ≡ into.old) }
+pub fn stopped_at(object: &Fields<'_, '_>) -> Result<StateLine, StateFault>
+    ensures line { result ≡ spec.stopped_at (data_at object.now.stands) }
+    ensures ranged { IfOk result (λ line. IsRanged line) }
 {
     keys_are(object, 2)?;
     let queue = text_at(object, "queue")?;
     let queue = path_at(queue)?;
-    *into = StateLine::Stopped { queue };
-    Ok(())
+    Ok(StateLine::Stopped { queue })
 }
 
 /// `maximum`: a maximum that is not the configured one, in hundredths of a percent.
 #[tactic(auto, unfolding(crate::specs::StateLines::maximum_at))]
-pub fn maximum_at(object: &Fields<'_, '_>, into: &mut StateLine) -> Result<(), StateFault>
-    ensures line { Gives (λ _. into.new) result (spec.maximum_at (data_at object.now.stands)) }
-    ensures ranged { OnOk result (IsRanged into.new) }
-    ensures kept { OnErr result (into.new ≡ into.old) }
+pub fn maximum_at(object: &Fields<'_, '_>) -> Result<StateLine, StateFault>
+    ensures line { result ≡ spec.maximum_at (data_at object.now.stands) }
+    ensures ranged { IfOk result (λ line. IsRanged line) }
 {
     keys_are(object, 4)?;
     let label = text_at(object, "label")?;
@@ -39,10 +35,9 @@ pub fn maximum_at(object: &Fields<'_, '_>, into: &mut StateLine) -> Result<(), S
     let label = label_at(label)?;
     let queue = path_at(queue)?;
     let maximum = share_at(maximum)?;
-    *into = StateLine::Maximum {
+    Ok(StateLine::Maximum {
         queue,
         label,
         maximum,
-    };
-    Ok(())
+    })
 }
