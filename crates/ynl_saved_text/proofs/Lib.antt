@@ -5,3 +5,4 @@ pub mod OneLine
 pub mod InOrder
 pub mod TextReads
 pub mod Clocked
+pub mod Parts

@@ -2,4 +2,5 @@ pub mod Keys
 pub mod StateLines
 pub mod Sound
 pub mod Texts
+pub mod Parts
 pub mod Members

@@ -19,3 +19,4 @@ mod read_queues;
 mod write;
 mod write_applications;
 mod write_containers;
+mod write_parts;

@@ -12,6 +12,7 @@ ghost use Rattle.ynl_saved_text.specs.Texts.{Reads};
 
 use crate::write_applications::{add_ask, add_finished, add_live};
 use crate::write_containers::add_container;
+use crate::write_parts::add_labelled;
 use std::alloc::AllocError;
 use ynl_fields::{add, add_label, add_name, add_number, add_path};
 use ynl_model::Node;
@@ -47,8 +48,7 @@ fn add_node(text: &mut Vec<u8>, node: &Node) -> Result<(), AllocError>
     ensures sound { OnOk result (IsName node.now.name × IsLabel node.now.label × IsSize node.now.size) }
 {
     let size = node.size.amount();
-    add_label(text, b"{\"label\":\"", &node.label)?;
-    add_number(text, b"\",\"memory\":", size.memory)?;
+    add_labelled(text, b"{\"label\":\"", &node.label, size.memory)?;
     add_name(text, b",\"node\":\"", &node.name)?;
     add_number(text, b"\",\"stamp\":", node.stamp)?;
     add_number(text, b",\"state\":\"node\",\"vcores\":", size.vcores)?;

@@ -7,8 +7,9 @@ ghost use Rattle.ynl_resource.specs.Amounts.{IsSize};
 ghost use Rattle.ynl_resource.specs.Ranges.{most_priority};
 ghost use Rattle.ynl_saved_text.specs.StateLines as spec;
 
+use crate::write_parts::{add_labelled, add_owned};
 use std::alloc::AllocError;
-use ynl_fields::{add, add_label, add_name, add_number, add_path};
+use ynl_fields::{add, add_name, add_number, add_path};
 use ynl_model::AskRow;
 use ynl_resource::{Label, Name, Path, Size};
 
@@ -28,12 +29,15 @@ pub fn add_live(
 {
     let size = master.amount();
     add_name(text, b"{\"app\":\"", app)?;
-    add_label(text, b"\",\"label\":\"", label)?;
-    add_number(text, b"\",\"memory\":", size.memory)?;
+    add_labelled(text, b"\",\"label\":\"", label, size.memory)?;
     add_path(text, b",\"queue\":\"", queue)?;
-    add_name(text, b"\",\"state\":\"live\",\"user\":\"", user)?;
-    add_number(text, b"\",\"vcores\":", size.vcores)?;
-    add(text, b"}")
+    add_owned(
+        text,
+        b"\",\"state\":\"live\",\"user\":\"",
+        user,
+        size.vcores,
+        b"}",
+    )
 }
 
 #[tactic(auto, unfolding(json::specs::Print::escape_byte))]
@@ -51,12 +55,15 @@ pub fn add_ask(
     let size = ask.size.amount();
     add_name(text, b"{\"app\":\"", app)?;
     add_number(text, b"\",\"count\":", u64::from(ask.count))?;
-    add_label(text, b",\"label\":\"", &ask.label)?;
-    add_number(text, b"\",\"memory\":", size.memory)?;
+    add_labelled(text, b",\"label\":\"", &ask.label, size.memory)?;
     add_number(text, b",\"priority\":", u64::from(ask.priority))?;
-    add_name(text, b",\"state\":\"ask\",\"tenant\":\"", tenant)?;
-    add_number(text, b"\",\"vcores\":", size.vcores)?;
-    add(text, b"}")
+    add_owned(
+        text,
+        b",\"state\":\"ask\",\"tenant\":\"",
+        tenant,
+        size.vcores,
+        b"}",
+    )
 }
 
 #[tactic(auto, unfolding(json::specs::Print::escape_byte))]

@@ -7,8 +7,9 @@ ghost use Rattle.ynl_resource.specs.Ranges.{most_priority};
 ghost use Rattle.ynl_saved_text.specs.Sound.{HasParts, IsWanted};
 ghost use Rattle.ynl_saved_text.specs.StateLines as spec;
 
+use crate::write_parts::{add_labelled, add_owned};
 use std::alloc::AllocError;
-use ynl_fields::{add, add_id, add_label, add_name, add_number};
+use ynl_fields::{add_id, add_name, add_number};
 use ynl_model::{Placed, What};
 use ynl_resource::Label;
 
@@ -28,17 +29,16 @@ fn add_asked(
     let size = placed.size.amount();
     add_name(text, b"{\"app\":\"", &placed.app)?;
     add_id(text, b"\",\"id\":\"", &placed.id)?;
-    add_label(text, b"\",\"label\":\"", label)?;
-    add_number(text, b"\",\"memory\":", size.memory)?;
+    add_labelled(text, b"\",\"label\":\"", label, size.memory)?;
     add_name(text, b",\"node\":\"", &placed.node)?;
     add_number(text, b"\",\"priority\":", u64::from(priority))?;
-    add_name(
+    add_owned(
         text,
         b",\"state\":\"container\",\"tenant\":\"",
         &placed.tenant,
-    )?;
-    add_number(text, b"\",\"vcores\":", size.vcores)?;
-    add(text, b",\"what\":\"ask\"}")
+        size.vcores,
+        b",\"what\":\"ask\"}",
+    )
 }
 
 /// Adds a container that is a master.
@@ -54,13 +54,13 @@ fn add_master(text: &mut Vec<u8>, placed: &Placed) -> Result<(), AllocError>
     add_id(text, b"\",\"id\":\"", &placed.id)?;
     add_number(text, b"\",\"memory\":", size.memory)?;
     add_name(text, b",\"node\":\"", &placed.node)?;
-    add_name(
+    add_owned(
         text,
         b"\",\"state\":\"container\",\"tenant\":\"",
         &placed.tenant,
-    )?;
-    add_number(text, b"\",\"vcores\":", size.vcores)?;
-    add(text, b",\"what\":\"master\"}")
+        size.vcores,
+        b",\"what\":\"master\"}",
+    )
 }
 
 pub fn add_container(text: &mut Vec<u8>, placed: &Placed) -> Result<(), AllocError>

@@ -1,23 +1,21 @@
-use Rattle.std.proofs.Common.{codes, decimal, ◌++◌, ap₂, ◌∙◌}
+use Rattle.std.proofs.Common.{codes, decimal, ◌∷◌, [], ◌++◌, ap₂, ◌∙◌}
 use Rattle.std.proofs.lemmas.Result.{on_ok_weaker}
-use Rattle.json.specs.Print.{escape_byte}
+use Rattle.json.specs.Print.{escape, escape_byte}
 use Rattle.serde_json.specs.Written.{compact_text}
 use Rattle.ynl_resource.specs.Texts.{label_text, id_text}
 use Rattle.ynl_fields.proofs.Pieces.{join, quote}
 use Rattle.ynl_saved_text.specs.StateLines.{asked_data}
+use Rattle.ynl_saved_text.proofs.Parts.{behind}
 use Rattle.ynl_saved_text.proofs.write_containers.add_asked.Goals as goal
 
 pub returns-clause-added : goal.returns-clause-added
 unfolding escape_byte
 returns-clause-added c =
-    on_ok_weaker c.add.result
+    on_ok_weaker c.add_owned.result
     (λ e. quote c.args.text.now.items c.add_name.new.text.items (codes "{\"app\":\"") c.args.placed.now.app _ _ c.in_ok-add_name.ensures.added
     (quote c.add_name.new.text.items c.add_id.new.text.items (codes "\",\"id\":\"") (id_text c.args.placed.now.id) _ _ c.in_ok-add_id.ensures.added
-    (quote c.add_id.new.text.items c.add_label.new.text.items (codes "\",\"label\":\"") (label_text c.args.label.now) _ _ c.in_ok-add_label.ensures.added
-    (join c.add_label.new.text.items c.add_number.new.text.items (codes "\",\"memory\":") (decimal c.amount-size.result.memory) _ _ c.in_ok-add_number.ensures.added
-    (quote c.add_number.new.text.items c.add_name-2.new.text.items (codes ",\"node\":\"") c.args.placed.now.node _ _ c.in_ok-add_name-2.ensures.added
-    (join c.add_name-2.new.text.items c.add_number-2.new.text.items (codes "\",\"priority\":") (decimal c.from.result) _ _ c.in_ok-add_number-2.ensures.added
-    (quote c.add_number-2.new.text.items c.add_name-3.new.text.items (codes ",\"state\":\"container\",\"tenant\":\"") c.args.placed.now.tenant _ _ c.in_ok-add_name-3.ensures.added
-    (join c.add_name-3.new.text.items c.add_number-3.new.text.items (codes "\",\"vcores\":") (decimal c.amount-size.result.vcores) _ _ c.in_ok-add_number-3.ensures.added e)))))))
+    (behind c.add_id.new.text.items c.add_labelled.new.text.items (codes "\",\"label\":\"") (escape (label_text c.args.label.now) ++ 34 ∷ []) (codes ",\"memory\":") (decimal c.amount-size.result.memory) _ _ c.in_ok-add_labelled.ensures.added
+    (quote c.add_labelled.new.text.items c.add_name-2.new.text.items (codes ",\"node\":\"") c.args.placed.now.node _ _ c.in_ok-add_name-2.ensures.added
+    (join c.add_name-2.new.text.items c.add_number.new.text.items (codes "\",\"priority\":") (decimal c.from.result) _ _ c.in_ok-add_number.ensures.added e))))
     ∙ ap₂ (λ size priority. c.args.text.now.items ++ compact_text (asked_data (record c.args.placed.now { size = size }) c.args.label.now priority)) c.amount-size.ensures.value c.from.ensures)
-    c.add.ensures.added
+    c.add_owned.ensures.added
