@@ -1,7 +1,7 @@
 //! Replies in the compact form. What is read here is a guess: who asks compares the line with the text that is written
 //! for it. So contracts say that its numbers are in range, and no more.
 
-ghost use Rattle.std.specs.Prelude.{All, IfOk, IfSome};
+ghost use Rattle.std.specs.Prelude.{All, IfOk, IfSome, OnOk};
 ghost use Rattle.ynl_resource.specs.Amounts.{IsSmall};
 ghost use Rattle.ynl_lines.specs.Reading.{HasPriority, HasProposalNumbers};
 ghost use Rattle.ynl_lines.specs.ReadingReplies.{HasPendingNumbers, HasPlacedNumbers, IsReplyInRange};
@@ -100,7 +100,50 @@ impl Cut for Pending {
     }
 }
 
-/// Cuts a list behind its bracket, up to the one that closes it.
+/// Whether a list ends here; where it goes on, the comma is cut.
+fn ends_list(line: &mut Cursor<'_>) -> Option<bool> {
+    if line.skips(b"]") {
+        Some(true)
+    } else if line.skips(b",") {
+        Some(false)
+    } else {
+        None
+    }
+}
+
+/// Cuts one more of a list, and returns whether it is the last.
+fn cut_one<T: Cut + Drop>(
+    line: &mut Cursor<'_>,
+    list: &mut Vec<T>,
+) -> Result<Option<bool>, AllocError>
+    requires { All T.is_ranged list.now.items }
+    ensures { OnOk result (All T.is_ranged list.new.items) }
+{
+    match T::cut(line) {
+        Some(one) => list.push(one)?,
+        None => return Ok(None),
+    }
+    Ok(ends_list(line))
+}
+
+/// Cuts all of a list behind its bracket, up to the one that closes it, and returns whether that is what stands there.
+fn cut_all<T: Cut + Drop>(line: &mut Cursor<'_>, list: &mut Vec<T>) -> Result<bool, AllocError>
+    requires { All T.is_ranged list.now.items }
+    ensures { OnOk result (All T.is_ranged list.new.items) }
+{
+    if line.skips(b"]") {
+        return Ok(true);
+    }
+    for _ in 0..usize::MAX {
+        match cut_one(line, list)? {
+            Some(false) => {}
+            last => return Ok(last.is_some()),
+        }
+    }
+    Ok(false)
+}
+
+/// A list, in memory of its own, which is given back at one place alone where none stands there.
 fn cut_list<T: Cut + Drop>(
     alloc: Global,
     line: &mut Cursor<'_>,
@@ -108,22 +151,11 @@ fn cut_list<T: Cut + Drop>(
     ensures { IfOk result (λ list. IfSome list (All T.is_ranged)) }
 {
     let mut list = Vec::new(alloc);
-    if line.skips(b"]") {
-        return Ok(Some(Items::new(list)));
+    if cut_all(line, &mut list)? {
+        Ok(Some(Items::new(list)))
+    } else {
+        Ok(None)
     }
-    for _ in 0..usize::MAX {
-        let Some(one) = T::cut(line) else {
-            return Ok(None);
-        };
-        list.push(one)?;
-        if line.skips(b"]") {
-            return Ok(Some(Items::new(list)));
-        }
-        if !line.skips(b",") {
-            return Ok(None);
-        }
-    }
-    Ok(None)
 }
 
 fn cut_proposal(line: &mut Cursor<'_>) -> Option<Proposal>

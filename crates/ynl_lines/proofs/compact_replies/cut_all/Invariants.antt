@@ -1,5 +1,5 @@
 use Rattle.std.proofs.Common.{All}
-use Rattle.ynl_lines.proofs.compact_replies.cut_list.Given as goal
+use Rattle.ynl_lines.proofs.compact_replies.cut_all.Given as goal
 
 -- the numbers of those that were cut are in range
 abbrev pub invariant-loop : goal.invariant-loop
