@@ -1,8 +1,10 @@
 //! From objects to the events of applications.
 
-ghost use Rattle.std.specs.Prelude.{◌≡◌, option_map, IfOk, OnOk, IsTrue};
+ghost use Rattle.std.specs.Prelude.{◌≡◌, option_map, IfOk, OnOk, IsTrue, Some};
+ghost use Rattle.serde_json.specs.Find.{as_str};
 ghost use Rattle.ynl_fields.specs.Trees.{data_at};
-ghost use Rattle.ynl_lines.specs.Reading.{Gives, IsRanged};
+ghost use Rattle.ynl_lines.specs.declared.faults.LineFault.TheVariants as fault;
+ghost use Rattle.ynl_lines.specs.Reading.{or_fault, Gives, IsRanged};
 ghost use Rattle.ynl_lines.specs.Compact as told;
 ghost use Rattle.ynl_lines.specs.Reading as spec;
 
@@ -14,6 +16,16 @@ use ynl_fields::Fields;
 use ynl_model::Event;
 use ynl_resource::{Label, MOST_COUNT};
 
+/// The text of a submit's label, from what stands under its key.
+fn label_text_of<'v>(label: &Fields<'v, '_>) -> Result<Option<&'v str>, LineFault>
+    ensures { Gives (λ o. option_map (λ s. s.now) o) result (or_fault fault.Field (option_map Some (as_str (data_at label.now.stands)))) }
+{
+    match label.as_str() {
+        Some(text) => Ok(Some(text)),
+        None => Err(LineFault::Field),
+    }
+}
+
 /// The text of a submit's label, which may be absent.
 #[tactic(auto, unfolding(crate::specs::Reading::label_text_at))]
 fn label_text_at<'v>(event: &Fields<'v, '_>) -> Result<Option<&'v str>, LineFault>
@@ -24,12 +36,9 @@ fn label_text_at<'v>(event: &Fields<'v, '_>) -> Result<Option<&'v str>, LineFaul
             keys_are(event, 6)?;
             Ok(None)
         }
-        Some(value) => {
+        Some(label) => {
             keys_are(event, 7)?;
-            match value.as_str() {
-                Some(text) => Ok(Some(text)),
-                None => Err(LineFault::Field),
-            }
+            label_text_of(&label)
         }
     }
 }

@@ -35,23 +35,37 @@ pub fn propose_of(node: &str, into: &mut Event) -> Result<(), LineFault>
     Ok(())
 }
 
-/// The label's text and the priority of a container that was asked for; nothing of a master.
+/// The label's text and the priority of a container that was asked for.
+fn asked_at<'v>(proposal: &Fields<'v, '_>) -> Result<Option<(&'v str, u64)>, LineFault>
+    ensures { Gives (λ o. option_map (λ wanted. (wanted.0.now, wanted.1)) o) result (spec.asked_at (data_at proposal.now.stands)) }
+{
+    keys_are(proposal, 9)?;
+    let label = text_at(proposal, "label")?;
+    let priority = number_at(proposal, "priority")?;
+    Ok(Some((label, priority)))
+}
+
+/// The same, by the word for what a container is for; nothing of a master.
+fn wanted_by<'v>(what: &str, proposal: &Fields<'v, '_>) -> Result<Option<(&'v str, u64)>, LineFault>
+    ensures { Gives (λ o. option_map (λ wanted. (wanted.0.now, wanted.1)) o) result (spec.wanted_by what.now (data_at proposal.now.stands)) }
+{
+    if what == "master" {
+        keys_are(proposal, 7)?;
+        Ok(None)
+    } else if what == "ask" {
+        asked_at(proposal)
+    } else {
+        Err(LineFault::Field)
+    }
+}
+
+/// The same, from the word under its key.
 #[tactic(auto, unfolding(crate::specs::Reading::wanted_at))]
 pub fn wanted_at<'v>(proposal: &Fields<'v, '_>) -> Result<Option<(&'v str, u64)>, LineFault>
     ensures { Gives (λ o. option_map (λ wanted. (wanted.0.now, wanted.1)) o) result (spec.wanted_at (data_at proposal.now.stands)) }
 {
     let what = text_at(proposal, "what")?;
-    if what == "master" {
-        keys_are(proposal, 7)?;
-        Ok(None)
-    } else if what == "ask" {
-        keys_are(proposal, 9)?;
-        let label = text_at(proposal, "label")?;
-        let priority = number_at(proposal, "priority")?;
-        Ok(Some((label, priority)))
-    } else {
-        Err(LineFault::Field)
-    }
+    wanted_by(what, proposal)
 }
 
 /// The same, with the label read.
