@@ -7,6 +7,7 @@ pub mod Users
 pub mod Sizes
 pub mod Numbers
 pub mod Placing
+pub mod Standing
 pub mod Ending
 pub mod Joining
 pub mod Asking

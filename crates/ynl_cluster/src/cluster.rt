@@ -14,13 +14,13 @@ ghost use Rattle.ynl_cluster.specs.uses.Tallies.{IsSmallUse, IsTotal};
 ghost use Rattle.ynl_slots.specs.Slots.{without, IsLive, IsUnused};
 ghost use Rattle.ynl_tables.specs.declared.apps.app.Tickets.{Tickets as TicketPair};
 ghost use Rattle.ynl_inventory.specs.Rows.{AppRow, NodeRow};
-ghost use Rattle.ynl_inventory.specs.Changes.{partition_of_node, with_app_gone, with_asked, with_dropped, with_ended, with_joined, with_left, with_node_gone, with_placed, with_submitted, with_clock, with_stamp, with_tickets, with_user_known};
+ghost use Rattle.ynl_inventory.specs.Changes.{partition_of_node, with_app_gone, with_asked, with_dropped, with_ended, with_joined, with_left, with_node_gone, with_placed, with_submitted, with_clock, with_stamp, with_stood, with_tickets, with_user_known};
 ghost use Rattle.ynl_inventory.specs.Meaning.{app_name, app_of, ask_of, item_of, node_number, node_of, placed_of};
-ghost use Rattle.ynl_inventory.specs.Parts.{CanPlace, LeavesRoom, containers_of, held_at};
+ghost use Rattle.ynl_inventory.specs.Parts.{CanPlace, CanStand, LeavesRoom, containers_of, held_at, placed_on};
 ghost use Rattle.ynl_inventory.specs.Sound.{CanAsk, CanShow, CanSubmit, HasNoContainers, HasPartition, IsFor, IsPlaceable, IsSound, OwnsNoContainers};
 ghost use Rattle.ynl_cluster.specs.ledger.Ledger.{total_in, IsBounded};
 ghost use Rattle.ynl_cluster.specs.seating.Seating.{AreSeated};
-ghost use Rattle.ynl_cluster.specs.Cluster.{held_in, label_of, path_of, state_in, AreNumbered, AskSizes, IsCell, IsLaneIn};
+ghost use Rattle.ynl_cluster.specs.Cluster.{held_in, label_of, path_of, state_in, stood_in, with_last, AreNumbered, AskSizes, IsCell, IsLaneIn};
 ghost use Rattle.ynl_cluster.specs.Leaving.{IsLeaving};
 ghost use Rattle.ynl_cluster.specs.Finishing.{IsFinishing, OwnsNoneBefore};
 
@@ -369,6 +369,33 @@ impl Cluster {
         let number = self.inventory.place(placed);
         follow_placement(&self.inventory, &mut self.lanes, p, placed);
         number
+    }
+
+    /// A container stands on a node as one that was placed at this clock, as `Inventory::stand` says, and fails where
+    /// that does. It returns the container's number in the node's partition.
+    pub fn stand(&mut self, placed: &Placement, clock: u64) -> Result<u32, AllocError>
+        requires { CanStand self.old.rows placed.now clock }
+        ensures rows { IfOk result (λ number. self.new ≡ record self.old {
+          rows = with_stood (partition_of_node self.old.rows.nodes placed.now.node) number
+              (placed_on placed.now clock) self.old.rows;
+          rooms = self.new.rooms;
+        }) }
+        ensures state { OnOk result (state_in self.new
+            ≡ with_last (stood_in self.old placed.now clock) (state_in self.old)) }
+    {
+        let number = self.inventory.stand(placed, clock)?;
+        // Opens the inventory, whose rows are sound.
+        let _ = self.inventory.partition_count();
+        // Opens the size, which is one that requests may have.
+        let _size = placed.size.amount();
+        let app = self.inventory.app(placed.app);
+        let line = self.inventory.layout().line(app.leaf as usize);
+        let p = self.inventory.node(placed.node).partition;
+        let tally = tally_of(p, placed.role, placed.size);
+        self.uses.raise(p as usize, line, &tally);
+        let lanes = &mut self.lanes;
+        follow_placement(&self.inventory, lanes, p, placed);
+        Ok(number)
     }
 
     /// The container under a number in a partition ends. It takes no memory.

@@ -34,7 +34,7 @@ pub record IsDropped (number : ℕ) (held : Container) (old new : Partition) (of
   pub out : IsOut number held old new of_node of_app
 
 -- a change that leaves the row of the number leaves all
-changed-none : {X : Type 0} (n : ℕ) (f : X → X) (es : List (ℕ × X)) → AllByRecursion (λ e. e.0 ≡ n → f e.1 ≡ e.1) es → with_change n f es ≡ es
+pub changed-none : {X : Type 0} (n : ℕ) (f : X → X) (es : List (ℕ × X)) → AllByRecursion (λ e. e.0 ≡ n → f e.1 ≡ e.1) es → with_change n f es ≡ es
 changed-none n f [] h = refl
 changed-none {X} n f (e ∷ es) h = λ i. one (nat_eq n e.0) refl i ∷ changed-none n f es h.1 i
   where

@@ -51,3 +51,8 @@ pub mod FreeRead
 pub mod Rejoining
 pub mod Times
 pub mod TimeParts
+pub mod Standing
+pub mod ComingParts
+pub mod HoldingParts
+pub mod StandingParts
+pub mod StandingCalls

@@ -7,10 +7,11 @@ use Rattle.std.specs.Option.{option_map_or}
 use Rattle.std.proofs.lemmas.Bool.{cases_eq}
 use Rattle.std.proofs.lemmas.Option.{none-some, same_Some}
 use mathlib.Core.Logic.{◌⊎◌}
-use Rattle.ynl_slots.specs.Slots.{IsLive, IsUnused, HasDistinctNumbers}
+use Rattle.ynl_slots.specs.Slots.{Numbered, IsLive, IsUnused, HasDistinctNumbers}
 use Rattle.ynl_slots.proofs.Lookups.{lookup-push, lookup-unused}
 use Rattle.ynl_slots.proofs.Entries.{itself, other, distinct_alike}
-use Rattle.ynl_tables.specs.apps.Apps.{with_change}
+use Rattle.ynl_tables.specs.declared.apps.app.AppRow.{AppRow as AppPart}
+use Rattle.ynl_tables.specs.apps.Apps.{with_app, with_change}
 use Rattle.ynl_tables.proofs.apps.Rows.{lookup-with_change}
 use Rattle.ynl_inventory.specs.Changes.{with_at}
 
@@ -233,3 +234,7 @@ module _ {X : Type 0} where
 
   pub some-after : (P : X → Type 0) (m n : ℕ) (f : X → X) (old new : List (ℕ × X)) → new ≡ with_change n f old → ((row : X) → P row → P (f row)) → IfSome (lookup (nat_eq m) old) P → IfSome (lookup (nat_eq m) new) P
   some-after P m n f old new is keeps h = subst (λ es. IfSome (lookup (nat_eq m) es) P) (sym is) (changed-some P m n f old keeps h)
+
+-- one change after another of an application
+pub app-twice : (n : ℕ) (f g : AppPart → AppPart) (old mid new : Numbered AppPart) → new ≡ with_app n f mid → mid ≡ with_app n g old → new ≡ with_app n (λ row. f (g row)) old
+app-twice n f g old mid new two one = two ∙ ap (with_app n f) one ∙ (λ i. record old { entries = changed-twice n f g old.entries i })

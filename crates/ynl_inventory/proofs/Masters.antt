@@ -1,17 +1,20 @@
 -- The masters of applications among the containers of a partition.
-use Rattle.std.proofs.Common.{◌≡◌, ◌≢◌, ◌&&◌, ◌||◌, ℕ, Bool, true, false, cond, not, find, is_some, List, [], ◌∷◌, ◌++◌, Option, Some, None, option_map, nat_eq, refl, sym, ap, ◌∙◌, arith, true≢false}
+use Rattle.std.proofs.Common.{◌≡◌, ◌≢◌, ◌&&◌, ◌||◌, ℕ, Bool, true, false, cond, not, find, is_some, List, [], ◌∷◌, ◌++◌, slice_get, Option, Some, None, option_map, nat_eq, refl, sym, ap, ◌∙◌, arith, true≢false}
 use Rattle.std.specs.List.{AllByRecursion, list_any}
 use Rattle.std.specs.Map.{lookup}
+use Rattle.std.specs.Option.{option_map_or}
 use Rattle.std.proofs.lemmas.Bool.{and_from, and_parts}
 use Rattle.std.proofs.lemmas.Bool.Decides.{nat_tests}
 use Rattle.std.proofs.lemmas.Option.{same_Some}
-use Rattle.ynl_laws.proofs.Lists.{Each-weaker, find-append_none, find-nothing}
-use Rattle.ynl_slots.specs.Slots.{HasDistinctNumbers, without}
+use Rattle.ynl_laws.proofs.Lists.{Each-weaker, find-append_none, find-nothing, none-found}
+use Rattle.ynl_slots.specs.Slots.{HasDistinctNumbers, IsUnused, without}
 use Rattle.ynl_slots.proofs.Entries.{itself, other}
+use Rattle.ynl_slots.proofs.Lookups.{lookup-push}
 use Rattle.ynl_tables.specs.declared.containers.container.Container.{Container}
-use Rattle.ynl_inventory.specs.Apps.{HasOneMasterEach, is_master_role, is_master_of, master_in}
+use Rattle.ynl_inventory.specs.Rows.{Rows, PartitionRow, AppRow}
+use Rattle.ynl_inventory.specs.Apps.{HasOneMasterEach, containers_of, is_master_role, is_master_of, master_in, runs_at}
 use Rattle.ynl_inventory.proofs.Finding.{not-true}
-use Rattle.ynl_inventory.proofs.Updates.{each-number}
+use Rattle.ynl_inventory.proofs.Updates.{each-number, at-number}
 
 -- ---- what is found of a list
 
@@ -113,3 +116,35 @@ module _ (number : ℕ) (c : Container) (es : List (ℕ × Container)) (distinct
           let both = and_parts (is_master_role d.role) (nat_eq d.app c.app) passes in
           let own : nat_eq d.app c.app ≡ true = both.1 in
           one m number d c at found both.0 is (grind (arith, nat_tests, own))
+
+-- an application that does not run has no master on its home partition
+pub none-runs : (v : Rows) (app p : ℕ) (row : AppRow) (part : PartitionRow) → slice_get v.partitions p ≡ Some part → row.home ≡ p → runs_at v app row ≡ false → find (is_master_of app) part.containers ≡ None
+none-runs v app p row part there home stands =
+    let here : containers_of v row.home ≡ part.containers = ap (containers_of v) home ∙ ap (λ o. option_map_or (λ (row : PartitionRow). row.containers) o []) there in
+    none-passes (is_master_of app) part.containers (sym (ap (list_any (is_master_of app)) here) ∙ stands)
+
+module _ (number : ℕ) (c : Container) (es : List (ℕ × Container)) (unused : IsUnused number es) (one : HasOneMasterEach es)
+    (none : is_master_role c.role ≡ true → find (is_master_of c.app) es ≡ None) where
+  alone : (m : ℕ) (d : Container) → lookup (nat_eq m) es ≡ Some d → is_master_role c.role ≡ true → is_master_role d.role ≡ true → d.app ≡ c.app → ⊥
+  alone m d at master own same =
+      let fails : is_master_of c.app (m, d) ≡ false = at-number (λ m d. is_master_of c.app (m, d) ≡ false) es m d (none-found (is_master_of c.app) es (none master)) at in
+      true≢false (sym (and_from (is_master_role d.role) (nat_eq d.app c.app) own (ap (λ n. nat_eq n c.app) same ∙ itself c.app)) ∙ fails)
+
+  -- a container comes, and is master only of an application that had none
+  pub masters-push : HasOneMasterEach (es ++ (number, c) ∷ [])
+  masters-push n m x y at there own other same =
+      go (nat_eq n number) refl (sym (lookup-push n number c es unused) ∙ at) (nat_eq m number) refl (sym (lookup-push m number c es unused) ∙ there)
+    where
+      is-number : (k : ℕ) → nat_eq k number ≡ true → k ≡ number
+      is-number k q = grind (arith, nat_tests, q)
+
+      go : (a : Bool) → nat_eq n number ≡ a → cond a (Some c) (lookup (nat_eq n) es) ≡ Some x
+          → (b : Bool) → nat_eq m number ≡ b → cond b (Some c) (lookup (nat_eq m) es) ≡ Some y → n ≡ m
+      go true p e true q f = is-number n p ∙ sym (is-number m q)
+      go true p e false q f =
+          let is : c ≡ x = same_Some c x e in
+          absurd (alone m y f (ap (λ (c : Container). is_master_role c.role) is ∙ own) other (sym same ∙ ap (λ (c : Container). c.app) (sym is)))
+      go false p e true q f =
+          let is : c ≡ y = same_Some c y f in
+          absurd (alone n x e (ap (λ (c : Container). is_master_role c.role) is ∙ other) own (same ∙ ap (λ (c : Container). c.app) (sym is)))
+      go false p e false q f = one n m x y e f own other same

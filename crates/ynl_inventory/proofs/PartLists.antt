@@ -16,7 +16,7 @@ use Rattle.ynl_tables.specs.declared.containers.container.Role.{Role}
 use Rattle.ynl_tables.specs.declared.containers.container.Role.TheVariants.{Master, Ask as Asked}
 use Rattle.ynl_tables.specs.containers.Fields.{of_rows}
 use Rattle.ynl_inventory.specs.Changes.{with_at}
-use Rattle.ynl_inventory.specs.Parts.{taken_part}
+use Rattle.ynl_inventory.specs.Parts.{owned_part}
 use Rattle.ynl_inventory.proofs.Lookups.{live-found}
 
 module _ {X Y : Type 0} (f : X → Y) where
@@ -92,6 +92,6 @@ of_rows-kept {Y = Y} f g n (e ∷ es) is = λ i. one (nat_eq n e.0) i ∷ of_row
     one false = refl
 
 -- an application that has one more container keeps its chains
-pub taken-chains : (r : Role) (number : ℕ) (part : AppPart) → (taken_part r number part).chains ≡ part.chains
-taken-chains Master number part = refl
-taken-chains (Asked p priority) number part = refl
+pub owned-chains : (r : Role) (number : ℕ) (part : AppPart) → (owned_part r number part).chains ≡ part.chains
+owned-chains Master number part = refl
+owned-chains (Asked p priority) number part = refl

@@ -1,9 +1,8 @@
 -- A container is placed: the rows stay sound, and mean what the model's placement gives.
 use Rattle.std.proofs.Common.{◌≡◌, is_some, IfSome, find, ◌<◌, ◌+◌, ℕ, Bool, true, false, cond, nat_lt, List, [], ◌∷◌, ◌++◌, map, slice_get, Some, None, nat_eq, refl, sym, ap, subst, ◌∙◌, arith, true≢false}
-use Rattle.std.specs.List.{All, AllByRecursion, list_any}
+use Rattle.std.specs.List.{All, AllByRecursion}
 use Rattle.std.specs.Map.{lookup}
 use Rattle.std.specs.Option.{option_map_or}
-use Rattle.std.proofs.lemmas.Bool.{and_from}
 use Rattle.std.proofs.lemmas.Bool.Decides.{nat_tests}
 use Rattle.std.proofs.lemmas.List.{map-append}
 use Rattle.std.proofs.lemmas.Option.{same_Some}
@@ -20,27 +19,27 @@ use Rattle.ynl_model.specs.Cluster.{State, next_clock}
 use Rattle.ynl_model.specs.Changes.{changed_at, container_of, place, taken}
 use Rattle.ynl_layout.specs.Paths.{path_at}
 use Rattle.ynl_slots.specs.Slots.{IsUnused}
-use Rattle.ynl_slots.proofs.Entries.{distinct_push, itself}
+use Rattle.ynl_slots.proofs.Entries.{distinct_push}
 use Rattle.ynl_slots.proofs.Lookups.{lookup-push}
 use Rattle.ynl_tables.specs.declared.containers.container.Container.{Container}
 use Rattle.ynl_tables.specs.declared.containers.container.Role.{Role}
 use Rattle.ynl_tables.specs.declared.containers.container.Role.TheVariants.{Master, Ask as Asked}
-use Rattle.ynl_laws.proofs.Lists.{all-of, none-found}
+use Rattle.ynl_laws.proofs.Lists.{all-of}
 use Rattle.ynl_slots.proofs.Lists.{all_from}
 use Rattle.ynl_tables.specs.apps.Asks.{AreAsks}
 use Rattle.ynl_tables.proofs.apps.Asking.{asks_taken}
 use Rattle.ynl_tables.specs.containers.Table.{IsAbove}
 use Rattle.ynl_tables.proofs.containers.Clocks.{rising_push}
-use Rattle.ynl_inventory.specs.Rows.{Rows, PartitionRow, NodeRow, AppRow}
+use Rattle.ynl_inventory.specs.Rows.{Rows, NodeRow, AppRow}
 use Rattle.ynl_inventory.specs.Meaning.{node_name, owner_of, app_name, what_of, placed_of, application_of, node_of, item_of, state_of}
 use Rattle.ynl_inventory.specs.Changes.{next_clock as next_of_row, partition_of_node, next_container, with_changed, with_taken, with_placed}
-use Rattle.ynl_inventory.specs.Apps.{HasOneMasterEach, containers_of, is_master_role, is_master_of}
+use Rattle.ynl_inventory.specs.Apps.{HasOneMasterEach, is_master_role, is_master_of}
 use Rattle.ynl_inventory.specs.Sound.{IsFor, HasPartition, IsAskedOn, IsRole, CanTake, IsContainer, IsPartition, IsApp, IsPlaceable, IsSound}
 use Rattle.ynl_inventory.proofs.Naming.{taken-tenant, taken-turn, taken-leaf, taken-user, taken-home, what-same}
-use Rattle.ynl_inventory.proofs.Updates.{each-number, at-number}
+use Rattle.ynl_inventory.proofs.Updates.{each-number}
 use Rattle.ynl_inventory.proofs.Finding.{own-label, next-at}
 use Rattle.ynl_inventory.proofs.Asked.{asked-there, ask-there, one-taken}
-use Rattle.ynl_inventory.proofs.Masters.{none-passes}
+use Rattle.ynl_inventory.proofs.Masters.{masters-push, none-runs}
 use Rattle.ynl_inventory.proofs.Kept.{kept-partition, kept-container, kept-role}
 use Rattle.ynl_inventory.proofs.Containers.{AreContainers, rises-more, labels, many, changed-sound, changed-for, changed-means}
 use Rattle.ynl_inventory.proofs.AppChange.{LeavesOwner, app-sound, app-means}
@@ -145,37 +144,11 @@ module _ (v : Rows) (sound : IsSound v) (number node app : ℕ) (r : Role) (size
   none-yet master = go r can.role master
     where
       go : (s : Role) → CanTake v app can.node_row.partition can.partition.guests can.app_row s → is_master_role s ≡ true → find (is_master_of app) can.partition.containers ≡ None
-      go Master takes is =
-          let here : containers_of v can.app_row.home ≡ can.partition.containers =
-          ap (containers_of v) (takes.0 ∙ stands) ∙ ap (λ o. option_map_or (λ (row : PartitionRow). row.containers) o []) there
-          in
-          none-passes (is_master_of app) can.partition.containers (sym (ap (list_any (is_master_of app)) here) ∙ takes.1)
+      go Master takes is = none-runs v app p can.app_row can.partition there (takes.0 ∙ stands) takes.1
       go (Asked asked priority) takes is = absurd (true≢false (sym is))
 
-  alone : (m : ℕ) (d : Container) → lookup (nat_eq m) can.partition.containers ≡ Some d → is_master_role r ≡ true → is_master_role d.role ≡ true → d.app ≡ app → ⊥
-  alone m d at master other same =
-      let none = none-found (is_master_of app) can.partition.containers (none-yet master) in
-      let fails : is_master_of app (m, d) ≡ false = at-number (λ m d. is_master_of app (m, d) ≡ false) can.partition.containers m d none at in
-      true≢false (sym (and_from (is_master_role d.role) (nat_eq d.app app) other (ap (λ n. nat_eq n app) same ∙ itself app)) ∙ fails)
-
   masters : HasOneMasterEach (push can.partition.containers)
-  masters n m c d at there-m own other same =
-      go (nat_eq n number) refl (sym (lookup-push n number new can.partition.containers unused) ∙ at)
-      (nat_eq m number) refl (sym (lookup-push m number new can.partition.containers unused) ∙ there-m)
-    where
-      is-number : (k : ℕ) → nat_eq k number ≡ true → k ≡ number
-      is-number k q = grind (arith, nat_tests, q)
-
-      go : (a : Bool) → nat_eq n number ≡ a → cond a (Some new) (lookup (nat_eq n) can.partition.containers) ≡ Some c
-          → (b : Bool) → nat_eq m number ≡ b → cond b (Some new) (lookup (nat_eq m) can.partition.containers) ≡ Some d → n ≡ m
-      go true p e true q f = is-number n p ∙ sym (is-number m q)
-      go true p e false q f =
-          let is : new ≡ c = same_Some new c e in
-          absurd (alone m d f (ap (λ (c : Container). is_master_role c.role) is ∙ own) other (sym same ∙ ap (λ (c : Container). c.app) (sym is)))
-      go false p e true q f =
-          let is : new ≡ d = same_Some new d f in
-          absurd (alone n c e (ap (λ (c : Container). is_master_role c.role) is ∙ other) own (same ∙ ap (λ (c : Container). c.app) (sym is)))
-      go false p e false q f = old-partition.masters n m c d e f own other same
+  masters = masters-push number new can.partition.containers unused old-partition.masters none-yet
 
   containers : AreContainers v p node push sound can.partition there
   containers = record {

@@ -1,16 +1,14 @@
 -- A container is placed: what the parts give before, and how they go together after.
-use Rattle.std.proofs.Common.{◌≡◌, ◌≢◌, ◌<◌, ◌+◌, ◌^◌, ℕ, true, cond, find, nat_lt, is_some, IfSome, List, [], ◌∷◌, ◌++◌, map, length, slice_get, Some, None, option_map, nat_eq, refl, sym, ap, subst, ◌∙◌, arith, inl, inr}
+use Rattle.std.proofs.Common.{◌≡◌, ◌<◌, ◌+◌, ◌^◌, ℕ, true, cond, find, nat_lt, IfSome, List, [], ◌∷◌, ◌++◌, map, slice_get, Some, None, option_map, nat_eq, refl, sym, ap, subst, ◌∙◌, arith, inl, inr, true≢false}
 use mathlib.Core.Logic.{◌⊎◌}
 use Rattle.std.specs.Prelude.{slice_set}
-use Rattle.std.specs.List.{AllByRecursion}
 use Rattle.std.specs.Map.{lookup}
 use Rattle.std.specs.Option.{option_map_or}
 use Rattle.std.proofs.lemmas.Bool.Decides.{nat_tests}
-use Rattle.std.proofs.lemmas.Option.{same_Some, slice_get-map, slice_get_within}
-use Rattle.ynl_resource.specs.Amounts.{nothing, plus, less, fits_in}
+use Rattle.std.proofs.lemmas.Option.{slice_get-map}
+use Rattle.ynl_resource.specs.Amounts.{less}
 use Rattle.ynl_slots.specs.Slots.{Numbered, IsLive, IsUnused, with_row}
 use Rattle.ynl_slots.specs.declared.chain.Chain.{Chain}
-use Rattle.ynl_slots.proofs.Entries.{itself, other}
 use Rattle.ynl_slots.proofs.Lists.{all_from}
 use Rattle.ynl_tables.specs.declared.nodes.nodes.NodeRow.{NodeRow as NodePart}
 use Rattle.ynl_tables.specs.declared.apps.app.AppRow.{AppRow as AppPart}
@@ -20,7 +18,6 @@ use Rattle.ynl_tables.specs.declared.containers.container.Container.{Container}
 use Rattle.ynl_tables.specs.declared.containers.container.Role.{Role}
 use Rattle.ynl_tables.specs.declared.containers.container.Role.TheVariants.{Master, Ask as Asked}
 use Rattle.ynl_tables.specs.containers.Table.{IsAbove}
-use Rattle.ynl_tables.specs.containers.Chains.{IsNodeChain, IsAppChain, KeepsNodes, KeepsApps}
 use Rattle.ynl_tables.specs.containers.Fields.{of_rows}
 use Rattle.ynl_tables.proofs.containers.Rows.{lookup-of_rows}
 use Rattle.ynl_tables.proofs.containers.Removing.{at_live}
@@ -29,93 +26,57 @@ use Rattle.ynl_inventory.specs.declared.partition.Partition.{Partition}
 use Rattle.ynl_inventory.specs.declared.inventory.Inventory.TheInside.{Inside}
 use Rattle.ynl_inventory.specs.Rows.{Rows, PartitionRow, NodeRow, AppRow}
 use Rattle.ynl_inventory.specs.Changes.{with_at, ticked, next_clock, next_clock_at, next_container, partition_of_node, with_taken, with_placed}
-use Rattle.ynl_inventory.specs.Apps.{is_master_role, is_master_of, master_in}
+use Rattle.ynl_inventory.specs.Apps.{is_master_role, is_master_of}
 use Rattle.ynl_inventory.specs.Sound.{CanTake, IsAskedOn, IsApp, IsSound, IsPartition}
-use Rattle.ynl_inventory.specs.Parts.{held_of, partition_row, node_row, app_row, placed_on, taken_part, used_of, HasGuestPlaces, HasPlaces, AreLinked, IsInventory, CanPlace}
-use Rattle.ynl_inventory.proofs.FreeRead.{free-is}
+use Rattle.ynl_inventory.specs.Parts.{Held, held_of, partition_row, node_row, app_row, placed_on, taken_part, HasGuestPlaces, HasPlaces, AreLinked, IsInventory, CanPlace}
+use Rattle.ynl_inventory.proofs.ComingParts.{AreThere, is-owner, is-on, stands, has-free, part-at, is-part}
 use Rattle.ynl_inventory.proofs.Asked.{ask-there, one-taken}
-use Rattle.ynl_inventory.proofs.Masters.{not-own, no-master, master-stays, master-comes}
 use Rattle.ynl_inventory.proofs.Placing.{none-yet, placed-sound}
-use Rattle.ynl_inventory.proofs.Used.{fits-left, less-twice, used-push, nothing-plus}
-use Rattle.ynl_inventory.proofs.PartLists.{unmapped, map-set, of_rows-changed, chain-other, live-row, taken-chains}
-use Rattle.ynl_inventory.proofs.PartsChange.{IsRight, IsTouched, more-places, still-linked}
-use Rattle.ynl_inventory.proofs.Lookups.{changed-same}
+use Rattle.ynl_inventory.proofs.PartLists.{map-set, of_rows-changed}
+use Rattle.ynl_inventory.proofs.HoldingParts.{IsHeld, IsOwning, held-linked}
 use Rattle.ynl_inventory.proofs.Updates.{each-number}
 
 -- ---- before
 
 -- the node and the application are there
-pub node-live : (a : Inside) (placed : Placement) → CanPlace (held_of a) placed → IsLive placed.node a.nodes.entries
-node-live a placed can =
-    ap is_some (unmapped node_row (lookup (nat_eq placed.node) a.nodes.entries) can.placeable.node_row (sym (lookup-of_rows node_row placed.node a.nodes.entries) ∙ can.placeable.node_found)).1
-
-pub app-live : (a : Inside) (placed : Placement) → CanPlace (held_of a) placed → IsLive placed.app a.apps.entries
-app-live a placed can =
-    ap is_some (unmapped app_row (lookup (nat_eq placed.app) a.apps.entries) can.placeable.app_row (sym (lookup-of_rows app_row placed.app a.apps.entries) ∙ can.placeable.app_found)).1
+abbrev pub coming : (h : Held) (placed : Placement) → CanPlace h placed → AreThere h.rows placed.node placed.app
+coming h placed can = record {
+  on = can.placeable.node_row;
+  on_found = can.placeable.node_found;
+  partition = can.placeable.partition;
+  partition_found = can.placeable.partition_found;
+  owner = can.placeable.app_row;
+  owner_found = can.placeable.app_found;
+}
 
 module _ (a : Inside) (inv : IsInventory a) (placed : Placement) (can : CanPlace (held_of a) placed) (row : NodePart) (at : lookup (nat_eq placed.node) a.nodes.entries ≡ Some row) where
   abbrev v : Rows
   v = (held_of a).rows
 
-  row-at : lookup (nat_eq placed.node) v.nodes ≡ Some (node_row row)
-  row-at = lookup-of_rows node_row placed.node a.nodes.entries ∙ ap (option_map node_row) at
-
-  is-row : node_row row ≡ can.placeable.node_row
-  is-row = same_Some (node_row row) can.placeable.node_row (sym row-at ∙ can.placeable.node_found)
-
-  -- the node stands there
-  pub stands : partition_of_node v.nodes placed.node ≡ row.partition
-  stands = ap (λ o. option_map_or (λ (r : NodeRow). r.partition) o 0) row-at
-
-  -- the partition's part
-  pub own-part : (part : Partition) × (slice_get a.partitions.items row.partition ≡ Some part) × (partition_row part ≡ can.placeable.partition)
-  own-part =
-      unmapped partition_row (slice_get a.partitions.items row.partition) can.placeable.partition
-      (sym (slice_get-map partition_row a.partitions.items row.partition) ∙ ap (λ (r : NodeRow). slice_get v.partitions r.partition) is-row ∙ can.placeable.partition_found)
-
-  -- the application's part
-  pub own-app : (arow : AppPart) × (lookup (nat_eq placed.app) a.apps.entries ≡ Some arow) × (app_row arow ≡ can.placeable.app_row)
-  own-app =
-      unmapped app_row (lookup (nat_eq placed.app) a.apps.entries) can.placeable.app_row (sym (lookup-of_rows app_row placed.app a.apps.entries) ∙ can.placeable.app_found)
-
-  -- the partition is there
-  pub has-part : row.partition < length a.partitions.items
-  has-part = slice_get_within a.partitions.items row.partition own-part.0 own-part.1
+  abbrev are : AreThere v placed.node placed.app
+  are = coming (held_of a) placed can
 
   module _ (part : Partition) (there : slice_get a.partitions.items row.partition ≡ Some part) where
-    is-part : partition_row part ≡ can.placeable.partition
-    is-part = ap partition_row (same_Some part own-part.0 (sym there ∙ own-part.1)) ∙ own-part.2
-
-    row-there : slice_get v.partitions row.partition ≡ Some (partition_row part)
-    row-there = slice_get-map partition_row a.partitions.items row.partition ∙ ap (option_map partition_row) there
+    own-part : partition_row part ≡ can.placeable.partition
+    own-part = is-part a placed.node placed.app are row at part there
 
     is-partition : IsPartition v row.partition (partition_row part)
-    is-partition = inv.sound.partitions row.partition (partition_row part) row-there
+    is-partition = inv.sound.partitions row.partition (partition_row part) (part-at a placed.node placed.app are row at part there)
 
     pub has-room : 0 < part.containers.room
     has-room =
         at_live (λ room. 0 < room) (slice_get (held_of a).rooms (partition_of_node v.nodes placed.node)) part.containers.room can.room
-        (ap (slice_get (held_of a).rooms) stands ∙ slice_get-map (λ (part : Partition). part.containers.room) a.partitions.items row.partition
+        (ap (slice_get (held_of a).rooms) (stands a placed.node placed.app are row at) ∙ slice_get-map (λ (part : Partition). part.containers.room) a.partitions.items row.partition
         ∙ ap (option_map (λ (part : Partition). part.containers.room)) there)
 
     pub still-rises : part.clock < part.limit
-    still-rises = subst (λ (r : PartitionRow). r.clock < r.limit) (sym is-part) can.placeable.rises
+    still-rises = subst (λ (r : PartitionRow). r.clock < r.limit) (sym own-part) can.placeable.rises
 
     pub is-above : IsAbove (part.clock + 1) part.containers.entries
     is-above =
         each-number (λ n c. c.clock < part.clock + 1) part.containers.entries is-partition.numbers (λ n c found. omega (arith, (is-partition.each n c found).clock))
 
-    pub node-chain : IsNodeChain part.containers row.containers placed.node
-    node-chain = inv.linked.node placed.node row part at there
-
-    -- the node has room for the container
-    pub has-free : fits_in placed.size row.free ≡ true
-    has-free = ap (fits_in placed.size) (free-is a inv placed.node row at) ∙ can.fits
-
     module _ (arow : AppPart) (app-at : lookup (nat_eq placed.app) a.apps.entries ≡ Some arow) where
-      pub app-chain : IsAppChain part.containers (chain_of row.partition arow.chains) placed.app
-      app-chain = inv.linked.app placed.app arow row.partition part app-at there
-
       app-row-at : lookup (nat_eq placed.app) v.apps ≡ Some (app_row arow)
       app-row-at = lookup-of_rows app_row placed.app a.apps.entries ∙ ap (option_map app_row) app-at
 
@@ -127,9 +88,9 @@ module _ (a : Inside) (inv : IsInventory a) (placed : Placement) (can : CanPlace
 
       takes : CanTake v placed.app row.partition part.guests (app_row arow) placed.role
       takes =
-          subst (λ (r : AppRow). CanTake v placed.app row.partition part.guests r placed.role) (sym (same_Some (app_row arow) can.placeable.app_row (sym app-row-at ∙ can.placeable.app_found)))
-          (subst (λ (r : PartitionRow). CanTake v placed.app row.partition r.guests can.placeable.app_row placed.role) (sym is-part)
-          (subst (λ (r : NodeRow). CanTake v placed.app r.partition can.placeable.partition.guests can.placeable.app_row placed.role) (sym is-row) can.placeable.role))
+          subst (λ (r : AppRow). CanTake v placed.app row.partition part.guests r placed.role) (sym (is-owner a placed.node placed.app are arow app-at))
+          (subst (λ (r : PartitionRow). CanTake v placed.app row.partition r.guests can.placeable.app_row placed.role) (sym own-part)
+          (subst (λ (r : NodeRow). CanTake v placed.app r.partition can.placeable.partition.guests can.placeable.app_row placed.role) (sym (is-on a placed.node placed.app are row at)) can.placeable.role))
 
       -- the application has a place for the chain: at home, where it asks, or where it comes as a guest
       pub has-place : row.partition < 2 ^ 8 → IsLive row.partition arow.chains
@@ -158,28 +119,21 @@ taken-row : (r : Role) (number : ℕ) (chains : List (ℕ × Chain) → List (�
 taken-row Master number chains part = refl
 taken-row (Asked p priority) number chains part = refl
 
--- and keeps its home
-taken-home : (r : Role) (number : ℕ) (part : AppPart) → (taken_part r number part).home ≡ part.home
-taken-home Master number part = refl
-taken-home (Asked p priority) number part = refl
-
--- and asks on no more partitions
-taken-asks : (P : ℕ → Type 0) (r : Role) (number : ℕ) (part : AppPart) → AllByRecursion (λ ask. P ask.partition) part.asks → AllByRecursion (λ ask. P ask.partition) (taken_part r number part).asks
-taken-asks P Master number part each = each
-taken-asks P (Asked p priority) number part each = one-taken P p priority part.asks each
+-- and owns one container more
+taking : (r : Role) (number p : ℕ) (chain : Chain) → IsOwning r number p chain (λ part. taken_part r number (record part { chains = with_row p chain part.chains }))
+taking Master number p chain = record { home = λ part. refl; chains = λ part. refl; master = λ is part. refl; other = λ fails part. absurd (true≢false fails); asks = λ P part each. each }
+taking (Asked q priority) number p chain = record {
+  home = λ part. refl;
+  chains = λ part. refl;
+  master = λ is part. absurd (true≢false (sym is));
+  other = λ fails part. refl;
+  asks = λ P part each. one-taken P q priority part.asks each;
+}
 
 -- what `Partition::place` leaves
 pub record IsPlaced (placed : Placement) (number : ℕ) (old new : Partition) (of_node of_app : Chain) : Type 0 where
-  pub label : new.label ≡ old.label
-  pub limit : new.limit ≡ old.limit
-  pub guests : new.guests ≡ old.guests
   pub clock : new.clock ≡ old.clock + 1
-  pub entries : new.containers.entries ≡ old.containers.entries ++ (number, placed_on placed (old.clock + 1)) ∷ []
-  pub unused : IsUnused number old.containers.entries
-  pub node_chain : IsNodeChain new.containers of_node placed.node
-  pub app_chain : IsAppChain new.containers of_app placed.app
-  pub nodes : KeepsNodes placed.node old.containers new.containers
-  pub apps : KeepsApps placed.app old.containers new.containers
+  pub held : IsHeld placed (old.clock + 1) number old new of_node of_app
 
 module _ (a : Inside) (inv : IsInventory a) (placed : Placement) (can : CanPlace (held_of a) placed) (row : NodePart) (at : lookup (nat_eq placed.node) a.nodes.entries ≡ Some row)
     (part : Partition) (there : slice_get a.partitions.items row.partition ≡ Some part)
@@ -198,12 +152,12 @@ module _ (a : Inside) (inv : IsInventory a) (placed : Placement) (can : CanPlace
   p = partition_of_node before.nodes placed.node
 
   p-is : p ≡ row.partition
-  p-is = stands a inv placed can row at
+  p-is = stands a placed.node placed.app (coming (held_of a) placed can) row at
 
   clock-is : next_clock_at before.partitions p ≡ part.clock + 1
   clock-is =
       let yes : nat_lt part.clock part.limit ≡ true = let rises = still-rises a inv placed can row at part there in grind (arith, nat_tests, rises) in
-      ap (λ o. option_map_or next_clock o 0) (ap (slice_get before.partitions) p-is ∙ row-there a inv placed can row at part there)
+      ap (λ o. option_map_or next_clock o 0) (ap (slice_get before.partitions) p-is ∙ part-at a placed.node placed.app (coming (held_of a) placed can) row at part there)
       ∙ ap (λ b. cond b (part.clock + 1) part.clock) yes
 
   next-is : placed_on placed (part.clock + 1) ≡ next_container before placed.node placed.app placed.role placed.size
@@ -213,10 +167,10 @@ module _ (a : Inside) (inv : IsInventory a) (placed : Placement) (can : CanPlace
   push = λ containers. containers ++ (number, next_container before placed.node placed.app placed.role placed.size) ∷ []
 
   part-is : partition_row new ≡ ticked push (partition_row part)
-  part-is = λ i. record { label = is.label i; guests = is.guests i; limit = is.limit i; clock = ticks i; containers = (is.entries ∙ (λ j. part.containers.entries ++ (number, next-is j) ∷ [])) i }
+  part-is = λ i. record { label = is.held.label i; guests = is.held.guests i; limit = is.held.limit i; clock = ticks i; containers = (is.held.entries ∙ (λ j. part.containers.entries ++ (number, next-is j) ∷ [])) i }
     where
       ticks : new.clock ≡ next_clock (partition_row part)
-      ticks = is.clock ∙ sym clock-is ∙ ap (λ o. option_map_or next_clock o 0) (ap (slice_get before.partitions) p-is ∙ row-there a inv placed can row at part there)
+      ticks = is.clock ∙ sym clock-is ∙ ap (λ o. option_map_or next_clock o 0) (ap (slice_get before.partitions) p-is ∙ part-at a placed.node placed.app (coming (held_of a) placed can) row at part there)
 
   -- the rows are those with the container placed
   pub rows-placed : ◌≡◌ {A = Rows} (record {
@@ -248,100 +202,33 @@ module _ (a : Inside) (inv : IsInventory a) (placed : Placement) (can : CanPlace
       apps : of_rows app_row (with_change placed.app taken_one a.apps.entries) ≡ with_change placed.app (with_taken placed.role) before.apps
       apps = of_rows-changed app_row taken_one (with_taken placed.role) placed.app a.apps.entries (λ r. taken-row placed.role number (with_row row.partition of_app) r)
 
-  used-is : (n : ℕ) → used_of new.containers.entries n ≡ plus (used_of part.containers.entries n) (cond (nat_eq placed.node n) placed.size nothing)
-  used-is n = ap (λ es. used_of es n) is.entries ∙ used-push n number (placed_on placed (part.clock + 1)) part.containers.entries
-
-  own-right : IsRight placed.node (used_one row) new
-  own-right = record {
-    chain = is.node_chain;
-    free =
-        ap (λ free. less free placed.size) (inv.linked.free placed.node row part at there)
-        ∙ less-twice row.size (used_of part.containers.entries placed.node) placed.size
-        ∙ ap (less row.size) (sym own-used);
-    fits =
-        ap (λ used. fits_in used row.size) own-used
-        ∙ fits-left (used_of part.containers.entries placed.node) placed.size row.size (inv.linked.fits placed.node row part at there)
-        (ap (fits_in placed.size) (sym (inv.linked.free placed.node row part at there)) ∙ has-free a inv placed can row at part there);
-  }
-    where
-      own-used : used_of new.containers.entries placed.node ≡ plus (used_of part.containers.entries placed.node) placed.size
-      own-used = used-is placed.node ∙ ap (λ b. plus (used_of part.containers.entries placed.node) (cond b placed.size nothing)) (itself placed.node)
-
-  others-use : (n : ℕ) → n ≢ placed.node → used_of new.containers.entries n ≡ used_of part.containers.entries n
-  others-use n apart =
-      used-is n ∙ ap (λ b. plus (used_of part.containers.entries n) (cond b placed.size nothing)) (other placed.node n (λ same. apart (sym same)))
-      ∙ nothing-plus (used_of part.containers.entries n)
-
-  abbrev container : Container
-  container = placed_on placed (part.clock + 1)
-
-  -- the masters of other applications stay
-  masters : (n : ℕ) → n ≢ placed.app → master_in n new.containers.entries ≡ master_in n part.containers.entries
-  masters n apart =
-      ap (master_in n) is.entries ∙ master-stays number container part.containers.entries n (not-own n number container (λ same. apart (sym same)))
-
-  app-is : (r : AppPart) → lookup (nat_eq placed.app) a.apps.entries ≡ Some r → app_row r ≡ can.placeable.app_row
-  app-is r found = let its = own-app a inv placed can row at in ap app_row (same_Some r its.0 (sym found ∙ its.1)) ∙ its.2
-
   none-there : is_master_role placed.role ≡ true → find (is_master_of placed.app) part.containers.entries ≡ None
   none-there master =
-      let own = is-part a inv placed can row at part there in
+      let own = own-part a inv placed can row at part there in
       ap (λ (r : PartitionRow). find (is_master_of placed.app) r.containers) own
-      ∙ none-yet before inv.sound number placed.node placed.app placed.role placed.size can.placeable (subst (λ (r : PartitionRow). IsUnused number r.containers) own is.unused) master
+      ∙ none-yet before inv.sound number placed.node placed.app placed.role placed.size can.placeable (subst (λ (r : PartitionRow). IsUnused number r.containers) own is.held.unused) master
 
-  -- its own is the container, or stays
-  own-master : (r : AppPart) → lookup (nat_eq placed.app) a.apps.entries ≡ Some r → r.home ≡ row.partition → (taken_one r).master ≡ master_in placed.app new.containers.entries
-  own-master r found home = go placed.role refl
+  -- a master stands at home
+  at-home : is_master_role placed.role ≡ true → (r : AppPart) → lookup (nat_eq placed.app) a.apps.entries ≡ Some r → r.home ≡ row.partition
+  at-home master r found =
+      ap (λ (r : AppRow). r.home) (is-owner a placed.node placed.app (coming (held_of a) placed can) r found) ∙ go placed.role can.placeable.role master ∙ ap (λ (r : NodeRow). r.partition) (sym (is-on a placed.node placed.app (coming (held_of a) placed can) row at))
     where
-      go : (s : Role) → placed.role ≡ s → (taken_part s number (record r { chains = with_row row.partition of_app r.chains })).master ≡ master_in placed.app new.containers.entries
-      go Master role =
-          let master : is_master_role placed.role ≡ true = ap is_master_role role in
-          sym (ap (master_in placed.app) is.entries ∙ master-comes number container part.containers.entries master (none-there master))
-      go (Asked q priority) role =
-          inv.linked.master placed.app r part found (ap (slice_get a.partitions.items) home ∙ there)
-          ∙ sym (ap (master_in placed.app) is.entries ∙ master-stays number container part.containers.entries placed.app (no-master placed.app number container (ap is_master_role role)))
-
-  away : (r : AppPart) → lookup (nat_eq placed.app) a.apps.entries ≡ Some r → r.home ≢ row.partition → (taken_one r).master ≡ r.master
-  away r found apart = go placed.role can.placeable.role
-    where
-      go : (s : Role) → CanTake before placed.app can.placeable.node_row.partition can.placeable.partition.guests can.placeable.app_row s
-          → (taken_part s number (record r { chains = with_row row.partition of_app r.chains })).master ≡ r.master
-      go Master able =
-          absurd (apart (ap (λ (r : AppRow). r.home) (app-is r found) ∙ able.0 ∙ ap (λ (r : NodeRow). r.partition) (sym (is-row a inv placed can row at))))
-      go (Asked q priority) able = refl
-
-  touched : (r : AppPart) → lookup (nat_eq placed.app) a.apps.entries ≡ Some r → IsTouched row.partition placed.app new taken_one r
-  touched r found = record {
-    chain =
-        subst (λ chain. IsAppChain new.containers chain placed.app)
-        (sym
-        (at_live (λ (r : AppPart). chain_of row.partition r.chains ≡ of_app) (lookup (nat_eq placed.app) (with_change placed.app taken_one a.apps.entries)) (taken_one r) chained
-        (changed-same placed.app taken_one a.apps.entries ∙ ap (option_map taken_one) found)))
-        is.app_chain;
-    others = λ q apart.
-        ap (chain_of q) (taken-chains placed.role number (record r { chains = with_row row.partition of_app r.chains })) ∙ chain-other row.partition q of_app r.chains apart;
-    home = taken-home placed.role number (record r { chains = with_row row.partition of_app r.chains });
-    master = own-master r found;
-    away = away r found;
-    places = λ partitions.
-        more-places partitions r (taken_one r) (taken-home placed.role number (record r { chains = with_row row.partition of_app r.chains }))
-        (λ q live.
-        subst (IsLive q) (sym (taken-chains placed.role number (record r { chains = with_row row.partition of_app r.chains })))
-        (live-row q row.partition of_app r.chains live))
-        (λ P each. taken-asks P placed.role number (record r { chains = with_row row.partition of_app r.chains }) each);
-  }
+      go : (s : Role) → CanTake before placed.app can.placeable.node_row.partition can.placeable.partition.guests can.placeable.app_row s → is_master_role s ≡ true
+          → can.placeable.app_row.home ≡ can.placeable.node_row.partition
+      go Master able is = able.0
+      go (Asked q priority) able is = absurd (true≢false (sym is))
 
   -- the parts go together
   pub parts-linked : AreLinked (slice_set a.partitions.items row.partition new) (with_change placed.node used_one a.nodes.entries) (with_change placed.app taken_one a.apps.entries)
   parts-linked =
-      still-linked a.partitions.items a.nodes.entries a.apps.entries inv.linked row.partition part new there is.guests placed.node row at refl used_one (λ r. refl) (λ r. refl) own-right others-use placed.app
-      taken_one touched masters is.nodes is.apps
+      held-linked a inv placed row at part there (has-free a placed.node placed.app (coming (held_of a) placed can) row at inv placed.size can.fits) at-home none-there (part.clock + 1) number new of_node of_app is.held new.clock taken_one
+      (taking placed.role number row.partition of_app) chained
 
   -- and the rows are sound
   pub rows-sound : IsSound (with_placed number placed.node placed.app placed.role placed.size before)
   rows-sound =
       placed-sound before inv.sound number placed.node placed.app placed.role placed.size can.placeable
-      (subst (λ (r : PartitionRow). IsUnused number r.containers) (is-part a inv placed can row at part there) is.unused)
+      (subst (λ (r : PartitionRow). IsUnused number r.containers) (own-part a inv placed can row at part there) is.held.unused)
 
   module _ (nodes' : List (ℕ × NodePart)) (apps' : Numbered AppPart) (nodes-are : nodes' ≡ with_change placed.node used_one a.nodes.entries) (apps-are : apps' ≡ with_app placed.app taken_one a.apps) where
     abbrev rows_after : Rows

@@ -102,6 +102,10 @@ with_left node v = record v {
 abbrev pub with_dropped : ℕ → ℕ → Rows → Rows
 with_dropped p number v = record v { partitions = with_at p (λ row. record row { containers = without number row.containers }) v.partitions }
 
+-- a container comes to stand on a partition, under a number: no clock rises, no stamp changes, and no less is asked for
+abbrev pub with_stood : ℕ → ℕ → Container → Rows → Rows
+with_stood p number c v = record v { partitions = with_at p (λ row. record row { containers = row.containers ++ (number, c) ∷ [] }) v.partitions }
+
 -- a node without containers leaves
 abbrev pub with_node_gone : ℕ → Rows → Rows
 with_node_gone node v = record v { nodes = without node v.nodes }

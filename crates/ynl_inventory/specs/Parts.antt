@@ -23,7 +23,7 @@ use Rattle.ynl_inventory.specs.declared.submission.NewSubmission.{NewSubmission}
 use Rattle.ynl_inventory.specs.declared.inventory.Inventory.TheInside.{Inside}
 use Rattle.ynl_inventory.specs.Rows.{Rows, PartitionRow, NodeRow, AppRow}
 use Rattle.ynl_inventory.specs.Changes.{new_app, partition_of_node}
-use Rattle.ynl_inventory.specs.Sound.{IsSound, IsPlaceable}
+use Rattle.ynl_inventory.specs.Sound.{IsPlaceable, IsSound, IsStandable}
 use Rattle.ynl_inventory.specs.Apps.{master_in}
 pub use Rattle.ynl_inventory.specs.Apps.{containers_of}
 
@@ -56,6 +56,11 @@ app_row part = record {
 abbrev pub taken_part : Role → ℕ → AppPart → AppPart
 taken_part Master number part = record part { master = Some number }
 taken_part (Asked p priority) number part = record part { asks = with_one_taken p priority part.asks }
+
+-- the container of a number is its master, if it is placed as one
+abbrev pub owned_part : Role → ℕ → AppPart → AppPart
+owned_part Master number part = record part { master = Some number }
+owned_part (Asked p priority) number part = part
 
 -- what a contract sees: the rows, by partition how many placements take no memory, and whether a node may join again without
 pub record Held : Type 0 where
@@ -137,6 +142,11 @@ pub record CanPlace (h : Held) (placed : Placement) : Type 0 where
   pub placeable : IsPlaceable h.rows placed.node placed.app placed.role
   pub room : IfSome (slice_get h.rooms (partition_of_node h.rows.nodes placed.node)) (λ room. 0 < room)
   pub fits : fits_in placed.size (free_of h.rows placed.node) ≡ true
+
+-- a container may stand as one that was placed at this clock, and there is room for it on the node
+pub record CanStand (v : Rows) (placed : Placement) (clock : ℕ) : Type 0 where
+  pub standable : IsStandable v placed.node placed.app placed.role clock
+  pub fits : fits_in placed.size (free_of v placed.node) ≡ true
 
 -- a partition loses at most so much room, and the others none
 pub record LeavesRoom (p most : ℕ) (old new : List ℕ) : Type 0 where

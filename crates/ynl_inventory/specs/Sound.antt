@@ -17,7 +17,7 @@ use Rattle.ynl_tables.specs.apps.Asks.{find_ask, AreAsks}
 use Rattle.ynl_tables.specs.declared.containers.container.Container.{Container}
 use Rattle.ynl_tables.specs.declared.containers.container.Role.{Role}
 use Rattle.ynl_tables.specs.declared.containers.container.Role.TheVariants.{Master, Ask as Asked}
-use Rattle.ynl_tables.specs.containers.Table.{IsRising}
+use Rattle.ynl_tables.specs.containers.Table.{IsAbove, IsRising}
 use Rattle.ynl_tables.specs.declared.submissions.submissions.Submission.{Submission}
 use Rattle.ynl_tables.specs.submissions.Submissions.{turn_of}
 use Rattle.ynl_inventory.specs.declared.submission.NewSubmission.{NewSubmission}
@@ -132,6 +132,25 @@ module _ (v : Rows) where
     pub app_row : AppRow
     pub app_found : lookup (nat_eq app) v.apps ≡ Some app_row
     pub role : CanTake app node_row.partition partition.guests app_row r
+
+  -- an application may have a container of this role stand on a partition: its master at home, while it does not run; and what it asked for, at
+  -- home or on DEFAULT, stands where it was asked for, or is a guest
+  abbrev pub MayHave : ℕ → ℕ → Bool → AppRow → Role → Type 0
+  MayHave app p guests row Master = (row.home ≡ p) × (runs_at v app row ≡ false)
+  MayHave app p guests row (Asked asked priority) = IsAskedOn row.home asked × ((asked ≡ p) ⊎ ((asked ≡ 0) × (guests ≡ true)))
+
+  -- a container may stand on a node as one that was placed at this clock: the node and the application are there, that may have it there, and it is
+  -- later than all that stand on the node's partition, and no later than its clock
+  pub record IsStandable (node app : ℕ) (r : Role) (clock : ℕ) : Type 0 where
+    pub node_row : NodeRow
+    pub node_found : lookup (nat_eq node) v.nodes ≡ Some node_row
+    pub partition : PartitionRow
+    pub partition_found : slice_get v.partitions node_row.partition ≡ Some partition
+    pub last : IsAbove clock partition.containers
+    pub shown : clock ≤ partition.clock
+    pub app_row : AppRow
+    pub app_found : lookup (nat_eq app) v.apps ≡ Some app_row
+    pub role : MayHave app node_row.partition partition.guests app_row r
 
   -- the clock of a partition may show this: it is no further than it goes, and no container there has a later one
   pub record CanShow (p clock : ℕ) : Type 0 where

@@ -7,7 +7,7 @@ ghost use Rattle.ynl_slots.specs.Slots.{IsLive, with_row};
 ghost use Rattle.ynl_tables.specs.nodes.Nodes.{with_change};
 ghost use Rattle.ynl_tables.specs.apps.Apps.{with_app};
 ghost use Rattle.ynl_tables.specs.apps.Chains.{chain_of};
-ghost use Rattle.ynl_inventory.specs.Parts.{released_part, taken_part};
+ghost use Rattle.ynl_inventory.specs.Parts.{owned_part, released_part, taken_part};
 
 use crate::partition::Placement;
 use ynl_resource::Size;
@@ -32,7 +32,26 @@ pub(crate) fn used(nodes: &mut Nodes, node: u32, chain: Chain, clock: u64, size:
     nodes.take(node, size);
 }
 
-/// An application has one more container: its chain in the partition, and its master or one less that is asked for.
+/// An application has one more container: its chain in the partition, and its master.
+pub(crate) fn owned(apps: &mut Apps, placed: &Placement, p: u8, chain: Chain, number: u32)
+    requires live { IsLive placed.now.app apps.old.entries }
+    requires place { IfSome (lookup (nat_eq placed.now.app) apps.old.entries)
+        (λ row. IsLive p row.chains) }
+    ensures apps { apps.new ≡ with_app placed.now.app (λ row.
+        owned_part placed.now.role number
+        (record row { chains = with_row p chain row.chains })) apps.old }
+    ensures chain { IfSome (lookup (nat_eq placed.now.app) apps.new.entries)
+        (λ row. chain_of p row.chains ≡ chain) }
+{
+    let app = placed.app;
+    apps.set_chain(app, p, chain);
+    match placed.role {
+        Role::Master => apps.set_master(app, Some(number)),
+        Role::Ask { .. } => {}
+    }
+}
+
+/// An application has one more container, as in `owned`, and one less is asked for where that is no master.
 pub(crate) fn taken(apps: &mut Apps, placed: &Placement, p: u8, chain: Chain, number: u32)
     requires live { IsLive placed.now.app apps.old.entries }
     requires place { IfSome (lookup (nat_eq placed.now.app) apps.old.entries)
@@ -43,14 +62,13 @@ pub(crate) fn taken(apps: &mut Apps, placed: &Placement, p: u8, chain: Chain, nu
     ensures chain { IfSome (lookup (nat_eq placed.now.app) apps.new.entries)
         (λ row. chain_of p row.chains ≡ chain) }
 {
-    let app = placed.app;
-    apps.set_chain(app, p, chain);
+    owned(apps, placed, p, chain, number);
     match placed.role {
-        Role::Master => apps.set_master(app, Some(number)),
+        Role::Master => {}
         Role::Ask {
             partition,
             priority,
-        } => apps.take_one(app, partition, priority),
+        } => apps.take_one(placed.app, partition, priority),
     }
 }
 

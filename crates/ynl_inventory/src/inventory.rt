@@ -4,7 +4,7 @@ ghost use Rattle.std.specs.Prelude.{◌≡◌, ◌<◌, ◌≤◌, nat_eq, lengt
 ghost use Rattle.std.specs.Map.{lookup};
 ghost use Rattle.ynl_slots.specs.Slots.{number_in, without, IsAfter, IsLive, IsUnused};
 ghost use Rattle.ynl_tables.specs.apps.Chains.{chain_of};
-ghost use Rattle.ynl_inventory.specs.Changes.{partition_of_node, with_placed, with_ended, with_joined, with_dropped, with_node_gone, with_submitted, with_asked, with_tickets, with_app_gone, with_user_known, with_clock, with_stamp};
+ghost use Rattle.ynl_inventory.specs.Changes.{partition_of_node, with_placed, with_ended, with_joined, with_dropped, with_node_gone, with_submitted, with_asked, with_tickets, with_app_gone, with_user_known, with_clock, with_stamp, with_stood};
 ghost use Rattle.ynl_model.specs.Nodes.{rises};
 ghost use Rattle.ynl_tables.specs.containers.Chains.{IsFirst, IsNext};
 ghost use Rattle.ynl_tables.specs.containers.Table.{number_at};
@@ -15,11 +15,11 @@ ghost use Rattle.ynl_layout.specs.Paths.{HasNumber};
 ghost use Rattle.ynl_inventory.specs.Opening.{opening_rows, IsOpening};
 ghost use Rattle.ynl_inventory.specs.Apps.{runs_at, master_of};
 ghost use Rattle.ynl_inventory.specs.Sound.{CanAsk, CanShow, CanSubmit, HasPartition, HasNoContainers, OwnsNoContainers, IsFor, IsSound};
-ghost use Rattle.ynl_inventory.specs.Parts.{app_row, node_row, CanPlace, IsFitting, LeavesRoom, free_of, held_at, containers_of};
+ghost use Rattle.ynl_inventory.specs.Parts.{app_row, node_row, placed_on, CanPlace, CanStand, IsFitting, LeavesRoom, free_of, held_at, containers_of};
 
-use crate::changes::{freed, released, taken, used};
+use crate::changes::{freed, owned, released, taken, used};
 use crate::partition::{Partition, Placement, risen};
-use crate::places::reserve_for_ask;
+use crate::places::{reserve_for_ask, reserve_place};
 use crate::start::{no_submissions, partitions_of};
 use crate::submission::{NewSubmission, new_row};
 use std::alloc::{AllocError, Global};
@@ -115,6 +115,33 @@ impl Inventory {
         used(&mut self.nodes, placed.node, of_node, clock, placed.size);
         taken(&mut self.apps, placed, p, of_app, number);
         number
+    }
+
+    /// A container stands on a node as one that was placed at this clock: no clock rises, no stamp changes, and no less
+    /// is asked for. It returns the container's number in the node's partition. All memory is taken first: it fails if
+    /// that is refused, and where `Containers::reserve` does.
+    pub fn stand(&mut self, placed: &Placement, clock: u64) -> Result<u32, AllocError>
+        requires { CanStand self.old.rows placed.now clock }
+        ensures rows { IfOk result (λ number. self.new.rows ≡ with_stood
+            (partition_of_node self.old.rows.nodes placed.now.node) number
+            (placed_on placed.now clock) self.old.rows) }
+        ensures unused { IfOk result (λ number. IsUnused number (containers_of self.old.rows
+            (partition_of_node self.old.rows.nodes placed.now.node))) }
+        ensures ready { self.new.ready ≡ self.old.ready }
+        ensures err { OnErr result (self.new.rows ≡ self.old.rows) }
+    {
+        let row = &self.nodes[placed.node];
+        let p = row.partition;
+        let stamp = row.stamp;
+        let mut of_node = row.containers;
+        reserve_place(&mut self.apps, placed.app, p)?;
+        let mut of_app = chain_in(&self.apps, placed.app, p);
+        let part = &mut self.partitions[p as usize];
+        part.reserve(1)?;
+        let number = part.hold(placed, clock, &mut of_node, &mut of_app);
+        used(&mut self.nodes, placed.node, of_node, stamp, placed.size);
+        owned(&mut self.apps, placed, p, of_app, number);
+        Ok(number)
     }
 
     /// Sets the clock of a partition. It takes no memory.

@@ -45,6 +45,39 @@ impl Partition {
         self.containers.reserve(count)
     }
 
+    /// A container of this clock comes last, also in the chains of its node and of its application. It returns the
+    /// container's number.
+    pub(crate) fn hold(
+        &mut self,
+        placed: &Placement,
+        clock: u64,
+        of_node: &mut Chain,
+        of_app: &mut Chain,
+    ) -> u32
+        requires room { 0 < self.old.containers.room }
+        requires above { IsAbove clock self.old.containers.entries }
+        requires of_node { IsNodeChain self.old.containers of_node.old placed.now.node }
+        requires of_app { IsAppChain self.old.containers of_app.old placed.now.app }
+        ensures partition { self.new ≡ record self.old { containers = self.new.containers } }
+        ensures entries { self.new.containers.entries ≡ self.old.containers.entries
+            ++ (result, placed_on placed.now clock) ∷ [] }
+        ensures unused { IsUnused result self.old.containers.entries }
+        ensures of_node { IsNodeChain self.new.containers of_node.new placed.now.node }
+        ensures of_app { IsAppChain self.new.containers of_app.new placed.now.app }
+        ensures nodes { KeepsNodes placed.now.node self.old.containers self.new.containers }
+        ensures apps { KeepsApps placed.now.app self.old.containers self.new.containers }
+        ensures room { self.old.containers.room ≤ self.new.containers.room + 1 }
+    {
+        let container = Container {
+            clock,
+            node: placed.node,
+            app: placed.app,
+            role: placed.role,
+            size: placed.size,
+        };
+        self.containers.place(container, of_node, of_app)
+    }
+
     /// The clock rises, and a container with it comes last, also in the chains of its node and of its application. It
     /// returns the container's number.
     pub(crate) fn place(
@@ -72,14 +105,7 @@ impl Partition {
         ensures room { self.old.containers.room ≤ self.new.containers.room + 1 }
     {
         self.clock += 1;
-        let container = Container {
-            clock: self.clock,
-            node: placed.node,
-            app: placed.app,
-            role: placed.role,
-            size: placed.size,
-        };
-        self.containers.place(container, of_node, of_app)
+        self.hold(placed, self.clock, of_node, of_app)
     }
 
     /// The clock rises, if it is not at its limit, and the container under a number goes, also from the chains of its node and

@@ -12,6 +12,16 @@ use ynl_tables::apps::{Apps, Ask};
 /// How many numbers there are for partitions.
 const NUMBERS: usize = 256;
 
+/// Makes a place for the chain of a partition. It fails if memory is refused.
+pub(crate) fn reserve_place(apps: &mut Apps, app: u32, p: u8) -> Result<(), AllocError>
+    requires { IsLive app apps.old.entries }
+    ensures more { HasMorePlaces app apps.old apps.new }
+    ensures place { OnOk result (IfSome (lookup (nat_eq app) apps.new.entries) (λ row. IsLive p row.chains)) }
+{
+    apps.reserve_chain(app, p)?;
+    Ok(())
+}
+
 /// Makes a place for the chain of a partition, if that takes guests.
 fn reserve_guest(apps: &mut Apps, app: u32, p: u8, guests: bool) -> Result<(), AllocError>
     requires { IsLive app apps.old.entries }
@@ -22,8 +32,7 @@ fn reserve_guest(apps: &mut Apps, app: u32, p: u8, guests: bool) -> Result<(), A
     if !guests {
         return Ok(());
     }
-    apps.reserve_chain(app, p)?;
-    Ok(())
+    reserve_place(apps, app, p)
 }
 
 /// Makes places for the chains of all partitions that take guests.

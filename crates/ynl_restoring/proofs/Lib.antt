@@ -7,12 +7,6 @@ pub mod Coming
 pub mod Owners
 pub mod Finishing
 pub mod NewAsks
-pub mod Placing
-pub mod OneMore
-pub mod Back
-pub mod AskedFor
-pub mod Beside
-pub mod AnyRole
 pub mod Started
 mod Roles
 mod Room

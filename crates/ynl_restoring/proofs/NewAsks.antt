@@ -152,7 +152,7 @@ module _ (w : ClusterView) (sound : IsSound w.rows) (n : ℕ) (row : AppRow) (fo
   home-known is = label-known w.config w.rows is (label_of w row.home) row.home (sound.apps n row found).home refl
 
   -- what it asks for it asks for on partitions that are there
-  pub each-asked : AllByRecursion (λ (ask : Ask). HasPartition w.rows ask.partition) row.asks
+  each-asked : AllByRecursion (λ (ask : Ask). HasPartition w.rows ask.partition) row.asks
   each-asked = all_from (λ (ask : Ask). HasPartition w.rows ask.partition) row.asks (asked-there w.rows sound row.home (sound.apps n row found).home row.asks (sound.apps n row found).asked)
 
   -- what it asks for of a label and a priority is the ask of the partition and the priority

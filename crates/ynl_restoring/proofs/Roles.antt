@@ -1,8 +1,7 @@
 -- What is tested of what a line's container is to its application.
-use Rattle.std.proofs.Common.{◌≡◌, ◌⊎◌, inl, inr, ℕ, true, false, not, ◌&&◌, ◌||◌, ◌==◌, nat_eq, slice_get, Some, refl, sym, ap, subst, ◌∙◌, arith, true≢false}
+use Rattle.std.proofs.Common.{◌≡◌, ℕ, true, false, not, ◌&&◌, ◌||◌, ◌==◌, nat_eq, slice_get, Some, refl, sym, ap, subst, ◌∙◌, arith, true≢false}
 use Rattle.std.specs.Prelude.{slice_index_or}
 use Rattle.std.specs.Map.{lookup}
-use Rattle.std.proofs.lemmas.Bool.{and_parts}
 use Rattle.std.proofs.lemmas.Bool.Decides.{nat_tests}
 use Rattle.std.proofs.lemmas.Option.{slice_get-get_or, same_Some}
 use Rattle.ynl_resource.specs.Names.{is_default, same_label}
@@ -13,7 +12,6 @@ use Rattle.ynl_model.specs.declared.proposals.What.TheVariants.{Master, Ask as A
 use Rattle.ynl_model.specs.Nodes.{has_label, is_exclusive}
 use Rattle.ynl_model.specs.Queues.{Config}
 use Rattle.ynl_model.specs.Service.{takes_guests}
-use Rattle.ynl_laws.proofs.Logic.{either-true}
 use Rattle.ynl_laws.proofs.Names.{same-label_path}
 use Rattle.ynl_inventory.specs.Apps.{runs_at}
 use Rattle.ynl_inventory.specs.Meaning.{app_of}
@@ -24,9 +22,8 @@ use Rattle.ynl_inventory.proofs.Finding.{not-true, own-label}
 use Rattle.ynl_cluster.specs.Cluster.{ClusterView, label_of, maxima_in, state_in, stops_in}
 use Rattle.ynl_cluster.proofs.requests.Running.{runs-means}
 use Rattle.ynl_saved.specs.Restoring.{asks_on, may_have}
-use Rattle.ynl_saved_laws.proofs.Served.{same-number, same-number_self}
+use Rattle.ynl_saved_laws.proofs.Served.{same-number_self}
 use Rattle.ynl_admission.specs.Named.{IsPartitionOf}
-use Rattle.ynl_restoring.specs.Standing.{MayHave}
 use Rattle.ynl_restoring.proofs.NewAsks.{home-known}
 
 default-same : (label : Label) → is_default label ≡ same_label label Unlabelled
@@ -62,18 +59,6 @@ module _ (w : ClusterView) (sound : IsSound w.rows) (configured : IsFor w.config
         (default-told i || at-told row.home (sound.apps n row found).home i)
         && ((ap (same_label label) (sym own) ∙ at-told p there) i || (default-told i && guests-told part at i))
 
-    -- and so the application may have had it
-    pub may-told : (part : PartitionRow) → (nat_eq asked 0 || nat_eq asked row.home) ≡ true → (nat_eq asked p || (nat_eq asked 0 && part.guests)) ≡ true → MayHave asked p part.guests row
-    may-told part asks stands = (at-home (either-true (nat_eq asked 0) (nat_eq asked row.home) asks), here (either-true (nat_eq asked p) (nat_eq asked 0 && part.guests) stands))
-      where
-        at-home : (nat_eq asked 0 ≡ true) ⊎ (nat_eq asked row.home ≡ true) → (asked ≡ row.home) ⊎ (asked ≡ 0)
-        at-home (inl e) = inr (grind (arith, nat_tests, e))
-        at-home (inr e) = inl (grind (arith, nat_tests, e))
-
-        here : (nat_eq asked p ≡ true) ⊎ ((nat_eq asked 0 && part.guests) ≡ true) → (asked ≡ p) ⊎ ((asked ≡ 0) × (part.guests ≡ true))
-        here (inl e) = inl (grind (arith, nat_tests, e))
-        here (inr e) = inr (let parts = and_parts (nat_eq asked 0) part.guests e in (grind (arith, nat_tests, parts.0), parts.1))
-
   -- under a label that is not configured nothing was asked for
   pub unknown-asked : (label : Label) → has_label w.config.labels label ≡ false → (priority : ℕ) → may_have w.config (state_in w) placed (Asked label priority) (app_of w.rows (n, row)) ≡ false
   unknown-asked label unknown priority = ap (λ b. b && (same_label label placed.id.label || (is_default label && not (is_exclusive w.config.labels placed.id.label)))) (nowhere label unknown)
@@ -97,17 +82,6 @@ module _ (w : ClusterView) (sound : IsSound w.rows) (configured : IsFor w.config
   master-away away =
       let other : nat_eq p row.home ≡ false = not-true (nat_eq p row.home) (λ same. away (grind (arith, nat_tests, same))) in
       master-told ∙ ap (λ b. b && (placed.size.memory == row.master.memory) && (placed.size.vcores == row.master.vcores) && not (runs_at w.rows n row)) other
-
-  -- and none is of another size
-  pub master-sized : (row.master ≡ placed.size → ⊥) → may_have w.config (state_in w) placed Master (app_of w.rows (n, row)) ≡ false
-  master-sized other =
-      master-told
-      ∙ ap (λ b. b && not (runs_at w.rows n row))
-      (not-true (nat_eq p row.home && (placed.size.memory == row.master.memory) && (placed.size.vcores == row.master.vcores))
-      (λ all.
-      let two = and_parts (nat_eq p row.home && (placed.size.memory == row.master.memory)) (placed.size.vcores == row.master.vcores) all in
-      let one = and_parts (nat_eq p row.home) (placed.size.memory == row.master.memory) two.0 in
-      other (λ i. record { memory = sym (same-number placed.size.memory row.master.memory one.1) i; vcores = sym (same-number placed.size.vcores row.master.vcores two.1) i })))
 
   -- one at home and of the size stands where there is none yet
   pub master-free : row.home ≡ p → row.master ≡ placed.size → may_have w.config (state_in w) placed Master (app_of w.rows (n, row)) ≡ not (runs_at w.rows n row)

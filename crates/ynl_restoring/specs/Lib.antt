@@ -1,4 +1,3 @@
 pub mod Taking
-pub mod Standing
 pub mod Placing
 pub mod Telling

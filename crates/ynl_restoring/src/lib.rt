@@ -5,7 +5,6 @@ pub use restoring::Restoring;
 
 mod applications;
 mod asks;
-mod containers;
 mod nodes;
 mod partitions;
 mod placements;

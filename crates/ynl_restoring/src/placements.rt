@@ -18,7 +18,6 @@ ghost use Rattle.ynl_saved.specs.Restoring.{is_given, is_sound_line, last_clock,
 ghost use Rattle.ynl_restoring.specs.Placing.{AreLasts, IsAskedAs, IsPlacedAs, IsRoleOf, IsSteady, StandsOn};
 ghost use Rattle.ynl_restoring.specs.Taking.{Takes};
 
-use crate::containers::stand;
 use std::alloc::AllocError;
 use ynl_admission::{app_named, is_too_large, node_named, partition_of};
 use ynl_cluster::Cluster;
@@ -198,7 +197,7 @@ pub(crate) fn take_container(
         return Ok(false);
     };
     let p = cluster.inventory().node(placement.node).partition;
-    stand(cluster, placed.id.clock, &placement)?;
+    cluster.stand(&placement, placed.id.clock)?;
     lasts[p as usize] = placed.id.clock;
     Ok(true)
 }

@@ -3,4 +3,3 @@ pub mod StateLines
 pub mod Sound
 pub mod Texts
 pub mod Parts
-pub mod Members

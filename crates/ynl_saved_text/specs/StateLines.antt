@@ -200,6 +200,16 @@ node_at d = do
   size ← size_at memory vcores
   Ok (Node (record { name = node'; label = label'; size = size; stamp = stamp' }))
 
+-- a live application, from what stands under its keys, texts and numbers: the first fault in the names and then in the ranges, or the line
+abbrev pub live_of : List ℕ → List ℕ → ℕ → List ℕ → List ℕ → ℕ → Result StateLine StateFault
+live_of app label memory queue user vcores = do
+  app' ← name_at app
+  label' ← label_at label
+  queue' ← path_at queue
+  user' ← name_at user
+  master ← size_at memory vcores
+  Ok (Live queue' app' user' label' master)
+
 -- a live application, with its home label and the size of its master
 unfoldable pub live_at : Data → Result StateLine StateFault
 live_at d = do
@@ -210,12 +220,18 @@ live_at d = do
   queue ← text_at (codes "queue") d
   user ← text_at (codes "user") d
   vcores ← number_at (codes "vcores") d
+  live_of app label memory queue user vcores
+
+-- an ask, in the same way
+abbrev pub ask_of : List ℕ → ℕ → List ℕ → ℕ → ℕ → List ℕ → ℕ → Result StateLine StateFault
+ask_of app count label memory priority tenant vcores = do
   app' ← name_at app
   label' ← label_at label
-  queue' ← path_at queue
-  user' ← name_at user
-  master ← size_at memory vcores
-  Ok (Live queue' app' user' label' master)
+  tenant' ← name_at tenant
+  count' ← within most_count count
+  priority' ← within most_priority priority
+  size ← size_at memory vcores
+  Ok (Ask tenant' app' (record { label = label'; priority = priority'; count = count'; size = size }))
 
 -- what an application asks for under a label and at a priority
 unfoldable pub ask_at : Data → Result StateLine StateFault
@@ -228,13 +244,7 @@ ask_at d = do
   priority ← number_at (codes "priority") d
   tenant ← text_at (codes "tenant") d
   vcores ← number_at (codes "vcores") d
-  app' ← name_at app
-  label' ← label_at label
-  tenant' ← name_at tenant
-  count' ← within most_count count
-  priority' ← within most_priority priority
-  size ← size_at memory vcores
-  Ok (Ask tenant' app' (record { label = label'; priority = priority'; count = count'; size = size }))
+  ask_of app count label memory priority tenant vcores
 
 -- a finished application
 unfoldable pub finished_at : Data → Result StateLine StateFault
@@ -275,6 +285,18 @@ unfoldable pub what_at : Option (Label × ℕ) → Result What StateFault
 what_at None = Ok Master
 what_at (Some wanted) = within most_priority wanted.1 >>= λ p. Ok (Asked wanted.0 p)
 
+-- a container in the same way, where what is wanted is a label and a priority, or nothing of a master
+abbrev pub container_of : Option (List ℕ × ℕ) → List ℕ → List ℕ → ℕ → List ℕ → List ℕ → ℕ → Result StateLine StateFault
+container_of wanted app id memory node tenant vcores = do
+  app' ← name_at app
+  id' ← id_at id
+  wanted' ← wanted_label_at wanted
+  node' ← name_at node
+  tenant' ← name_at tenant
+  what ← what_at wanted'
+  size ← size_at memory vcores
+  Ok (Holds (record { id = id'; node = node'; tenant = tenant'; app = app'; what = what; size = size }))
+
 -- a container on a node
 unfoldable pub container_at : Data → Result StateLine StateFault
 container_at d = do
@@ -285,14 +307,7 @@ container_at d = do
   node ← text_at (codes "node") d
   tenant ← text_at (codes "tenant") d
   vcores ← number_at (codes "vcores") d
-  app' ← name_at app
-  id' ← id_at id
-  wanted' ← wanted_label_at wanted
-  node' ← name_at node
-  tenant' ← name_at tenant
-  what ← what_at wanted'
-  size ← size_at memory vcores
-  Ok (Holds (record { id = id'; node = node'; tenant = tenant'; app = app'; what = what; size = size }))
+  container_of wanted app id memory node tenant vcores
 
 -- a queue that is stopped
 unfoldable pub stopped_at : Data → Result StateLine StateFault

@@ -2,7 +2,6 @@
 
 ghost use Rattle.std.specs.Prelude.{◌≡◌, IfOk};
 ghost use Rattle.ynl_fields.specs.Trees.{data_at};
-ghost use Rattle.ynl_saved_text.specs.Members as members;
 ghost use Rattle.ynl_saved_text.specs.StateLines.{IsRanged};
 ghost use Rattle.ynl_saved_text.specs.StateLines as spec;
 
@@ -40,7 +39,7 @@ fn live_of(
     user: &str,
     vcores: u64,
 ) -> Result<StateLine, StateFault>
-    ensures line { result ≡ members.live_of app.now label.now memory queue.now user.now vcores }
+    ensures line { result ≡ spec.live_of app.now label.now memory queue.now user.now vcores }
     ensures ranged { IfOk result (λ line. IsRanged line) }
 {
     let app = name_at(app)?;
@@ -84,7 +83,7 @@ fn ask_of(
     tenant: &str,
     vcores: u64,
 ) -> Result<StateLine, StateFault>
-    ensures line { result ≡ members.ask_of app.now count label.now memory priority tenant.now vcores }
+    ensures line { result ≡ spec.ask_of app.now count label.now memory priority tenant.now vcores }
     ensures ranged { IfOk result (λ line. IsRanged line) }
 {
     let app = name_at(app)?;

@@ -3,7 +3,6 @@
 ghost use Rattle.std.specs.Prelude.{◌≡◌, IfOk, option_map};
 ghost use Rattle.ynl_fields.specs.Reading.{Gives};
 ghost use Rattle.ynl_fields.specs.Trees.{data_at};
-ghost use Rattle.ynl_saved_text.specs.Members as members;
 ghost use Rattle.ynl_saved_text.specs.StateLines.{HasPriority, IsRanged};
 ghost use Rattle.ynl_saved_text.specs.StateLines as spec;
 
@@ -103,7 +102,7 @@ fn container_of(
     tenant: &str,
     vcores: u64,
 ) -> Result<StateLine, StateFault>
-    ensures line { result ≡ members.container_of (option_map (λ wanted. (wanted.0.now, wanted.1)) wanted.entry) app.now id.now memory node.now tenant.now vcores }
+    ensures line { result ≡ spec.container_of (option_map (λ wanted. (wanted.0.now, wanted.1)) wanted.entry) app.now id.now memory node.now tenant.now vcores }
     ensures ranged { IfOk result (λ line. IsRanged line) }
 {
     let app = name_at(app)?;

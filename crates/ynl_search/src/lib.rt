@@ -1,4 +1,5 @@
-//! The search for what is placed next on a node.
+//! The search for what is placed next on a node: the descent of the queue tree, the limits that it keeps, and the notes of
+//! where it found nothing.
 #![tactic(auto)]
 
 pub use choosing::{choose, some_own};

@@ -25,7 +25,7 @@ use Rattle.ynl_inventory.proofs.PartLists.{unmapped}
 use Rattle.ynl_inventory.proofs.Updates.{each-number}
 use Rattle.ynl_inventory.proofs.Used.{fits-left, nothing-plus, used-push}
 use Rattle.ynl_cluster.specs.declared.ledger.totals.Total.{Total}
-use Rattle.ynl_cluster.specs.ledger.Bounded.{ClocksKeepBounds, DroppingKeepsBounds, EndingKeepsBounds, JoiningKeepsBounds, LeavingKeepsBounds, OthersKeepBounds, PlacingKeepsBounds, StampsKeepBounds}
+use Rattle.ynl_cluster.specs.ledger.Bounded.{ClocksKeepBounds, DroppingKeepsBounds, EndingKeepsBounds, JoiningKeepsBounds, LeavingKeepsBounds, OthersKeepBounds, PlacingKeepsBounds, StampsKeepBounds, StandingKeepsBounds}
 use Rattle.ynl_cluster.specs.ledger.Totals.{grown}
 use Rattle.ynl_cluster.specs.ledger.Ledger.{nodes_on, total_in, total_of_nodes, AreSized, IsBounded}
 use Rattle.ynl_cluster.proofs.ledger.Small.{nothing-fits}
@@ -112,25 +112,28 @@ stand-there : (v : Rows) (p : ℕ) (row : NodeRow) (part : PartitionRow) → row
 stand-there v p row part stands there = ap (containers_of v) stands ∙ ap (λ o. option_map_or (λ (r : PartitionRow). r.containers) o []) there
 
 -- those that stand on a node still fit there with one that fits in what is free
-placed-fits : (v : Rows) → IsBounded v → (number node app : ℕ) (role : Role) (size : Resource) → fits_in size (free_of v node) ≡ true
-    → (n : ℕ) (row : NodeRow) (part : PartitionRow) → lookup (nat_eq n) v.nodes ≡ Some row → row.partition ≡ partition_of_node v.nodes node → slice_get v.partitions (partition_of_node v.nodes node) ≡ Some part
-    → fits_in (used_of (part.containers ++ (number, next_container v node app role size) ∷ []) n) row.size ≡ true
-placed-fits v bounded number node app role size room n row part found stands there =
-    ap (λ u. fits_in u row.size) (used-push n number (next_container v node app role size) part.containers) ∙ go (nat_eq node n) refl
+more-fits : (v : Rows) → IsBounded v → (number : ℕ) (c : Container) → fits_in c.size (free_of v c.node) ≡ true
+    → (n : ℕ) (row : NodeRow) (part : PartitionRow) → lookup (nat_eq n) v.nodes ≡ Some row → row.partition ≡ partition_of_node v.nodes c.node → slice_get v.partitions (partition_of_node v.nodes c.node) ≡ Some part
+    → fits_in (used_of (part.containers ++ (number, c) ∷ []) n) row.size ≡ true
+more-fits v bounded number c room n row part found stands there = ap (λ u. fits_in u row.size) (used-push n number c part.containers) ∙ go (nat_eq c.node n) refl
   where
     old : fits_in (used_of part.containers n) row.size ≡ true
-    old = ap (λ es. fits_in (used_of es n) row.size) (sym (stand-there v (partition_of_node v.nodes node) row part stands there)) ∙ bounded.fits n row found
+    old = ap (λ es. fits_in (used_of es n) row.size) (sym (stand-there v (partition_of_node v.nodes c.node) row part stands there)) ∙ bounded.fits n row found
 
-    go : (b : Bool) → nat_eq node n ≡ b → fits_in (plus (used_of part.containers n) (cond b size nothing)) row.size ≡ true
+    go : (b : Bool) → nat_eq c.node n ≡ b → fits_in (plus (used_of part.containers n) (cond b c.size nothing)) row.size ≡ true
     go true q =
-        let same : n ≡ node = grind (arith, nat_tests, q) in
-        let its : lookup (nat_eq node) v.nodes ≡ Some row = ap (λ m. lookup (nat_eq m) v.nodes) (sym same) ∙ found in
-        let free : free_of v node ≡ less row.size (used_of part.containers n) =
-        ap (λ o. option_map_or (λ (r : NodeRow). less r.size (used_of (containers_of v r.partition) node)) o nothing) its
-        ∙ ap (λ es. less row.size (used_of es node)) (stand-there v (partition_of_node v.nodes node) row part stands there) ∙ ap (λ m. less row.size (used_of part.containers m)) (sym same)
+        let same : n ≡ c.node = grind (arith, nat_tests, q) in
+        let its : lookup (nat_eq c.node) v.nodes ≡ Some row = ap (λ m. lookup (nat_eq m) v.nodes) (sym same) ∙ found in
+        let free : free_of v c.node ≡ less row.size (used_of part.containers n) =
+        ap (λ o. option_map_or (λ (r : NodeRow). less r.size (used_of (containers_of v r.partition) c.node)) o nothing) its
+        ∙ ap (λ es. less row.size (used_of es c.node)) (stand-there v (partition_of_node v.nodes c.node) row part stands there) ∙ ap (λ m. less row.size (used_of part.containers m)) (sym same)
         in
-        fits-left (used_of part.containers n) size row.size old (ap (fits_in size) (sym free) ∙ room)
+        fits-left (used_of part.containers n) c.size row.size old (ap (fits_in c.size) (sym free) ∙ room)
     go false q = ap (λ u. fits_in u row.size) (nothing-plus (used_of part.containers n)) ∙ old
+
+-- and those of a partition have their sizes with one more
+more-sized : (v : Rows) → IsBounded v → (p number : ℕ) (c : Container) → IsSize c.size → (part : PartitionRow) → slice_get v.partitions p ≡ Some part → AreSized (part.containers ++ (number, c) ∷ [])
+more-sized v bounded p number c ranged part at = Each-append (λ (e : ℕ × Container). IsSize e.1.size) part.containers ((number, c) ∷ []) (bounded.containers p part at) (ranged, tt)
 
 -- and without one
 less-fits : (v : Rows) → IsBounded v → (p number n : ℕ) (row : NodeRow) (part : PartitionRow) → lookup (nat_eq n) v.nodes ≡ Some row → row.partition ≡ p → slice_get v.partitions p ≡ Some part
@@ -154,8 +157,8 @@ pub placing : PlacingKeepsBounds
 placing v bounded number node app role size ranged room =
     others changed
     (changed-bounded v bounded p (ticked push) (with_change node (λ row. record row { stamp = next_clock_at v.partitions p }) v.nodes) (stamped-was v node (next_clock_at v.partitions p))
-    (λ q. total-stamped q node (next_clock_at v.partitions p) v.nodes) (placed-fits v bounded number node app role size room)
-    (λ part at. Each-append (λ (e : ℕ × Container). IsSize e.1.size) part.containers ((number, next_container v node app role size) ∷ []) (bounded.containers p part at) (ranged, tt)))
+    (λ q. total-stamped q node (next_clock_at v.partitions p) v.nodes) (more-fits v bounded number (next_container v node app role size) room)
+    (more-sized v bounded p number (next_container v node app role size) ranged))
     (with_placed number node app role size v) refl refl
   where
     p : ℕ
@@ -166,6 +169,14 @@ placing v bounded number node app role size ranged room =
 
     changed : Rows
     changed = with_changed p node push v
+
+pub standing : StandingKeepsBounds
+standing v bounded number c ranged room =
+    changed-bounded v bounded p (λ row. record row { containers = row.containers ++ (number, c) ∷ [] }) v.nodes (λ n new found. record { row = new; found = found; partition = refl; size = refl }) (λ q. refl)
+    (more-fits v bounded number c room) (more-sized v bounded p number c ranged)
+  where
+    p : ℕ
+    p = partition_of_node v.nodes c.node
 
 pub ending : EndingKeepsBounds
 ending v bounded p number node =

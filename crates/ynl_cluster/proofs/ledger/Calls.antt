@@ -17,7 +17,7 @@ use Rattle.ynl_tables.specs.declared.containers.container.Role.{Role}
 use Rattle.ynl_cluster.specs.uses.Tallies.{AreSmall, IsInside, lowered, raised, with_partition, HasPartition as HasUses}
 use Rattle.ynl_cluster.specs.declared.uses.tally.Tally.{Tally}
 use Rattle.ynl_inventory.specs.Rows.{Rows, PartitionRow, NodeRow, AppRow}
-use Rattle.ynl_inventory.specs.Changes.{partition_of_node, with_at, with_dropped, with_ended, with_joined, with_node_gone, with_placed}
+use Rattle.ynl_inventory.specs.Changes.{partition_of_node, with_at, with_dropped, with_ended, with_joined, with_node_gone, with_placed, with_stood}
 use Rattle.ynl_inventory.specs.Parts.{held_at}
 use Rattle.ynl_inventory.specs.Sound.{HasPartition, IsSound}
 use Rattle.ynl_inventory.proofs.Submitted.{app-submission}
@@ -25,7 +25,7 @@ use Rattle.ynl_cluster.specs.declared.ledger.totals.Total.{Total}
 use Rattle.ynl_cluster.specs.ledger.Totals.{grown, shrunk, total_at, IsSmallTotal}
 use Rattle.ynl_cluster.specs.ledger.Ledger.{tally_of, total_in, totals_in, uses_in, IsBounded}
 use Rattle.ynl_cluster.specs.ledger.Changes.{IsLineOf}
-use Rattle.ynl_cluster.proofs.ledger.Ledger.{dropping, ending, joining, leaving, placing}
+use Rattle.ynl_cluster.proofs.ledger.Ledger.{dropping, ending, joining, leaving, placing, standing}
 use Rattle.ynl_cluster.proofs.ledger.Means.{listed}
 use Rattle.ynl_cluster.proofs.ledger.Small.{total-small, uses-small}
 
@@ -72,6 +72,13 @@ module _ (v : Rows) (uses : List (List Use)) (is : uses ≡ uses_in v) where
   raised-uses number node app role size line live way p stands tally counts after made w placed =
       made ∙ (λ i. with_partition p (along (raised (counts i)) line) (is i)) ∙ ap (λ q. with_partition q (along (raised (tally_of q role size)) line) (uses_in v)) stands
       ∙ sym (placing v number node app role size line live way).uses ∙ sym (ap uses_in placed)
+
+  -- or with one that comes to stand
+  pub stood-raised-uses : (number : ℕ) (c : Container) (line : List ℕ) → IsLive c.app v.apps → IsLineOf v c.app line
+      → (p : ℕ) (tally : Tally) → tally ≡ tally_of p c.role c.size → (after : List (List Use)) → after ≡ with_partition p (along (raised tally) line) uses
+      → (w : Rows) → w ≡ with_stood p number c v → after ≡ uses_in w
+  stood-raised-uses number c line live way p tally counts after made w stood =
+      made ∙ (λ i. with_partition p (along (raised (counts i)) line) (is i)) ∙ sym (standing v p number c line live way).uses ∙ sym (ap uses_in stood)
 
   -- what `lower` leaves are the uses without the container that ends
   pub lowered-uses : IsSound v → (p number : ℕ) (c : Container) → held_at v p number ≡ Some c → (node : ℕ) (line : List ℕ) → IsLineOf v c.app line

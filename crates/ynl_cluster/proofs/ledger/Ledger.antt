@@ -5,9 +5,9 @@ use Rattle.ynl_tables.specs.apps.Asks.{with_ask}
 use Rattle.ynl_slots.specs.Slots.{without}
 use Rattle.ynl_inventory.specs.Changes.{new_app, next_clock_at, partition_of_node, ticked, with_taken, next_container}
 use Rattle.std.specs.Prelude.{[], ◌∷◌, ◌++◌, length, slice_index_or}
-use Rattle.ynl_cluster.specs.ledger.Changes.{PlacingRaises, EndingLowers, DroppingLowers, JoiningAdds, LeavingTakes, SubmittingStays, AskingStays, TicketsStay, FinishingStays, ClocksStay, StampsStay, UsersStay}
+use Rattle.ynl_cluster.specs.ledger.Changes.{PlacingRaises, StandingRaises, EndingLowers, DroppingLowers, JoiningAdds, LeavingTakes, SubmittingStays, AskingStays, TicketsStay, FinishingStays, ClocksStay, StampsStay, UsersStay}
 use Rattle.ynl_cluster.proofs.ledger.Sums.{changed-totals, dropped-totals, stamp-totals, joined-totals, left-totals}
-use Rattle.ynl_cluster.proofs.ledger.Uses.{changed-uses, clock-uses, dropped-uses, ended-uses, finished-uses, joined-uses, placed-uses, submitted-uses}
+use Rattle.ynl_cluster.proofs.ledger.Uses.{changed-uses, clock-uses, dropped-uses, ended-uses, finished-uses, joined-uses, placed-uses, stood-uses, submitted-uses}
 
 pub placing : PlacingRaises
 placing v number node app role size line live way = record {
@@ -15,6 +15,12 @@ placing v number node app role size line live way = record {
   totals =
       changed-totals v (partition_of_node v.nodes node) (ticked (λ es. es ++ (number, next_container v node app role size) ∷ [])) node
       (next_clock_at v.partitions (partition_of_node v.nodes node)) (with_change app (with_taken role) v.apps);
+}
+
+pub standing : StandingRaises
+standing v p number c line live way = record {
+  uses = stood-uses v p number c line live way;
+  totals = dropped-totals v p (λ row. record row { containers = row.containers ++ (number, c) ∷ [] });
 }
 
 pub ending : EndingLowers

@@ -21,7 +21,7 @@ use Rattle.ynl_tables.specs.declared.containers.container.Container.{Container}
 use Rattle.ynl_tables.specs.declared.containers.container.Role.{Role}
 use Rattle.ynl_cluster.specs.uses.Tallies.{raised, lowered, with_partition}
 use Rattle.ynl_inventory.specs.Rows.{Rows, PartitionRow, NodeRow, AppRow}
-use Rattle.ynl_inventory.specs.Changes.{next_clock_at, next_container, partition_of_node, ticked, with_at, with_clock, with_dropped, with_ended, with_joined, with_placed, with_taken}
+use Rattle.ynl_inventory.specs.Changes.{next_clock_at, next_container, partition_of_node, ticked, with_at, with_clock, with_dropped, with_ended, with_joined, with_placed, with_stood, with_taken}
 use Rattle.ynl_inventory.specs.Parts.{held_at}
 use Rattle.ynl_inventory.specs.Sound.{IsSound, OwnsNoContainers}
 use Rattle.ynl_inventory.proofs.Lookups.{pushed-live}
@@ -88,6 +88,13 @@ placed-uses v number node app role size line live way =
 
     e : ℕ × Container
     e = (number, next_container v node app role size)
+
+-- or comes to stand
+pub stood-uses : (v : Rows) (p number : ℕ) (c : Container) (line : List ℕ) → IsLive c.app v.apps → IsLineOf v c.app line
+    → uses_in (with_stood p number c v) ≡ with_partition p (along (raised (tally_of p c.role c.size)) line) (uses_in v)
+stood-uses v p number c line live way =
+    uses-changed v p (λ row. record row { containers = row.containers ++ (number, c) ∷ [] }) v.nodes v.apps (along (raised (tally_of p c.role c.size)) line) (λ queue d. refl)
+    (λ row at. uses-raised v p (number, c) (row.containers ++ (number, c) ∷ []) row.containers (inserted-last row.containers (number, c)) line live way)
 
 -- a container goes
 module _ (v : Rows) (sound : IsSound v) (p number : ℕ) (c : Container) (held : held_at v p number ≡ Some c) (line : List ℕ) (way : IsLineOf v c.app line) where

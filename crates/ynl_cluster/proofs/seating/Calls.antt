@@ -1,5 +1,5 @@
 -- What the calls find: the lanes against the rows after a container was placed, or went.
-use Rattle.std.proofs.Common.{◌≡◌, ℕ, Bool, true, false, not, ◌&&◌, ◌||◌, List, [], slice_get, Option, Some, None, find, is_some, nat_eq, ◌==◌, true≢false, refl, sym, ap, subst, ◌∙◌, inl, inr}
+use Rattle.std.proofs.Common.{◌≡◌, ℕ, Bool, true, false, not, ◌&&◌, ◌||◌, List, [], ◌∷◌, ◌++◌, slice_get, Option, Some, None, find, is_some, nat_eq, ◌==◌, true≢false, refl, sym, ap, subst, ◌∙◌, inl, inr}
 use mathlib.Core.Logic.{◌⊎◌}
 use Rattle.std.specs.Map.{lookup}
 use Rattle.std.specs.Option.{option_and_then, option_map_or}
@@ -22,97 +22,152 @@ use Rattle.ynl_inventory.specs.Rows.{Rows, PartitionRow, NodeRow, AppRow}
 use Rattle.ynl_inventory.specs.Apps.{is_guest_role}
 use Rattle.ynl_inventory.specs.Changes.{next_clock_at, next_container, partition_of_node, with_dropped, with_ended, with_placed, with_taken}
 use Rattle.ynl_inventory.specs.Parts.{containers_of}
-use Rattle.ynl_inventory.specs.Sound.{CanTake, HasPartition, IsAskedOn, IsSound}
+use Rattle.ynl_inventory.specs.Sound.{CanTake, HasPartition, IsAskedOn, IsSound, MayHave}
 use Rattle.ynl_inventory.proofs.Lookups.{live-found, read-changed}
 use Rattle.ynl_cluster.specs.seating.Seating.{is_shared, shares}
-use Rattle.ynl_cluster.specs.seating.Steps.{AreSeatedBut, AreUsedBut, IsEnded, IsPlaced}
+use Rattle.ynl_cluster.specs.seating.Steps.{AreSeatedBut, AreUsedBut, IsEnded, IsNew, IsOld, IsPlaced}
 use Rattle.ynl_cluster.proofs.seating.Carrying.{ChangesContainers}
 use Rattle.ynl_cluster.proofs.seating.Coming.{guest-came, guest-went, home-came, home-went}
 use Rattle.ynl_cluster.proofs.seating.Entered.{home-shared}
-use Rattle.ynl_cluster.proofs.seating.RowChanges.{dropped-changes, ended-changes, itself-keeps, placed-changes, same-rows, taken-keeps}
+use Rattle.ynl_cluster.proofs.seating.SeatLists.{KeepsSeats}
+use Rattle.ynl_cluster.proofs.seating.RowChanges.{dropped-changes, ended-changes, itself-keeps, placed-changes, same-rows, stood-changes, taken-keeps}
 
 -- where a container of an application may stand: its master at home; and what was asked for where the application shares, there or as a guest of DEFAULT
 abbrev MayStand : ℕ → AppRow → Role → Type 0
 MayStand p row Master = p ≡ row.home
 MayStand p row (Asked asked priority) = (shares asked row ≡ true) × ((p ≡ asked) ⊎ (asked ≡ 0))
 
+-- an application shares the partitions on which it may ask
+asked-shares : (row : AppRow) (asked : ℕ) → IsAskedOn row.home asked → shares asked row ≡ true
+asked-shares row asked (inl is) = or_right (nat_eq asked 0) (nat_eq row.home asked) (ap (nat_eq row.home) is ∙ itself row.home)
+asked-shares row asked (inr is) = or_left (nat_eq asked 0) (nat_eq row.home asked) (ap (λ m. nat_eq m 0) is)
+
+-- what was asked for on a partition stands there, or is a guest
+there-or-guest : (asked p : ℕ) (guests : Bool) → (asked ≡ p) ⊎ ((asked ≡ 0) × (guests ≡ true)) → (p ≡ asked) ⊎ (asked ≡ 0)
+there-or-guest asked p guests (inl is) = inl (sym is)
+there-or-guest asked p guests (inr is) = inr is.0
+
 -- what is placed may stand there
 may-stand : (v : Rows) → IsSound v → (app : ℕ) (row : AppRow) → lookup (nat_eq app) v.apps ≡ Some row → (p : ℕ) (guests : Bool) (r : Role) → CanTake v app p guests row r → MayStand p row r
 may-stand v sound app row found p guests Master can = sym can.0
-may-stand v sound app row found p guests (Asked asked priority) can = (go (find (is_ask_of asked priority) row.asks) refl can.0, there can.1)
+may-stand v sound app row found p guests (Asked asked priority) can = (go (find (is_ask_of asked priority) row.asks) refl can.0, there-or-guest asked p guests can.1)
   where
-    there : (asked ≡ p) ⊎ ((asked ≡ 0) × (guests ≡ true)) → (p ≡ asked) ⊎ (asked ≡ 0)
-    there (inl is) = inl (sym is)
-    there (inr is) = inr is.0
-
-    on : (ask : Ask) → IsAskedOn row.home ask.partition → shares ask.partition row ≡ true
-    on ask (inl is) = or_right (nat_eq ask.partition 0) (nat_eq row.home ask.partition) (ap (nat_eq row.home) is ∙ itself row.home)
-    on ask (inr is) = or_left (nat_eq ask.partition 0) (nat_eq row.home ask.partition) (ap (λ m. nat_eq m 0) is)
-
     go : (o : Option Ask) → find (is_ask_of asked priority) row.asks ≡ o → is_some o ≡ true → shares asked row ≡ true
     go None is some = absurd (true≢false (sym some))
     go (Some ask) is some =
         let its = Each-find (λ ask. IsAskedOn row.home ask.partition) (is_ask_of asked priority) row.asks
         (all_from (λ ask. IsAskedOn row.home ask.partition) row.asks (sound.apps app row found).asked) ask is in
         let same : ask.partition ≡ asked = eqb-true ask.partition asked (and_parts (ask.partition == asked) (ask.priority == priority) its.1).0 in
-        ap (λ m. shares m row) (sym same) ∙ on ask its.0
+        ap (λ m. shares m row) (sym same) ∙ asked-shares row ask.partition its.0
+
+-- so may what comes to stand
+may-have : (v : Rows) (app : ℕ) (row : AppRow) (p : ℕ) (guests : Bool) (r : Role) → MayHave v app p guests row r → MayStand p row r
+may-have v app row p guests Master may = sym may.0
+may-have v app row p guests (Asked asked priority) may = (asked-shares row asked may.0, there-or-guest asked p guests may.1)
+
+-- how a container comes to a node: of which application, where that may have it, and what it changes
+record HasCome (number node app : ℕ) (r : Role) (size : Resource) (before v : Rows) : Type 0 where
+  clock : ℕ
+  row : AppRow
+  found : lookup (nat_eq app) before.apps ≡ Some row
+  may : MayStand (partition_of_node before.nodes node) row r
+  touch : AppRow → AppRow
+  keeps : KeepsSeats touch
+  apps : v.apps ≡ with_change app touch before.apps
+  place : partition_of_node v.nodes node ≡ partition_of_node before.nodes node
+  changes : ChangesContainers (partition_of_node before.nodes node) (λ es. es ++ (number, record { clock = clock; node = node; app = app; role = r; size = size }) ∷ []) before v
+
+module _ (number node app : ℕ) (r : Role) (size : Resource) (before v : Rows) where
+  abbrev p : ℕ
+  p = partition_of_node before.nodes node
+
+  module _ (row : NodeRow) (found : lookup (nat_eq node) before.nodes ≡ Some row) where
+    -- the node's partition
+    stands : p ≡ row.partition
+    stands = ap (λ o. option_map_or (λ (row : NodeRow). row.partition) o 0) found
+
+    has-place : (part : PartitionRow) → slice_get before.partitions row.partition ≡ Some part → HasPartition before p
+    has-place part there = subst (HasPartition before) (sym stands) (slice_get_within before.partitions row.partition part there)
+
+  -- one that is placed
+  new-came : IsSound before → IsNew number node app r size before v → HasCome number node app r size before v
+  new-came sound new = record {
+    clock = next_clock_at before.partitions p;
+    row = new.can.app_row;
+    found = new.can.app_found;
+    may =
+        subst (λ m. MayStand m new.can.app_row r) (sym (stands new.can.node_row new.can.node_found))
+        (may-stand before sound app new.can.app_row new.can.app_found new.can.node_row.partition new.can.partition.guests r new.can.role);
+    touch = with_taken r;
+    keeps = taken-keeps r;
+    apps = ap (λ (w : Rows). w.apps) new.rows;
+    place =
+        ap (λ (w : Rows). partition_of_node w.nodes node) new.rows
+        ∙ read-changed (λ (row : NodeRow). row.partition) 0 node node (λ row. record row { stamp = next_clock_at before.partitions p }) (λ row. refl) before.nodes;
+    changes =
+        subst (ChangesContainers p (λ es. es ++ (number, next_container before node app r size) ∷ []) before) (sym new.rows)
+        (placed-changes before number node app r size (has-place new.can.node_row new.can.node_found new.can.partition new.can.partition_found));
+  }
+
+  -- one that comes to stand
+  old-came : IsOld number node app r size before v → HasCome number node app r size before v
+  old-came old = record {
+    clock = old.clock;
+    row = old.can.app_row;
+    found = old.can.app_found;
+    may =
+        subst (λ m. MayStand m old.can.app_row r) (sym (stands old.can.node_row old.can.node_found))
+        (may-have before app old.can.app_row old.can.node_row.partition old.can.partition.guests r old.can.role);
+    touch = λ row. row;
+    keeps = itself-keeps;
+    apps = ap (λ (w : Rows). w.apps) old.rows ∙ sym (same-rows app before.apps);
+    place = ap (λ (w : Rows). partition_of_node w.nodes node) old.rows;
+    changes =
+        subst (ChangesContainers p (λ es. es ++ (number, record { clock = old.clock; node = node; app = app; role = r; size = size }) ∷ []) before) (sym old.rows)
+        (stood-changes before p number (record { clock = old.clock; node = node; app = app; role = r; size = size })
+        (has-place old.can.node_row old.can.node_found old.can.partition old.can.partition_found));
+  }
+
+  has-come : IsSound before → (IsNew number node app r size before v ⊎ IsOld number node app r size before v) → HasCome number node app r size before v
+  has-come sound (inl new) = new-came sound new
+  has-come sound (inr old) = old-came old
 
 module _ (node app : ℕ) (r : Role) (size : Resource) (v : Rows) (lanes : List (List Seats)) (start : IsPlaced node app r size v lanes) where
-  abbrev before : Rows
-  before = start.before
+  came : HasCome start.number node app r size start.before v
+  came = has-come start.number node app r size start.before v start.sound start.came
 
   abbrev place : ℕ
-  place = partition_of_node before.nodes node
+  place = partition_of_node start.before.nodes node
 
-  abbrev after : Rows
-  after = with_placed start.number node app r size before
-
-  has : HasPartition before place
-  has =
-      let stands : start.can.node_row.partition ≡ place = sym (ap (λ o. option_map_or (λ (row : NodeRow). row.partition) o 0) start.can.node_found) in
-      subst (HasPartition before) stands (slice_get_within before.partitions start.can.node_row.partition start.can.partition start.can.partition_found)
-
-  stood : MayStand place start.can.app_row r
-  stood =
-      subst (λ m. MayStand m start.can.app_row r) (sym (ap (λ o. option_map_or (λ (row : NodeRow). row.partition) o 0) start.can.node_found))
-      (may-stand before start.sound app start.can.app_row start.can.app_found start.can.node_row.partition start.can.partition.guests r start.can.role)
+  abbrev container : Container
+  container = record { clock = came.clock; node = node; app = app; role = r; size = size }
 
   -- its application shares the partition, unless it is a guest there
-  shared : is_shared before.apps place (start.number, next_container before node app r size) ≡ true
+  shared : is_shared start.before.apps place (start.number, container) ≡ true
   shared =
-      ap (λ o. is_guest_role place r || option_map_or (shares place) o false) start.can.app_found ∙ by r stood
+      ap (λ o. is_guest_role place r || option_map_or (shares place) o false) came.found ∙ by r came.may
     where
-      by : (role : Role) → MayStand place start.can.app_row role → (is_guest_role place role || shares place start.can.app_row) ≡ true
-      by Master home = ap (λ m. shares m start.can.app_row) home ∙ home-shared start.can.app_row
-      by (Asked asked priority) (own, inl same) = or_right (is_guest_role place (Asked asked priority)) (shares place start.can.app_row) (ap (λ m. shares m start.can.app_row) same ∙ own)
+      by : (role : Role) → MayStand place came.row role → (is_guest_role place role || shares place came.row) ≡ true
+      by Master home = ap (λ m. shares m came.row) home ∙ home-shared came.row
+      by (Asked asked priority) (own, inl same) = or_right (is_guest_role place (Asked asked priority)) (shares place came.row) (ap (λ m. shares m came.row) same ∙ own)
       by (Asked asked priority) (own, inr default) = go (nat_eq place 0)
         where
-          go : (b : Bool) → ((nat_eq asked 0 && not b) || (b || nat_eq start.can.app_row.home place)) ≡ true
+          go : (b : Bool) → ((nat_eq asked 0 && not b) || (b || nat_eq came.row.home place)) ≡ true
           go true = or_right (nat_eq asked 0 && false) true refl
-          go false = or_left (nat_eq asked 0 && true) (nat_eq start.can.app_row.home place) (and_from (nat_eq asked 0) true (ap (λ m. nat_eq m 0) default) refl)
-
-  -- the node is still in its partition
-  place-of : partition_of_node v.nodes node ≡ place
-  place-of =
-      ap (λ (w : Rows). partition_of_node w.nodes node) start.rows
-      ∙ read-changed (λ (row : NodeRow). row.partition) 0 node node (λ row. record row { stamp = next_clock_at before.partitions place }) (λ row. refl) before.nodes
+          go false = or_left (nat_eq asked 0 && true) (nat_eq came.row.home place) (and_from (nat_eq asked 0) true (ap (λ m. nat_eq m 0) default) refl)
 
   module _ (p : ℕ) (at : p ≡ partition_of_node v.nodes node) where
     is : place ≡ p
-    is = sym (at ∙ place-of)
+    is = sym (at ∙ came.place)
 
     pub placed-guest : is_guest_role p r ≡ true → AreSeatedBut app v lanes
     placed-guest guest =
-        subst (λ w. AreSeatedBut app w lanes) (sym start.rows)
-        (guest-came before after (next_container before node app r size) (with_taken r) (taken-keeps r) refl start.can.app_row start.can.app_found place start.number lanes start.seated
-        (placed-changes before start.number node app r size has) shared (ap (λ m. is_guest_role m r) is ∙ guest))
+        guest-came start.before v container came.touch came.keeps came.apps came.row came.found place start.number lanes start.seated came.changes shared (ap (λ m. is_guest_role m r) is ∙ guest)
 
     pub placed-home : is_guest_role p r ≡ false → AreUsedBut app p (λ less more. more ≡ plus less size) v lanes
     placed-home home =
-        subst (λ w. AreUsedBut app p (λ less more. more ≡ plus less size) w lanes) (sym start.rows)
-        (subst (λ m. AreUsedBut app m (λ less more. more ≡ plus less size) after lanes) is
-        (home-came before after (next_container before node app r size) (with_taken r) (taken-keeps r) refl start.can.app_row start.can.app_found place start.number lanes start.seated
-        (placed-changes before start.number node app r size has) shared (ap (λ m. is_guest_role m r) is ∙ home)))
+        subst (λ m. AreUsedBut app m (λ less more. more ≡ plus less size) v lanes) is
+        (home-came start.before v container came.touch came.keeps came.apps came.row came.found place start.number lanes start.seated came.changes shared (ap (λ m. is_guest_role m r) is ∙ home))
 
 module _ (p : ℕ) (c : Container) (v : Rows) (lanes : List (List Seats)) (live : IsLive c.app v.apps) (start : IsEnded p c v lanes) where
   -- the container stood there

@@ -16,7 +16,7 @@ use Rattle.ynl_tables.specs.declared.containers.container.Role.{Role}
 use Rattle.ynl_tables.specs.declared.containers.container.Role.TheVariants.{Master, Ask as Asked}
 use Rattle.ynl_lanes.specs.lane.Seats.{Seats, nothing_waits}
 use Rattle.ynl_inventory.specs.Rows.{Rows, PartitionRow, AppRow}
-use Rattle.ynl_inventory.specs.Changes.{next_container, partition_of_node, ticked, with_asked, with_at, with_clock, with_dropped, with_ended, with_joined, with_node_gone, with_placed, with_stamp, with_taken, with_user}
+use Rattle.ynl_inventory.specs.Changes.{next_container, partition_of_node, ticked, with_asked, with_at, with_clock, with_dropped, with_ended, with_joined, with_node_gone, with_placed, with_stamp, with_stood, with_taken, with_user}
 use Rattle.ynl_inventory.specs.Parts.{containers_of}
 use Rattle.ynl_inventory.specs.Apps.{is_guest_role}
 use Rattle.ynl_inventory.specs.Sound.{HasPartition}
@@ -147,6 +147,11 @@ pub placed-changes : (v : Rows) (number node app : ℕ) (r : Role) (size : Resou
 placed-changes v number node app r size has =
     changes-at v (with_placed number node app r size v) (partition_of_node v.nodes node) (ticked (λ es. es ++ (number, next_container v node app r size) ∷ []))
     (λ es. es ++ (number, next_container v node app r size) ∷ []) (λ row. refl) has refl refl
+
+-- or comes to stand
+pub stood-changes : (v : Rows) (p number : ℕ) (c : Container) → HasPartition v p → ChangesContainers p (λ es. es ++ (number, c) ∷ []) v (with_stood p number c v)
+stood-changes v p number c has =
+    changes-at v (with_stood p number c v) p (λ row. record row { containers = row.containers ++ (number, c) ∷ [] }) (λ es. es ++ (number, c) ∷ []) (λ row. refl) has refl refl
 
 -- one ends, or goes with its node
 pub ended-changes : (v : Rows) (p number node : ℕ) → HasPartition v p → ChangesContainers p (without number) v (with_ended p number node v)

@@ -6,9 +6,10 @@ use Rattle.ynl_resource.specs.Ranges.{most_nodes}
 use Rattle.ynl_resource.specs.declared.amounts.Resource.{Resource}
 use Rattle.ynl_resource.specs.declared.names.Name.{Name}
 use Rattle.ynl_slots.specs.Slots.{IsUnused}
+use Rattle.ynl_tables.specs.declared.containers.container.Container.{Container}
 use Rattle.ynl_tables.specs.declared.containers.container.Role.{Role}
 use Rattle.ynl_inventory.specs.Rows.{Rows, NodeRow}
-use Rattle.ynl_inventory.specs.Changes.{with_clock, with_dropped, with_ended, with_joined, with_node_gone, with_placed, with_stamp}
+use Rattle.ynl_inventory.specs.Changes.{partition_of_node, with_clock, with_dropped, with_ended, with_joined, with_node_gone, with_placed, with_stamp, with_stood}
 use Rattle.ynl_inventory.specs.Parts.{free_of}
 use Rattle.ynl_inventory.specs.Sound.{IsSound}
 use Rattle.ynl_cluster.specs.ledger.Ledger.{total_in, IsBounded}
@@ -16,6 +17,10 @@ use Rattle.ynl_cluster.specs.ledger.Ledger.{total_in, IsBounded}
 -- a placement does, where what is placed fits in what is free of the node
 abbrev pub PlacingKeepsBounds : Type 0
 PlacingKeepsBounds = (v : Rows) → IsBounded v → (number node app : ℕ) (role : Role) (size : Resource) → IsSize size → fits_in size (free_of v node) ≡ true → IsBounded (with_placed number node app role size v)
+
+-- so does a container that comes to stand
+abbrev pub StandingKeepsBounds : Type 0
+StandingKeepsBounds = (v : Rows) → IsBounded v → (number : ℕ) (c : Container) → IsSize c.size → fits_in c.size (free_of v c.node) ≡ true → IsBounded (with_stood (partition_of_node v.nodes c.node) number c v)
 
 -- an end does
 abbrev pub EndingKeepsBounds : Type 0

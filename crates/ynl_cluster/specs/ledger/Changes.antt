@@ -15,7 +15,7 @@ use Rattle.ynl_tables.specs.declared.containers.container.Role.{Role}
 use Rattle.ynl_cluster.specs.uses.Tallies.{lowered, raised, with_partition}
 use Rattle.ynl_inventory.specs.Rows.{Rows, NodeRow}
 use Rattle.ynl_inventory.specs.Apps.{leaf_of_app}
-use Rattle.ynl_inventory.specs.Changes.{partition_of_node, with_app_gone, with_asked, with_at, with_clock, with_dropped, with_ended, with_joined, with_node_gone, with_placed, with_stamp, with_submitted, with_tickets, with_user}
+use Rattle.ynl_inventory.specs.Changes.{partition_of_node, with_app_gone, with_asked, with_at, with_clock, with_dropped, with_ended, with_joined, with_node_gone, with_placed, with_stamp, with_stood, with_submitted, with_tickets, with_user}
 use Rattle.ynl_inventory.specs.Parts.{held_at}
 use Rattle.ynl_inventory.specs.Sound.{IsSound, OwnsNoContainers}
 use Rattle.ynl_cluster.specs.declared.ledger.totals.Total.{Total}
@@ -45,6 +45,11 @@ IsLineOf v app line = IsWay (root ∷ v.paths) (is_above v.paths (leaf_of_app v 
 abbrev pub PlacingRaises : Type 0
 PlacingRaises = (v : Rows) (number node app : ℕ) (role : Role) (size : Resource) (line : List ℕ) → IsLive app v.apps → IsLineOf v app line
     → ChangesUses v (with_placed number node app role size v) (partition_of_node v.nodes node) (along (raised (tally_of (partition_of_node v.nodes node) role size)) line)
+
+-- so does a container that comes to stand
+abbrev pub StandingRaises : Type 0
+StandingRaises = (v : Rows) (p number : ℕ) (c : Container) (line : List ℕ) → IsLive c.app v.apps → IsLineOf v c.app line
+    → ChangesUses v (with_stood p number c v) p (along (raised (tally_of p c.role c.size)) line)
 
 -- an end lowers those of the container's partition along the line of its application
 abbrev pub EndingLowers : Type 0

@@ -11,8 +11,8 @@ use Rattle.ynl_lanes.specs.lane.Seats.{Seats}
 use Rattle.ynl_lanes.specs.table.Lanes.{lane_at}
 use Rattle.ynl_inventory.specs.Rows.{Rows, AppRow}
 use Rattle.ynl_inventory.specs.Parts.{containers_of, held_at}
-use Rattle.ynl_inventory.specs.Changes.{with_dropped, with_ended, with_placed}
-use Rattle.ynl_inventory.specs.Sound.{HasPartition, IsPlaceable, IsSound}
+use Rattle.ynl_inventory.specs.Changes.{partition_of_node, with_dropped, with_ended, with_placed, with_stood}
+use Rattle.ynl_inventory.specs.Sound.{HasPartition, IsPlaceable, IsSound, IsStandable}
 use Rattle.ynl_cluster.specs.seating.Seating.{Figures, AreSeated, AreSeatedWith, is_of, shares, user_use, waits_of}
 
 -- but for what waits of an application
@@ -49,12 +49,22 @@ pub record IsUnseated (app : ℕ) (v : Rows) (lanes : List (List Seats)) : Type 
   pub seated : AreSeated before lanes
   pub room : IsReserved row.home row.leaf row.user lanes
 
--- the lanes are those of the rows before a container was placed on a node
+-- a container is placed on a node
+pub record IsNew (number node app : ℕ) (role : Role) (size : Resource) (before v : Rows) : Type 0 where
+  pub can : IsPlaceable before node app role
+  pub rows : v ≡ with_placed number node app role size before
+
+-- or it comes to stand there as one that was placed
+pub record IsOld (number node app : ℕ) (role : Role) (size : Resource) (before v : Rows) : Type 0 where
+  pub clock : ℕ
+  pub can : IsStandable before node app role clock
+  pub rows : v ≡ with_stood (partition_of_node before.nodes node) number (record { clock = clock; node = node; app = app; role = role; size = size }) before
+
+-- the lanes are those of the rows before a container came to a node
 pub record IsPlaced (node app : ℕ) (role : Role) (size : Resource) (v : Rows) (lanes : List (List Seats)) : Type 0 where
   pub before : Rows
   pub number : ℕ
-  pub rows : v ≡ with_placed number node app role size before
-  pub can : IsPlaceable before node app role
+  pub came : IsNew number node app role size before v ⊎ IsOld number node app role size before v
   pub sound : IsSound before
   pub seated : AreSeated before lanes
 

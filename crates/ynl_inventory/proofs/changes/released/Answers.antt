@@ -1,17 +1,13 @@
 -- Two changes of one application are one.
-use Rattle.std.proofs.Common.{◌≡◌, ℕ, sym, ap, ◌∙◌}
+use Rattle.std.proofs.Common.{sym, ap, ◌∙◌}
 use Rattle.ynl_slots.specs.Slots.{Numbered, with_row}
 use Rattle.ynl_tables.specs.declared.apps.app.AppRow.{AppRow}
 use Rattle.ynl_tables.specs.apps.Apps.{with_app}
 use Rattle.ynl_tables.specs.declared.containers.container.Role.{Role}
 use Rattle.std.proofs.Common.{None}
 use Rattle.ynl_inventory.specs.Parts.{released_part}
-use Rattle.ynl_inventory.proofs.Lookups.{live-after, changed-twice}
+use Rattle.ynl_inventory.proofs.Lookups.{app-twice, live-after}
 use Rattle.ynl_inventory.proofs.changes.released.Goals as goal
-
--- one change after another of an application
-app-twice : (n : ℕ) (f g : AppRow → AppRow) (old mid new : Numbered AppRow) → new ≡ with_app n f mid → mid ≡ with_app n g old → new ≡ with_app n (λ row. f (g row)) old
-app-twice n f g old mid new two one = two ∙ ap (with_app n f) one ∙ (λ i. record old { entries = changed-twice n f g old.entries i })
 
 pub set_master-requires : goal.set_master-requires
 set_master-requires c =

@@ -1,63 +1,36 @@
--- Two changes of one application are one, and set its chain.
-use Rattle.std.proofs.Common.{◌≡◌, ℕ, IfSome, option_map, nat_eq, sym, ap, subst, ◌∙◌}
-use Rattle.std.specs.Map.{lookup}
-use Rattle.ynl_slots.specs.Slots.{Numbered, IsLive, with_row}
-use Rattle.ynl_slots.specs.declared.chain.Chain.{Chain}
+-- Two changes of one application are one, and leave its chain.
+use Rattle.std.proofs.Common.{◌≡◌, sym, ap, ◌∙◌}
+use Rattle.ynl_slots.specs.Slots.{Numbered, with_row}
 use Rattle.ynl_tables.specs.declared.apps.app.AppRow.{AppRow}
 use Rattle.ynl_tables.specs.apps.Apps.{with_app}
 use Rattle.ynl_tables.specs.apps.Chains.{chain_of}
 use Rattle.ynl_tables.specs.apps.Asks.{with_one_taken}
 use Rattle.ynl_tables.specs.declared.containers.container.Role.{Role}
-use Rattle.std.proofs.Common.{Some}
-use Rattle.ynl_inventory.specs.Parts.{taken_part}
-use Rattle.ynl_tables.proofs.containers.Removing.{at_live}
-use Rattle.ynl_inventory.proofs.Lookups.{changed-same, live-after, live-found, changed-twice}
-use Rattle.ynl_inventory.proofs.PartLists.{chain-same, taken-chains}
+use Rattle.ynl_inventory.specs.Parts.{owned_part, taken_part}
+use Rattle.ynl_inventory.proofs.Lookups.{app-twice, live-after, some-after}
 use Rattle.ynl_inventory.proofs.changes.taken.Goals as goal
-
--- one change after another of an application
-app-twice : (n : ℕ) (f g : AppRow → AppRow) (old mid new : Numbered AppRow) → new ≡ with_app n f mid → mid ≡ with_app n g old → new ≡ with_app n (λ row. f (g row)) old
-app-twice n f g old mid new two one = two ∙ ap (with_app n f) one ∙ (λ i. record old { entries = changed-twice n f g old.entries i })
-
-pub set_master-requires : goal.set_master-requires
-set_master-requires c =
-    live-after {X = AppRow} c.args.placed.now.app c.args.placed.now.app (λ row. record row { chains = with_row c.args.p c.args.chain row.chains }) c.args.apps.now.entries c.set_chain.new.self.entries
-    (ap (λ (apps : Numbered AppRow). apps.entries) c.set_chain.ensures) c.requires.live
 
 pub take_one-requires : goal.take_one-requires
 take_one-requires c =
-    live-after {X = AppRow} c.args.placed.now.app c.args.placed.now.app (λ row. record row { chains = with_row c.args.p c.args.chain row.chains }) c.args.apps.now.entries c.set_chain.new.self.entries
-    (ap (λ (apps : Numbered AppRow). apps.entries) c.set_chain.ensures) c.requires.live
+    live-after {X = AppRow} c.args.placed.now.app c.args.placed.now.app (λ row. owned_part c.args.placed.now.role c.args.number (record row { chains = with_row c.args.p c.args.chain row.chains })) c.args.apps.now.entries
+    c.owned.new.apps.entries (ap (λ (apps : Numbered AppRow). apps.entries) c.owned.ensures.apps) c.requires.live
 
 pub returns-in-Master-clause-apps : goal.returns-in-Master-clause-apps
 returns-in-Master-clause-apps c =
-    app-twice c.args.placed.now.app (λ row. record row { master = Some c.args.number }) (λ row. record row { chains = with_row c.args.p c.args.chain row.chains }) c.args.apps.now c.set_chain.new.self
-    c.set_master.new.self c.set_master.ensures c.set_chain.ensures
+    c.owned.ensures.apps
+    ∙ ap (λ (r : Role). with_app c.args.placed.now.app (λ row. owned_part r c.args.number (record row { chains = with_row c.args.p c.args.chain row.chains })) c.args.apps.now) c.in-Master.is
     ∙ ap (λ (r : Role). with_app c.args.placed.now.app (λ row. taken_part r c.args.number (record row { chains = with_row c.args.p c.args.chain row.chains })) c.args.apps.now) (sym c.in-Master.is)
 
 pub returns-in-Ask-clause-apps : goal.returns-in-Ask-clause-apps
 returns-in-Ask-clause-apps c =
     app-twice c.args.placed.now.app (λ row. record row { asks = with_one_taken c.in-Ask.partition c.in-Ask.priority row.asks }) (λ row. record row { chains = with_row c.args.p c.args.chain row.chains })
-    c.args.apps.now c.set_chain.new.self c.take_one.new.self c.take_one.ensures c.set_chain.ensures
+    c.args.apps.now c.owned.new.apps c.take_one.new.self c.take_one.ensures
+    (c.owned.ensures.apps
+    ∙ ap (λ (r : Role). with_app c.args.placed.now.app (λ row. owned_part r c.args.number (record row { chains = with_row c.args.p c.args.chain row.chains })) c.args.apps.now) c.in-Ask.is)
     ∙ ap (λ (r : Role). with_app c.args.placed.now.app (λ row. taken_part r c.args.number (record row { chains = with_row c.args.p c.args.chain row.chains })) c.args.apps.now) (sym c.in-Ask.is)
-
--- its chain is the one that was set
-chained : (role : Role) (app p number : ℕ) (chain : Chain) (old new : Numbered AppRow) → new ≡ with_app app (λ row. taken_part role number (record row { chains = with_row p chain row.chains })) old
-    → IsLive app old.entries → IfSome (lookup (nat_eq app) old.entries) (λ row. IsLive p row.chains) → IfSome (lookup (nat_eq app) new.entries) (λ row. chain_of p row.chains ≡ chain)
-chained role app p number chain old new is live place =
-    let row = live-found app old.entries live in
-    let found : lookup (nat_eq app) new.entries ≡ Some (taken_part role number (record row.0 { chains = with_row p chain row.0.chains })) =
-    ap (λ (apps : Numbered AppRow). lookup (nat_eq app) apps.entries) is ∙ changed-same app (λ (row : AppRow). taken_part role number (record row { chains = with_row p chain row.chains })) old.entries
-    ∙ ap (option_map (λ (row : AppRow). taken_part role number (record row { chains = with_row p chain row.chains }))) row.1
-    in
-    subst (λ o. IfSome o (λ (row : AppRow). chain_of p row.chains ≡ chain)) (sym found)
-    (ap (chain_of p) (taken-chains role number (record row.0 { chains = with_row p chain row.0.chains }))
-    ∙ chain-same p chain row.0.chains (at_live (λ (row : AppRow). IsLive p row.chains) (lookup (nat_eq app) old.entries) row.0 place row.1))
-
-pub returns-in-Master-clause-chain : goal.returns-in-Master-clause-chain
-returns-in-Master-clause-chain c =
-    chained c.args.placed.now.role c.args.placed.now.app c.args.p c.args.number c.args.chain c.args.apps.now c.set_master.new.self (returns-in-Master-clause-apps c) c.requires.live c.requires.place
 
 pub returns-in-Ask-clause-chain : goal.returns-in-Ask-clause-chain
 returns-in-Ask-clause-chain c =
-    chained c.args.placed.now.role c.args.placed.now.app c.args.p c.args.number c.args.chain c.args.apps.now c.take_one.new.self (returns-in-Ask-clause-apps c) c.requires.live c.requires.place
+    some-after {X = AppRow} (λ row. chain_of c.args.p row.chains ≡ c.args.chain) c.args.placed.now.app c.args.placed.now.app
+    (λ row. record row { asks = with_one_taken c.in-Ask.partition c.in-Ask.priority row.asks }) c.owned.new.apps.entries c.take_one.new.self.entries
+    (ap (λ (apps : Numbered AppRow). apps.entries) c.take_one.ensures) (λ row h. h) c.owned.ensures.chain
