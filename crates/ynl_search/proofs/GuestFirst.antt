@@ -1,5 +1,5 @@
 -- The first guest that is found in a leaf is the model's.
-use Rattle.std.proofs.Common.{◌≡◌, ◌≤◌, ◌⊎◌, ◌+◌, ℕ, Bool, true, false, cond, nat_eq, nat_le, List, [], ◌∷◌, map, filter, Option, None, Some, IsSome, is_some, option_map, inl, inr, refl, sym, ap, subst, ◌∙◌, arith, true≢false}
+use Rattle.std.proofs.Common.{◌≡◌, ◌≤◌, ◌⊎◌, ℕ, Bool, true, false, cond, nat_eq, List, [], ◌∷◌, map, filter, Option, None, Some, IsSome, is_some, option_map, inl, inr, refl, sym, ap, subst, ◌∙◌, arith, true≢false}
 use Rattle.std.specs.Cmp.Lexicographic.{slice_cmp}
 use Rattle.std.specs.Prelude.{IfSome}
 use Rattle.std.specs.Map.{lookup}
@@ -8,7 +8,7 @@ use Rattle.std.specs.Ordering.{is_gt, nat_cmp}
 use Rattle.std.proofs.lemmas.Bool.{and_from, and_parts}
 use Rattle.std.proofs.lemmas.Bool.Decides.{nat_tests}
 use Rattle.std.proofs.lemmas.Option.{none-some, same_Some}
-use Rattle.ynl_resource.specs.Amounts.{IsSize, fits_in, plus}
+use Rattle.ynl_resource.specs.Amounts.{IsSize, fits_in}
 use Rattle.ynl_resource.specs.declared.amounts.Resource.{Resource}
 use Rattle.ynl_resource.specs.declared.labels.Label.{Label}
 use Rattle.ynl_resource.specs.declared.labels.Label.TheVariants.{Unlabelled}
@@ -23,15 +23,14 @@ use Rattle.ynl_laws.specs.First.{IsFirst, is_later}
 use Rattle.ynl_layout.specs.Paths.{path_at}
 use Rattle.ynl_tables.specs.declared.apps.asks.Ask.{Ask}
 use Rattle.ynl_lanes.specs.lows.Lows.{no_size}
-use Rattle.ynl_lanes.specs.lane.Rows.{IsUse}
 use Rattle.ynl_lanes.specs.lane.Kinds.{of_kind}
 use Rattle.ynl_lanes.specs.declared.lane.kinds.Kind.TheVariants as kind
-use Rattle.ynl_lanes.specs.lane.Seats.{Seat, first_given, given, may_have, nothing_waits}
+use Rattle.ynl_lanes.specs.lane.Seats.{Seat, first_given, given, is_waiting}
 use Rattle.ynl_inventory.specs.Rows.{Rows, AppRow}
 use Rattle.ynl_inventory.specs.Meaning.{item_of, label_at, state_of}
 use Rattle.ynl_inventory.specs.Sound.{IsLeaf, IsSound}
 use Rattle.ynl_inventory.specs.Apps.{runs_at}
-use Rattle.ynl_cluster.specs.seating.Seating.{figures_of, least_asked, seat_of, seats_of, sits, user_use, waits_at}
+use Rattle.ynl_cluster.specs.seating.Seating.{figures_of, least_asked, seat_of, seats_of, sits}
 use Rattle.ynl_cluster.proofs.seating.Leasts.{are-met}
 use Rattle.ynl_cluster.specs.requests.First.{Asker, IsFirstPassing, IsNotAfter, IsPassing, item_by, ranks_after}
 use Rattle.ynl_cluster.specs.requests.Requests.{Request, ask_request, asked, item_for}
@@ -40,7 +39,7 @@ use Rattle.ynl_cluster.proofs.requests.Members.{Among, among-contained, among-fi
 use Rattle.ynl_cluster.proofs.requests.Order.{Precedes, precedes-place}
 use Rattle.ynl_cluster.proofs.requests.Wanted.{asked-means}
 use Rattle.ynl_search.specs.declared.found.Found.{Found}
-use Rattle.ynl_search.specs.Guests.{FirstGuestIsModel, IsGuestAsked, first_guest, gives_guest, is_guest_for, no_limit}
+use Rattle.ynl_search.specs.Guests.{FirstGuestIsModel, IsGuestAsked, first_guest, gives_guest, is_guest_for}
 use Rattle.ynl_search.specs.notes.Lanes.{IsLaneOf}
 use Rattle.ynl_search.specs.InLeaf.{found_ask}
 use Rattle.ynl_search.specs.Laws.{is_asked, item_found, no_item}
@@ -50,7 +49,7 @@ use Rattle.ynl_search.proofs.FirstOver.{IsFirstAt, first-none, first-some}
 use Rattle.ynl_search.proofs.notes.Listed.{listed}
 use Rattle.ynl_search.proofs.LowestAsk.{IsLowest, lowest-is, lowest-none}
 use Rattle.ynl_search.proofs.notes.Found.{among-found, found-among}
-use Rattle.ynl_search.proofs.SeatGiven.{none-waits}
+use Rattle.ynl_search.proofs.SeatGiven.{none-waits, waits-are}
 use Rattle.ynl_search.proofs.Wanted.{guest-asked}
 
 -- in a list under a condition
@@ -58,18 +57,7 @@ conditional : {X : Type 0} (x : X) (b : Bool) (xs : List X) → Among x (cond b 
 conditional x true xs there = (refl, there)
 conditional x false xs there = absurd there
 
--- what a user uses and a request more is below no limit
-unlimited : (used size : Resource) → IsUse used → IsSize size → fits_in (plus used size) no_limit ≡ true
-unlimited used size small is =
-    let a = small.memory in
-    let b = small.vcores in
-    let d = is.memory in
-    let e = is.vcores in
-    and_from (nat_le (used.memory + size.memory) 0xffff_ffff_ffff_ffff) (nat_le (used.vcores + size.vcores) 0xffff_ffff_ffff_ffff)
-    (grind (arith, nat_tests, a, d)) (grind (arith, nat_tests, b, e))
-
-module _ (v : Rows) (q : ℕ) (seats : List (ℕ × Seat)) (is : IsLaneOf v 0 q seats)
-    (small : (n : ℕ) (row : AppRow) → lookup (nat_eq n) v.apps ≡ Some row → IsUse (user_use v 0 q row.user)) (room : Resource) (test : Item → Bool)
+module _ (v : Rows) (q : ℕ) (seats : List (ℕ × Seat)) (is : IsLaneOf v 0 q seats) (room : Resource) (test : Item → Bool)
     (tell : (n : ℕ) (row : AppRow) (ask : Ask) → test (item_for v row (ask_request ask)) ≡ fits_in ask.size room) where
   abbrev Passing : Asker → Type 0
   Passing = IsPassing v (asked v 0) test q
@@ -81,12 +69,9 @@ module _ (v : Rows) (q : ℕ) (seats : List (ℕ × Seat)) (is : IsLaneOf v 0 q 
   seat = seat_of (figures_of v) 0 q
 
   abbrev guests : Seat → Option Found
-  guests = given kind.Ask room no_limit (gives_guest v room)
+  guests = given kind.Ask (gives_guest v room)
 
   module _ (n : ℕ) (row : AppRow) (found : lookup (nat_eq n) v.apps ≡ Some row) where
-    waits-are : (seat (n, row)).1.waits ≡ waits_at v 0 n row
-    waits-are = ap (λ o. option_map_or (waits_at v 0 n) o nothing_waits) found
-
     guest-is : gives_guest v room n ≡ option_map (found_ask n) (lowest (is_guest_for room) row.asks)
     guest-is = ap (option_and_then (λ r. option_map (found_ask n) (lowest (is_guest_for room) r.asks))) found
 
@@ -95,23 +80,20 @@ module _ (v : Rows) (q : ℕ) (seats : List (ℕ × Seat)) (is : IsLaneOf v 0 q 
     guest-here = go (runs_at v n row) refl (lowest (is_guest_for room) row.asks) refl ∙ ap (λ o. cond (runs_at v n row) o None) guest-is
       where
         go : (runs : Bool) → runs_at v n row ≡ runs → (o : Option Ask) → lowest (is_guest_for room) row.asks ≡ o
-            → cond (may_have kind.Ask room no_limit (seat (n, row)).1) (gives_guest v room n) None ≡ cond runs (gives_guest v room n) None
+            → cond (is_waiting kind.Ask (seat (n, row)).1) (gives_guest v room n) None ≡ cond runs (gives_guest v room n) None
         go false r o e =
             ap (λ b. cond b (gives_guest v room n) None)
-            (none-waits kind.Ask room no_limit (seat (n, row)).1 (ap (of_kind kind.Ask) waits-are ∙ ap (λ b. cond b (least_asked 0 row.asks) no_size) r))
+            (none-waits kind.Ask (seat (n, row)).1 (ap (of_kind kind.Ask) (waits-are v 0 q n row found) ∙ ap (λ b. cond b (least_asked 0 row.asks) no_size) r))
         go true r (Some best) e =
             let low : IsLowest (is_guest_for room) row.asks best = lowest-is (is_guest_for room) row.asks best e in
             let parts = and_parts (nat_eq best.partition 0) (fits_in best.size room) low.passes in
             let default : best.partition ≡ 0 = grind (arith, nat_tests, parts.0) in
             let sized = each-among (λ ask. IsSize ask.size) best row.asks (is.sized n row found).asks low.there in
             ap (λ b. cond b (gives_guest v room n) None)
-            (ap (λ waits. may_have kind.Ask room no_limit (record (seat (n, row)).1 { waits = waits })) waits-are
-            ∙ each-among
-            (λ ask. ask.partition ≡ 0 → IsSize ask.size → fits_in ask.size room ≡ true → fits_in (plus (user_use v 0 q row.user) ask.size) no_limit ≡ true
-            → may_have kind.Ask room no_limit (record { app = n; user = row.user; used = user_use v 0 q row.user; waits = waits_at v 0 n row }) ≡ true)
-            best row.asks (are-met.ask v n row 0 r (user_use v 0 q row.user) room no_limit) low.there default sized parts.1 (unlimited (user_use v 0 q row.user) best.size (small n row found) sized))
+            (each-among (λ ask. ask.partition ≡ 0 → IsSize ask.size → is_waiting kind.Ask (seat (n, row)).1 ≡ true) best row.asks
+            (are-met.ask v n row 0 r (seat (n, row)).1 (waits-are v 0 q n row found)) low.there default sized)
         go true r None e =
-            ap (cond (may_have kind.Ask room no_limit (seat (n, row)).1) (gives_guest v room n)) (sym nothing) ∙ same (may_have kind.Ask room no_limit (seat (n, row)).1) (gives_guest v room n)
+            ap (cond (is_waiting kind.Ask (seat (n, row)).1) (gives_guest v room n)) (sym nothing) ∙ same (is_waiting kind.Ask (seat (n, row)).1) (gives_guest v room n)
           where
             nothing : gives_guest v room n ≡ None
             nothing = guest-is ∙ ap (option_map (found_ask n)) e
@@ -242,7 +224,7 @@ module _ (v : Rows) (q : ℕ) (seats : List (ℕ × Seat)) (is : IsLaneOf v 0 q 
 -- ---- the model
 
 module _ (v : Rows) (sound : IsSound v) (stops : List StopRow) (maxima : List MaximumRow) (q : ℕ) (leaf : IsLeaf v q) (seats : List (ℕ × Seat)) (lane : IsLaneOf v 0 q seats)
-    (small : (n : ℕ) (row : AppRow) → lookup (nat_eq n) v.apps ≡ Some row → IsUse (user_use v 0 q row.user)) (c : Config) (node : Node) where
+    (c : Config) (node : Node) where
   abbrev s : State
   s = state_of v stops maxima
 
@@ -255,7 +237,7 @@ module _ (v : Rows) (sound : IsSound v) (stops : List StopRow) (maxima : List Ma
 
   guest-first : IsFirst (is_later (key c s Unlabelled)) (IsBelow (filter test (asks_for s Unlabelled)) (path_at v.paths q)) (option_map (item_found v) (first_guest v seats (free s node)))
   guest-first =
-      let found = first-guest v q seats lane small (free s node) test (λ n row ask. refl) in
+      let found = first-guest v q seats lane (free s node) test (λ n row ask. refl) in
       subst (λ (label : Label). IsFirst (is_later (key c s Unlabelled)) (IsBelow (filter test (asks_for s label)) (path_at v.paths q)) (option_map (item_found v) (first_guest v seats (free s node)))) sound.default
       (subst (IsFirst (is_later (key c s Unlabelled)) (IsBelow (filter test (asks_for s (label_at v.partitions 0))) (path_at v.paths q)))
       (sym (item-is found.0 found.1) ∙ ap (option_map (item_found v)) found.2)
@@ -264,11 +246,11 @@ module _ (v : Rows) (sound : IsSound v) (stops : List StopRow) (maxima : List Ma
 
   found-asked : IfSome (first_guest v seats (free s node)) (λ found. is_asked v 0 found ≡ true)
   found-asked =
-      let found = first-guest v q seats lane small (free s node) test (λ n row ask. refl) in
+      let found = first-guest v q seats lane (free s node) test (λ n row ask. refl) in
       subst (λ o. IfSome o (λ found. is_asked v 0 found ≡ true)) found.2 (guest-asked v 0 test q found.0 found.1)
 
 pub guest-is-asked : IsGuestAsked
-guest-is-asked v sound stops maxima q leaf seats lane small c node = found-asked v sound stops maxima q leaf seats lane small c node
+guest-is-asked v sound stops maxima q leaf seats lane c node = found-asked v sound stops maxima q leaf seats lane c node
 
 pub guest-means : FirstGuestIsModel
-guest-means v sound stops maxima q leaf seats lane small c node = guest-first v sound stops maxima q leaf seats lane small c node
+guest-means v sound stops maxima q leaf seats lane c node = guest-first v sound stops maxima q leaf seats lane c node

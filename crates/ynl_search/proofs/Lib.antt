@@ -5,6 +5,7 @@ pub mod LowestAsk
 pub mod FirstOver
 pub mod OwnFirst
 pub mod SeatGiven
+pub mod MayHave
 pub mod FirstIn
 pub mod LeafFirst
 pub mod GuestFirst

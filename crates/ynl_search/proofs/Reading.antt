@@ -1,20 +1,14 @@
 -- What is found in a leaf of a cluster is the model's first request there.
-use Rattle.std.proofs.Common.{◌≡◌, ℕ, Bool, true, false, ◌&&◌, ◌||◌, List, ◌∷◌, nat_eq, Option, None, Some, option_map, refl, sym, ap, subst, ◌∙◌, true≢false}
+use Rattle.std.proofs.Common.{◌≡◌, ℕ, Bool, true, false, ◌&&◌, ◌||◌, List, ◌∷◌, Option, None, Some, option_map, refl, sym, ap, subst, ◌∙◌, true≢false}
 use Rattle.std.specs.Prelude.{IfNone}
 use Rattle.std.specs.List.{list_all}
-use Rattle.std.specs.Map.{lookup}
 use Rattle.ynl_resource.specs.Names.{is_within, root, way_to}
 use Rattle.ynl_model.specs.declared.nodes.Node.{Node}
 use Rattle.ynl_model.specs.Service.{within_master_share, within_user_limit}
 use Rattle.ynl_model.specs.Cluster.{free}
-use Rattle.ynl_lanes.specs.lane.Rows.{IsUse}
 use Rattle.ynl_lanes.specs.lane.Seats.{Seat}
-use Rattle.ynl_inventory.specs.Rows.{AppRow}
 use Rattle.ynl_inventory.specs.Sound.{IsLeaf, IsSound}
-use Rattle.ynl_cluster.specs.seating.Seating.{user_use}
-use Rattle.ynl_cluster.specs.ledger.Ledger.{IsBounded}
 use Rattle.ynl_cluster.specs.Cluster.{ClusterView, IsCell, label_of, maxima_in, path_of, state_in, stops_in}
-use Rattle.ynl_cluster.proofs.Users.{user-small}
 use Rattle.ynl_search.specs.descent.Scenes.{IsFirstBelow}
 use Rattle.ynl_search.specs.declared.found.Found.{Found}
 use Rattle.ynl_search.specs.declared.leaf.LeafTests.{LeafTests}
@@ -59,10 +53,9 @@ module _ (w : ClusterView) (sound : IsSound w.rows) (q : ℕ) (leaf : IsLeaf w.r
       never true user share true e h = h
       never true user share false e h = absurd (true≢false (sym e))
 
-  pub guest-read : IsBounded w.rows → IsLaneOf w.rows 0 q seats → (node : Node) (result : Option Found) → result ≡ first_guest w.rows seats (free (state_in w) node) → IsFirstGuest w node q result
-  guest-read bounded lane node result is =
-      let small : (n : ℕ) (row : AppRow) → lookup (nat_eq n) w.rows.apps ≡ Some row → IsUse (user_use w.rows 0 q row.user) = λ n row found. user-small w.rows sound bounded 0 sound.some q row.user in
+  pub guest-read : IsLaneOf w.rows 0 q seats → (node : Node) (result : Option Found) → result ≡ first_guest w.rows seats (free (state_in w) node) → IsFirstGuest w node q result
+  guest-read lane node result is =
       subst (IsFirstBelow (guest_scene w node) (path_of w q))
-      (sym (if-same w.rows (is_asked w.rows 0) (first_guest w.rows seats (free (state_in w) node)) (guest-is-asked w.rows sound (stops_in w) (maxima_in w) q leaf seats lane small w.config node))
+      (sym (if-same w.rows (is_asked w.rows 0) (first_guest w.rows seats (free (state_in w) node)) (guest-is-asked w.rows sound (stops_in w) (maxima_in w) q leaf seats lane w.config node))
       ∙ ap (option_map (item_asked w.rows 0)) (sym is))
-      (guest-means w.rows sound (stops_in w) (maxima_in w) q leaf seats lane small w.config node)
+      (guest-means w.rows sound (stops_in w) (maxima_in w) q leaf seats lane w.config node)

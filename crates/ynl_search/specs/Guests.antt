@@ -1,8 +1,8 @@
 -- What the applications of a leaf are given as guests, by their seats in its lane on DEFAULT.
-use Rattle.std.specs.Prelude.{◌≡◌, ℕ, Bool, true, ◌&&◌, nat_eq, List, filter, Option, Some, option_map, IfSome}
+use Rattle.std.specs.Prelude.{◌≡◌, ℕ, Bool, true, ◌&&◌, nat_eq, List, filter, Option, option_map, IfSome}
 use Rattle.std.specs.Map.{lookup}
 use Rattle.std.specs.Option.{option_and_then}
-use Rattle.ynl_resource.specs.Amounts.{amount, fits_in}
+use Rattle.ynl_resource.specs.Amounts.{fits_in}
 use Rattle.ynl_resource.specs.declared.amounts.Resource.{Resource}
 use Rattle.ynl_resource.specs.declared.labels.Label.TheVariants.{Unlabelled}
 use Rattle.ynl_model.specs.declared.nodes.Node.{Node}
@@ -15,22 +15,16 @@ use Rattle.ynl_laws.specs.Descent.{IsBelow}
 use Rattle.ynl_laws.specs.First.{IsFirst, is_later}
 use Rattle.ynl_layout.specs.Paths.{path_at}
 use Rattle.ynl_tables.specs.declared.apps.asks.Ask.{Ask}
-use Rattle.ynl_lanes.specs.lane.Rows.{IsUse}
 use Rattle.ynl_lanes.specs.lane.Seats.{Seat, first_given, given}
 use Rattle.ynl_lanes.specs.declared.lane.kinds.Kind.TheVariants as kind
-use Rattle.ynl_inventory.specs.Rows.{Rows, AppRow}
+use Rattle.ynl_inventory.specs.Rows.{Rows}
 use Rattle.ynl_inventory.specs.Meaning.{state_of}
 use Rattle.ynl_inventory.specs.Sound.{IsLeaf, IsSound}
-use Rattle.ynl_cluster.specs.seating.Seating.{user_use}
 use Rattle.ynl_search.specs.declared.found.Found.{Found}
 use Rattle.ynl_search.specs.notes.Lanes.{IsLaneOf}
 use Rattle.ynl_search.specs.InLeaf.{found_ask}
 use Rattle.ynl_search.specs.Laws.{is_asked, item_found}
 use Rattle.ynl_search.specs.Lowest.{lowest}
-
--- more than any user uses: a guest has no limit
-abbrev pub no_limit : Resource
-no_limit = amount 0xffff_ffff_ffff_ffff 0xffff_ffff_ffff_ffff
 
 -- whether an ask is for DEFAULT, and fits in a room
 abbrev pub is_guest_for : Resource → Ask → Bool
@@ -42,13 +36,12 @@ gives_guest v room n = option_and_then (λ row. option_map (found_ask n) (lowest
 
 -- the first application of the lane that is given one
 abbrev pub first_guest : Rows → List (ℕ × Seat) → Resource → Option Found
-first_guest v seats room = option_map (λ (e : ℕ × Found). e.1) (first_given (given kind.Ask room no_limit (gives_guest v room)) seats)
+first_guest v seats room = option_map (λ (e : ℕ × Found). e.1) (first_given (given kind.Ask (gives_guest v room)) seats)
 
 -- it is the first of the leaf's asks for DEFAULT for which a node has room, by the ratios of any partition
 abbrev pub FirstGuestIsModel : Type 0
 FirstGuestIsModel =
-    (v : Rows) → IsSound v → (stops : List StopRow) (maxima : List MaximumRow) (q : ℕ) → IsLeaf v q → (seats : List (ℕ × Seat)) → IsLaneOf v 0 q seats
-    → ((n : ℕ) (row : AppRow) → lookup (nat_eq n) v.apps ≡ Some row → IsUse (user_use v 0 q row.user)) → (c : Config) (node : Node)
+    (v : Rows) → IsSound v → (stops : List StopRow) (maxima : List MaximumRow) (q : ℕ) → IsLeaf v q → (seats : List (ℕ × Seat)) → IsLaneOf v 0 q seats → (c : Config) (node : Node)
     → IsFirst (is_later (key c (state_of v stops maxima) Unlabelled))
     (IsBelow (filter (λ item. has_room (state_of v stops maxima) node item.size) (asks_for (state_of v stops maxima) Unlabelled)) (path_at v.paths q))
     (option_map (item_found v) (first_guest v seats (free (state_of v stops maxima) node)))
@@ -56,6 +49,5 @@ FirstGuestIsModel =
 -- and its application asks for it
 abbrev pub IsGuestAsked : Type 0
 IsGuestAsked =
-    (v : Rows) → IsSound v → (stops : List StopRow) (maxima : List MaximumRow) (q : ℕ) → IsLeaf v q → (seats : List (ℕ × Seat)) → IsLaneOf v 0 q seats
-    → ((n : ℕ) (row : AppRow) → lookup (nat_eq n) v.apps ≡ Some row → IsUse (user_use v 0 q row.user)) → (c : Config) (node : Node)
+    (v : Rows) → IsSound v → (stops : List StopRow) (maxima : List MaximumRow) (q : ℕ) → IsLeaf v q → (seats : List (ℕ × Seat)) → IsLaneOf v 0 q seats → (c : Config) (node : Node)
     → IfSome (first_guest v seats (free (state_of v stops maxima) node)) (λ found. is_asked v 0 found ≡ true)

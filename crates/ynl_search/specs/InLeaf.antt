@@ -12,7 +12,7 @@ use Rattle.ynl_cluster.specs.seating.Seating.{ticket_on}
 use Rattle.ynl_search.specs.declared.found.Found.{Found}
 use Rattle.ynl_search.specs.declared.leaf.LeafTests.{LeafTests}
 use Rattle.ynl_search.specs.Lowest.{lowest}
-use Rattle.ynl_search.specs.Leaves.{most_of, passes_ask, passes_master, room_of}
+use Rattle.ynl_search.specs.Leaves.{passes_ask, passes_master}
 
 -- what the user of an application uses, as the application's seat shows it
 abbrev pub used_on : List (ℕ × Seat) → ℕ → AppRow → Option Resource
@@ -42,18 +42,14 @@ module _ (v : Rows) (seats : List (ℕ × Seat)) (p : ℕ) (tests : LeafTests) w
       option_and_then (λ row. option_and_then (λ used. option_map (found_ask n) (lowest (is_open_to used) row.asks)) (used_on seats p row))
       (lookup (nat_eq n) v.apps)
 
-  -- the first seat whose application is given its master, within a room
-  abbrev pub first_master : Resource → Option (ℕ × Found)
-  first_master room = first_given (given kind.Master room (most_of tests) gives_master) seats
+  -- the first seat whose application is given its master
+  abbrev pub first_master : Option (ℕ × Found)
+  first_master = first_given (given kind.Master gives_master) seats
 
   -- the first before another whose application is given an ask
-  abbrev pub first_ask : Resource → Option ℕ → Option (ℕ × Found)
-  first_ask room before = first_given (given kind.Ask room (most_of tests) gives_ask) (seats_up_to before seats)
+  abbrev pub first_ask : Option ℕ → Option (ℕ × Found)
+  first_ask before = first_given (given kind.Ask gives_ask) (seats_up_to before seats)
 
-  -- what stands first of these
-  abbrev pub first_within : Resource → Option Found
-  first_within room = option_or (option_map (λ e. e.1) (first_ask room (option_map (λ e. e.0) (first_master room)))) (option_map (λ e. e.1) (first_master room))
-
-  -- what is found in the leaf
+  -- what is found in the leaf: what stands first of these
   abbrev pub first_own : Option Found
-  first_own = option_and_then first_within (room_of tests)
+  first_own = option_or (option_map (λ e. e.1) (first_ask (option_map (λ e. e.0) first_master))) (option_map (λ e. e.1) first_master)

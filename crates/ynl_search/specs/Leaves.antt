@@ -1,6 +1,6 @@
 -- What the requests of a leaf are tested against, and what the model says of it.
-use Rattle.std.specs.Prelude.{◌≡◌, ℕ, Bool, ◌&&◌, ◌||◌, not, Option, Some, None, if◌then◌else◌}
-use Rattle.ynl_resource.specs.Amounts.{amount, fits_in, plus, smaller_of}
+use Rattle.std.specs.Prelude.{◌≡◌, ℕ, Bool, ◌&&◌, ◌||◌, not, if◌then◌else◌}
+use Rattle.ynl_resource.specs.Amounts.{fits_in, plus}
 use Rattle.ynl_resource.specs.declared.amounts.Resource.{Resource}
 use Rattle.ynl_resource.specs.declared.labels.Label.{Label}
 use Rattle.ynl_resource.specs.declared.paths.Path.{Path}
@@ -43,14 +43,6 @@ passes_master tests used size = passes_ask tests used size && keeps_share tests 
 -- whether a request may be placed, by the tests of its leaf
 abbrev pub passes : LeafTests → Resource → Item → Bool
 passes tests used item = if is_master_what item.what then passes_master tests used item.size else passes_ask tests used item.size
-
--- how large a request may be for which there is headroom, if there is any
-abbrev pub room_of : LeafTests → Option Resource
-room_of tests = if tests.headroom.is_open then Some tests.headroom.room else None
-
--- the most that a user may use with any request for which there is headroom
-abbrev pub most_of : LeafTests → Resource
-most_of tests = limit_of tests.limits (smaller_of tests.headroom.room (amount 0xffff_ffff 0xffff_ffff))
 
 -- what a leaf's requests are tested against is what the model says of it
 pub record AreTests (c : Config) (s : State) (label : Label) (free_there : Resource) (leaf : Path) (tests : LeafTests) : Type 0 where

@@ -2,6 +2,7 @@ pub mod Places
 pub mod Leaves
 pub mod Lowest
 pub mod InLeaf
+pub mod UserTests
 pub mod Laws
 pub mod Guests
 pub mod Scenes

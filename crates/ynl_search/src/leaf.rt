@@ -8,6 +8,7 @@ ghost use Rattle.ynl_cluster.specs.uses.Tallies.{IsTotal};
 use crate::headroom::Headroom;
 use crate::limits::Limits;
 use crate::place::Place;
+use crate::user_limits::UserLimits;
 use ynl_model::{LeafSettings, Use};
 use ynl_queues::share_of;
 use ynl_resource::{Resource, Size};
@@ -39,7 +40,7 @@ fn cap_of(guaranteed: &Resource, factor: u16) -> Resource
 }
 
 impl LeafTests {
-    ghost use Rattle.std.specs.Prelude.{◌≤◌};
+    ghost use Rattle.std.specs.Prelude.{◌≤◌, false, IfSome, IfNone};
     ghost use Rattle.ynl_resource.specs.declared.amounts.Resource.{Resource as Amount};
     ghost use Rattle.ynl_resource.specs.declared.labels.Label.{Label};
     ghost use Rattle.ynl_resource.specs.declared.paths.Path.{Path};
@@ -47,7 +48,8 @@ impl LeafTests {
     ghost use Rattle.ynl_model.specs.Cluster.{State};
     ghost use Rattle.ynl_cluster.specs.uses.Tallies.{IsSmallUse};
     ghost use Rattle.ynl_search.specs.limits.Limits.{limit_of};
-    ghost use Rattle.ynl_search.specs.Leaves.{AreLimits, AreTests, IsLeafKept, keeps_limit, keeps_share, most_of, passes_ask, passes_master, room_of};
+    ghost use Rattle.ynl_search.specs.Leaves.{AreLimits, AreTests, IsLeafKept, keeps_limit, keeps_share, passes_ask, passes_master};
+    ghost use Rattle.ynl_search.specs.UserTests.{IsTestOf};
     ghost use Rattle.ynl_search.specs.Places.{HasAmounts, IsPlace, IsSmallPlace};
 
     /// Those of a leaf where it was reached, by its settings, what it uses, and how many users share it, which are 1 or
@@ -81,25 +83,21 @@ impl LeafTests {
         }
     }
 
-    /// How large a request may be for which there is headroom, if there is any.
-    pub fn room(&self) -> Option<Resource>
-        ensures { result ≡ room_of self.now }
+    /// The test with which the users of the leaf are passed over, if there is headroom for any request.
+    pub(crate) fn user_limits(&self) -> Option<UserLimits>
+        ensures some { IfSome result (λ test. IsTestOf self.now test) }
+        ensures none { IfNone result (self.now.headroom.is_open ≡ false) }
     {
-        if self.headroom.is_open {
-            Some(self.headroom.room)
-        } else {
-            None
+        if !self.headroom.is_open {
+            return None;
         }
-    }
-
-    /// The most that a user may use with any request for which there is headroom.
-    pub fn most(&self) -> Resource
-        ensures { result ≡ most_of self.now }
-    {
         let room = self.headroom.room;
-        self.limits.limit(&Resource {
-            memory: room.memory.min(LARGEST),
-            vcores: room.vcores.min(LARGEST),
+        Some(UserLimits {
+            room: Resource {
+                memory: room.memory.min(LARGEST),
+                vcores: room.vcores.min(LARGEST),
+            },
+            limits: self.limits,
         })
     }
 

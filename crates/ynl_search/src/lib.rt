@@ -31,3 +31,4 @@ mod own_tree;
 mod place;
 mod queues;
 mod reached;
+mod user_limits;

@@ -7,6 +7,7 @@ ghost use Rattle.ynl_cluster.specs.seating.Seating.{ticket_on};
 ghost use Rattle.ynl_lanes.specs.lane.Seats.{IsSeat};
 ghost use Rattle.ynl_search.specs.InLeaf.{first_ask, first_master, first_own, gives_ask, gives_master};
 ghost use Rattle.ynl_search.specs.Leaves.{passes_ask};
+ghost use Rattle.ynl_search.specs.notes.Lanes.{IsLaneOfSome};
 
 use crate::found::Found;
 use crate::leaf::LeafTests;
@@ -122,17 +123,17 @@ pub(crate) fn first_own(
     partition: u8,
     tests: &LeafTests,
 ) -> Option<Found>
+    requires { IsLaneOfSome inventory.now.rows partition lane.now.seats }
     ensures { result ≡ first_own inventory.now.rows lane.now.seats partition tests.now }
 {
-    let room = tests.room()?;
-    let most = tests.most();
+    let users = tests.user_limits()?;
     let masters = Masters {
         inventory,
         lane,
         partition,
         tests,
     };
-    let master = lane.first(Kind::Master, room, most, &masters, None);
+    let master = lane.first(Kind::Master, &users, &masters, None);
     let before = ticket(&master);
     let asks = Asks {
         inventory,
@@ -140,7 +141,7 @@ pub(crate) fn first_own(
         partition,
         tests,
     };
-    if let Some((_, ask)) = lane.first(Kind::Ask, room, most, &asks, before) {
+    if let Some((_, ask)) = lane.first(Kind::Ask, &users, &asks, before) {
         return Some(ask);
     }
     let (_, found) = master?;

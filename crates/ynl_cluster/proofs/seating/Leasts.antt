@@ -1,11 +1,9 @@
 -- The least of what is asked for on a partition is below each size that is asked for there.
 use Rattle.std.proofs.Common.{◌≡◌, ◌≢◌, ℕ, Bool, true, false, cond, not, ◌&&◌, List, [], ◌∷◌, fold, nat_eq, sym, ap, subst, ◌∙◌, arith, refl}
 use Rattle.std.specs.List.{AllByRecursion}
-use Rattle.std.proofs.lemmas.Bool.{and_from}
 use Rattle.std.proofs.lemmas.Bool.Decides.{nat_tests}
-use Rattle.ynl_resource.specs.Amounts.{fits_in, IsSize, plus, smaller_of}
+use Rattle.ynl_resource.specs.Amounts.{fits_in, IsSize, smaller_of}
 use Rattle.ynl_resource.specs.declared.amounts.Resource.{Resource}
-use Rattle.ynl_laws.proofs.Amounts.{fits-plus, fits-trans}
 use Rattle.ynl_laws.proofs.Lists.{Each-weaker}
 use Rattle.ynl_slots.proofs.Entries.{itself, other}
 use Rattle.ynl_tables.specs.declared.apps.asks.Ask.{Ask}
@@ -14,7 +12,7 @@ use Rattle.ynl_lanes.specs.lows.Order.{below-refl, below-trans}
 use Rattle.ynl_lanes.specs.declared.lane.kinds.Kind.{Kind}
 use Rattle.ynl_lanes.specs.declared.lane.kinds.Kind.TheVariants as kind
 use Rattle.ynl_lanes.specs.lane.Kinds.{of_kind}
-use Rattle.ynl_lanes.specs.lane.Seats.{Seat, may_have}
+use Rattle.ynl_lanes.specs.lane.Seats.{Seat, is_waiting}
 use Rattle.ynl_lanes.specs.lane.Waiting.{IsWaiting, waiting-below}
 use Rattle.ynl_inventory.proofs.Finding.{not-true}
 use Rattle.ynl_inventory.proofs.Used.{fits-parts}
@@ -70,27 +68,23 @@ are-leasts = record {
   none = λ p asks h. fold-none p no_size asks h;
 }
 
--- ---- what a search tests
+-- ---- where something waits
 
--- where a request passes, what is below it passes
-meets : (k : Kind) (room most low size : Resource) (seat : Seat) → of_kind k seat.waits ≡ low → IsBelow low size → IsSize size → fits_in size room ≡ true → fits_in (plus seat.used size) most ≡ true
-    → may_have k room most seat ≡ true
-meets k room most low size seat is below sized fits within =
-    ap (λ l. not (fits_in no_size l) && fits_in l room && fits_in (plus seat.used l) most) is
-    ∙ and_from (not (fits_in no_size low) && fits_in low room) (fits_in (plus seat.used low) most)
-    (and_from (not (fits_in no_size low)) (fits_in low room)
-    (ap not (not-true (fits_in no_size low) (waiting-below low size below (size-waits size sized)))) (fits-trans low size room below fits))
-    (fits-trans (plus seat.used low) (plus seat.used size) most (fits-plus seat.used low size below) within)
+-- so it does where it is below a size
+meets : (k : Kind) (low size : Resource) (seat : Seat) → of_kind k seat.waits ≡ low → IsBelow low size → IsSize size → is_waiting k seat ≡ true
+meets k low size seat is below sized =
+    ap (λ l. not (fits_in no_size l)) is
+    ∙ ap not (not-true (fits_in no_size low) (waiting-below low size below (size-waits size sized)))
 
 pub are-met : AreMet
 are-met = record {
-  ask = λ v n row p runs used room most.
+  ask = λ v n row p runs seat waits.
       Each-weaker (λ ask. ask.partition ≡ p → IsBelow (least_asked p row.asks) ask.size)
-      (λ ask. ask.partition ≡ p → IsSize ask.size → fits_in ask.size room ≡ true → fits_in (plus used ask.size) most ≡ true → may_have kind.Ask room most (record { app = n; user = row.user; used = used; waits = waits_at v p n row }) ≡ true)
-      (λ ask below at sized fits within.
-      meets kind.Ask room most (least_asked p row.asks) ask.size (record { app = n; user = row.user; used = used; waits = waits_at v p n row })
-      (ap (λ b. cond b (least_asked p row.asks) no_size) runs) (below at) sized fits within) row.asks (each-below p no_size row.asks);
-  master = λ v n row waits used room most sized fits within.
-      meets kind.Master room most row.master row.master (record { app = n; user = row.user; used = used; waits = waits_at v row.home n row })
-      (λ i. cond (not (waits i) && itself row.home i) row.master no_size) (below-refl row.master) sized fits within;
+      (λ ask. ask.partition ≡ p → IsSize ask.size → is_waiting kind.Ask seat ≡ true)
+      (λ ask below at sized.
+      meets kind.Ask (least_asked p row.asks) ask.size seat (ap (of_kind kind.Ask) waits ∙ ap (λ b. cond b (least_asked p row.asks) no_size) runs)
+      (below at) sized) row.asks (each-below p no_size row.asks);
+  master = λ v n row runs seat waits sized.
+      meets kind.Master row.master row.master seat
+      (ap (of_kind kind.Master) waits ∙ (λ i. cond (not (runs i) && itself row.home i) row.master no_size)) (below-refl row.master) sized;
 }

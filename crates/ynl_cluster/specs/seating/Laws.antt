@@ -2,7 +2,7 @@
 use Rattle.std.specs.Prelude.{◌≡◌, ◌≢◌, ℕ, ◌<◌, max, false, true, nat_eq, List, [], ◌∷◌, map, length, replicate, slice_index_or, Some, unwrap_or}
 use Rattle.std.specs.List.{AllByRecursion}
 use Rattle.std.specs.Map.{lookup}
-use Rattle.ynl_resource.specs.Amounts.{fits_in, IsSize, plus, total_of}
+use Rattle.ynl_resource.specs.Amounts.{fits_in, IsSize, total_of}
 use Rattle.ynl_resource.specs.Names.{root}
 use Rattle.ynl_resource.specs.declared.amounts.Resource.{Resource}
 use Rattle.ynl_resource.specs.declared.names.Name.{Name}
@@ -16,7 +16,7 @@ use Rattle.ynl_tables.specs.declared.apps.asks.Ask.{Ask}
 use Rattle.ynl_layout.specs.Paths.{HasNumber, path_at}
 use Rattle.ynl_lanes.specs.lows.Lows.{IsBelow, no_size}
 use Rattle.ynl_lanes.specs.declared.lane.kinds.Kind.TheVariants as kind
-use Rattle.ynl_lanes.specs.lane.Seats.{Seats, each_once, may_have}
+use Rattle.ynl_lanes.specs.lane.Seats.{Seat, Seats, each_once, is_waiting}
 use Rattle.ynl_lanes.specs.lane.Waiting.{IsWaiting}
 use Rattle.ynl_lanes.specs.table.Lanes.{lane_at, no_seats}
 use Rattle.ynl_inventory.specs.Rows.{Rows, AppRow}
@@ -69,13 +69,11 @@ pub record AreLeasts : Type 0 where
   pub waiting : (p : ℕ) (asks : List Ask) → AllByRecursion (λ ask. ask.partition ≡ p → IsSize ask.size → IsWaiting (least_asked p asks)) asks
   pub none : (p : ℕ) (asks : List Ask) → AllByRecursion (λ ask. ask.partition ≢ p) asks → least_asked p asks ≡ no_size
 
--- a seat passes the test of a room and a limit where a request of its application does: an ask of one that runs, or its master
+-- something waits at a seat where a request of its application does: an ask of one that runs, or its master
 pub record AreMet : Type 0 where
-  pub ask : (v : Rows) (n : ℕ) (row : AppRow) (p : ℕ) → runs_at v n row ≡ true → (used room most : Resource)
-      → AllByRecursion (λ ask. ask.partition ≡ p → IsSize ask.size → fits_in ask.size room ≡ true → fits_in (plus used ask.size) most ≡ true
-      → may_have kind.Ask room most (record { app = n; user = row.user; used = used; waits = waits_at v p n row }) ≡ true) row.asks
-  pub master : (v : Rows) (n : ℕ) (row : AppRow) → runs_at v n row ≡ false → (used room most : Resource) → IsSize row.master → fits_in row.master room ≡ true
-      → fits_in (plus used row.master) most ≡ true → may_have kind.Master room most (record { app = n; user = row.user; used = used; waits = waits_at v row.home n row }) ≡ true
+  pub ask : (v : Rows) (n : ℕ) (row : AppRow) (p : ℕ) → runs_at v n row ≡ true → (seat : Seat) → seat.waits ≡ waits_at v p n row
+      → AllByRecursion (λ ask. ask.partition ≡ p → IsSize ask.size → is_waiting kind.Ask seat ≡ true) row.asks
+  pub master : (v : Rows) (n : ℕ) (row : AppRow) → runs_at v n row ≡ false → (seat : Seat) → seat.waits ≡ waits_at v row.home n row → IsSize row.master → is_waiting kind.Master seat ≡ true
 
 -- ---- the model
 

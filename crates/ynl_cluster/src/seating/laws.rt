@@ -50,8 +50,7 @@ pub fn use_is_counted()
     ensures { IsUserUse }
 {}
 
-/// A seat passes the test of a room and a limit where a request of its application does: an ask of one that runs, or its
-/// master.
+/// Something waits at a seat where a request of its application does: an ask of one that runs, or its master.
 pub fn requests_are_met()
     ensures { AreMet }
 {}

@@ -7,13 +7,10 @@ use Rattle.std.proofs.lemmas.Bool.{cases_lt}
 use Rattle.std.proofs.lemmas.Option.{same_Some, none-some, slice_get_within}
 use Rattle.ynl_lanes.specs.firsts.Firsts.{IsFirst, NonePasses}
 use Rattle.ynl_resource.specs.declared.amounts.Resource.{Resource}
-use Rattle.ynl_resource.specs.Amounts.{plus}
 use Rattle.ynl_slots.specs.Slots.{IsLive}
-use Rattle.ynl_lanes.specs.declared.lows.within.WithinLimit.{WithinLimit}
+use Rattle.ynl_lanes.specs.declared.lows.users.UserLow.{UserLow}
 use Rattle.ynl_lanes.specs.lows.Lows.{IsBelow}
-use Rattle.ynl_lanes.specs.lows.Users.{no_user}
-use Rattle.ynl_lanes.specs.lows.Tests.{IsWithinLimit}
-use Rattle.ynl_lanes.specs.lows.TestLemmas.{within_limit-request}
+use Rattle.ynl_lanes.specs.lows.Users.{no_user, IsBelowRequest}
 use Rattle.ynl_lanes.specs.declared.lane.kinds.Kind.{Kind}
 use Rattle.ynl_lanes.specs.declared.lane.kinds.Kind.TheVariants.{Master, Ask}
 use Rattle.ynl_lanes.specs.declared.lane.levels.Level.TheVariants.{Lane, User}
@@ -26,8 +23,8 @@ use Rattle.ynl_lanes.specs.lane.Kinds.{of_kind}
 use Rattle.ynl_lanes.specs.lane.Lines.{values_of, IsLine}
 use Rattle.ynl_lanes.specs.lane.Found.{IsSeatAt}
 use Rattle.ynl_lanes.specs.lane.Rows.{own_tickets, used_by, IsSeated, IsKept}
-use Rattle.ynl_lanes.specs.lane.Search.{NoneBefore, IsFirstGiven, IsOwn, IsWithin, IsOwnWithin, IsStandWithin}
-use Rattle.ynl_lanes.specs.lane.Waiting.{IsWaitingWithin}
+use Rattle.ynl_lanes.specs.lane.Search.{NoneBefore, IsFirstGiven, IsOwn, IsOfStand, MayHaveGiven, WaitsAt}
+use Rattle.ynl_lanes.specs.lane.Waiting.{IsWaiting, IsWaitingWithin}
 use Rattle.ynl_lanes.proofs.lane.Found.{in_line-at, one_at}
 use Rattle.ynl_lanes.proofs.lane.Searching.{own_slot-in}
 
@@ -60,99 +57,79 @@ module _ (rows : Rows) (seated : IsSeated rows) where
       go (Some user) q = refl
       go None q = absurd (none-some n (ap (λ o. slice_get (option_map_or (λ (r : UserRow). r.line.tickets.items) o []) row.own_slot) (sym q) ∙ tickets))
 
-  module _ (kind : Kind) (test : WithinLimit) (stand ticket : ℕ) (row : SeatRow) (at : IsSeatAt Lane stand rows.seats.entries ticket row) where
+  module _ (kind : Kind) (stand ticket : ℕ) (row : SeatRow) (at : IsSeatAt Lane stand rows.seats.entries ticket row) where
     -- the seats of the user who stands there
-    stand_user : (e : SeatRow) → IsStandWithin stand kind test rows.seats.entries rows.users.entries e → IsOwnWithin row.user kind test rows.users.entries e
+    stand_user : (e : SeatRow) → IsOfStand stand kind rows.seats.entries e → IsOwn row.user kind IsWaiting e
     stand_user e h =
         let same = one_at Lane rows.line.tickets.items rows.seats.entries h.0 ticket stand h.1 row (seated.lines Lane) h.2 (ap Some h.3) at.found at.at in
-        record { own = h.4.own ∙ ap (λ (x : SeatRow). x.user) same.1; within = h.4.within }
+        record { own = h.4.own ∙ ap (λ (x : SeatRow). x.user) same.1; fits = h.4.fits }
 
-    stand_of : (e : SeatRow) → IsOwnWithin row.user kind test rows.users.entries e → IsStandWithin stand kind test rows.seats.entries rows.users.entries e
-    stand_of e h = (ticket, row, at.found, same_Some _ _ at.at, h)
+    module _ {F : Type 0} (may : Resource → Resource → Type 0) (gives : ℕ → Option F) (all : MayHaveGiven kind may gives rows.seats.entries rows.users.entries) (used : Resource) (is : used ≡ used_by row.user rows.users.entries) (limit : ℕ) where
+      -- what is given at one of them the user may have
+      have : (n : ℕ) (e : SeatRow) → lookup (nat_eq n) rows.seats.entries ≡ Some e → IsOwn row.user kind IsWaiting e → IsSome (gives e.app) → may used (of_kind kind e.waits)
+      have n e there own given = subst (λ u. may u (of_kind kind e.waits)) (ap (λ k. used_by k rows.users.entries) own.own ∙ sym is) (all n e there own.fits given)
 
-    module _ (used : Resource) (is : used ≡ used_by row.user rows.users.entries) (room : Resource) (fits : (size : Resource) → (IsBelow size room → IsBelow size test.room × IsBelow (plus used size) test.most) × (IsBelow size test.room × IsBelow (plus used size) test.most → IsBelow size room)) where
-      uses : (e : SeatRow) → e.user ≡ row.user → used_by e.user rows.users.entries ≡ used
-      uses e same = ap (λ k. used_by k rows.users.entries) same ∙ sym is
+      module _ (room : Resource) (fits : (size : Resource) → may used size → IsBelow size room) where
+        to_own : (n : ℕ) (e : SeatRow) → lookup (nat_eq n) rows.seats.entries ≡ Some e → IsOfStand stand kind rows.seats.entries e → IsSome (gives e.app) → IsOwn row.user kind (IsWaitingWithin (record { room = room })) e
+        to_own n e there stands given =
+            let own = stand_user e stands in
+            record { own = own.own; fits = record { waiting = own.fits; room = fits (of_kind kind e.waits) (have n e there own given) } }
 
-      to_own : (e : SeatRow) → IsStandWithin stand kind test rows.seats.entries rows.users.entries e → IsOwn row.user kind (IsWaitingWithin (record { room = room })) e
-      to_own e h =
-          let own = stand_user e h in
-          record {
-            own = own.own;
-            fits = record {
-              waiting = own.within.waiting;
-              room = (fits (of_kind kind e.waits)).1 (own.within.may.room, subst (λ u. IsBelow (plus u (of_kind kind e.waits)) test.most) (uses e own.own) own.within.may.most);
-            };
-          }
+        pub none_to_stand : NoneBefore (IsOwn row.user kind (IsWaitingWithin (record { room = room }))) gives rows.seats.entries limit → NoneBefore (IsOfStand stand kind rows.seats.entries) gives rows.seats.entries limit
+        none_to_stand h n e there stands given = h n e there (to_own n e there stands given) given
 
-      from_own : (e : SeatRow) → IsOwn row.user kind (IsWaitingWithin (record { room = room })) e → IsStandWithin stand kind test rows.seats.entries rows.users.entries e
-      from_own e h =
-          let both = (fits (of_kind kind e.waits)).0 h.fits.room in
-          stand_of e (record {
-            own = h.own;
-            within = record {
-              waiting = h.fits.waiting;
-              may = record { room = both.0; most = subst (λ u. IsBelow (plus u (of_kind kind e.waits)) test.most) (sym (uses e h.own)) both.1 };
-            };
-          })
-
-      module _ {F : Type 0} (gives : ℕ → Option F) (limit : ℕ) where
-        pub none_to_stand : NoneBefore (IsOwn row.user kind (IsWaitingWithin (record { room = room }))) gives rows.seats.entries limit → NoneBefore (IsStandWithin stand kind test rows.seats.entries rows.users.entries) gives rows.seats.entries limit
-        none_to_stand h n e there within given = h n e there (to_own e within) given
-
-        pub first_to_stand : (found : Found F) → IsFirstGiven (IsOwn row.user kind (IsWaitingWithin (record { room = room }))) gives rows.seats.entries limit found → IsFirstGiven (IsStandWithin stand kind test rows.seats.entries rows.users.entries) gives rows.seats.entries limit found
+        pub first_to_stand : (found : Found F) → IsFirstGiven (IsOwn row.user kind (IsWaitingWithin (record { room = room }))) gives rows.seats.entries limit found → IsFirstGiven (IsOfStand stand kind rows.seats.entries) gives rows.seats.entries limit found
         first_to_stand found h = record {
           row = h.row;
           there = h.there;
           at = h.at;
           before = h.before;
-          here = from_own h.row h.here;
+          here = (ticket, row, at.found, same_Some _ _ at.at, record { own = h.here.own; fits = h.here.fits.waiting });
           given = h.given;
-          first = λ n e there within given. h.first n e there (to_own e within) given;
+          first = λ n e there stands given. h.first n e there (to_own n e there stands given) given;
         }
 
-    -- the user uses too much
-    pub none_may : (used : Resource) → used ≡ used_by row.user rows.users.entries → ((size : Resource) → ¬ (IsBelow (plus used size) test.most)) → {F : Type 0} (gives : ℕ → Option F) (limit : ℕ) → NoneBefore (IsStandWithin stand kind test rows.seats.entries rows.users.entries) gives rows.seats.entries limit
-    none_may used is over gives limit n e there within given =
-        let own = stand_user e within in
-        absurd (over (of_kind kind e.waits) (subst (λ u. IsBelow (plus u (of_kind kind e.waits)) test.most) (ap (λ k. used_by k rows.users.entries) own.own ∙ sym is) own.within.may.most))
+      -- the user may have nothing
+      pub none_may : ((size : Resource) → ¬ (may used size)) → NoneBefore (IsOfStand stand kind rows.seats.entries) gives rows.seats.entries limit
+      none_may over n e there stands given = absurd (over (of_kind kind e.waits) (have n e there (stand_user e stands) given))
 
 -- what has been found, up to a slot
-pub record IsBest {F : Type 0} (rows : Rows) (kind : Kind) (test : WithinLimit) (gives : ℕ → Option F) (limit least : ℕ) (found : Found F) : Type 0 where
+pub record IsBest {F : Type 0} (rows : Rows) (kind : Kind) (gives : ℕ → Option F) (limit least : ℕ) (found : Found F) : Type 0 where
   pub row : SeatRow
   pub there : lookup (nat_eq found.ticket) rows.seats.entries ≡ Some row
   pub at : row.slot ≡ found.slot
   pub is : found.slot ≡ least
   pub before : found.slot < limit
-  pub here : IsWithin kind test rows.users.entries row
+  pub here : WaitsAt kind row
   pub given : gives row.app ≡ Some found.given
 
 -- the users who stand before a slot have no seat before the least found
-abbrev pub HavePassed : {F : Type 0} → Rows → Kind → WithinLimit → (ℕ → Option F) → ℕ → ℕ → Type 0
-HavePassed rows kind test gives least from =
-    (m : ℕ) (s : SeatRow) → lookup (nat_eq m) rows.seats.entries ≡ Some s → s.slot < from → IsWithinLimit test (get_or (values_of kind rows.line) s.slot no_user)
-    → (n : ℕ) (e : SeatRow) → lookup (nat_eq n) rows.seats.entries ≡ Some e → e.user ≡ s.user → IsWithin kind test rows.users.entries e → IsSome (gives e.app) → least ≤ e.slot
+abbrev pub HavePassed : {F : Type 0} → Rows → Kind → (UserLow → Type 0) → (ℕ → Option F) → ℕ → ℕ → Type 0
+HavePassed rows kind passes gives least from =
+    (m : ℕ) (s : SeatRow) → lookup (nat_eq m) rows.seats.entries ≡ Some s → s.slot < from → passes (get_or (values_of kind rows.line) s.slot no_user)
+    → (n : ℕ) (e : SeatRow) → lookup (nat_eq n) rows.seats.entries ≡ Some e → e.user ≡ s.user → WaitsAt kind e → IsSome (gives e.app) → least ≤ e.slot
 
-pub record IsSearching {F : Type 0} (rows : Rows) (kind : Kind) (test : WithinLimit) (gives : ℕ → Option F) (limit : ℕ) (best : Option (Found F)) (least from : ℕ) : Type 0 where
+pub record IsSearching {F : Type 0} (rows : Rows) (kind : Kind) (passes : UserLow → Type 0) (gives : ℕ → Option F) (limit : ℕ) (best : Option (Found F)) (least from : ℕ) : Type 0 where
   pub none : IfNone best (least ≡ limit)
-  pub some : IfSome best (IsBest rows kind test gives limit least)
-  pub passed : HavePassed rows kind test gives least from
+  pub some : IfSome best (IsBest rows kind gives limit least)
+  pub passed : HavePassed rows kind passes gives least from
 
-module _ (rows : Rows) (kept : IsKept rows) {F : Type 0} (kind : Kind) (test : WithinLimit) (gives : ℕ → Option F) (limit : ℕ) where
+module _ (rows : Rows) (kept : IsKept rows) {F : Type 0} (kind : Kind) (passes : UserLow → Type 0) (may : Resource → Resource → Type 0) (law : (user : UserLow) (used size : Resource) → IsBelowRequest user used size → may used size → passes user)
+    (gives : ℕ → Option F) (all : MayHaveGiven kind may gives rows.seats.entries rows.users.entries) (limit : ℕ) where
   -- where no more users stand before the least found, none has a seat before it
-  ends : (least from : ℕ) → HavePassed rows kind test gives least from → ((m : ℕ) (s : SeatRow) → lookup (nat_eq m) rows.seats.entries ≡ Some s → from ≤ s.slot → s.slot < least → ¬ (IsWithinLimit test (get_or (values_of kind rows.line) s.slot no_user))) → NoneBefore (IsWithin kind test rows.users.entries) gives rows.seats.entries least
-  ends least from passed fails n e there within given =
-      let stood = kept.stood kind n e there within.waiting in
-      let passes : IsWithinLimit test (get_or (values_of kind rows.line) stood.stand.slot no_user) = within_limit-request test _ _ _ stood.low within.may in
+  ends : (least from : ℕ) → HavePassed rows kind passes gives least from → ((m : ℕ) (s : SeatRow) → lookup (nat_eq m) rows.seats.entries ≡ Some s → from ≤ s.slot → s.slot < least → ¬ (passes (get_or (values_of kind rows.line) s.slot no_user))) → NoneBefore (WaitsAt kind) gives rows.seats.entries least
+  ends least from passed fails n e there waits given =
+      let stood = kept.stood kind n e there waits in
+      let pass : passes (get_or (values_of kind rows.line) stood.stand.slot no_user) = law _ _ _ stood.low (all n e there waits given) in
       let front = stood.front in
       ⊎_elim
-      (λ before. passed stood.ticket stood.stand stood.found before passes n e there (sym stood.user) within given)
-      (λ behind. ⊎_elim (λ low. absurd (fails stood.ticket stood.stand stood.found behind low passes)) (λ high. omega (arith, high, front)) (cases_lt stood.stand.slot least))
+      (λ before. passed stood.ticket stood.stand stood.found before pass n e there (sym stood.user) waits given)
+      (λ behind. ⊎_elim (λ low. absurd (fails stood.ticket stood.stand stood.found behind low pass)) (λ high. omega (arith, high, front)) (cases_lt stood.stand.slot least))
       (cases_lt stood.stand.slot from)
 
-  finish : (best : Option (Found F)) (least from : ℕ) → IsSearching rows kind test gives limit best least from → NoneBefore (IsWithin kind test rows.users.entries) gives rows.seats.entries least
-      → IfNone best (NoneBefore (IsWithin kind test rows.users.entries) gives rows.seats.entries limit) × IfSome best (IsFirstGiven (IsWithin kind test rows.users.entries) gives rows.seats.entries limit)
-  finish None least from h none = (subst (NoneBefore (IsWithin kind test rows.users.entries) gives rows.seats.entries) h.none none, tt)
+  finish : (best : Option (Found F)) (least from : ℕ) → IsSearching rows kind passes gives limit best least from → NoneBefore (WaitsAt kind) gives rows.seats.entries least
+      → IfNone best (NoneBefore (WaitsAt kind) gives rows.seats.entries limit) × IfSome best (IsFirstGiven (WaitsAt kind) gives rows.seats.entries limit)
+  finish None least from h none = (subst (NoneBefore (WaitsAt kind) gives rows.seats.entries) h.none none, tt)
   finish (Some found) least from h none = (
     tt,
     record {
@@ -162,20 +139,20 @@ module _ (rows : Rows) (kept : IsKept rows) {F : Type 0} (kind : Kind) (test : W
       before = h.some.before;
       here = h.some.here;
       given = h.some.given;
-      first = subst (NoneBefore (IsWithin kind test rows.users.entries) gives rows.seats.entries) (sym h.some.is) none;
+      first = subst (NoneBefore (WaitsAt kind) gives rows.seats.entries) (sym h.some.is) none;
     },
   )
 
   -- no value passes any more
-  pub finish_none : (best : Option (Found F)) (least from : ℕ) → IsSearching rows kind test gives limit best least from → NonePasses (IsWithinLimit test) (values_of kind rows.line) from
-      → IfNone best (NoneBefore (IsWithin kind test rows.users.entries) gives rows.seats.entries limit) × IfSome best (IsFirstGiven (IsWithin kind test rows.users.entries) gives rows.seats.entries limit)
-  finish_none best least from h none = finish best least from h (ends least from h.passed (λ m s there on low passes.
+  pub finish_none : (best : Option (Found F)) (least from : ℕ) → IsSearching rows kind passes gives limit best least from → NonePasses passes (values_of kind rows.line) from
+      → IfNone best (NoneBefore (WaitsAt kind) gives rows.seats.entries limit) × IfSome best (IsFirstGiven (WaitsAt kind) gives rows.seats.entries limit)
+  finish_none best least from h none = finish best least from h (ends least from h.passed (λ m s there on low pass.
       let inside : s.slot < length rows.line.tickets.items = slice_get_within rows.line.tickets.items s.slot m (in_line-at Lane rows.line.tickets.items rows.seats.entries m s.slot s (kept.seated.lines Lane) there refl) in
-      none s.slot no_user on (within_values kind rows.line s.slot kept.seated.line inside) passes))
+      none s.slot no_user on (within_values kind rows.line s.slot kept.seated.line inside) pass))
 
   -- or the next user stands behind the least found
-  pub finish_behind : (best : Option (Found F)) (least from stand : ℕ) → IsSearching rows kind test gives limit best least from → IsFirst (IsWithinLimit test) (values_of kind rows.line) from stand → least ≤ stand
-      → IfNone best (NoneBefore (IsWithin kind test rows.users.entries) gives rows.seats.entries limit) × IfSome best (IsFirstGiven (IsWithin kind test rows.users.entries) gives rows.seats.entries limit)
-  finish_behind best least from stand h first behind = finish best least from h (ends least from h.passed (λ m s there on low passes.
+  pub finish_behind : (best : Option (Found F)) (least from stand : ℕ) → IsSearching rows kind passes gives limit best least from → IsFirst passes (values_of kind rows.line) from stand → least ≤ stand
+      → IfNone best (NoneBefore (WaitsAt kind) gives rows.seats.entries limit) × IfSome best (IsFirstGiven (WaitsAt kind) gives rows.seats.entries limit)
+  finish_behind best least from stand h first behind = finish best least from h (ends least from h.passed (λ m s there on low pass.
       let before : s.slot < stand = omega (arith, low, behind) in
-      first.before s.slot no_user on before passes))
+      first.before s.slot no_user on before pass))

@@ -3,12 +3,11 @@ use Rattle.std.proofs.Common.{◌≡◌, ◌≢◌, ℕ, ◌⊎◌, inl, inr, �
 use Rattle.std.specs.Map.{lookup}
 use Rattle.std.specs.Option.{option_map_or}
 use Rattle.std.proofs.lemmas.Bool.{cases_eq}
-use Rattle.std.proofs.lemmas.Bool.Decides.{nat_tests}
-use Rattle.ynl_resource.specs.declared.amounts.Resource.{Resource}
-use Rattle.ynl_resource.specs.Amounts.{plus, nothing}
+use Rattle.ynl_resource.specs.Amounts.{nothing}
 use Rattle.ynl_slots.specs.Slots.{HasDistinctNumbers}
 use Rattle.ynl_lanes.specs.declared.lows.users.UserLow.{UserLow}
 use Rattle.ynl_lanes.specs.lows.Lows.{no_size, IsBelow}
+use Rattle.ynl_lanes.specs.lows.Order.{below-refl}
 use Rattle.ynl_lanes.specs.lows.Users.{no_user, IsBelowRequest}
 use Rattle.ynl_lanes.specs.declared.lane.kinds.Kind.{Kind}
 use Rattle.ynl_lanes.specs.declared.lane.kinds.Kind.TheVariants.{Master, Ask}
@@ -117,17 +116,14 @@ module _ (user : ℕ) (kind : Kind) (rows new : Rows) (seats : new.seats ≡ row
 
 -- and where the user's least stands at the user's first seat with something that waits
 pub stood_put : (user : ℕ) (kind : Kind) (rows new : Rows) → IsSeated rows → (seats : new.seats ≡ rows.seats) (users : new.users ≡ rows.users) → ChangesStand user kind rows.seats.entries rows.line new.line → AreStoodBut user kind rows
-    → (ticket : ℕ) (first : IsFirstWaiting user kind rows.seats.entries ticket) (row : UserRow) → lookup (nat_eq user) rows.users.entries ≡ Some row → (least : UserLow) → All (IsBelow least.low) (values_of kind row.line) → least.with ≡ plus row.used least.low → values_of kind new.line ≡ set (values_of kind rows.line) first.row.slot least → AreStood kind new
-stood_put user kind rows new seated seats users line but ticket first row found least below with values =
+    → (ticket : ℕ) (first : IsFirstWaiting user kind rows.seats.entries ticket) (row : UserRow) → lookup (nat_eq user) rows.users.entries ≡ Some row → (least : UserLow) → All (IsBelow least.low) (values_of kind row.line) → least.used ≡ row.used → values_of kind new.line ≡ set (values_of kind rows.line) first.row.slot least → AreStood kind new
+stood_put user kind rows new seated seats users line but ticket first row found least below used values =
     subst (λ es. EachSeat (λ _ e. IsWaiting (of_kind kind e.waits) → IsStood kind es new.users.entries (values_of kind new.line) e) es) (ap (λ s. s.entries) (sym seats))
     (subst (λ us. EachSeat (λ _ e. IsWaiting (of_kind kind e.waits) → IsStood kind rows.seats.entries us (values_of kind new.line) e) rows.seats.entries) (ap (λ s. s.entries) (sym users))
     (λ n e there waits. ⊎_elim (λ same. own n e there waits same) (λ apart. others_stand user kind rows new seats users line e apart (but n e there apart waits)) (cases_eq e.user user)))
   where
     stands : get_or (values_of kind new.line) first.row.slot no_user ≡ least
     stands = ap (λ vs. get_or vs first.row.slot no_user) values ∙ get_or-set_same (values_of kind rows.line) first.row.slot least no_user (slot_inside rows seated kind ticket first.row first.found)
-
-    more : (low size : Resource) → IsBelow low size → IsBelow (plus row.used low) (plus row.used size)
-    more low size h = grind (arith, nat_tests)
 
     own : (n : ℕ) (e : SeatRow) → lookup (nat_eq n) rows.seats.entries ≡ Some e → IsWaiting (of_kind kind e.waits) → e.user ≡ user → IsStood kind rows.seats.entries rows.users.entries (values_of kind new.line) e
     own n e there waits same =
@@ -143,6 +139,6 @@ stood_put user kind rows new seated seats users line but ticket first row found 
           front = first.first n e there same waits;
           low = subst (λ v. IsBelowRequest v (used_by e.user rows.users.entries) (of_kind kind e.waits)) (sym stands) (record {
             low = low;
-            with = subst (λ w. IsBelow w (plus (used_by e.user rows.users.entries) (of_kind kind e.waits))) (sym with) (subst (λ u. IsBelow (plus row.used least.low) (plus u (of_kind kind e.waits))) (sym uses) (more least.low (of_kind kind e.waits) low));
+            used = subst (IsBelow least.used) (used ∙ sym uses) (below-refl least.used);
           });
         }

@@ -2,8 +2,6 @@
 use Rattle.std.specs.Prelude.{◌≡◌, ℕ, ◌<◌, ◌≤◌, List, Option, Some, IsSome, nat_eq}
 use Rattle.std.specs.Map.{lookup}
 use Rattle.ynl_resource.specs.declared.amounts.Resource.{Resource}
-use Rattle.ynl_lanes.specs.declared.lows.within.WithinLimit.{WithinLimit}
-use Rattle.ynl_lanes.specs.lows.Tests.{MayHave}
 use Rattle.ynl_lanes.specs.declared.lane.kinds.Kind.{Kind}
 use Rattle.ynl_lanes.specs.declared.lane.rows.SeatRow.{SeatRow}
 use Rattle.ynl_lanes.specs.declared.lane.rows.UserRow.{UserRow}
@@ -32,17 +30,14 @@ pub record IsOwn (user : ℕ) (kind : Kind) (passes : Resource → Type 0) (row 
   pub own : row.user ≡ user
   pub fits : passes (of_kind kind row.waits)
 
--- something waits at the seat that fits, and keeps the user within the limit
-pub record IsWithin (kind : Kind) (test : WithinLimit) (users : List (ℕ × UserRow)) (row : SeatRow) : Type 0 where
-  pub waiting : IsWaiting (of_kind kind row.waits)
-  pub may : MayHave test (used_by row.user users) (of_kind kind row.waits)
+-- something of a kind waits at the seat
+abbrev pub WaitsAt : Kind → SeatRow → Type 0
+WaitsAt kind row = IsWaiting (of_kind kind row.waits)
 
--- and it is of this user
-pub record IsOwnWithin (user : ℕ) (kind : Kind) (test : WithinLimit) (users : List (ℕ × UserRow)) (row : SeatRow) : Type 0 where
-  pub own : row.user ≡ user
-  pub within : IsWithin kind test users row
+-- so it does at a seat of the user of the seat in a slot
+abbrev pub IsOfStand : ℕ → Kind → List (ℕ × SeatRow) → SeatRow → Type 0
+IsOfStand stand kind seats row = (ticket : ℕ) × (own : SeatRow) × (lookup (nat_eq ticket) seats ≡ Some own) × (own.slot ≡ stand) × IsOwn own.user kind IsWaiting row
 
--- so it is with the user of the seat in a slot
-abbrev pub IsStandWithin : ℕ → Kind → WithinLimit → List (ℕ × SeatRow) → List (ℕ × UserRow) → SeatRow → Type 0
-IsStandWithin stand kind test seats users row =
-    (ticket : ℕ) × (own : SeatRow) × (lookup (nat_eq ticket) seats ≡ Some own) × (own.slot ≡ stand) × IsOwnWithin own.user kind test users row
+-- where an application is given something at whose seat something of a kind waits, its user may have what waits
+abbrev pub MayHaveGiven : {F : Type 0} → Kind → (Resource → Resource → Type 0) → (ℕ → Option F) → List (ℕ × SeatRow) → List (ℕ × UserRow) → Type 0
+MayHaveGiven kind may gives seats users = EachSeat (λ _ row. WaitsAt kind row → IsSome (gives row.app) → may (used_by row.user users) (of_kind kind row.waits)) seats

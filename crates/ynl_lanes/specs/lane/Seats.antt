@@ -1,14 +1,15 @@
 -- Lanes, as contracts see them.
-use Rattle.std.specs.Prelude.{◌≡◌, ℕ, Bool, ◌&&◌, not, List, [], ◌∷◌, ◌++◌, map, Option, Some, None, IsSome, nat_eq, if◌then◌else◌}
+use Rattle.std.specs.Prelude.{◌≡◌, ℕ, Bool, not, List, [], ◌∷◌, ◌++◌, map, Option, Some, None, IsSome, nat_eq, if◌then◌else◌}
 use Rattle.std.specs.List.{list_any}
 use Rattle.std.specs.Map.{lookup}
 use Rattle.ynl_resource.specs.declared.amounts.Resource.{Resource}
-use Rattle.ynl_resource.specs.Amounts.{fits_in, plus, nothing}
+use Rattle.ynl_resource.specs.Amounts.{fits_in, nothing}
 use Rattle.ynl_slots.specs.Slots.{IsUnused}
 use Rattle.ynl_lanes.specs.lows.Lows.{no_size}
 use Rattle.ynl_lanes.specs.declared.lane.kinds.Kind.{Kind}
 use Rattle.ynl_lanes.specs.declared.lane.kinds.Both.{Both}
 use Rattle.ynl_lanes.specs.lane.Kinds.{of_kind}
+use Rattle.ynl_lanes.specs.lane.Waiting.{IsWaiting}
 
 -- the seat of an application: its number, the number of its user, what the user uses, and the least that waits of each kind
 pub record Seat : Type 0 where
@@ -53,15 +54,20 @@ with_waits ticket waits seats = map (λ e. if nat_eq ticket e.0 then (e.0, recor
 abbrev pub with_used : ℕ → Resource → List (ℕ × Seat) → List (ℕ × Seat)
 with_used user used seats = map (λ e. if nat_eq user e.1.user then (e.0, record e.1 { used = used }) else e) seats
 
--- whether something of a kind waits at a seat of which the least fits in a room, and keeps the user within a limit
-abbrev pub may_have : Kind → Resource → Resource → Seat → Bool
-may_have kind room most seat =
-    not (fits_in no_size (of_kind kind seat.waits)) && fits_in (of_kind kind seat.waits) room
-    && fits_in (plus seat.used (of_kind kind seat.waits)) most
+-- whether something of a kind waits at a seat
+abbrev pub is_waiting : Kind → Seat → Bool
+is_waiting kind seat = not (fits_in no_size (of_kind kind seat.waits))
 
 -- what the application of such a seat is given
-abbrev pub given : {F : Type 0} → Kind → Resource → Resource → (ℕ → Option F) → Seat → Option F
-given kind room most gives seat = if may_have kind room most seat then gives seat.app else None
+abbrev pub given : {F : Type 0} → Kind → (ℕ → Option F) → Seat → Option F
+given kind gives seat = if is_waiting kind seat then gives seat.app else None
+
+-- whatever is given passes a test: where something of a kind waits at a seat and its application is given something,
+-- the user, who uses so much, may have what waits there
+abbrev pub PassesGiven : {F : Type 0} → Kind → (Resource → Resource → Type 0) → (ℕ → Option F) → List (ℕ × Seat) → Type 0
+PassesGiven kind may gives seats =
+    (ticket : ℕ) (seat : Seat) → lookup (nat_eq ticket) seats ≡ Some seat → IsWaiting (of_kind kind seat.waits) → IsSome (gives seat.app)
+    → may seat.used (of_kind kind seat.waits)
 
 -- what this seat is given, with its ticket, or else what is found behind it
 abbrev pub given_or : {F : Type 0} → ℕ → Option F → Option (ℕ × F) → Option (ℕ × F)

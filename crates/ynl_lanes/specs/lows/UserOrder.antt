@@ -4,14 +4,14 @@ use Rattle.ynl_lanes.specs.lows.Users.{IsUserLow, IsUserBelow, no_user}
 use Rattle.ynl_lanes.specs.lows.Order.{below-refl, below-trans, below-no_size, below-no_use}
 
 pub user_below-refl : (x : UserLow) → IsUserBelow x x
-user_below-refl x = record { low = below-refl x.low; with = below-refl x.with }
+user_below-refl x = record { low = below-refl x.low; used = below-refl x.used }
 
 pub user_below-trans : (x y z : UserLow) → IsUserBelow x y → IsUserBelow y z → IsUserBelow x z
 user_below-trans x y z h k = record {
   low = below-trans x.low y.low z.low h.low k.low;
-  with = below-trans x.with y.with z.with h.with k.with;
+  used = below-trans x.used y.used z.used h.used k.used;
 }
 
 -- none is above what stands for no user
 pub user_below-no_user : (x : UserLow) → IsUserLow x → IsUserBelow x no_user
-user_below-no_user x h = record { low = below-no_size x.low h.low; with = below-no_use x.with h.with }
+user_below-no_user x h = record { low = below-no_size x.low h.low; used = below-no_use x.used h.used }

@@ -7,14 +7,14 @@ ghost use Rattle.ynl_slots.specs.Slots.{without};
 ghost use Rattle.ynl_lanes.specs.lane.Kinds.{of_kind};
 ghost use Rattle.ynl_lanes.specs.lane.Rows.{IsUse};
 ghost use Rattle.ynl_lanes.specs.lane.Waiting.{IsWaiting};
-ghost use Rattle.ynl_lanes.specs.lane.Seats.{Seat, IsSeat, Adds, each_once, with_waits, with_used, given, first_given, seats_up_to};
+ghost use Rattle.ynl_lanes.specs.lane.Seats.{Seat, IsSeat, Adds, each_once, with_waits, with_used, given, first_given, seats_up_to, PassesGiven};
 
 use crate::lane::kinds::{Both, Kind};
 use crate::lane::line::Line;
 use crate::lane::request::Request;
 use crate::lane::rows::Rows;
 use crate::lane::users::{close, make_room_for};
-use crate::lows::{Low, WithinLimit};
+use crate::lows::{Low, UserTest};
 use std::alloc::{AllocError, Global};
 use std::collections::BTreeMap;
 use std::marker::Model;
@@ -228,27 +228,25 @@ impl Lane {
         }
     }
 
-    /// The first seat, before another if there is one, at which something of a kind waits whose least fits in a room and keeps
-    /// its user within `most`, and whose application is given something. It returns the ticket and what is given.
-    pub fn first<F: Copy, R: Request<F>>(
+    /// The first seat, before another if there is one, at which something of a kind waits and whose application is
+    /// given something. It returns the ticket and what is given. Whatever is given passes the test, so users that fail
+    /// it are passed over: the test makes the search fast, and is no part of what is found.
+    pub fn first<F: Copy, R: Request<F>, T: UserTest>(
         &self,
         kind: Kind,
-        room: Resource,
-        most: Resource,
+        test: &T,
         request: &R,
         before: Option<u32>,
     ) -> Option<(u32, F)>
-        requires { IfSome before (λ ticket. IsSeat ticket self.now.seats) }
-        ensures { result ≡ first_given (given kind room most (R.gives request.now)) (seats_up_to before self.now.seats) }
+        requires before { IfSome before (λ ticket. IsSeat ticket self.now.seats) }
+        requires passes { PassesGiven kind (T.may test.now) (R.gives request.now) self.now.seats }
+        ensures { result ≡ first_given (given kind (R.gives request.now)) (seats_up_to before self.now.seats) }
     {
         let end = match before {
             Some(ticket) => self.rows.seats[ticket].slot as usize,
             None => self.rows.line.tickets.len(),
         };
-        match self
-            .rows
-            .first(kind, &WithinLimit { room, most }, request, end)
-        {
+        match self.rows.first(kind, test, request, end) {
             Some(found) => Some((found.ticket, found.given)),
             None => None,
         }

@@ -1,19 +1,17 @@
 //! The search for the first seat whose application is given something.
 
 ghost use Rattle.ynl_lanes.specs.lane.Waiting.{IsWaiting, waiting-below, waiting_within-below, IsWaitingWithin};
-ghost use Rattle.std.specs.Prelude.{◌≡◌, ◌≢◌, ◌≤◌, ◌↔◌, ℕ, Some, IfSome, IfNone};
-ghost use Rattle.ynl_lanes.specs.lows.Lows.{IsBelow};
-ghost use Rattle.ynl_resource.specs.Amounts.{plus};
+ghost use Rattle.std.specs.Prelude.{Some, IfSome, IfNone};
 ghost use Rattle.ynl_slots.specs.Slots.{IsLive};
 ghost use Rattle.ynl_lanes.specs.lane.Rows.{IsSeated, IsKept};
-ghost use Rattle.ynl_lanes.specs.lane.Search.{NoneBefore, IsFirstGiven, IsOwn, IsWithin, IsStandWithin};
+ghost use Rattle.ynl_lanes.specs.lane.Search.{NoneBefore, IsFirstGiven, IsOwn, IsOfStand, MayHaveGiven, WaitsAt};
 
 use crate::firsts::Test;
 use crate::lane::kinds::Kind;
 use crate::lane::levels::{Level, seat_at};
 use crate::lane::request::Request;
 use crate::lane::rows::Rows;
-use crate::lows::{Low, WithinLimit};
+use crate::lows::{Low, UserTest};
 use ynl_resource::Resource;
 
 /// A seat that was found, and what its application is given.
@@ -66,21 +64,6 @@ impl Test<Low> for WaitsWithin {
     }
 }
 
-/// What a user may have within a room, if the user uses no more than `most`.
-fn room_of_user(test: &WithinLimit, used: Resource) -> Option<Resource>
-    ensures some { IfSome result (λ room. (size : _) → IsBelow size room ↔ IsBelow size test.now.room × IsBelow (plus used size) test.now.most) }
-    ensures none { IfNone result ((size : _) → ¬ (IsBelow (plus used size) test.now.most)) }
-{
-    if !used.fits_in(test.most) {
-        return None;
-    }
-    let left = test.most.sub(used);
-    Some(Resource {
-        memory: test.room.memory.min(left.memory),
-        vcores: test.room.vcores.min(left.vcores),
-    })
-}
-
 impl Rows {
     /// The first seat of a user, before the slot `end`, whose value passes the test and whose application is given something.
     pub(crate) fn first_own<F: Copy, P: Test<Low>, R: Request<F>>(
@@ -120,18 +103,19 @@ impl Rows {
         None
     }
 
-    /// The same for the user who stands in a slot of the lane, with what fits in the room and keeps the user within `most`.
-    fn first_of_stand<F: Copy, R: Request<F>>(
+    /// The same for the user who stands in a slot of the lane, where something of a kind waits.
+    fn first_of_stand<F: Copy, R: Request<F>, T: UserTest>(
         &self,
         stand: usize,
         kind: Kind,
-        test: &WithinLimit,
+        test: &T,
         request: &R,
         end: usize,
     ) -> Option<Found<F>>
-        requires { IsSeated self.now }
-        ensures none { IfNone result (NoneBefore (IsStandWithin stand kind test.now self.now.seats.entries self.now.users.entries) (R.gives request.now) self.now.seats.entries end) }
-        ensures some { IfSome result (IsFirstGiven (IsStandWithin stand kind test.now self.now.seats.entries self.now.users.entries) (R.gives request.now) self.now.seats.entries end) }
+        requires seated { IsSeated self.now }
+        requires may { MayHaveGiven kind (T.may test.now) (R.gives request.now) self.now.seats.entries self.now.users.entries }
+        ensures none { IfNone result (NoneBefore (IsOfStand stand kind self.now.seats.entries) (R.gives request.now) self.now.seats.entries end) }
+        ensures some { IfSome result (IsFirstGiven (IsOfStand stand kind self.now.seats.entries) (R.gives request.now) self.now.seats.entries end) }
     {
         let Some((_ticket, row)) = seat_at(
             &self.seats,
@@ -142,23 +126,24 @@ impl Rows {
             return None;
         };
         let used = self.users[row.user].used;
-        match room_of_user(test, used) {
+        match test.room(used) {
             Some(room) => self.first_own(row.user, kind, &WaitsWithin { room }, request, end),
             None => None,
         }
     }
 
-    /// The first seat before a slot whose application is given something.
-    pub(crate) fn first<F: Copy, R: Request<F>>(
+    /// The first seat before a slot at which something of a kind waits and whose application is given something.
+    pub(crate) fn first<F: Copy, R: Request<F>, T: UserTest>(
         &self,
         kind: Kind,
-        test: &WithinLimit,
+        test: &T,
         request: &R,
         before: usize,
     ) -> Option<Found<F>>
-        requires { IsKept self.now }
-        ensures none { IfNone result (NoneBefore (IsWithin kind test.now self.now.users.entries) (R.gives request.now) self.now.seats.entries before) }
-        ensures some { IfSome result (IsFirstGiven (IsWithin kind test.now self.now.users.entries) (R.gives request.now) self.now.seats.entries before) }
+        requires kept { IsKept self.now }
+        requires may { MayHaveGiven kind (T.may test.now) (R.gives request.now) self.now.seats.entries self.now.users.entries }
+        ensures none { IfNone result (NoneBefore (WaitsAt kind) (R.gives request.now) self.now.seats.entries before) }
+        ensures some { IfSome result (IsFirstGiven (WaitsAt kind) (R.gives request.now) self.now.seats.entries before) }
     {
         let mut best: Option<Found<F>> = None;
         let mut end = before;

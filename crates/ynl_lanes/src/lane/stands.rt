@@ -92,11 +92,9 @@ impl Rows {
         ensures stood { AreStood kind self.new }
     {
         let row = &self.users[user];
-        let low = row.line.root(kind);
-        let size = low.amount();
         let least = UserLow {
-            low,
-            with: row.used.add(size),
+            low: row.line.root(kind),
+            used: row.used,
         };
         let slot = self.seats[ticket].slot;
         self.line.set(kind, slot as usize, least);

@@ -1,7 +1,7 @@
-//! The least of what a user's requests that wait need, and of what the user would use with one of them.
+//! The least of what a user's requests that wait need, and what the user uses.
 
 ghost use Rattle.std.specs.Prelude.{◌≡◌, ◌↔◌, IsTrue};
-ghost use Rattle.ynl_resource.specs.Amounts.{plus, smaller_of, IsSmall};
+ghost use Rattle.ynl_resource.specs.Amounts.{smaller_of};
 ghost use Rattle.ynl_lanes.specs.lows.Users.{IsUserLow, IsUserBelow, IsBelowRequests, no_user};
 ghost use Rattle.ynl_lanes.specs.lows.UserOrder.{user_below-refl, user_below-trans, user_below-no_user};
 
@@ -14,15 +14,15 @@ use ynl_resource::Resource;
 pub struct UserLow {
     /// At or below the size of each request that waits.
     pub low: Low,
-    /// At or below what the user would use with any of them.
-    pub with: Resource,
+    /// At or below what each of the users uses.
+    pub used: Resource,
 }
 
 impl UserLow {
     /// Of no user: above all others.
     pub const NONE: UserLow = UserLow {
         low: Low::NONE,
-        with: Resource {
+        used: Resource {
             memory: u64::MAX,
             vcores: u64::MAX,
         },
@@ -30,15 +30,11 @@ impl UserLow {
 
     /// Of a user who uses so much, with the least of the user's requests that wait.
     pub fn of(low: Low, used: Resource) -> UserLow
-        requires { IsSmall (plus used low) }
         ensures low { result.low ≡ low }
-        ensures with { result.with ≡ plus used low }
+        ensures used { result.used ≡ used }
         ensures requests { IsBelowRequests result used low }
     {
-        UserLow {
-            low,
-            with: used.add(low.amount()),
-        }
+        UserLow { low, used }
     }
 }
 
@@ -61,13 +57,13 @@ impl Least for UserLow {
 
     fn least(self, other: UserLow) -> UserLow
         ensures low { result.low ≡ smaller_of self.low other.low }
-        ensures with { result.with ≡ smaller_of self.with other.with }
+        ensures used { result.used ≡ smaller_of self.used other.used }
     {
         UserLow {
             low: self.low.least(other.low),
-            with: Resource {
-                memory: self.with.memory.min(other.with.memory),
-                vcores: self.with.vcores.min(other.with.vcores),
+            used: Resource {
+                memory: self.used.memory.min(other.used.memory),
+                vcores: self.used.vcores.min(other.used.vcores),
             },
         }
     }

@@ -4,7 +4,6 @@ use Rattle.std.specs.Map.{lookup}
 use Rattle.std.proofs.lemmas.Bool.Decides.{nat_tests}
 use Rattle.std.proofs.lemmas.Option.{none-some, same_Some}
 use Rattle.ynl_slots.specs.Slots.{HasDistinctNumbers, IsUnused}
-use Rattle.ynl_lanes.specs.declared.lane.kinds.Kind.TheVariants as kind
 use Rattle.ynl_cluster.proofs.requests.Members.{Among}
 
 pub among-found : {X : Type 0} (n : ℕ) (row : X) (es : List (ℕ × X)) → lookup (nat_eq n) es ≡ Some row → Among (n, row) es

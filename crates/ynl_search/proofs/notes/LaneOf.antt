@@ -10,7 +10,6 @@ use Rattle.ynl_slots.specs.Slots.{HasDistinctNumbers}
 use Rattle.ynl_tables.specs.declared.apps.asks.Ask.{Ask}
 use Rattle.ynl_lanes.specs.lane.Seats.{Seats}
 use Rattle.ynl_inventory.specs.Rows.{AppRow}
-use Rattle.ynl_model.specs.Limits.{distinct}
 use Rattle.ynl_inventory.specs.Sound.{IsAskedOn, IsSound}
 use Rattle.ynl_cluster.specs.seating.Seating.{IsSeated, figures_of, shares}
 use Rattle.ynl_cluster.specs.Cluster.{AskSizes, ClusterView, IsCell, IsLaneIn}

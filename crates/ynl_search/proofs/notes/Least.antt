@@ -1,22 +1,20 @@
 -- The least that waits in a leaf: no request of the leaf is for less.
 use Rattle.std.proofs.Common.{◌≡◌, ◌⊎◌, ℕ, Bool, true, false, not, ◌&&◌, cond, nat_eq, List, [], ◌∷◌, map, filter, None, Some, Contains, inl, inr, refl, sym, ap, subst, ◌∙◌, arith, true≢false}
 use Rattle.std.specs.Map.{lookup}
-use Rattle.std.specs.Option.{option_map_or}
 use Rattle.std.proofs.lemmas.Bool.{and_from, and_parts, or_right}
 use Rattle.std.proofs.lemmas.Bool.Decides.{nat_tests}
-use Rattle.ynl_resource.specs.Amounts.{IsSize, fits_in, nothing, plus}
+use Rattle.ynl_resource.specs.Amounts.{IsSize, fits_in}
 use Rattle.ynl_resource.specs.declared.amounts.Resource.{Resource}
 use Rattle.ynl_resource.specs.declared.labels.Label.{Label}
 use Rattle.ynl_resource.specs.declared.labels.Label.TheVariants.{Unlabelled}
 use Rattle.ynl_model.specs.Service.{Item, asks_for, items_for}
 use Rattle.ynl_laws.specs.Descent.{IsBelow}
 use Rattle.ynl_laws.proofs.Amounts.{fits-refl, fits-trans}
-use Rattle.ynl_lanes.specs.lows.Lows.{IsBelow as IsAtMost, no_size}
+use Rattle.ynl_lanes.specs.lows.Lows.{IsBelow as IsAtMost}
 use Rattle.ynl_lanes.specs.declared.lane.kinds.Kind.{Kind}
 use Rattle.ynl_lanes.specs.declared.lane.kinds.Kind.TheVariants as kind
-use Rattle.ynl_lanes.specs.declared.lane.kinds.Both.{Both}
 use Rattle.ynl_lanes.specs.lane.Kinds.{of_kind}
-use Rattle.ynl_lanes.specs.lane.Seats.{Seat, may_have, nothing_waits}
+use Rattle.ynl_lanes.specs.lane.Seats.{Seat, is_waiting}
 use Rattle.ynl_lanes.specs.lane.Waiting.{IsWaiting}
 use Rattle.ynl_inventory.specs.Rows.{Rows, AppRow}
 use Rattle.ynl_inventory.specs.Apps.{runs_at}
@@ -34,6 +32,7 @@ use Rattle.ynl_search.specs.notes.Lanes.{IsLaneOf}
 use Rattle.ynl_search.specs.notes.Shut.{AreAtLeast}
 use Rattle.ynl_search.proofs.notes.Found.{among-found, found-among}
 use Rattle.ynl_search.proofs.notes.Listed.{listed}
+use Rattle.ynl_search.proofs.SeatGiven.{ask-waits, its, master-waits, waits-are}
 
 -- in a list under a condition
 conditional : {X : Type 0} (x : X) (b : Bool) (xs : List X) → Among x (cond b xs []) → (b ≡ true) × Among x xs
@@ -66,18 +65,12 @@ module _ (v : Rows) (p q : ℕ) (seats : List (ℕ × Seat)) (is : IsLaneOf v p 
         found-among seat seats is.distinct
         (subst (Among seat) (sym is.seats_are) (map-among (seat_of (figures_of v) p q) (n, row) (filter (λ (e : ℕ × AppRow). sits p q e.1) v.apps) (filter-among (λ (e : ℕ × AppRow). sits p q e.1) (n, row) v.apps sitting (among-found n row v.apps found))))
 
-    waits-are : seat.1.waits ≡ waits_at v p n row
-    waits-are = ap (λ o. option_map_or (waits_at v p n) o nothing_waits) found
-
-    too-large : (k : Kind) → AreTooLarge k seats room → (waits : Both Resource) → seat.1.waits ≡ waits → (used most : Resource)
-        → may_have k room most (record { app = n; user = row.user; used = used; waits = waits }) ≡ true → ⊥
-    too-large k large waits at used most may =
-        let first = and_parts (not (fits_in no_size (of_kind k waits)) && fits_in (of_kind k waits) room) (fits_in (plus used (of_kind k waits)) most) may in
-        let second = and_parts (not (fits_in no_size (of_kind k waits))) (fits_in (of_kind k waits) room) first.0 in
-        let waiting : IsWaiting (of_kind k waits) = λ all. true≢false (sym second.0 ∙ ap not all) in
-        let low : fits_in large.low (of_kind k waits) ≡ true =
-        subst (λ w. fits_in large.low (of_kind k w) ≡ true) at (large.above seat.0 seat.1 seat-there (subst (λ w. IsWaiting (of_kind k w)) (sym at) waiting)) in
-        true≢false (sym (fits-trans large.low (of_kind k waits) room low second.1) ∙ large.misfit)
+    too-large : (k : Kind) → AreTooLarge k seats room → (size : Resource) → is_waiting k seat.1 ≡ true → (IsWaiting (of_kind k seat.1.waits) → IsAtMost (of_kind k seat.1.waits) size)
+        → fits_in size room ≡ true → ⊥
+    too-large k large size waits below fits =
+        let waiting : IsWaiting (of_kind k seat.1.waits) = λ all. true≢false (sym waits ∙ ap not all) in
+        let low : fits_in large.low (of_kind k seat.1.waits) ≡ true = large.above seat.0 seat.1 seat-there waiting in
+        true≢false (sym (fits-trans large.low (of_kind k seat.1.waits) room low (fits-trans (of_kind k seat.1.waits) size room (below waiting) fits)) ∙ large.misfit)
 
   -- an ask of one that runs
   no-ask : AreTooLarge kind.Ask seats room → (n : ℕ) (row : AppRow) → lookup (nat_eq n) v.apps ≡ Some row → row.leaf ≡ q
@@ -88,14 +81,12 @@ module _ (v : Rows) (p q : ℕ) (seats : List (ℕ × Seat)) (is : IsLaneOf v p 
       let for_p = among-filter (λ ask. nat_eq ask.partition p) from.0 row.asks from.1 in
       let ask = from.0 in
       let on : ask.partition ≡ p = let e = for_p.1 in grind (arith, nat_tests, e) in
-      let most = plus nothing ask.size in
       let sized = each-among (λ ask. IsSize ask.size) ask row.asks (is.sized n row found).asks for_p.0 in
       let share = each-among (λ ask. ask.partition ≡ p → shares p row ≡ true) ask row.asks (is.sharing n row found) for_p.0 on in
-      too-large n row found own share kind.Ask large (waits_at v p n row) (waits-are n row found own share) nothing most
-      (each-among
-      (λ a. a.partition ≡ p → IsSize a.size → fits_in a.size room ≡ true → fits_in (plus nothing a.size) most ≡ true
-      → may_have kind.Ask room most (record { app = n; user = row.user; used = nothing; waits = waits_at v p n row }) ≡ true)
-      ask row.asks (are-met.ask v n row p here.0 nothing room most) for_p.0 on sized (ap (λ (x : Request). fits_in x.size room) from.2 ∙ fit) (fits-refl most))
+      too-large n row found own share kind.Ask large ask.size
+      (each-among (λ a. a.partition ≡ p → IsSize a.size → is_waiting kind.Ask (its v p q n row found).1 ≡ true) ask row.asks
+      (are-met.ask v n row p here.0 (its v p q n row found).1 (waits-are v p q n row found)) for_p.0 on sized)
+      (λ waiting. ask-waits v p q n row found waiting ask for_p.0 on) (ap (λ (x : Request). fits_in x.size room) from.2 ∙ fit)
 
   -- a master that waits
   no-master : AreTooLarge kind.Master seats room → (n : ℕ) (row : AppRow) → lookup (nat_eq n) v.apps ≡ Some row → row.leaf ≡ q
@@ -105,9 +96,9 @@ module _ (v : Rows) (p q : ℕ) (seats : List (ℕ × Seat)) (is : IsLaneOf v p 
       let both = and_parts (not (runs_at v n row)) (nat_eq row.home p) here.0 in
       let home : p ≡ row.home = let e = both.1 in grind (arith, nat_tests, e) in
       let share : shares p row ≡ true = or_right (nat_eq p 0) (nat_eq row.home p) both.1 in
-      let most = plus nothing row.master in
-      too-large n row found own share kind.Master large (waits_at v row.home n row) (waits-are n row found own share ∙ ap (λ home. waits_at v home n row) home) nothing most
-      (are-met.master v n row (stands (runs_at v n row) both.0) nothing room most (is.sized n row found).master (same here.1) (fits-refl most))
+      too-large n row found own share kind.Master large row.master
+      (are-met.master v n row (stands (runs_at v n row) both.0) (its v p q n row found).1 (waits-are v p q n row found ∙ ap (λ home. waits_at v home n row) home) (is.sized n row found).master)
+      (λ waiting. ap (λ low. fits_in low row.master) (master-waits v p q n row found waiting) ∙ fits-refl row.master) (same here.1)
     where
       stands : (b : Bool) → not b ≡ true → b ≡ false
       stands true h = absurd (true≢false (sym h))

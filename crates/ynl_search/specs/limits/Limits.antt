@@ -29,6 +29,11 @@ abbrev pub IsUserLimit : Limits → Resource → Resource → Type 0
 IsUserLimit limits ask most =
     (c : Config) (s : State) (leaf : Path) (label : Label) → AreLimitsOf c s leaf label limits → most ≡ user_limit c s leaf label ask
 
+-- a request fits in a room, and a user that uses so much keeps the limit with it
+pub record KeepsWithin (limits : Limits) (used room size : Resource) : Type 0 where
+  pub fits : IsTrue (fits_in size room)
+  pub keeps : IsTrue (fits_in (plus used size) (limit_of limits size))
+
 -- it is no less than the limit for any request that asks for no more
 abbrev pub IsNoLess : Limits → Resource → Resource → Type 0
 IsNoLess limits ask most = (lesser : Resource) → IsTrue (fits_in lesser ask) → IsTrue (fits_in (limit_of limits lesser) most)

@@ -21,3 +21,7 @@ pub record IsLaneOf (v : Rows) (p q : ℕ) (seats : List (ℕ × Seat)) : Type 0
   pub tickets : (n : ℕ) (row : AppRow) → lookup (nat_eq n) v.apps ≡ Some row → shares p row ≡ true → IsSome (ticket_on p row)
   pub sized : (n : ℕ) (row : AppRow) → lookup (nat_eq n) v.apps ≡ Some row → IsSizedRow row
   pub sharing : (n : ℕ) (row : AppRow) → lookup (nat_eq n) v.apps ≡ Some row → AllByRecursion (λ ask. ask.partition ≡ p → shares p row ≡ true) row.asks
+
+-- seats are those of the lane of some leaf on a partition
+abbrev pub IsLaneOfSome : Rows → ℕ → List (ℕ × Seat) → Type 0
+IsLaneOfSome v p seats = (q : ℕ) × IsLaneOf v p q seats

@@ -1,6 +1,6 @@
 //! The limits of a leaf on a partition.
 
-ghost use Rattle.std.specs.Prelude.{◌≤◌};
+ghost use Rattle.std.specs.Prelude.{◌≡◌, ◌≤◌, ◌<◌, ◌+◌, IfSome, IfNone};
 ghost use Rattle.ynl_resource.specs.Amounts.{IsSmall};
 ghost use Rattle.ynl_resource.specs.Ranges.{whole};
 
@@ -22,11 +22,24 @@ pub struct Limits {
     ghost at_most_whole: { percent ≤ whole },
 }
 
+/// Both numbers together, if that is at most so much.
+fn sum_within(a: u64, b: u64, most: u64) -> Option<u64>
+    ensures some { IfSome result (λ sum. (sum ≡ a + b) × (sum ≤ most)) }
+    ensures none { IfNone result (most < a + b) }
+{
+    if b <= most && a <= most - b {
+        Some(a + b)
+    } else {
+        None
+    }
+}
+
 impl Limits {
-    ghost use Rattle.std.specs.Prelude.{◌≡◌, ◌^◌};
+    ghost use Rattle.std.specs.Prelude.{◌^◌, IsTrue};
+    ghost use Rattle.ynl_resource.specs.declared.amounts.Resource.{Resource as Amount};
     ghost use Rattle.ynl_resource.specs.Amounts.{plus, greater_of, fits_in};
     ghost use Rattle.ynl_search.specs.limits.Shares.{IsAsk};
-    ghost use Rattle.ynl_search.specs.limits.Limits.{limit_of, IsUserLimit, IsNoLess};
+    ghost use Rattle.ynl_search.specs.limits.Limits.{limit_of, IsUserLimit, IsNoLess, KeepsWithin};
 
     /// What the users share: what the leaf is guaranteed, or what it would use with so much more, where that
     /// is more.
@@ -58,6 +71,25 @@ impl Limits {
         }
     }
 
+    /// How much of a room is left to the requests of a user that uses so much. What is larger does not keep the limit.
+    pub(crate) fn left(&self, used: &Resource, room: &Resource) -> Option<Resource>
+        requires { IsAsk room.now }
+        ensures ask { IfSome result IsAsk }
+        ensures some { IfSome result (λ left. (size : Amount) → KeepsWithin self.now used.now room.now size
+            → IsTrue (fits_in size left)) }
+        ensures none { IfNone result ((size : Amount) → ¬ (KeepsWithin self.now used.now room.now size)) }
+    {
+        let most = self.limit(room);
+        if !used.fits_in(most) {
+            return None;
+        }
+        let left = most.sub(*used);
+        Some(Resource {
+            memory: room.memory.min(left.memory),
+            vcores: room.vcores.min(left.vcores),
+        })
+    }
+
     /// Whether a user may use so much with a request. It divides nothing.
     #[tactic(auto, unfolding(crate::specs::limits::Limits::limit_of))]
     pub fn keeps(&self, with: &Resource, ask: &Resource) -> bool
@@ -68,5 +100,19 @@ impl Limits {
         with.fits_in(self.cap)
             && is_within_share(with.memory, base.memory, self.users, self.percent)
             && is_within_share(with.vcores, base.vcores, self.users, self.percent)
+    }
+
+    /// Whether a user that uses so much keeps the limit with a request.
+    pub(crate) fn keeps_with(&self, used: &Resource, ask: &Resource) -> bool
+        requires { IsAsk ask.now }
+        ensures { result ≡ fits_in (plus used.now ask.now) (limit_of self.now ask.now) }
+    {
+        let Some(memory) = sum_within(used.memory, ask.memory, self.cap.memory) else {
+            return false;
+        };
+        let Some(vcores) = sum_within(used.vcores, ask.vcores, self.cap.vcores) else {
+            return false;
+        };
+        self.keeps(&Resource { memory, vcores }, ask)
     }
 }

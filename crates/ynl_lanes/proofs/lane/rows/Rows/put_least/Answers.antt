@@ -1,20 +1,12 @@
-use Rattle.std.proofs.Common.{set, subst, ◌∙◌, arith, refl, sym, ap}
+use Rattle.std.proofs.Common.{set, ◌∙◌, refl, sym, ap}
 use Rattle.std.proofs.lemmas.Option.{same_Some}
 use Rattle.ynl_lanes.specs.declared.lane.rows.SeatRow.{SeatRow}
 use Rattle.ynl_lanes.specs.declared.lane.levels.Level.TheVariants.{Lane}
-use Rattle.ynl_resource.specs.Amounts.{plus}
-use Rattle.ynl_lanes.specs.lows.Lows.{IsLow}
 use Rattle.ynl_lanes.specs.declared.lows.users.UserLow.{UserLow}
 use Rattle.ynl_lanes.specs.lane.Lines.{values_of}
 use Rattle.ynl_lanes.proofs.lane.Standing.{slot_inside}
 use Rattle.ynl_lanes.proofs.lane.Stood.{changes_set, stood_put}
 use Rattle.ynl_lanes.proofs.lane.rows.Rows.put_least.Goals as goal
-
-pub add-requires : goal.add-requires
-add-requires c =
-    let own = c.requires.seated.users c.args.user c.index-row.result.now c.index-row.ensures in
-    let range : IsLow c.amount-size.result = subst IsLow (sym c.amount-size.ensures.value) c.amount-size.ensures.range in
-    (omega (arith, own.small.memory, range.memory), omega (arith, own.small.vcores, range.vcores))
 
 pub set-requires : goal.set-requires
 set-requires c = slot_inside c.args.self.now c.requires.seated c.args.kind c.args.ticket c.index.result.now c.index.ensures
@@ -27,9 +19,8 @@ returns-clause-line c =
 pub returns-clause-stood : goal.returns-clause-stood
 returns-clause-stood c =
     let same = same_Some _ _ (sym c.index.ensures ∙ c.requires.first.found) in
-    let least : UserLow = record { low = c.root-low.result; with = c.add.result } in
+    let least : UserLow = record { low = c.root.result; used = c.index-row.result.now.used } in
     stood_put c.args.user c.args.kind c.args.self.now (record c.args.self.now { line = c.set.new.self }) c.requires.seated refl refl
     (changes_set c.args.user c.args.kind c.args.self.now.seats.entries c.args.self.now.line c.set.new.self c.args.ticket c.index.result.now least (c.requires.seated.lines Lane) c.index.ensures (ap (λ (x : SeatRow). x.user) same ∙ c.requires.first.own) c.set.ensures.tickets c.set.ensures.value c.set.ensures.other)
-    c.requires.others c.args.ticket c.requires.first c.index-row.result.now c.index-row.ensures least c.root-low.ensures
-    (c.add.ensures ∙ ap (plus c.index-row.result.now.used) c.amount-size.ensures.value)
+    c.requires.others c.args.ticket c.requires.first c.index-row.result.now c.index-row.ensures least c.root.ensures refl
     (c.set.ensures.value ∙ ap (λ (x : SeatRow). set (values_of c.args.kind c.args.self.now.line) x.slot least) same)
