@@ -137,6 +137,7 @@ fn read_into(
 
 /// Reads a line behind one of a kind, if it is just the text of what it tells, as most are, and returns whether it is.
 /// No value of JSON is made of it: what it seems to tell is put into `guess`, and the text of that is made in `text`.
+/// Where memory for that is refused, the line is one of text: other bytes are no compact line, whatever they seem to tell.
 fn read_compact(
     text: &mut Vec<u8>,
     guess: &mut StateLine,
@@ -145,6 +146,7 @@ fn read_compact(
     into: &mut StateLine,
 ) -> Result<bool, AllocError>
     ensures line { IfOk result (λ read. IsTrue read → spec.line_behind before line.now ≡ Ok into.new) }
+    ensures text { OnErr result (IsUtf8 line.now) }
     ensures ranged { IfOk result (λ read. IsTrue read → IsRanged into.new) }
     ensures kept { IfOk result (λ read. read ≡ false → into.new ≡ into.old) }
     ensures none { OnErr result (into.new ≡ into.old) }
@@ -153,7 +155,12 @@ fn read_compact(
         return Ok(false);
     }
     text.clear();
-    put_state_line(text, guess)?;
+    if let Err(error) = put_state_line(text, guess) {
+        return match str::from_utf8(line) {
+            Ok(_) => Err(error),
+            Err(_) => Ok(false),
+        };
+    }
     if text.as_slice() != line {
         return Ok(false);
     }
@@ -241,17 +248,15 @@ impl StateReader {
         ensures none { OnErr result (self.new ≡ self.old) }
     {
         let before = self.held.before;
-        if let Ok(_) = str::from_utf8(line) {
-            if read_compact(
-                &mut self.text,
-                &mut self.guess,
-                before,
-                line,
-                &mut self.held.line,
-            )? {
-                self.held.before = Some(kind_of_line(&self.held.line));
-                return Ok(Ok(()));
-            }
+        if read_compact(
+            &mut self.text,
+            &mut self.guess,
+            before,
+            line,
+            &mut self.held.line,
+        )? {
+            self.held.before = Some(kind_of_line(&self.held.line));
+            return Ok(Ok(()));
         }
         let read = read_into(alloc, &mut self.scratch, before, line, &mut self.held.line)?;
         if read.is_ok() {
