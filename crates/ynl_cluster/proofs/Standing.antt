@@ -29,7 +29,8 @@ use Rattle.ynl_cluster.proofs.ledger.Calls.{leaf-number, line-is}
 use Rattle.ynl_cluster.proofs.ledger.Sums.{dropped-totals}
 use Rattle.ynl_cluster.specs.seating.Seating.{user_use, AreSeated}
 use Rattle.ynl_cluster.specs.declared.cluster.Cluster.TheInside.{Inside}
-use Rattle.ynl_cluster.specs.Cluster.{ClusterView, maxima_in, state_in, stood_in, stops_in, with_last}
+use Rattle.ynl_model.specs.Changes.{with_container}
+use Rattle.ynl_cluster.specs.Cluster.{ClusterView, maxima_in, state_in, stood_in, stops_in}
 use Rattle.ynl_cluster.specs.Whole.{view_of, AreNumbered, AreParts, AskSizes, IsCluster}
 use Rattle.ynl_cluster.proofs.Numbers.{numbers-at}
 use Rattle.ynl_cluster.proofs.Users.{own-small}
@@ -103,7 +104,7 @@ module _ (a : Inside) (is : IsCluster a) (w : ClusterView) (view : view_of a ≡
       }
 
     -- and the state has it last
-    pub state-after : state_of new (stops_in (view_of a)) (maxima_in (view_of a)) ≡ with_last (stood_in w placed clock) (state_in w)
+    pub state-after : state_of new (stops_in (view_of a)) (maxima_in (view_of a)) ≡ with_container (stood_in w placed clock) (state_in w)
     state-after =
-        subst (λ (w : ClusterView). state_of new (stops_in (view_of a)) (maxima_in (view_of a)) ≡ with_last (stood_in w placed clock) (state_in w)) view
+        subst (λ (w : ClusterView). state_of new (stops_in (view_of a)) (maxima_in (view_of a)) ≡ with_container (stood_in w placed clock) (state_in w)) view
         (ap (λ (v : Rows). state_of v (stops_in (view_of a)) (maxima_in (view_of a))) rows ∙ stood-means v is.parts.sound number placed clock can (stops_in (view_of a)) (maxima_in (view_of a)))

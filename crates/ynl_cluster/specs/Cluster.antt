@@ -1,5 +1,5 @@
 -- A cluster as a contract sees it, and the model's state that it means.
-use Rattle.std.specs.Prelude.{◌≡◌, ℕ, ◌≤◌, ◌^◌, Bool, List, [], ◌∷◌, ◌++◌, length, nat_eq, Some}
+use Rattle.std.specs.Prelude.{◌≡◌, ℕ, ◌≤◌, ◌^◌, Bool, List, ◌∷◌, length, nat_eq, Some}
 use Rattle.std.specs.List.{AllByRecursion}
 use Rattle.std.specs.Map.{lookup}
 use Rattle.ynl_resource.specs.Amounts.{IsSize}
@@ -10,7 +10,7 @@ use Rattle.ynl_resource.specs.declared.paths.Path.{Path}
 use Rattle.ynl_model.specs.declared.queues.StopRow.{StopRow}
 use Rattle.ynl_model.specs.declared.queues.MaximumRow.{MaximumRow}
 use Rattle.ynl_model.specs.declared.containers.Placed.{Placed}
-use Rattle.ynl_model.specs.Cluster.{State, in_partition}
+use Rattle.ynl_model.specs.Cluster.{State}
 use Rattle.ynl_model.specs.Nodes.{partition_labels}
 use Rattle.ynl_model.specs.Queues.{Config}
 use Rattle.ynl_layout.specs.Paths.{HasNumber, path_at, paths_of}
@@ -58,10 +58,6 @@ label_of w p = label_at w.rows.partitions p
 -- a container that stands as one that was placed at a clock, as the model has it
 abbrev pub stood_in : ClusterView → Placement → ℕ → Placed
 stood_in w placed clock = placed_of w.rows (label_of w (partition_of_node w.rows.nodes placed.node)) (placed_on placed clock)
-
--- it comes last on its partition, and nothing else changes
-abbrev pub with_last : Placed → State → State
-with_last p s = record s { partitions = in_partition p.id.label (λ row. record row { containers = row.containers ++ p ∷ [] }) s.partitions }
 
 -- the path of a queue
 abbrev pub path_of : ClusterView → ℕ → Path

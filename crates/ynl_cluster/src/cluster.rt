@@ -6,7 +6,7 @@ ghost use Rattle.ynl_model.specs.Cluster.{guaranteed, in_partition, maximum, ope
 ghost use Rattle.ynl_model.specs.Nodes.{is_full, nodes_of, stamped};
 ghost use Rattle.ynl_model.specs.Queues.{accepts, capacity_on, maximum_on, queue_row, set_maximum, set_stop};
 ghost use Rattle.ynl_model.specs.Applications.{finished, in_leaf, new_app, set_ask, submitted, with_app};
-ghost use Rattle.ynl_model.specs.Changes.{app_finishes, end, node_joins, node_leaves, place};
+ghost use Rattle.ynl_model.specs.Changes.{app_finishes, end, node_joins, node_leaves, place, with_container};
 ghost use Rattle.ynl_resource.specs.Ranges.{most_nodes};
 ghost use Rattle.ynl_laws.specs.Uses.{use_of};
 ghost use Rattle.ynl_layout.specs.Paths.{HasNumber};
@@ -20,7 +20,7 @@ ghost use Rattle.ynl_inventory.specs.Parts.{CanPlace, CanStand, LeavesRoom, cont
 ghost use Rattle.ynl_inventory.specs.Sound.{CanAsk, CanShow, CanSubmit, HasNoContainers, HasPartition, IsFor, IsPlaceable, IsSound, OwnsNoContainers};
 ghost use Rattle.ynl_cluster.specs.ledger.Ledger.{total_in, IsBounded};
 ghost use Rattle.ynl_cluster.specs.seating.Seating.{AreSeated};
-ghost use Rattle.ynl_cluster.specs.Cluster.{held_in, label_of, path_of, state_in, stood_in, with_last, AreNumbered, AskSizes, IsCell, IsLaneIn};
+ghost use Rattle.ynl_cluster.specs.Cluster.{held_in, label_of, path_of, state_in, stood_in, AreNumbered, AskSizes, IsCell, IsLaneIn};
 ghost use Rattle.ynl_cluster.specs.Leaving.{IsLeaving};
 ghost use Rattle.ynl_cluster.specs.Finishing.{IsFinishing, OwnsNoneBefore};
 
@@ -381,7 +381,8 @@ impl Cluster {
           rooms = self.new.rooms;
         }) }
         ensures state { OnOk result (state_in self.new
-            ≡ with_last (stood_in self.old placed.now clock) (state_in self.old)) }
+            ≡ with_container (stood_in self.old placed.now clock) (state_in self.old)) }
+        ensures err { OnErr result (self.new ≡ record self.old { rooms = self.new.rooms }) }
     {
         let number = self.inventory.stand(placed, clock)?;
         // Opens the inventory, whose rows are sound.

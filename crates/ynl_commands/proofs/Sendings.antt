@@ -8,7 +8,7 @@ use Rattle.ynl_saved.specs.declared.lines.StateLine.{StateLine}
 use Rattle.ynl_saved.specs.Handing.{FailsAmong, TakesAll}
 use Rattle.ynl_saved.proofs.Handing.{flat-append}
 use Rattle.ynl_saved_text.specs.Texts.{line_text, lines_text}
-use Rattle.ynl_save.specs.Measure.{AreWithin}
+use Rattle.ynl_states.specs.Measure.{AreWithin}
 use Rattle.ynl_commands.specs.declared.run.ToolFault.{ToolFault}
 use Rattle.ynl_commands.specs.declared.run.ToolFault.TheVariants.{Read, Write, NoMemory, Unclosed}
 use Rattle.ynl_commands.specs.Lines.{AppendsPart, HoldsBack}

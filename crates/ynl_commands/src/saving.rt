@@ -13,8 +13,8 @@ use std::alloc::Global;
 use std::io::{BufRead, Write};
 use ynl_core::Core;
 use ynl_lines::InputFault;
-use ynl_save::measure_state;
 use ynl_saved_text::StateFault;
+use ynl_states::measure_state;
 
 /// Writes the state of a cluster, where its text is not too long. The state is told twice, line by line: to measure its
 /// text, and to write it. All memory is taken before anything is written.
@@ -58,7 +58,7 @@ fn save<W: Write>(
 }
 
 /// Reads the script, and applies each event as it is read, from the state that the cluster is in. Only then it writes
-/// the state after them: the text that `write_state` of `ynl_save` gives. Of a script with a fault nothing is told but
+/// the state after them: the text that `write_state` of `ynl_states` gives. Of a script with a fault nothing is told but
 /// that fault, in one line. Where the state's text would be too long nothing is written, and the fault is `Size`. Of
 /// the text at most some 65,536 bytes and twice the longest line are held, and of the script one line.
 ///

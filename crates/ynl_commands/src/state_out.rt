@@ -4,16 +4,16 @@ ghost use Rattle.std.specs.Prelude.{◌≡◌, ◌≢◌, ◌+◌, ◌≤◌, []
 ghost use Rattle.ynl_commands.specs.declared.run.ToolFault.TheVariants.{Read};
 ghost use Rattle.ynl_commands.specs.Running.{held_limit};
 ghost use Rattle.ynl_commands.specs.Sending.{WritesState};
-ghost use Rattle.ynl_save.specs.Measure.{IsMeasured};
+ghost use Rattle.ynl_states.specs.Measure.{IsMeasured};
 ghost use Rattle.ynl_saved_text.specs.Texts.{state_text};
 
 use crate::lines_out::{HELD, write_held, write_on};
 use crate::run::ToolFault;
 use std::alloc::Global;
 use std::io::Write;
-use ynl_save::{StateSize, add_line, tell_state};
 use ynl_saved::{LineSink, StateLine};
 use ynl_saving::Saving;
+use ynl_states::{StateSize, add_line, tell_state};
 
 /// Lines of a state on their way to a writer.
 #[derive(Drop)]

@@ -9,9 +9,9 @@ use Rattle.ynl_saved.specs.declared.lines.StateLine.TheVariants.{End}
 use Rattle.ynl_saved.specs.Handing.{FailsAmong, TakesAll}
 use Rattle.ynl_saved.specs.Restoring.{Restored, is_sound_line, nothing_restored, restored_by, restored_with, with_line}
 use Rattle.ynl_saved.specs.Saving.{lines_before_end}
-use Rattle.ynl_saved_laws.proofs.Restored.{first-sound}
-use Rattle.ynl_saved_laws.proofs.Tellable.{IsTellable}
-use Rattle.ynl_saved_laws.proofs.Telling.{tells}
+use Rattle.ynl_saved.proofs.Restored.{first-sound}
+use Rattle.ynl_saved.proofs.Tellable.{IsTellable}
+use Rattle.ynl_saved.proofs.Telling.{tells}
 use Rattle.ynl_restoring.specs.Telling.{Telling, Tells}
 use Rattle.ynl_core.specs.Copying.{Follows}
 use Rattle.ynl_core.specs.Reached.{WorksAndIsTold}

@@ -11,7 +11,7 @@ use Rattle.ynl_model.specs.Cluster.{State}
 use Rattle.ynl_model.specs.Events.{Outcome, accepted, answered, reasons, step}
 use Rattle.ynl_laws.specs.Working.{IsRanged}
 use Rattle.ynl_laws.proofs.Soundness.Working.{working-step}
-use Rattle.ynl_saved_laws.proofs.Tellable.{tellable-step}
+use Rattle.ynl_saved.proofs.Tellable.{tellable-step}
 use Rattle.ynl_cluster.specs.Cluster.{ClusterView, label_of, path_of, state_in}
 use Rattle.std.proofs.lemmas.Bool.Decides.{nat_tests}
 use Rattle.ynl_resource.specs.Amounts.{fits_in, nothing}

@@ -55,6 +55,10 @@ place c node item s = record (changed_at c node.name node.label (λ containers. 
   leaves = in_leaf item.leaf (with_app item.app (taken item.what)) s.leaves;
 }
 
+-- a container comes last on its partition; no clock moves, no stamp changes, and no less is asked for
+abbrev pub with_container : Container → State → State
+with_container p s = record s { partitions = in_partition p.id.label (λ row. record row { containers = row.containers ++ p ∷ [] }) s.partitions }
+
 -- a container ends: it goes from its partition
 unfoldable pub end : Config → State → Container → State
 end c s container = changed_at c container.node container.id.label (without (λ other. same_id other.id container.id)) s

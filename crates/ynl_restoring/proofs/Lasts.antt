@@ -19,7 +19,8 @@ use Rattle.ynl_inventory.specs.Sound.{IsSound}
 use Rattle.ynl_inventory.proofs.Finding.{containers-at, not-true, own-label}
 use Rattle.ynl_inventory.proofs.Lookups.{place-there}
 use Rattle.ynl_cluster.specs.Cluster.{ClusterView, label_of, maxima_in, state_in, stops_in}
-use Rattle.ynl_saved.specs.Restoring.{last_clock, with_container}
+use Rattle.ynl_model.specs.Changes.{with_container}
+use Rattle.ynl_saved.specs.Restoring.{last_clock}
 use Rattle.ynl_restoring.specs.Placing.{AreLasts, last_of}
 use Rattle.ynl_restoring.proofs.Clocks.{as-it-is}
 

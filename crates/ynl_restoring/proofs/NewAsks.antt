@@ -44,7 +44,7 @@ use Rattle.ynl_admission.proofs.LabelsKnown.{label-known}
 use Rattle.ynl_replies.proofs.Apps.{app-is}
 use Rattle.ynl_saved.specs.declared.lines.StateLine.TheVariants.{Ask as AskLine}
 use Rattle.ynl_saved.specs.Restoring.{asks_on, is_given, is_sound_line, may_ask, with_ask, Restored}
-use Rattle.ynl_saved_laws.proofs.Leaved.{found-name}
+use Rattle.ynl_saved.proofs.Leaved.{found-name}
 use Rattle.ynl_restoring.proofs.Clocks.{alike}
 use Rattle.ynl_restoring.proofs.Owners.{own-apps}
 

@@ -24,8 +24,8 @@ use Rattle.ynl_cluster.specs.Cluster.{ClusterView, label_of, state_in}
 use Rattle.ynl_admission.specs.Named.{IsAppNamed, IsPartitionOf}
 use Rattle.ynl_saved.specs.declared.lines.StateLine.TheVariants.{Container as ContainerLine}
 use Rattle.ynl_saved.specs.Restoring.{is_given, is_sound_line, last_clock, may_have, may_stand, Restored}
-use Rattle.ynl_saved_laws.proofs.Leaved.{found-name}
-use Rattle.ynl_saved_laws.proofs.Stand.{found-tenant}
+use Rattle.ynl_saved.proofs.Leaved.{found-name}
+use Rattle.ynl_saved.proofs.Stand.{found-tenant}
 use Rattle.ynl_restoring.specs.Placing.{IsPlacedAs, IsRoleOf, IsSteady, StandsOn}
 use Rattle.ynl_restoring.proofs.Clocks.{clock-shown}
 use Rattle.ynl_restoring.proofs.Lasts.{all-before}

@@ -22,7 +22,7 @@ use Rattle.ynl_inventory.proofs.Finding.{not-true, own-label}
 use Rattle.ynl_cluster.specs.Cluster.{ClusterView, label_of, maxima_in, state_in, stops_in}
 use Rattle.ynl_cluster.proofs.requests.Running.{runs-means}
 use Rattle.ynl_saved.specs.Restoring.{asks_on, may_have}
-use Rattle.ynl_saved_laws.proofs.Served.{same-number_self}
+use Rattle.ynl_saved.proofs.Served.{same-number_self}
 use Rattle.ynl_admission.specs.Named.{IsPartitionOf}
 use Rattle.ynl_restoring.proofs.NewAsks.{home-known}
 

@@ -24,8 +24,8 @@ use Rattle.ynl_admission.specs.declared.queues.CellNumbers.{CellNumbers}
 use Rattle.ynl_saved.specs.declared.lines.StateLine.{StateLine}
 use Rattle.ynl_saved.specs.declared.lines.StateLine.TheVariants.{Ask, Container, End, Node, Partition}
 use Rattle.ynl_saved.specs.Restoring.{Restored, is_sound_line, maxima_of, partitions_of, restored_with, with_line}
-use Rattle.ynl_saved_laws.specs.Lines.{IsSizedLine}
-use Rattle.ynl_saved_laws.proofs.Restored.{IsRestored, among, nobody, restored-more}
+use Rattle.ynl_saved.specs.Lines.{IsSizedLine}
+use Rattle.ynl_saved.proofs.Restored.{IsRestored, among, nobody, restored-more}
 use Rattle.ynl_restoring.specs.Placing.{AreLasts, IsSteady, last_of}
 use Rattle.ynl_restoring.specs.Taking.{Takes}
 use Rattle.ynl_restoring.proofs.Cells.{turn}

@@ -13,7 +13,7 @@ use Rattle.ynl_cluster.specs.Cluster.{ClusterView, state_in}
 use Rattle.ynl_admission.specs.declared.queues.CellNumbers.{CellNumbers}
 use Rattle.ynl_saved.specs.declared.lines.StateLine.{StateLine}
 use Rattle.ynl_saved.specs.Restoring.{Restored, is_sound_line, restored_with}
-use Rattle.ynl_saved_laws.proofs.Restored.{IsRestored}
+use Rattle.ynl_saved.proofs.Restored.{IsRestored}
 use Rattle.ynl_restoring.specs.Placing.{AreLasts}
 use Rattle.ynl_restoring.specs.declared.restoring.Restoring.TheInside.{Inside}
 

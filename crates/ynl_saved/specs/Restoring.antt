@@ -19,6 +19,7 @@ use Rattle.ynl_model.specs.Accepted.{is_from_to}
 use Rattle.ynl_model.specs.Nodes.{clock_limit, has_label, is_exclusive, is_full, joined, partition_labels}
 use Rattle.ynl_model.specs.Queues.{Config, capacity_on, is_leaf, is_queue, may_use, set_maximum, set_stop, setting}
 use Rattle.ynl_model.specs.Applications.{Application, apps_of, find_app, find_ask, in_leaf, is_used, new_app, submitted, with_app}
+use Rattle.ynl_model.specs.Changes.{with_container}
 use Rattle.ynl_model.specs.Cluster.{State, clock, containers_on, free, in_partition, node_of, opening, runs}
 use Rattle.ynl_saved.specs.declared.lines.StateLine.{StateLine}
 use Rattle.ynl_saved.specs.declared.lines.StateLine.TheVariants.{Begin, Partition, Node, Live, Ask, Finished, Container, Stopped, Maximum, End}
@@ -115,10 +116,6 @@ with_ask tenant name ask s =
 -- of a finished application there is the name
 abbrev pub with_finished : Path → Name → State → State
 with_finished queue name s = record s { leaves = in_leaf queue (λ row. record row { names = row.names ++ name ∷ [] }) s.leaves }
-
--- a container comes last on its partition; no clock moves, no stamp changes, and no less is asked for
-abbrev pub with_container : Placed → State → State
-with_container p s = record s { partitions = in_partition p.id.label (λ row. record row { containers = row.containers ++ p ∷ [] }) s.partitions }
 
 -- what the state is with a line more
 unfoldable pub with_line : StateLine → State → State

@@ -22,9 +22,9 @@ use Rattle.ynl_saved.specs.Restoring.{Restored, is_sound_line, last_clock, may_s
 use Rattle.ynl_saved.specs.declared.lines.StateLine.TheVariants.{Begin, Partition, Node, Live, Ask, Finished, Container, Stopped, Maximum, End}
 use Rattle.ynl_saved.specs.declared.lines.StateLine.{StateLine}
 use Rattle.ynl_laws.proofs.Lists.{Each-all, Each-append, Each-find, Each-found, Each-map, Each-update}
-use Rattle.ynl_saved_laws.specs.Lines.{IsCountedLine}
-use Rattle.ynl_saved_laws.proofs.Configured.{most-limits}
-use Rattle.ynl_saved_laws.proofs.Restored.{first-sound, found-test}
+use Rattle.ynl_saved.specs.Lines.{IsCountedLine}
+use Rattle.ynl_saved.proofs.Configured.{most-limits}
+use Rattle.ynl_saved.proofs.Restored.{first-sound, found-test}
 use Rattle.ynl_saved_text.specs.StateLines.{IsClocked}
 
 -- no clock of a state and no stamp is above the largest number of a clock

@@ -13,7 +13,7 @@ use Rattle.ynl_fields.specs.Reading.{◌>>=◌}
 use Rattle.ynl_saved.specs.declared.lines.StateLine.{StateLine}
 use Rattle.ynl_saved.specs.Restoring.{Restored, is_sound_line, nothing_restored, restored_by, restored_with}
 use Rattle.ynl_saved.specs.Saving.{state_lines}
-use Rattle.ynl_saved_laws.proofs.Restored.{first-sound}
+use Rattle.ynl_saved.proofs.Restored.{first-sound}
 use Rattle.ynl_saved_text.specs.declared.faults.BadState.{BadState}
 use Rattle.ynl_saved_text.specs.declared.faults.StateFault.TheVariants as fault
 use Rattle.ynl_saved_text.specs.declared.kinds.StateKind.{StateKind}

@@ -28,8 +28,8 @@ use ynl_core::Core;
 use ynl_journal::Start;
 use ynl_queues::Config;
 use ynl_resource::{HashSeed, Label, Name};
-use ynl_restore::read_state;
 use ynl_saved_text::BadState;
+use ynl_states::read_state;
 use ynl_view::sole;
 use ynl_words::{Question, SequentialKind, Workers};
 

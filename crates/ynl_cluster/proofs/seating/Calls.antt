@@ -25,7 +25,7 @@ use Rattle.ynl_inventory.specs.Parts.{containers_of}
 use Rattle.ynl_inventory.specs.Sound.{CanTake, HasPartition, IsAskedOn, IsSound, MayHave}
 use Rattle.ynl_inventory.proofs.Lookups.{live-found, read-changed}
 use Rattle.ynl_cluster.specs.seating.Seating.{is_shared, shares}
-use Rattle.ynl_cluster.specs.seating.Steps.{AreSeatedBut, AreUsedBut, IsEnded, IsNew, IsOld, IsPlaced}
+use Rattle.ynl_cluster.specs.seating.Steps.{AreSeatedBut, AreUsedBut, IsEnded, WasPlaced, CameToStand, IsPlaced}
 use Rattle.ynl_cluster.proofs.seating.Carrying.{ChangesContainers}
 use Rattle.ynl_cluster.proofs.seating.Coming.{guest-came, guest-went, home-came, home-went}
 use Rattle.ynl_cluster.proofs.seating.Entered.{home-shared}
@@ -90,47 +90,47 @@ module _ (number node app : ℕ) (r : Role) (size : Resource) (before v : Rows) 
     has-place part there = subst (HasPartition before) (sym stands) (slice_get_within before.partitions row.partition part there)
 
   -- one that is placed
-  new-came : IsSound before → IsNew number node app r size before v → HasCome number node app r size before v
-  new-came sound new = record {
+  placed-came : IsSound before → WasPlaced number node app r size before v → HasCome number node app r size before v
+  placed-came sound placed = record {
     clock = next_clock_at before.partitions p;
-    row = new.can.app_row;
-    found = new.can.app_found;
+    row = placed.can.app_row;
+    found = placed.can.app_found;
     may =
-        subst (λ m. MayStand m new.can.app_row r) (sym (stands new.can.node_row new.can.node_found))
-        (may-stand before sound app new.can.app_row new.can.app_found new.can.node_row.partition new.can.partition.guests r new.can.role);
+        subst (λ m. MayStand m placed.can.app_row r) (sym (stands placed.can.node_row placed.can.node_found))
+        (may-stand before sound app placed.can.app_row placed.can.app_found placed.can.node_row.partition placed.can.partition.guests r placed.can.role);
     touch = with_taken r;
     keeps = taken-keeps r;
-    apps = ap (λ (w : Rows). w.apps) new.rows;
+    apps = ap (λ (w : Rows). w.apps) placed.rows;
     place =
-        ap (λ (w : Rows). partition_of_node w.nodes node) new.rows
+        ap (λ (w : Rows). partition_of_node w.nodes node) placed.rows
         ∙ read-changed (λ (row : NodeRow). row.partition) 0 node node (λ row. record row { stamp = next_clock_at before.partitions p }) (λ row. refl) before.nodes;
     changes =
-        subst (ChangesContainers p (λ es. es ++ (number, next_container before node app r size) ∷ []) before) (sym new.rows)
-        (placed-changes before number node app r size (has-place new.can.node_row new.can.node_found new.can.partition new.can.partition_found));
+        subst (ChangesContainers p (λ es. es ++ (number, next_container before node app r size) ∷ []) before) (sym placed.rows)
+        (placed-changes before number node app r size (has-place placed.can.node_row placed.can.node_found placed.can.partition placed.can.partition_found));
   }
 
   -- one that comes to stand
-  old-came : IsOld number node app r size before v → HasCome number node app r size before v
-  old-came old = record {
-    clock = old.clock;
-    row = old.can.app_row;
-    found = old.can.app_found;
+  stood-came : CameToStand number node app r size before v → HasCome number node app r size before v
+  stood-came stood = record {
+    clock = stood.clock;
+    row = stood.can.app_row;
+    found = stood.can.app_found;
     may =
-        subst (λ m. MayStand m old.can.app_row r) (sym (stands old.can.node_row old.can.node_found))
-        (may-have before app old.can.app_row old.can.node_row.partition old.can.partition.guests r old.can.role);
+        subst (λ m. MayStand m stood.can.app_row r) (sym (stands stood.can.node_row stood.can.node_found))
+        (may-have before app stood.can.app_row stood.can.node_row.partition stood.can.partition.guests r stood.can.role);
     touch = λ row. row;
     keeps = itself-keeps;
-    apps = ap (λ (w : Rows). w.apps) old.rows ∙ sym (same-rows app before.apps);
-    place = ap (λ (w : Rows). partition_of_node w.nodes node) old.rows;
+    apps = ap (λ (w : Rows). w.apps) stood.rows ∙ sym (same-rows app before.apps);
+    place = ap (λ (w : Rows). partition_of_node w.nodes node) stood.rows;
     changes =
-        subst (ChangesContainers p (λ es. es ++ (number, record { clock = old.clock; node = node; app = app; role = r; size = size }) ∷ []) before) (sym old.rows)
-        (stood-changes before p number (record { clock = old.clock; node = node; app = app; role = r; size = size })
-        (has-place old.can.node_row old.can.node_found old.can.partition old.can.partition_found));
+        subst (ChangesContainers p (λ es. es ++ (number, record { clock = stood.clock; node = node; app = app; role = r; size = size }) ∷ []) before) (sym stood.rows)
+        (stood-changes before p number (record { clock = stood.clock; node = node; app = app; role = r; size = size })
+        (has-place stood.can.node_row stood.can.node_found stood.can.partition stood.can.partition_found));
   }
 
-  has-come : IsSound before → (IsNew number node app r size before v ⊎ IsOld number node app r size before v) → HasCome number node app r size before v
-  has-come sound (inl new) = new-came sound new
-  has-come sound (inr old) = old-came old
+  has-come : IsSound before → (WasPlaced number node app r size before v ⊎ CameToStand number node app r size before v) → HasCome number node app r size before v
+  has-come sound (inl placed) = placed-came sound placed
+  has-come sound (inr stood) = stood-came stood
 
 module _ (node app : ℕ) (r : Role) (size : Resource) (v : Rows) (lanes : List (List Seats)) (start : IsPlaced node app r size v lanes) where
   came : HasCome start.number node app r size start.before v

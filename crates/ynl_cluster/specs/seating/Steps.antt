@@ -50,12 +50,12 @@ pub record IsUnseated (app : ℕ) (v : Rows) (lanes : List (List Seats)) : Type 
   pub room : IsReserved row.home row.leaf row.user lanes
 
 -- a container is placed on a node
-pub record IsNew (number node app : ℕ) (role : Role) (size : Resource) (before v : Rows) : Type 0 where
+pub record WasPlaced (number node app : ℕ) (role : Role) (size : Resource) (before v : Rows) : Type 0 where
   pub can : IsPlaceable before node app role
   pub rows : v ≡ with_placed number node app role size before
 
 -- or it comes to stand there as one that was placed
-pub record IsOld (number node app : ℕ) (role : Role) (size : Resource) (before v : Rows) : Type 0 where
+pub record CameToStand (number node app : ℕ) (role : Role) (size : Resource) (before v : Rows) : Type 0 where
   pub clock : ℕ
   pub can : IsStandable before node app role clock
   pub rows : v ≡ with_stood (partition_of_node before.nodes node) number (record { clock = clock; node = node; app = app; role = role; size = size }) before
@@ -64,7 +64,7 @@ pub record IsOld (number node app : ℕ) (role : Role) (size : Resource) (before
 pub record IsPlaced (node app : ℕ) (role : Role) (size : Resource) (v : Rows) (lanes : List (List Seats)) : Type 0 where
   pub before : Rows
   pub number : ℕ
-  pub came : IsNew number node app role size before v ⊎ IsOld number node app role size before v
+  pub came : WasPlaced number node app role size before v ⊎ CameToStand number node app role size before v
   pub sound : IsSound before
   pub seated : AreSeated before lanes
 

@@ -2,7 +2,7 @@
 use Rattle.std.proofs.Common.{◌≡◌, ◌∙◌, not, sym, ap}
 use Rattle.std.proofs.lemmas.Option.{same_Some}
 use Rattle.ynl_laws.proofs.Logic.{not-false}
-use Rattle.ynl_saved_laws.proofs.Served.{size-same}
+use Rattle.ynl_saved.proofs.Served.{size-same}
 use Rattle.ynl_tables.proofs.containers.Removing.{at_live}
 use Rattle.ynl_inventory.specs.Apps.{runs_at}
 use Rattle.ynl_inventory.specs.Parts.{app_row}

@@ -8,7 +8,8 @@ use Rattle.ynl_inventory.specs.Parts.{node_row}
 use Rattle.ynl_inventory.specs.Rows.{NodeRow}
 use Rattle.ynl_cluster.specs.Cluster.{ClusterView, label_of, state_in}
 use Rattle.ynl_saved.specs.declared.lines.StateLine.TheVariants.{Container}
-use Rattle.ynl_saved.specs.Restoring.{with_container, with_line}
+use Rattle.ynl_model.specs.Changes.{with_container}
+use Rattle.ynl_saved.specs.Restoring.{with_line}
 use Rattle.ynl_restoring.specs.Placing.{AreLasts}
 use Rattle.ynl_restoring.proofs.Lasts.{last-set}
 use Rattle.ynl_restoring.proofs.Taken.{taken}

@@ -1,7 +1,7 @@
 use Rattle.std.proofs.Common.{sym, subst}
 use Rattle.ynl_laws.proofs.Soundness.Working.{working-opening}
 use Rattle.ynl_model.specs.Cluster.{opening}
-use Rattle.ynl_saved_laws.proofs.Tellable.{tellable-opening}
+use Rattle.ynl_saved.proofs.Tellable.{tellable-opening}
 use Rattle.ynl_core.specs.Reached.{WorksAndIsTold}
 use Rattle.ynl_core.proofs.cluster.Core.open.Goals as goal
 

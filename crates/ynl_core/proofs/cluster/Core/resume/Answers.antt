@@ -1,8 +1,8 @@
 use Rattle.std.proofs.Common.{sym, subst}
 use Rattle.ynl_laws.specs.Working.{IsWorking}
 use Rattle.ynl_cluster.specs.Cluster.{ClusterView, state_in}
-use Rattle.ynl_saved_laws.proofs.Restored.{restored-works}
-use Rattle.ynl_saved_laws.proofs.Tellable.{IsTellable}
+use Rattle.ynl_saved.proofs.Restored.{restored-works}
+use Rattle.ynl_saved.proofs.Tellable.{IsTellable}
 use Rattle.ynl_core.specs.Reached.{WorksAndIsTold}
 use Rattle.ynl_core.proofs.cluster.Core.resume.Goals as goal
 

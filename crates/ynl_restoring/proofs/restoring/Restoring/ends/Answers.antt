@@ -4,7 +4,7 @@ use Rattle.std.specs.List.{list_all, list_any}
 use Rattle.ynl_resource.specs.Names.{same_label}
 use Rattle.ynl_model.specs.Nodes.{partition_labels}
 use Rattle.ynl_inventory.proofs.Finding.{not-true}
-use Rattle.ynl_saved_laws.proofs.Served.{same-number, same-number_self}
+use Rattle.ynl_saved.proofs.Served.{same-number, same-number_self}
 use Rattle.ynl_restoring.specs.Telling.{Telling}
 use Rattle.ynl_restoring.proofs.Tells.{end-told}
 use Rattle.ynl_restoring.proofs.restoring.Restoring.ends.Goals as goal

@@ -9,7 +9,7 @@ use Rattle.ynl_model.specs.Nodes.{partition_labels}
 use Rattle.ynl_model.specs.Queues.{Config}
 use Rattle.ynl_inventory.specs.Rows.{PartitionRow}
 use Rattle.ynl_saved.specs.Restoring.{nothing_restored}
-use Rattle.ynl_saved_laws.proofs.Restored.{IsRestored, restored-first}
+use Rattle.ynl_saved.proofs.Restored.{IsRestored, restored-first}
 use Rattle.ynl_restoring.specs.Placing.{last_of}
 use Rattle.ynl_restoring.specs.Telling.{IsCellIn, is_cell_of}
 use Rattle.ynl_restoring.proofs.Tells.{no-lasts}

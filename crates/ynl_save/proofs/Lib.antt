@@ -1,2 +1,0 @@
-pub mod Added
-pub mod Measured

@@ -1,7 +1,0 @@
-use Rattle.ynl_model.specs.Cluster.{opening}
-use Rattle.ynl_saved_laws.proofs.Counts.{within-after, within-opening}
-use Rattle.ynl_saved_laws.proofs.Tellable.{tellable-opening}
-use Rattle.ynl_saved_laws.proofs.asks_stay_within.Goals as goal
-
-pub returns : goal.returns
-returns _ c events accepted counted = within-after c accepted events (opening c) (tellable-opening c accepted) counted (within-opening c)

@@ -1,3 +1,0 @@
-pub mod Asks
-pub mod Lines
-pub mod Laws

@@ -1,0 +1,3 @@
+pub mod Measure
+pub mod Text
+pub mod Reading
