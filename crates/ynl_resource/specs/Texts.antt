@@ -1,12 +1,12 @@
 -- What texts say: the name, label, path or id that a text is, and the text of each.
-use Rattle.std.specs.Prelude.{ℕ, Bool, ◌&&◌, not, ◌==◌, nat_lt, nat_le, List, [], ◌∷◌, ◌++◌, length, slice_index, Result, Ok, Err, codes, decimal, if◌then◌else◌}
-use Rattle.std.specs.List.{list_all, slice_split, join_with_byte, before_first, after_first}
+use Rattle.std.specs.Prelude.{ℕ, Bool, ◌&&◌, not, ◌==◌, nat_lt, nat_le, List, [], ◌∷◌, ◌++◌, length, slice_index, take, drop, Option, Some, None, Result, Ok, Err, codes, decimal, if◌then◌else◌}
+use Rattle.std.specs.List.{list_all, slice_split, join_with_byte, before_first, after_first, prefix_len}
 use Rattle.std.specs.Str.{all_ascii_digits}
 use Rattle.std.specs.Str.Parse.{digits_value}
 use Rattle.ynl_resource.specs.declared.names.BadName.{BadName}
 use Rattle.ynl_resource.specs.declared.paths.PathFault.{PathFault}
 use Rattle.ynl_resource.specs.declared.paths.PathFault.TheVariants.{TooDeep, BadPath}
-use Rattle.ynl_resource.specs.NameText.{is_name}
+use Rattle.ynl_resource.specs.NameText.{is_name, is_name_byte}
 use Rattle.ynl_resource.specs.Names.{Name, same_name, Label, Unlabelled, Named, Path, Id}
 use Rattle.ynl_resource.specs.Ranges.{most_clock, most_names}
 
@@ -19,6 +19,14 @@ bad_name = record {}
 -- the name that a text is
 unfoldable pub read_name : List ℕ → Result Name BadName
 read_name text = if is_name text then Ok text else Err bad_name
+
+-- the first bytes, so many, and what stands behind them, if the first ones are a name
+abbrev pub name_of_first : ℕ → List ℕ → Option (Name × List ℕ)
+name_of_first n bytes = if is_name (take n bytes) then Some (take n bytes, drop n bytes) else None
+
+-- the name in front of some bytes, which ends only where a byte may not be in a name, and what stands behind it
+unfoldable pub name_in_front : List ℕ → Option (Name × List ℕ)
+name_in_front bytes = name_of_first (prefix_len is_name_byte bytes) bytes
 
 -- ---- labels: the empty text is DEFAULT
 

@@ -1,15 +1,13 @@
 //! Names of nodes, users, applications, queues and labels.
 
-ghost use Rattle.std.specs.Prelude.{◌≡◌, length, ◌≤◌, IsTrue, Some, Ok, refl, nat_eq};
+ghost use Rattle.std.specs.Prelude.{◌≡◌, length, ◌≤◌, IsTrue, Some, Ok, refl, nat_eq, option_map};
 ghost use Rattle.std.specs.Bool.{OnTrue};
-ghost use Rattle.std.specs.List.{list_all};
 ghost use Rattle.std.specs.Cmp.{partial_equiv_from_equiv};
 ghost use Rattle.std.specs.Ordering.{nat_cmp};
 ghost use Rattle.std.specs.Cmp.Lexicographic.{slice_cmp, pointwise, nat_list_eq_equiv, nat_list_cmp_total, texts_po, texts_ties};
 ghost use Rattle.ynl_resource.specs.Heads.{head_of};
 ghost use Rattle.ynl_resource.specs.NameText.{is_name, is_name_byte};
-ghost use Rattle.ynl_resource.specs.Padded.{padded};
-ghost use Rattle.ynl_resource.specs.Texts.{read_name};
+ghost use Rattle.ynl_resource.specs.Texts.{name_in_front, read_name};
 
 use std::cmp::Ordering;
 use std::fmt;
@@ -55,48 +53,49 @@ fn is_name_byte(byte: u8) -> bool
         || byte == b'-'
 }
 
-fn has_name_bytes(bytes: &[u8]) -> bool
-    ensures { result ≡ list_all is_name_byte bytes.now }
-{
-    bytes.iter().all(|b| is_name_byte(*b))
-}
-
-fn is_name(bytes: &[u8]) -> bool
-    ensures value { result ≡ is_name bytes.now }
-    ensures small { IsTrue result → length bytes.now ≤ 64 }
-{
-    if bytes.is_empty() || bytes.len() > 64 {
-        return false;
-    }
-    has_name_bytes(bytes)
-}
-
-/// The bytes, and zeros up to 64 bytes.
-fn pad(bytes: &[u8]) -> [u8; 64]
-    requires { length bytes.now ≤ 64 }
-    ensures { result ≡ padded 64 0 bytes.now }
-{
-    let mut kept = [0u8; 64];
-    for (i, b) in bytes.iter().enumerate() {
-        kept[i] = *b;
-    }
-    kept
-}
-
 impl Name {
+    /// The name in front of some bytes, as long as it can be, and what stands behind it: each byte is tested and kept
+    /// in one pass.
+    pub fn in_front(bytes: &[u8]) -> Option<(Name, &[u8])>
+        ensures { option_map (λ p. (p.0, p.1.now)) result ≡ name_in_front bytes.now }
+    {
+        let mut kept = [0u8; 64];
+        let mut len = 0;
+        'bytes: while len < bytes.len() && is_name_byte(bytes[len]) {
+            if len == 64 {
+                return None;
+            }
+            kept[len] = bytes[len];
+            len += 1;
+        }
+        if len == 0 {
+            return None;
+        }
+        let name = Name {
+            bytes: kept,
+            len: len as u8,
+        };
+        Some((name, &bytes[len..]))
+    }
+
+    /// The name that all of the bytes are.
+    pub fn of_bytes(bytes: &[u8]) -> Result<Name, BadName>
+        ensures { result ≡ read_name bytes.now }
+    {
+        let Some((name, rest)) = Name::in_front(bytes) else {
+            return Err(BadName);
+        };
+        if !rest.is_empty() {
+            return Err(BadName);
+        }
+        Ok(name)
+    }
+
     /// The name that the text is.
-    #[tactic(auto, unfolding(crate::specs::Texts::read_name))]
     pub fn parse(text: &str) -> Result<Name, BadName>
         ensures { result ≡ read_name text.now }
     {
-        let bytes = text.as_bytes();
-        if !is_name(bytes) {
-            return Err(BadName);
-        }
-        Ok(Name {
-            bytes: pad(bytes),
-            len: bytes.len() as u8,
-        })
+        Name::of_bytes(text.as_bytes())
     }
 
     /// The name's bytes.
