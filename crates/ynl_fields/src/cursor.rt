@@ -4,7 +4,10 @@ ghost use Rattle.std.specs.Prelude.{◌≤◌, IfSome};
 ghost use Rattle.ynl_fields.specs.Reading.{HasClock};
 
 use crate::cutting::{cut_number, cut_text};
-use ynl_resource::{Id, Label, Name, Path};
+use ynl_resource::{Id, Label, MOST_CLOCK, Name, Path};
+
+/// What ends a text.
+const QUOTE: &[u8] = b"\"";
 
 /// What is left of a line. Each call cuts a piece from its front, with what stands before it in every such line; where it
 /// gives nothing, the line is in another form.
@@ -79,8 +82,14 @@ impl<'a> Cursor<'a> {
     }
 
     pub fn name(&mut self, front: &[u8]) -> Option<Name> {
-        let text = self.text(front)?;
-        Name::parse(text).ok()
+        if !self.skips(front) {
+            return None;
+        }
+        let name = self.bare_name()?;
+        if !self.skips(QUOTE) {
+            return None;
+        }
+        Some(name)
     }
 
     pub fn path(&mut self, front: &[u8]) -> Option<Path> {
@@ -89,17 +98,45 @@ impl<'a> Cursor<'a> {
     }
 
     pub fn label(&mut self, front: &[u8]) -> Option<Label> {
-        let text = self.text(front)?;
-        Label::parse(text).ok()
+        if !self.skips(front) {
+            return None;
+        }
+        let label = self.label_before(b'"')?;
+        if !self.skips(QUOTE) {
+            return None;
+        }
+        Some(label)
     }
 
     pub fn id(&mut self, front: &[u8]) -> Option<Id>
         ensures { IfSome result (λ id. HasClock id) }
     {
-        let text = self.text(front)?;
-        match Id::parse(text) {
-            Ok(id) => Some(id),
-            Err(_) => None,
+        if !self.skips(front) {
+            return None;
         }
+        let label = self.label_before(b'#')?;
+        let clock = self.within(b"#", MOST_CLOCK)?;
+        if clock == 0 || !self.skips(QUOTE) {
+            return None;
+        }
+        Some(Id { label, clock })
+    }
+
+    /// The name in front, whatever stands behind it.
+    fn bare_name(&mut self) -> Option<Name> {
+        let Some((name, rest)) = Name::in_front(self.rest) else {
+            return None;
+        };
+        self.rest = rest;
+        Some(name)
+    }
+
+    /// The label in front of a byte that may be in no name: where that byte stands at once, it is the text of no name.
+    fn label_before(&mut self, end: u8) -> Option<Label> {
+        if self.ahead(0) == Some(end) {
+            return Some(Label::Unlabelled);
+        }
+        let name = self.bare_name()?;
+        Some(Label::Named(name))
     }
 }
