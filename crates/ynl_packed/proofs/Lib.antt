@@ -4,3 +4,4 @@ pub mod RepliesAgain
 pub mod Cut
 pub mod Loops
 pub mod Listed
+pub mod NameFields

@@ -1,7 +1,7 @@
 //! A place in what is kept, from which one field after another is read.
 
 ghost use Rattle.std.specs.Prelude.{◌≡◌, length, IfSome};
-ghost use Rattle.ynl_packed.specs.Reading.{Gives, front_at, kind_at, small_at, number_at, text_of, text_at, name_at, label_at, long_at, path_at, size_at, amount_at, id_at, what_at, proposal_at};
+ghost use Rattle.ynl_packed.specs.Reading.{Gives, front_at, kind_at, small_at, number_at, text_of, name_at, label_at, long_at, path_at, size_at, amount_at, id_at, what_at, proposal_at};
 
 use ynl_model::{Proposal, What};
 use ynl_resource::{Id, Label, Name, Path, Resource, Size};
@@ -72,20 +72,19 @@ impl<'a> Cursor<'a> {
         Some(*kind)
     }
 
-    #[tactic(auto, unfolding(crate::specs::Reading::text_at))]
-    pub(crate) fn text(&mut self) -> Option<&'a str>
-        ensures { Gives (λ x. (x.now, self.new.rest.now)) result (text_at self.old.rest.now) }
-    {
-        let len = self.kind()?;
-        self.text_of(len as usize)
-    }
-
-    #[tactic(auto, unfolding(crate::specs::Reading::name_at))]
     pub(crate) fn name(&mut self) -> Option<Name>
         ensures { Gives (λ x. (x, self.new.rest.now)) result (name_at self.old.rest.now) }
     {
-        let text = self.text()?;
-        Name::parse(text).ok()
+        let Some(len) = self.kind() else {
+            return None;
+        };
+        let Some(front) = self.front(len as usize) else {
+            return None;
+        };
+        match Name::of_bytes(front) {
+            Ok(name) => Some(name),
+            Err(_) => None,
+        }
     }
 
     #[tactic(auto, unfolding(crate::specs::Reading::label_at))]
