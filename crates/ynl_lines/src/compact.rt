@@ -30,10 +30,7 @@ pub fn heartbeat_of(line: &[u8]) -> Option<Name>
     let Some(node) = rest.strip_suffix(END) else {
         return None;
     };
-    let Ok(text) = str::from_utf8(node) else {
-        return None;
-    };
-    match Name::parse(text) {
+    match Name::of_bytes(node) {
         Ok(name) => Some(name),
         Err(_) => None,
     }
