@@ -15,7 +15,6 @@ use Rattle.json.specs.Print.{escape, escape_byte}
 use Rattle.json.proofs.Printed.Strings.{escape_byte_plain}
 use Rattle.ynl_resource.specs.NameText.{is_name, is_name_byte}
 use Rattle.ynl_resource.proofs.IdTexts.{all_digits}
-use Rattle.ynl_fields.specs.Cutting.{is_word_byte}
 
 not_quote : (x : ℕ) → is_name_byte x ≡ true → x ≡ 34 → ⊥
 not_quote x h e = grind (arith, nat_tests)
@@ -69,12 +68,3 @@ escape_number n h = escape_bytes (decimal n) (digits_named (decimal n) (digits_d
 pub escape_id : (label digits : List ℕ) → escape digits ≡ digits → escape (label ++ 35 ∷ digits) ≡ escape label ++ 35 ∷ digits
 unfolding escape_byte
 escape_id label digits plain = flat_map-append escape_byte label (35 ∷ digits) ∙ ap (λ d. escape label ++ 35 ∷ d) plain
-
--- ---- names, paths and ids
-
-word_plain : (x : ℕ) → is_word_byte x ≡ true → escape_byte x ≡ x ∷ []
-word_plain x h = escape_byte_plain x (λ e. let bad : x ≡ 34 = e in grind (arith, nat_tests)) (λ e. let bad : x ≡ 92 = e in grind (arith, nat_tests)) (grind (arith, nat_tests))
-
-pub escape_words : (xs : List ℕ) → list_all is_word_byte xs ≡ true → escape xs ≡ xs
-escape_words [] h = refl
-escape_words (x ∷ xs) h = ap₂ (λ a b. a ++ b) (word_plain x (and_parts (is_word_byte x) _ h).0) (escape_words xs (and_parts (is_word_byte x) _ h).1)

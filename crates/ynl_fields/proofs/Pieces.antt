@@ -28,13 +28,6 @@ pub quote : (old mid front text rest new : List ℕ) → mid ≡ old ++ (front +
 quote old mid front text rest new first more =
     join old mid front (escape text) (34 ∷ rest) new first more ∙ ap (λ t. old ++ (front ++ t)) (sym (append_assoc (escape text) (34 ∷ []) rest))
 
--- the same of a text that needs no escape, and of the digits of a number, where the whole text is at hand
-pub quoted : (front text rest told : List ℕ) → escape text ≡ text → rest ≡ told → front ++ (text ++ 34 ∷ rest) ≡ front ++ ((escape text ++ 34 ∷ []) ++ told)
-quoted front text rest told plain same = ap (λ t. front ++ t) (ap₂ (λ a b. a ++ 34 ∷ b) (sym plain) same ∙ sym (append_assoc (escape text) (34 ∷ []) told))
-
-pub counted : (front digits rest told : List ℕ) → rest ≡ told → front ++ (digits ++ rest) ≡ front ++ (digits ++ told)
-counted front digits rest told same = ap (λ t. front ++ (digits ++ t)) same
-
 -- one name more of a path
 pub path_added : (front : List ℕ) (names more : List (List ℕ)) (name old text new : List ℕ) → more ≡ names ++ name ∷ [] → text ≡ old ++ (front ++ escape (join_with_byte 46 (codes "root" ∷ names)))
     → new ≡ text ++ (codes "." ++ escape name) → new ≡ old ++ (front ++ escape (join_with_byte 46 (codes "root" ∷ more)))

@@ -2,4 +2,3 @@ pub mod Reading
 pub mod Sound
 pub mod Trees
 pub mod Writing
-pub mod Cutting

@@ -3,7 +3,7 @@
 ghost use Rattle.std.specs.Prelude.{◌≤◌, IfSome};
 ghost use Rattle.ynl_fields.specs.Reading.{HasClock};
 
-use crate::cutting::{cut_number, cut_text};
+use crate::cutting::cut_number;
 use ynl_resource::{Id, Label, MOST_CLOCK, Name, Path};
 
 /// What ends a text.
@@ -38,22 +38,15 @@ impl<'a> Cursor<'a> {
         self.rest.get(count).copied()
     }
 
-    /// The object in front, of texts and numbers, or of one object of these behind its other members.
-    pub fn object(&mut self) -> Option<&'a [u8]> {
-        let end = self.rest.iter().position(|b| *b == b'}')?;
-        let count = match self.rest.get(end + 1) {
-            Some(b'}') => end + 2,
-            _ => end + 1,
-        };
-        let (object, rest) = self.rest.split_at(count);
-        self.rest = rest;
-        Some(object)
-    }
-
+    /// What stands before the next quote. A text with an escape is in no line whose guess is the line.
     pub fn text(&mut self, front: &[u8]) -> Option<&'a str> {
-        let (text, rest) = cut_text(self.rest, front)?;
-        self.rest = rest;
-        Some(text)
+        if !self.skips(front) {
+            return None;
+        }
+        let end = self.rest.iter().position(|b| *b == b'"')?;
+        let text = &self.rest[..end];
+        self.rest = &self.rest[end + 1..];
+        str::from_utf8(text).ok()
     }
 
     pub fn number(&mut self, front: &[u8]) -> Option<u64> {

@@ -5,7 +5,6 @@
 pub use adding::{add, add_id, add_label, add_name, add_number, add_path, add_text};
 pub use blanks::is_blank;
 pub use cursor::Cursor;
-pub use cutting::{cut_number, cut_text, is_end, two_texts};
 pub use fields::Fields;
 pub use tables::find_word;
 pub use trees::{is_plain, tree_of};

@@ -6,5 +6,4 @@ pub mod ReplyTrip
 pub mod Escapes
 pub mod Compacted
 pub mod Added
-pub mod Cuts
 pub mod Clean

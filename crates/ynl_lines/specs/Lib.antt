@@ -1,5 +1,4 @@
 pub mod Reading
 pub mod ReadingReplies
-pub mod Compact
 pub mod Writing
 pub mod Sound

@@ -2,7 +2,7 @@
 //! for it. So contracts say that its numbers are in range, and no more.
 
 ghost use Rattle.std.specs.Prelude.{All, IfOk, IfSome, OnOk};
-ghost use Rattle.ynl_resource.specs.Amounts.{IsSmall};
+ghost use Rattle.ynl_resource.specs.Amounts.{IsSize, IsSmall};
 ghost use Rattle.ynl_lines.specs.Reading.{HasPriority, HasProposalNumbers};
 ghost use Rattle.ynl_lines.specs.ReadingReplies.{HasPendingNumbers, HasPlacedNumbers, IsReplyInRange};
 
@@ -13,8 +13,8 @@ use ynl_fields::Cursor;
 use ynl_model::{Items, Pending, Placed, Proposal, Reply, What};
 use ynl_resource::{Label, MOST_CLOCK, MOST_COUNT, Refusal, Resource, Size};
 
-/// The label of what was asked for; nothing of a master.
-fn wanted_label(line: &mut Cursor<'_>) -> Option<Option<Label>> {
+/// The label, where one is told: that of what was asked for, or of a submit. Nothing is told of a master.
+pub fn told_label(line: &mut Cursor<'_>) -> Option<Option<Label>> {
     let mut ahead = *line;
     if !ahead.skips(b",\"label\":") {
         return Some(None);
@@ -59,7 +59,7 @@ impl Cut for Placed {
     fn cut(line: &mut Cursor<'_>) -> Option<Placed> {
         let app = line.name(b"{\"app\":\"")?;
         let id = line.id(b",\"id\":\"")?;
-        let label = wanted_label(line)?;
+        let label = told_label(line)?;
         let memory = line.number(b",\"memory\":")?;
         let node = line.name(b",\"node\":\"")?;
         let what = wanted(line, label)?;
@@ -158,11 +158,12 @@ fn cut_list<T: Cut + Drop>(
     }
 }
 
-fn cut_proposal(line: &mut Cursor<'_>) -> Option<Proposal>
-    ensures { IfSome result (λ proposal. HasProposalNumbers proposal) }
+pub fn cut_proposal(line: &mut Cursor<'_>) -> Option<Proposal>
+    ensures size { IfSome result (λ proposal. IsSize proposal.size) }
+    ensures numbers { IfSome result (λ proposal. HasProposalNumbers proposal) }
 {
     let app = line.name(b"{\"app\":\"")?;
-    let label = wanted_label(line)?;
+    let label = told_label(line)?;
     let memory = line.number(b",\"memory\":")?;
     let node = line.name(b",\"node\":\"")?;
     let what = wanted(line, label)?;

@@ -11,7 +11,7 @@ pub use write::{put_line, write_audit, write_event, write_fault, write_line, wri
 pub use write_replies::{put_placed, put_reply};
 
 mod compact;
-mod compact_applications;
+mod compact_events;
 mod compact_replies;
 mod faults;
 mod keys;

@@ -1,27 +1,23 @@
 //! From lines to events.
 
-ghost use Rattle.std.specs.Prelude.{◌≡◌, IfOk, OnErr, OnOk, IsUtf8, Ok, Err, Some, None};
+ghost use Rattle.std.specs.Prelude.{◌≡◌, IfOk, OnErr, OnOk, IsTrue, IsUtf8, Ok, Err, Some, None};
 ghost use Rattle.serde_json.specs.View.{view};
 ghost use Rattle.ynl_fields.specs.Trees.{data_at};
 ghost use Rattle.ynl_lines.specs.Reading.{Gives, IsRanged};
-ghost use Rattle.ynl_lines.specs.Compact as told;
 ghost use Rattle.ynl_lines.specs.Reading as spec;
 
-use crate::compact::{Members, heartbeat_of, members_in};
+use crate::compact::heartbeat_of;
+use crate::compact_events::cut_event;
 use crate::faults::LineFault;
-use crate::read_applications::{
-    ask_at, ask_of, finish_at, finish_of, poll_at, poll_of, release_at, release_of, submit_at,
-    submit_of,
-};
-use crate::read_nodes::{
-    exited_at, exited_of, heartbeat_at, lost_at, register_at, register_of, relabel_at,
-};
-use crate::read_proposals::{commit_at, commit_of, propose_at, propose_of};
-use crate::read_queues::{maximum_at, start_at, stop_at, usage_at, usage_of};
+use crate::read_applications::{ask_at, finish_at, poll_at, release_at, submit_at};
+use crate::read_nodes::{exited_at, heartbeat_at, lost_at, register_at, relabel_at};
+use crate::read_proposals::{commit_at, propose_at};
+use crate::read_queues::{maximum_at, start_at, stop_at, usage_at};
+use crate::write_events::add_event;
 use json::Scratch;
 use std::alloc::{AllocError, Global};
 use std::marker::Model;
-use ynl_fields::{Fields, find_word, is_plain, parse, tree_of};
+use ynl_fields::{Cursor, Fields, find_word, is_plain, parse, tree_of};
 use ynl_model::Event;
 use ynl_resource::Name;
 
@@ -118,62 +114,36 @@ fn read_by_value(
     }
 }
 
-/// Reads the event of what a line is cut into.
-fn event_of(members: &Members<'_>, into: &mut Event) -> Result<(), LineFault>
-    ensures event { Gives (λ _. into.new) result (told.event_of members.now) }
-    ensures ranged { OnOk result (IsRanged into.new) }
+/// Reads the event of a line, if it is just the text of what it tells, as most are, and returns whether it is. No value of
+/// JSON is made of it: what it seems to tell is put into `into`, and the text of that is made in `text`. Where memory for
+/// that is refused, the line is one of text: other bytes are no compact line, whatever they seem to tell.
+fn read_compact(text: &mut Vec<u8>, line: &[u8], into: &mut Event) -> Result<bool, AllocError>
+    ensures event { IfOk result (λ read. IsTrue read → spec.event_of_line line.now ≡ Ok into.new) }
+    ensures text { OnErr result (IsUtf8 line.now) }
+    ensures ranged { IfOk result (λ read. IsTrue read → IsRanged into.new) }
 {
-    match members {
-        Members::Ask {
-            app,
-            count,
-            label,
-            memory,
-            priority,
-            tenant,
-            vcores,
-        } => ask_of(
-            app, *count, label, *memory, *priority, tenant, *vcores, into,
-        ),
-        Members::Submit {
-            app,
-            label,
-            memory,
-            queue,
-            user,
-            vcores,
-        } => submit_of(app, *label, *memory, queue, user, *vcores, into),
-        Members::Release { id, tenant } => release_of(id, tenant, into),
-        Members::Finish { app, tenant } => finish_of(app, tenant, into),
-        Members::Poll { app, label, tenant } => poll_of(app, label, tenant, into),
-        Members::Exited { id, node } => exited_of(id, node, into),
-        Members::Propose { node } => propose_of(node, into),
-        Members::Commit {
-            app,
-            memory,
-            node,
-            stamp,
-            tenant,
-            vcores,
-            wanted,
-        } => commit_of(app, *memory, node, *stamp, tenant, *vcores, *wanted, into),
-        Members::Register {
-            label,
-            memory,
-            node,
-            vcores,
-        } => register_of(label, *memory, node, *vcores, into),
-        Members::Usage { label, queue } => usage_of(label, queue, into),
+    let mut rest = Cursor::new(line);
+    if cut_event(&mut rest, into).is_none() || rest.ahead(0).is_some() {
+        return Ok(false);
     }
+    text.clear();
+    if let Err(error) = add_event(text, into) {
+        return match str::from_utf8(line) {
+            Ok(_) => Err(error),
+            Err(_) => Ok(false),
+        };
+    }
+    Ok(text.as_slice() == line)
 }
 
 /// How deep a line nests at most to be taken as a tree: a proposal stands in an event.
 const MOST_DEPTH: usize = 2;
 
 /// Reads the event that a line is, or returns its first fault.
-pub fn read_into(
+fn read_into(
     alloc: Global,
     scratch: &mut Scratch,
+    text: &mut Vec<u8>,
     line: &[u8],
     into: &mut Event,
 ) -> Result<Result<(), LineFault>, AllocError>
@@ -185,8 +155,8 @@ pub fn read_into(
         *into = Event::Heartbeat { node };
         return Ok(Ok(()));
     }
-    if let Some(members) = members_in(line) {
-        return Ok(event_of(&members, into));
+    if read_compact(text, line, into)? {
+        return Ok(Ok(()));
     }
     let Some(tree) = tree_of(alloc, scratch, line)? else {
         return Ok(Err(LineFault::Syntax));
@@ -213,6 +183,7 @@ pub fn any_event() -> Event {
 #[derive(Drop)]
 pub struct EventReader {
     scratch: Scratch,
+    text: Vec<u8>,
     event: Event,
 }
 
@@ -229,6 +200,7 @@ impl EventReader {
     pub fn new(alloc: Global) -> EventReader {
         EventReader {
             scratch: Scratch::new(alloc),
+            text: Vec::new(alloc),
             event: any_event(),
         }
     }
@@ -247,7 +219,13 @@ impl EventReader {
         ensures text { OnErr result (IsUtf8 line.now) }
         ensures ranged { IfOk result (λ read. OnOk read (IsRanged self.new)) }
     {
-        read_into(alloc, &mut self.scratch, line, &mut self.event)
+        read_into(
+            alloc,
+            &mut self.scratch,
+            &mut self.text,
+            line,
+            &mut self.event,
+        )
     }
 }
 

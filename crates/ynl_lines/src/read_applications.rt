@@ -5,7 +5,6 @@ ghost use Rattle.serde_json.specs.Find.{as_str};
 ghost use Rattle.ynl_fields.specs.Trees.{data_at};
 ghost use Rattle.ynl_lines.specs.declared.faults.LineFault.TheVariants as fault;
 ghost use Rattle.ynl_lines.specs.Reading.{or_fault, Gives, IsRanged};
-ghost use Rattle.ynl_lines.specs.Compact as told;
 ghost use Rattle.ynl_lines.specs.Reading as spec;
 
 use crate::faults::LineFault;
@@ -68,22 +67,6 @@ pub fn submit_at(event: &Fields<'_, '_>, into: &mut Event) -> Result<(), LineFau
     let queue = text_at(event, "queue")?;
     let user = text_at(event, "user")?;
     let vcores = number_at(event, "vcores")?;
-    submit_of(app, label, memory, queue, user, vcores, into)
-}
-
-/// A submit, from its members.
-pub fn submit_of(
-    app: &str,
-    label: Option<&str>,
-    memory: u64,
-    queue: &str,
-    user: &str,
-    vcores: u64,
-    into: &mut Event,
-) -> Result<(), LineFault>
-    ensures event { Gives (λ _. into.new) result (told.submit_of app.now (option_map (λ s. s.now) label.entry) memory queue.now user.now vcores) }
-    ensures ranged { OnOk result (IsRanged into.new) }
-{
     let app = name_at(app)?;
     let label = optional_label_at(label)?;
     let queue = path_at(queue)?;
@@ -113,23 +96,6 @@ pub fn ask_at(event: &Fields<'_, '_>, into: &mut Event) -> Result<(), LineFault>
     let priority = number_at(event, "priority")?;
     let tenant = text_at(event, "tenant")?;
     let vcores = number_at(event, "vcores")?;
-    ask_of(app, count, label, memory, priority, tenant, vcores, into)
-}
-
-/// An ask, from its members.
-pub fn ask_of(
-    app: &str,
-    count: u64,
-    label: &str,
-    memory: u64,
-    priority: u64,
-    tenant: &str,
-    vcores: u64,
-    into: &mut Event,
-) -> Result<(), LineFault>
-    ensures event { Gives (λ _. into.new) result (told.ask_of app.now count label.now memory priority tenant.now vcores) }
-    ensures ranged { OnOk result (IsRanged into.new) }
-{
     let app = name_at(app)?;
     let label = label_at(label)?;
     let tenant = name_at(tenant)?;
@@ -156,14 +122,6 @@ pub fn release_at(event: &Fields<'_, '_>, into: &mut Event) -> Result<(), LineFa
     keys_are(event, 3)?;
     let id = text_at(event, "id")?;
     let tenant = text_at(event, "tenant")?;
-    release_of(id, tenant, into)
-}
-
-/// A release, from its members.
-pub fn release_of(id: &str, tenant: &str, into: &mut Event) -> Result<(), LineFault>
-    ensures event { Gives (λ _. into.new) result (told.release_of id.now tenant.now) }
-    ensures ranged { OnOk result (IsRanged into.new) }
-{
     let id = id_at(id)?;
     let tenant = name_at(tenant)?;
     *into = Event::Release { tenant, id };
@@ -179,14 +137,6 @@ pub fn finish_at(event: &Fields<'_, '_>, into: &mut Event) -> Result<(), LineFau
     keys_are(event, 3)?;
     let app = text_at(event, "app")?;
     let tenant = text_at(event, "tenant")?;
-    finish_of(app, tenant, into)
-}
-
-/// The end of an application, from its members.
-pub fn finish_of(app: &str, tenant: &str, into: &mut Event) -> Result<(), LineFault>
-    ensures event { Gives (λ _. into.new) result (told.finish_of app.now tenant.now) }
-    ensures ranged { OnOk result (IsRanged into.new) }
-{
     let app = name_at(app)?;
     let tenant = name_at(tenant)?;
     *into = Event::Finish { tenant, app };
@@ -203,14 +153,6 @@ pub fn poll_at(event: &Fields<'_, '_>, into: &mut Event) -> Result<(), LineFault
     let app = text_at(event, "app")?;
     let label = text_at(event, "label")?;
     let tenant = text_at(event, "tenant")?;
-    poll_of(app, label, tenant, into)
-}
-
-/// A poll, from its members.
-pub fn poll_of(app: &str, label: &str, tenant: &str, into: &mut Event) -> Result<(), LineFault>
-    ensures event { Gives (λ _. into.new) result (told.poll_of app.now label.now tenant.now) }
-    ensures ranged { OnOk result (IsRanged into.new) }
-{
     let app = name_at(app)?;
     let label = label_at(label)?;
     let tenant = name_at(tenant)?;

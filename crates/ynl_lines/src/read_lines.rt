@@ -6,13 +6,13 @@ ghost use Rattle.ynl_lines.specs.Reading.{Gives, IsRanged};
 ghost use Rattle.ynl_lines.specs.ReadingReplies.{MayBeTold, IsRead};
 ghost use Rattle.ynl_lines.specs.ReadingReplies as spec;
 
+use crate::compact_events::cut_event;
 use crate::compact_replies::cut_reply;
 use crate::faults::{BadLine, LineFault};
 use crate::keys::{keys_are, number_at};
-use crate::read::{any_event, event_at, read_into};
+use crate::read::{any_event, event_at};
 use crate::read_replies::{reply_at, value_under};
 use crate::write::put_line;
-use json::Scratch;
 use std::alloc::{AllocError, Global};
 use std::marker::Model;
 use ynl_fields::{Cursor, Fields, parse};
@@ -107,24 +107,13 @@ fn may_lack_reply(event: &Event) -> bool
 }
 
 /// Reads what a line in the compact form is taken to say, and returns its place, if it has that form.
-fn read_compact(
-    alloc: Global,
-    scratch: &mut Scratch,
-    line: &[u8],
-    into: &mut Entry,
-) -> Result<Option<u64>, AllocError>
+fn read_compact(alloc: Global, line: &[u8], into: &mut Entry) -> Result<Option<u64>, AllocError>
     ensures { IfOk result (λ found. IfSome found (λ _. IsRead into.new)) }
 {
     let mut rest = Cursor::new(line);
-    if !rest.skips(b"{\"event\":") {
+    if !rest.skips(b"{\"event\":") || cut_event(&mut rest, &mut into.event).is_none() {
         return Ok(None);
     }
-    let Some(object) = rest.object() else {
-        return Ok(None);
-    };
-    let Ok(()) = read_into(alloc, scratch, object, &mut into.event)? else {
-        return Ok(None);
-    };
     let Some(place) = rest.number(b",\"place\":") else {
         return Ok(None);
     };
@@ -148,7 +137,6 @@ fn read_compact(
 /// read into one place, and lent from there. A contract sees the place and the entry of the line that was read last.
 #[derive(Drop)]
 pub struct LineReader {
-    scratch: Scratch,
     text: Vec<u8>,
     place: u64,
     entry: Entry,
@@ -167,7 +155,6 @@ impl LineReader {
     /// One that keeps no memory yet, and has read no line.
     pub fn new(alloc: Global) -> LineReader {
         LineReader {
-            scratch: Scratch::new(alloc),
             text: Vec::new(alloc),
             place: 0,
             entry: Entry {
@@ -219,7 +206,7 @@ impl LineReader {
         let Ok(_) = str::from_utf8(line) else {
             return self.read_any(alloc, line);
         };
-        if let Some(place) = read_compact(alloc, &mut self.scratch, line, &mut self.entry)? {
+        if let Some(place) = read_compact(alloc, line, &mut self.entry)? {
             put_line(place, &self.entry.event, &self.entry.reply, &mut self.text)?;
             if self.text.as_slice() == line {
                 self.place = place;

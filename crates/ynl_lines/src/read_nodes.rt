@@ -3,7 +3,6 @@
 ghost use Rattle.std.specs.Prelude.{◌≡◌, IfOk, OnOk, IsTrue};
 ghost use Rattle.ynl_fields.specs.Trees.{data_at};
 ghost use Rattle.ynl_lines.specs.Reading.{Gives, IsRanged};
-ghost use Rattle.ynl_lines.specs.Compact as told;
 ghost use Rattle.ynl_lines.specs.Reading as spec;
 
 use crate::faults::LineFault;
@@ -23,20 +22,6 @@ pub fn register_at(event: &Fields<'_, '_>, into: &mut Event) -> Result<(), LineF
     let memory = number_at(event, "memory")?;
     let node = text_at(event, "node")?;
     let vcores = number_at(event, "vcores")?;
-    register_of(label, memory, node, vcores, into)
-}
-
-/// The joining of a node, from its members.
-pub fn register_of(
-    label: &str,
-    memory: u64,
-    node: &str,
-    vcores: u64,
-    into: &mut Event,
-) -> Result<(), LineFault>
-    ensures event { Gives (λ _. into.new) result (told.register_of label.now memory node.now vcores) }
-    ensures ranged { OnOk result (IsRanged into.new) }
-{
     let label = label_at(label)?;
     let node = name_at(node)?;
     let size = size_at(memory, vcores)?;
@@ -100,14 +85,6 @@ pub fn exited_at(event: &Fields<'_, '_>, into: &mut Event) -> Result<(), LineFau
     keys_are(event, 3)?;
     let id = text_at(event, "id")?;
     let node = text_at(event, "node")?;
-    exited_of(id, node, into)
-}
-
-/// The exit of a container, from its members.
-pub fn exited_of(id: &str, node: &str, into: &mut Event) -> Result<(), LineFault>
-    ensures event { Gives (λ _. into.new) result (told.exited_of id.now node.now) }
-    ensures ranged { OnOk result (IsRanged into.new) }
-{
     let id = id_at(id)?;
     let node = name_at(node)?;
     *into = Event::Exited { node, id };

@@ -4,7 +4,6 @@ ghost use Rattle.std.specs.Prelude.{◌≡◌, option_map, IfOk, OnOk, IsTrue};
 ghost use Rattle.ynl_fields.specs.Trees.{data_at};
 ghost use Rattle.ynl_resource.specs.Amounts.{IsSize};
 ghost use Rattle.ynl_lines.specs.Reading.{Gives, HasPriority, HasProposalNumbers, IsRanged};
-ghost use Rattle.ynl_lines.specs.Compact as told;
 ghost use Rattle.ynl_lines.specs.Reading as spec;
 
 use crate::faults::LineFault;
@@ -21,16 +20,6 @@ pub fn propose_at(event: &Fields<'_, '_>, into: &mut Event) -> Result<(), LineFa
     ensures ranged { OnOk result (IsRanged into.new) }
 {
     let node = node_at(event)?;
-    *into = Event::Propose { node };
-    Ok(())
-}
-
-/// A propose, from its member.
-pub fn propose_of(node: &str, into: &mut Event) -> Result<(), LineFault>
-    ensures event { Gives (λ _. into.new) result (told.propose_of node.now) }
-    ensures ranged { OnOk result (IsRanged into.new) }
-{
-    let node = name_at(node)?;
     *into = Event::Propose { node };
     Ok(())
 }
@@ -110,22 +99,6 @@ pub fn proposal_at(proposal: &Fields<'_, '_>) -> Result<Proposal, LineFault>
     let stamp = number_at(proposal, "stamp")?;
     let tenant = text_at(proposal, "tenant")?;
     let vcores = number_at(proposal, "vcores")?;
-    proposal_of(app, memory, node, stamp, tenant, vcores, wanted)
-}
-
-/// A proposal, from its members.
-fn proposal_of(
-    app: &str,
-    memory: u64,
-    node: &str,
-    stamp: u64,
-    tenant: &str,
-    vcores: u64,
-    wanted: Option<(&str, u64)>,
-) -> Result<Proposal, LineFault>
-    ensures proposal { result ≡ told.proposal_of app.now memory node.now stamp tenant.now vcores (option_map (λ wanted. (wanted.0.now, wanted.1)) wanted.entry) }
-    ensures ranged { IfOk result (λ proposal. IsSize proposal.size × HasProposalNumbers proposal) }
-{
     let app = name_at(app)?;
     let wanted = wanted_label_at(wanted)?;
     let node = name_at(node)?;
@@ -158,23 +131,4 @@ pub fn commit_at(event: &Fields<'_, '_>, into: &mut Event) -> Result<(), LineFau
         }
         None => Err(LineFault::Field),
     }
-}
-
-/// A commit, from the members of its proposal.
-pub fn commit_of(
-    app: &str,
-    memory: u64,
-    node: &str,
-    stamp: u64,
-    tenant: &str,
-    vcores: u64,
-    wanted: Option<(&str, u64)>,
-    into: &mut Event,
-) -> Result<(), LineFault>
-    ensures event { Gives (λ _. into.new) result (told.commit_of app.now memory node.now stamp tenant.now vcores (option_map (λ wanted. (wanted.0.now, wanted.1)) wanted.entry)) }
-    ensures ranged { OnOk result (IsRanged into.new) }
-{
-    let proposal = proposal_of(app, memory, node, stamp, tenant, vcores, wanted)?;
-    *into = Event::Commit { proposal };
-    Ok(())
 }

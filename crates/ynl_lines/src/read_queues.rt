@@ -3,7 +3,6 @@
 ghost use Rattle.std.specs.Prelude.{◌≡◌, IfOk, OnOk, IsTrue};
 ghost use Rattle.ynl_fields.specs.Trees.{data_at};
 ghost use Rattle.ynl_lines.specs.Reading.{Gives, IsRanged};
-ghost use Rattle.ynl_lines.specs.Compact as told;
 ghost use Rattle.ynl_lines.specs.Reading as spec;
 
 use crate::faults::LineFault;
@@ -53,14 +52,6 @@ pub fn usage_at(event: &Fields<'_, '_>, into: &mut Event) -> Result<(), LineFaul
     keys_are(event, 3)?;
     let label = text_at(event, "label")?;
     let queue = text_at(event, "queue")?;
-    usage_of(label, queue, into)
-}
-
-/// The question for the use, from its members.
-pub fn usage_of(label: &str, queue: &str, into: &mut Event) -> Result<(), LineFault>
-    ensures event { Gives (λ _. into.new) result (told.usage_of label.now queue.now) }
-    ensures ranged { OnOk result (IsRanged into.new) }
-{
     let label = label_at(label)?;
     let queue = path_at(queue)?;
     *into = Event::Usage { queue, label };

@@ -1,6 +1,0 @@
-use Rattle.ynl_lines.proofs.Cuts.{two_cut, exited_read}
-use Rattle.ynl_lines.proofs.compact.exited_in.Goals as goal
-
-pub returns-in-Some : goal.returns-in-Some
-returns-in-Some c =
-    exited_read (two_cut c.in-Some.ensures.cut c.in-Some.ensures.plain c.in-Some.ensures.utf8)
