@@ -13,7 +13,7 @@ use crate::read_applications::{ask_at, finish_at, poll_at, release_at, submit_at
 use crate::read_nodes::{exited_at, heartbeat_at, lost_at, register_at, relabel_at};
 use crate::read_proposals::{commit_at, propose_at};
 use crate::read_queues::{maximum_at, start_at, stop_at, usage_at};
-use crate::write_events::add_event;
+use crate::write::put_event;
 use json::Scratch;
 use std::alloc::{AllocError, Global};
 use std::marker::Model;
@@ -126,8 +126,7 @@ fn read_compact(text: &mut Vec<u8>, line: &[u8], into: &mut Event) -> Result<boo
     if cut_event(&mut rest, into).is_none() || rest.ahead(0).is_some() {
         return Ok(false);
     }
-    text.clear();
-    if let Err(error) = add_event(text, into) {
+    if let Err(error) = put_event(into, text) {
         return match str::from_utf8(line) {
             Ok(_) => Err(error),
             Err(_) => Ok(false),

@@ -13,14 +13,24 @@ use std::alloc::{AllocError, Global};
 use ynl_fields::{add, add_number, add_text};
 use ynl_model::{Entry, Event, Reply};
 
-/// The text of an event, without the newline of its line; where the numbers that it names are in range,
-/// it reads as that event.
+/// Puts the text of an event in the place of what `text` holds, in memory that is kept from line to line; it is without
+/// the newline of its line. Where the numbers that it names are in range, it reads as that event. Where memory is refused
+/// `text` may hold anything.
+pub fn put_event(event: &Event, text: &mut Vec<u8>) -> Result<(), AllocError>
+    ensures text { OnOk result (text.new.items ≡ spec.event_text event.now) }
+    ensures reads { IsInRange event.now → OnOk result (event_of_line text.new.items ≡ Ok event.now) }
+{
+    text.clear();
+    add_event(text, event)
+}
+
+/// The same text, in memory of its own.
 pub fn write_event(alloc: Global, event: &Event) -> Result<Vec<u8>, AllocError>
     ensures text { IfOk result (λ text. text.items ≡ spec.event_text event.now) }
     ensures reads { IsInRange event.now → IfOk result (λ text. event_of_line text.items ≡ Ok event.now) }
 {
     let mut text = Vec::new(alloc);
-    add_event(&mut text, event)?;
+    put_event(event, &mut text)?;
     Ok(text)
 }
 
