@@ -1,6 +1,6 @@
 -- Events and entries as pieces of bytes.
-use Rattle.std.proofs.Common.{◌≡◌, ℕ, ◌<◌, List, [], ◌∷◌, ◌++◌, length, get_or, map, Option, Some, None, Result, Ok, Err, refl, sym, ap, subst, ◌∙◌, arith}
-use Rattle.std.proofs.lemmas.List.{append-nil, map_push, length-map, get_or-map}
+use Rattle.std.proofs.Common.{◌≡◌, ℕ, ◌<◌, List, [], ◌∷◌, ◌++◌, length, get_or, Option, Some, None, Result, Ok, Err, sym, ap, subst, ◌∙◌}
+use Rattle.std.proofs.lemmas.List.{append-nil, map_push}
 use Rattle.std.proofs.lemmas.List.Elements.{All-push, All-get_or}
 use Rattle.std.specs.Prelude.{All, OnOk, OnErr}
 use Rattle.std.specs.Option.{option_map_or}
@@ -22,7 +22,9 @@ pub event_in_read : (piece : List ℕ) (e : Event) (rest : List ℕ) → event_a
 event_in_read piece e rest is = ap (λ o. option_map_or (λ x. x.0) o (Heartbeat [])) is
 
 pub is_event : (e : Event) → FitsEvent e → IsEvent (event_bytes e)
-is_event e fits = read e fits ∙ ap (λ (x : Event). Some (x, [])) (sym (event_in_read (event_bytes e) e [] (read e fits)))
+is_event e fits =
+    let is : event_in (event_bytes e) ≡ e = event_in_read (event_bytes e) e [] (read e fits) in
+    record { fits = subst FitsEvent (sym is) fits; spelled = ap event_bytes (sym is) }
 
 pub events_in_push : (pieces : List (List ℕ)) (e : Event) → FitsEvent e → events_in (pieces ++ event_bytes e ∷ []) ≡ events_in pieces ++ e ∷ []
 events_in_push pieces e fits =
@@ -34,8 +36,13 @@ piece_is_event pieces i lt all = All-get_or IsEvent pieces i [] lt all
 some_is_none : (x : Event × List ℕ) → Some x ≡ None → ⊥
 some_is_none x e = absurd cc
 
-pub event_not_none : (piece : List ℕ) → IsEvent piece → event_at piece ≡ None → ⊥
-event_not_none piece is none = some_is_none (event_in piece, []) (sym is ∙ none)
+-- the bytes of an event are not read as none, and as no other
+pub event_not_none : (piece : List ℕ) (e : Event) → piece ≡ event_bytes e → FitsEvent e → event_at piece ≡ None → ⊥
+event_not_none piece e is fits none = some_is_none (e, []) (sym (read e fits) ∙ ap event_at (sym is) ∙ none)
+
+pub read_is : (piece : List ℕ) (e found : Event) (rest : List ℕ) → piece ≡ event_bytes e → FitsEvent e → event_at piece ≡ Some (found, rest) → found ≡ e
+read_is piece e found rest is fits read_found =
+    sym (event_in_read piece found rest read_found) ∙ event_in_read piece e [] (ap event_at is ∙ read e fits)
 
 pub pieces_pushed : {X E : Type 0} (Is : List ℕ → Type 0) (r : Result X E) (old new : List (List ℕ)) (piece : List ℕ) → Is piece → OnOk r (new ≡ old ++ piece ∷ []) → OnErr r (new ≡ old) → All Is old → All Is new
 pieces_pushed Is (Ok x) old new piece is ok err all = subst (All Is) (sym ok) (All-push Is old piece all is)

@@ -1,10 +1,11 @@
 -- Lists of events, and of events with replies, as pieces of bytes.
-use Rattle.std.specs.Prelude.{◌≡◌, ℕ, List, [], ◌∷◌, ◌++◌, map, All, Option, Some, None}
+use Rattle.std.specs.Prelude.{◌≡◌, ℕ, List, [], ◌++◌, map, All, Bool, true, false, Option, Some, None}
 use Rattle.std.specs.Option.{option_map_or}
 use Rattle.ynl_model.specs.declared.events.Event.{Event}
-use Rattle.ynl_model.specs.declared.events.Event.TheVariants.{Heartbeat}
+use Rattle.ynl_model.specs.declared.events.Event.TheVariants.{Register, Lost, Relabel, Heartbeat}
 use Rattle.ynl_model.specs.declared.entries.Entry.{Entry}
 use Rattle.ynl_model.specs.declared.replies.Reply.{Reply}
+use Rattle.ynl_packed.specs.Fits.{FitsEvent}
 use Rattle.ynl_packed.specs.Spelling.{event_bytes, reply_bytes}
 use Rattle.ynl_packed.specs.Reading.{◌>>=◌, event_at, reply_at}
 
@@ -12,15 +13,23 @@ use Rattle.ynl_packed.specs.Reading.{◌>>=◌, event_at, reply_at}
 abbrev pub event_in : List ℕ → Event
 event_in piece = option_map_or (λ x. x.0) (event_at piece) (Heartbeat [])
 
--- a piece is an event, and nothing behind it
-abbrev pub IsEvent : List ℕ → Type 0
-IsEvent piece = event_at piece ≡ Some (event_in piece, [])
+-- a piece is the bytes of an event, and nothing else
+pub record IsEvent (piece : List ℕ) : Type 0 where
+  pub fits : FitsEvent (event_in piece)
+  pub spelled : piece ≡ event_bytes (event_in piece)
 
 abbrev pub events_in : List (List ℕ) → List Event
 events_in pieces = map event_in pieces
 
 abbrev pub AreEvents : List (List ℕ) → Type 0
 AreEvents pieces = All IsEvent pieces
+
+-- whether an event can change which nodes there are, and where: one joins, is lost, or goes to another partition
+abbrev pub moves_nodes : Event → Bool
+moves_nodes (Register node label size) = true
+moves_nodes (Lost node) = true
+moves_nodes (Relabel node label) = true
+moves_nodes _ = false
 
 -- an event with its reply
 abbrev pub answered : Event → Reply → Entry

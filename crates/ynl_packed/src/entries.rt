@@ -5,8 +5,9 @@ ghost use Rattle.ynl_packed.specs.Lists.{answered, entry_at};
 ghost use Rattle.ynl_packed.specs.Reading.{Gives};
 
 use crate::cursor::Cursor;
-use crate::event_reading::event_at;
+use crate::event_reading::{any_event, event_at};
 use crate::event_writing::put_event;
+use crate::events::Events;
 use crate::pieces::Pieces;
 use crate::replies::{put_reply, reply_at};
 use std::alloc::{AllocError, Global};
@@ -76,16 +77,39 @@ impl Entries {
         self.pieces.push(&self.entry)
     }
 
+    /// Puts the event of this number of a list with its reply behind all others: its bytes are copied as they stand. `Err` only if
+    /// memory is refused; nothing has changed then.
+    pub fn push_kept(&mut self, events: &Events, i: usize, reply: &Reply) -> Result<(), AllocError>
+        requires { i < length events.now }
+        ensures ok { (d : _) → OnOk result (self.new ≡ self.old ++ answered (slice_index_or events.now i d) reply.now ∷ []) }
+        ensures err { OnErr result (self.new ≡ self.old) }
+    {
+        self.entry.clear();
+        self.entry.extend_from_slice(events.bytes(i))?;
+        put_reply(&mut self.entry, reply)?;
+        self.pieces.push(&self.entry)
+    }
+
+    /// Reads the entry of this number, counted from 0, into a place. What a reply lists takes memory.
+    pub fn read(&self, i: usize, into: &mut Entry) -> Result<(), AllocError>
+        requires { i < length self.now }
+        ensures { (d : _) → OnOk result (into.new ≡ slice_index_or self.now i d) }
+    {
+        let mut c = Cursor::new(self.pieces.get(i));
+        match entry_at(self.alloc, &mut c, into)? {
+            Some(()) => Ok(()),
+            None => unreachable!(),
+        }
+    }
+
     /// The entry of this number, counted from 0. What a reply lists takes memory.
     pub fn get(&self, i: usize) -> Result<Entry, AllocError>
         requires { i < length self.now }
         ensures { (d : _) → IfOk result (λ entry. entry ≡ slice_index_or self.now i d) }
     {
-        let mut c = Cursor::new(self.pieces.get(i));
-        match entry_at(self.alloc, &mut c)? {
-            Some(entry) => Ok(entry),
-            None => unreachable!(),
-        }
+        let mut entry = any_entry();
+        self.read(i, &mut entry)?;
+        Ok(entry)
     }
 
     /// The entries once more, each with room for the longest names.
@@ -110,18 +134,26 @@ impl Entries {
     }
 }
 
+/// Any entry: what stands in a place before one is read into it.
+pub fn any_entry() -> Entry {
+    Entry {
+        event: any_event(),
+        reply: None,
+    }
+}
+
 #[tactic(auto, unfolding(crate::specs::Lists::entry_at))]
-fn entry_at(alloc: Global, c: &mut Cursor) -> Result<Option<Entry>, AllocError>
-    ensures { IfOk result (λ found. Gives (λ x. (x, c.new.rest.now)) found (entry_at c.old.rest.now)) }
+fn entry_at(alloc: Global, c: &mut Cursor, into: &mut Entry) -> Result<Option<()>, AllocError>
+    ensures { IfOk result (λ found. Gives (λ _. (into.new, c.new.rest.now)) found (entry_at c.old.rest.now)) }
 {
-    let Some(event) = event_at(c) else {
+    if event_at(c, &mut into.event).is_none() {
         return Ok(None);
-    };
+    }
     match reply_at(alloc, c)? {
-        Some(reply) => Ok(Some(Entry {
-            event,
-            reply: Some(reply),
-        })),
+        Some(reply) => {
+            into.reply = Some(reply);
+            Ok(Some(()))
+        }
         None => Ok(None),
     }
 }

@@ -1,6 +1,9 @@
 //! Lists of events.
 
 ghost use Rattle.std.specs.Prelude.{◌≡◌, ◌+◌, ◌^◌, ◌<◌, ◌≤◌, ◌++◌, ◌∷◌, [], length, take, slice_index_or, IfOk, OnOk, OnErr};
+ghost use Rattle.ynl_packed.specs.Fits.{FitsEvent};
+ghost use Rattle.ynl_packed.specs.Lists.{moves_nodes};
+ghost use Rattle.ynl_packed.specs.Spelling.{event_bytes};
 
 use crate::cursor::Cursor;
 use crate::event_reading::event_at;
@@ -83,16 +86,33 @@ impl Events {
         self.pieces.push(&self.event)
     }
 
-    /// The event of this number, counted from 0.
-    pub fn get(&self, i: usize) -> Event
+    /// The bytes of the event of this number.
+    pub(crate) fn bytes(&self, i: usize) -> &[u8]
         requires { i < length self.now }
-        ensures { (d : _) → result ≡ slice_index_or self.now i d }
+        ensures bytes { (d : _) → result.now ≡ event_bytes (slice_index_or self.now i d) }
+        ensures fits { (d : _) → FitsEvent (slice_index_or self.now i d) }
     {
-        let mut c = Cursor::new(self.pieces.get(i));
-        match event_at(&mut c) {
-            Some(event) => event,
+        self.pieces.get(i)
+    }
+
+    /// Reads the event of this number, counted from 0, into a place.
+    pub fn read(&self, i: usize, into: &mut Event)
+        requires { i < length self.now }
+        ensures { (d : _) → into.new ≡ slice_index_or self.now i d }
+    {
+        let mut c = Cursor::new(self.bytes(i));
+        match event_at(&mut c, into) {
+            Some(()) => {}
             None => unreachable!(),
         }
+    }
+
+    /// Whether the event of this number can change which nodes there are, and where. Its first byte tells.
+    pub fn moves_nodes(&self, i: usize) -> bool
+        requires { i < length self.now }
+        ensures { (d : _) → result ≡ moves_nodes (slice_index_or self.now i d) }
+    {
+        matches!(self.bytes(i), [0..=2, ..])
     }
 
     /// Keeps so many events of the front.

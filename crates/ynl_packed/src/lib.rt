@@ -4,7 +4,8 @@
 //! What is kept so is private to a process: the bytes are no format to hand on.
 #![tactic(auto)]
 
-pub use entries::Entries;
+pub use entries::{Entries, any_entry};
+pub use event_reading::any_event;
 pub use events::Events;
 
 mod cursor;
