@@ -113,16 +113,16 @@ impl Book {
 
     /// Takes an event, and answers its place, counted from 0, and the cluster's reply. Where memory is
     /// refused nothing has changed: the event is kept before it is applied, and is given up where it is not.
-    pub fn enter(&mut self, event: Event) -> Result<(u64, Reply), NoMemory>
+    pub fn enter(&mut self, event: &Event) -> Result<(u64, Reply), NoMemory>
         ensures place { IfOk result (λ told. told.0 ≡ length self.old.entries) }
-        ensures reply { IfOk result (λ told. told.1 ≡ (step self.old.config (after self.old.config self.old.begun (events_in self.old.entries)) event).reply) }
-        ensures entry { IfOk result (λ told. self.new ≡ record self.old { entries = self.old.entries ++ entry event (Some told.1) ∷ [] }) }
+        ensures reply { IfOk result (λ told. told.1 ≡ (step self.old.config (after self.old.config self.old.begun (events_in self.old.entries)) event.now).reply) }
+        ensures entry { IfOk result (λ told. self.new ≡ record self.old { entries = self.old.entries ++ entry event.now (Some told.1) ∷ [] }) }
         ensures closed { IfOk result (λ _. IsHistoryFrom self.old.config self.old.begun self.old.entries → IsHistoryFrom self.new.config self.new.begun self.new.entries) }
         ensures err { OnErr result (self.new ≡ self.old) }
     {
         let place = self.events.len();
-        keep(&mut self.events, &mut self.planned, &event)?;
-        match self.core.apply(event) {
+        keep(&mut self.events, &mut self.planned, event)?;
+        match self.core.answer(event) {
             Ok(reply) => {
                 self.planned.push_reserved(false);
                 Ok((place as u64, reply))

@@ -7,7 +7,7 @@ ghost use Rattle.ynl_journal.specs.Journal.{IsHistoryFrom, entry, events_in, rep
 use std::alloc::Global;
 use ynl_core::{Core, NoMemory};
 use ynl_model::{Entry, Event, Reply};
-use ynl_packed::{Entries, Events};
+use ynl_packed::{Entries, Events, any_event};
 
 /// Applies the entries' events to the cluster. Their replies are not looked at. `Err` only if memory is
 /// refused: the cluster is then the one that the events before the refusal lead to.
@@ -38,10 +38,11 @@ pub fn replay_history(alloc: Global, core: &mut Core, events: &Events) -> Result
     ensures core { IfOk result (λ history. core.new ≡ replayed_from core.old.config core.old.state history) }
 {
     let mut history = Entries::new(alloc);
+    let mut event = any_event();
     for i in 0..events.len() {
-        let event = events.get(i);
+        events.read(i, &mut event);
         let reply = core.answer(&event)?;
-        history.push(&event, &reply)?;
+        history.push_kept(events, i, &reply)?;
     }
     Ok(history)
 }
@@ -67,8 +68,9 @@ pub(crate) fn entries_of(
     ensures { IfOk result (λ entries. entries.items ≡ entries_from core.old.config core.old.state events.now planned.now) }
 {
     let mut entries = Vec::new(alloc);
+    let mut event = any_event();
     for (i, planned) in planned.iter().enumerate() {
-        let event = events.get(i);
+        events.read(i, &mut event);
         let reply = core.answer(&event)?;
         entries.push(entry_with(&event, written(*planned, reply)))?;
     }

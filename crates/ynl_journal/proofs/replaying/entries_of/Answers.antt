@@ -13,13 +13,13 @@ loop-i-preserved c =
     let i = c.loop-i.i in
     let all = c.args.events.now in
     let ps = c.args.planned.now in
-    let event = c.get-event.result in
+    let event = c.read.new.into in
     let p = get_or ps i false in
     let r = c.in_ok-reply.reply in
     let was = c.loop-i.invariant in
     let s = c.args.core.now.state in
     let inside : i < length ps = c.loop-i-test.true in
-    let longer : take (i + 1) all ≡ take i all ++ event ∷ [] = take_more all i event (omega (arith, inside, c.requires)) ∙ ap (λ (x : Event). take i all ++ x ∷ []) (sym (c.get-event.ensures event)) in
+    let longer : take (i + 1) all ≡ take i all ++ event ∷ [] = take_more all i event (omega (arith, inside, c.requires)) ∙ ap (λ (x : Event). take i all ++ x ∷ []) (sym (c.read.ensures event)) in
     let more : take (i + 1) ps ≡ take i ps ++ p ∷ [] = take_more ps i false inside in
     let counted : length (take i ps) ≡ length (take i all) =
     length-take-le i ps (omega (arith, inside)) ∙ sym (length-take-le i all (omega (arith, inside, c.requires))) in
