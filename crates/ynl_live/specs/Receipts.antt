@@ -2,6 +2,8 @@
 use Rattle.std.specs.Prelude.{◌≡◌, ℕ, ◌<◌, List, ◌==◌, length, count_by, sum_by, map, All, AllPairs, Some, slice_get}
 use Rattle.std.specs.List.{flat_map}
 use Rattle.ynl_model.specs.declared.entries.Entry.{Entry}
+use Rattle.ynl_model.specs.declared.events.Event.{Event}
+use Rattle.ynl_model.specs.declared.replies.Reply.{Reply}
 use Rattle.ynl_journal.specs.Journal.{entry}
 use Rattle.ynl_live.specs.declared.receipts.Receipt.{Receipt}
 use Rattle.ynl_live.specs.Seats.{Standing}
@@ -17,6 +19,10 @@ times_at place receipts = count_by (λ receipt. receipt.place == place) receipts
 -- each place below n stands in exactly one receipt
 abbrev pub EachOnce : ℕ → List Receipt → Type 0
 EachOnce n receipts = (place : ℕ) → place < n → times_at place receipts ≡ 1
+
+-- the receipt of these parts
+abbrev pub receipt : ℕ → Event → Reply → Receipt
+receipt place event reply = record { place = place; event = event; reply = reply }
 
 -- the entry that a receipt tells of
 abbrev pub entry_of : Receipt → Entry

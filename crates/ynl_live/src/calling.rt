@@ -19,7 +19,7 @@ use std::sync::{Arc, Mutex, Wait};
 use thiserror::Error;
 use ynl_core::{Core, NoMemory, Sighted};
 use ynl_journal::{Book, Start};
-use ynl_model::Event;
+use ynl_model::{Event, Reply};
 use ynl_queues::Config;
 use ynl_resource::Name;
 
@@ -112,7 +112,27 @@ impl Live {
         ensures fault { IfErr result (IsFaultAt seat.old.front) }
         ensures err { OnErr result (seat.new ≡ seat.old) }
     {
-        enter(&mut self.book.lock(rt), seat, &event)
+        let (place, reply) = self.reply(rt, seat, &event)?;
+        Ok(Receipt {
+            place,
+            event,
+            reply,
+        })
+    }
+
+    /// The same as `call`, of an event that is lent: what a receipt would tell besides it.
+    pub fn reply<R: Wait>(
+        &self,
+        rt: &R,
+        seat: &mut Seat,
+        event: &Event,
+    ) -> Result<(u64, Reply), CallFault>
+        ensures later { IfOk result (λ told. seat.old.front ≤ told.0) }
+        ensures seat { IfOk result (λ told. seat.new ≡ passed seat.old told.0) }
+        ensures fault { IfErr result (IsFaultAt seat.old.front) }
+        ensures err { OnErr result (seat.new ≡ seat.old) }
+    {
+        enter(&mut self.book.lock(rt), seat, event)
     }
 
     /// Waits for its turn, has a propose on the node entered, and gives its place and a copy of what the choice there reads, or
@@ -149,26 +169,21 @@ fn next_place(book: &Book, seat: &Seat) -> Result<u64, CallFault>
 }
 
 /// What a call does while it has the lock.
-fn enter(book: &mut Book, seat: &mut Seat, event: &Event) -> Result<Receipt, CallFault>
-    ensures place { IfOk result (λ receipt. receipt.place ≡ length book.old.entries) }
-    ensures event { IfOk result (λ receipt. receipt.event ≡ event.now) }
-    ensures reply { IfOk result (λ receipt. receipt.reply ≡ (step book.old.config (after book.old.config book.old.begun (events_in book.old.entries)) event.now).reply) }
-    ensures entry { IfOk result (λ receipt. book.new ≡ record book.old { entries = book.old.entries ++ entry event.now (Some receipt.reply) ∷ [] }) }
-    ensures later { IfOk result (λ receipt. seat.old.front ≤ receipt.place) }
-    ensures seat { IfOk result (λ receipt. seat.new ≡ passed seat.old receipt.place) }
+fn enter(book: &mut Book, seat: &mut Seat, event: &Event) -> Result<(u64, Reply), CallFault>
+    ensures place { IfOk result (λ told. told.0 ≡ length book.old.entries) }
+    ensures reply { IfOk result (λ told. told.1 ≡ (step book.old.config (after book.old.config book.old.begun (events_in book.old.entries)) event.now).reply) }
+    ensures entry { IfOk result (λ told. book.new ≡ record book.old { entries = book.old.entries ++ entry event.now (Some told.1) ∷ [] }) }
+    ensures later { IfOk result (λ told. seat.old.front ≤ told.0) }
+    ensures seat { IfOk result (λ told. seat.new ≡ passed seat.old told.0) }
     ensures fault { IfErr result (IsFaultBehind (length book.old.entries) seat.old.front) }
     ensures err { OnErr result ((seat.new ≡ seat.old) × (book.new ≡ book.old)) }
 {
     let place = next_place(book, seat)?;
-    let Ok((_, reply)) = book.enter(*event) else {
+    let Ok((_, reply)) = book.enter(event) else {
         return Err(CallFault::NoMemory);
     };
     seat.pass(place);
-    Ok(Receipt {
-        place,
-        event: *event,
-        reply,
-    })
+    Ok((place, reply))
 }
 
 /// What a sight does while it has the lock.

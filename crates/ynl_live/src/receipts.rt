@@ -1,7 +1,7 @@
 //! Receipts.
 
 ghost use Rattle.std.specs.Prelude.{◌≡◌, ◌<◌, ◌++◌, ◌∷◌, ◌↔◌, [], length, slice_index_or, IfOk, OnOk, OnErr, IsTrue};
-ghost use Rattle.ynl_live.specs.Receipts.{entry_of};
+ghost use Rattle.ynl_live.specs.Receipts.{entry_of, receipt};
 
 use std::alloc::{AllocError, Global};
 use std::marker::Model;
@@ -79,9 +79,17 @@ impl Receipts {
         ensures ok { OnOk result (self.new ≡ self.old ++ receipt.now ∷ []) }
         ensures err { OnErr result (self.new ≡ self.old) }
     {
+        self.add(receipt.place, &receipt.event, &receipt.reply)
+    }
+
+    /// The same as `push`, of a receipt whose parts are lent: an event is large, and is not moved into one first.
+    pub fn add(&mut self, place: u64, event: &Event, reply: &Reply) -> Result<(), AllocError>
+        ensures ok { OnOk result (self.new ≡ self.old ++ receipt place event.now reply.now ∷ []) }
+        ensures err { OnErr result (self.new ≡ self.old) }
+    {
         self.places.reserve(1)?;
-        self.entries.push(&receipt.event, &receipt.reply)?;
-        self.places.push_reserved(receipt.place);
+        self.entries.push(event, reply)?;
+        self.places.push_reserved(place);
         Ok(())
     }
 
