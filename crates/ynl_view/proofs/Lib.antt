@@ -1,3 +1,4 @@
 pub mod Seen
 pub mod Unstamped
 pub mod There
+pub mod Tracked
