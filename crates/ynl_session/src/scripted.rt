@@ -7,7 +7,7 @@ use crate::sessions::SessionFault;
 use std::alloc::Global;
 use std::sync::Wait;
 use ynl_live::{Live, Receipts, Seat};
-use ynl_packed::Events;
+use ynl_packed::{Events, any_event};
 
 /// Calls the events one after another. Each has to get its own place.
 pub(crate) fn call_events<T: Wait>(
@@ -20,12 +20,14 @@ pub(crate) fn call_events<T: Wait>(
     ensures { IfOk result (λ receipts. AreCalls 0 events.now receipts) }
 {
     let mut receipts = Receipts::new(alloc);
+    let mut event = any_event();
     for i in 0..events.len() {
-        let receipt = live.call(rt, seat, events.get(i))?;
-        if receipt.place != i as u64 {
+        events.read(i, &mut event);
+        let (place, reply) = live.reply(rt, seat, &event)?;
+        if place != i as u64 {
             return Err(SessionFault::Unclosed);
         }
-        receipts.push(&receipt)?;
+        receipts.add(place, &event, &reply)?;
     }
     Ok(receipts)
 }
