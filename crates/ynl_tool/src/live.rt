@@ -17,7 +17,7 @@ use ynl_commands::{Script, Summary, ToolFault, read_script, report};
 use ynl_journal::Start;
 use ynl_lines::{InputFault, put_line};
 use ynl_model::Entry;
-use ynl_packed::Entries;
+use ynl_packed::{Entries, any_entry};
 use ynl_session::{Gate, Go, SessionFault, Sight, run_session};
 
 /// Lets each worker go on.
@@ -77,10 +77,11 @@ fn hold_line(
     }
 }
 
-/// Adds the line of the entry of this number to what is held back.
+/// Adds the line of the entry of this number, which is read into a place, to what is held back.
 fn hold_entry(
     entries: &Entries,
     i: usize,
+    entry: &mut Entry,
     text: &mut Vec<u8>,
     held: &mut Vec<u8>,
 ) -> Result<(), AllocError>
@@ -88,8 +89,8 @@ fn hold_entry(
     ensures ok { (d : Entry) → OnOk result (held.new.items ≡ held.old.items ++ journal_line i (slice_index_or entries.now i d)) }
     ensures err { OnErr result (held.new.items ≡ held.old.items) }
 {
-    let entry = entries.get(i)?;
-    hold_line(i as u64, &entry, text, held)
+    entries.read(i, entry)?;
+    hold_line(i as u64, entry, text, held)
 }
 
 /// Writes the lines of the entries.
@@ -98,8 +99,9 @@ fn tell_entries<W: Write>(alloc: Global, entries: &Entries, writer: &mut W) -> R
 {
     let mut text = Vec::new(alloc);
     let mut held = Vec::new(alloc);
+    let mut entry = any_entry();
     for i in 0..entries.len() {
-        match hold_entry(entries, i, &mut text, &mut held) {
+        match hold_entry(entries, i, &mut entry, &mut text, &mut held) {
             Ok(()) => write_on(writer, &mut held)?,
             Err(AllocError) => {
                 write_held(writer, &mut held)?;
