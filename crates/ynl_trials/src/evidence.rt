@@ -65,7 +65,7 @@ fn fill<R: Abort>(rt: &R, book: &mut Book) -> Result<(), NoMemory> {
         heartbeat(rt, "d1"),
         heartbeat(rt, "g1"),
     ] {
-        book.enter(event)?;
+        book.enter(&event)?;
     }
     Ok(())
 }

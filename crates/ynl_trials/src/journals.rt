@@ -28,11 +28,11 @@ fn entered<R: Print + Abort>(
     book: &mut Book,
     event: &Event,
 ) -> Result<(u64, Reply), NoMemory> {
-    match book.enter(*event) {
+    match book.enter(event) {
         Ok(entered) => Ok(entered),
         Err(NoMemory) => {
             tell_refused(rt);
-            book.enter(*event)
+            book.enter(event)
         }
     }
 }
@@ -209,7 +209,7 @@ fn resumed<R: Print + Abort>(rt: &R, alloc: Global) -> Result<Book, NoMemory> {
 
 /// Whether the node of the first event cannot join: it is there already.
 fn is_there<R: Abort>(rt: &R, book: &mut Book) -> Result<bool, NoMemory> {
-    let (place, reply) = book.enter(event(rt, 0))?;
+    let (place, reply) = book.enter(&event(rt, 0))?;
     Ok(place == 0 && matches!(&reply, Reply::Refused(Refusal::NodeExists)))
 }
 
