@@ -1,5 +1,5 @@
 -- Events and entries as pieces of bytes.
-use Rattle.std.proofs.Common.{◌≡◌, ℕ, ◌<◌, List, [], ◌∷◌, ◌++◌, length, get_or, Option, Some, None, Result, Ok, Err, sym, ap, subst, ◌∙◌}
+use Rattle.std.proofs.Common.{◌≡◌, ℕ, ◌<◌, List, [], ◌∷◌, ◌++◌, length, get_or, Option, Some, None, Result, Ok, Err, refl, sym, ap, subst, ◌∙◌}
 use Rattle.std.proofs.lemmas.List.{append-nil, map_push}
 use Rattle.std.proofs.lemmas.List.Elements.{All-push, All-get_or}
 use Rattle.std.specs.Prelude.{All, OnOk, OnErr}
@@ -10,7 +10,7 @@ use Rattle.ynl_model.specs.declared.replies.Reply.{Reply}
 use Rattle.ynl_model.specs.declared.entries.Entry.{Entry}
 use Rattle.ynl_packed.specs.Fits.{FitsEvent, FitsReply}
 use Rattle.ynl_packed.specs.Spelling.{event_bytes, reply_bytes}
-use Rattle.ynl_packed.specs.Reading.{◌>>=◌, Gives, event_at, reply_at}
+use Rattle.ynl_packed.specs.Reading.{◌>>=◌, Gives, mapped, event_at, reply_at}
 use Rattle.ynl_packed.specs.Lists.{event_in, IsEvent, events_in, AreEvents, answered, entry_bytes, entry_at, entry_in, IsEntry, entries_in, AreEntries}
 use Rattle.ynl_packed.proofs.EventsAgain.{event_again}
 use Rattle.ynl_packed.proofs.RepliesAgain.{reply_again}
@@ -55,6 +55,14 @@ unfolding entry_at
 entry_again e r event reply =
     rw (event_again e (reply_bytes r) event)
     (ap (λ t. t >>= λ x. Some (answered e x.0, x.1)) (ap reply_at (sym (append-nil (reply_bytes r))) ∙ reply_again r [] reply))
+
+-- an event and its reply, where that is read into a place
+pub answered_read : {X : Type 0} (e : Event) (found : Option X) (read : Option (Reply × List ℕ)) (reply : Option Reply) (rest : List ℕ) →
+    Gives {Y = Option Reply × List ℕ} (λ _. (reply, rest)) found (mapped Some read) → Gives {Y = Entry × List ℕ} (λ _. (record { event = e; reply = reply }, rest)) found (read >>= λ x. Some (answered e x.0, x.1))
+answered_read e None None reply rest gives = refl
+answered_read e None (Some x) reply rest gives = absurd cc
+answered_read e (Some y) None reply rest gives = absurd cc
+answered_read e (Some y) (Some x) reply rest gives = ap (λ r. r >>= λ z. Some (record { event = e; reply = z.0 }, z.1)) gives
 
 pub entry_in_read : (piece : List ℕ) (e : Entry) (rest : List ℕ) → entry_at piece ≡ Some (e, rest) → entry_in piece ≡ e
 entry_in_read piece e rest is = ap (λ o. option_map_or (λ x. x.0) o (record { event = Heartbeat []; reply = None })) is

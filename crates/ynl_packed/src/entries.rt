@@ -142,18 +142,12 @@ pub fn any_entry() -> Entry {
     }
 }
 
-#[tactic(auto, unfolding(crate::specs::Lists::entry_at))]
+#[tactic(auto, using(crate::proofs::Listed::answered_read), unfolding(crate::specs::Lists::entry_at))]
 fn entry_at(alloc: Global, c: &mut Cursor, into: &mut Entry) -> Result<Option<()>, AllocError>
     ensures { IfOk result (λ found. Gives (λ _. (into.new, c.new.rest.now)) found (entry_at c.old.rest.now)) }
 {
     if event_at(c, &mut into.event).is_none() {
         return Ok(None);
     }
-    match reply_at(alloc, c)? {
-        Some(reply) => {
-            into.reply = Some(reply);
-            Ok(Some(()))
-        }
-        None => Ok(None),
-    }
+    reply_at(alloc, c, &mut into.reply)
 }

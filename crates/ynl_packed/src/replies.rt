@@ -1,10 +1,10 @@
 //! Replies as bytes.
 
-ghost use Rattle.std.specs.Prelude.{◌≡◌, ◌++◌, OnOk, IfOk, IfSome};
+ghost use Rattle.std.specs.Prelude.{◌≡◌, ◌++◌, OnOk, IfOk, IfSome, Some};
 ghost use Rattle.ynl_packed.specs.Fits.{FitsProposal, FitsReply};
 ghost use Rattle.ynl_packed.specs.Spelling.{option_bytes, proposal_bytes, reply_bytes};
 ghost use Rattle.ynl_model.specs.declared.replies.Reply.TheVariants as kind;
-ghost use Rattle.ynl_packed.specs.Reading.{Gives, refused_at, placed_at, proposed_at, committed_at, held_at, usage_reply_at, reply_of, reply_at};
+ghost use Rattle.ynl_packed.specs.Reading.{Gives, refused_at, placed_at, proposed_at, committed_at, held_at, usage_reply_at, reply_of, reply_at, mapped};
 
 use crate::cursor::Cursor;
 use crate::kept::{Kept, items_at, put_items};
@@ -97,100 +97,130 @@ pub(crate) fn put_reply(bytes: &mut Vec<u8>, reply: &Reply) -> Result<(), AllocE
 }
 
 #[tactic(auto, unfolding(crate::specs::Reading::refused_at))]
-fn refused_at(c: &mut Cursor) -> Option<Reply>
-    ensures { Gives (λ x. (x, c.new.rest.now)) result (refused_at c.old.rest.now) }
+fn refused_at(c: &mut Cursor, into: &mut Option<Reply>) -> Option<()>
+    ensures { Gives (λ _. (into.new, c.new.rest.now)) result (mapped Some (refused_at c.old.rest.now)) }
 {
     let word = c.long()?;
     let refusal = Refusal::from_word(word)?;
-    Some(Reply::Refused(refusal))
+    *into = Some(Reply::Refused(refusal));
+    Some(())
 }
 
 #[tactic(auto, unfolding(crate::specs::Reading::proposed_at))]
-fn proposed_at(c: &mut Cursor) -> Option<Reply>
-    ensures { Gives (λ x. (x, c.new.rest.now)) result (proposed_at c.old.rest.now) }
+fn proposed_at(c: &mut Cursor, into: &mut Option<Reply>) -> Option<()>
+    ensures { Gives (λ _. (into.new, c.new.rest.now)) result (mapped Some (proposed_at c.old.rest.now)) }
 {
     match c.kind()? {
-        0 => Some(Reply::Proposed(None)),
+        0 => *into = Some(Reply::Proposed(None)),
         _ => {
             let proposal = c.proposal()?;
-            Some(Reply::Proposed(Some(proposal)))
+            *into = Some(Reply::Proposed(Some(proposal)));
         }
     }
+    Some(())
 }
 
 #[tactic(auto, unfolding(crate::specs::Reading::committed_at))]
-fn committed_at(c: &mut Cursor) -> Option<Reply>
-    ensures { Gives (λ x. (x, c.new.rest.now)) result (committed_at c.old.rest.now) }
+fn committed_at(c: &mut Cursor, into: &mut Option<Reply>) -> Option<()>
+    ensures { Gives (λ _. (into.new, c.new.rest.now)) result (mapped Some (committed_at c.old.rest.now)) }
 {
     let container = Placed::at(c)?;
-    Some(Reply::Committed(container))
+    *into = Some(Reply::Committed(container));
+    Some(())
 }
 
 #[tactic(auto, unfolding(crate::specs::Reading::usage_reply_at))]
-fn usage_at(c: &mut Cursor) -> Option<Reply>
-    ensures { Gives (λ x. (x, c.new.rest.now)) result (usage_reply_at c.old.rest.now) }
+fn usage_at(c: &mut Cursor, into: &mut Option<Reply>) -> Option<()>
+    ensures { Gives (λ _. (into.new, c.new.rest.now)) result (mapped Some (usage_reply_at c.old.rest.now)) }
 {
     let used = c.amount()?;
     let guaranteed = c.amount()?;
     let maximum = c.amount()?;
     let masters = c.amount()?;
     let guests = c.amount()?;
-    Some(Reply::Usage {
+    *into = Some(Reply::Usage {
         used,
         guaranteed,
         maximum,
         masters,
         guests,
-    })
+    });
+    Some(())
 }
 
 #[tactic(auto, unfolding(crate::specs::Reading::placed_at))]
-fn placed_at(alloc: Global, c: &mut Cursor) -> Result<Option<Reply>, AllocError>
-    ensures { IfOk result (λ found. Gives (λ x. (x, c.new.rest.now)) found (placed_at c.old.rest.now)) }
+fn placed_at(
+    alloc: Global,
+    c: &mut Cursor,
+    into: &mut Option<Reply>,
+) -> Result<Option<()>, AllocError>
+    ensures { IfOk result (λ found. Gives (λ _. (into.new, c.new.rest.now)) found (mapped Some (placed_at c.old.rest.now))) }
 {
     match items_at(alloc, c)? {
-        Some(containers) => Ok(Some(Reply::Placed(containers))),
+        Some(containers) => {
+            *into = Some(Reply::Placed(containers));
+            Ok(Some(()))
+        }
         None => Ok(None),
     }
 }
 
 #[tactic(auto, unfolding(crate::specs::Reading::held_at))]
-fn held_at(alloc: Global, c: &mut Cursor) -> Result<Option<Reply>, AllocError>
-    ensures { IfOk result (λ found. Gives (λ x. (x, c.new.rest.now)) found (held_at c.old.rest.now)) }
+fn held_at(
+    alloc: Global,
+    c: &mut Cursor,
+    into: &mut Option<Reply>,
+) -> Result<Option<()>, AllocError>
+    ensures { IfOk result (λ found. Gives (λ _. (into.new, c.new.rest.now)) found (mapped Some (held_at c.old.rest.now))) }
 {
     let Some(containers) = items_at(alloc, c)? else {
         return Ok(None);
     };
     match items_at(alloc, c)? {
-        Some(asks) => Ok(Some(Reply::Held { containers, asks })),
+        Some(asks) => {
+            *into = Some(Reply::Held { containers, asks });
+            Ok(Some(()))
+        }
         None => Ok(None),
     }
 }
 
 /// The fields of a reply of this kind.
 #[tactic(auto, unfolding(crate::specs::Reading::reply_of))]
-fn reply_of(alloc: Global, kind: u8, c: &mut Cursor) -> Result<Option<Reply>, AllocError>
-    ensures { IfOk result (λ found. Gives (λ x. (x, c.new.rest.now)) found (reply_of kind c.old.rest.now)) }
+fn reply_of(
+    alloc: Global,
+    kind: u8,
+    c: &mut Cursor,
+    into: &mut Option<Reply>,
+) -> Result<Option<()>, AllocError>
+    ensures { IfOk result (λ found. Gives (λ _. (into.new, c.new.rest.now)) found (mapped Some (reply_of kind c.old.rest.now))) }
 {
     match kind {
-        0 => Ok(Some(Reply::Done)),
-        1 => Ok(refused_at(c)),
-        2 => placed_at(alloc, c),
-        3 => Ok(proposed_at(c)),
-        4 => Ok(committed_at(c)),
-        5 => held_at(alloc, c),
-        6 => Ok(usage_at(c)),
+        0 => {
+            *into = Some(Reply::Done);
+            Ok(Some(()))
+        }
+        1 => Ok(refused_at(c, into)),
+        2 => placed_at(alloc, c, into),
+        3 => Ok(proposed_at(c, into)),
+        4 => Ok(committed_at(c, into)),
+        5 => held_at(alloc, c, into),
+        6 => Ok(usage_at(c, into)),
         _ => Ok(None),
     }
 }
 
-/// A reply: its kind, and its fields.
+/// A reply, which is read into a place: its kind, and its fields.
 #[tactic(auto, unfolding(crate::specs::Reading::reply_at))]
-pub(crate) fn reply_at(alloc: Global, c: &mut Cursor) -> Result<Option<Reply>, AllocError>
-    ensures { IfOk result (λ found. Gives (λ x. (x, c.new.rest.now)) found (reply_at c.old.rest.now)) }
+pub(crate) fn reply_at(
+    alloc: Global,
+    c: &mut Cursor,
+    into: &mut Option<Reply>,
+) -> Result<Option<()>, AllocError>
+    ensures { IfOk result (λ found. Gives (λ _. (into.new, c.new.rest.now)) found (mapped Some (reply_at c.old.rest.now))) }
 {
     match c.kind() {
-        Some(kind) => reply_of(alloc, kind, c),
+        Some(kind) => reply_of(alloc, kind, c, into),
         None => Ok(None),
     }
 }
