@@ -65,9 +65,14 @@ impl Audit {
         ensures taken { IfOk result (λ fits. TakesEntry self.old entry.now self.new fits) }
         ensures err { OnErr result (self.new ≡ self.old) }
     {
-        let reply = self.core.answer(&entry.event)?;
-        if !fits(entry, &reply) {
-            return Ok(false);
+        // A reply is large, and is not moved out of the result.
+        match &self.core.answer(&entry.event) {
+            Ok(reply) => {
+                if !fits(entry, reply) {
+                    return Ok(false);
+                }
+            }
+            Err(NoMemory) => return Err(NoMemory),
         }
         self.entries += 1;
         Ok(true)

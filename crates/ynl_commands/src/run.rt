@@ -162,8 +162,11 @@ fn answer_event(
     if let Err(fault) = events.read(alloc, line)? {
         return Ok(Some(fault));
     }
-    let reply = core.answer(events.event())?;
-    hold(&reply, text, held)?;
+    // A reply is large, and is not moved out of the result.
+    match &core.answer(events.event()) {
+        Ok(reply) => hold(reply, text, held)?,
+        Err(NoMemory) => return Err(NoMemory),
+    }
     Ok(None)
 }
 

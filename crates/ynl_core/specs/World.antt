@@ -27,6 +27,11 @@ pub record Answers (old : World) (event : Event) (new : World) (reply : Reply) :
   pub told : reply ≡ (step old.config old.state event).reply
   pub left : new ≡ stepped old event
 
+-- the reply to what is told no more: why it is refused, or that it was done
+abbrev pub done_unless : Option Refusal → Reply
+done_unless (Some refusal) = reply.Refused refusal
+done_unless None = reply.Done
+
 -- the reply to a heartbeat: why it is refused, or what it placed
 abbrev pub beaten : Option Refusal → List Placed → Reply
 beaten (Some refusal) placed = reply.Refused refusal

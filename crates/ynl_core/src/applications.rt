@@ -4,7 +4,7 @@ ghost use Rattle.std.specs.Prelude.{◌≡◌, IfOk, IsOk, IsTrue, OnErr};
 ghost use Rattle.ynl_model.specs.declared.events.Event.TheVariants.{Finish, Poll, Submit};
 ghost use Rattle.ynl_model.specs.declared.events.Event.TheVariants as event;
 ghost use Rattle.ynl_core.specs.Sure.{is_refused, takes_no_memory};
-ghost use Rattle.ynl_core.specs.World.{Answers};
+ghost use Rattle.ynl_core.specs.World.{done_unless, Answers};
 
 use crate::cluster::Core;
 use crate::memory::NoMemory;
@@ -12,7 +12,7 @@ use ynl_admission as admission;
 use ynl_inventory::NewSubmission;
 use ynl_model::{AskRow, Reply};
 use ynl_replies as replies;
-use ynl_resource::{Label, Name, Path, Size};
+use ynl_resource::{Label, Name, Path, Refusal, Size};
 use ynl_search::notes::{ask, finish, submit};
 
 impl Core {
@@ -26,14 +26,14 @@ impl Core {
         user: &Name,
         label: &Option<Label>,
         master: &Size,
-    ) -> Result<Reply, NoMemory>
-        ensures ok { IfOk result (λ reply. Answers self.old (Submit queue.now app.now user.now label.now master.now) self.new reply) }
+    ) -> Result<Option<Refusal>, NoMemory>
+        ensures ok { IfOk result (λ refused. Answers self.old (Submit queue.now app.now user.now label.now master.now) self.new (done_unless refused)) }
         ensures err { OnErr result (self.new ≡ self.old) }
         ensures sure { IsTrue (is_refused self.old (Submit queue.now app.now user.now label.now master.now)) → IsOk result }
     {
         let numbers = match admission::submit(&self.cluster, queue, app, label, master) {
             Ok(numbers) => numbers,
-            Err(refusal) => return Ok(Reply::Refused(refusal)),
+            Err(refusal) => return Ok(Some(refusal)),
         };
         let _sized = master.amount();
         let new = NewSubmission {
@@ -44,7 +44,7 @@ impl Core {
             master_size: *master,
         };
         submit(&mut self.cluster, &mut self.shut, app, &new)?;
-        Ok(Reply::Done)
+        Ok(None)
     }
 
     /// An application asks.
@@ -55,32 +55,32 @@ impl Core {
         tenant: &Name,
         name: &Name,
         row: &AskRow,
-    ) -> Result<Reply, NoMemory>
-        ensures ok { IfOk result (λ reply. Answers self.old (event.Ask tenant.now name.now row.now.label row.now.priority row.now.count row.now.size) self.new reply) }
+    ) -> Result<Option<Refusal>, NoMemory>
+        ensures ok { IfOk result (λ refused. Answers self.old (event.Ask tenant.now name.now row.now.label row.now.priority row.now.count row.now.size) self.new (done_unless refused)) }
         ensures err { OnErr result (self.new ≡ self.old) }
         ensures sure { IsTrue (takes_no_memory self.old (event.Ask tenant.now name.now row.now.label row.now.priority row.now.count row.now.size)) → IsOk result }
     {
         let asking = match admission::ask(&self.cluster, tenant, name, row) {
             Ok(asking) => asking,
-            Err(refusal) => return Ok(Reply::Refused(refusal)),
+            Err(refusal) => return Ok(Some(refusal)),
         };
         let _sized = row.size.amount();
         ask(&mut self.cluster, &mut self.shut, asking.app, asking.ask)?;
-        Ok(Reply::Done)
+        Ok(None)
     }
 
     /// An application finishes with its containers.
     #[tactic(auto, unfolding(ynl_model::specs::Events::step, ynl_model::specs::Events::accepted))]
     #[inline(never)]
-    pub(crate) fn finish(&mut self, tenant: &Name, name: &Name) -> Reply
-        ensures { Answers self.old (Finish tenant.now name.now) self.new result }
+    pub(crate) fn finish(&mut self, tenant: &Name, name: &Name) -> Option<Refusal>
+        ensures { Answers self.old (Finish tenant.now name.now) self.new (done_unless result) }
     {
         let app = match admission::finish(&self.cluster, tenant, name) {
             Ok(app) => app,
-            Err(refusal) => return Reply::Refused(refusal),
+            Err(refusal) => return Some(refusal),
         };
         finish(&mut self.cluster, &mut self.shut, app);
-        Reply::Done
+        None
     }
 
     /// It is told what an application has, and what it asks for.

@@ -1,6 +1,6 @@
 //! The cluster that takes one event after another.
 
-ghost use Rattle.std.specs.Prelude.{◌≡◌, Some, None, IfOk, IfErr, OnErr, IsOk, IsTrue};
+ghost use Rattle.std.specs.Prelude.{◌≡◌, Some, None, Ok, IfOk, IfErr, OnErr, IsOk, IsTrue};
 ghost use Rattle.std.specs.Option.{option_and_then};
 ghost use Rattle.ynl_resource.specs.Refusals.{first_that_holds};
 ghost use Rattle.ynl_model.specs.declared.events.Event.TheVariants.{Propose};
@@ -12,7 +12,7 @@ ghost use Rattle.ynl_core.specs.Explaining.{OfRequests};
 ghost use Rattle.ynl_core.specs.Reached.{WorksAndIsTold};
 ghost use Rattle.ynl_core.specs.Sure.{takes_no_memory};
 ghost use Rattle.ynl_core.specs.Sightings.{IsSighting, reply_by};
-ghost use Rattle.ynl_core.specs.World.{opened, Answers};
+ghost use Rattle.ynl_core.specs.World.{opened, done_unless, Answers};
 ghost use Rattle.ynl_laws.specs.Working.{IsWorking};
 ghost use Rattle.ynl_waits.specs.Laws.{AreNextPlaced, IsNotCommitted, IsNotPlaced, IsTold, OfEach};
 ghost use Rattle.ynl_waits.specs.Waits.{explained_of};
@@ -65,6 +65,16 @@ impl Model for Core {
     ghost invariant = { IsWorkingCore };
 }
 
+/// What an event is answered that is told no more than why it is refused, or that it was done.
+fn done(refused: Option<Refusal>) -> Result<Reply, NoMemory>
+    ensures { result ≡ Ok (done_unless refused) }
+{
+    match refused {
+        Some(refusal) => Ok(Reply::Refused(refusal)),
+        None => Ok(Reply::Done),
+    }
+}
+
 impl Core {
     /// A cluster without nodes, applications or containers.
     pub fn open(alloc: Global, config: Config) -> Result<Core, NoMemory>
@@ -89,8 +99,8 @@ impl Core {
         })
     }
 
-    /// The same as `apply`, of an event that is lent. Its parts are lent on and not moved: each arm of a match
-    /// that moves them has places for its own, which are set to zero for every event.
+    /// The same as `apply`, of an event that is lent. Its parts are lent on, and each arm gives the result itself: an arm
+    /// that moves parts or a reply has a place for them, which is set to zero for every event.
     #[inline(never)]
     pub fn answer(&mut self, event: &Event) -> Result<Reply, NoMemory>
         ensures ok { IfOk result (λ reply. Answers self.old event.now self.new reply) }
@@ -98,18 +108,22 @@ impl Core {
         ensures sure { IsTrue (takes_no_memory self.old event.now) → IsOk result }
     {
         match event {
-            Event::Register { node, label, size } => self.register(node, label, size),
+            Event::Heartbeat { node } => self.heartbeat(node),
+            Event::Poll { tenant, app, label } => self.poll(tenant, app, label),
+            Event::Usage { queue, label } => self.usage(queue, label),
+            Event::Propose { node } => self.propose(node),
+            Event::Commit { proposal } => self.commit(proposal),
+            Event::Register { node, label, size } => done(self.register(node, label, size)?),
             Event::Submit {
                 queue,
                 app,
                 user,
                 label,
                 master,
-            } => self.submit(queue, app, user, label, master),
-            Event::Lost { node } => Ok(self.lost(node)),
-            Event::Relabel { node, label } => self.relabel(node, label),
-            Event::Heartbeat { node } => self.heartbeat(node),
-            Event::Exited { node, id } => Ok(self.exited(node, id)),
+            } => done(self.submit(queue, app, user, label, master)?),
+            Event::Lost { node } => done(self.lost(node)),
+            Event::Relabel { node, label } => done(self.relabel(node, label)?),
+            Event::Exited { node, id } => done(self.exited(node, id)),
             Event::Ask {
                 tenant,
                 app,
@@ -117,7 +131,7 @@ impl Core {
                 priority,
                 count,
                 size,
-            } => self.ask(
+            } => done(self.ask(
                 tenant,
                 app,
                 &AskRow {
@@ -126,20 +140,16 @@ impl Core {
                     count: *count,
                     size: *size,
                 },
-            ),
-            Event::Release { tenant, id } => Ok(self.release(tenant, id)),
-            Event::Finish { tenant, app } => Ok(self.finish(tenant, app)),
-            Event::Stop { queue } => Ok(self.stop(queue)),
-            Event::Start { queue } => Ok(self.start(queue)),
-            Event::Poll { tenant, app, label } => self.poll(tenant, app, label),
-            Event::Usage { queue, label } => Ok(self.usage(queue, label)),
-            Event::Propose { node } => Ok(self.propose(node)),
-            Event::Commit { proposal } => self.commit(proposal),
+            )?),
+            Event::Release { tenant, id } => done(self.release(tenant, id)),
+            Event::Finish { tenant, app } => done(self.finish(tenant, app)),
+            Event::Stop { queue } => done(self.stop(queue)),
+            Event::Start { queue } => done(self.start(queue)),
             Event::Maximum {
                 queue,
                 label,
                 maximum,
-            } => Ok(self.maximum(queue, label, *maximum)),
+            } => done(self.maximum(queue, label, *maximum)),
         }
     }
 
@@ -153,10 +163,6 @@ impl Core {
         ensures err { OnErr result (self.new ≡ self.old) }
         ensures sure { IsTrue (takes_no_memory self.old event) → IsOk result }
     {
-        // A match over all kinds has room for the parts of each, and the commonest kind goes past it.
-        if let Event::Heartbeat { node } = &event {
-            return self.heartbeat(node);
-        }
         self.answer(&event)
     }
 

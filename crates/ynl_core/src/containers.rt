@@ -3,13 +3,13 @@
 ghost use Rattle.std.specs.Prelude.{◌≡◌, IfOk, IsOk, IsTrue, OnErr};
 ghost use Rattle.ynl_model.specs.declared.events.Event.TheVariants.{Commit, Exited, Propose, Release};
 ghost use Rattle.ynl_core.specs.Sure.{is_refused};
-ghost use Rattle.ynl_core.specs.World.{Answers};
+ghost use Rattle.ynl_core.specs.World.{done_unless, Answers};
 
 use crate::cluster::Core;
 use crate::memory::NoMemory;
 use ynl_admission as admission;
 use ynl_model::{Proposal, Reply};
-use ynl_resource::{Id, Name};
+use ynl_resource::{Id, Name, Refusal};
 use ynl_search::notes::{end, place};
 use ynl_service::{check, proposed};
 
@@ -17,12 +17,12 @@ impl Core {
     /// A container ended by itself.
     #[tactic(auto, unfolding(ynl_model::specs::Events::step, ynl_model::specs::Events::accepted))]
     #[inline(never)]
-    pub(crate) fn exited(&mut self, name: &Name, id: &Id) -> Reply
-        ensures { Answers self.old (Exited name.now id.now) self.new result }
+    pub(crate) fn exited(&mut self, name: &Name, id: &Id) -> Option<Refusal>
+        ensures { Answers self.old (Exited name.now id.now) self.new (done_unless result) }
     {
         let held = match admission::exited(&self.cluster, name, id) {
             Ok(held) => held,
-            Err(refusal) => return Reply::Refused(refusal),
+            Err(refusal) => return Some(refusal),
         };
         end(
             &mut self.cluster,
@@ -30,18 +30,18 @@ impl Core {
             held.partition,
             held.number,
         );
-        Reply::Done
+        None
     }
 
     /// A tenant gives a container back.
     #[tactic(auto, unfolding(ynl_model::specs::Events::step, ynl_model::specs::Events::accepted))]
     #[inline(never)]
-    pub(crate) fn release(&mut self, tenant: &Name, id: &Id) -> Reply
-        ensures { Answers self.old (Release tenant.now id.now) self.new result }
+    pub(crate) fn release(&mut self, tenant: &Name, id: &Id) -> Option<Refusal>
+        ensures { Answers self.old (Release tenant.now id.now) self.new (done_unless result) }
     {
         let held = match admission::release(&self.cluster, tenant, id) {
             Ok(held) => held,
-            Err(refusal) => return Reply::Refused(refusal),
+            Err(refusal) => return Some(refusal),
         };
         end(
             &mut self.cluster,
@@ -49,20 +49,21 @@ impl Core {
             held.partition,
             held.number,
         );
-        Reply::Done
+        None
     }
 
-    /// What would be placed next on a node is proposed.
+    /// What would be placed next on a node is proposed. It takes no memory.
     #[tactic(auto, unfolding(ynl_model::specs::Events::step, ynl_model::specs::Events::accepted))]
     #[inline(never)]
-    pub(crate) fn propose(&mut self, name: &Name) -> Reply
-        ensures { Answers self.old (Propose name.now) self.new result }
+    pub(crate) fn propose(&mut self, name: &Name) -> Result<Reply, NoMemory>
+        ensures ok { IfOk result (λ reply. Answers self.old (Propose name.now) self.new reply) }
+        ensures sure { IsOk result }
     {
         let node = match admission::placing(&self.cluster, name) {
             Ok(node) => node,
-            Err(refusal) => return Reply::Refused(refusal),
+            Err(refusal) => return Ok(Reply::Refused(refusal)),
         };
-        Reply::Proposed(proposed(&self.cluster, &mut self.shut, node))
+        Ok(Reply::Proposed(proposed(&self.cluster, &mut self.shut, node)))
     }
 
     /// What was proposed is placed.

@@ -3,7 +3,7 @@
 ghost use Rattle.std.specs.Prelude.{◌≡◌, IfOk, IsOk, IsTrue, OnErr};
 ghost use Rattle.ynl_model.specs.declared.events.Event.TheVariants.{Heartbeat, Lost, Register, Relabel};
 ghost use Rattle.ynl_core.specs.Sure.{is_refused};
-ghost use Rattle.ynl_core.specs.World.{Answers, beaten};
+ghost use Rattle.ynl_core.specs.World.{beaten, done_unless, Answers};
 
 use crate::cluster::Core;
 use crate::memory::NoMemory;
@@ -21,52 +21,56 @@ impl Core {
         name: &Name,
         label: &Label,
         size: &Size,
-    ) -> Result<Reply, NoMemory>
-        ensures ok { IfOk result (λ reply. Answers self.old (Register name.now label.now size.now) self.new reply) }
+    ) -> Result<Option<Refusal>, NoMemory>
+        ensures ok { IfOk result (λ refused. Answers self.old (Register name.now label.now size.now) self.new (done_unless refused)) }
         ensures err { OnErr result (self.new ≡ self.old) }
         ensures sure { IsTrue (is_refused self.old (Register name.now label.now size.now)) → IsOk result }
     {
         let p = match admission::register(&self.cluster, name, label) {
             Ok(p) => p,
-            Err(refusal) => return Ok(Reply::Refused(refusal)),
+            Err(refusal) => return Ok(Some(refusal)),
         };
         // A size is one that requests may have, so that the state works after it, here and below.
         let _sized = size.amount();
         self.cluster.join(name, p, *size)?;
         self.shut.forget_all();
-        Ok(Reply::Done)
+        Ok(None)
     }
 
     /// A node is lost with its containers.
     #[tactic(auto, unfolding(ynl_model::specs::Events::step, ynl_model::specs::Events::accepted))]
     #[inline(never)]
-    pub(crate) fn lost(&mut self, name: &Name) -> Reply
-        ensures { Answers self.old (Lost name.now) self.new result }
+    pub(crate) fn lost(&mut self, name: &Name) -> Option<Refusal>
+        ensures { Answers self.old (Lost name.now) self.new (done_unless result) }
     {
         let node = match admission::lost(&self.cluster, name) {
             Ok(node) => node,
-            Err(refusal) => return Reply::Refused(refusal),
+            Err(refusal) => return Some(refusal),
         };
         self.cluster.leave(node);
         self.shut.forget_all();
-        Reply::Done
+        None
     }
 
     /// A node goes to another partition.
     #[tactic(auto, unfolding(ynl_model::specs::Events::step, ynl_model::specs::Events::accepted))]
     #[inline(never)]
-    pub(crate) fn relabel(&mut self, name: &Name, label: &Label) -> Result<Reply, NoMemory>
-        ensures ok { IfOk result (λ reply. Answers self.old (Relabel name.now label.now) self.new reply) }
+    pub(crate) fn relabel(
+        &mut self,
+        name: &Name,
+        label: &Label,
+    ) -> Result<Option<Refusal>, NoMemory>
+        ensures ok { IfOk result (λ refused. Answers self.old (Relabel name.now label.now) self.new (done_unless refused)) }
         ensures err { OnErr result (self.new ≡ self.old) }
         ensures sure { IsTrue (is_refused self.old (Relabel name.now label.now)) → IsOk result }
     {
         let moved = match admission::relabel(&self.cluster, name, label) {
             Ok(moved) => moved,
-            Err(refusal) => return Ok(Reply::Refused(refusal)),
+            Err(refusal) => return Ok(Some(refusal)),
         };
         self.cluster.relabel(moved.node, moved.partition)?;
         self.shut.forget_all();
-        Ok(Reply::Done)
+        Ok(None)
     }
 
     /// The same as `heartbeat`, in parts: why it is refused, or else what it placed, in the place of

@@ -10,8 +10,8 @@ use Rattle.ynl_core.proofs.cluster.Core.propose.Goals as goal
 pub invariant_of-self : goal.invariant_of-self
 invariant_of-self c = record { working = c.self.invariant.working; shut = c.proposed.ensures.shut }
 
-pub returns : goal.returns
-returns c =
+pub returns-clause-ok : goal.returns-clause-ok
+returns-clause-ok c =
     let node = c.in-Ok.ensures.node.node in
     subst (λ (v : World). Answers v (event.Propose c.args.name.now) (world_in c.self.inside.cluster) (Proposed c.proposed.result)) c.self.view_is
     (answers c.self.inside.cluster c.self.inside.cluster (event.Propose c.args.name.now) (Proposed c.proposed.result) c.in-Ok.ensures.free_too refl
