@@ -10,6 +10,9 @@ use ynl_resource::Name;
 /// What stands before the node in the text of a heartbeat.
 const FRONT: &[u8] = b"{\"event\":\"heartbeat\",\"node\":\"";
 
+/// Where the first byte of its word stands there. No other event has that byte there, so lines of others cost one look.
+const WORD: usize = 10;
+
 /// What stands behind it.
 const END: &[u8] = b"\"}";
 
@@ -17,6 +20,9 @@ const END: &[u8] = b"\"}";
 pub fn heartbeat_of(line: &[u8]) -> Option<Name>
     ensures { IfSome result (λ node. event_of_line line.now ≡ Ok (Heartbeat node)) }
 {
+    if line.get(WORD) != Some(&b'h') {
+        return None;
+    }
     let Some(rest) = line.strip_prefix(FRONT) else {
         return None;
     };

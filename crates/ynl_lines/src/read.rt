@@ -3,6 +3,7 @@
 ghost use Rattle.std.specs.Prelude.{◌≡◌, IfOk, OnErr, OnOk, IsTrue, IsUtf8, Ok, Err, Some, None};
 ghost use Rattle.serde_json.specs.View.{view};
 ghost use Rattle.ynl_fields.specs.Trees.{data_at};
+ghost use Rattle.ynl_model.specs.declared.events.Event.TheVariants.{Heartbeat};
 ghost use Rattle.ynl_lines.specs.Reading.{Gives, IsRanged};
 ghost use Rattle.ynl_lines.specs.Reading as spec;
 
@@ -135,6 +136,13 @@ fn read_compact(text: &mut Vec<u8>, line: &[u8], into: &mut Event) -> Result<boo
     Ok(text.as_slice() == line)
 }
 
+/// Puts a heartbeat into a place. It stands alone, since a function clears the room of each event that it makes.
+fn put_heartbeat(node: Name, into: &mut Event)
+    ensures { into.new ≡ Heartbeat node }
+{
+    *into = Event::Heartbeat { node };
+}
+
 /// How deep a line nests at most to be taken as a tree: a proposal stands in an event.
 const MOST_DEPTH: usize = 2;
 
@@ -151,7 +159,7 @@ fn read_into(
     ensures ranged { IfOk result (λ read. OnOk read (IsRanged into.new)) }
 {
     if let Some(node) = heartbeat_of(line) {
-        *into = Event::Heartbeat { node };
+        put_heartbeat(node, into);
         return Ok(Ok(()));
     }
     if read_compact(text, line, into)? {

@@ -23,19 +23,20 @@ pub(crate) fn put_number(bytes: &mut Vec<u8>, n: u64) -> Result<(), AllocError>
 }
 
 #[tactic(auto, unfolding(crate::specs::Spelling::text_bytes))]
-pub(crate) fn put_text(bytes: &mut Vec<u8>, text: &str) -> Result<(), AllocError>
+pub(crate) fn put_text(bytes: &mut Vec<u8>, text: &[u8]) -> Result<(), AllocError>
     requires { length text.now < 256 }
     ensures { OnOk result (bytes.new.items ≡ bytes.old.items ++ text_bytes text.now) }
 {
     bytes.push(text.len() as u8)?;
-    bytes.extend_from_slice(text.as_bytes())
+    bytes.extend_from_slice(text)
 }
 
+#[tactic(auto, using(ynl_resource::proofs::Ascii::utf8_name), unfolding(ynl_resource::specs::Texts::read_name))]
 pub(crate) fn put_name(bytes: &mut Vec<u8>, name: &Name) -> Result<(), AllocError>
     ensures put { OnOk result (bytes.new.items ≡ bytes.old.items ++ text_bytes name.now) }
     ensures fits { FitsName name.now }
 {
-    put_text(bytes, name.as_str())
+    put_text(bytes, name.as_bytes())
 }
 
 pub(crate) fn put_label(bytes: &mut Vec<u8>, label: &Label) -> Result<(), AllocError>
