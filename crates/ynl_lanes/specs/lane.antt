@@ -4,6 +4,7 @@ pub mod Fields
 pub mod Found
 pub mod Kinds
 pub mod Levels
+pub mod Lined
 pub mod Lines
 pub mod Moves
 pub mod Rooms

@@ -11,6 +11,7 @@ mod kinds;
 mod lane;
 mod levels;
 mod line;
+mod long;
 mod pack;
 mod request;
 mod room;

@@ -48,10 +48,10 @@ pub of_other : {X : Type 0} (f : UserRow → X) (none : X) (other user : ℕ) (n
 of_other f none other user next users apart = ap (λ o. option_map_or f o none) (found_other other user next users apart)
 
 -- the line of each user keeps its tickets
-pub same_tickets : (user : ℕ) (row next : UserRow) (users : List (ℕ × UserRow)) → lookup (nat_eq user) users ≡ Some row → next.line.tickets.items ≡ row.line.tickets.items → (other : ℕ) → own_tickets other (with_row user next users) ≡ own_tickets other users
+pub same_tickets : (user : ℕ) (row next : UserRow) (users : List (ℕ × UserRow)) → lookup (nat_eq user) users ≡ Some row → next.line.tickets ≡ row.line.tickets → (other : ℕ) → own_tickets other (with_row user next users) ≡ own_tickets other users
 same_tickets user row next users found tickets other = ⊎_elim
-    (λ same. ap (λ k. own_tickets k (with_row user next users)) same ∙ of_written (λ (r : UserRow). r.line.tickets.items) [] user row next users found ∙ tickets ∙ sym (ap (λ o. option_map_or (λ (r : UserRow). r.line.tickets.items) o []) found) ∙ ap (λ k. own_tickets k users) (sym same))
-    (λ apart. of_other (λ (r : UserRow). r.line.tickets.items) [] other user next users apart)
+    (λ same. ap (λ k. own_tickets k (with_row user next users)) same ∙ of_written (λ (r : UserRow). r.line.tickets) [] user row next users found ∙ tickets ∙ sym (ap (λ o. option_map_or (λ (r : UserRow). r.line.tickets) o []) found) ∙ ap (λ k. own_tickets k users) (sym same))
+    (λ apart. of_other (λ (r : UserRow). r.line.tickets) [] other user next users apart)
     (cases_eq other user)
 
 -- a user's row with as long a line, and no more used than may be
@@ -89,7 +89,7 @@ module _ (rows new : Rows) (kept : IsKept rows) (ticket : ℕ) (waits : Both Res
       own same =
           let away : x.own_slot ≢ row.own_slot = λ at. (
           let line = own_line rows kept.seated row.user values.row values.found in
-          apart (one_at (User row.user) values.row.line.tickets.items rows.seats.entries n ticket row.own_slot x row line.1 there (own_slot-in row.user x same ∙ ap Some at) found (own_slot-in row.user row refl)).0) in
+          apart (one_at (User row.user) values.row.line.tickets rows.seats.entries n ticket row.own_slot x row line.1 there (own_slot-in row.user x same ∙ ap Some at) found (own_slot-in row.user row refl)).0) in
           ap (λ k. get_or (own_values kind k new.users.entries) x.own_slot no_size) same ∙ ap (λ vs. get_or vs x.own_slot no_size) (own_new kind)
           ∙ get_or-set_other (values_of kind values.row.line) row.own_slot x.own_slot (of_kind kind waits) no_size away
           ∙ ap (λ vs. get_or vs x.own_slot no_size) (sym (own_old kind)) ∙ ap (λ k. get_or (own_values kind k rows.users.entries) x.own_slot no_size) (sym same) ∙ h kind
@@ -118,7 +118,7 @@ module _ (rows new : Rows) (kept : IsKept rows) (ticket : ℕ) (waits : Both Res
       only = only_from_distinct ticket row rows.seats.entries kept.seated.distinct found
 
       lines : (level : Level) → AreIn level (tickets_in level new) new.seats.entries
-      lines Lane = subst (λ ts. AreIn Lane ts new.seats.entries) (sym (ap (λ l. l.tickets.items) line)) (subst (AreIn Lane rows.line.tickets.items) (sym seats) (in_written Lane rows.line.tickets.items ticket row (record row { waits = waits }) rows.seats.entries (kept.seated.lines Lane) only refl))
+      lines Lane = subst (λ ts. AreIn Lane ts new.seats.entries) (sym (ap (λ l. l.tickets) line)) (subst (AreIn Lane rows.line.tickets) (sym seats) (in_written Lane rows.line.tickets ticket row (record row { waits = waits }) rows.seats.entries (kept.seated.lines Lane) only refl))
       lines (User user) = subst (λ ts. AreIn (User user) ts new.seats.entries) (sym (ap (own_tickets user) values.entries ∙ same_tickets row.user values.row values.next rows.users.entries values.found values.tickets user))
           (subst (AreIn (User user) (own_tickets user rows.users.entries)) (sym seats) (in_written (User user) (own_tickets user rows.users.entries) ticket row (record row { waits = waits }) rows.seats.entries (kept.seated.lines (User user)) only refl))
 
@@ -166,7 +166,7 @@ module _ (rows new : Rows) (kept : IsKept rows) (user : ℕ) (used : Resource) (
   }
     where
       lines : (level : Level) → AreIn level (tickets_in level new) new.seats.entries
-      lines Lane = subst (λ l. AreIn Lane l.tickets.items new.seats.entries) (sym line) (subst (λ s. AreIn Lane rows.line.tickets.items s.entries) (sym seats) (kept.seated.lines Lane))
+      lines Lane = subst (λ l. AreIn Lane l.tickets new.seats.entries) (sym line) (subst (λ s. AreIn Lane rows.line.tickets s.entries) (sym seats) (kept.seated.lines Lane))
       lines (User other) = subst (λ ts. AreIn (User other) ts new.seats.entries) (sym (ap (own_tickets other) sets.entries ∙ same_tickets user sets.row (record sets.row { used = used }) rows.users.entries sets.found refl other))
           (subst (λ s. AreIn (User other) (own_tickets other rows.users.entries) s.entries) (sym seats) (kept.seated.lines (User other)))
 

@@ -141,10 +141,10 @@ module _ {F : Type 0} (rows : Rows) (kept : IsKept rows) (kind : Kind) (gives : 
     pub found : (n : ℕ) (row : SeatRow) → lookup (nat_eq n) rows.seats.entries ≡ Some row → row.slot < limit → lookup (nat_eq n) front ≡ Some row
 
   -- all entries, or those before one
-  front_all : Front (length rows.line.tickets.items) rows.seats.entries
+  front_all : Front (length rows.line.tickets) rows.seats.entries
   front_all = record {
     ordered = (kept.seated.lines Lane).ordered;
-    slots = all_from_each (λ e. e.1.slot < length rows.line.tickets.items) rows.seats.entries kept.seated.distinct (λ n e there. slice_get_within rows.line.tickets.items e.slot n (in_line-at Lane rows.line.tickets.items rows.seats.entries n e.slot e (kept.seated.lines Lane) there refl));
+    slots = all_from_each (λ e. e.1.slot < length rows.line.tickets) rows.seats.entries kept.seated.distinct (λ n e there. slice_get_within rows.line.tickets e.slot n (in_line-at Lane rows.line.tickets rows.seats.entries n e.slot e (kept.seated.lines Lane) there refl));
     least = behind;
     found = λ n row there lt. there;
   }
@@ -172,10 +172,10 @@ module _ {F : Type 0} (rows : Rows) (kept : IsKept rows) (kind : Kind) (gives : 
       (gift_given kind rows.users.entries gives (found.ticket, is.row) is.here ∙ is.given)
 
   -- what a search up to all seats finds, and one up to a seat
-  pub all_none : (limit : ℕ) → limit ≡ length rows.line.tickets.items → NoneBefore (WaitsAt kind) gives rows.seats.entries limit → first_given (given kind gives) (seats_up_to None seen) ≡ None
+  pub all_none : (limit : ℕ) → limit ≡ length rows.line.tickets → NoneBefore (WaitsAt kind) gives rows.seats.entries limit → first_given (given kind gives) (seats_up_to None seen) ≡ None
   all_none limit is none = ap (first_given (given kind gives)) (sym view) ∙ front_none limit rows.seats.entries (subst (λ n. Front n rows.seats.entries) (sym is) front_all) none
 
-  pub all_some : (limit : ℕ) → limit ≡ length rows.line.tickets.items → (found : Found F) → IsFirstGiven (WaitsAt kind) gives rows.seats.entries limit found → first_given (given kind gives) (seats_up_to None seen) ≡ Some (found.ticket, found.given)
+  pub all_some : (limit : ℕ) → limit ≡ length rows.line.tickets → (found : Found F) → IsFirstGiven (WaitsAt kind) gives rows.seats.entries limit found → first_given (given kind gives) (seats_up_to None seen) ≡ Some (found.ticket, found.given)
   all_some limit is found first = ap (first_given (given kind gives)) (sym view) ∙ front_some limit rows.seats.entries (subst (λ n. Front n rows.seats.entries) (sym is) front_all) found first
 
   pub before_none : (ticket limit : ℕ) (row : SeatRow) → lookup (nat_eq ticket) rows.seats.entries ≡ Some row → limit ≡ row.slot → NoneBefore (WaitsAt kind) gives rows.seats.entries limit → first_given (given kind gives) (seats_up_to (Some ticket) seen) ≡ None

@@ -88,10 +88,10 @@ module _ (rows : Rows) (seated : IsSeated rows) where
   pub first-none : apps_before 0 rows.seats.entries ≡ []
   first-none = all-behind 0 rows.seats.entries (all_from_each (λ e. 0 ≤ e.1.slot) rows.seats.entries seated.distinct (λ n row found. omega arith))
 
-  pub end-all : (slot : ℕ) → length rows.line.tickets.items ≤ slot → apps_before slot rows.seats.entries ≡ map (λ e. e.1.app) rows.seats.entries
+  pub end-all : (slot : ℕ) → length rows.line.tickets ≤ slot → apps_before slot rows.seats.entries ≡ map (λ e. e.1.app) rows.seats.entries
   end-all slot end = all-before slot rows.seats.entries
       (all_from_each (λ e. e.1.slot < slot) rows.seats.entries seated.distinct
-      (λ n row found. (let inside = slice_get_within rows.line.tickets.items row.slot n (in_line-at Lane rows.line.tickets.items rows.seats.entries n row.slot row (seated.lines Lane) found refl) in omega (arith, inside, end))))
+      (λ n row found. (let inside = slice_get_within rows.line.tickets row.slot n (in_line-at Lane rows.line.tickets rows.seats.entries n row.slot row (seated.lines Lane) found refl) in omega (arith, inside, end))))
 
 -- the seats that a contract sees have the same applications
 pub apps-shown : (users : List (ℕ × UserRow)) (es : List Entry) → map (λ (e : ℕ × Seat). e.1.app) (map (seat_of users) es) ≡ map (λ e. e.1.app) es

@@ -13,7 +13,7 @@ use Rattle.ynl_lanes.specs.lows.Users.{no_user, IsBelowRequest}
 use Rattle.ynl_lanes.specs.declared.lane.kinds.Kind.{Kind}
 use Rattle.ynl_lanes.specs.declared.lane.levels.Level.{Level}
 use Rattle.ynl_lanes.specs.declared.lane.levels.Level.TheVariants.{Lane, User}
-use Rattle.ynl_lanes.specs.declared.lane.line.Line.{Line}
+use Rattle.ynl_lanes.specs.lane.Lined.{Lined}
 use Rattle.ynl_lanes.specs.declared.lane.rows.SeatRow.{SeatRow}
 use Rattle.ynl_lanes.specs.declared.lane.rows.UserRow.{UserRow}
 use Rattle.ynl_lanes.specs.declared.lane.rows.Rows.{Rows}
@@ -118,7 +118,7 @@ in_paired R keys level tickets same es fs k h = record {
 }
 
 -- the line of the lane is packed
-module _ (rows new : Rows) (kept : IsKept rows) (users : new.users ≡ rows.users) (line : IsLine new.line) (are_in : AreIn Lane new.line.tickets.items new.seats.entries) (distinct : HasDistinctNumbers new.seats.entries)
+module _ (rows new : Rows) (kept : IsKept rows) (users : new.users ≡ rows.users) (line : IsLine new.line) (are_in : AreIn Lane new.line.tickets new.seats.entries) (distinct : HasDistinctNumbers new.seats.entries)
     (moved : ArePairs (IsMoved Lane rows.line new.line) rows.seats.entries new.seats.entries) where
   lane_keys : (x y : ℕ × SeatRow) → IsMoved Lane rows.line new.line x y → y.0 ≡ x.0
   lane_keys x y m = m.ticket
@@ -174,7 +174,7 @@ module _ (rows new : Rows) (kept : IsKept rows) (users : new.users ≡ rows.user
   kept_packed = record { seated = seated_packed; stood = stood_packed }
 
 -- a seat that moved is the same
-pub same_moved : {T : Type 0} (level : Level) (old new : Line T) (es fs : List (ℕ × SeatRow)) → ArePairs (IsMoved level old new) es fs → ArePairs IsSameSeat es fs
+pub same_moved : {T : Type 0} (level : Level) (old new : Lined T) (es fs : List (ℕ × SeatRow)) → ArePairs (IsMoved level old new) es fs → ArePairs IsSameSeat es fs
 same_moved level old new es fs k = pairs_then (IsMoved level old new) IsSameSeat (λ x y m. go level x y m.ticket m.slot m.row) es fs k
   where
     go : (level : Level) (x y : ℕ × SeatRow) → y.0 ≡ x.0 → (slot : ℕ) → y.1 ≡ at_slot level slot x.1 → IsSameSeat x y
@@ -198,7 +198,7 @@ own_row user slot row same =
 
 -- the line of a user is packed
 module _ (rows new : Rows) (kept : IsKept rows) (user : ℕ) (row next : UserRow) (found : lookup (nat_eq user) rows.users.entries ≡ Some row) (users : new.users.entries ≡ with_row user next rows.users.entries) (used : next.used ≡ row.used) (lane : new.line ≡ rows.line)
-    (line : IsLine next.line) (are_in : AreIn (User user) next.line.tickets.items new.seats.entries) (distinct : HasDistinctNumbers new.seats.entries)
+    (line : IsLine next.line) (are_in : AreIn (User user) next.line.tickets new.seats.entries) (distinct : HasDistinctNumbers new.seats.entries)
     (moved : ArePairs (IsMoved (User user) row.line next.line) rows.seats.entries new.seats.entries) where
   own_keys : (x y : ℕ × SeatRow) → IsMoved (User user) row.line next.line x y → y.0 ≡ x.0
   own_keys x y m = m.ticket
@@ -223,11 +223,11 @@ module _ (rows new : Rows) (kept : IsKept rows) (user : ℕ) (row next : UserRow
   }
     where
       lines : (level : Level) → AreIn level (tickets_in level new) new.seats.entries
-      lines Lane = subst (λ l. AreIn Lane l.tickets.items new.seats.entries) (sym lane)
-          (in_paired (IsMoved (User user) row.line next.line) own_keys Lane rows.line.tickets.items (λ x y m. ap (slot_in Lane) m.row ∙ own_same (slot_in Lane) (λ r slot. refl) m.slot x.1) rows.seats.entries new.seats.entries moved (kept.seated.lines Lane))
+      lines Lane = subst (λ l. AreIn Lane l.tickets new.seats.entries) (sym lane)
+          (in_paired (IsMoved (User user) row.line next.line) own_keys Lane rows.line.tickets (λ x y m. ap (slot_in Lane) m.row ∙ own_same (slot_in Lane) (λ r slot. refl) m.slot x.1) rows.seats.entries new.seats.entries moved (kept.seated.lines Lane))
       lines (User other) = ⊎_elim
-          (λ same. subst (λ k. AreIn (User k) (own_tickets k new.users.entries) new.seats.entries) (sym same) (subst (λ ts. AreIn (User user) ts new.seats.entries) (sym (ap (own_tickets user) users ∙ of_written (λ (r : UserRow). r.line.tickets.items) [] user row next rows.users.entries found)) are_in))
-          (λ apart. subst (λ ts. AreIn (User other) ts new.seats.entries) (sym (ap (own_tickets other) users ∙ of_other (λ (r : UserRow). r.line.tickets.items) [] other user next rows.users.entries apart))
+          (λ same. subst (λ k. AreIn (User k) (own_tickets k new.users.entries) new.seats.entries) (sym same) (subst (λ ts. AreIn (User user) ts new.seats.entries) (sym (ap (own_tickets user) users ∙ of_written (λ (r : UserRow). r.line.tickets) [] user row next rows.users.entries found)) are_in))
+          (λ apart. subst (λ ts. AreIn (User other) ts new.seats.entries) (sym (ap (own_tickets other) users ∙ of_other (λ (r : UserRow). r.line.tickets) [] other user next rows.users.entries apart))
           (in_paired (IsMoved (User user) row.line next.line) own_keys (User other) (own_tickets other rows.users.entries) (λ x y m. ap (slot_in (User other)) m.row ∙ elsewhere other apart m.slot x.1) rows.seats.entries new.seats.entries moved (kept.seated.lines (User other))))
           (cases_eq other user)
         where
@@ -301,7 +301,7 @@ kept_like rows new kept seats users line = record {
 }
   where
     lines : (level : Level) → AreIn level (tickets_in level new) new.seats.entries
-    lines Lane = subst (λ l. AreIn Lane l.tickets.items new.seats.entries) (sym line) (subst (AreIn Lane rows.line.tickets.items) (sym seats) (kept.seated.lines Lane))
+    lines Lane = subst (λ l. AreIn Lane l.tickets new.seats.entries) (sym line) (subst (AreIn Lane rows.line.tickets) (sym seats) (kept.seated.lines Lane))
     lines (User user) = subst (λ us. AreIn (User user) (own_tickets user us) new.seats.entries) (sym users) (subst (AreIn (User user) (own_tickets user rows.users.entries)) (sym seats) (kept.seated.lines (User user)))
 
 pub same_seats : (es fs : List (ℕ × SeatRow)) → fs ≡ es → ArePairs IsSameSeat es fs

@@ -9,7 +9,7 @@ use Rattle.ynl_lanes.specs.firsts.Firsts.{IsFilledUp}
 use Rattle.ynl_slots.specs.Slots.{IsOnly, HasDistinctNumbers}
 use Rattle.ynl_slots.proofs.Lookups.{only_from_distinct, unused_from_lookup}
 use Rattle.ynl_lanes.specs.declared.lane.kinds.Kind.{Kind}
-use Rattle.ynl_lanes.specs.declared.lane.line.Line.{Line}
+use Rattle.ynl_lanes.specs.lane.Lined.{Lined}
 use Rattle.ynl_lanes.specs.declared.lane.rows.SeatRow.{SeatRow}
 use Rattle.ynl_lanes.specs.declared.lane.levels.Level.{Level}
 use Rattle.ynl_lanes.specs.declared.lane.levels.Level.TheVariants.{Lane, User}
@@ -162,7 +162,7 @@ module _ (level : Level) (tickets : List ℕ) (ticket from next : ℕ) (row : Se
           go (inr stays) = ⊎_elim (λ low. inl (omega (arith, low))) (λ high. inr (omega (arith, high))) (stays.apart slot (slot_same f slot stays at))
 
       -- and the line has the values at the new slots
-      step_moved : {T : Type 0} (none : T) (old line new : Line T) → ((kind : Kind) → values_of kind new ≡ moved none from next (values_of kind line)) → ((kind : Kind) → from < length (values_of kind line)) → (e f : ℕ × SeatRow) → Known f → IsMoved level old line e f → IsMoved level old new e (step f)
+      step_moved : {T : Type 0} (none : T) (old line new : Lined T) → ((kind : Kind) → values_of kind new ≡ moved none from next (values_of kind line)) → ((kind : Kind) → from < length (values_of kind line)) → (e f : ℕ × SeatRow) → Known f → IsMoved level old line e f → IsMoved level old new e (step f)
       step_moved none old line new is inside e f k was = go (cases f k)
         where
           go : Goes f ⊎ Stays f → IsMoved level old new e (step f)
@@ -187,11 +187,11 @@ module _ (level : Level) (tickets : List ℕ) (ticket from next : ℕ) (row : Se
           }
 
 -- a line is being packed: the seats before a slot have moved up
-pub record IsPacking {T : Type 0} (level : Level) (old line : Line T) (before seats : List (ℕ × SeatRow)) (slot next : ℕ) : Type 0 where
+pub record IsPacking {T : Type 0} (level : Level) (old line : Lined T) (before seats : List (ℕ × SeatRow)) (slot next : ℕ) : Type 0 where
   pub up : next ≤ slot
-  pub count : length line.tickets.items ≡ length old.tickets.items
+  pub count : length line.tickets ≡ length old.tickets
   pub is_line : IsLine line
-  pub are_in : AreIn level line.tickets.items seats
+  pub are_in : AreIn level line.tickets seats
   pub distinct : HasDistinctNumbers seats
   pub apart : AllByRecursion (IsApart level next slot) seats
   pub moved : ArePairs (IsMoved level old line) before seats
@@ -216,7 +216,7 @@ module _ (level : Level) where
           here true from is = sym (same_Some _ _ is)
           here false from is = absurd (none-some from is)
 
-  moved_not : {T : Type 0} (line : Line T) (e : ℕ × SeatRow) → IsMoved level line line e e
+  moved_not : {T : Type 0} (line : Lined T) (e : ℕ × SeatRow) → IsMoved level line line e e
   moved_not line e =
       let same = at_slot-same e.1 in
       record { ticket = refl; slot = same.0; row = same.1; values = λ kind from at d. ap (λ n. get_or (values_of kind line) n d) (sym (same.2 from at)) }
@@ -235,7 +235,7 @@ module _ (level : Level) where
       go (Some row) found h = all_then (λ f. f.0 ≡ ticket → f.1 ≡ row) (λ f. f.0 ≡ ticket → slot_in level f.1 ≢ Some slot) (λ f only is at. elsewhere row h (ap (slot_in level) (sym (only is)) ∙ at)) seats (only_from_distinct ticket row seats distinct found)
 
 module _ {T : Type 0} (level : Level) where
-  pub packing-init : (line : Line T) (seats : List (ℕ × SeatRow)) → IsLine line → AreIn level line.tickets.items seats → HasDistinctNumbers seats → IsPacking level line line seats seats 0 0
+  pub packing-init : (line : Lined T) (seats : List (ℕ × SeatRow)) → IsLine line → AreIn level line.tickets seats → HasDistinctNumbers seats → IsPacking level line line seats seats 0 0
   packing-init line seats is_line are_in distinct = record {
     up = omega arith;
     count = refl;
@@ -247,53 +247,53 @@ module _ {T : Type 0} (level : Level) where
   }
 
   -- a slot from which none moves
-  pub packing-over : (old line : Line T) (before seats : List (ℕ × SeatRow)) (slot next ticket : ℕ) → IsPacking level old line before seats slot next → slice_get line.tickets.items slot ≡ Some ticket → stands_at level slot (lookup (nat_eq ticket) seats) ≡ false → IsPacking level old line before seats (slot + 1) next
+  pub packing-over : (old line : Lined T) (before seats : List (ℕ × SeatRow)) (slot next ticket : ℕ) → IsPacking level old line before seats slot next → slice_get line.tickets slot ≡ Some ticket → stands_at level slot (lookup (nat_eq ticket) seats) ≡ false → IsPacking level old line before seats (slot + 1) next
   packing-over old line before seats slot next ticket h read fails = record {
     up = omega (arith, h.up);
     count = h.count;
     is_line = h.is_line;
     are_in = h.are_in;
     distinct = h.distinct;
-    apart = all_both (λ f. IsIn level line.tickets.items f × (f.0 ≡ ticket → slot_in level f.1 ≢ Some slot)) (IsApart level next slot) (IsApart level next (slot + 1)) over seats
-        (all_both (IsIn level line.tickets.items) (λ f. f.0 ≡ ticket → slot_in level f.1 ≢ Some slot) (λ f. IsIn level line.tickets.items f × (f.0 ≡ ticket → slot_in level f.1 ≢ Some slot)) (λ f p q. (p, q)) seats h.are_in.in_line (not_at level seats ticket slot h.distinct fails)) h.apart;
+    apart = all_both (λ f. IsIn level line.tickets f × (f.0 ≡ ticket → slot_in level f.1 ≢ Some slot)) (IsApart level next slot) (IsApart level next (slot + 1)) over seats
+        (all_both (IsIn level line.tickets) (λ f. f.0 ≡ ticket → slot_in level f.1 ≢ Some slot) (λ f. IsIn level line.tickets f × (f.0 ≡ ticket → slot_in level f.1 ≢ Some slot)) (λ f p q. (p, q)) seats h.are_in.in_line (not_at level seats ticket slot h.distinct fails)) h.apart;
     moved = h.moved;
   }
     where
-      over : (f : ℕ × SeatRow) → IsIn level line.tickets.items f × (f.0 ≡ ticket → slot_in level f.1 ≢ Some slot) → IsApart level next slot f → IsApart level next (slot + 1) f
+      over : (f : ℕ × SeatRow) → IsIn level line.tickets f × (f.0 ≡ ticket → slot_in level f.1 ≢ Some slot) → IsApart level next slot f → IsApart level next (slot + 1) f
       over f k apart at there = ⊎_elim (λ low. inl low) (λ high. inr (further high)) (apart at there)
         where
           further : slot ≤ at → slot + 1 ≤ at
           further high =
-              let other : at ≢ slot = λ same. k.1 (same_Some _ _ (sym (k.0 at there) ∙ ap (slice_get line.tickets.items) same ∙ read)) (there ∙ ap Some same) in
+              let other : at ≢ slot = λ same. k.1 (same_Some _ _ (sym (k.0 at there) ∙ ap (slice_get line.tickets) same ∙ read)) (there ∙ ap Some same) in
               omega (arith, high, other)
 
   -- a slot from which a seat moves up
-  pub packing-up : (none : T) (old line new : Line T) (before seats after : List (ℕ × SeatRow)) (slot next ticket : ℕ) → IsPacking level old line before seats slot next → slot < length line.tickets.items → slice_get line.tickets.items slot ≡ Some ticket → stands_at level slot (lookup (nat_eq ticket) seats) ≡ true → Moves level ticket next seats after
-      → new.tickets.items ≡ set line.tickets.items next ticket → new.masters ≡ moved none slot next line.masters → new.asks ≡ moved none slot next line.asks → IsPacking level old new before after (slot + 1) (next + 1)
+  pub packing-up : (none : T) (old line new : Lined T) (before seats after : List (ℕ × SeatRow)) (slot next ticket : ℕ) → IsPacking level old line before seats slot next → slot < length line.tickets → slice_get line.tickets slot ≡ Some ticket → stands_at level slot (lookup (nat_eq ticket) seats) ≡ true → Moves level ticket next seats after
+      → new.tickets ≡ set line.tickets next ticket → new.masters ≡ moved none slot next line.masters → new.asks ≡ moved none slot next line.asks → IsPacking level old new before after (slot + 1) (next + 1)
   packing-up none old line new before seats after slot next ticket h inside read met moves tickets masters asks =
       let row = moves.row in
       let here : slot_in level row ≡ Some slot = slot_read (slot_in level row) (ap (stands_at level slot) (sym moves.found) ∙ met) in
       let only : IsOnly ticket row seats = only_from_distinct ticket row seats h.distinct moves.found in
-      let known : AllByRecursion (Known level line.tickets.items ticket slot next row) seats =
-      all_both (λ f. (f.0 ≡ ticket → f.1 ≡ row) × IsIn level line.tickets.items f) (IsApart level next slot) (Known level line.tickets.items ticket slot next row) (λ f p apart. record { only = p.0; in_line = p.1; apart = apart }) seats
-      (all_both (λ f. f.0 ≡ ticket → f.1 ≡ row) (IsIn level line.tickets.items) (λ f. (f.0 ≡ ticket → f.1 ≡ row) × IsIn level line.tickets.items f) (λ f p q. (p, q)) seats only h.are_in.in_line) h.apart in
-      let go = step level line.tickets.items ticket slot next row in
+      let known : AllByRecursion (Known level line.tickets ticket slot next row) seats =
+      all_both (λ f. (f.0 ≡ ticket → f.1 ≡ row) × IsIn level line.tickets f) (IsApart level next slot) (Known level line.tickets ticket slot next row) (λ f p apart. record { only = p.0; in_line = p.1; apart = apart }) seats
+      (all_both (λ f. f.0 ≡ ticket → f.1 ≡ row) (IsIn level line.tickets) (λ f. (f.0 ≡ ticket → f.1 ≡ row) × IsIn level line.tickets f) (λ f p q. (p, q)) seats only h.are_in.in_line) h.apart in
+      let go = step level line.tickets ticket slot next row in
       let entries : after ≡ map go seats = moves.entries in
       record {
         up = omega (arith, h.up);
-        count = ap length tickets ∙ length-set line.tickets.items next ticket ∙ h.count;
+        count = ap length tickets ∙ length-set line.tickets next ticket ∙ h.count;
         is_line = record {
           small = rw (tickets, length-set) h.is_line.small;
           masters = rw (tickets, masters, length-set, length-set, length-set) h.is_line.masters;
           asks = rw (tickets, asks, length-set, length-set, length-set) h.is_line.asks;
         };
         are_in = record {
-          in_line = rw (tickets, entries) (all_map (Known level line.tickets.items ticket slot next row) (IsIn level (set line.tickets.items next ticket)) go (step_in level line.tickets.items ticket slot next row read here h.up (omega (arith, inside, h.up))) seats known);
-          ordered = rw entries (ordered_map (Known level line.tickets.items ticket slot next row) (IsBefore level) (IsBefore level) go (step_before level line.tickets.items ticket slot next row read here h.up) seats known h.are_in.ordered);
+          in_line = rw (tickets, entries) (all_map (Known level line.tickets ticket slot next row) (IsIn level (set line.tickets next ticket)) go (step_in level line.tickets ticket slot next row read here h.up (omega (arith, inside, h.up))) seats known);
+          ordered = rw entries (ordered_map (Known level line.tickets ticket slot next row) (IsBefore level) (IsBefore level) go (step_before level line.tickets ticket slot next row read here h.up) seats known h.are_in.ordered);
         };
         distinct = rw moves.entries (distinct_with_row ticket (at_slot level next row) seats h.distinct);
-        apart = rw entries (all_map (Known level line.tickets.items ticket slot next row) (IsApart level (next + 1) (slot + 1)) go (step_apart level line.tickets.items ticket slot next row read here h.up) seats known);
-        moved = rw entries (pairs_map (Known level line.tickets.items ticket slot next row) (IsMoved level old line) (IsMoved level old new) go (λ e f k was. step_moved level line.tickets.items ticket slot next row read here h.up none old line new (both_kinds masters asks) (inside_kinds inside h.is_line) e f k was) before seats known h.moved);
+        apart = rw entries (all_map (Known level line.tickets ticket slot next row) (IsApart level (next + 1) (slot + 1)) go (step_apart level line.tickets ticket slot next row read here h.up) seats known);
+        moved = rw entries (pairs_map (Known level line.tickets ticket slot next row) (IsMoved level old line) (IsMoved level old new) go (λ e f k was. step_moved level line.tickets ticket slot next row read here h.up none old line new (both_kinds masters asks) (inside_kinds inside h.is_line) e f k was) before seats known h.moved);
       }
     where
       slot_read : (o : Option ℕ) → is_slot slot o ≡ true → o ≡ Some slot
@@ -304,31 +304,31 @@ module _ {T : Type 0} (level : Level) where
       both_kinds m a Master = m
       both_kinds m a Ask = a
 
-      inside_kinds : slot < length line.tickets.items → IsLine line → (kind : Kind) → slot < length (values_of kind line)
+      inside_kinds : slot < length line.tickets → IsLine line → (kind : Kind) → slot < length (values_of kind line)
       inside_kinds i l Master = omega (arith, i, l.masters)
       inside_kinds i l Ask = omega (arith, i, l.asks)
 
   -- what was behind the seats goes from the line
-  pub packed : (old line new : Line T) (before seats : List (ℕ × SeatRow)) (slot next : ℕ) → IsPacking level old line before seats slot next → slot ≡ length old.tickets.items → new.tickets.items ≡ take next line.tickets.items → new.masters ≡ line.masters → new.asks ≡ line.asks
-      → IsLine new × AreIn level new.tickets.items seats × ArePairs (IsMoved level old new) before seats
+  pub packed : (old line new : Lined T) (before seats : List (ℕ × SeatRow)) (slot next : ℕ) → IsPacking level old line before seats slot next → slot ≡ length old.tickets → new.tickets ≡ take next line.tickets → new.masters ≡ line.masters → new.asks ≡ line.asks
+      → IsLine new × AreIn level new.tickets seats × ArePairs (IsMoved level old new) before seats
   packed old line new before seats slot next h all tickets masters asks = (
     record {
-      small = rw tickets (omega (arith, length-take next line.tickets.items, h.is_line.small));
-      masters = rw (tickets, masters) (omega (arith, length-take next line.tickets.items, h.is_line.masters));
-      asks = rw (tickets, asks) (omega (arith, length-take next line.tickets.items, h.is_line.asks));
+      small = rw tickets (omega (arith, length-take next line.tickets, h.is_line.small));
+      masters = rw (tickets, masters) (omega (arith, length-take next line.tickets, h.is_line.masters));
+      asks = rw (tickets, asks) (omega (arith, length-take next line.tickets, h.is_line.asks));
     },
     record {
-      in_line = rw tickets (all_both (IsIn level line.tickets.items) (IsApart level next slot) (IsIn level (take next line.tickets.items)) still seats h.are_in.in_line h.apart);
+      in_line = rw tickets (all_both (IsIn level line.tickets) (IsApart level next slot) (IsIn level (take next line.tickets)) still seats h.are_in.in_line h.apart);
       ordered = h.are_in.ordered;
     },
     pairs_then (IsMoved level old line) (IsMoved level old new) same before seats h.moved,
   )
     where
-      still : (f : ℕ × SeatRow) → IsIn level line.tickets.items f → IsApart level next slot f → IsIn level (take next line.tickets.items) f
+      still : (f : ℕ × SeatRow) → IsIn level line.tickets f → IsApart level next slot f → IsIn level (take next line.tickets) f
       still f is apart at there =
-          let within : at < length line.tickets.items = slice_get_within line.tickets.items at f.0 (is at there) in
+          let within : at < length line.tickets = slice_get_within line.tickets at f.0 (is at there) in
           let low : at < next = ⊎_elim (λ low. low) (λ high. absurd (omega (arith, high, within, h.count, all))) (apart at there) in
-          slice_get-take next line.tickets.items at low ∙ is at there
+          slice_get-take next line.tickets at low ∙ is at there
 
       kept : (kind : Kind) → values_of kind new ≡ values_of kind line
       kept Master = masters
@@ -338,14 +338,14 @@ module _ {T : Type 0} (level : Level) where
       same e f m = record { ticket = m.ticket; slot = m.slot; row = m.row; values = λ kind from at d. ap (λ vs. get_or vs m.slot d) (kept kind) ∙ m.values kind from at d }
 
   -- where a line did not change, no seat moved
-  pub none_moved : (line : Line T) (seats : List (ℕ × SeatRow)) → ArePairs (IsMoved level line line) seats seats
+  pub none_moved : (line : Lined T) (seats : List (ℕ × SeatRow)) → ArePairs (IsMoved level line line) seats seats
   none_moved line seats = pairs_same (IsMoved level line line) (moved_not level line) seats
 
   -- and more slots behind change no value
-  pub moved_filled : (none : T) (old line new : Line T) (before seats : List (ℕ × SeatRow)) → IsLine line → AreIn level line.tickets.items seats → ArePairs (IsMoved level old line) before seats → IsFilledUp none line.masters new.masters → IsFilledUp none line.asks new.asks → ArePairs (IsMoved level old new) before seats
-  moved_filled none old line new before seats is_line are_in moved masters asks = pairs_with (IsIn level line.tickets.items) (IsMoved level old line) (IsMoved level old new) each before seats are_in.in_line moved
+  pub moved_filled : (none : T) (old line new : Lined T) (before seats : List (ℕ × SeatRow)) → IsLine line → AreIn level line.tickets seats → ArePairs (IsMoved level old line) before seats → IsFilledUp none line.masters new.masters → IsFilledUp none line.asks new.asks → ArePairs (IsMoved level old new) before seats
+  moved_filled none old line new before seats is_line are_in moved masters asks = pairs_with (IsIn level line.tickets) (IsMoved level old line) (IsMoved level old new) each before seats are_in.in_line moved
     where
-      within : (kind : Kind) (slot : ℕ) → slot < length line.tickets.items → slot < length (values_of kind line)
+      within : (kind : Kind) (slot : ℕ) → slot < length line.tickets → slot < length (values_of kind line)
       within Master slot h = omega (arith, h, is_line.masters)
       within Ask slot h = omega (arith, h, is_line.asks)
 
@@ -353,13 +353,13 @@ module _ {T : Type 0} (level : Level) where
       filled Master = masters
       filled Ask = asks
 
-      each : (e f : ℕ × SeatRow) → IsIn level line.tickets.items f → IsMoved level old line e f → IsMoved level old new e f
+      each : (e f : ℕ × SeatRow) → IsIn level line.tickets f → IsMoved level old line e f → IsMoved level old new e f
       each e f is m = record {
         ticket = m.ticket;
         slot = m.slot;
         row = m.row;
         values = λ kind from at d.
             let stands : slot_in level f.1 ≡ Some m.slot = ap (slot_in level) m.row ∙ slot_in-at level m.slot from e.1 at in
-            let inside : m.slot < length (values_of kind line) = within kind m.slot (slice_get_within line.tickets.items m.slot f.0 (is m.slot stands)) in
+            let inside : m.slot < length (values_of kind line) = within kind m.slot (slice_get_within line.tickets m.slot f.0 (is m.slot stands)) in
             ap (λ vs. get_or vs m.slot d) (filled kind) ∙ get_or_append_left (values_of kind line) _ d m.slot inside ∙ m.values kind from at d;
       }

@@ -55,8 +55,8 @@ module _ (rows new : Rows) (kept : IsKept rows) (ticket : ℕ) (row : SeatRow) (
       })
 
       lines : (level : Level) → AreIn level (tickets_in level new) new.seats.entries
-      lines Lane = fewer Lane new.line.tickets.items (subst (λ l. AreIn Lane l.tickets.items rows.seats.entries) (sym line) (kept.seated.lines Lane))
-      lines (User other) = fewer (User other) (own_tickets other new.users.entries) (subst (λ ts. AreIn (User other) ts rows.seats.entries) (sym (same_of (λ (r : UserRow). r.line.tickets.items) [] refl other)) (kept.seated.lines (User other)))
+      lines Lane = fewer Lane new.line.tickets (subst (λ l. AreIn Lane l.tickets rows.seats.entries) (sym line) (kept.seated.lines Lane))
+      lines (User other) = fewer (User other) (own_tickets other new.users.entries) (subst (λ ts. AreIn (User other) ts rows.seats.entries) (sym (same_of (λ (r : UserRow). r.line.tickets) [] refl other)) (kept.seated.lines (User other)))
 
   stood_pulled : (kind : Kind) → AreStood kind new
   stood_pulled kind =
@@ -139,8 +139,8 @@ module _ (rows new : Rows) (kept : IsKept rows) (user : ℕ) (seats : new.seats 
   }
     where
       lines : (level : Level) → AreIn level (tickets_in level new) new.seats.entries
-      lines Lane = subst (λ l. AreIn Lane l.tickets.items new.seats.entries) (sym line) (subst (λ s. AreIn Lane rows.line.tickets.items s.entries) (sym seats) (kept.seated.lines Lane))
+      lines Lane = subst (λ l. AreIn Lane l.tickets new.seats.entries) (sym line) (subst (λ s. AreIn Lane rows.line.tickets s.entries) (sym seats) (kept.seated.lines Lane))
       lines (User other) = subst (λ s. AreIn (User other) (own_tickets other new.users.entries) s.entries) (sym seats) (⊎_elim
           (λ same. away_in other (own_tickets other new.users.entries) rows.seats.entries kept.seated.distinct (λ n e there is. none n e there (is ∙ same)))
-          (λ apart. subst (λ ts. AreIn (User other) ts rows.seats.entries) (sym (same_but (λ (r : UserRow). r.line.tickets.items) [] other apart)) (kept.seated.lines (User other)))
+          (λ apart. subst (λ ts. AreIn (User other) ts rows.seats.entries) (sym (same_but (λ (r : UserRow). r.line.tickets) [] other apart)) (kept.seated.lines (User other)))
           (cases_eq other user))

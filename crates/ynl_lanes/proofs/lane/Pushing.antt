@@ -67,31 +67,31 @@ none_of Master = refl
 none_of Ask = refl
 
 module _ (rows new : Rows) (kept : IsKept rows) (app user ticket : ℕ) (unused : IsUnused ticket rows.seats.entries) (room : HasRoom rows.line) (own_room : IsOwnRoom user rows.users.entries) (pushes : PushesOwn user ticket rows.users.entries new.users.entries) (row : SeatRow)
-    (user_is : row.user ≡ user) (slot_is : row.slot ≡ length rows.line.tickets.items) (own_is : row.own_slot ≡ length pushes.row.line.tickets.items) (waits_is : row.waits ≡ nothing_waits)
-    (seats : new.seats.entries ≡ rows.seats.entries ++ (ticket, row) ∷ []) (tickets : new.line.tickets.items ≡ rows.line.tickets.items ++ ticket ∷ [])
-    (masters : new.line.masters ≡ set rows.line.masters (length rows.line.tickets.items) no_user) (asks : new.line.asks ≡ set rows.line.asks (length rows.line.tickets.items) no_user) where
-  own_new : own_tickets user new.users.entries ≡ pushes.row.line.tickets.items ++ ticket ∷ []
-  own_new = ap (own_tickets user) pushes.entries ∙ of_written (λ (r : UserRow). r.line.tickets.items) [] user pushes.row pushes.next rows.users.entries pushes.found ∙ pushes.tickets
+    (user_is : row.user ≡ user) (slot_is : row.slot ≡ length rows.line.tickets) (own_is : row.own_slot ≡ length pushes.row.line.tickets) (waits_is : row.waits ≡ nothing_waits)
+    (seats : new.seats.entries ≡ rows.seats.entries ++ (ticket, row) ∷ []) (tickets : new.line.tickets ≡ rows.line.tickets ++ ticket ∷ [])
+    (masters : new.line.masters ≡ set rows.line.masters (length rows.line.tickets) no_user) (asks : new.line.asks ≡ set rows.line.asks (length rows.line.tickets) no_user) where
+  own_new : own_tickets user new.users.entries ≡ pushes.row.line.tickets ++ ticket ∷ []
+  own_new = ap (own_tickets user) pushes.entries ∙ of_written (λ (r : UserRow). r.line.tickets) [] user pushes.row pushes.next rows.users.entries pushes.found ∙ pushes.tickets
 
-  lane_values : (kind : Kind) → values_of kind new.line ≡ set (values_of kind rows.line) (length rows.line.tickets.items) no_user
+  lane_values : (kind : Kind) → values_of kind new.line ≡ set (values_of kind rows.line) (length rows.line.tickets) no_user
   lane_values Master = masters
   lane_values Ask = asks
 
-  next_values : (kind : Kind) → values_of kind pushes.next.line ≡ set (values_of kind pushes.row.line) (length pushes.row.line.tickets.items) no_size
+  next_values : (kind : Kind) → values_of kind pushes.next.line ≡ set (values_of kind pushes.row.line) (length pushes.row.line.tickets) no_size
   next_values Master = pushes.masters
   next_values Ask = pushes.asks
 
-  own_values_new : (kind : Kind) → own_values kind user new.users.entries ≡ set (values_of kind pushes.row.line) (length pushes.row.line.tickets.items) no_size
+  own_values_new : (kind : Kind) → own_values kind user new.users.entries ≡ set (values_of kind pushes.row.line) (length pushes.row.line.tickets) no_size
   own_values_new kind = ap (own_values kind user) pushes.entries ∙ of_written (λ (r : UserRow). values_of kind r.line) [] user pushes.row pushes.next rows.users.entries pushes.found ∙ next_values kind
 
-  own_inside : (kind : Kind) → length pushes.row.line.tickets.items < length (values_of kind pushes.row.line)
+  own_inside : (kind : Kind) → length pushes.row.line.tickets < length (values_of kind pushes.row.line)
   own_inside Master = (own_room pushes.row pushes.found).0.masters
   own_inside Ask = (own_room pushes.row pushes.found).0.asks
 
   waits_here : HasWaits new.users.entries ticket row
   waits_here kind =
       ap (λ k. get_or (own_values kind k new.users.entries) row.own_slot no_size) user_is ∙ ap (λ n. get_or (own_values kind user new.users.entries) n no_size) own_is
-      ∙ ap (λ vs. get_or vs (length pushes.row.line.tickets.items) no_size) (own_values_new kind) ∙ get_or-set_same (values_of kind pushes.row.line) (length pushes.row.line.tickets.items) no_size no_size (own_inside kind)
+      ∙ ap (λ vs. get_or vs (length pushes.row.line.tickets) no_size) (own_values_new kind) ∙ get_or-set_same (values_of kind pushes.row.line) (length pushes.row.line.tickets) no_size no_size (own_inside kind)
       ∙ sym (none_of kind) ∙ ap (of_kind kind) (sym waits_is)
 
   waits_there : (n : ℕ) (x : SeatRow) → lookup (nat_eq n) rows.seats.entries ≡ Some x → HasWaits rows.users.entries n x → HasWaits new.users.entries n x
@@ -100,10 +100,10 @@ module _ (rows new : Rows) (kept : IsKept rows) (app user ticket : ℕ) (unused 
       own : x.user ≡ user → get_or (own_values kind x.user new.users.entries) x.own_slot no_size ≡ of_kind kind x.waits
       own same =
           let line = own_line rows kept.seated user pushes.row pushes.found in
-          let inside : x.own_slot < length pushes.row.line.tickets.items = slice_get_within pushes.row.line.tickets.items x.own_slot n (in_line-at (User user) pushes.row.line.tickets.items rows.seats.entries n x.own_slot x line.1 there (own_slot-in user x same)) in
-          let away : x.own_slot ≢ length pushes.row.line.tickets.items = λ is. omega (arith, inside, is) in
+          let inside : x.own_slot < length pushes.row.line.tickets = slice_get_within pushes.row.line.tickets x.own_slot n (in_line-at (User user) pushes.row.line.tickets rows.seats.entries n x.own_slot x line.1 there (own_slot-in user x same)) in
+          let away : x.own_slot ≢ length pushes.row.line.tickets = λ is. omega (arith, inside, is) in
           ap (λ k. get_or (own_values kind k new.users.entries) x.own_slot no_size) same ∙ ap (λ vs. get_or vs x.own_slot no_size) (own_values_new kind)
-          ∙ get_or-set_other (values_of kind pushes.row.line) (length pushes.row.line.tickets.items) x.own_slot no_size no_size away
+          ∙ get_or-set_other (values_of kind pushes.row.line) (length pushes.row.line.tickets) x.own_slot no_size no_size away
           ∙ ap (λ vs. get_or vs x.own_slot no_size) (sym (ap (λ o. option_map_or (λ (r : UserRow). values_of kind r.line) o []) pushes.found)) ∙ ap (λ k. get_or (own_values kind k rows.users.entries) x.own_slot no_size) (sym same) ∙ h kind
 
       other : x.user ≢ user → get_or (own_values kind x.user new.users.entries) x.own_slot no_size ≡ of_kind kind x.waits
@@ -121,9 +121,9 @@ module _ (rows new : Rows) (kept : IsKept rows) (app user ticket : ℕ) (unused 
     lines = lines;
     waits = subst (λ es. EachSeat (HasWaits new.users.entries) es) (sym seats) (each_pushed (HasWaits rows.users.entries) (HasWaits new.users.entries) ticket row rows.seats.entries unused waits_here waits_there kept.seated.waits);
     line = record {
-      small = (let n = ap length tickets ∙ length-append rows.line.tickets.items (ticket ∷ []) in let s = room.small in omega (arith, n, s));
-      masters = (let n = ap length tickets ∙ length-append rows.line.tickets.items (ticket ∷ []) in let m = ap length masters ∙ length-set rows.line.masters (length rows.line.tickets.items) no_user in let s = room.masters in omega (arith, n, m, s));
-      asks = (let n = ap length tickets ∙ length-append rows.line.tickets.items (ticket ∷ []) in let m = ap length asks ∙ length-set rows.line.asks (length rows.line.tickets.items) no_user in let s = room.asks in omega (arith, n, m, s));
+      small = (let n = ap length tickets ∙ length-append rows.line.tickets (ticket ∷ []) in let s = room.small in omega (arith, n, s));
+      masters = (let n = ap length tickets ∙ length-append rows.line.tickets (ticket ∷ []) in let m = ap length masters ∙ length-set rows.line.masters (length rows.line.tickets) no_user in let s = room.masters in omega (arith, n, m, s));
+      asks = (let n = ap length tickets ∙ length-append rows.line.tickets (ticket ∷ []) in let m = ap length asks ∙ length-set rows.line.asks (length rows.line.tickets) no_user in let s = room.asks in omega (arith, n, m, s));
     };
     users = subst (EachUser IsUserRow) (sym pushes.entries) (users_written user pushes.row pushes.next rows.users.entries pushes.found own_row kept.seated.users);
   }
@@ -131,12 +131,12 @@ module _ (rows new : Rows) (kept : IsKept rows) (app user ticket : ℕ) (unused 
       own_row : IsUserRow user pushes.next
       own_row =
           let r = (own_room pushes.row pushes.found).0 in
-          let n = ap length pushes.tickets ∙ length-append pushes.row.line.tickets.items (ticket ∷ []) in
+          let n = ap length pushes.tickets ∙ length-append pushes.row.line.tickets (ticket ∷ []) in
           record {
             line = record {
               small = (let s = r.small in omega (arith, n, s));
-              masters = (let m = ap length pushes.masters ∙ length-set pushes.row.line.masters (length pushes.row.line.tickets.items) no_size in let s = r.masters in omega (arith, n, m, s));
-              asks = (let m = ap length pushes.asks ∙ length-set pushes.row.line.asks (length pushes.row.line.tickets.items) no_size in let s = r.asks in omega (arith, n, m, s));
+              masters = (let m = ap length pushes.masters ∙ length-set pushes.row.line.masters (length pushes.row.line.tickets) no_size in let s = r.masters in omega (arith, n, m, s));
+              asks = (let m = ap length pushes.asks ∙ length-set pushes.row.line.asks (length pushes.row.line.tickets) no_size in let s = r.asks in omega (arith, n, m, s));
             };
             small = subst IsUse (sym pushes.used) (kept.seated.users user pushes.row pushes.found).small;
           }
@@ -145,8 +145,8 @@ module _ (rows new : Rows) (kept : IsKept rows) (app user ticket : ℕ) (unused 
       in_user other = ⊎_elim
           (λ same. subst (λ k. AreIn (User k) (own_tickets k new.users.entries) (rows.seats.entries ++ (ticket, row) ∷ [])) (sym same)
           (subst (λ ts. AreIn (User user) ts (rows.seats.entries ++ (ticket, row) ∷ [])) (sym own_new)
-          (in_pushed (User user) pushes.row.line.tickets.items ticket row rows.seats.entries (own_line rows kept.seated user pushes.row pushes.found).1 (own_slot-in user row user_is ∙ ap Some own_is))))
-          (λ apart. subst (λ ts. AreIn (User other) ts (rows.seats.entries ++ (ticket, row) ∷ [])) (sym (ap (own_tickets other) pushes.entries ∙ of_other (λ (r : UserRow). r.line.tickets.items) [] other user pushes.next rows.users.entries apart))
+          (in_pushed (User user) pushes.row.line.tickets ticket row rows.seats.entries (own_line rows kept.seated user pushes.row pushes.found).1 (own_slot-in user row user_is ∙ ap Some own_is))))
+          (λ apart. subst (λ ts. AreIn (User other) ts (rows.seats.entries ++ (ticket, row) ∷ [])) (sym (ap (own_tickets other) pushes.entries ∙ of_other (λ (r : UserRow). r.line.tickets) [] other user pushes.next rows.users.entries apart))
           (in_pushed_away (User other) (own_tickets other rows.users.entries) ticket row rows.seats.entries (kept.seated.lines (User other)) (elsewhere other apart)))
           (cases_eq other user)
         where
@@ -157,7 +157,7 @@ module _ (rows new : Rows) (kept : IsKept rows) (app user ticket : ℕ) (unused 
               ap (λ (b : Bool). let o : Option ℕ = cond b (Some row.own_slot) None in o) missed
 
       lines : (level : Level) → AreIn level (tickets_in level new) new.seats.entries
-      lines Lane = subst (λ ts. AreIn Lane ts new.seats.entries) (sym tickets) (subst (AreIn Lane (rows.line.tickets.items ++ ticket ∷ [])) (sym seats) (in_pushed Lane rows.line.tickets.items ticket row rows.seats.entries (kept.seated.lines Lane) (ap Some slot_is)))
+      lines Lane = subst (λ ts. AreIn Lane ts new.seats.entries) (sym tickets) (subst (AreIn Lane (rows.line.tickets ++ ticket ∷ [])) (sym seats) (in_pushed Lane rows.line.tickets ticket row rows.seats.entries (kept.seated.lines Lane) (ap Some slot_is)))
       lines (User other) = subst (AreIn (User other) (own_tickets other new.users.entries)) (sym seats) (in_user other)
 
   stood_pushed : (kind : Kind) → AreStood kind new
@@ -169,9 +169,9 @@ module _ (rows new : Rows) (kept : IsKept rows) (app user ticket : ℕ) (unused 
     where
       others : (e : SeatRow) → IsStood kind rows.seats.entries rows.users.entries (values_of kind rows.line) e → IsStood kind (rows.seats.entries ++ (ticket, row) ∷ []) new.users.entries (values_of kind new.line) e
       others e h =
-          let inside : h.stand.slot < length rows.line.tickets.items = slice_get_within rows.line.tickets.items h.stand.slot h.ticket (in_line-at Lane rows.line.tickets.items rows.seats.entries h.ticket h.stand.slot h.stand (kept.seated.lines Lane) h.found refl) in
-          let away : h.stand.slot ≢ length rows.line.tickets.items = λ is. omega (arith, inside, is) in
-          let value = ap (λ vs. get_or vs h.stand.slot no_user) (lane_values kind) ∙ get_or-set_other (values_of kind rows.line) (length rows.line.tickets.items) h.stand.slot no_user no_user away in
+          let inside : h.stand.slot < length rows.line.tickets = slice_get_within rows.line.tickets h.stand.slot h.ticket (in_line-at Lane rows.line.tickets rows.seats.entries h.ticket h.stand.slot h.stand (kept.seated.lines Lane) h.found refl) in
+          let away : h.stand.slot ≢ length rows.line.tickets = λ is. omega (arith, inside, is) in
+          let value = ap (λ vs. get_or vs h.stand.slot no_user) (lane_values kind) ∙ get_or-set_other (values_of kind rows.line) (length rows.line.tickets) h.stand.slot no_user no_user away in
           record {
             ticket = h.ticket;
             stand = h.stand;

@@ -78,10 +78,10 @@ module _ (rows : Rows) (seated : IsSeated rows) where
       go (inr (inr behind)) = absurd (let lt : other.own_slot < row.own_slot = behind.1 other.own_slot row.own_slot (own_slot-in user other also) (own_slot-in user row is) in omega (arith, lt, le))
 
   -- the user's line, where the row is known
-  pub own_line : (user : ℕ) (row : UserRow) → lookup (nat_eq user) rows.users.entries ≡ Some row → IsLine row.line × AreIn (User user) row.line.tickets.items rows.seats.entries
+  pub own_line : (user : ℕ) (row : UserRow) → lookup (nat_eq user) rows.users.entries ≡ Some row → IsLine row.line × AreIn (User user) row.line.tickets rows.seats.entries
   own_line user row found = (
     (seated.users user row found).line,
-    subst (λ ts. AreIn (User user) ts rows.seats.entries) (ap (λ o. option_map_or (λ (r : UserRow). r.line.tickets.items) o []) found) (seated.lines (User user)),
+    subst (λ ts. AreIn (User user) ts rows.seats.entries) (ap (λ o. option_map_or (λ (r : UserRow). r.line.tickets) o []) found) (seated.lines (User user)),
   )
 
   -- what waits at a user's seat stands in the line
@@ -89,11 +89,11 @@ module _ (rows : Rows) (seated : IsSeated rows) where
       → (seat.own_slot < length (values_of kind row.line)) × (get_or (values_of kind row.line) seat.own_slot no_size ≡ of_kind kind seat.waits)
   own_value kind user row found n seat there is =
       let line = own_line user row found in
-      let inside : seat.own_slot < length row.line.tickets.items = slice_get_within row.line.tickets.items seat.own_slot n (in_line-at (User user) row.line.tickets.items rows.seats.entries n seat.own_slot seat line.1 there (own_slot-in user seat is)) in
+      let inside : seat.own_slot < length row.line.tickets = slice_get_within row.line.tickets seat.own_slot n (in_line-at (User user) row.line.tickets rows.seats.entries n seat.own_slot seat line.1 there (own_slot-in user seat is)) in
       let values : own_values kind seat.user rows.users.entries ≡ values_of kind row.line = ap (λ k. own_values kind k rows.users.entries) is ∙ ap (λ o. option_map_or (λ (r : UserRow). values_of kind r.line) o []) found in
       (within kind inside line.0, ap (λ vs. get_or vs seat.own_slot no_size) (sym values) ∙ seated.waits n seat there kind)
     where
-      within : (kind : Kind) → seat.own_slot < length row.line.tickets.items → IsLine row.line → seat.own_slot < length (values_of kind row.line)
+      within : (kind : Kind) → seat.own_slot < length row.line.tickets → IsLine row.line → seat.own_slot < length (values_of kind row.line)
       within Master i l = omega (arith, i, l.masters)
       within Ask i l = omega (arith, i, l.asks)
 
@@ -146,14 +146,14 @@ module _ (rows : Rows) (seated : IsSeated rows) where
           }
 
       -- the line has no more seats
-      pub own_past : (from slot : ℕ) → IsFirst passes (values_of kind row.line) from slot → HasPassed rows user kind passes gives limit from → length row.line.tickets.items ≤ slot → NoneBefore (IsOwn user kind passes) gives rows.seats.entries limit
+      pub own_past : (from slot : ℕ) → IsFirst passes (values_of kind row.line) from slot → HasPassed rows user kind passes gives limit from → length row.line.tickets ≤ slot → NoneBefore (IsOwn user kind passes) gives rows.seats.entries limit
       own_past from slot first passed past n seat there own given = ⊎_elim (λ low. low) (λ on. absurd (
-          let inside : seat.own_slot < length row.line.tickets.items = slice_get_within row.line.tickets.items seat.own_slot n (in_line-at (User user) row.line.tickets.items rows.seats.entries n seat.own_slot seat (own_line user row found).1 there (own_slot-in user seat own.own)) in
+          let inside : seat.own_slot < length row.line.tickets = slice_get_within row.line.tickets seat.own_slot n (in_line-at (User user) row.line.tickets rows.seats.entries n seat.own_slot seat (own_line user row found).1 there (own_slot-in user seat own.own)) in
           omega (arith, on, past, inside))) (beyond from slot first passed n seat there own given)
 
       -- the application of the seat that stands there is given nothing
       pub own_nothing : (slot m : ℕ) (at : SeatRow) → IsSeatAt (User user) slot rows.seats.entries m at → gives at.app ≡ None → EachSeat (λ _ seat. slot_in (User user) seat ≡ Some slot → IsSome (gives seat.app) → ⊥) rows.seats.entries
       own_nothing slot m at is nothing n seat there stands given =
-          let same = one_at (User user) row.line.tickets.items rows.seats.entries n m slot seat at (own_line user row found).1 there stands is.found is.at in
+          let same = one_at (User user) row.line.tickets rows.seats.entries n m slot seat at (own_line user row found).1 there stands is.found is.at in
           let none : gives seat.app ≡ None = ap (λ (x : SeatRow). gives x.app) same.1 ∙ nothing in
           true≢false (sym given ∙ ap is_some none)

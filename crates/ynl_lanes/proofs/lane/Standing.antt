@@ -14,7 +14,7 @@ use Rattle.ynl_lanes.specs.lows.Users.{no_user, IsBelowRequest}
 use Rattle.ynl_lanes.specs.declared.lane.kinds.Kind.{Kind}
 use Rattle.ynl_lanes.specs.declared.lane.kinds.Kind.TheVariants.{Master, Ask}
 use Rattle.ynl_lanes.specs.declared.lane.levels.Level.TheVariants.{Lane, User}
-use Rattle.ynl_lanes.specs.declared.lane.line.Line.{Line}
+use Rattle.ynl_lanes.specs.lane.Lined.{Lined}
 use Rattle.ynl_lanes.specs.declared.lane.rows.SeatRow.{SeatRow}
 use Rattle.ynl_lanes.specs.declared.lane.rows.UserRow.{UserRow}
 use Rattle.ynl_lanes.specs.declared.lane.rows.Rows.{Rows}
@@ -37,14 +37,14 @@ if_some-then None P Q f h = tt
 if_some-then (Some x) P Q f h = f x h
 
 -- the values of a lane as far as there are tickets
-pub within_values : {T : Type 0} (kind : Kind) (line : Line T) (slot : ℕ) → IsLine line → slot < length line.tickets.items → slot < length (values_of kind line)
+pub within_values : {T : Type 0} (kind : Kind) (line : Lined T) (slot : ℕ) → IsLine line → slot < length line.tickets → slot < length (values_of kind line)
 within_values Master line slot l h = omega (arith, h, l.masters)
 within_values Ask line slot l h = omega (arith, h, l.asks)
 
 module _ (rows : Rows) (seated : IsSeated rows) where
   -- a seat's slot has a value
   pub slot_inside : (kind : Kind) (n : ℕ) (row : SeatRow) → lookup (nat_eq n) rows.seats.entries ≡ Some row → row.slot < length (values_of kind rows.line)
-  slot_inside kind n row found = within_values kind rows.line row.slot seated.line (slice_get_within rows.line.tickets.items row.slot n (in_line-at Lane rows.line.tickets.items rows.seats.entries n row.slot row (seated.lines Lane) found refl))
+  slot_inside kind n row found = within_values kind rows.line row.slot seated.line (slice_get_within rows.line.tickets row.slot n (in_line-at Lane rows.line.tickets rows.seats.entries n row.slot row (seated.lines Lane) found refl))
 
   -- the user of a seat has a row
   pub user_live : (n : ℕ) (row : SeatRow) → lookup (nat_eq n) rows.seats.entries ≡ Some row → IsLive row.user rows.users.entries
@@ -55,13 +55,13 @@ module _ (rows : Rows) (seated : IsSeated rows) where
 
       go : (o : Option UserRow) → lookup (nat_eq row.user) rows.users.entries ≡ o → is_some o ≡ true
       go (Some user) q = refl
-      go None q = absurd (none-some n (ap (λ o. slice_get (option_map_or (λ (r : UserRow). r.line.tickets.items) o []) row.own_slot) (sym q) ∙ tickets))
+      go None q = absurd (none-some n (ap (λ o. slice_get (option_map_or (λ (r : UserRow). r.line.tickets) o []) row.own_slot) (sym q) ∙ tickets))
 
   module _ (kind : Kind) (stand ticket : ℕ) (row : SeatRow) (at : IsSeatAt Lane stand rows.seats.entries ticket row) where
     -- the seats of the user who stands there
     stand_user : (e : SeatRow) → IsOfStand stand kind rows.seats.entries e → IsOwn row.user kind IsWaiting e
     stand_user e h =
-        let same = one_at Lane rows.line.tickets.items rows.seats.entries h.0 ticket stand h.1 row (seated.lines Lane) h.2 (ap Some h.3) at.found at.at in
+        let same = one_at Lane rows.line.tickets rows.seats.entries h.0 ticket stand h.1 row (seated.lines Lane) h.2 (ap Some h.3) at.found at.at in
         record { own = h.4.own ∙ ap (λ (x : SeatRow). x.user) same.1; fits = h.4.fits }
 
     module _ {F : Type 0} (may : Resource → Resource → Type 0) (gives : ℕ → Option F) (all : MayHaveGiven kind may gives rows.seats.entries rows.users.entries) (used : Resource) (is : used ≡ used_by row.user rows.users.entries) (limit : ℕ) where
@@ -147,7 +147,7 @@ module _ (rows : Rows) (kept : IsKept rows) {F : Type 0} (kind : Kind) (passes :
   pub finish_none : (best : Option (Found F)) (least from : ℕ) → IsSearching rows kind passes gives limit best least from → NonePasses passes (values_of kind rows.line) from
       → IfNone best (NoneBefore (WaitsAt kind) gives rows.seats.entries limit) × IfSome best (IsFirstGiven (WaitsAt kind) gives rows.seats.entries limit)
   finish_none best least from h none = finish best least from h (ends least from h.passed (λ m s there on low pass.
-      let inside : s.slot < length rows.line.tickets.items = slice_get_within rows.line.tickets.items s.slot m (in_line-at Lane rows.line.tickets.items rows.seats.entries m s.slot s (kept.seated.lines Lane) there refl) in
+      let inside : s.slot < length rows.line.tickets = slice_get_within rows.line.tickets s.slot m (in_line-at Lane rows.line.tickets rows.seats.entries m s.slot s (kept.seated.lines Lane) there refl) in
       none s.slot no_user on (within_values kind rows.line s.slot kept.seated.line inside) pass))
 
   -- or the next user stands behind the least found

@@ -13,7 +13,7 @@ use Rattle.ynl_lanes.specs.declared.lane.kinds.Kind.{Kind}
 use Rattle.ynl_lanes.specs.declared.lane.kinds.Kind.TheVariants.{Master, Ask}
 use Rattle.ynl_lanes.specs.declared.lane.levels.Level.{Level}
 use Rattle.ynl_lanes.specs.declared.lane.levels.Level.TheVariants.{Lane, User}
-use Rattle.ynl_lanes.specs.declared.lane.line.Line.{Line}
+use Rattle.ynl_lanes.specs.lane.Lined.{Lined}
 use Rattle.ynl_lanes.specs.declared.lane.rows.SeatRow.{SeatRow}
 use Rattle.ynl_lanes.specs.declared.lane.rows.UserRow.{UserRow}
 use Rattle.ynl_lanes.specs.declared.lane.rows.Rows.{Rows}
@@ -36,15 +36,15 @@ cases_kind Ask Master = inr (λ e. cc)
 cases_kind Ask Ask = inl refl
 
 -- lines that keep their length
-pub line_changed : {T : Type 0} (old new : Line T) → IsLine old → new.tickets.items ≡ old.tickets.items → ((k : Kind) → length (values_of k new) ≡ length (values_of k old)) → IsLine new
+pub line_changed : {T : Type 0} (old new : Lined T) → IsLine old → new.tickets ≡ old.tickets → ((k : Kind) → length (values_of k new) ≡ length (values_of k old)) → IsLine new
 line_changed old new h tickets count =
-    let n : length new.tickets.items ≡ length old.tickets.items = ap length tickets in
+    let n : length new.tickets ≡ length old.tickets = ap length tickets in
     let a : length new.masters ≡ length old.masters = count Master in
     let b : length new.asks ≡ length old.asks = count Ask in
     record { small = omega (arith, n, h.small); masters = omega (arith, n, a, h.masters); asks = omega (arith, n, b, h.asks) }
 
 -- rows of which only values of the lane changed
-pub seated_line : (rows new : Rows) → IsSeated rows → new.seats ≡ rows.seats → new.users ≡ rows.users → new.line.tickets.items ≡ rows.line.tickets.items → IsLine new.line → IsSeated new
+pub seated_line : (rows new : Rows) → IsSeated rows → new.seats ≡ rows.seats → new.users ≡ rows.users → new.line.tickets ≡ rows.line.tickets → IsLine new.line → IsSeated new
 seated_line rows new h seats users tickets line = record {
   distinct = subst HasDistinctNumbers (ap (λ s. s.entries) (sym seats)) h.distinct;
   lines = lines;
@@ -54,7 +54,7 @@ seated_line rows new h seats users tickets line = record {
 }
   where
     lines : (level : Level) → AreIn level (tickets_in level new) new.seats.entries
-    lines Lane = subst (λ ts. AreIn Lane ts new.seats.entries) (sym tickets) (subst (λ es. AreIn Lane rows.line.tickets.items es) (ap (λ s. s.entries) (sym seats)) (h.lines Lane))
+    lines Lane = subst (λ ts. AreIn Lane ts new.seats.entries) (sym tickets) (subst (λ es. AreIn Lane rows.line.tickets es) (ap (λ s. s.entries) (sym seats)) (h.lines Lane))
     lines (User user) = subst (λ us. AreIn (User user) (own_tickets user us) new.seats.entries) (ap (λ s. s.entries) (sym users)) (subst (λ es. AreIn (User user) (own_tickets user rows.users.entries) es) (ap (λ s. s.entries) (sym seats)) (h.lines (User user)))
 
 -- where the values of a kind stay, so do the stands
@@ -72,14 +72,14 @@ but_same user kind rows new seats users values h =
 
 module _ (user : ℕ) (kind : Kind) (seats : List (ℕ × SeatRow)) where
   -- a value at a seat of the user
-  pub changes_set : (old new : Line UserLow) (n : ℕ) (row : SeatRow) (value : UserLow) → AreIn Lane old.tickets.items seats → lookup (nat_eq n) seats ≡ Some row → row.user ≡ user → new.tickets.items ≡ old.tickets.items → values_of kind new ≡ set (values_of kind old) row.slot value → ((k : Kind) → k ≢ kind → values_of k new ≡ values_of k old) → ChangesStand user kind seats old new
+  pub changes_set : (old new : Lined UserLow) (n : ℕ) (row : SeatRow) (value : UserLow) → AreIn Lane old.tickets seats → lookup (nat_eq n) seats ≡ Some row → row.user ≡ user → new.tickets ≡ old.tickets → values_of kind new ≡ set (values_of kind old) row.slot value → ((k : Kind) → k ≢ kind → values_of k new ≡ values_of k old) → ChangesStand user kind seats old new
   changes_set old new n row value are_in found own tickets values other = record {
     tickets = tickets;
     count = λ k. ⊎_elim (λ same. ap (λ j. length (values_of j new)) same ∙ ap length values ∙ length-set (values_of kind old) row.slot value ∙ ap (λ j. length (values_of j old)) (sym same)) (λ apart. ap length (other k apart)) (cases_kind k kind);
     kinds = other;
     others = λ m e there apart.
         let away : e.slot ≢ row.slot = λ same. (
-        let one = one_at Lane old.tickets.items seats m n row.slot e row are_in there (ap Some same) found refl in
+        let one = one_at Lane old.tickets seats m n row.slot e row are_in there (ap Some same) found refl in
         apart (ap (λ (x : SeatRow). x.user) one.1 ∙ own)) in
         ap (λ vs. get_or vs e.slot no_user) values ∙ get_or-set_other (values_of kind old) row.slot e.slot value no_user away;
   }

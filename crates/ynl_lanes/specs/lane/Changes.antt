@@ -25,7 +25,7 @@ pub record SetsValues (user slot : ℕ) (waits : Both Resource) (old new : List 
   pub user_is : next.user ≡ row.user
   pub used : next.used ≡ row.used
   pub live : next.live ≡ row.live
-  pub tickets : next.line.tickets.items ≡ row.line.tickets.items
+  pub tickets : next.line.tickets ≡ row.line.tickets
   pub masters : next.line.masters ≡ slice_set row.line.masters slot waits.master
   pub asks : next.line.asks ≡ slice_set row.line.asks slot waits.ask
 
@@ -48,9 +48,9 @@ pub record PushesOwn (user ticket : ℕ) (old new : List (ℕ × UserRow)) : Typ
   pub user_is : next.user ≡ row.user
   pub used : next.used ≡ row.used
   pub live : next.live ≡ row.live + 1
-  pub tickets : next.line.tickets.items ≡ row.line.tickets.items ++ ticket ∷ []
-  pub masters : next.line.masters ≡ slice_set row.line.masters (length row.line.tickets.items) no_size
-  pub asks : next.line.asks ≡ slice_set row.line.asks (length row.line.tickets.items) no_size
+  pub tickets : next.line.tickets ≡ row.line.tickets ++ ticket ∷ []
+  pub masters : next.line.masters ≡ slice_set row.line.masters (length row.line.tickets) no_size
+  pub asks : next.line.asks ≡ slice_set row.line.asks (length row.line.tickets) no_size
 
 -- a seat of a user comes last, at which nothing waits
 pub record PushesSeat (app user ticket : ℕ) (old new : List (ℕ × SeatRow)) : Type 0 where

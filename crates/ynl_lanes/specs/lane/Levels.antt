@@ -2,7 +2,7 @@
 use Rattle.std.specs.Prelude.{◌≡◌, ⊤, ℕ, ◌<◌, Bool, false, ◌==◌, nat_eq, List, [], ◌∷◌, Option, Some, None, slice_get, slice_index_or, if◌then◌else◌}
 use Rattle.std.specs.List.{AllByRecursion}
 use Rattle.ynl_lanes.specs.declared.lane.kinds.Kind.{Kind}
-use Rattle.ynl_lanes.specs.declared.lane.line.Line.{Line}
+use Rattle.ynl_lanes.specs.lane.Lined.{Lined}
 use Rattle.ynl_lanes.specs.declared.lane.rows.SeatRow.{SeatRow}
 use Rattle.ynl_lanes.specs.declared.lane.levels.Level.{Level}
 use Rattle.ynl_lanes.specs.declared.lane.levels.Level.TheVariants.{Lane, User}
@@ -53,7 +53,7 @@ pub record AreIn (level : Level) (tickets : List ℕ) (seats : List (ℕ × Seat
   pub ordered : AreOrdered (IsBefore level) seats
 
 -- a seat has another slot in a line, at which the new line has the values that the old one had at the old slot
-pub record IsMoved {T : Type 0} (level : Level) (old new : Line T) (e f : ℕ × SeatRow) : Type 0 where
+pub record IsMoved {T : Type 0} (level : Level) (old new : Lined T) (e f : ℕ × SeatRow) : Type 0 where
   pub ticket : f.0 ≡ e.0
   pub slot : ℕ
   pub row : f.1 ≡ at_slot level slot e.1

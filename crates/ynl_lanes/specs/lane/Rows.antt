@@ -26,7 +26,7 @@ of_user f none user users = option_map_or f (lookup (nat_eq user) users) none
 
 -- the tickets of a user's line
 abbrev pub own_tickets : ℕ → List (ℕ × UserRow) → List ℕ
-own_tickets = of_user (λ row. row.line.tickets.items) []
+own_tickets = of_user (λ row. row.line.tickets) []
 
 -- the values of a user's line
 abbrev pub own_values : Kind → ℕ → List (ℕ × UserRow) → List Resource
@@ -38,7 +38,7 @@ used_by = of_user (λ row. row.used) nothing
 
 -- the tickets of a line
 abbrev pub tickets_in : Level → Rows → List ℕ
-tickets_in Lane rows = rows.line.tickets.items
+tickets_in Lane rows = rows.line.tickets
 tickets_in (User user) rows = own_tickets user rows.users.entries
 
 -- how much a user may use: at most 2^48 of each

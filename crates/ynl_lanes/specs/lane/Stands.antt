@@ -4,7 +4,7 @@ use Rattle.std.specs.Map.{lookup}
 use Rattle.ynl_lanes.specs.declared.lows.users.UserLow.{UserLow}
 use Rattle.ynl_lanes.specs.lows.Users.{no_user}
 use Rattle.ynl_lanes.specs.declared.lane.kinds.Kind.{Kind}
-use Rattle.ynl_lanes.specs.declared.lane.line.Line.{Line}
+use Rattle.ynl_lanes.specs.lane.Lined.{Lined}
 use Rattle.ynl_lanes.specs.declared.lane.rows.SeatRow.{SeatRow}
 use Rattle.ynl_lanes.specs.lane.Kinds.{of_kind}
 use Rattle.ynl_lanes.specs.lane.Lines.{values_of}
@@ -24,8 +24,8 @@ abbrev pub NoneWaits : ℕ → Kind → List (ℕ × SeatRow) → Type 0
 NoneWaits user kind seats = EachSeat (λ _ e. e.user ≡ user → ¬ (IsWaiting (of_kind kind e.waits))) seats
 
 -- of the values in a lane, only some of a kind at the seats of a user change
-pub record ChangesStand (user : ℕ) (kind : Kind) (seats : List (ℕ × SeatRow)) (old new : Line UserLow) : Type 0 where
-  pub tickets : new.tickets.items ≡ old.tickets.items
+pub record ChangesStand (user : ℕ) (kind : Kind) (seats : List (ℕ × SeatRow)) (old new : Lined UserLow) : Type 0 where
+  pub tickets : new.tickets ≡ old.tickets
   pub count : (k : Kind) → length (values_of k new) ≡ length (values_of k old)
   pub kinds : (k : Kind) → k ≢ kind → values_of k new ≡ values_of k old
   pub others : EachSeat (λ _ e. e.user ≢ user → slice_index_or (values_of kind new) e.slot no_user ≡ slice_index_or (values_of kind old) e.slot no_user) seats

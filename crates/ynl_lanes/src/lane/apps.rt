@@ -14,8 +14,7 @@ impl Rows {
         requires { IsSeated self.now }
         ensures { OnOk result (apps.old.items ≡ apps_before slot self.now.seats.entries → apps.new.items ≡ apps_before (slot + 1) self.now.seats.entries) }
     {
-        let tickets = self.line.tickets.as_slice();
-        if let Some((_ticket, row)) = seat_at(&self.seats, Level::Lane, tickets, slot) {
+        if let Some((_ticket, row)) = seat_at(&self.seats, Level::Lane, &self.line, slot) {
             apps.push(row.app)?;
         }
         Ok(())
@@ -27,7 +26,7 @@ impl Rows {
         ensures { IfOk result (λ apps. apps.items ≡ map (λ e. e.1.app) self.now.seats.entries) }
     {
         let mut apps = Vec::with_capacity(alloc, self.seats.len())?;
-        for slot in 0..self.line.tickets.len() {
+        for slot in 0..self.line.len() {
             self.add_app(slot, &mut apps)?;
         }
         Ok(apps)

@@ -119,8 +119,8 @@ impl Rows {
         ensures seats { PushesSeat app user result self.old.seats.entries self.new.seats.entries }
         ensures users { ShowsOther user (λ shown. record shown { live = shown.live + 1 }) self.old.users.entries self.new.users.entries }
     {
-        let slot = self.line.tickets.len() as u32;
-        let own_slot = self.users[user].line.tickets.len() as u32;
+        let slot = self.line.len() as u32;
+        let own_slot = self.users[user].line.len() as u32;
         let ticket = self.seats.push(SeatRow {
             app,
             user,

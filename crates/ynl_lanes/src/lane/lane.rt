@@ -68,7 +68,7 @@ impl Lane {
             rows: Rows {
                 seats: Slots::new(alloc),
                 users: Slots::new(alloc),
-                line: Line::new(alloc),
+                line: Line::new(),
                 stands: Vec::new(alloc),
             },
             numbers: BTreeMap::new(alloc),
@@ -244,7 +244,7 @@ impl Lane {
     {
         let end = match before {
             Some(ticket) => self.rows.seats[ticket].slot as usize,
-            None => self.rows.line.tickets.len(),
+            None => self.rows.line.len(),
         };
         match self.rows.first(kind, test, request, end) {
             Some(found) => Some((found.ticket, found.given)),

@@ -4,6 +4,8 @@ ghost use Rattle.std.specs.Prelude.{◌≡◌, IfSome, IfNone};
 ghost use Rattle.ynl_lanes.specs.lane.Levels.{slot_in, at_slot, is_slot, AreIn};
 ghost use Rattle.ynl_lanes.specs.lane.Found.{EachSeat, IsSeatAt};
 
+use crate::firsts::Least;
+use crate::lane::line::Line;
 use crate::lane::rows::SeatRow;
 use ynl_slots::Slots;
 
@@ -60,20 +62,19 @@ impl SeatRow {
 }
 
 /// The seat that stands in a slot of a line, with its ticket, if there is one.
-pub(crate) fn seat_at(
+pub(crate) fn seat_at<T: Least>(
     seats: &Slots<SeatRow>,
     level: Level,
-    tickets: &[u32],
+    line: &Line<T>,
     slot: usize,
 ) -> Option<(u32, SeatRow)>
-    requires { AreIn level tickets.now seats.now.entries }
+    requires { AreIn level line.now.tickets seats.now.entries }
     ensures found { IfSome result (λ f. IsSeatAt level slot seats.now.entries f.0 f.1) }
     ensures none { IfNone result (EachSeat (λ n row. ¬ (slot_in level row ≡ Some slot)) seats.now.entries) }
 {
-    if slot >= tickets.len() {
+    let Some(ticket) = line.ticket(slot) else {
         return None;
-    }
-    let ticket = tickets[slot];
+    };
     let Some(row) = seats.get(ticket) else {
         return None;
     };

@@ -11,7 +11,7 @@ use crate::firsts::Least;
 use crate::lane::levels::Level;
 use crate::lane::line::Line;
 use crate::lane::rows::SeatRow;
-use std::alloc::AllocError;
+use std::alloc::{AllocError, Global};
 use ynl_slots::Slots;
 
 /// Whether the seat of a ticket stands in a slot of the line.
@@ -37,29 +37,31 @@ fn put(seats: &mut Slots<SeatRow>, level: Level, ticket: u32, slot: u32)
 /// All seats of a line move up to its front, in order.
 fn pack<T: Least>(seats: &mut Slots<SeatRow>, line: &mut Line<T>, level: Level)
     requires line { IsLine line.old }
-    requires seats { AreIn level line.old.tickets.items seats.old.entries }
+    requires seats { AreIn level line.old.tickets seats.old.entries }
     requires distinct { HasDistinctNumbers seats.old.entries }
     ensures line { IsLine line.new }
-    ensures seats { AreIn level line.new.tickets.items seats.new.entries }
+    ensures seats { AreIn level line.new.tickets seats.new.entries }
     ensures distinct { HasDistinctNumbers seats.new.entries }
     ensures moved { ArePairs (IsMoved level line.old line.new) seats.old.entries seats.new.entries }
     ensures room { seats.new.room ≡ seats.old.room }
 {
     let mut next = 0;
-    for slot in 0..line.tickets.len() {
-        let ticket = line.tickets[slot];
+    for slot in 0..line.len() {
+        let Some(ticket) = line.ticket(slot) else {
+            unreachable!();
+        };
         if is_at(seats, level, ticket, slot) {
             put(seats, level, ticket, next as u32);
             line.move_up(slot, next);
             next += 1;
         }
     }
-    line.tickets.truncate(next);
+    line.truncate(next);
 }
 
 /// Whether the lane has fewer seats than half of a line's tickets, so that most of these are of seats that went.
 fn is_sparse<T: Least>(seats: &Slots<SeatRow>, line: &Line<T>) -> bool {
-    seats.len() < line.tickets.len() / 2
+    seats.len() < line.len() / 2
 }
 
 /// Makes room in a line for one more seat. A line that is full is packed, and so is a sparse one, so that its slots are few
@@ -68,12 +70,13 @@ pub(crate) fn make_room<T: Least>(
     seats: &mut Slots<SeatRow>,
     line: &mut Line<T>,
     level: Level,
+    alloc: Global,
 ) -> Result<(), AllocError>
     requires line { IsLine line.old }
-    requires seats { AreIn level line.old.tickets.items seats.old.entries }
+    requires seats { AreIn level line.old.tickets seats.old.entries }
     requires distinct { HasDistinctNumbers seats.old.entries }
     ensures line { IsLine line.new }
-    ensures seats { AreIn level line.new.tickets.items seats.new.entries }
+    ensures seats { AreIn level line.new.tickets seats.new.entries }
     ensures distinct { HasDistinctNumbers seats.new.entries }
     ensures moved { ArePairs (IsMoved level line.old line.new) seats.old.entries seats.new.entries }
     ensures seat_room { seats.new.room ≡ seats.old.room }
@@ -83,5 +86,5 @@ pub(crate) fn make_room<T: Least>(
         return Ok(());
     }
     pack(seats, line, level);
-    line.reserve()
+    line.reserve(alloc)
 }

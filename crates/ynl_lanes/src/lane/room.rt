@@ -27,7 +27,8 @@ impl Rows {
         ensures room { OnOk result (HasRoom self.new.line) }
     {
         self.seats.reserve_one()?;
-        make_room(&mut self.seats, &mut self.line, Level::Lane)
+        let alloc = *self.stands.allocator();
+        make_room(&mut self.seats, &mut self.line, Level::Lane, alloc)
     }
 
     /// Makes room for one more seat in a user's line. It fails if memory is refused, and at 2^32 - 1 seats.
@@ -44,8 +45,9 @@ impl Rows {
         if self.users[user].live >= u32::MAX {
             return Err(AllocError);
         }
+        let alloc = *self.stands.allocator();
         let row = &mut self.users[user];
-        make_room(&mut self.seats, &mut row.line, Level::User(user))
+        make_room(&mut self.seats, &mut row.line, Level::User(user), alloc)
     }
 
     /// A row for a user. It fails if memory is refused, and at 2^32 - 1 users.

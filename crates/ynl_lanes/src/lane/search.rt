@@ -80,13 +80,12 @@ impl Rows {
         ensures some { IfSome result (IsFirstGiven (IsOwn user kind (P.passes test.now)) (R.gives request.now) self.now.seats.entries end) }
     {
         let line = &self.users[user].line;
-        let tickets = line.tickets.as_slice();
         let mut from = 0;
         while let Some(own) = line.next(kind, from, test) {
-            if own >= tickets.len() {
+            if own >= line.len() {
                 return None;
             }
-            if let Some((ticket, row)) = seat_at(&self.seats, Level::User(user), tickets, own) {
+            if let Some((ticket, row)) = seat_at(&self.seats, Level::User(user), line, own) {
                 if row.slot as usize >= end {
                     return None;
                 }
@@ -117,12 +116,7 @@ impl Rows {
         ensures none { IfNone result (NoneBefore (IsOfStand stand kind self.now.seats.entries) (R.gives request.now) self.now.seats.entries end) }
         ensures some { IfSome result (IsFirstGiven (IsOfStand stand kind self.now.seats.entries) (R.gives request.now) self.now.seats.entries end) }
     {
-        let Some((_ticket, row)) = seat_at(
-            &self.seats,
-            Level::Lane,
-            self.line.tickets.as_slice(),
-            stand,
-        ) else {
+        let Some((_ticket, row)) = seat_at(&self.seats, Level::Lane, &self.line, stand) else {
             return None;
         };
         let used = self.users[row.user].used;

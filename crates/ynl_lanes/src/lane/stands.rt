@@ -20,7 +20,7 @@ impl Rows {
         ensures some { IfSome result (IsFirstWaiting user kind self.now.seats.entries) }
         ensures none { IfNone result (NoneWaits user kind self.now.seats.entries) }
     {
-        match self.first_own(user, kind, &Waits, &Any, self.line.tickets.len()) {
+        match self.first_own(user, kind, &Waits, &Any, self.line.len()) {
             Some(found) => Some(found.ticket),
             None => None,
         }
@@ -124,7 +124,7 @@ impl Rows {
         requires others { (kind : Kind) → AreStoodBut user kind self.old }
         ensures seats { self.new.seats ≡ self.old.seats }
         ensures users { self.new.users ≡ self.old.users }
-        ensures tickets { self.new.line.tickets.items ≡ self.old.line.tickets.items }
+        ensures tickets { self.new.line.tickets ≡ self.old.line.tickets }
         ensures kept { IsKept self.new }
     {
         self.stand(user, Kind::Master);

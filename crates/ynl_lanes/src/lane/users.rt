@@ -11,7 +11,6 @@ ghost use Rattle.ynl_lanes.specs.lane.Rows.{EachUser, IsKept};
 
 use crate::lane::line::Line;
 use crate::lane::rows::{Rows, UserRow};
-use crate::lows::Low;
 use std::alloc::AllocError;
 use std::collections::BTreeMap;
 use ynl_resource::Resource;
@@ -62,9 +61,6 @@ fn open(rows: &mut Rows, numbers: &mut BTreeMap<u32, u32>, user: u32) -> Result<
     ensures err { OnErr result (rows.new.users.entries ≡ rows.old.users.entries) }
     ensures keyed { AreKeyed (λ n. get nat_cmp numbers.new n) rows.new.users.entries }
 {
-    let alloc = *rows.line.tickets.allocator();
-    let mut line: Line<Low> = Line::new(alloc);
-    line.reserve()?;
     let number = rows.open(UserRow {
         user,
         used: Resource {
@@ -72,7 +68,7 @@ fn open(rows: &mut Rows, numbers: &mut BTreeMap<u32, u32>, user: u32) -> Result<
             vcores: 0,
         },
         live: 0,
-        line,
+        line: Line::new(),
     })?;
     match numbers.insert(user, number) {
         Ok(_) => Ok(number),

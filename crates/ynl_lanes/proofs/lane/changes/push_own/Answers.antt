@@ -1,5 +1,8 @@
-use Rattle.std.proofs.Common.{refl, ◌+◌}
+use Rattle.std.proofs.Common.{refl, arith, ◌+◌}
 use Rattle.ynl_lanes.proofs.lane.changes.push_own.Goals as goal
+
+pub overflow_add-row : goal.overflow_add-row
+overflow_add-row c = omega (arith, (c.requires.room c.index_mut-row.result.now c.index_mut-row.ensures.value).1)
 
 pub returns : goal.returns
 returns c = record {

@@ -1,11 +1,10 @@
-use Rattle.std.proofs.Common.{ℕ, List, ◌++◌, ◌∷◌, [], ap, subst, sym, ◌∙◌}
-use Rattle.ynl_lanes.specs.lane.Levels.{AreIn}
+use Rattle.std.proofs.Common.{ℕ, List, ◌++◌, ◌∷◌, [], ap, sym, ◌∙◌}
 use Rattle.ynl_lanes.specs.declared.lane.levels.Level.TheVariants.{Lane}
 use Rattle.ynl_lanes.proofs.lane.Listing.{seat-comes, none-comes}
 use Rattle.ynl_lanes.proofs.lane.rows.Rows.add_app.Goals as goal
 
 pub seat_at-requires : goal.seat_at-requires
-seat_at-requires c = subst (λ (tickets : List ℕ). AreIn Lane tickets c.args.self.now.seats.entries) (sym c.as_slice-tickets.ensures.value) (c.requires.lines Lane)
+seat_at-requires c = c.requires.lines Lane
 
 pub returns-in_ok-push : goal.returns-in_ok-push
 returns-in_ok-push c = λ so_far.

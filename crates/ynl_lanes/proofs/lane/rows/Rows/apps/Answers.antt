@@ -7,5 +7,5 @@ loop-slot-init c = c.in_ok-apps.ensures.items ∙ sym (first-none c.args.self.no
 
 pub returns : goal.returns
 returns c =
-    let past : length c.args.self.now.line.tickets.items ≤ c.loop-slot.slot = omega (arith, c.loop-slot-test.false, c.len-slot-end.ensures) in
+    let past : length c.args.self.now.line.tickets ≤ c.loop-slot.slot = omega (arith, c.loop-slot-test.false, c.len-slot-end.ensures) in
     c.loop-slot.invariant ∙ end-all c.args.self.now c.requires c.loop-slot.slot past

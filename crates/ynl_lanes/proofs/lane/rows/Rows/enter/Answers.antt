@@ -17,7 +17,7 @@ pub set_values-requires-clause-inside : goal.set_values-requires-clause-inside
 set_values-requires-clause-inside c row found =
     let seat = c.set_waits-row.result in
     let line = own_line c.args.self.now c.requires.kept.seated seat.user row found in
-    let inside : seat.own_slot < length row.line.tickets.items = slice_get_within row.line.tickets.items seat.own_slot c.args.ticket (in_line-at (User seat.user) row.line.tickets.items c.args.self.now.seats.entries c.args.ticket seat.own_slot seat line.1 c.set_waits-row.ensures.found (own_slot-in seat.user seat refl)) in
+    let inside : seat.own_slot < length row.line.tickets = slice_get_within row.line.tickets seat.own_slot c.args.ticket (in_line-at (User seat.user) row.line.tickets c.args.self.now.seats.entries c.args.ticket seat.own_slot seat line.1 c.set_waits-row.ensures.found (own_slot-in seat.user seat refl)) in
     (omega (arith, inside, line.0.masters), omega (arith, inside, line.0.asks))
 
 pub stand_anew-requires-clause-seated : goal.stand_anew-requires-clause-seated

@@ -7,7 +7,7 @@ use Rattle.ynl_lanes.proofs.lane.Standing.{user_live, if_none-then, if_some-then
 use Rattle.ynl_lanes.proofs.lane.rows.Rows.first_of_stand.Goals as goal
 
 pub seat_at-requires : goal.seat_at-requires
-seat_at-requires g c = rw c.as_slice.ensures.value (c.requires.seated.lines Lane)
+seat_at-requires g c = c.requires.seated.lines Lane
 
 pub index-requires : goal.index-requires
 index-requires g c = user_live c.args.self.now c.requires.seated c.in-Some._ticket c.in-Some.row c.in-Some.ensures.found.found

@@ -1,15 +1,15 @@
-use Rattle.std.proofs.Common.{arith, sym, ap, length}
+use Rattle.std.proofs.Common.{arith, sym}
 use Rattle.ynl_lanes.proofs.lane.Searching.{own_line, own_none, own_over, own_behind, own_found, own_past, own_nothing}
 use Rattle.ynl_lanes.proofs.lane.rows.Rows.first_own.Goals as goal
 use Rattle.ynl_lanes.proofs.lane.rows.Rows.first_own.Goals.{in-Some-seat_at+else-row-end+in_default-of, in_default-seat_at}
 
 pub seat_at-requires : goal.seat_at-requires
-seat_at-requires g c = rw c.as_slice-tickets.ensures.value (own_line c.args.self.now c.requires.seated c.args.user c.index.result.now c.index.ensures).1
+seat_at-requires g c = (own_line c.args.self.now c.requires.seated c.args.user c.index.result.now c.index.ensures).1
 
-pub returns-then-own-tickets-clause-none : goal.returns-then-own-tickets-clause-none
-returns-then-own-tickets-clause-none g c =
+pub returns-then-own-len-clause-none : goal.returns-then-own-len-clause-none
+returns-then-own-len-clause-none g c =
     own_past c.args.self.now c.requires.seated c.args.user c.args.kind (g.P.Test.passes c.args.test.now) (g.R.Request.gives c.args.request.now) c.args.end c.index.result.now c.index.ensures c.loop-own.from c.in-Some.own c.in-Some.ensures.first c.loop-own.invariant
-    (rw (← ap length c.as_slice-tickets.ensures.value) c.if-own-tickets.true)
+    (omega (arith, c.len.ensures, c.if-own-len.true))
 
 pub returns-then-row-end-clause-none : goal.returns-then-row-end-clause-none
 returns-then-row-end-clause-none g c n seat there own given =

@@ -12,7 +12,7 @@ pub returns-in_err-reserve_one-clause-seats : goal.returns-in_err-reserve_one-cl
 returns-in_err-reserve_one-clause-seats c = same_seats c.args.self.now.seats.entries c.reserve_one.new.self.entries c.reserve_one.ensures.entries
 
 pub make_room-requires-clause-seats : goal.make_room-requires-clause-seats
-make_room-requires-clause-seats c = subst (AreIn Lane c.args.self.now.line.tickets.items) (sym c.reserve_one.ensures.entries) (c.requires.seated.lines Lane)
+make_room-requires-clause-seats c = subst (AreIn Lane c.args.self.now.line.tickets) (sym c.reserve_one.ensures.entries) (c.requires.seated.lines Lane)
 
 pub returns-clause-kept : goal.returns-clause-kept
 returns-clause-kept c =
