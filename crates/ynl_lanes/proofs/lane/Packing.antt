@@ -33,6 +33,12 @@ slice_get-take (suc n) [] i h = refl
 slice_get-take (suc n) (x ∷ xs) zero h = refl
 slice_get-take (suc n) (x ∷ xs) (suc i) h = slice_get-take n xs i (omega (arith, h))
 
+-- a value that goes to where it is stays
+pub moved_same : {T : Type 0} (none : T) (i : ℕ) (vs : List T) → moved none i i vs ≡ vs
+moved_same none i [] = refl
+moved_same none zero (v ∷ vs) = refl
+moved_same none (suc i) (v ∷ vs) = ap (λ others. v ∷ others) (moved_same none i vs)
+
 moved-to : {T : Type 0} (none : T) (from next : ℕ) (vs : List T) (d : T) → next ≤ from → from < length vs → get_or (moved none from next vs) next d ≡ get_or vs from d
 moved-to none from next vs d le inside = get_or-set_same (set vs from none) next (get_or vs from none) d (rw length-set (omega (arith, le, inside))) ∙ get_or_default vs from none d inside
 

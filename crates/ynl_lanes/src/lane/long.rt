@@ -37,6 +37,22 @@ fn two_places<T: Least>(alloc: Global, value: T) -> Result<Firsts<T>, AllocError
     Ok(places)
 }
 
+/// The value in a place goes to one that is not behind it, and leaves none there. Most lines have no gaps, and their
+/// values stay.
+#[tactic(auto, using(crate::proofs::lane::Packing::moved_same))]
+fn move_value<T: Least>(values: &mut Firsts<T>, from: usize, to: usize)
+    requires to { to ≤ from }
+    requires from { from < length values.old }
+    ensures { values.new ≡ moved T.none from to values.old }
+{
+    if from == to {
+        return;
+    }
+    let value = values.get(from);
+    values.set(from, T::none());
+    values.set(to, value);
+}
+
 impl<T: Least> Long<T> {
     /// One ticket, with what waits at its slot, and room for another. It fails if memory is refused.
     pub(crate) fn of(alloc: Global, ticket: u32, values: &Both<T>) -> Result<Long<T>, AllocError>
@@ -179,10 +195,7 @@ impl<T: Least> Long<T> {
     {
         let ticket = self.tickets[from];
         self.tickets[to] = ticket;
-        let (master, ask) = (self.masters.get(from), self.asks.get(from));
-        self.masters.set(from, T::none());
-        self.asks.set(from, T::none());
-        self.masters.set(to, master);
-        self.asks.set(to, ask);
+        move_value(&mut self.masters, from, to);
+        move_value(&mut self.asks, from, to);
     }
 }
