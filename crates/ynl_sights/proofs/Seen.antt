@@ -86,7 +86,7 @@ module _ (w : ClusterView) (sound : IsSound w.rows) (p : ℕ) (has : HasPartitio
 
     -- the request of a row that is copied so
     abbrev item_at : Path → What → Wanted → Item
-    item_at leaf what wanted = record { leaf = leaf; app = wanted.app; user = wanted.user; what = what; size = wanted.size }
+    item_at leaf what wanted = record { leaf = leaf; app = wanted.app; user = wanted.user.value; what = what; size = wanted.size }
 
     bid-is : (what : What) (wanted : Wanted) → wanted.place ≡ place_in_leaf s path wanted.app → bid_in way what wanted ≡ bid_of w.config s label (item_at path what wanted)
     unfolding key
@@ -141,14 +141,14 @@ module _ (w : ClusterView) (sound : IsSound w.rows) (p : ℕ) (has : HasPartitio
     abbrev bid_shown : Resource × Wanted → Bid
     bid_shown one = bid_in way (Asked label one.1.priority) one.1
 
-    bids-shown : (offered : List Offered) → bids_by label way (map (λ one. one.wanted) offered) ≡ map bid_shown (map shown offered)
+    bids-shown : (offered : List Offered) → bids_by label way offered ≡ map bid_shown (map shown offered)
     bids-shown [] = refl
     bids-shown (one ∷ offered) = ap (λ rest. bid_in way (Asked label one.wanted.priority) one.wanted ∷ rest) (bids-shown offered)
 
-    pub bids-seen : (offered : List Offered) → map shown offered ≡ one_by_one (asked_shown w.rows p) 0 (in_leaf q w.rows.apps) → (asks : List Wanted) → asks ≡ map (λ one. one.wanted) offered
-        → bids_by label way asks ≡ bids_at w p (asked w.rows p) q
-    bids-seen offered are_shown asks are_wanted =
-        ap (bids_by label way) are_wanted ∙ bids-shown offered ∙ ap (map bid_shown) are_shown
+    pub bids-seen : (offered : List Offered) → map shown offered ≡ one_by_one (asked_shown w.rows p) 0 (in_leaf q w.rows.apps)
+        → bids_by label way offered ≡ bids_at w p (asked w.rows p) q
+    bids-seen offered are_shown =
+        bids-shown offered ∙ ap (map bid_shown) are_shown
         ∙ asked-all bid_shown (bid_of w.config s label) (λ k e at size priority. bid-seen k e at (Asked label priority) size priority)
 
     -- ---- what is wanted on the partition
@@ -187,7 +187,7 @@ module _ (w : ClusterView) (sound : IsSound w.rows) (p : ℕ) (has : HasPartitio
           one : Wanted
           one = wanted_as w.rows k e.1 size priority
 
-          used : user_use w.rows p e.1.leaf e.1.user ≡ user_used s path one.user label
+          used : user_use w.rows p e.1.leaf e.1.user ≡ user_used s path one.user.value label
           used =
               ap (λ l. user_use w.rows p l e.1.user) at.own
               ∙ sym (is-user_use w.rows sound p q e.1.user has (leaf-is e.0 e.1 at.found at.own) (sound.apps e.0 e.1 at.found).user (stops_in w) (maxima_in w))

@@ -76,7 +76,7 @@ wanted_as v place row size priority = record {
   size = size;
   priority = priority;
   app = app_name v.tenants row.tenant row.turn;
-  user = slice_index_or v.users row.user [];
+  user = record { marker = record {}; value = slice_index_or v.users row.user [] };
 }
 
 -- with what its user uses of the leaf's part of a partition

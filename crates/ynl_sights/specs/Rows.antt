@@ -37,7 +37,7 @@ abbrev pub user_limit_in : Limits → Resource → Resource
 user_limit_in limits size = limit_of limits.users size
 
 abbrev pub item_in : Way → What → Wanted → Item
-item_in way what wanted = record { leaf = leaf_of way; app = wanted.app; user = wanted.user; what = what; size = wanted.size }
+item_in way what wanted = record { leaf = leaf_of way; app = wanted.app; user = wanted.user.value; what = what; size = wanted.size }
 
 abbrev pub key_in : Way → What → Wanted → Key
 key_in way what wanted = record { standings = map standing_in way.queues.items; turn = wanted.place ∷ rank what }
@@ -78,8 +78,8 @@ asks_in label leaf = asks_by label leaf.way leaf.limits leaf.asks.items
 abbrev pub offers_in : Label → List LeafSight → List Offer
 offers_in label leaves = flat_map masters_in leaves ++ flat_map (asks_in label) leaves
 
-abbrev pub bids_by : Label → Way → List Wanted → List Bid
-bids_by label way asks = map (λ wanted. bid_in way (Asked label wanted.priority) wanted) asks
+abbrev pub bids_by : Label → Way → List Offered → List Bid
+bids_by label way asks = map (λ offered. bid_in way (Asked label offered.wanted.priority) offered.wanted) asks
 
 abbrev pub guests_on : Label → GuestSight → List Bid
 guests_on label leaf = bids_by label leaf.way leaf.asks.items

@@ -13,7 +13,7 @@ ghost use Rattle.ynl_sights.specs.Copying.{bids_at, offers_at};
 ghost use Rattle.ynl_sights.specs.Rows.{asks_in, guest_bids_in, masters_in, offers_in};
 ghost use Rattle.ynl_sights.specs.Sights.{guests_in, offer_of, sighted};
 
-use crate::gathering::{apps_of, none_waits, offered_in, wanted_in};
+use crate::gathering::{apps_of, none_waits, offered_in};
 use crate::rows::{GuestSight, LeafSight};
 use crate::sights::Sight;
 use crate::ways::{limits_of, start, way_of};
@@ -68,7 +68,8 @@ fn leaf_sights(alloc: Global, cluster: &Cluster, p: u8) -> Result<Vec<LeafSight>
         (items_for (state_in cluster.now) (label_of cluster.now p))) }
 {
     let queues = cluster.inventory().layout().len();
-    let mut sights = Vec::new(alloc);
+    // With room for all at once: to grow would move the sights of a busy cluster again and again.
+    let mut sights = Vec::with_capacity(alloc, queues)?;
     for queue in 1..queues {
         add_leaf_sight(alloc, cluster, p, queue, &mut sights)?;
     }
@@ -97,8 +98,7 @@ fn add_guest_sight(
     let mut place = start(cluster, 0);
     let way = way_of(alloc, cluster, 0, leaf, &mut place)?;
     let apps = apps_of(alloc, cluster, leaf)?;
-    let offered = offered_in(alloc, cluster, 0, leaf, Kind::Ask, &apps)?;
-    let asks = wanted_in(alloc, &offered)?;
+    let asks = offered_in(alloc, cluster, 0, leaf, Kind::Ask, &apps)?;
     out.push(GuestSight { way, asks })?;
     Ok(())
 }
@@ -110,11 +110,12 @@ fn guest_sights(alloc: Global, cluster: &Cluster, p: u8) -> Result<Vec<GuestSigh
         ≡ guests_in cluster.now.config (state_in cluster.now) (label_of cluster.now p)) }
 {
     let inventory = cluster.inventory();
-    let mut sights = Vec::new(alloc);
     if !inventory.takes_guests(p) {
-        return Ok(sights);
+        return Ok(Vec::new(alloc));
     }
-    for queue in 1..inventory.layout().len() {
+    let queues = inventory.layout().len();
+    let mut sights = Vec::with_capacity(alloc, queues)?;
+    for queue in 1..queues {
         add_guest_sight(alloc, cluster, queue, &mut sights)?;
     }
     Ok(sights)

@@ -15,6 +15,7 @@ ghost use Rattle.ynl_sights.specs.Copying.{asked_shown, asks_shown, items_in, ki
 
 use crate::rows::{Offered, Wanted};
 use std::alloc::{AllocError, Global};
+use std::snapshot::Snapshot;
 use ynl_cluster::Cluster;
 use ynl_lanes::lane::Kind;
 use ynl_lanes::lows::Low;
@@ -73,7 +74,7 @@ fn offered_of(cluster: &Cluster, p: u8, app: u32, place: u64, size: Size, priori
             size,
             priority,
             app: *inventory.app_name(app),
-            user: *inventory.user_name(row.user),
+            user: Snapshot::of(inventory.user_name(row.user)),
         },
     }
 }
@@ -184,7 +185,8 @@ fn add_offered(
     }
 }
 
-/// What is wanted of a kind of a leaf on the partition, where these are its applications.
+/// What is wanted of a kind of a leaf on the partition, where these are its applications. If nothing of the kind waits it goes
+/// over none of them.
 pub(crate) fn offered_in(
     alloc: Global,
     cluster: &Cluster,
@@ -194,22 +196,18 @@ pub(crate) fn offered_in(
     apps: &[u32],
 ) -> Result<Vec<Offered>, AllocError>
     requires apps { AreAppsOf cluster.now.rows leaf apps.now }
-    requires partition { HasPartition cluster.now.rows p }
+    requires there { IsCell cluster.now p leaf }
     ensures { IfOk result (λ offered. map shown offered.items
         ≡ one_by_one (kind_shown kind cluster.now.rows p) 0 (in_leaf leaf cluster.now.rows.apps)) }
 {
     // Opens the inventory, whose rows are sound.
     let _ = cluster.inventory();
     let mut offered = Vec::new(alloc);
+    if none_waits(cluster, p, leaf, kind) {
+        return Ok(offered);
+    }
     for i in 0..apps.len() {
         add_offered(cluster, p, kind, apps[i], i as u64, &mut offered)?;
     }
     Ok(offered)
-}
-
-/// Requests without what their users use.
-pub(crate) fn wanted_in(alloc: Global, offered: &[Offered]) -> Result<Vec<Wanted>, AllocError>
-    ensures { IfOk result (λ asks. asks.items ≡ map (λ one. one.wanted) offered.now) }
-{
-    offered.iter().map(|one| one.wanted).collect(alloc)
 }

@@ -211,7 +211,8 @@ fn hold_guests<'a>(free: &Resource, leaf: &'a GuestSight, held: &mut Option<Held
     ensures { HoldsFirst held.old (filter (has_room free.now) (guest_bids_in leaf.now)) held.new }
 {
     let asks = leaf.asks.as_slice();
-    for wanted in asks {
+    for offered in asks {
+        let wanted = &offered.wanted;
         if wanted.size.amount().fits_in(*free) {
             let what = What::Ask(Label::Unlabelled, wanted.priority);
             hold_wanted(&leaf.way, &what, wanted, held);
@@ -253,7 +254,7 @@ fn proposal_of(node: &Node, held: &Held<'_>) -> Proposal
     Proposal {
         node: node.name,
         stamp: node.stamp,
-        tenant: held.way.tenant,
+        tenant: held.way.queues[0].name,
         app: held.wanted.app,
         what: held.what,
         size: held.wanted.size,

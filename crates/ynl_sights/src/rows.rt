@@ -1,10 +1,10 @@
 //! The rows of a sight: leaves of which something is wanted on a partition, the queues on the way to each, and its requests.
 
-ghost use Rattle.std.specs.Prelude.{◌≡◌, map};
-ghost use Rattle.ynl_resource.specs.Names.{tenant_of};
+ghost use Rattle.std.specs.Prelude.{◌<◌, length};
 ghost use Rattle.ynl_lanes.specs.lane.Rows.{IsUse};
 ghost use Rattle.ynl_cluster.specs.uses.Tallies.{IsTotal};
 
+use std::snapshot::Snapshot;
 use ynl_resource::{Name, Resource, Size};
 use ynl_search::limits::Limits as UserLimits;
 
@@ -24,12 +24,11 @@ pub(crate) struct QueueSight {
     pub name: Name,
 }
 
-/// The queues on the way to a leaf, from the top-level queue down to the leaf.
+/// The queues on the way to a leaf, from the top-level queue down to the leaf. The first has the name of the tenant.
 #[derive(Drop)]
 pub(crate) struct Way {
     pub queues: Vec<QueueSight>,
-    pub tenant: Name,
-    ghost of_tenant: { tenant ≡ tenant_of (map (λ queue. queue.name) queues.items) },
+    ghost some: { 0 < length queues.items },
 }
 
 /// What the requests of a leaf are tested against, besides the margins on its way: root's margin, the limits of its users, and
@@ -45,18 +44,18 @@ pub(crate) struct Limits {
 }
 
 /// A request of an application, with the application's place in the leaf. The priority is an ask's; of a master it says
-/// nothing.
-#[derive(Clone, Copy)]
+/// nothing. No choice reads the name of the user, so a row takes no bytes for it: it is there for what a sight means alone.
+#[derive(Drop)]
 pub(crate) struct Wanted {
     pub place: u64,
     pub size: Size,
     pub priority: u32,
     pub app: Name,
-    pub user: Name,
+    pub user: Snapshot<Name>,
 }
 
 /// A request, with what its user uses of the leaf.
-#[derive(Clone, Copy)]
+#[derive(Drop)]
 pub(crate) struct Offered {
     pub user_used: Resource,
     pub wanted: Wanted,
@@ -86,7 +85,7 @@ impl Drop for LeafSight {
 /// A leaf with what is asked for there on DEFAULT. Guests are tested for room alone.
 pub(crate) struct GuestSight {
     pub way: Way,
-    pub asks: Vec<Wanted>,
+    pub asks: Vec<Offered>,
 }
 
 // By hand, as that of `Sight`.

@@ -65,8 +65,7 @@ pub(crate) fn way_of(
         *place = child_at(cluster, p, place, queue);
         queues.push(queue_at(cluster, p, queue, place))?;
     }
-    let tenant = queues[0].name;
-    Ok(Way { queues, tenant })
+    Ok(Way { queues })
 }
 
 /// What the requests of a leaf are tested against, where the leaf was reached.

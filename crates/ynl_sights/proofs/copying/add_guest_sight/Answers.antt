@@ -1,9 +1,8 @@
-use Rattle.std.proofs.Common.{List, map, sym, ap, ◌∙◌}
+use Rattle.std.proofs.Common.{sym, ap, ◌∙◌}
 use Rattle.ynl_resource.specs.declared.labels.Label.{Label}
 use Rattle.ynl_cluster.specs.requests.Requests.{asked}
 use Rattle.ynl_sights.specs.Copying.{bids_at}
 use Rattle.ynl_sights.specs.Rows.{bids_by, guest_bids_in}
-use Rattle.ynl_sights.specs.declared.rows.Offered.{Offered}
 use Rattle.ynl_sights.proofs.Leaves.{added}
 use Rattle.ynl_sights.proofs.Seen.{bids-seen}
 use Rattle.ynl_sights.proofs.copying.add_guest_sight.Goals as goal
@@ -14,5 +13,4 @@ returns c =
     let sound = c.inventory.ensures.sound in
     added guest_bids_in c.args.out.now.items c.push.new.self.items _ (bids_at w 0 (asked w.rows 0) c.args.leaf) c.in_ok-push.ensures.items
     (ap (λ (label : Label). bids_by label c.in_ok-way.way c.in_ok-asks.asks.items) (sym sound.default)
-    ∙ bids-seen w sound 0 sound.some c.args.leaf c.in_ok-way.way c.in_ok-way.ensures.way c.in_ok-offered.offered.items c.in_ok-offered.ensures
-    c.in_ok-asks.asks.items (c.in_ok-asks.ensures ∙ ap (λ (offered : List Offered). map (λ (one : Offered). one.wanted) offered) c.deref-2.ensures.value))
+    ∙ bids-seen w sound 0 sound.some c.args.leaf c.in_ok-way.way c.in_ok-way.ensures.way c.in_ok-asks.asks.items c.in_ok-asks.ensures)

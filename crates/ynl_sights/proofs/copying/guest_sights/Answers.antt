@@ -19,7 +19,7 @@ pub loop-queue-preserved : goal.loop-queue-preserved
 loop-queue-preserved c =
     let w = c.args.cluster.now in
     let queue = c.loop-queue.queue in
-    let many = c.len-queue-end.ensures.value ∙ ap (λ (paths : List Path). length (root ∷ paths)) (c.layout.ensures ∙ ap (λ (h : Held). h.rows.paths) c.inventory-inventory.ensures.value) in
+    let many = c.len-queues.ensures.value ∙ ap (λ (paths : List Path). length (root ∷ paths)) (c.layout.ensures ∙ ap (λ (h : Held). h.rows.paths) c.inventory-inventory.ensures.value) in
     let there : HasNumber w.rows.paths queue = omega (arith, c.loop-queue-test.true, many) in
     let see = bid_of w.config (state_in w) (label_of w 0) in
     one-more guest_bids_in (bids_at w 0 (asked w.rows 0)) w.rows.paths queue c.loop-queue.auto.queue there (λ inner. ap (map see) (none-there w.rows c.inventory-inventory.ensures.sound (asked w.rows 0) queue inner))
@@ -32,7 +32,7 @@ returns c =
     let see = bid_of w.config (state_in w) in
     let takes : takes_guests w.config (label_of w c.args.p) ≡ true =
     sym (takes-told w.config w.rows.partitions is.configured.guests c.args.p c.requires c.takes_guests.result (rw is.value at c.takes_guests.ensures)) ∙ c.if-not-takes_guests.false in
-    let many = c.len-queue-end.ensures.value ∙ ap (λ (paths : List Path). length (root ∷ paths)) (c.layout.ensures ∙ ap (λ (h : Held). h.rows.paths) c.inventory-inventory.ensures.value) in
+    let many = c.len-queues.ensures.value ∙ ap (λ (paths : List Path). length (root ∷ paths)) (c.layout.ensures ∙ ap (λ (h : Held). h.rows.paths) c.inventory-inventory.ensures.value) in
     c.loop-queue.invariant
     ∙ ap (flat_map (bids_at w 0 (asked w.rows 0))) (all-before w.rows.paths c.loop-queue.queue (omega (arith, c.loop-queue-test.false, many)))
     ∙ sym (map-flat (see (label_of w 0)) (items_in w.rows (asked w.rows 0)) (leaf_numbers w.rows.paths))

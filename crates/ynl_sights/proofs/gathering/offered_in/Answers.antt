@@ -1,8 +1,10 @@
-use Rattle.std.proofs.Common.{ap, is_some, map}
+use Rattle.std.proofs.Common.{◌≡◌, ◌∙◌, Bool, [], ap, is_some, map, subst, sym}
+use Rattle.std.specs.Bool.{OnTrue}
 use Rattle.std.proofs.lemmas.Option.{slice_get-get_or}
 use Rattle.ynl_cluster.specs.requests.Laws.{in_leaf}
-use Rattle.ynl_sights.specs.Copying.{kind_shown, shown}
+use Rattle.ynl_sights.specs.Copying.{items_in, kind_shown, kind_wanted, shown}
 use Rattle.ynl_sights.proofs.Gathered.{taken}
+use Rattle.ynl_sights.proofs.Idle.{none-shown}
 use Rattle.ynl_sights.proofs.Places.{app-at}
 use Rattle.ynl_sights.proofs.gathering.offered_in.Goals as goal
 
@@ -17,3 +19,10 @@ loop-i-preserved c =
     let i = c.loop-i.i in
     let at = app-at v c.inventory.ensures.sound c.args.leaf c.args.apps.now c.requires.apps i _ (slice_get-get_or c.args.apps.now i 0 c.loop-i-test.true) in
     taken (kind_shown c.args.kind v c.args.p) (in_leaf c.args.leaf v.apps) i _ at.row at.place (map shown c.loop-i.offered.items) (map shown c.add_offered.new.out.items) c.loop-i.invariant (c.in_ok-add_offered.ensures at.row at.found)
+
+pub returns-then-none_waits : goal.returns-then-none_waits
+returns-then-none_waits c =
+    let v = c.args.cluster.now.rows in
+    ap (map shown) c.new-offered.ensures.items
+    ∙ sym (none-shown v c.args.p c.args.kind 0 (in_leaf c.args.leaf v.apps)
+    (subst (λ (b : Bool). OnTrue b (items_in v (kind_wanted c.args.kind v c.args.p) c.args.leaf ≡ [])) c.if-none_waits.true c.none_waits.ensures))

@@ -4,8 +4,8 @@ use Rattle.ynl_resource.specs.declared.labels.Label.TheVariants.{Unlabelled}
 use Rattle.ynl_sights.specs.Sights.{has_room}
 use Rattle.ynl_sights.specs.Rows.{bid_in}
 use Rattle.ynl_sights.specs.Planning.{HoldsFirst}
-use Rattle.ynl_sights.specs.declared.rows.Wanted.{Wanted}
+use Rattle.ynl_sights.specs.declared.rows.Offered.{Offered}
 use Rattle.ynl_sights.proofs.planning.hold_guests.Given as goal
 
-abbrev pub invariant-loop-wanted : goal.invariant-loop-wanted
-invariant-loop-wanted l = HoldsFirst l.initial.held (filter (has_room l.free) (map (λ (w : Wanted). bid_in l.leaf.way (Asked Unlabelled w.priority) w) (take l.wanted-index l.asks))) l.held
+abbrev pub invariant-loop-offered : goal.invariant-loop-offered
+invariant-loop-offered l = HoldsFirst l.initial.held (filter (has_room l.free) (map (λ (o : Offered). bid_in l.leaf.way (Asked Unlabelled o.wanted.priority) o.wanted) (take l.offered-index l.asks))) l.held
