@@ -125,6 +125,16 @@ unfoldable pub optional_label_at : Option (List ℕ) → Result (Option Label) L
 optional_label_at None = Ok None
 optional_label_at (Some text) = label_at text >>= λ l. Ok (Some l)
 
+-- a submit, from what stands under its keys
+abbrev pub submit_of : List ℕ → Option (List ℕ) → ℕ → List ℕ → List ℕ → ℕ → Result Event LineFault
+submit_of app label memory queue user vcores = do
+  app' ← name_at app
+  label' ← optional_label_at label
+  queue' ← path_at queue
+  user' ← name_at user
+  master ← size_at memory vcores
+  Ok (Submit queue' app' user' label' master)
+
 -- an application that comes to a queue, with its user and the size of its master, and perhaps a label
 unfoldable pub submit_at : Data → Result Event LineFault
 submit_at d = do
@@ -134,12 +144,18 @@ submit_at d = do
   queue ← text_at (codes "queue") d
   user ← text_at (codes "user") d
   vcores ← number_at (codes "vcores") d
+  submit_of app label memory queue user vcores
+
+-- an ask, from what stands under its keys
+abbrev pub ask_of : List ℕ → ℕ → List ℕ → ℕ → ℕ → List ℕ → ℕ → Result Event LineFault
+ask_of app count label memory priority tenant vcores = do
   app' ← name_at app
-  label' ← optional_label_at label
-  queue' ← path_at queue
-  user' ← name_at user
-  master ← size_at memory vcores
-  Ok (Submit queue' app' user' label' master)
+  label' ← label_at label
+  tenant' ← name_at tenant
+  count' ← within most_count count
+  priority' ← within most_priority priority
+  size ← size_at memory vcores
+  Ok (Ask tenant' app' label' priority' count' size)
 
 -- an application that asks for so many containers of one size, at a priority and under a label
 unfoldable pub ask_at : Data → Result Event LineFault
@@ -152,13 +168,7 @@ ask_at d = do
   priority ← number_at (codes "priority") d
   tenant ← text_at (codes "tenant") d
   vcores ← number_at (codes "vcores") d
-  app' ← name_at app
-  label' ← label_at label
-  tenant' ← name_at tenant
-  count' ← within most_count count
-  priority' ← within most_priority priority
-  size ← size_at memory vcores
-  Ok (Ask tenant' app' label' priority' count' size)
+  ask_of app count label memory priority tenant vcores
 
 -- a container that its tenant gives back
 unfoldable pub release_at : Data → Result Event LineFault
@@ -250,6 +260,18 @@ unfoldable pub what_at : Option (Label × ℕ) → Result What LineFault
 what_at None = Ok Master
 what_at (Some wanted) = within most_priority wanted.1 >>= λ p. Ok (Asked wanted.0 p)
 
+-- a proposal, from what stands under its keys
+abbrev pub proposal_of : Option (List ℕ × ℕ) → List ℕ → ℕ → List ℕ → ℕ → List ℕ → ℕ → Result Proposal LineFault
+proposal_of wanted app memory node stamp tenant vcores = do
+  app' ← name_at app
+  wanted' ← wanted_label_at wanted
+  node' ← name_at node
+  tenant' ← name_at tenant
+  what ← what_at wanted'
+  stamp' ← within most_clock stamp
+  size ← size_at memory vcores
+  Ok (record { node = node'; stamp = stamp'; tenant = tenant'; app = app'; what = what; size = size })
+
 -- a proposal: the object under a commit's key, read in the same order as an event
 unfoldable pub proposal_at : Data → Result Proposal LineFault
 proposal_at d = do
@@ -260,14 +282,7 @@ proposal_at d = do
   stamp ← number_at (codes "stamp") d
   tenant ← text_at (codes "tenant") d
   vcores ← number_at (codes "vcores") d
-  app' ← name_at app
-  wanted' ← wanted_label_at wanted
-  node' ← name_at node
-  tenant' ← name_at tenant
-  what ← what_at wanted'
-  stamp' ← within most_clock stamp
-  size ← size_at memory vcores
-  Ok (record { node = node'; stamp = stamp'; tenant = tenant'; app = app'; what = what; size = size })
+  proposal_of wanted app memory node stamp tenant vcores
 
 -- a proposal that is to be placed
 unfoldable pub commit_at : Data → Result Event LineFault

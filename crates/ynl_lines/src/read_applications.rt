@@ -67,6 +67,22 @@ pub fn submit_at(event: &Fields<'_, '_>, into: &mut Event) -> Result<(), LineFau
     let queue = text_at(event, "queue")?;
     let user = text_at(event, "user")?;
     let vcores = number_at(event, "vcores")?;
+    submit_of(app, label, memory, queue, user, vcores, into)
+}
+
+/// A submit, from what stands under its keys.
+fn submit_of(
+    app: &str,
+    label: Option<&str>,
+    memory: u64,
+    queue: &str,
+    user: &str,
+    vcores: u64,
+    into: &mut Event,
+) -> Result<(), LineFault>
+    ensures event { Gives (λ _. into.new) result (spec.submit_of app.now (option_map (λ s. s.now) label.entry) memory queue.now user.now vcores) }
+    ensures ranged { OnOk result (IsRanged into.new) }
+{
     let app = name_at(app)?;
     let label = optional_label_at(label)?;
     let queue = path_at(queue)?;
@@ -96,6 +112,23 @@ pub fn ask_at(event: &Fields<'_, '_>, into: &mut Event) -> Result<(), LineFault>
     let priority = number_at(event, "priority")?;
     let tenant = text_at(event, "tenant")?;
     let vcores = number_at(event, "vcores")?;
+    ask_of(app, count, label, memory, priority, tenant, vcores, into)
+}
+
+/// An ask, from what stands under its keys.
+fn ask_of(
+    app: &str,
+    count: u64,
+    label: &str,
+    memory: u64,
+    priority: u64,
+    tenant: &str,
+    vcores: u64,
+    into: &mut Event,
+) -> Result<(), LineFault>
+    ensures event { Gives (λ _. into.new) result (spec.ask_of app.now count label.now memory priority tenant.now vcores) }
+    ensures ranged { OnOk result (IsRanged into.new) }
+{
     let app = name_at(app)?;
     let label = label_at(label)?;
     let tenant = name_at(tenant)?;

@@ -99,6 +99,22 @@ pub fn proposal_at(proposal: &Fields<'_, '_>) -> Result<Proposal, LineFault>
     let stamp = number_at(proposal, "stamp")?;
     let tenant = text_at(proposal, "tenant")?;
     let vcores = number_at(proposal, "vcores")?;
+    proposal_of(wanted, app, memory, node, stamp, tenant, vcores)
+}
+
+/// A proposal, from what stands under its keys.
+fn proposal_of(
+    wanted: Option<(&str, u64)>,
+    app: &str,
+    memory: u64,
+    node: &str,
+    stamp: u64,
+    tenant: &str,
+    vcores: u64,
+) -> Result<Proposal, LineFault>
+    ensures proposal { result ≡ spec.proposal_of (option_map (λ wanted. (wanted.0.now, wanted.1)) wanted.entry) app.now memory node.now stamp tenant.now vcores }
+    ensures ranged { IfOk result (λ proposal. IsSize proposal.size × HasProposalNumbers proposal) }
+{
     let app = name_at(app)?;
     let wanted = wanted_label_at(wanted)?;
     let node = name_at(node)?;
