@@ -4,10 +4,10 @@
 ghost use Rattle.std.specs.Prelude.{IfSome};
 ghost use Rattle.ynl_lines.specs.Reading.{IsRanged};
 
-use crate::compact_replies::{cut_proposal, told_label};
+use crate::compact_replies::{cut_proposal, told_label, told_size};
 use ynl_fields::Cursor;
 use ynl_model::Event;
-use ynl_resource::{Hundredths, MOST_COUNT, Name, Size};
+use ynl_resource::{Hundredths, MOST_COUNT, Name};
 
 /// Where the first byte of a key stands, behind a brace or a comma and a quote.
 const KEY: usize = 2;
@@ -26,8 +26,7 @@ fn cut_submit(line: &mut Cursor<'_>, app: Name, into: &mut Event) -> Option<()>
     let memory = line.number(b",\"memory\":")?;
     let queue = line.path(b",\"queue\":\"")?;
     let user = line.name(b",\"user\":\"")?;
-    let vcores = line.number(b",\"vcores\":")?;
-    let master = Size::new(memory, vcores)?;
+    let master = told_size(line, memory)?;
     *into = Event::Submit {
         queue,
         app,
@@ -47,8 +46,7 @@ fn cut_ask(line: &mut Cursor<'_>, app: Name, into: &mut Event) -> Option<()>
     let memory = line.number(b",\"memory\":")?;
     let priority = line.small(b",\"priority\":", u32::MAX)?;
     let tenant = line.name(b",\"tenant\":\"")?;
-    let vcores = line.number(b",\"vcores\":")?;
-    let size = Size::new(memory, vcores)?;
+    let size = told_size(line, memory)?;
     *into = Event::Ask {
         tenant,
         app,
@@ -98,8 +96,7 @@ fn cut_register(line: &mut Cursor<'_>, into: &mut Event) -> Option<()>
     let label = line.label(b"{\"event\":\"register\",\"label\":\"")?;
     let memory = line.number(b",\"memory\":")?;
     let node = line.name(b",\"node\":\"")?;
-    let vcores = line.number(b",\"vcores\":")?;
-    let size = Size::new(memory, vcores)?;
+    let size = told_size(line, memory)?;
     *into = Event::Register { node, label, size };
     Some(())
 }

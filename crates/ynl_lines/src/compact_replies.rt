@@ -22,6 +22,15 @@ pub fn told_label(line: &mut Cursor<'_>) -> Option<Option<Label>> {
     Some(Some(line.label(b",\"label\":\"")?))
 }
 
+/// The size of so much memory and of the virtual cores that are told here. It stands alone, since that a size is in range
+/// follows from its parts at some length.
+pub fn told_size(line: &mut Cursor<'_>, memory: u64) -> Option<Size>
+    ensures { IfSome result (λ size. IsSize size) }
+{
+    let vcores = line.number(b",\"vcores\":")?;
+    Size::new(memory, vcores)
+}
+
 /// What is wanted, from its label and its priority.
 fn wanted(line: &mut Cursor<'_>, label: Option<Label>) -> Option<What>
     ensures { IfSome result (λ what. HasPriority what) }
@@ -64,8 +73,7 @@ impl Cut for Placed {
         let node = line.name(b",\"node\":\"")?;
         let what = wanted(line, label)?;
         let tenant = line.name(b",\"tenant\":\"")?;
-        let vcores = line.number(b",\"vcores\":")?;
-        let size = Size::new(memory, vcores)?;
+        let size = told_size(line, memory)?;
         if !ends_as(line, &what) {
             return None;
         }
@@ -87,8 +95,7 @@ impl Cut for Pending {
         let count = line.small(b"{\"count\":", MOST_COUNT)?;
         let memory = line.number(b",\"memory\":")?;
         let priority = line.small(b",\"priority\":", u32::MAX)?;
-        let vcores = line.number(b",\"vcores\":")?;
-        let size = Size::new(memory, vcores)?;
+        let size = told_size(line, memory)?;
         if !line.skips(b"}") {
             return None;
         }
@@ -170,8 +177,7 @@ pub fn cut_proposal(line: &mut Cursor<'_>) -> Option<Proposal>
     let number = line.number(b",\"stamp\":")?;
     let stamp = within(MOST_CLOCK, number).ok()?;
     let tenant = line.name(b",\"tenant\":\"")?;
-    let vcores = line.number(b",\"vcores\":")?;
-    let size = Size::new(memory, vcores)?;
+    let size = told_size(line, memory)?;
     if !ends_as(line, &what) {
         return None;
     }
