@@ -1,6 +1,6 @@
 //! Applications by their names, and what they do: they ask, finish, and look at what they have.
 
-ghost use Rattle.std.specs.Prelude.{◌≡◌, ◌≢◌, ◌≤◌, ◌^◌, ◌∷◌, ℕ, ◌&&◌, not, nat_eq, count_by, length, None, Some, IfErr, IfNone, IfOk, IfSome};
+ghost use Rattle.std.specs.Prelude.{◌≡◌, ◌≤◌, ◌^◌, ◌∷◌, ◌&&◌, not, nat_eq, count_by, length, None, Some, IfErr, IfNone, IfOk, IfSome};
 ghost use Rattle.ynl_resource.specs.Amounts.{fits_in};
 ghost use Rattle.ynl_resource.specs.Names.{root};
 ghost use Rattle.ynl_resource.specs.Refusals.{first_that_holds};

@@ -1,11 +1,9 @@
 //! Applications that come to a leaf.
 
-ghost use Rattle.std.specs.Prelude.{◌≡◌, ◌<◌, ◌≤◌, ◌^◌, ◌∷◌, ℕ, List, length, nat_le, not, None, Some, IfErr, IfOk};
-ghost use Rattle.ynl_resource.specs.Names.{root, tenant_of, top_level};
+ghost use Rattle.std.specs.Prelude.{◌≡◌, ◌<◌, ℕ, List, None, Some, IfErr, IfOk};
+ghost use Rattle.ynl_resource.specs.Names.{tenant_of, top_level};
 ghost use Rattle.ynl_resource.specs.Refusals.{first_that_holds};
-ghost use Rattle.ynl_model.specs.Applications.{is_used};
 ghost use Rattle.ynl_model.specs.Events.{has_most_apps, home_of, reasons};
-ghost use Rattle.ynl_model.specs.Queues.{Config as Configured};
 ghost use Rattle.ynl_model.specs.declared.events.Event.TheVariants as event;
 ghost use Rattle.ynl_layout.specs.Paths.{HasNumber, path_at};
 ghost use Rattle.ynl_inventory.specs.Sound.{IsLeaf};

@@ -1,6 +1,5 @@
 //! Clusters that the events of a script are applied to: each as its line is read, and none is held.
 
-ghost use Rattle.std.specs.Prelude.{◌≡◌};
 ghost use Rattle.ynl_commands.specs.Clusters.{Applies, AppliesScript};
 ghost use Rattle.ynl_commands.specs.Input.{between};
 

@@ -1,6 +1,6 @@
 //! Saving the state after a script.
 
-ghost use Rattle.std.specs.Prelude.{◌≡◌, ◌≢◌, IfErr};
+ghost use Rattle.std.specs.Prelude.{◌≢◌, IfErr};
 ghost use Rattle.ynl_commands.specs.declared.run.ToolFault.TheVariants.{Read};
 ghost use Rattle.ynl_commands.specs.Clusters.{rest_of};
 ghost use Rattle.ynl_commands.specs.Input.{between};

@@ -1,10 +1,9 @@
 //! The places of the faults that single tables and values of a text have.
 
-ghost use Rattle.std.specs.Prelude.{◌≡◌, IfOk, find, not, map, is_none, is_some, option_map, option_copied, string_bytes};
-ghost use Rattle.std.specs.Option.{option_and_then};
+ghost use Rattle.std.specs.Prelude.{◌≡◌, IfOk, find, not, is_none, is_some, option_map, string_bytes};
 ghost use Rattle.std.specs.BTreeMap.{keys};
 ghost use Rattle.std.specs.List.{slice_split};
-ghost use Rattle.toml.specs.Data.{Members, as_table, get_member};
+ghost use Rattle.toml.specs.Data.{as_table};
 ghost use Rattle.toml.specs.View.{table_view, view, items_view};
 ghost use Rattle.ynl_config.specs.Access.{is_comma, trimmed};
 ghost use Rattle.ynl_config.specs.Tables.{values_in};

@@ -1,7 +1,6 @@
 //! Values as they are told.
 
-ghost use Rattle.std.specs.Prelude.{◌≡◌, IfOk, option_map, option_and_then};
-ghost use Rattle.toml.specs.Data.{get_member};
+ghost use Rattle.std.specs.Prelude.{◌≡◌, IfOk, option_map};
 ghost use Rattle.toml.specs.View.{table_view, view};
 ghost use Rattle.ynl_config.specs.Places.{told_of, place_of};
 ghost use Rattle.ynl_config.specs.Places as spec;

@@ -1,6 +1,6 @@
 //! The audit of evidence, one entry after another.
 
-ghost use Rattle.std.specs.Prelude.{◌≡◌, [], IfOk, IfErr, OnOk};
+ghost use Rattle.std.specs.Prelude.{◌≡◌, [], IfOk, OnOk};
 ghost use Rattle.ynl_model.specs.View.{track_step};
 ghost use Rattle.ynl_evidence.specs.Kept.{is_kept, is_relabel};
 ghost use Rattle.ynl_evidence.specs.Trials.{IsTrialOf, TakesNext, is_behind};

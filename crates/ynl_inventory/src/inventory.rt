@@ -1,6 +1,6 @@
 //! What a cluster holds.
 
-ghost use Rattle.std.specs.Prelude.{◌≡◌, ◌<◌, ◌≤◌, nat_eq, length, map, slice_get, option_map, Some, None, IfNone, nat_le, false, true, IfOk, IsOk, OnOk, OnErr, IfSome, IsSome};
+ghost use Rattle.std.specs.Prelude.{◌≡◌, ◌<◌, ◌≤◌, nat_eq, length, map, slice_get, option_map, Some, None, nat_le, false, true, IfOk, IsOk, OnOk, OnErr, IfSome, IsSome};
 ghost use Rattle.std.specs.Map.{lookup};
 ghost use Rattle.ynl_slots.specs.Slots.{number_in, without, IsAfter, IsLive, IsUnused};
 ghost use Rattle.ynl_tables.specs.apps.Chains.{chain_of};
@@ -9,7 +9,6 @@ ghost use Rattle.ynl_model.specs.Nodes.{rises};
 ghost use Rattle.ynl_tables.specs.containers.Chains.{IsFirst, IsNext};
 ghost use Rattle.ynl_tables.specs.containers.Table.{number_at};
 ghost use Rattle.ynl_tables.specs.submissions.Submissions.{turn_of};
-ghost use Rattle.ynl_tables.specs.users.Users.{IsNew};
 ghost use Rattle.ynl_inventory.specs.Meaning.{app_name, app_number, label_at, node_number, submitted_to, tenant_name};
 ghost use Rattle.ynl_layout.specs.Paths.{HasNumber};
 ghost use Rattle.ynl_inventory.specs.Opening.{opening_rows, IsOpening};

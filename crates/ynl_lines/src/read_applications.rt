@@ -1,6 +1,6 @@
 //! From objects to the events of applications.
 
-ghost use Rattle.std.specs.Prelude.{◌≡◌, option_map, IfOk, OnOk, IsTrue, Some};
+ghost use Rattle.std.specs.Prelude.{◌≡◌, option_map, OnOk, Some};
 ghost use Rattle.serde_json.specs.Find.{as_str};
 ghost use Rattle.ynl_fields.specs.Trees.{data_at};
 ghost use Rattle.ynl_lines.specs.declared.faults.LineFault.TheVariants as fault;

@@ -1,6 +1,6 @@
 //! From objects to proposals, and to the events that speak of them.
 
-ghost use Rattle.std.specs.Prelude.{◌≡◌, option_map, IfOk, OnOk, IsTrue};
+ghost use Rattle.std.specs.Prelude.{◌≡◌, option_map, IfOk, OnOk};
 ghost use Rattle.ynl_fields.specs.Trees.{data_at};
 ghost use Rattle.ynl_resource.specs.Amounts.{IsSize};
 ghost use Rattle.ynl_lines.specs.Reading.{Gives, HasPriority, HasProposalNumbers, IsRanged};

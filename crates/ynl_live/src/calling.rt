@@ -6,7 +6,7 @@ ghost use Rattle.ynl_model.specs.Events.{after, step};
 ghost use Rattle.ynl_model.specs.declared.events.Event.TheVariants.{Propose};
 ghost use Rattle.ynl_core.specs.Sightings.{IsSighting, reply_by, reply_before};
 ghost use Rattle.ynl_core.specs.World.{opened};
-ghost use Rattle.ynl_journal.specs.Journal.{Journal, entry, events_in, replayed_from};
+ghost use Rattle.ynl_journal.specs.Journal.{entry, events_in, replayed_from};
 ghost use Rattle.ynl_live.specs.Sightings.{IsOfNode};
 ghost use Rattle.ynl_live.specs.Seats.{passed};
 ghost use Rattle.ynl_live.specs.Faults.{IsFaultAt, IsFaultBehind};

@@ -1,6 +1,5 @@
 //! Events read from the front of what is kept. An event is large, so each is read into a place that the caller keeps.
 
-ghost use Rattle.std.specs.Prelude.{◌≡◌};
 ghost use Rattle.ynl_packed.specs.Reading.{Gives, choice_at, register_at, relabel_at, exited_at, submit_at, ask_at, release_at, finish_at, poll_at, usage_at, maximum_at, short_at, event_of, event_at, mapped, name_at, path_at, proposal_at};
 ghost use Rattle.ynl_model.specs.declared.events.Event.TheVariants.{Lost, Heartbeat, Stop, Start, Propose, Commit};
 

@@ -1,7 +1,6 @@
 //! What stands in the lists of replies.
 
-ghost use Rattle.std.specs.Prelude.{◌≡◌, ◌++◌, ℕ, List, Option, OnOk, IfOk, length, ◌<◌, ◌^◌, All};
-ghost use Rattle.std.specs.List.{flat_map};
+ghost use Rattle.std.specs.Prelude.{◌≡◌, ◌++◌, ℕ, List, Option, OnOk, IfOk, ◌<◌};
 ghost use Rattle.ynl_packed.specs.Fits.{FitsContainer, FitsPending, FitsItems};
 ghost use Rattle.ynl_packed.specs.Spelling.{container_bytes, pending_bytes, items_bytes};
 ghost use Rattle.ynl_packed.specs.Reading.{Gives, container_at, pending_at, many, items_at};

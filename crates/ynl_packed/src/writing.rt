@@ -1,6 +1,6 @@
 //! Fields added at the end of bytes.
 
-ghost use Rattle.std.specs.Prelude.{◌≡◌, ◌++◌, ◌<◌, ◌^◌, OnOk, length};
+ghost use Rattle.std.specs.Prelude.{◌≡◌, ◌++◌, ◌<◌, OnOk, length};
 ghost use Rattle.ynl_packed.specs.Fits.{FitsName, FitsLabel, FitsLong, FitsPath, FitsSize, FitsId, FitsWhat, FitsProposal, FitsAmount};
 ghost use Rattle.ynl_packed.specs.Spelling.{small_bytes, number_bytes, text_bytes, label_bytes, long_bytes, path_bytes, size_bytes, amount_bytes, id_bytes, what_bytes, proposal_bytes};
 

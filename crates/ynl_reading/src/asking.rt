@@ -5,7 +5,6 @@ ghost use Rattle.std.specs.Map.{lookup};
 ghost use Rattle.ynl_model.specs.Applications.{Application, find_app};
 ghost use Rattle.ynl_model.specs.Cluster.{user_used};
 ghost use Rattle.ynl_model.specs.Events.{pending_on};
-ghost use Rattle.ynl_layout.specs.Paths.{HasNumber};
 ghost use Rattle.ynl_slots.specs.Slots.{IsLive};
 ghost use Rattle.ynl_inventory.specs.Rows.{AppRow};
 ghost use Rattle.ynl_inventory.specs.Meaning.{app_of};

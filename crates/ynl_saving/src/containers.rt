@@ -1,6 +1,6 @@
 //! Containers are told, partition by partition.
 
-ghost use Rattle.std.specs.Prelude.{◌≡◌, flat_map, map};
+ghost use Rattle.std.specs.Prelude.{flat_map, map};
 ghost use Rattle.ynl_inventory.specs.Apps.{containers_of};
 ghost use Rattle.ynl_inventory.specs.Meaning.{placed_of};
 ghost use Rattle.ynl_inventory.specs.Sound.{HasPartition};

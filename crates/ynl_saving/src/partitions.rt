@@ -1,6 +1,6 @@
 //! Partitions and nodes are told.
 
-ghost use Rattle.std.specs.Prelude.{◌≡◌, map};
+ghost use Rattle.std.specs.Prelude.{map};
 ghost use Rattle.ynl_cluster.specs.Cluster.{state_in};
 ghost use Rattle.ynl_saved.specs.declared.lines.StateLine.TheVariants.{Node as NodeLine};
 ghost use Rattle.ynl_saved.specs.Handing.{Hands};

@@ -1,6 +1,6 @@
 //! What each request below a queue is for at least.
 
-ghost use Rattle.std.specs.Prelude.{◌≡◌, ◌<◌, IsTrue, length};
+ghost use Rattle.std.specs.Prelude.{◌<◌, IsTrue, length};
 ghost use Rattle.ynl_resource.specs.declared.labels.Label.TheVariants.{Unlabelled};
 ghost use Rattle.ynl_model.specs.Service.{asks_for, items_for};
 ghost use Rattle.ynl_inventory.specs.Sound.{HasPartition};

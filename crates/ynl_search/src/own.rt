@@ -1,11 +1,10 @@
 //! The first request of a leaf that may be placed.
 
-ghost use Rattle.std.specs.Prelude.{◌≡◌, IfSome, option_map};
+ghost use Rattle.std.specs.Prelude.{◌≡◌, option_map};
 ghost use Rattle.ynl_lanes.specs.lane.Rows.{IsUse};
 ghost use Rattle.ynl_inventory.specs.Parts.{app_row};
 ghost use Rattle.ynl_cluster.specs.seating.Seating.{ticket_on};
-ghost use Rattle.ynl_lanes.specs.lane.Seats.{IsSeat};
-ghost use Rattle.ynl_search.specs.InLeaf.{first_ask, first_master, first_own, gives_ask, gives_master};
+ghost use Rattle.ynl_search.specs.InLeaf.{first_own, gives_ask, gives_master};
 ghost use Rattle.ynl_search.specs.Leaves.{passes_ask};
 ghost use Rattle.ynl_search.specs.notes.Lanes.{IsLaneOfSome};
 

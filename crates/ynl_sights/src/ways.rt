@@ -1,6 +1,6 @@
 //! The queues on the way to a leaf and the leaf's limits, as they are copied.
 
-ghost use Rattle.std.specs.Prelude.{◌≡◌, ◌<◌, IfOk, OnOk};
+ghost use Rattle.std.specs.Prelude.{◌<◌, IfOk, OnOk};
 ghost use Rattle.ynl_inventory.specs.Sound.{HasPartition};
 ghost use Rattle.ynl_cluster.specs.Cluster.{path_of, IsCell};
 ghost use Rattle.ynl_sights.specs.Copying.{AreLimitsOf, IsAt, IsQueueOf, IsWayOf};

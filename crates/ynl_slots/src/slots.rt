@@ -1,6 +1,6 @@
 //! Rows in slots, with a list of the free ones.
 
-ghost use Rattle.std.specs.Prelude.{◌≡◌, ◌≤◌, ◌<◌, ◌+◌, ◌-◌, ◌^◌, ◌++◌, ◌∷◌, ◌==◌, [], length, map, vec_capacity, None, Some, IsSome, IsOk, OnOk, IfOk, IfSome, slice_index_or, if◌then◌else◌, nat_eq, option_copied};
+ghost use Rattle.std.specs.Prelude.{◌≡◌, ◌≤◌, ◌<◌, ◌+◌, ◌-◌, ◌^◌, ◌++◌, ◌∷◌, ◌==◌, [], length, map, vec_capacity, None, Some, IsSome, IsOk, OnOk, IfOk, IfSome, if◌then◌else◌, nat_eq, option_copied};
 ghost use Rattle.std.specs.Map.{lookup};
 ghost use Rattle.std.specs.Borrow.{Lends, sem};
 ghost use Rattle.ynl_slots.specs.Slots.{number_in, IsLive, IsAfter, IsUnused, IsOnly, HasDistinctNumbers, without};

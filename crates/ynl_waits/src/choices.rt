@@ -1,6 +1,6 @@
 //! The choices that are known, each shared by the nodes of a partition on which as much is free.
 
-ghost use Rattle.std.specs.Prelude.{◌≡◌, ◌++◌, ◌∷◌, [], IfSome, OnOk, OnErr};
+ghost use Rattle.std.specs.Prelude.{◌≡◌, IfSome};
 ghost use Rattle.ynl_model.specs.Queues.{Config};
 ghost use Rattle.ynl_model.specs.Cluster.{State};
 ghost use Rattle.ynl_model.specs.Check.{proposed};

@@ -1,6 +1,6 @@
 //! One worker: its turns, one on each node.
 
-ghost use Rattle.std.specs.Prelude.{◌≡◌, ℕ, ◌+◌, ◌*◌, ◌≤◌, ◌<◌, [], ◌∷◌, ◌++◌, length, vec_len, vec_capacity, IfOk, OnOk, OnErr, ◌⊎◌};
+ghost use Rattle.std.specs.Prelude.{◌≡◌, ◌+◌, ◌*◌, ◌≤◌, ◌<◌, [], ◌∷◌, ◌++◌, length, vec_len, vec_capacity, IfOk, OnOk, OnErr};
 ghost use Rattle.ynl_core.specs.Sightings.{reply_by};
 ghost use Rattle.ynl_live.specs.declared.receipts.Receipt.{Receipt};
 ghost use Rattle.ynl_workers.specs.Turns.{IsAsked, proposal_in};

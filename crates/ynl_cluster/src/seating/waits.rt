@@ -1,7 +1,6 @@
 //! What waits of an application.
 
-ghost use Rattle.std.specs.Prelude.{◌≡◌, IsSome, unwrap_or, if◌then◌else◌, nat_eq, not, ◌&&◌};
-ghost use Rattle.ynl_lanes.specs.lows.Lows.{no_size};
+ghost use Rattle.std.specs.Prelude.{◌≡◌, IsSome, unwrap_or, ◌&&◌};
 ghost use Rattle.ynl_inventory.specs.Parts.{app_row};
 ghost use Rattle.ynl_cluster.specs.seating.Seating.{least_asked, ticket_on, waits_if, with_least};
 

@@ -1,6 +1,6 @@
 //! A lane: the seats of a leaf's applications on one partition, their users, and the search of them.
 
-ghost use Rattle.std.specs.Prelude.{◌≡◌, ◌↔◌, ◌<◌, [], ℕ, length, map, List, Option, Some, None, IsSome, IsTrue, OnOk, OnErr, IfOk, IfSome, IfNone, nat_eq, option_map};
+ghost use Rattle.std.specs.Prelude.{◌≡◌, ◌↔◌, ◌<◌, [], ℕ, length, map, Option, Some, None, IsSome, IsTrue, OnOk, OnErr, IfOk, IfSome, nat_eq, option_map};
 ghost use Rattle.std.specs.Map.{lookup};
 ghost use Rattle.ynl_lanes.specs.lows.Lows.{IsBelow};
 ghost use Rattle.ynl_slots.specs.Slots.{without};

@@ -178,6 +178,8 @@ impl<T: Least> Line<T> {
     }
 
     /// The first slot, not before `from`, whose value of a kind passes the test.
+    // Called for each user and each request that a search passes.
+    #[inline]
     pub(crate) fn next<P: Test<T>>(&self, kind: Kind, from: usize, test: &P) -> Option<usize>
         ensures none { IfNone result (NonePasses (P.passes test.now) (values_of kind self.now) from) }
         ensures first { IfSome result (IsFirst (P.passes test.now) (values_of kind self.now) from) }

@@ -1,10 +1,10 @@
 //! Room for one more seat: the seats of a line move up to its front, and as much room again is made behind them.
 
-ghost use Rattle.std.specs.Prelude.{◌≡◌, ◌≤◌, ◌<◌, ◌^◌, ◌-◌, nat_eq, OnOk, length};
+ghost use Rattle.std.specs.Prelude.{◌≡◌, ◌<◌, ◌-◌, nat_eq, OnOk};
 ghost use Rattle.std.specs.Map.{lookup};
 ghost use Rattle.ynl_slots.specs.Slots.{IsLive, HasDistinctNumbers};
 ghost use Rattle.ynl_lanes.specs.lane.Lines.{IsLine, HasRoom};
-ghost use Rattle.ynl_lanes.specs.lane.Levels.{slot_in, at_slot, stands_at, AreIn, ArePairs, IsMoved};
+ghost use Rattle.ynl_lanes.specs.lane.Levels.{at_slot, stands_at, AreIn, ArePairs, IsMoved};
 ghost use Rattle.ynl_lanes.specs.lane.Moves.{Moves};
 
 use crate::firsts::Least;

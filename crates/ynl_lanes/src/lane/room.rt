@@ -1,7 +1,6 @@
 //! Room for one more seat, and rows for users.
 
-ghost use Rattle.std.specs.Prelude.{◌≡◌, ◌≢◌, ◌<◌, ◌++◌, ◌∷◌, [], OnOk, OnErr, IfOk, Some, nat_eq, length, vec_capacity};
-ghost use Rattle.std.specs.Map.{lookup};
+ghost use Rattle.std.specs.Prelude.{◌≡◌, ◌≢◌, ◌<◌, ◌++◌, ◌∷◌, [], OnOk, OnErr, IfOk, length, vec_capacity};
 ghost use Rattle.ynl_slots.specs.Slots.{IsLive, IsUnused};
 ghost use Rattle.ynl_lanes.specs.lane.Changes.{IsOwnRoom, ShowSame};
 ghost use Rattle.ynl_lanes.specs.lane.Found.{EachSeat};

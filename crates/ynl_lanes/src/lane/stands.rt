@@ -1,9 +1,8 @@
 //! Where a user stands in the lane: at the first own seat at which something waits.
 
-ghost use Rattle.std.specs.Prelude.{◌≡◌, ◌≢◌, IfSome, IfNone};
+ghost use Rattle.std.specs.Prelude.{◌≡◌, IfSome, IfNone};
 ghost use Rattle.ynl_slots.specs.Slots.{IsLive};
 ghost use Rattle.ynl_lanes.specs.declared.lane.kinds.Kind.{Kind};
-ghost use Rattle.ynl_lanes.specs.lane.Lines.{values_of};
 ghost use Rattle.ynl_lanes.specs.lane.Rows.{IsSeated, AreStood, AreStoodBut, IsKept};
 ghost use Rattle.ynl_lanes.specs.lane.Stands.{IsFirstWaiting, NoneWaits, ChangesStand};
 

@@ -1,6 +1,6 @@
 //! Things under numbers that rise.
 
-ghost use Rattle.std.specs.Prelude.{◌≡◌, ◌≤◌, ◌<◌, ◌+◌, ◌++◌, ◌∷◌, [], ℕ, length, map, slice_set, vec_len, vec_capacity, None, Some, is_some, nat_eq, slice_index_or, option_map, if◌then◌else◌, IfOk, OnOk, OnErr, IfSome, IfNone};
+ghost use Rattle.std.specs.Prelude.{◌≡◌, ◌≤◌, ◌<◌, ◌+◌, ◌++◌, ◌∷◌, [], ℕ, length, map, slice_set, vec_len, vec_capacity, None, Some, is_some, nat_eq, slice_index_or, option_map, if◌then◌else◌, IfOk, OnOk, IfSome, IfNone};
 ghost use Rattle.std.specs.List.{AllByRecursion};
 ghost use Rattle.std.specs.Map.{lookup, remove_entry};
 ghost use Rattle.ynl_nodes.specs.declared.roster.roster.Slot.{Slot};

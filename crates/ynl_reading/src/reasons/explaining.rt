@@ -3,7 +3,6 @@
 ghost use Rattle.std.specs.Prelude.{◌≡◌, ◌++◌, ◌∷◌, [], IfOk, OnOk, Some, map};
 ghost use Rattle.std.specs.List.{flat_map};
 ghost use Rattle.ynl_model.specs.Applications.{Application, find_app};
-ghost use Rattle.ynl_model.specs.Nodes.{partition_labels};
 ghost use Rattle.ynl_waits.specs.Choices.{AreChoices};
 ghost use Rattle.ynl_waits.specs.Grounds.{all_spots, ground, guest_grounds};
 ghost use Rattle.ynl_waits.specs.Waits.{applicant, explained_of, requests, wait};

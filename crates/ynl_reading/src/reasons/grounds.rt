@@ -1,6 +1,6 @@
 //! The partitions where requests may go, gathered once for all requests under a label.
 
-ghost use Rattle.std.specs.Prelude.{◌≡◌, ◌++◌, IfOk, OnOk};
+ghost use Rattle.std.specs.Prelude.{◌≡◌, IfOk};
 ghost use Rattle.ynl_model.specs.Check.{comes_as_guest};
 ghost use Rattle.ynl_waits.specs.Grounds.{all_spots, ground, guest_grounds};
 ghost use Rattle.ynl_reading.specs.reasons.Facts.{guests_among};

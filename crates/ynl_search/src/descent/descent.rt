@@ -1,6 +1,6 @@
 //! The descent: down to the child that is served first, and to the next one where nothing is found below.
 
-ghost use Rattle.std.specs.Prelude.{◌≡◌, ◌≤◌, option_map, All, IfSome, IfNone};
+ghost use Rattle.std.specs.Prelude.{◌≡◌, ◌≤◌, option_map, IfSome, IfNone};
 ghost use Rattle.ynl_search.specs.descent.Scenes.{AreAllBelow, Branch, HasPlace, IsFirstOf};
 ghost use Rattle.ynl_search.specs.descent.Turns.{AreInOrder, AreNoneLeft, HavePlaces, IsNext, IsStanding, is_before, is_left, told};
 

@@ -1,6 +1,6 @@
 //! What is noted of queues, by partition.
 
-ghost use Rattle.std.specs.Prelude.{◌≡◌, ℕ, [], IfOk, ◌&&◌, nat_eq};
+ghost use Rattle.std.specs.Prelude.{◌≡◌, [], IfOk, ◌&&◌, nat_eq};
 ghost use Rattle.ynl_laws.specs.Ways.{has_number};
 ghost use Rattle.ynl_search.specs.notes.Notes.{forgotten, more_where, noted, noted_at, AreEmpty, Changes};
 

@@ -10,7 +10,7 @@ ghost use Rattle.ynl_tables.specs.declared.apps.app.Tickets.{Tickets as TicketPa
 ghost use Rattle.ynl_inventory.specs.Rows.{AppRow};
 ghost use Rattle.ynl_inventory.specs.Changes.{partition_of_node, with_app_gone, with_asked, with_ended, with_placed, with_submitted, with_tickets};
 ghost use Rattle.ynl_inventory.specs.Meaning.{app_name, app_of, ask_of, item_of, node_of, placed_of};
-ghost use Rattle.ynl_inventory.specs.Parts.{CanPlace, LeavesRoom, containers_of, held_at};
+ghost use Rattle.ynl_inventory.specs.Parts.{CanPlace, LeavesRoom, held_at};
 ghost use Rattle.ynl_inventory.specs.Sound.{CanAsk, CanSubmit, HasPartition, IsFor, IsLeaf, IsPlaceable, IsSound};
 ghost use Rattle.ynl_cluster.specs.Cluster.{held_in, label_of, path_of, state_in, IsCell};
 ghost use Rattle.ynl_search.specs.notes.Upkeep.{AreGuestsLeft, AreLeft, StayRight, changed_on, is_on};

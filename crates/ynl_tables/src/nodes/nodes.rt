@@ -1,9 +1,9 @@
 //! The nodes of a cluster.
 
-ghost use Rattle.std.specs.Prelude.{◌≡◌, ◌++◌, ◌∷◌, [], length, map, nat_eq, false, true, option_copied, option_map, Some, None, IsTrue, IfOk, IfSome, OnErr, OnOk};
+ghost use Rattle.std.specs.Prelude.{◌≡◌, [], length, nat_eq, false, true, option_copied, option_map, Some, None, IsTrue, IfOk, IfSome, OnErr, OnOk};
 ghost use Rattle.std.specs.Map.{lookup};
 ghost use Rattle.ynl_resource.specs.Amounts.{plus, less, fits_in, IsSmall};
-ghost use Rattle.ynl_slots.specs.Slots.{number_in, IsAfter, IsLive, IsUnused, HasDistinctNumbers, without};
+ghost use Rattle.ynl_slots.specs.Slots.{number_in, IsAfter, IsLive, HasDistinctNumbers, without};
 ghost use Rattle.ynl_tables.specs.nodes.Nodes.{HasDistinctNames, Joins, Rejoins, number_of, with_change};
 
 use crate::nodes::numbers::Numbers;

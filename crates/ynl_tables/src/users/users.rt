@@ -1,6 +1,6 @@
 //! The users of a cluster.
 
-ghost use Rattle.std.specs.Prelude.{◌≡◌, ◌<◌, ◌++◌, ◌∷◌, [], length, slice_get, Some, IfNone, IfOk, IfSome, OnErr};
+ghost use Rattle.std.specs.Prelude.{◌≡◌, ◌<◌, [], length, slice_get, Some, IfNone, IfOk, IfSome, OnErr};
 ghost use Rattle.ynl_tables.specs.users.Users.{AreApart, IsLast, IsNew};
 
 use std::alloc::{AllocError, Global};
