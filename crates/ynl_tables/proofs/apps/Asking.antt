@@ -47,7 +47,7 @@ turned m n = grind (arith, nat_tests)
 turned_of : (a b : Ask) → is_ask_of a.partition a.priority b ≡ is_ask_of b.partition b.priority a
 turned_of a b = (λ i. turned b.partition a.partition i && turned b.priority a.priority i)
 
-same_key : (m n : ℕ) → (m == n) ≡ true → m ≡ n
+pub same_key : (m n : ℕ) → (m == n) ≡ true → m ≡ n
 same_key m n e = grind (arith, nat_tests)
 
 apart_put : (new : Ask) (asks : List Ask) → AreApart asks → AreApart (put (is_ask_of new.partition new.priority) new asks)

@@ -8,7 +8,7 @@ use Rattle.std.proofs.lemmas.Option.{slice_get_past, slice_get_read}
 use Rattle.ynl_resource.specs.Tables.{put}
 
 module _ {X : Type 0} (test : X → Bool) where
-  one_more : (x : X) (xs : List X) → 1 + position_or_len test xs ≡ suc (position_or_len test xs)
+  pub one_more : (x : X) (xs : List X) → 1 + position_or_len test xs ≡ suc (position_or_len test xs)
   one_more x xs = omega arith
 
   -- the first that passes gives its place

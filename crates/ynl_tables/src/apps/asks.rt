@@ -98,8 +98,9 @@ impl Asks {
     pub fn take_one(&mut self, partition: u8, priority: u32)
         ensures { self.new ≡ with_one_taken partition priority self.old }
     {
-        lower(&mut self.rows, partition, priority);
-        drop_spent(&mut self.rows, partition, priority);
+        if lower(&mut self.rows, partition, priority) {
+            drop_ask(&mut self.rows, partition, priority);
+        }
     }
 }
 
@@ -133,34 +134,21 @@ fn drop_ask(asks: &mut Vec<Ask>, partition: u8, priority: u32)
     asks.retain(|ask| !ask.is_of(partition, priority));
 }
 
-/// The ask with a count that is lower by 1, if it is of this partition and priority.
-fn lowered(ask: &Ask, partition: u8, priority: u32) -> Ask
-    ensures { result ≡ (if is_ask_of partition priority ask.now
-        then lowered ask.now else ask.now) }
+/// The count of the ask of a partition and a priority falls by 1. It tells whether that is for no container now.
+fn lower(asks: &mut Vec<Ask>, partition: u8, priority: u32) -> bool
+    requires { AreAsks asks.old.items }
+    ensures asks { asks.new.items ≡ update (is_ask_of partition priority) lowered asks.old.items }
+    ensures spent { without (is_spent partition priority) asks.new.items ≡ (if result
+        then without (is_ask_of partition priority) asks.new.items else asks.new.items) }
 {
-    let mut ask = *ask;
-    if ask.is_of(partition, priority) {
-        ask.count = ask.count.saturating_sub(1);
+    let place = place_of(asks, partition, priority);
+    if place >= asks.len() {
+        return false;
     }
-    ask
-}
-
-fn lower(asks: &mut Vec<Ask>, partition: u8, priority: u32)
-    ensures { asks.new.items ≡ update (is_ask_of partition priority) lowered asks.old.items }
-{
-    for ask in asks.iter_mut() {
-        *ask = lowered(ask, partition, priority);
-    }
-}
-
-fn is_spent(ask: &Ask, partition: u8, priority: u32) -> bool
-    ensures { result ≡ is_spent partition priority ask.now }
-{
-    ask.is_of(partition, priority) && ask.count == 0
-}
-
-fn drop_spent(asks: &mut Vec<Ask>, partition: u8, priority: u32)
-    ensures { asks.new.items ≡ without (is_spent partition priority) asks.old.items }
-{
-    asks.retain(|ask| !is_spent(ask, partition, priority));
+    let before = asks[place];
+    let count = before.count.saturating_sub(1);
+    let mut ask = before;
+    ask.count = count;
+    asks[place] = ask;
+    count == 0
 }
