@@ -1,5 +1,5 @@
 -- The parts of a cluster after a container was placed.
-use Rattle.std.proofs.Common.{◌≡◌, ℕ, ◌<◌, nat_eq, List, [], ◌∷◌, ◌++◌, slice_get, Some, refl, sym, ap, subst, ◌∙◌, inl, inr}
+use Rattle.std.proofs.Common.{◌≡◌, ℕ, ◌<◌, nat_eq, List, [], ◌∷◌, ◌++◌, length, slice_get, Some, refl, sym, ap, subst, ◌∙◌, inl}
 use Rattle.std.specs.Prelude.{IfSome}
 use Rattle.std.specs.Map.{lookup}
 use Rattle.std.specs.Option.{option_map_or}
@@ -13,7 +13,7 @@ use Rattle.ynl_tables.specs.declared.containers.container.Role.{Role}
 use Rattle.ynl_lanes.specs.lane.Rows.{IsUse}
 use Rattle.ynl_lanes.specs.lane.Seats.{Seats}
 use Rattle.ynl_inventory.specs.declared.partition.Placement.{Placement}
-use Rattle.ynl_inventory.specs.Rows.{Rows, PartitionRow, NodeRow}
+use Rattle.ynl_inventory.specs.Rows.{AppRow, Rows, PartitionRow, NodeRow}
 use Rattle.ynl_inventory.specs.Apps.{containers_of}
 use Rattle.ynl_inventory.specs.Changes.{next_clock_at, next_container, partition_of_node, ticked, with_at, with_changed, with_placed, with_taken}
 use Rattle.ynl_inventory.specs.Meaning.{item_of, node_of, state_of}
@@ -102,9 +102,10 @@ module _ (a : Inside) (is : IsCluster a) (w : ClusterView) (view : view_of a ≡
     small-after p own = own-small new sound-after bounded-after p (subst (HasPartition new) (sym own) has-after) placed.app
 
     -- the lanes are those before
-    pub lanes-before : IsPlaced placed.node placed.app placed.role placed.size new a.lanes
-    lanes-before = record {
+    pub lanes-before : (row : AppRow) → lookup (nat_eq placed.app) v.apps ≡ Some row → IsPlaced placed.node placed.app placed.role placed.size (length row.asks) new a.lanes
+    lanes-before row found = record {
       before = v;
+      asks = ap (λ o. option_map_or (λ (row : AppRow). length row.asks) o 0) found;
       number = number;
       came = inl (record { can = can; rows = rows });
       sound = is.parts.sound;

@@ -1,5 +1,5 @@
 -- The parts of a cluster after a container came to stand.
-use Rattle.std.proofs.Common.{◌≡◌, ℕ, ◌<◌, nat_eq, List, [], ◌∷◌, ◌++◌, slice_get, Some, refl, sym, ap, subst, ◌∙◌}
+use Rattle.std.proofs.Common.{◌≡◌, ℕ, ◌<◌, nat_eq, List, [], ◌∷◌, ◌++◌, Some, sym, ap, subst, ◌∙◌}
 use Rattle.std.specs.Prelude.{IfSome}
 use Rattle.std.specs.Map.{lookup}
 use Rattle.std.specs.Option.{option_map_or}
@@ -9,9 +9,8 @@ use Rattle.ynl_resource.specs.declared.paths.Path.{Path}
 use Rattle.ynl_resource.specs.Names.{root}
 use Rattle.ynl_model.specs.declared.uses.Use.{Use}
 use Rattle.ynl_laws.specs.Ways.{IsWay}
-use Rattle.ynl_layout.specs.Paths.{HasNumber, is_above}
+use Rattle.ynl_layout.specs.Paths.{is_above}
 use Rattle.ynl_slots.specs.Slots.{IsLive}
-use Rattle.ynl_tables.specs.declared.containers.container.Container.{Container}
 use Rattle.ynl_lanes.specs.lane.Rows.{IsUse}
 use Rattle.ynl_lanes.specs.lane.Seats.{Seats}
 use Rattle.ynl_inventory.specs.declared.partition.Placement.{Placement}
@@ -25,7 +24,7 @@ use Rattle.ynl_inventory.proofs.Standing.{stood-for, stood-means}
 use Rattle.ynl_cluster.specs.ledger.Ledger.{totals_in, uses_in, IsBounded}
 use Rattle.ynl_cluster.specs.ledger.Changes.{IsLineOf}
 use Rattle.ynl_cluster.proofs.ledger.Bounded.{standing as bounded-standing}
-use Rattle.ynl_cluster.proofs.ledger.Calls.{leaf-number, line-is}
+use Rattle.ynl_cluster.proofs.ledger.Calls.{line-is}
 use Rattle.ynl_cluster.proofs.ledger.Sums.{dropped-totals}
 use Rattle.ynl_cluster.specs.seating.Seating.{user_use, AreSeated}
 use Rattle.ynl_cluster.specs.declared.cluster.Cluster.TheInside.{Inside}

@@ -13,6 +13,7 @@ pub mod RowChanges
 pub mod Turns
 pub mod Sharing
 pub mod UserUse
+pub mod Anew
 pub mod Calls
 pub mod Using
 pub mod Reserving

@@ -359,6 +359,7 @@ impl Cluster {
             (state_in self.old) }
     {
         let app = self.inventory.app(placed.app);
+        let asked = app.asks.as_slice().len();
         let line = self.inventory.layout().line(app.leaf as usize);
         let node = self.inventory.node(placed.node);
         let p = node.partition;
@@ -367,7 +368,7 @@ impl Cluster {
         self.uses
             .raise(p as usize, line, &tally_of(p, placed.role, placed.size));
         let number = self.inventory.place(placed);
-        follow_placement(&self.inventory, &mut self.lanes, p, placed);
+        follow_placement(&self.inventory, &mut self.lanes, p, placed, asked);
         number
     }
 
@@ -390,12 +391,13 @@ impl Cluster {
         // Opens the size, which is one that requests may have.
         let _size = placed.size.amount();
         let app = self.inventory.app(placed.app);
+        let asked = app.asks.as_slice().len();
         let line = self.inventory.layout().line(app.leaf as usize);
         let p = self.inventory.node(placed.node).partition;
         let tally = tally_of(p, placed.role, placed.size);
         self.uses.raise(p as usize, line, &tally);
         let lanes = &mut self.lanes;
-        follow_placement(&self.inventory, lanes, p, placed);
+        follow_placement(&self.inventory, lanes, p, placed, asked);
         Ok(number)
     }
 

@@ -7,7 +7,6 @@ use Rattle.std.proofs.lemmas.Bool.Decides.{nat_tests}
 use Rattle.std.proofs.lemmas.Option.{same_Some}
 use Rattle.ynl_resource.specs.Amounts.{fits_in, less, nothing, plus, total_of, IsSize}
 use Rattle.ynl_resource.specs.Ranges.{most_nodes}
-use Rattle.ynl_resource.specs.declared.amounts.Resource.{Resource}
 use Rattle.ynl_laws.proofs.Amounts.{fits-filter, fits-trans}
 use Rattle.ynl_laws.proofs.Lists.{filter-nothing, filter-swap, Each-append, Each-filter}
 use Rattle.ynl_slots.specs.Slots.{without}
@@ -15,7 +14,6 @@ use Rattle.ynl_slots.proofs.Entries.{other}
 use Rattle.ynl_slots.proofs.Lookups.{lookup-push}
 use Rattle.ynl_tables.specs.apps.Apps.{with_change}
 use Rattle.ynl_tables.specs.declared.containers.container.Container.{Container}
-use Rattle.ynl_tables.specs.declared.containers.container.Role.{Role}
 use Rattle.ynl_inventory.specs.Rows.{Rows, PartitionRow, NodeRow}
 use Rattle.ynl_inventory.specs.Changes.{next_clock_at, next_container, partition_of_node, ticked, with_at, with_changed, with_placed}
 use Rattle.ynl_inventory.specs.Parts.{containers_of, free_of, used_of}

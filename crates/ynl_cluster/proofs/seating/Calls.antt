@@ -1,9 +1,10 @@
 -- What the calls find: the lanes against the rows after a container was placed, or went.
-use Rattle.std.proofs.Common.{◌≡◌, ℕ, Bool, true, false, not, ◌&&◌, ◌||◌, List, [], ◌∷◌, ◌++◌, slice_get, Option, Some, None, find, is_some, nat_eq, ◌==◌, true≢false, refl, sym, ap, subst, ◌∙◌, inl, inr}
+use Rattle.std.proofs.Common.{◌≡◌, ℕ, Bool, true, false, not, ◌&&◌, ◌||◌, List, [], ◌∷◌, ◌++◌, length, slice_get, Option, Some, None, find, is_some, nat_eq, ◌==◌, true≢false, refl, sym, ap, subst, ◌∙◌, inl, inr}
 use mathlib.Core.Logic.{◌⊎◌}
 use Rattle.std.specs.Map.{lookup}
 use Rattle.std.specs.Option.{option_and_then, option_map_or}
-use Rattle.std.proofs.lemmas.Bool.{and_from, and_parts, eqb-true, or_left, or_right}
+use Rattle.std.specs.List.{list_any}
+use Rattle.std.proofs.lemmas.Bool.{and_from, and_parts, cases_eq, eqb-true, or_left, or_right}
 use Rattle.std.proofs.lemmas.Option.{none-some, slice_get_within}
 use Rattle.ynl_resource.specs.Amounts.{plus}
 use Rattle.ynl_resource.specs.declared.amounts.Resource.{Resource}
@@ -17,16 +18,17 @@ use Rattle.ynl_tables.specs.apps.Apps.{with_change}
 use Rattle.ynl_tables.specs.declared.containers.container.Container.{Container}
 use Rattle.ynl_tables.specs.declared.containers.container.Role.{Role}
 use Rattle.ynl_tables.specs.declared.containers.container.Role.TheVariants.{Master, Ask as Asked}
-use Rattle.ynl_lanes.specs.lane.Seats.{Seats}
+use Rattle.ynl_lanes.specs.lane.Seats.{Seats, nothing_waits}
 use Rattle.ynl_inventory.specs.Rows.{Rows, PartitionRow, NodeRow, AppRow}
-use Rattle.ynl_inventory.specs.Apps.{is_guest_role}
-use Rattle.ynl_inventory.specs.Changes.{next_clock_at, next_container, partition_of_node, with_dropped, with_ended, with_placed, with_taken}
+use Rattle.ynl_inventory.specs.Apps.{is_guest_role, is_master_role, runs_at}
+use Rattle.ynl_inventory.specs.Changes.{next_clock_at, next_container, partition_of_node, with_dropped, with_ended, with_taken}
 use Rattle.ynl_inventory.specs.Parts.{containers_of}
 use Rattle.ynl_inventory.specs.Sound.{CanTake, HasPartition, IsAskedOn, IsSound, MayHave}
 use Rattle.ynl_inventory.proofs.Lookups.{live-found, read-changed}
-use Rattle.ynl_cluster.specs.seating.Seating.{is_shared, shares}
-use Rattle.ynl_cluster.specs.seating.Steps.{AreSeatedBut, AreUsedBut, IsEnded, WasPlaced, CameToStand, IsPlaced}
-use Rattle.ynl_cluster.proofs.seating.Carrying.{ChangesContainers}
+use Rattle.ynl_cluster.specs.seating.Seating.{is_shared, shares, waits_at, waits_if}
+use Rattle.ynl_cluster.specs.seating.Steps.{AreSeatedButFor, AreUsedBut, IsEnded, WasPlaced, CameToStand, IsPlaced, OnlyIf, waits_anew}
+use Rattle.ynl_cluster.proofs.seating.Anew.{not-meant, taken-waits}
+use Rattle.ynl_cluster.proofs.seating.Carrying.{ChangesContainers, found-after, is_master_of, others-still}
 use Rattle.ynl_cluster.proofs.seating.Coming.{guest-came, guest-went, home-came, home-went}
 use Rattle.ynl_cluster.proofs.seating.Entered.{home-shared}
 use Rattle.ynl_cluster.proofs.seating.SeatLists.{KeepsSeats}
@@ -73,6 +75,7 @@ record HasCome (number node app : ℕ) (r : Role) (size : Resource) (before v : 
   may : MayStand (partition_of_node before.nodes node) row r
   touch : AppRow → AppRow
   keeps : KeepsSeats touch
+  same : is_master_role r ≡ false → nat_eq (length (touch row).asks) (length row.asks) ≡ true → (runs : Bool) (q : ℕ) → waits_if runs q row ≡ waits_if runs q (touch row)
   apps : v.apps ≡ with_change app touch before.apps
   place : partition_of_node v.nodes node ≡ partition_of_node before.nodes node
   changes : ChangesContainers (partition_of_node before.nodes node) (λ es. es ++ (number, record { clock = clock; node = node; app = app; role = r; size = size }) ∷ []) before v
@@ -100,6 +103,7 @@ module _ (number node app : ℕ) (r : Role) (size : Resource) (before v : Rows) 
         (may-stand before sound app placed.can.app_row placed.can.app_found placed.can.node_row.partition placed.can.partition.guests r placed.can.role);
     touch = with_taken r;
     keeps = taken-keeps r;
+    same = taken-waits r placed.can.app_row;
     apps = ap (λ (w : Rows). w.apps) placed.rows;
     place =
         ap (λ (w : Rows). partition_of_node w.nodes node) placed.rows
@@ -120,6 +124,7 @@ module _ (number node app : ℕ) (r : Role) (size : Resource) (before v : Rows) 
         (may-have before app stood.can.app_row stood.can.node_row.partition stood.can.partition.guests r stood.can.role);
     touch = λ row. row;
     keeps = itself-keeps;
+    same = λ off many runs q. refl;
     apps = ap (λ (w : Rows). w.apps) stood.rows ∙ sym (same-rows app before.apps);
     place = ap (λ (w : Rows). partition_of_node w.nodes node) stood.rows;
     changes =
@@ -132,7 +137,7 @@ module _ (number node app : ℕ) (r : Role) (size : Resource) (before v : Rows) 
   has-come sound (inl placed) = placed-came sound placed
   has-come sound (inr stood) = stood-came stood
 
-module _ (node app : ℕ) (r : Role) (size : Resource) (v : Rows) (lanes : List (List Seats)) (start : IsPlaced node app r size v lanes) where
+module _ (node app : ℕ) (r : Role) (size : Resource) (asked : ℕ) (v : Rows) (lanes : List (List Seats)) (start : IsPlaced node app r size asked v lanes) where
   came : HasCome start.number node app r size start.before v
   came = has-come start.number node app r size start.before v start.sound start.came
 
@@ -156,18 +161,53 @@ module _ (node app : ℕ) (r : Role) (size : Resource) (v : Rows) (lanes : List 
           go true = or_right (nat_eq asked 0 && false) true refl
           go false = or_left (nat_eq asked 0 && true) (nat_eq came.row.home place) (and_from (nat_eq asked 0) true (ap (λ m. nat_eq m 0) default) refl)
 
+  -- whether something else may wait of it
+  abbrev anew : Bool
+  anew = waits_anew v app r asked
+
+  -- else it asks for as much as before
+  asks-now : option_map_or (λ (row : AppRow). length row.asks) (lookup (nat_eq app) v.apps) 0 ≡ length (came.touch came.row).asks
+  asks-now = ap (λ o. option_map_or (λ (row : AppRow). length row.asks) o 0) (found-after start.before v app came.touch came.keeps came.apps came.row came.found)
+
+  asks-before : asked ≡ length came.row.asks
+  asks-before = sym start.asks ∙ ap (λ o. option_map_or (λ (row : AppRow). length row.asks) o 0) came.found
+
+  as-before : anew ≡ false → (is_master_role r ≡ false) × (nat_eq (length (came.touch came.row).asks) (length came.row.asks) ≡ true)
+  as-before off = go (is_master_role r) (nat_eq (length (came.touch came.row).asks) (length came.row.asks)) (sym (λ i. is_master_role r || not (nat_eq (asks-now i) (asks-before i))) ∙ off)
+    where
+      go : (m k : Bool) → (m || not k) ≡ false → (m ≡ false) × (k ≡ true)
+      go true k is = absurd (true≢false is)
+      go false true is = (refl, refl)
+      go false false is = absurd (true≢false is)
+
+  still : (q n : ℕ) → ¬ OnlyIf anew app n → option_map_or (waits_at v q n) (lookup (nat_eq n) start.before.apps) nothing_waits ≡ option_map_or (waits_at v q n) (lookup (nat_eq n) v.apps) nothing_waits
+  still q n far = elim (cases_eq n app) [ inl is ↦ own is anew refl | inr apart ↦ others-still start.before v app came.touch came.keeps came.apps q n apart ]
+    where
+      own : n ≡ app → (b : Bool) → anew ≡ b → option_map_or (waits_at v q n) (lookup (nat_eq n) start.before.apps) nothing_waits ≡ option_map_or (waits_at v q n) (lookup (nat_eq n) v.apps) nothing_waits
+      own is true on = absurd (far (subst (λ b. OnlyIf b app n) (sym on) is))
+      own is false off =
+          let parts = as-before off in
+          ap (λ o. option_map_or (waits_at v q n) o nothing_waits) (ap (λ k. lookup (nat_eq k) start.before.apps) is ∙ came.found)
+          ∙ came.same parts.0 parts.1 (runs_at v n came.row) q
+          ∙ ap (λ h. waits_if (list_any (is_master_of n) (containers_of v h)) q (came.touch came.row)) (sym (came.keeps.home came.row))
+          ∙ sym (ap (λ o. option_map_or (waits_at v q n) o nothing_waits)
+          (ap (λ k. lookup (nat_eq k) v.apps) is ∙ found-after start.before v app came.touch came.keeps came.apps came.row came.found))
+
+  not-theirs : (n : ℕ) → ¬ OnlyIf anew app n → (is_master_role r && nat_eq app n) ≡ false
+  not-theirs n = not-meant anew (is_master_role r) app n (λ off. (as-before off).0)
+
   module _ (p : ℕ) (at : p ≡ partition_of_node v.nodes node) where
     is : place ≡ p
     is = sym (at ∙ came.place)
 
-    pub placed-guest : is_guest_role p r ≡ true → AreSeatedBut app v lanes
+    pub placed-guest : is_guest_role p r ≡ true → AreSeatedButFor (OnlyIf anew app) v lanes
     placed-guest guest =
-        guest-came start.before v container came.touch came.keeps came.apps came.row came.found place start.number lanes start.seated came.changes shared (ap (λ m. is_guest_role m r) is ∙ guest)
+        guest-came start.before v container came.touch came.keeps came.apps came.row came.found place start.number lanes start.seated (OnlyIf anew app) still not-theirs came.changes shared (ap (λ m. is_guest_role m r) is ∙ guest)
 
-    pub placed-home : is_guest_role p r ≡ false → AreUsedBut app p (λ less more. more ≡ plus less size) v lanes
+    pub placed-home : is_guest_role p r ≡ false → AreUsedBut (OnlyIf anew app) app p (λ less more. more ≡ plus less size) v lanes
     placed-home home =
-        subst (λ m. AreUsedBut app m (λ less more. more ≡ plus less size) v lanes) is
-        (home-came start.before v container came.touch came.keeps came.apps came.row came.found place start.number lanes start.seated came.changes shared (ap (λ m. is_guest_role m r) is ∙ home))
+        subst (λ m. AreUsedBut (OnlyIf anew app) app m (λ less more. more ≡ plus less size) v lanes) is
+        (home-came start.before v container came.touch came.keeps came.apps came.row came.found place start.number lanes start.seated (OnlyIf anew app) still not-theirs came.changes shared (ap (λ m. is_guest_role m r) is ∙ home))
 
 module _ (p : ℕ) (c : Container) (v : Rows) (lanes : List (List Seats)) (live : IsLive c.app v.apps) (start : IsEnded p c v lanes) where
   -- the container stood there
@@ -195,10 +235,20 @@ module _ (p : ℕ) (c : Container) (v : Rows) (lanes : List (List Seats)) (live 
   apps-are : v.apps ≡ with_change c.app (λ row. row) start.before.apps
   apps-are = changes.1 ∙ sym (same-rows c.app start.before.apps)
 
-  pub ended-guest : is_guest_role p c.role ≡ true → AreSeatedBut c.app v lanes
-  ended-guest guest =
-      guest-went start.before v c (λ row. row) itself-keeps apps-are found.0 found.1 p start.number lanes start.seated changes.0 start.numbers held.0 guest
+  -- something else may wait of the application whose master ended
+  abbrev Lost : ℕ → Type 0
+  Lost = OnlyIf (is_master_role c.role) c.app
 
-  pub ended-home : is_guest_role p c.role ≡ false → AreUsedBut c.app p (λ more less. more ≡ plus less c.size) v lanes
+  same : (q n : ℕ) → ¬ Lost n → option_map_or (waits_at v q n) (lookup (nat_eq n) start.before.apps) nothing_waits ≡ option_map_or (waits_at v q n) (lookup (nat_eq n) v.apps) nothing_waits
+  same q n far = ap (λ apps. option_map_or (waits_at v q n) (lookup (nat_eq n) apps) nothing_waits) (sym changes.1)
+
+  no-master : (n : ℕ) → ¬ Lost n → (is_master_role c.role && nat_eq c.app n) ≡ false
+  no-master n = not-meant (is_master_role c.role) (is_master_role c.role) c.app n (λ off. off)
+
+  pub ended-guest : is_guest_role p c.role ≡ true → AreSeatedButFor Lost v lanes
+  ended-guest guest =
+      guest-went start.before v c (λ row. row) itself-keeps apps-are found.0 found.1 p start.number lanes start.seated Lost same no-master changes.0 start.numbers held.0 guest
+
+  pub ended-home : is_guest_role p c.role ≡ false → AreUsedBut Lost c.app p (λ more less. more ≡ plus less c.size) v lanes
   ended-home home =
-      home-went start.before v c (λ row. row) itself-keeps apps-are found.0 found.1 p start.number lanes start.seated changes.0 start.numbers held.0 home
+      home-went start.before v c (λ row. row) itself-keeps apps-are found.0 found.1 p start.number lanes start.seated Lost same no-master changes.0 start.numbers held.0 home

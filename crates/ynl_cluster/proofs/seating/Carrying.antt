@@ -56,6 +56,10 @@ module _ (v w : Rows) (app : ℕ) (touch : AppRow → AppRow) (keeps : KeepsSeat
   pub found-after : (row : AppRow) → lookup (nat_eq app) v.apps ≡ Some row → lookup (nat_eq app) w.apps ≡ Some (touch row)
   found-after row found = ap (lookup (nat_eq app)) apps ∙ changed-same app touch v.apps ∙ ap (option_map touch) found
 
+  -- another application is as it was
+  pub others-still : (r n : ℕ) → n ≢ app → option_map_or (waits_at w r n) (lookup (nat_eq n) v.apps) nothing_waits ≡ option_map_or (waits_at w r n) (lookup (nat_eq n) w.apps) nothing_waits
+  others-still r n apart = ap (λ o. option_map_or (waits_at w r n) o nothing_waits) (sym (ap (lookup (nat_eq n)) apps ∙ changed-other n app touch v.apps apart))
+
   -- ---- the seats stay
 
   module _ (paths : w.paths ≡ v.paths) (many : length w.partitions ≡ length v.partitions) where
@@ -109,8 +113,10 @@ module _ (v w : Rows) (app : ℕ) (touch : AppRow → AppRow) (keeps : KeepsSeat
             (subst (AllByRecursion (λ e. is_shared v.apps p e ≡ true)) (sym changes.own) own)
         at (inr apart) = subst (AllByRecursion (λ e. is_shared v.apps r e ≡ true)) (sym (changes.others r apart)) (shared r)
 
-    module _ (any : (n : ℕ) → n ≢ app → list_any (is_master_of n) (change (containers_of v p)) ≡ list_any (is_master_of n) (containers_of v p)) where
-      runs-same : (n home : ℕ) → n ≢ app → list_any (is_master_of n) (containers_of w home) ≡ list_any (is_master_of n) (containers_of v home)
+    module _ (May : ℕ → Type 0)
+        (still : (r n : ℕ) → ¬ May n → option_map_or (waits_at w r n) (lookup (nat_eq n) v.apps) nothing_waits ≡ option_map_or (waits_at w r n) (lookup (nat_eq n) w.apps) nothing_waits)
+        (any : (n : ℕ) → ¬ May n → list_any (is_master_of n) (change (containers_of v p)) ≡ list_any (is_master_of n) (containers_of v p)) where
+      runs-same : (n home : ℕ) → ¬ May n → list_any (is_master_of n) (containers_of w home) ≡ list_any (is_master_of n) (containers_of v home)
       runs-same n home apart =
           elim (cases_eq home p) [
             | inl same ↦
@@ -120,10 +126,10 @@ module _ (v w : Rows) (app : ℕ) (touch : AppRow → AppRow) (keeps : KeepsSeat
           ]
 
       -- what waits of the others stays
-      pub waits-stay : (r n : ℕ) → n ≢ app → waits_of v r n ≡ waits_of w r n
+      pub waits-stay : (r n : ℕ) → ¬ May n → waits_of v r n ≡ waits_of w r n
       waits-stay r n apart =
           go (lookup (nat_eq n) v.apps)
-          ∙ ap (λ o. option_map_or (waits_at w r n) o nothing_waits) (sym (ap (lookup (nat_eq n)) apps ∙ changed-other n app touch v.apps apart))
+          ∙ still r n apart
         where
           go : (o : Option AppRow) → option_map_or (waits_at v r n) o nothing_waits ≡ option_map_or (waits_at w r n) o nothing_waits
           go None = refl

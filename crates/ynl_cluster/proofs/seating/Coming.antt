@@ -1,5 +1,5 @@
 -- A container comes or goes: what the lanes are then, against the rows.
-use Rattle.std.proofs.Common.{◌≡◌, ◌≢◌, ℕ, Bool, true, false, cond, not, ◌&&◌, ◌||◌, List, [], ◌∷◌, ◌++◌, Some, nat_eq, sym, ap, subst, ◌∙◌, inl, inr}
+use Rattle.std.proofs.Common.{◌≡◌, ℕ, Bool, true, false, cond, not, ◌&&◌, ◌||◌, List, [], ◌∷◌, ◌++◌, Some, nat_eq, sym, ap, subst, ◌∙◌, inl, inr}
 use Rattle.std.specs.List.{list_any}
 use Rattle.std.specs.Map.{lookup}
 use Rattle.std.specs.Option.{option_map_or}
@@ -9,23 +9,25 @@ use Rattle.ynl_resource.specs.declared.amounts.Resource.{Resource}
 use Rattle.ynl_laws.proofs.Lists.{Each-append, any-other}
 use Rattle.ynl_laws.proofs.Logic.{and-false}
 use Rattle.ynl_slots.specs.Slots.{HasDistinctNumbers, without}
-use Rattle.ynl_slots.proofs.Entries.{all_without, itself, other}
+use Rattle.ynl_slots.proofs.Entries.{all_without, itself}
 use Rattle.ynl_tables.specs.apps.Apps.{with_change}
 use Rattle.ynl_tables.specs.declared.containers.container.Container.{Container}
-use Rattle.ynl_lanes.specs.lane.Seats.{Seats}
+use Rattle.ynl_lanes.specs.lane.Seats.{Seats, nothing_waits}
 use Rattle.ynl_inventory.specs.Rows.{Rows, AppRow}
 use Rattle.ynl_inventory.specs.Parts.{containers_of}
 use Rattle.ynl_inventory.specs.Apps.{is_guest_role, is_master_role}
 use Rattle.ynl_inventory.proofs.Updates.{at-number}
 use Rattle.ynl_inventory.proofs.Used.{nothing-plus}
-use Rattle.ynl_cluster.specs.seating.Seating.{AreShared, AreSeated, AreSeatedWith, counts, figures_of, is_of, is_shared, shares, user_use, waits_of}
-use Rattle.ynl_cluster.specs.seating.Steps.{AreSeatedBut, AreUsedBut}
+use Rattle.ynl_cluster.specs.seating.Seating.{AreShared, AreSeated, AreSeatedWith, counts, figures_of, is_of, is_shared, shares, user_use, waits_at, waits_of}
+use Rattle.ynl_cluster.specs.seating.Steps.{AreSeatedButFor, AreUsedBut}
 use Rattle.ynl_cluster.proofs.seating.SeatLists.{KeepsSeats}
 use Rattle.ynl_cluster.proofs.seating.Sums.{any-gone, sum, sum-gone, sum-push}
 use Rattle.ynl_cluster.proofs.seating.Carrying.{ChangesContainers, carried, found-after, is_master_of, shared-after, shares-same, use-elsewhere, use-of, waits-stay}
 
 module _ (v w : Rows) (c : Container) (touch : AppRow → AppRow) (keeps : KeepsSeats touch) (apps : w.apps ≡ with_change c.app touch v.apps)
-    (row : AppRow) (found : lookup (nat_eq c.app) v.apps ≡ Some row) (p number : ℕ) (lanes : List (List Seats)) (seated : AreSeated v lanes) where
+    (row : AppRow) (found : lookup (nat_eq c.app) v.apps ≡ Some row) (p number : ℕ) (lanes : List (List Seats)) (seated : AreSeated v lanes) (May : ℕ → Type 0)
+    (still : (r n : ℕ) → ¬ May n → option_map_or (waits_at w r n) (lookup (nat_eq n) v.apps) nothing_waits ≡ option_map_or (waits_at w r n) (lookup (nat_eq n) w.apps) nothing_waits)
+    (not-theirs : (n : ℕ) → ¬ May n → (is_master_role c.role && nat_eq c.app n) ≡ false) where
   -- whether the container counts in what a user uses in a leaf
   abbrev counted : ℕ → ℕ → Bool
   counted q user = not (is_guest_role p c.role) && is_of q user row
@@ -40,7 +42,7 @@ module _ (v w : Rows) (c : Container) (touch : AppRow → AppRow) (keeps : Keeps
   own-shared home is = sym (ap (λ b. b || shares p row) home) ∙ sym (ap (λ o. is_guest_role p c.role || option_map_or (shares p) o false) found) ∙ is
 
   module _ (change : List (ℕ × Container) → List (ℕ × Container)) (changes : ChangesContainers p change v w)
-      (any : (n : ℕ) → n ≢ c.app → list_any (is_master_of n) (change (containers_of v p)) ≡ list_any (is_master_of n) (containers_of v p))
+      (any : (n : ℕ) → ¬ May n → list_any (is_master_of n) (change (containers_of v p)) ≡ list_any (is_master_of n) (containers_of v p))
       (shared : AreShared w) (same : (q user : ℕ) → counted q user ≡ false → user_use v p q user ≡ user_use w p q user) where
     use-stays : (r q user : ℕ) → (r ≡ p → counted q user ≡ false) → user_use v r q user ≡ user_use w r q user
     use-stays r q user off =
@@ -49,11 +51,11 @@ module _ (v w : Rows) (c : Container) (touch : AppRow → AppRow) (keeps : Keeps
           | inr apart ↦ sym (use-elsewhere v w c.app touch keeps apps p change changes r q user apart)
         ]
 
-    -- a guest changes nothing but what waits of its application
-    guest-but : is_guest_role p c.role ≡ true → AreSeatedBut c.app w lanes
+    -- a guest changes nothing but what may wait
+    guest-but : is_guest_role p c.role ≡ true → AreSeatedButFor May w lanes
     guest-but guest = record {
       waits = waits_of v;
-      others = waits-stay v w c.app touch keeps apps p change changes any;
+      others = waits-stay v w c.app touch keeps apps p change changes May still any;
       seated =
           subst (λ amounts. AreSeatedWith (record { used = amounts; waits = waits_of v }) w lanes)
           (λ i r q user. use-stays r q user (λ is. ap (λ b. not b && is_of q user row) guest) i)
@@ -61,7 +63,7 @@ module _ (v w : Rows) (c : Container) (touch : AppRow → AppRow) (keeps : Keeps
     }
 
     -- another container changes also what its user uses
-    home-but : (Stand : Resource → Resource → Type 0) → Stand (user_use v p row.leaf row.user) (user_use w p row.leaf row.user) → shares p row ≡ true → AreUsedBut c.app p Stand w lanes
+    home-but : (Stand : Resource → Resource → Type 0) → Stand (user_use v p row.leaf row.user) (user_use w p row.leaf row.user) → shares p row ≡ true → AreUsedBut May c.app p Stand w lanes
     home-but Stand stand sat = record {
       row = touch row;
       found = found-after v w c.app touch keeps apps row found;
@@ -78,13 +80,9 @@ module _ (v w : Rows) (c : Container) (touch : AppRow → AppRow) (keeps : Keeps
           (λ i. nat_eq (sym (keeps.leaf row) i) q && nat_eq (sym (keeps.user row) i) user) ∙ sym (ap (λ b. b && is_of q user (touch row)) yes) ∙ off
           in
           ap (λ b. not (is_guest_role p c.role) && b) none ∙ and-false (not (is_guest_role p c.role)));
-      waits = waits-stay v w c.app touch keeps apps p change changes any;
+      waits = waits-stay v w c.app touch keeps apps p change changes May still any;
       seated = carried v w c.app touch keeps apps changes.paths changes.many (figures_of v) lanes shared seated;
     }
-
-  -- it is no other application's
-  not-theirs : (n : ℕ) → n ≢ c.app → (is_master_role c.role && nat_eq c.app n) ≡ false
-  not-theirs n apart = ap (λ b. is_master_role c.role && b) (other c.app n (λ is. apart (sym is))) ∙ and-false (is_master_role c.role)
 
   -- ---- a container comes
 
@@ -99,17 +97,17 @@ module _ (v w : Rows) (c : Container) (touch : AppRow → AppRow) (keeps : Keeps
         shared-after v w c.app touch keeps apps p (λ es. es ++ (number, c) ∷ []) changes seated.shared
         (Each-append (λ e. is_shared v.apps p e ≡ true) (containers_of v p) ((number, c) ∷ []) (seated.shared p) (fits, tt))
 
-    gained-any : (n : ℕ) → n ≢ c.app → list_any (is_master_of n) (containers_of v p ++ (number, c) ∷ []) ≡ list_any (is_master_of n) (containers_of v p)
-    gained-any n apart = any-other (is_master_of n) (containers_of v p) (number, c) (not-theirs n apart)
+    gained-any : (n : ℕ) → ¬ May n → list_any (is_master_of n) (containers_of v p ++ (number, c) ∷ []) ≡ list_any (is_master_of n) (containers_of v p)
+    gained-any n far = any-other (is_master_of n) (containers_of v p) (number, c) (not-theirs n far)
 
     gained-same : (q user : ℕ) → counted q user ≡ false → user_use v p q user ≡ user_use w p q user
     gained-same q user off =
         sym (gained q user ∙ ap (λ b. plus (user_use v p q user) (cond b c.size nothing)) off ∙ nothing-plus (user_use v p q user))
 
-    pub guest-came : is_guest_role p c.role ≡ true → AreSeatedBut c.app w lanes
+    pub guest-came : is_guest_role p c.role ≡ true → AreSeatedButFor May w lanes
     guest-came guest = guest-but (λ es. es ++ (number, c) ∷ []) changes gained-any gained-shared gained-same guest
 
-    pub home-came : is_guest_role p c.role ≡ false → AreUsedBut c.app p (λ before after. after ≡ plus before c.size) w lanes
+    pub home-came : is_guest_role p c.role ≡ false → AreUsedBut May c.app p (λ before after. after ≡ plus before c.size) w lanes
     home-came home =
         home-but (λ es. es ++ (number, c) ∷ []) changes gained-any gained-shared gained-same (λ before after. after ≡ plus before c.size)
         (gained row.leaf row.user ∙ ap (λ b. plus (user_use v p row.leaf row.user) (cond b c.size nothing)) (own-counted home)) (own-shared home fits)
@@ -127,8 +125,8 @@ module _ (v w : Rows) (c : Container) (touch : AppRow → AppRow) (keeps : Keeps
         shared-after v w c.app touch keeps apps p (without number) changes seated.shared
         (all_without (λ e. is_shared v.apps p e ≡ true) number (containers_of v p) (seated.shared p))
 
-    lost-any : (n : ℕ) → n ≢ c.app → list_any (is_master_of n) (without number (containers_of v p)) ≡ list_any (is_master_of n) (containers_of v p)
-    lost-any n apart = any-gone (is_master_of n) number c (containers_of v p) numbers held (not-theirs n apart)
+    lost-any : (n : ℕ) → ¬ May n → list_any (is_master_of n) (without number (containers_of v p)) ≡ list_any (is_master_of n) (containers_of v p)
+    lost-any n far = any-gone (is_master_of n) number c (containers_of v p) numbers held (not-theirs n far)
 
     lost-same : (q user : ℕ) → counted q user ≡ false → user_use v p q user ≡ user_use w p q user
     lost-same q user off = lost q user ∙ ap (λ b. plus (user_use w p q user) (cond b c.size nothing)) off ∙ nothing-plus (user_use w p q user)
@@ -136,10 +134,10 @@ module _ (v w : Rows) (c : Container) (touch : AppRow → AppRow) (keeps : Keeps
     lost-fits : is_shared v.apps p (number, c) ≡ true
     lost-fits = at-number (λ n d. is_shared v.apps p (n, d) ≡ true) (containers_of v p) number c (seated.shared p) held
 
-    pub guest-went : is_guest_role p c.role ≡ true → AreSeatedBut c.app w lanes
+    pub guest-went : is_guest_role p c.role ≡ true → AreSeatedButFor May w lanes
     guest-went guest = guest-but (without number) changes lost-any lost-shared lost-same guest
 
-    pub home-went : is_guest_role p c.role ≡ false → AreUsedBut c.app p (λ before after. before ≡ plus after c.size) w lanes
+    pub home-went : is_guest_role p c.role ≡ false → AreUsedBut May c.app p (λ before after. before ≡ plus after c.size) w lanes
     home-went home =
         home-but (without number) changes lost-any lost-shared lost-same (λ before after. before ≡ plus after c.size)
         (lost row.leaf row.user ∙ ap (λ b. plus (user_use w p row.leaf row.user) (cond b c.size nothing)) (own-counted home)) (own-shared home lost-fits)

@@ -17,7 +17,7 @@ use Rattle.ynl_lanes.specs.lane.Waiting.{IsWaiting, waiting-below}
 use Rattle.ynl_inventory.proofs.Finding.{not-true}
 use Rattle.ynl_inventory.proofs.Used.{fits-parts}
 use Rattle.ynl_cluster.specs.seating.Laws.{AreLeasts, AreMet}
-use Rattle.ynl_cluster.specs.seating.Seating.{least_asked, waits_at, with_least}
+use Rattle.ynl_cluster.specs.seating.Seating.{least_asked, with_least}
 
 first-below : (a b : Resource) → IsBelow (smaller_of a b) a
 first-below a b = grind (arith, nat_tests)

@@ -14,7 +14,7 @@ use Rattle.ynl_lanes.specs.table.Lanes.{Changes, Enters, IsLaneAt, SetsUsed, lan
 use Rattle.ynl_inventory.specs.Rows.{Rows, AppRow}
 use Rattle.ynl_inventory.specs.Sound.{HasPartition}
 use Rattle.ynl_cluster.specs.seating.Seating.{AreSeatedWith, Figures, IsSeated, is_of, seat_of, seats_of, shares, sits, user_use}
-use Rattle.ynl_cluster.specs.seating.Steps.{AreSeatedBut, AreUsedBut}
+use Rattle.ynl_cluster.specs.seating.Steps.{AreSeatedButFor, AreUsedBut}
 use Rattle.ynl_cluster.proofs.seating.SeatLists.{seat-found, seats-entered, seats-stay, seats-used, tickets-apart}
 use Rattle.ynl_cluster.proofs.seating.Lanes.{lifted, with-lanes}
 
@@ -124,9 +124,9 @@ module _ (f : Figures) (v : Rows) (lanes : List (List Seats)) (seated : AreSeate
 -- ---- the functions' starts and ends
 
 -- once the user's use is set, only what waits of the application may differ
-pub used-but : (app p : ℕ) (Stand : Resource → Resource → Type 0) (v : Rows) (lanes new : List (List Seats)) (start : AreUsedBut app p Stand v lanes)
-    → Changes p start.row.leaf (SetsUsed (ticket start.figures v lanes start.seated app start.row start.found p start.shared) (user_use v p start.row.leaf start.row.user)) lanes new → AreSeatedBut app v new
-used-but app p Stand v lanes new start changes = record {
+pub used-but : (May : ℕ → Type 0) (app p : ℕ) (Stand : Resource → Resource → Type 0) (v : Rows) (lanes new : List (List Seats)) (start : AreUsedBut May app p Stand v lanes)
+    → Changes p start.row.leaf (SetsUsed (ticket start.figures v lanes start.seated app start.row start.found p start.shared) (user_use v p start.row.leaf start.row.user)) lanes new → AreSeatedButFor May v new
+used-but May app p Stand v lanes new start changes = record {
   waits = f.waits;
   others = start.waits;
   seated = subst (λ amounts. AreSeatedWith (record { used = amounts; waits = f.waits }) v new) (λ i r q u. same r q u (nat_eq r p && is_of q u row) refl i)

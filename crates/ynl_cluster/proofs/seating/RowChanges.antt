@@ -24,7 +24,7 @@ use Rattle.ynl_inventory.proofs.Lookups.{at-other, at-same, length-at, place-the
 use Rattle.ynl_inventory.proofs.Naming.{taken-home, taken-leaf, taken-user}
 use Rattle.ynl_cluster.specs.seating.Seating.{AreSeated, AreSeatedWith, figures_of, is_of, is_shared, waits_if, waits_of}
 use Rattle.ynl_cluster.specs.seating.Steps.{AreSeatedBut}
-use Rattle.ynl_cluster.proofs.seating.Carrying.{ChangesContainers, carried, is_master_of, shared-after, use-of, waits-stay}
+use Rattle.ynl_cluster.proofs.seating.Carrying.{ChangesContainers, carried, is_master_of, others-still, shared-after, use-of, waits-stay}
 use Rattle.ynl_cluster.proofs.seating.SeatLists.{KeepsSeats}
 use Rattle.ynl_cluster.proofs.seating.Sums.{size_of}
 
@@ -124,7 +124,7 @@ stamp-seated v node stamp = still-seated v (with_stamp node stamp v) refl 0 (cha
 pub asked-but : (v : Rows) (app : ℕ) (ask : Ask) (lanes : List (List Seats)) → AreSeated v lanes → AreSeatedBut app (with_asked app ask v) lanes
 asked-but v app ask lanes seated = record {
   waits = waits_of v;
-  others = waits-stay v w app touch keeps refl 0 (λ es. es) (changes-nothing v w refl refl) (λ n apart. refl);
+  others = waits-stay v w app touch keeps refl 0 (λ es. es) (changes-nothing v w refl refl) (λ n. n ≡ app) (others-still v w app touch keeps refl) (λ n apart. refl);
   seated =
       subst (λ amounts. AreSeatedWith (record { used = amounts; waits = waits_of v }) w lanes) (λ i r q u. sym (use-of v w app touch keeps refl r q u) i)
       (carried v w app touch keeps refl refl refl (figures_of v) lanes (shared-after v w app touch keeps refl 0 (λ es. es) (changes-nothing v w refl refl) seated.shared (seated.shared 0)) seated);

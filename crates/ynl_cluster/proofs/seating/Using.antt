@@ -11,10 +11,10 @@ use Rattle.ynl_lanes.specs.lane.Seats.{IsSeat, Seat, Seats}
 use Rattle.ynl_lanes.specs.table.Lanes.{Changes, IsLaneAt, SetsUsed, lane_at}
 use Rattle.ynl_inventory.specs.Rows.{Rows, AppRow}
 use Rattle.ynl_cluster.specs.seating.Seating.{ticket_on, user_use}
-use Rattle.ynl_cluster.specs.seating.Steps.{AreSeatedBut, AreUsedBut}
+use Rattle.ynl_cluster.specs.seating.Steps.{AreSeatedButFor, AreUsedBut}
 use Rattle.ynl_cluster.proofs.seating.OneSeat.{lane-there, own-found, own-seat, used-but}
 
-module _ (app p : ℕ) (Stand : Resource → Resource → Type 0) (v : Rows) (lanes : List (List Seats)) (start : AreUsedBut app p Stand v lanes)
+module _ (May : ℕ → Type 0) (app p : ℕ) (Stand : Resource → Resource → Type 0) (v : Rows) (lanes : List (List Seats)) (start : AreUsedBut May app p Stand v lanes)
     (row : AppRow) (found : lookup (nat_eq app) v.apps ≡ Some row) where
   is : start.row ≡ row
   is = same_Some start.row row (sym start.found ∙ found)
@@ -36,11 +36,11 @@ module _ (app p : ℕ) (Stand : Resource → Resource → Type 0) (v : Rows) (la
       let shown = ap (option_map (λ (seat : Seat). seat.used)) (own-found start.figures v lanes start.seated app start.row start.found p start.shared) in
       subst (λ u. Stand u (user_use v p start.row.leaf start.row.user)) (same_Some (start.figures.used p start.row.leaf start.row.user) used (sym shown ∙ read)) start.stand)
 
-  -- once it is set, only what waits of the application may differ
-  pub use-set : (used : Resource) → used ≡ user_use v p row.leaf row.user → (new : List (List Seats)) → Changes p row.leaf (SetsUsed (unwrap_or (ticket_on p row) 0) used) lanes new → AreSeatedBut app v new
+  -- once it is set, only what may wait differs
+  pub use-set : (used : Resource) → used ≡ user_use v p row.leaf row.user → (new : List (List Seats)) → Changes p row.leaf (SetsUsed (unwrap_or (ticket_on p row) 0) used) lanes new → AreSeatedButFor May v new
   use-set used same new changes =
-      subst (λ (r : AppRow). Changes p r.leaf (SetsUsed (unwrap_or (ticket_on p r) 0) (user_use v p r.leaf r.user)) lanes new → AreSeatedBut app v new) is
-      (used-but app p Stand v lanes new start)
+      subst (λ (r : AppRow). Changes p r.leaf (SetsUsed (unwrap_or (ticket_on p r) 0) (user_use v p r.leaf r.user)) lanes new → AreSeatedButFor May v new) is
+      (used-but May app p Stand v lanes new start)
       (subst (λ u. Changes p row.leaf (SetsUsed (unwrap_or (ticket_on p row) 0) u) lanes new) same changes)
 
 -- what holds of the application that is found
@@ -56,10 +56,10 @@ IsSmallFor app p v = IfSome (lookup (nat_eq app) v.apps) (λ row. IsUse (user_us
 
 -- ---- more is used
 
-module _ (app p : ℕ) (size : Resource) (v : Rows) (lanes : List (List Seats)) (start : AreUsedBut app p (λ before after. after ≡ plus before size) v lanes)
+module _ (May : ℕ → Type 0) (app p : ℕ) (size : Resource) (v : Rows) (lanes : List (List Seats)) (start : AreUsedBut May app p (λ before after. after ≡ plus before size) v lanes)
     (row : AppRow) (found : lookup (nat_eq app) v.apps ≡ Some row) (small : IsSmallFor app p v) (used : Resource) (read : Reads p lanes row used) (amount : Resource) (is : amount ≡ size) where
   more-is : user_use v p row.leaf row.user ≡ plus used amount
-  more-is = use-read app p (λ before after. after ≡ plus before size) v lanes start row found used read ∙ ap (plus used) (sym is)
+  more-is = use-read May app p (λ before after. after ≡ plus before size) v lanes start row found used read ∙ ap (plus used) (sym is)
 
   more-known : IsUse (plus used amount)
   more-known = subst IsUse more-is (known (λ row. IsUse (user_use v p row.leaf row.user)) app v row found small)
@@ -71,18 +71,18 @@ module _ (app p : ℕ) (size : Resource) (v : Rows) (lanes : List (List Seats)) 
     pub more-use : IsUse sum
     more-use = subst IsUse (sym sum-is) more-known
 
-    pub more-set : (new : List (List Seats)) → Changes p row.leaf (SetsUsed (unwrap_or (ticket_on p row) 0) sum) lanes new → AreSeatedBut app v new
-    more-set = use-set app p (λ before after. after ≡ plus before size) v lanes start row found sum (sum-is ∙ sym more-is)
+    pub more-set : (new : List (List Seats)) → Changes p row.leaf (SetsUsed (unwrap_or (ticket_on p row) 0) sum) lanes new → AreSeatedButFor May v new
+    more-set = use-set May app p (λ before after. after ≡ plus before size) v lanes start row found sum (sum-is ∙ sym more-is)
 
 -- ---- less is used
 
-module _ (app p : ℕ) (size : Resource) (v : Rows) (lanes : List (List Seats)) (start : AreUsedBut app p (λ before after. before ≡ plus after size) v lanes)
+module _ (May : ℕ → Type 0) (app p : ℕ) (size : Resource) (v : Rows) (lanes : List (List Seats)) (start : AreUsedBut May app p (λ before after. before ≡ plus after size) v lanes)
     (row : AppRow) (found : lookup (nat_eq app) v.apps ≡ Some row) (small : IsSmallFor app p v) (used : Resource) (read : Reads p lanes row used) (amount : Resource) (is : amount ≡ size) where
   abbrev left : Resource
   left = user_use v p row.leaf row.user
 
   less-is : used ≡ plus left amount
-  less-is = use-read app p (λ before after. before ≡ plus after size) v lanes start row found used read ∙ ap (plus left) (sym is)
+  less-is = use-read May app p (λ before after. before ≡ plus after size) v lanes start row found used read ∙ ap (plus left) (sym is)
 
   pub less-fits : IsTrue (fits_in amount used)
   less-fits = ap (fits_in amount) less-is ∙ fits-more left amount
@@ -100,5 +100,5 @@ module _ (app p : ℕ) (size : Resource) (v : Rows) (lanes : List (List Seats)) 
     pub less-use : IsUse rest
     less-use = subst IsUse (sym (rest-is ∙ back)) (known (λ row. IsUse (user_use v p row.leaf row.user)) app v row found small)
 
-    pub less-set : (new : List (List Seats)) → Changes p row.leaf (SetsUsed (unwrap_or (ticket_on p row) 0) rest) lanes new → AreSeatedBut app v new
-    less-set = use-set app p (λ before after. before ≡ plus after size) v lanes start row found rest (rest-is ∙ back)
+    pub less-set : (new : List (List Seats)) → Changes p row.leaf (SetsUsed (unwrap_or (ticket_on p row) 0) rest) lanes new → AreSeatedButFor May v new
+    less-set = use-set May app p (λ before after. before ≡ plus after size) v lanes start row found rest (rest-is ∙ back)

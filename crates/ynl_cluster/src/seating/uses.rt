@@ -1,6 +1,6 @@
 //! What the user of an application uses of a partition in its leaf.
 
-ghost use Rattle.std.specs.Prelude.{◌≡◌, IfSome, IsSome, Some, nat_eq, option_map, unwrap_or};
+ghost use Rattle.std.specs.Prelude.{◌≡◌, Bool, true, IfSome, IsSome, Some, nat_eq, option_map, unwrap_or};
 ghost use Rattle.std.specs.Map.{lookup};
 ghost use Rattle.ynl_resource.specs.Amounts.{plus};
 ghost use Rattle.ynl_slots.specs.Slots.{IsLive};
@@ -9,7 +9,7 @@ ghost use Rattle.ynl_lanes.specs.lane.Seats.{IsSeat};
 ghost use Rattle.ynl_lanes.specs.table.Lanes.{Changes, IsLaneAt, SetsUsed, lane_at};
 ghost use Rattle.ynl_inventory.specs.Parts.{app_row};
 ghost use Rattle.ynl_cluster.specs.seating.Seating.{ticket_on, user_use};
-ghost use Rattle.ynl_cluster.specs.seating.Steps.{AreSeatedBut, AreUsedBut};
+ghost use Rattle.ynl_cluster.specs.seating.Steps.{AreSeatedButFor, AreUsedBut, OnlyIf};
 
 use crate::seating::waits::ticket_on;
 use ynl_inventory::Inventory;
@@ -45,15 +45,17 @@ fn set_used_at(lanes: &mut Lanes, row: &AppRow, p: u8, used: Resource)
     lanes.set_used(p as usize, row.leaf as usize, ticket, used);
 }
 
-/// The user of an application uses so much more of a partition in its leaf, where the lanes are those of the rows but for that
-/// and for what waits of the application.
+/// The user of an application uses so much more of a partition in its leaf, where the lanes are those of the rows but for that,
+/// and perhaps for what waits of the application.
 pub fn use_more(inventory: &Inventory, lanes: &mut Lanes, app: u32, p: u8, size: Size)
     requires live { IsLive app inventory.now.rows.apps }
-    requires start { AreUsedBut app p (λ before after. after ≡ plus before size)
+    requires start { AreUsedBut (OnlyIf true app) app p (λ before after. after ≡ plus before size)
         inventory.now.rows lanes.old }
     requires small { IfSome (lookup (nat_eq app) inventory.now.rows.apps)
         (λ row. IsUse (user_use inventory.now.rows p row.leaf row.user)) }
-    ensures { AreSeatedBut app inventory.now.rows lanes.new }
+    ensures { (anew : Bool) → AreUsedBut (OnlyIf anew app) app p
+        (λ before after. after ≡ plus before size) inventory.now.rows lanes.old
+        → AreSeatedButFor (OnlyIf anew app) inventory.now.rows lanes.new }
 {
     let row = inventory.app(app);
     let used = used_at(lanes, row, p);
@@ -63,11 +65,13 @@ pub fn use_more(inventory: &Inventory, lanes: &mut Lanes, app: u32, p: u8, size:
 /// And so much less.
 pub fn use_less(inventory: &Inventory, lanes: &mut Lanes, app: u32, p: u8, size: Size)
     requires live { IsLive app inventory.now.rows.apps }
-    requires start { AreUsedBut app p (λ before after. before ≡ plus after size)
+    requires start { AreUsedBut (OnlyIf true app) app p (λ before after. before ≡ plus after size)
         inventory.now.rows lanes.old }
     requires small { IfSome (lookup (nat_eq app) inventory.now.rows.apps)
         (λ row. IsUse (user_use inventory.now.rows p row.leaf row.user)) }
-    ensures { AreSeatedBut app inventory.now.rows lanes.new }
+    ensures { (anew : Bool) → AreUsedBut (OnlyIf anew app) app p
+        (λ before after. before ≡ plus after size) inventory.now.rows lanes.old
+        → AreSeatedButFor (OnlyIf anew app) inventory.now.rows lanes.new }
 {
     let row = inventory.app(app);
     let used = used_at(lanes, row, p);

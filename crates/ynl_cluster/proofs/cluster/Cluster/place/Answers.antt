@@ -1,5 +1,5 @@
 -- What is known where a container is placed.
-use Rattle.std.proofs.Common.{sym, ap, subst, ◌∙◌}
+use Rattle.std.proofs.Common.{length, sym, ap, subst, ◌∙◌}
 use Rattle.std.specs.Option.{option_map_or}
 use Rattle.ynl_slots.specs.Slots.{IsUnused}
 use Rattle.ynl_inventory.specs.Rows.{NodeRow}
@@ -7,6 +7,7 @@ use Rattle.ynl_inventory.specs.Changes.{partition_of_node, with_placed}
 use Rattle.ynl_inventory.specs.Parts.{LeavesRoom, app_row, containers_of, node_row}
 use Rattle.ynl_inventory.proofs.Lookups.{found-live}
 use Rattle.ynl_cluster.proofs.ledger.Calls.{has-uses, leaf-number, line-inside, line-is, raised-uses, small-uses}
+use Rattle.ynl_cluster.specs.seating.Steps.{IsPlaced}
 use Rattle.ynl_cluster.specs.Cluster.{ClusterView}
 use Rattle.ynl_cluster.specs.Whole.{view_of}
 use Rattle.ynl_cluster.proofs.Placing.{app-live, lanes-before, live-after, may, node-live, parts-after, place-after, small-after, state-after}
@@ -47,8 +48,10 @@ follow_placement-requires-clause-live c =
 
 pub follow_placement-requires-clause-start : goal.follow_placement-requires-clause-start
 follow_placement-requires-clause-start c =
-    lanes-before c.self.inside c.self.invariant c.args.self.now c.self.view_is c.args.placed.now c.requires c.place-number.result c.place-number.ensures.unused c.place-number.new.self.rows c.place-number.ensures.rows
-    c.amount-size.ensures.range
+    subst
+    (λ asks. IsPlaced c.args.placed.now.node c.args.placed.now.app c.args.placed.now.role c.args.placed.now.size (length asks) c.place-number.new.self.rows c.self.inside.lanes) (sym c.as_slice-asked.ensures.value)
+    (lanes-before c.self.inside c.self.invariant c.args.self.now c.self.view_is c.args.placed.now c.requires c.place-number.result c.place-number.ensures.unused c.place-number.new.self.rows c.place-number.ensures.rows
+    c.amount-size.ensures.range (app_row c.app-app.result.now) c.app-app.ensures)
 
 pub follow_placement-requires-clause-partition : goal.follow_placement-requires-clause-partition
 follow_placement-requires-clause-partition c =

@@ -1,9 +1,5 @@
 -- What is known where a container came to stand.
-use Rattle.std.proofs.Common.{◌≡◌, List, sym, ap}
-use Rattle.ynl_laws.specs.Ways.{IsWay}
-use Rattle.ynl_inventory.specs.Rows.{Rows}
 use Rattle.ynl_inventory.specs.Parts.{app_row, node_row, placed_on}
-use Rattle.ynl_cluster.specs.ledger.Changes.{IsLineOf}
 use Rattle.ynl_cluster.proofs.ledger.Calls.{has-uses, line-inside, small-uses, stood-raised-uses}
 use Rattle.ynl_cluster.proofs.Standing.{app-live, has-place, its-line, parts-after, place-is, rows-at, small-after, state-after}
 use Rattle.ynl_cluster.proofs.cluster.Cluster.stand.Goals as goal

@@ -1,6 +1,4 @@
-use Rattle.std.proofs.Common.{◌≡◌, ◌∙◌, ℕ, ◌<◌, List, length, ap, sym, subst}
-use Rattle.std.proofs.lemmas.List.{length-map}
-use Rattle.ynl_model.specs.declared.uses.Use.{Use}
+use Rattle.std.proofs.Common.{◌∙◌, ap}
 use Rattle.ynl_laws.specs.Ways.{along}
 use Rattle.ynl_cluster.specs.uses.Tallies.{lowered, with_partition}
 use Rattle.ynl_cluster.proofs.uses.Partitions.{set-partition, inside-rows}

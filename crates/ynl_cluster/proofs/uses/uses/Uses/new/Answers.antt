@@ -1,4 +1,3 @@
-use Rattle.std.proofs.Common.{◌≡◌, ◌∙◌, sym, ap}
 use Rattle.ynl_cluster.specs.uses.Tallies.{no_use}
 use Rattle.ynl_cluster.proofs.uses.Partitions.{filled-more}
 use Rattle.ynl_cluster.proofs.uses.uses.Uses.new.Goals as goal

@@ -1,4 +1,3 @@
-use Rattle.std.proofs.Common.{◌≡◌, length, ◌≤◌, ◌-◌, ◌+◌}
 use Rattle.ynl_cluster.specs.uses.Tallies.{IsTable, no_use}
 use Rattle.ynl_cluster.specs.uses.Fields.{uses_of}
 use Rattle.ynl_cluster.proofs.uses.uses.Uses.new.Given as goal
