@@ -1,4 +1,3 @@
-pub mod Indexed
-pub mod Places
-pub mod Summed
-pub mod Whole
+pub mod Counted
+pub mod Entries
+pub mod Leads

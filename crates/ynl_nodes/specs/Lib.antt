@@ -1,4 +1,2 @@
-pub mod Sums
+pub mod Counts
 pub mod Nodes
-pub mod NodeFields
-pub mod roster

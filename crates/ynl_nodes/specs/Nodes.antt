@@ -1,24 +1,32 @@
--- Nodes under numbers, and the numbers by name.
-use Rattle.std.specs.Prelude.{◌≡◌, ℕ, ◌≤◌, List, Some, nat_eq}
+-- Nodes under numbers that rise, the numbers by name, and the nodes of each label counted.
+use Rattle.std.specs.Prelude.{◌≡◌, ℕ, ◌≤◌, Bool, false, List, length, Option}
+use Rattle.std.specs.BTreeMap.{get, is_at, values, IsOrdered}
 use Rattle.std.specs.List.{AllByRecursion}
-use Rattle.std.specs.Map.{lookup}
-use Rattle.std.specs.BTreeMap.{BTreeMap, get}
+use Rattle.std.specs.Option.{IfSome, option_map_or}
+use Rattle.std.specs.Ordering.{nat_cmp}
+use Rattle.ynl_resource.specs.declared.labels.Label.{Label}
 use Rattle.ynl_resource.specs.declared.names.Name.{Name}
-use Rattle.ynl_resource.specs.Names.{name_order}
+use Rattle.ynl_resource.specs.Names.{same_name, name_order}
 use Rattle.ynl_model.specs.declared.nodes.Node.{Node}
-use Rattle.ynl_nodes.specs.roster.Roster.{Numbered, IsOnly}
+use Rattle.ynl_model.specs.Nodes.{nodes_of}
+use Rattle.ynl_nodes.specs.declared.nodes.Nodes.TheInside.{Inside}
+use Rattle.ynl_nodes.specs.Counts.{count_at}
 
--- each node's name leads to its number, and each number that a name leads to is at most the highest, and of no node of another name
-pub record Indexes (leads : Name → ℕ → Type 0) (entries : List (ℕ × Node)) (top : ℕ) : Type 0 where
-  pub known : AllByRecursion (λ e. leads e.1.name e.0) entries
-  pub named : (name : Name) (n : ℕ) → leads name n → (n ≤ top) × AllByRecursion (λ e. e.0 ≡ n → e.1.name ≡ name) entries
+-- the list of the nodes
+abbrev pub nodes_in : Inside → List Node
+nodes_in t = values t.nodes
 
--- so the numbers of a map lead to the nodes
-abbrev pub AreIndexed : BTreeMap Name ℕ → Numbered Node → Type 0
-AreIndexed numbers roster = Indexes (λ name n. get name_order numbers name ≡ Some n) roster.entries roster.top
+-- whether what is found for a name is the number
+abbrev pub is_number : Option ℕ → ℕ → Bool
+is_number found number = option_map_or (λ n. is_at (nat_cmp n) number) found false
 
--- a name leads to a number, and nothing but the node is under it
-pub record IsSpot (numbers : BTreeMap Name ℕ) (roster : Numbered Node) (name : Name) (number : ℕ) (node : Node) : Type 0 where
-  pub leads : get name_order numbers name ≡ Some number
-  pub there : lookup (nat_eq number) roster.entries ≡ Some node
-  pub only : IsOnly number node roster.entries
+-- a name leads to a node exactly if it is the node's, and to no number above the highest
+pub record Leads (numbers : Name → Option ℕ) (entries : List (ℕ × Node)) (top : ℕ) : Type 0 where
+  pub names : (name : Name) → AllByRecursion (λ e. is_number (numbers name) e.0 ≡ same_name e.1.name name) entries
+  pub below : (name : Name) → IfSome (numbers name) (λ n. n ≤ top)
+
+-- the numbers rise, the names lead to them, and the nodes of each label are counted
+pub record AreKept (t : Inside) : Type 0 where
+  pub rises : IsOrdered nat_cmp t.nodes
+  pub leads : Leads (get name_order t.numbers) t.nodes.entries t.top
+  pub counts : (p : Label) → count_at t.counts p ≡ length (nodes_of (nodes_in t) p)

@@ -3,7 +3,5 @@
 
 pub use nodes::Nodes;
 
+mod counts;
 mod nodes;
-pub mod roster;
-mod spots;
-mod sums;

@@ -1,30 +1,34 @@
 //! Nodes in the order of joining.
 
-ghost use Rattle.std.specs.Prelude.{◌≡◌, [], Some, None, false, IfOk, OnOk, OnErr};
+ghost use Rattle.std.specs.Prelude.{◌≡◌, ◌<◌, [], ◌∷◌, ◌++◌, Some, None, false, IfOk, OnOk, OnErr};
+ghost use Rattle.std.specs.BTreeMap.{IsOrdered, IsUnchanged, Updates};
+ghost use Rattle.std.specs.List.{AllByRecursion};
+ghost use Rattle.std.specs.Ordering.{nat_cmp};
+ghost use Rattle.ynl_resource.specs.Names.{name_order};
 ghost use Rattle.ynl_model.specs.Nodes.{find_node, is_full, joined, left};
 
-use crate::roster::Roster;
-use crate::spots::spot_of;
-use crate::sums::{SumRow, lower, open_row, raise, sum_at};
+use crate::counts::{count_at, lower, open_row, raise};
 use std::alloc::{AllocError, Global};
 use std::collections::BTreeMap;
 use std::marker::Model;
 use ynl_model::Node;
 use ynl_resource::{Label, MOST_NODES, Name};
 
-/// Nodes in the order of joining, no two of one name. A node is found by its name in few steps, and what the nodes of
-/// a label come to is kept. A contract sees the list.
+/// Nodes in the order of joining, no two of one name. Each stands under a number, above those of the nodes before it;
+/// its name leads to the number, so it is found in few steps; and the nodes of a label are counted. A contract sees the
+/// list.
 #[derive(Drop)]
 pub struct Nodes {
-    roster: Roster<Node>,
+    nodes: BTreeMap<u64, Node>,
     numbers: BTreeMap<Name, u64>,
-    sums: Vec<SumRow>,
+    top: u64,
+    counts: BTreeMap<Label, usize>,
 }
 
 impl Model for Nodes {
     ghost use Rattle.std.specs.Prelude.{List};
     ghost use Rattle.ynl_model.specs.declared.nodes.Node.{Node};
-    ghost use Rattle.ynl_nodes.specs.NodeFields.{nodes_in, AreKept};
+    ghost use Rattle.ynl_nodes.specs.Nodes.{nodes_in, AreKept};
 
     ghost Value = { List Node };
 
@@ -39,9 +43,10 @@ impl Nodes {
         ensures { result ≡ [] }
     {
         Nodes {
-            roster: Roster::new(alloc),
+            nodes: BTreeMap::new(alloc),
             numbers: BTreeMap::new(alloc),
-            sums: Vec::new(alloc),
+            top: 0,
+            counts: BTreeMap::new(alloc),
         }
     }
 
@@ -49,15 +54,15 @@ impl Nodes {
     pub fn all(&self, alloc: Global) -> Result<Vec<Node>, AllocError>
         ensures { IfOk result (λ nodes. nodes.items ≡ self.now) }
     {
-        self.roster.copies(alloc)
+        self.nodes.values().copied().collect(alloc)
     }
 
     /// The node of a name.
     pub fn find(&self, name: &Name) -> Option<Node>
         ensures { result ≡ find_node self.now name.now }
     {
-        match spot_of(&self.numbers, &self.roster, name) {
-            Some(spot) => Some(*spot.node),
+        match self.numbers.get(name) {
+            Some(number) => self.nodes.get(number).copied(),
             None => None,
         }
     }
@@ -67,7 +72,7 @@ impl Nodes {
     pub fn is_full(&self, label: &Label) -> bool
         ensures { result ≡ is_full self.now label.now }
     {
-        sum_at(&self.sums, label).count >= MOST_NODES
+        count_at(&self.counts, label) >= MOST_NODES
     }
 
     /// A node leaves, if it stands on the partition that it is said to stand on.
@@ -75,15 +80,17 @@ impl Nodes {
     pub fn leave(&mut self, node: &Node)
         ensures { self.new ≡ left node.now self.old }
     {
-        let Some(spot) = spot_of(&self.numbers, &self.roster, &node.name) else {
+        let Some(number) = self.numbers.get(&node.name) else {
             return;
         };
-        if spot.node.label == node.label {
-            let number = spot.number;
-            let amount = spot.node.size.amount();
+        let number = *number;
+        let Some(found) = self.nodes.get(&number) else {
+            return;
+        };
+        if found.label == node.label {
+            lower(&mut self.counts, &found.label);
+            let _node = self.nodes.remove(&number);
             let _number = self.numbers.remove(&node.name);
-            let _node = self.roster.remove(number);
-            lower(&mut self.sums, &node.label, amount);
         }
     }
 
@@ -95,20 +102,14 @@ impl Nodes {
         ensures ok { OnOk result (self.new ≡ joined node self.old) }
         ensures err { OnErr result (self.new ≡ self.old) }
     {
-        let Some(number) = self.roster.top().checked_add(1) else {
+        let Some(number) = self.top.checked_add(1) else {
             return Err(AllocError);
         };
-        let size = node.size.amount();
-        open_row(&mut self.sums, &node.label)?;
-        self.roster.reserve(1)?;
-        match self.numbers.insert(node.name, number) {
-            Ok(_) => {
-                self.roster.push_reserved(number, node);
-                raise(&mut self.sums, &node.label, size);
-                Ok(())
-            }
-            Err(_) => Err(AllocError),
-        }
+        open_row(&mut self.counts, &node.label)?;
+        put(&mut self.nodes, &mut self.numbers, number, node.name, node)?;
+        self.top = number;
+        raise(&mut self.counts, &node.label);
+        Ok(())
     }
 
     /// A node that is here leaves its place, and comes last on another partition, with another stamp.
@@ -120,33 +121,51 @@ impl Nodes {
         ensures ok { OnOk result (self.new ≡ joined (record { name = node.now.name; label = label.now; size = node.now.size; stamp = stamp }) (left node.now self.old)) }
         ensures err { OnErr result (self.new ≡ self.old) }
     {
-        let Some(spot) = spot_of(&self.numbers, &self.roster, &node.name) else {
+        let Some(before) = self.numbers.get(&node.name) else {
             return Err(AllocError);
         };
-        let before = spot.number;
-        let Some(number) = self.roster.top().checked_add(1) else {
+        let before = *before;
+        let Some(number) = self.top.checked_add(1) else {
             return Err(AllocError);
         };
-        let size = node.size.amount();
-        open_row(&mut self.sums, label)?;
-        self.roster.reserve(1)?;
-        match self.numbers.insert(node.name, number) {
-            Ok(_) => {
-                let _node = self.roster.remove(before);
-                self.roster.push_reserved(
-                    number,
-                    Node {
-                        name: node.name,
-                        label: *label,
-                        size: node.size,
-                        stamp,
-                    },
-                );
-                lower(&mut self.sums, &node.label, size);
-                raise(&mut self.sums, label, size);
-                Ok(())
-            }
-            Err(_) => Err(AllocError),
+        open_row(&mut self.counts, label)?;
+        let moved = Node {
+            name: node.name,
+            label: *label,
+            size: node.size,
+            stamp,
+        };
+        put(&mut self.nodes, &mut self.numbers, number, node.name, moved)?;
+        let _node = self.nodes.remove(&before);
+        self.top = number;
+        raise(&mut self.counts, label);
+        lower(&mut self.counts, &node.label);
+        Ok(())
+    }
+}
+
+/// A thing comes last, under a number above all others, and the name leads there.
+/// Where memory is refused, nothing has changed.
+fn put<T: Copy>(
+    things: &mut BTreeMap<u64, T>,
+    numbers: &mut BTreeMap<Name, u64>,
+    number: u64,
+    name: Name,
+    thing: T,
+) -> Result<(), AllocError>
+    requires { AllByRecursion (λ e. e.0 < number) things.old.entries }
+    ensures things { OnOk result (things.new.entries ≡ things.old.entries ++ (number, thing) ∷ []) }
+    ensures numbers { OnOk result (Updates name_order numbers.old numbers.new name (Some number)) }
+    ensures things_err { OnErr result (IsUnchanged things.old things.new) }
+    ensures numbers_err { OnErr result (IsUnchanged numbers.old numbers.new) }
+    ensures ordered { IsOrdered nat_cmp things.new }
+{
+    things.insert(number, thing)?;
+    match numbers.insert(name, number) {
+        Ok(_) => Ok(()),
+        Err(_) => {
+            let _thing = things.remove(&number);
+            Err(AllocError)
         }
     }
 }

@@ -1,9 +1,9 @@
-use Rattle.std.proofs.Common.{ap}
-use Rattle.ynl_nodes.proofs.Whole.{spot_found, none_found}
+use Rattle.std.proofs.Common.{sym, ◌∙◌}
+use Rattle.ynl_nodes.proofs.Leads.{found_at, found_nowhere}
 use Rattle.ynl_nodes.proofs.nodes.Nodes.find.Goals as goal
 
 pub returns-in-Some : goal.returns-in-Some
-returns-in-Some c = spot_found c.self.inside.numbers c.self.inside.roster c.self.invariant.indexed c.args.self.now c.self.view_is c.args.name.now c.in-Some.spot.number c.in-Some.spot.node.now c.in-Some.ensures.found
+returns-in-Some c = c.copied.ensures ∙ c.get-in-Some.ensures.value ∙ found_at c.self.inside c.self.invariant c.args.self.now c.self.view_is c.args.name.now c.in-Some.number.now (sym c.in-Some.ensures.value)
 
 pub returns-in-None : goal.returns-in-None
-returns-in-None c = none_found c.self.inside.numbers c.self.inside.roster c.self.invariant.indexed c.args.self.now c.self.view_is c.args.name.now c.in-None.ensures.none
+returns-in-None c = found_nowhere c.self.inside c.self.invariant c.args.self.now c.self.view_is c.args.name.now (sym c.in-None.ensures.value)

@@ -1,47 +1,39 @@
-use Rattle.std.proofs.Common.{◌≡◌, ◌<◌, ◌++◌, ◌∷◌, [], cond, refl, sym, ap, subst, ◌∙◌, map, arith}
-use Rattle.std.specs.BTreeMap.{get, is_at}
-use Rattle.std.specs.Map.{lookup}
+use Rattle.std.proofs.Common.{◌+◌, ◌<◌, ap, sym, subst, ◌∙◌, arith, length}
+use Rattle.std.specs.BTreeMap.{get}
+use Rattle.std.specs.Map.{values_of}
 use Rattle.std.proofs.lemmas.Bool.Decides.{nat_tests}
-use Rattle.ynl_resource.specs.Names.{name_order, same_label}
-use Rattle.ynl_model.specs.Nodes.{is_full}
-use Rattle.ynl_nodes.specs.NodeFields.{AreSummed}
-use Rattle.ynl_nodes.specs.Sums.{sum_at, raised}
-use Rattle.ynl_nodes.proofs.Indexed.{joined_index, reindexed}
-use Rattle.ynl_nodes.proofs.Places.{absent_unfound}
-use Rattle.ynl_nodes.proofs.Summed.{small_at, not_full, summed_opened, summed_joined}
-use Rattle.ynl_nodes.proofs.Whole.{pushed_nodes}
+use Rattle.ynl_resource.specs.Names.{name_order}
+use Rattle.ynl_model.specs.Nodes.{find_node, nodes_of}
+use Rattle.ynl_nodes.specs.Nodes.{Leads}
+use Rattle.ynl_nodes.proofs.Counted.{one, counted_joined, has_place}
+use Rattle.ynl_nodes.proofs.Entries.{values_last}
+use Rattle.ynl_nodes.proofs.Leads.{under, leads_joined, kept_same}
 use Rattle.ynl_nodes.proofs.nodes.Nodes.join.Goals as goal
 
-pub raise-requires-clause-small : goal.raise-requires-clause-small
-unfolding is_full
-raise-requires-clause-small c =
-    let nodes = c.args.self.now in
+pub put-requires : goal.put-requires
+put-requires c = under c.self.inside c.self.invariant c.in-Some.number (grind (arith, nat_tests, c.in-Some.ensures))
+
+pub raise-requires-clause-few : goal.raise-requires-clause-few
+raise-requires-clause-few c =
     let label = c.args.node.label in
-    let rows = c.open_row.new.rows.items in
-    let summed = summed_opened c.self.inside.sums.items rows nodes (subst (AreSummed c.self.inside.sums.items) c.self.view_is c.self.invariant.summed) c.open_row.ensures.sums in
-    small_at rows nodes label c.args.node.size summed c.amount-size.ensures.range (not_full nodes label c.requires.room) c.amount-size.result c.amount-size.ensures.value
+    has_place c.args.self.now label c.requires.room _ (c.open_row.ensures.counts label ∙ c.self.invariant.counts label ∙ ap (λ nodes. length (nodes_of nodes label)) c.self.view_is)
 
-pub invariant_of-self-in-Err : goal.invariant_of-self-in-Err
-invariant_of-self-in-Err c = record {
-  indexed = reindexed (λ q. get name_order c.self.inside.numbers q) (λ q. get name_order c.insert.new.self q) (λ q. ap (λ es. lookup (is_at (name_order q)) es) c.in-Err.ensures.err) c.self.inside.roster.entries c.reserve.new.self.entries c.self.inside.roster.top c.reserve.new.self.top c.self.invariant.indexed c.reserve.ensures.entries c.reserve.ensures.top;
-  summed = subst (λ es. AreSummed c.open_row.new.rows.items (map (λ e. e.1) es)) (sym c.reserve.ensures.entries) (summed_opened c.self.inside.sums.items c.open_row.new.rows.items _ c.self.invariant.summed c.open_row.ensures.sums);
-}
+pub invariant_of-self-in_err-put : goal.invariant_of-self-in_err-put
+invariant_of-self-in_err-put c =
+    kept_same c.self.inside c.self.invariant c.put.new.things c.put.new.numbers c.open_row.new.counts c.put.ensures.ordered c.in_err-put.ensures.things_err c.in_err-put.ensures.numbers_err c.open_row.ensures.counts
 
-pub invariant_of-self-in-Ok : goal.invariant_of-self-in-Ok
-unfolding is_full
-invariant_of-self-in-Ok c =
+pub invariant_of-self-2 : goal.invariant_of-self-2
+invariant_of-self-2 c =
     let node = c.args.node in
-    let nodes = c.args.self.now in
-    let roster = c.self.inside.roster in
-    let number = c.in-Some.number in
-    let rows = c.open_row.new.rows.items in
-    let summed = summed_opened c.self.inside.sums.items rows nodes (subst (AreSummed c.self.inside.sums.items) c.self.view_is c.self.invariant.summed) c.open_row.ensures.sums in
-    let pushed = c.push_reserved.ensures.entries ∙ ap (λ es. es ++ (number, node) ∷ []) c.reserve.ensures.entries in
-    let high : roster.top < number = grind (arith, nat_tests, c.in-Some.ensures, c.top.ensures.value) in
+    let n = c.in-Some.number in
+    let entries = c.self.inside.nodes.entries in
+    let last = c.in_ok-put.ensures.things in
+    let numbers = get name_order c.put.new.numbers in
+    let high : c.self.inside.top < n = grind (arith, nat_tests, c.in-Some.ensures) in
     record {
-      indexed = joined_index (λ q. get name_order c.self.inside.numbers q) node.name (λ q. get name_order c.insert.new.self q) number c.in-Ok.ensures.updates.0 roster.entries c.push_reserved.new.self.entries node roster.top c.push_reserved.new.self.top c.self.invariant.indexed refl c.top.ensures.above high
-          (absent_unfound node.name roster.entries (rw c.self.view_is c.requires.new)) pushed c.push_reserved.ensures.top;
-      summed = summed_joined rows c.raise.new.rows.items nodes (map (λ e. e.1) c.push_reserved.new.self.entries) node summed c.amount-size.ensures.range (not_full nodes node.label c.requires.room)
-          (pushed_nodes roster.entries c.push_reserved.new.self.entries number node nodes pushed c.self.view_is)
-          (λ p. c.raise.ensures p ∙ (λ i. cond (same_label node.label p) (raised (c.amount-size.ensures.value i) (sum_at rows p)) (sum_at rows p)));
+      rises = c.put.ensures.ordered;
+      leads = subst (λ es. Leads numbers es n) (sym last) (leads_joined c.self.inside c.self.invariant n node numbers c.in_ok-put.ensures.numbers.0 high (ap (λ nodes. find_node nodes node.name) c.self.view_is ∙ c.requires.new));
+      counts = λ p.
+          c.raise.ensures p ∙ ap (λ count. count + one node.label p) (c.open_row.ensures.counts p ∙ c.self.invariant.counts p) ∙ sym (counted_joined p (values_of entries) node)
+          ∙ ap (λ nodes. length (nodes_of nodes p)) (sym (ap (λ es. values_of es) last ∙ values_last entries (n, node)));
     }

@@ -1,37 +1,45 @@
-use Rattle.std.proofs.Common.{rules, sym, subst, not, nat_eq, arith, ◌≡◌, true, false, cond, ◌∙◌, ap}
+use Rattle.std.proofs.Common.{◌≡◌, true, false, rules, ap, sym, subst, ◌∙◌, length}
 use Rattle.std.specs.BTreeMap.{get}
+use Rattle.std.specs.Map.{values_of}
 use Rattle.ynl_resource.specs.Names.{name_order, same_label}
-use Rattle.ynl_model.specs.Nodes.{left}
-use Rattle.ynl_nodes.specs.Sums.{sum_at, lowered}
-use Rattle.ynl_nodes.proofs.Indexed.{left_index}
-use Rattle.ynl_nodes.proofs.Summed.{summed_left}
-use Rattle.ynl_nodes.proofs.Whole.{spot_left, away_left, none_left}
+use Rattle.ynl_model.specs.Nodes.{nodes_of}
+use Rattle.ynl_nodes.specs.Nodes.{Leads}
+use Rattle.ynl_nodes.proofs.Counted.{counted_left, less_one}
+use Rattle.ynl_nodes.proofs.Entries.{at}
+use Rattle.ynl_nodes.proofs.Leads.{leads_astray, leads_left, leads_nowhere, none_leaves, one_leaves}
 use Rattle.ynl_nodes.proofs.nodes.Nodes.leave.Goals as goal
 
 pub returns-in_default : goal.returns-in_default
-unfolding left
-returns-in_default c = none_left c.self.inside.numbers c.self.inside.roster c.self.invariant.indexed c.args.self.now c.self.view_is c.args.node.now.name c.in_default.ensures.none c.args.node.now.label
+returns-in_default c =
+    let node = c.args.node.now in
+    none_leaves c.self.inside c.self.invariant c.args.self.now c.self.view_is node (leads_nowhere c.self.inside c.self.invariant node.name (sym c.in_default.ensures.value))
+
+pub returns-in_default-get : goal.returns-in_default-get
+returns-in_default-get c =
+    let node = c.args.node.now in
+    none_leaves c.self.inside c.self.invariant c.args.self.now c.self.view_is node (leads_astray c.self.inside c.self.invariant node.name c.in-Some.number.now (sym c.in-Some.ensures.value) (sym c.in_default-get.ensures.value))
 
 pub returns-else-eq : goal.returns-else-eq
-unfolding left
 returns-else-eq c =
-    let away : same_label c.in-Some.spot.node.now.label c.args.node.now.label ≡ false = search rules in
-    away_left c.self.inside.numbers c.self.inside.roster c.self.invariant.indexed c.args.self.now c.self.view_is c.args.node.now.name c.in-Some.spot.number c.in-Some.spot.node.now c.in-Some.ensures.found c.args.node.now.label away
+    let away : same_label c.in-Some-get.found.now.label c.args.node.now.label ≡ false = search rules in
+    sym c.self.view_is
+    ∙ one_leaves c.self.inside c.self.invariant c.args.self.now c.self.view_is c.args.node.now c.in-Some.number.now (sym c.in-Some.ensures.value) c.in-Some-get.found.now (sym c.in-Some-get.ensures.value) false away
 
 pub returns-then-eq : goal.returns-then-eq
-unfolding left
 returns-then-eq c =
-    let place : same_label c.in-Some.spot.node.now.label c.args.node.now.label ≡ true = search rules in
-    spot_left c.self.inside.numbers c.self.inside.roster c.self.invariant.indexed c.args.self.now c.self.view_is c.args.node.now.name c.in-Some.spot.number c.in-Some.spot.node.now c.in-Some.ensures.found c.args.node.now.label place c.remove-node.new.self.entries c.remove-node.ensures.entries
+    let here : same_label c.in-Some-get.found.now.label c.args.node.now.label ≡ true = search rules in
+    ap (λ es. values_of es) c.remove-node.ensures.entries
+    ∙ one_leaves c.self.inside c.self.invariant c.args.self.now c.self.view_is c.args.node.now c.in-Some.number.now (sym c.in-Some.ensures.value) c.in-Some-get.found.now (sym c.in-Some-get.ensures.value) true here
 
 pub invariant_of-self : goal.invariant_of-self
 invariant_of-self c =
-    let place : same_label c.in-Some.spot.node.now.label c.args.node.now.label ≡ true = search rules in
-    let spot = c.in-Some.ensures.found in
-    let roster = c.self.inside.roster in
-    let rows = c.self.inside.sums.items in
+    let n = c.in-Some.number.now in
+    let numbers = get name_order c.remove-number.new.self in
     record {
-      indexed = left_index (λ q. get name_order c.self.inside.numbers q) c.args.node.now.name (λ q. get name_order c.remove-number.new.self q) c.remove-number.ensures.updates.0 roster.entries c.remove-node.new.self.entries roster.top c.remove-node.new.self.top c.self.invariant.indexed c.in-Some.spot.number spot.leads c.remove-node.ensures.entries c.remove-node.ensures.top;
-      summed = summed_left rows c.lower.new.rows.items c.in-Some.spot.number c.in-Some.spot.node.now c.args.node.now.label roster.entries c.remove-node.new.self.entries c.self.invariant.summed spot.there place c.remove-node.ensures.first c.remove-node.ensures.entries
-          (λ p. c.lower.ensures.sums p ∙ (λ i. cond (same_label c.args.node.now.label p) (lowered (c.amount-amount.ensures.value i) (sum_at rows p)) (sum_at rows p)));
+      rises = c.remove-node.ensures.ordered;
+      leads = subst (λ es. Leads numbers es c.self.inside.top) (sym c.remove-node.ensures.entries)
+          (leads_left c.self.inside c.self.invariant c.args.node.now.name n (sym c.in-Some.ensures.value) numbers c.remove-number.ensures.updates.0);
+      counts = λ p.
+          less_one _ _ _ _ _ (c.lower.ensures p) (c.self.invariant.counts p) (counted_left p (at n) c.in-Some-get.found.now c.self.inside.nodes.entries (sym c.in-Some-get.ensures.value))
+          ∙ ap (λ es. length (nodes_of (values_of es) p)) (sym c.remove-node.ensures.entries);
     }

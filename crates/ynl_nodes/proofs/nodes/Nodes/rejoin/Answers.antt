@@ -1,79 +1,66 @@
-use Rattle.std.proofs.Common.{◌≡◌, true, sym, subst, not, ◌<◌, ◌++◌, ◌∷◌, [], cond, refl, ap, ◌∙◌, map, nat_eq, arith}
+use Rattle.std.proofs.Common.{◌≡◌, true, ◌<◌, ◌++◌, ◌∷◌, [], Some, ap, sym, subst, ◌∙◌, arith, length}
 use Rattle.std.specs.BTreeMap.{get}
-use Rattle.std.specs.Map.{remove_entry}
+use Rattle.std.specs.Map.{lookup, remove_entry, values_of}
 use Rattle.std.proofs.lemmas.Bool.Decides.{nat_tests}
-use Rattle.ynl_resource.specs.Names.{name_order, same_label}
-use Rattle.ynl_resource.specs.Ranges.{most_nodes}
-use Rattle.ynl_resource.specs.Tables.{without}
-use Rattle.ynl_model.specs.Nodes.{is_full, joined, left}
+use Rattle.ynl_resource.specs.Names.{name_order}
 use Rattle.ynl_model.specs.declared.nodes.Node.{Node}
-use Rattle.ynl_nodes.specs.NodeFields.{AreSummed}
-use Rattle.ynl_nodes.specs.Nodes.{IsSpot}
-use Rattle.ynl_nodes.specs.Sums.{sum_at, sum_of, raised, lowered}
-use Rattle.ynl_nodes.proofs.Indexed.{absent_left, rejoined_index}
-use Rattle.ynl_nodes.proofs.Summed.{label_self, small_at, fewer_left, not_full, summed_opened, summed_left, summed_joined}
-use Rattle.ynl_nodes.proofs.Whole.{pushed_nodes, spot_same, spot_left}
+use Rattle.ynl_model.specs.Nodes.{nodes_of, joined}
+use Rattle.ynl_nodes.specs.Nodes.{Leads}
+use Rattle.ynl_nodes.proofs.Counted.{counted_joined, counted_left, has_place, label_self, one_moved}
+use Rattle.ynl_nodes.proofs.Entries.{at, removed_before, values_last}
+use Rattle.ynl_nodes.proofs.Leads.{found_at, leads_moved, kept_same, one_leaves, under}
 use Rattle.ynl_nodes.proofs.nodes.Nodes.rejoin.Goals.{After-lower}
 use Rattle.ynl_nodes.proofs.nodes.Nodes.rejoin.Goals as goal
 
--- the node that is found by the name is the one that leaves its place
-found : (c : After-lower) → IsSpot c.self.inside.numbers c.self.inside.roster c.args.node.now.name c.in-Some.spot.number c.args.node.now
-found c =
-    spot_same c.self.inside.numbers c.self.inside.roster c.self.invariant.indexed c.args.self.now c.self.view_is c.args.node.now.name c.in-Some.spot.number c.in-Some.spot.node.now c.in-Some.ensures.found c.args.node.now c.requires.here
+pub put-requires : goal.put-requires
+put-requires c = under c.self.inside c.self.invariant c.in-Some-checked_add.number (grind (arith, nat_tests, c.in-Some-checked_add.ensures))
 
--- the others stay
-others : (c : After-lower) → c.remove-node.new.self.entries ≡ without (λ e. nat_eq c.in-Some.spot.number e.0) c.self.inside.roster.entries
-others c = c.remove-node.ensures.entries ∙ ap (λ es. without (λ e. nat_eq c.in-Some.spot.number e.0) es) c.reserve.ensures.entries
-
--- what they come to is kept, and there is room beside them
-room_beside : (c : After-lower) → AreSummed c.lower.new.rows.items (map (λ e. e.1) c.remove-node.new.self.entries) × ((sum_of (map (λ e. e.1) c.remove-node.new.self.entries) c.args.label.now).count < most_nodes)
-unfolding is_full
-room_beside c =
-    let node = c.args.node.now in
+pub raise-requires-clause-few : goal.raise-requires-clause-few
+raise-requires-clause-few c =
     let label = c.args.label.now in
-    let n = c.in-Some.spot.number in
-    let roster = c.self.inside.roster in
-    let entries = c.remove-node.new.self.entries in
-    let opened = c.open_row.new.rows.items in
-    let first = c.remove-node.ensures.first ∙ ap (λ es. remove_entry (nat_eq n) es) c.reserve.ensures.entries in (
-      summed_left opened c.lower.new.rows.items n node node.label roster.entries entries (summed_opened c.self.inside.sums.items opened (map (λ e. e.1) roster.entries) c.self.invariant.summed c.open_row.ensures.sums) (found c).there (label_self node.label) first (others c)
-          (λ p. c.lower.ensures.sums p ∙ (λ i. cond (same_label node.label p) (lowered (c.amount-size.ensures.value i) (sum_at opened p)) (sum_at opened p))),
-      fewer_left n node roster.entries entries (found c).there first label (not_full (map (λ e. e.1) roster.entries) label (rw c.self.view_is c.requires.room)),
-    )
+    has_place c.args.self.now label c.requires.room _ (c.open_row.ensures.counts label ∙ c.self.invariant.counts label ∙ ap (λ nodes. length (nodes_of nodes label)) c.self.view_is)
+
+pub invariant_of-self-in_err-put : goal.invariant_of-self-in_err-put
+invariant_of-self-in_err-put c =
+    kept_same c.self.inside c.self.invariant c.put.new.things c.put.new.numbers c.open_row.new.counts c.put.ensures.ordered c.in_err-put.ensures.things_err c.in_err-put.ensures.numbers_err c.open_row.ensures.counts
+
+-- the node is under the number that its name leads to
+here : (c : After-lower) → lookup (at c.in-Some.before.now) c.self.inside.nodes.entries ≡ Some c.args.node.now
+here c = found_at c.self.inside c.self.invariant c.args.self.now c.self.view_is c.args.node.now.name c.in-Some.before.now (sym c.in-Some.ensures.value) ∙ c.requires.here
 
 -- the node on its other partition
 abbrev moved : After-lower → Node
 moved c = record { name = c.args.node.now.name; label = c.args.label.now; size = c.args.node.now.size; stamp = c.args.stamp }
 
-pub raise-requires-clause-small : goal.raise-requires-clause-small
-raise-requires-clause-small c =
-    let beside = room_beside (goal.at.raise-requires-clause-small c).After-lower in
-    small_at c.lower.new.rows.items (map (λ e. e.1) c.remove-node.new.self.entries) c.args.label.now c.args.node.now.size beside.0 c.amount-size.ensures.range beside.1 c.amount-size.result c.amount-size.ensures.value
+-- the others stay, and it comes last
+entries_after : (c : After-lower) → c.remove-node.new.self.entries ≡ remove_entry (at c.in-Some.before.now) c.self.inside.nodes.entries ++ (c.in-Some-checked_add.number, moved c) ∷ []
+entries_after c =
+    let n = c.in-Some.before.now in
+    c.remove-node.ensures.entries ∙ ap (λ es. remove_entry (at n) es) c.in_ok-put.ensures.things ∙ removed_before n c.args.node.now c.self.inside.nodes.entries (c.in-Some-checked_add.number, moved c) (here c)
 
-pub invariant_of-self-in-Ok : goal.invariant_of-self-in-Ok
-invariant_of-self-in-Ok c =
-    let before = (goal.at.invariant_of-self-in-Ok c).After-lower in
-    let n = c.in-Some.spot.number in
-    let roster = c.self.inside.roster in
-    let entries = c.remove-node.new.self.entries in
-    let rows = c.lower.new.rows.items in
-    let beside = room_beside before in
-    let number = c.in-Some-checked_add.number in
-    let next = moved before in
-    let pushed = c.push_reserved.ensures.entries in
-    let high : roster.top < number = grind (arith, nat_tests, c.in-Some-checked_add.ensures, c.top.ensures.value) in
-    record {
-      indexed = rejoined_index (λ q. get name_order c.self.inside.numbers q) (λ q. get name_order c.insert.new.self q) next.name n number (found before).leads c.in-Ok.ensures.updates.0 roster.entries c.push_reserved.new.self.entries next roster.top c.push_reserved.new.self.top c.self.invariant.indexed refl c.top.ensures.above high
-          (pushed ∙ ap (λ es. es ++ (number, next) ∷ []) (others before)) c.push_reserved.ensures.top;
-      summed = summed_joined rows c.raise.new.rows.items (map (λ e. e.1) entries) (map (λ e. e.1) c.push_reserved.new.self.entries) next beside.0 c.amount-size.ensures.range beside.1
-          (pushed_nodes entries c.push_reserved.new.self.entries number next (map (λ e. e.1) entries) pushed refl)
-          (λ p. c.raise.ensures p ∙ (λ i. cond (same_label next.label p) (raised (c.amount-size.ensures.value i) (sum_at rows p)) (sum_at rows p)));
-    }
+-- so do the nodes
+nodes_after : (c : After-lower) → values_of c.remove-node.new.self.entries ≡ values_of (remove_entry (at c.in-Some.before.now) c.self.inside.nodes.entries) ++ moved c ∷ []
+nodes_after c =
+    ap (λ es. values_of es) (entries_after c) ∙ values_last (remove_entry (at c.in-Some.before.now) c.self.inside.nodes.entries) (c.in-Some-checked_add.number, moved c)
 
-pub returns-in-Ok-clause-ok : goal.returns-in-Ok-clause-ok
-unfolding left joined
-returns-in-Ok-clause-ok c =
-    let before = (goal.at.returns-in-Ok-clause-ok c).After-lower in
+pub returns-clause-ok : goal.returns-clause-ok
+unfolding joined
+returns-clause-ok c =
     let node = c.args.node.now in
-    pushed_nodes c.remove-node.new.self.entries c.push_reserved.new.self.entries c.in-Some-checked_add.number (moved before) (left node c.args.self.now) c.push_reserved.ensures.entries
-    (spot_left c.self.inside.numbers c.self.inside.roster c.self.invariant.indexed c.args.self.now c.self.view_is node.name c.in-Some.spot.number node (found before) node.label (label_self node.label) c.remove-node.new.self.entries (others before))
+    nodes_after c
+    ∙ ap (λ nodes. nodes ++ moved c ∷ []) (one_leaves c.self.inside c.self.invariant c.args.self.now c.self.view_is node c.in-Some.before.now (sym c.in-Some.ensures.value) node (here c) true (label_self node.label))
+
+pub invariant_of-self-2 : goal.invariant_of-self-2
+invariant_of-self-2 c =
+    let n = c.in-Some.before.now in
+    let m = c.in-Some-checked_add.number in
+    let entries = c.self.inside.nodes.entries in
+    let numbers = get name_order c.put.new.numbers in
+    let high : c.self.inside.top < m = grind (arith, nat_tests, c.in-Some-checked_add.ensures) in
+    record {
+      rises = c.remove-node.ensures.ordered;
+      leads = subst (λ es. Leads numbers es m) (sym (entries_after c)) (leads_moved c.self.inside c.self.invariant n m (moved c) (sym c.in-Some.ensures.value) numbers c.in_ok-put.ensures.numbers.0 high);
+      counts = λ p.
+          one_moved _ _ _ _ _ _ _ (c.lower.ensures p) (c.raise.ensures p) (c.open_row.ensures.counts p ∙ c.self.invariant.counts p) (counted_left p (at n) c.args.node.now entries (here c))
+          ∙ sym (counted_joined p (values_of (remove_entry (at n) entries)) (moved c)) ∙ ap (λ nodes. length (nodes_of nodes p)) (sym (nodes_after c));
+    }
