@@ -1,10 +1,11 @@
 //! A place in a line in the compact form, from which one piece after another is cut.
 
 ghost use Rattle.std.specs.Prelude.{◌≤◌, IfSome};
+ghost use Rattle.ynl_resource.specs.Amounts.{IsSize};
 ghost use Rattle.ynl_fields.specs.Reading.{HasClock};
 
 use crate::cutting::cut_number;
-use ynl_resource::{Id, Label, MOST_CLOCK, Name, Path};
+use ynl_resource::{Id, Label, MOST_CLOCK, Name, Path, Size};
 
 /// What ends a text.
 const QUOTE: &[u8] = b"\"";
@@ -72,6 +73,15 @@ impl<'a> Cursor<'a> {
     {
         let number = self.within(front, u64::from(most))?;
         Some(number as u32)
+    }
+
+    /// The size of so much memory and of the virtual cores that are told here. It stands alone, since that a size is in range
+    /// follows from its parts at some length.
+    pub fn size(&mut self, front: &[u8], memory: u64) -> Option<Size>
+        ensures { IfSome result (λ size. IsSize size) }
+    {
+        let vcores = self.number(front)?;
+        Size::new(memory, vcores)
     }
 
     pub fn name(&mut self, front: &[u8]) -> Option<Name> {

@@ -4,7 +4,7 @@
 ghost use Rattle.std.specs.Prelude.{IfSome};
 ghost use Rattle.ynl_lines.specs.Reading.{IsRanged};
 
-use crate::compact_replies::{cut_proposal, told_label, told_size};
+use crate::compact_replies::{cut_proposal, told_label};
 use ynl_fields::Cursor;
 use ynl_model::Event;
 use ynl_resource::{Hundredths, MOST_COUNT, Name};
@@ -26,7 +26,7 @@ fn cut_submit(line: &mut Cursor<'_>, app: Name, into: &mut Event) -> Option<()>
     let memory = line.number(b",\"memory\":")?;
     let queue = line.path(b",\"queue\":\"")?;
     let user = line.name(b",\"user\":\"")?;
-    let master = told_size(line, memory)?;
+    let master = line.size(b",\"vcores\":", memory)?;
     *into = Event::Submit {
         queue,
         app,
@@ -46,7 +46,7 @@ fn cut_ask(line: &mut Cursor<'_>, app: Name, into: &mut Event) -> Option<()>
     let memory = line.number(b",\"memory\":")?;
     let priority = line.small(b",\"priority\":", u32::MAX)?;
     let tenant = line.name(b",\"tenant\":\"")?;
-    let size = told_size(line, memory)?;
+    let size = line.size(b",\"vcores\":", memory)?;
     *into = Event::Ask {
         tenant,
         app,
@@ -96,7 +96,7 @@ fn cut_register(line: &mut Cursor<'_>, into: &mut Event) -> Option<()>
     let label = line.label(b"{\"event\":\"register\",\"label\":\"")?;
     let memory = line.number(b",\"memory\":")?;
     let node = line.name(b",\"node\":\"")?;
-    let size = told_size(line, memory)?;
+    let size = line.size(b",\"vcores\":", memory)?;
     *into = Event::Register { node, label, size };
     Some(())
 }

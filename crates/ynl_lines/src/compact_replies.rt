@@ -11,7 +11,7 @@ use crate::read_replies::MOST_AMOUNT;
 use std::alloc::{AllocError, Global};
 use ynl_fields::Cursor;
 use ynl_model::{Items, Pending, Placed, Proposal, Reply, What};
-use ynl_resource::{Label, MOST_CLOCK, MOST_COUNT, Refusal, Resource, Size};
+use ynl_resource::{Label, MOST_CLOCK, MOST_COUNT, Refusal, Resource};
 
 /// The label, where one is told: that of what was asked for, or of a submit. Nothing is told of a master.
 pub fn told_label(line: &mut Cursor<'_>) -> Option<Option<Label>> {
@@ -20,15 +20,6 @@ pub fn told_label(line: &mut Cursor<'_>) -> Option<Option<Label>> {
         return Some(None);
     }
     Some(Some(line.label(b",\"label\":\"")?))
-}
-
-/// The size of so much memory and of the virtual cores that are told here. It stands alone, since that a size is in range
-/// follows from its parts at some length.
-pub fn told_size(line: &mut Cursor<'_>, memory: u64) -> Option<Size>
-    ensures { IfSome result (λ size. IsSize size) }
-{
-    let vcores = line.number(b",\"vcores\":")?;
-    Size::new(memory, vcores)
 }
 
 /// What is wanted, from its label and its priority.
@@ -73,7 +64,7 @@ impl Cut for Placed {
         let node = line.name(b",\"node\":\"")?;
         let what = wanted(line, label)?;
         let tenant = line.name(b",\"tenant\":\"")?;
-        let size = told_size(line, memory)?;
+        let size = line.size(b",\"vcores\":", memory)?;
         if !ends_as(line, &what) {
             return None;
         }
@@ -95,7 +86,7 @@ impl Cut for Pending {
         let count = line.small(b"{\"count\":", MOST_COUNT)?;
         let memory = line.number(b",\"memory\":")?;
         let priority = line.small(b",\"priority\":", u32::MAX)?;
-        let size = told_size(line, memory)?;
+        let size = line.size(b",\"vcores\":", memory)?;
         if !line.skips(b"}") {
             return None;
         }
@@ -177,7 +168,7 @@ pub fn cut_proposal(line: &mut Cursor<'_>) -> Option<Proposal>
     let number = line.number(b",\"stamp\":")?;
     let stamp = within(MOST_CLOCK, number).ok()?;
     let tenant = line.name(b",\"tenant\":\"")?;
-    let size = told_size(line, memory)?;
+    let size = line.size(b",\"vcores\":", memory)?;
     if !ends_as(line, &what) {
         return None;
     }
