@@ -198,56 +198,64 @@ fn cut_amount(line: &mut Cursor<'_>, front: &[u8]) -> Option<Resource>
     Some(Resource { memory, vcores })
 }
 
-fn cut_usage(line: &mut Cursor<'_>) -> Option<Reply>
-    ensures { IfSome result (λ reply. IsReplyInRange reply) }
+fn cut_usage(line: &mut Cursor<'_>, into: &mut Option<Reply>) -> Option<()>
+    ensures { IfSome result (λ _. IfSome into.new IsReplyInRange) }
 {
     let guaranteed = cut_amount(line, b"{\"guaranteed\":")?;
     let guests = cut_amount(line, b",\"guests\":")?;
     let masters = cut_amount(line, b",\"masters\":")?;
     let maximum = cut_amount(line, b",\"maximum\":")?;
     let used = cut_amount(line, b",\"reply\":\"usage\",\"used\":")?;
-    Some(Reply::Usage {
+    *into = Some(Reply::Usage {
         used,
         guaranteed,
         maximum,
         masters,
         guests,
-    })
+    });
+    Some(())
 }
 
-fn cut_refused(line: &mut Cursor<'_>) -> Option<Reply>
-    ensures { IfSome result (λ reply. IsReplyInRange reply) }
+fn cut_refused(line: &mut Cursor<'_>, into: &mut Option<Reply>) -> Option<()>
+    ensures { IfSome result (λ _. IfSome into.new IsReplyInRange) }
 {
     let word = line.text(b"{\"refused\":\"")?;
     let refusal = Refusal::from_word(word)?;
     if !line.skips(b",\"reply\":\"refused\"") {
         return None;
     }
-    Some(Reply::Refused(refusal))
+    *into = Some(Reply::Refused(refusal));
+    Some(())
 }
 
-fn cut_found(line: &mut Cursor<'_>) -> Option<Reply>
-    ensures { IfSome result (λ reply. IsReplyInRange reply) }
+fn cut_found(line: &mut Cursor<'_>, into: &mut Option<Reply>) -> Option<()>
+    ensures { IfSome result (λ _. IfSome into.new IsReplyInRange) }
 {
     let proposal = cut_proposal(line)?;
     if !line.skips(b",\"reply\":\"proposal\"") {
         return None;
     }
-    Some(Reply::Proposed(Some(proposal)))
+    *into = Some(Reply::Proposed(Some(proposal)));
+    Some(())
 }
 
-fn cut_committed(line: &mut Cursor<'_>) -> Option<Reply>
-    ensures { IfSome result (λ reply. IsReplyInRange reply) }
+fn cut_committed(line: &mut Cursor<'_>, into: &mut Option<Reply>) -> Option<()>
+    ensures { IfSome result (λ _. IfSome into.new IsReplyInRange) }
 {
     let container = Placed::cut(line)?;
     if !line.skips(b",\"reply\":\"committed\"") {
         return None;
     }
-    Some(Reply::Committed(container))
+    *into = Some(Reply::Committed(container));
+    Some(())
 }
 
-fn cut_several(alloc: Global, line: &mut Cursor<'_>) -> Result<Option<Reply>, AllocError>
-    ensures { IfOk result (λ found. IfSome found (λ reply. IsReplyInRange reply)) }
+fn cut_several(
+    alloc: Global,
+    line: &mut Cursor<'_>,
+    into: &mut Option<Reply>,
+) -> Result<Option<()>, AllocError>
+    ensures { IfOk result (λ found. IfSome found (λ _. IfSome into.new IsReplyInRange)) }
 {
     let Some(list) = cut_list(alloc, line)? else {
         return Ok(None);
@@ -255,11 +263,16 @@ fn cut_several(alloc: Global, line: &mut Cursor<'_>) -> Result<Option<Reply>, Al
     if !line.skips(b",\"reply\":\"placed\"") {
         return Ok(None);
     }
-    Ok(Some(Reply::Placed(list)))
+    *into = Some(Reply::Placed(list));
+    Ok(Some(()))
 }
 
-fn cut_held(alloc: Global, line: &mut Cursor<'_>) -> Result<Option<Reply>, AllocError>
-    ensures { IfOk result (λ found. IfSome found (λ reply. IsReplyInRange reply)) }
+fn cut_held(
+    alloc: Global,
+    line: &mut Cursor<'_>,
+    into: &mut Option<Reply>,
+) -> Result<Option<()>, AllocError>
+    ensures { IfOk result (λ found. IfSome found (λ _. IfSome into.new IsReplyInRange)) }
 {
     let Some(asks) = cut_list(alloc, line)? else {
         return Ok(None);
@@ -273,38 +286,60 @@ fn cut_held(alloc: Global, line: &mut Cursor<'_>) -> Result<Option<Reply>, Alloc
     if !line.skips(b",\"reply\":\"held\"") {
         return Ok(None);
     }
-    Ok(Some(Reply::Held { containers, asks }))
+    *into = Some(Reply::Held { containers, asks });
+    Ok(Some(()))
 }
 
-/// The reply at the front of a line, but for the brace that ends it.
-pub fn cut_reply(alloc: Global, line: &mut Cursor<'_>) -> Result<Option<Reply>, AllocError>
-    ensures { IfOk result (λ found. IfSome found (λ reply. IsReplyInRange reply)) }
+/// Puts the reply of which nothing is told into a place. It stands alone, since a function clears the room of each reply
+/// that it makes.
+fn put_done(into: &mut Option<Reply>)
+    ensures { IfSome into.new IsReplyInRange }
+{
+    *into = Some(Reply::Done);
+}
+
+/// The same of a propose for which there is no proposal.
+fn put_nothing(into: &mut Option<Reply>)
+    ensures { IfSome into.new IsReplyInRange }
+{
+    *into = Some(Reply::Proposed(None));
+}
+
+/// The reply at the front of a line, but for the brace that ends it: it is put into `into`, since a reply is large.
+pub fn cut_reply(
+    alloc: Global,
+    line: &mut Cursor<'_>,
+    into: &mut Option<Reply>,
+) -> Result<Option<()>, AllocError>
+    ensures { IfOk result (λ found. IfSome found (λ _. IfSome into.new IsReplyInRange)) }
 {
     if line.skips(b"{\"reply\":\"done\"") {
-        Ok(Some(Reply::Done))
+        put_done(into);
+        Ok(Some(()))
     } else if line.skips(b"{\"placed\":[") {
-        cut_several(alloc, line)
+        cut_several(alloc, line, into)
     } else if line.skips(b"{\"reply\":\"nothing\"") {
-        Ok(Some(Reply::Proposed(None)))
+        put_nothing(into);
+        Ok(Some(()))
     } else if line.skips(b"{\"container\":") {
-        Ok(cut_committed(line))
+        Ok(cut_committed(line, into))
     } else if line.skips(b"{\"proposal\":") {
-        Ok(cut_found(line))
+        Ok(cut_found(line, into))
     } else if line.skips(b"{\"asks\":[") {
-        cut_held(alloc, line)
+        cut_held(alloc, line, into)
     } else {
-        Ok(cut_rare(line))
+        Ok(cut_rare(line, into))
     }
 }
 
 /// The same of a refusal or of what a queue uses.
-fn cut_rare(line: &mut Cursor<'_>) -> Option<Reply>
-    ensures { IfSome result (λ reply. IsReplyInRange reply) }
+fn cut_rare(line: &mut Cursor<'_>, into: &mut Option<Reply>) -> Option<()>
+    ensures { IfSome result (λ _. IfSome into.new IsReplyInRange) }
 {
     let mut ahead = *line;
     if ahead.skips(b"{\"refused\":") {
-        cut_refused(line)
+        cut_refused(line, into)
     } else {
-        cut_usage(line)
+        cut_usage(line, into)
     }
 }

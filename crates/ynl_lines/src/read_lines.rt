@@ -1,6 +1,6 @@
 //! From the lines of a journal to its entries.
 
-ghost use Rattle.std.specs.Prelude.{◌≡◌, IfOk, IfSome, OnErr, OnOk, IsOk, IsSome, IsTrue, IsUtf8, None};
+ghost use Rattle.std.specs.Prelude.{◌≡◌, IfOk, IfSome, OnErr, OnOk, IsOk, IsSome, IsTrue, IsUtf8, None, Ok};
 ghost use Rattle.ynl_fields.specs.Trees.{data_at};
 ghost use Rattle.ynl_lines.specs.Reading.{Gives, IsRanged};
 ghost use Rattle.ynl_lines.specs.ReadingReplies.{MayBeTold, IsRead};
@@ -118,8 +118,8 @@ fn read_compact(alloc: Global, line: &[u8], into: &mut Entry) -> Result<Option<u
         return Ok(None);
     };
     if rest.skips(b",\"reply\":") {
-        into.reply = cut_reply(alloc, &mut rest)?;
-        return Ok(if into.reply.is_some() {
+        let found = cut_reply(alloc, &mut rest, &mut into.reply)?;
+        return Ok(if found.is_some() && into.reply.is_some() {
             Some(place)
         } else {
             None
@@ -195,6 +195,23 @@ impl LineReader {
         }
     }
 
+    /// Reads the line if it is just the text that is written for what it is taken to say, and returns whether it is.
+    fn read_guess(&mut self, alloc: Global, line: &[u8]) -> Result<bool, AllocError>
+        ensures entry { IfOk result (λ read. IsTrue read → spec.line_of_text line.now ≡ Ok self.new) }
+        ensures ranged { IfOk result (λ read. IsTrue read → IsRanged self.new.1.event) }
+        ensures told { IfOk result (λ read. IsTrue read → MayBeTold self.new.1.event self.new.1.reply) }
+    {
+        let Some(place) = read_compact(alloc, line, &mut self.entry)? else {
+            return Ok(false);
+        };
+        put_line(place, &self.entry.event, &self.entry.reply, &mut self.text)?;
+        if self.text.as_slice() != line {
+            return Ok(false);
+        }
+        self.place = place;
+        Ok(true)
+    }
+
     /// Reads the place of a line and its entry, as [`read_line`] tells them. A line that is just the text that is written for
     /// what it is taken to say says that; any other is read as JSON.
     pub fn read(&mut self, alloc: Global, line: &[u8]) -> Result<Result<(), BadLine>, AllocError>
@@ -203,14 +220,14 @@ impl LineReader {
         ensures told { IfOk result (λ read. OnOk read (MayBeTold self.new.1.event self.new.1.reply)) }
         ensures text { OnErr result (IsUtf8 line.now) }
     {
-        let Ok(_) = str::from_utf8(line) else {
-            return self.read_any(alloc, line);
-        };
-        if let Some(place) = read_compact(alloc, line, &mut self.entry)? {
-            put_line(place, &self.entry.event, &self.entry.reply, &mut self.text)?;
-            if self.text.as_slice() == line {
-                self.place = place;
-                return Ok(Ok(()));
+        match self.read_guess(alloc, line) {
+            Ok(true) => return Ok(Ok(())),
+            Ok(false) => {}
+            // Other bytes than those of a text are no line, whatever they seem to tell, and take no memory.
+            Err(error) => {
+                if str::from_utf8(line).is_ok() {
+                    return Err(error);
+                }
             }
         }
         self.read_any(alloc, line)
