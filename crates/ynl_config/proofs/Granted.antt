@@ -12,7 +12,7 @@ use Rattle.ynl_queues.specs.declared.grants.Grant.{Grant}
 use Rattle.ynl_queues.specs.Grants.{total_at}
 use Rattle.ynl_queues.proofs.Totals.{StandBelow, total_below}
 use Rattle.ynl_resource.specs.Texts.{label_text, path_text}
-use Rattle.ynl_config.specs.Places.{nowhere, told_text}
+use Rattle.ynl_config.specs.Places.{Shown, nowhere, told_text}
 use Rattle.ynl_config.specs.GrantTests as test
 use Rattle.ynl_config.specs.RowPlaces as spec
 
@@ -31,7 +31,6 @@ module _ (c : Config) (queue : Path) (labels : Labels) (grants below : List Gran
       )
 
   -- the place of a sum is that of what stands just below the queue
-  pub sum_alike : (label : Label) (text : List ℕ) (sum : ℕ) → text ≡ path_text queue → sum ≡ total_at labels grants label
-      → record nowhere { queue = told_text text; label = told_text (label_text label); sum = Some sum } ≡ spec.at_sum c queue label
-  sum_alike label text sum written total =
-      λ i. record nowhere { queue = told_text (written i); label = told_text (label_text label); sum = Some ((total ∙ total_alike label) i) }
+  pub sum_alike : (label : Label) (text : Option Shown) (name : List ℕ) (sum : ℕ) → text ≡ told_text (path_text queue) → name ≡ label_text label → sum ≡ total_at labels grants label
+      → record nowhere { queue = text; label = told_text name; sum = Some sum } ≡ spec.at_sum c queue label
+  sum_alike label text name sum written named total = λ i. record nowhere { queue = written i; label = told_text (named i); sum = Some ((total ∙ total_alike label) i) }

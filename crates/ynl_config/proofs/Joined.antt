@@ -1,18 +1,13 @@
 -- Readings that are told together.
 use Rattle.std.proofs.Common.{◌≡◌, ℕ, List, Result, Ok, Err, Vec, Bor, refl, sym, ap, ◌∙◌}
 use Rattle.std.specs.declared.alloc.Global.{Global}
-use Rattle.ynl_model.specs.declared.labels.LabelRow.{LabelRow}
-use Rattle.ynl_model.specs.declared.queues.LabelCapacity.{LabelCapacity}
-use Rattle.ynl_queues.specs.Rows.{access_of}
-use Rattle.ynl_queues.specs.Written.{WrittenRow}
-use Rattle.ynl_queues.specs.declared.rows.Access.{Access as Kept}
 use Rattle.ynl_config.specs.declared.queues.Bounds.{Bounds}
 use Rattle.ynl_model.specs.declared.queues.LeafSettings.{LeafSettings}
 use Rattle.ynl_config.specs.declared.values.Version.{Version}
 use Rattle.ynl_config.specs.declared.written.Numbers.{Numbers}
 use Rattle.ynl_config.specs.Earliest.{ConfigFault, ◌>>=◌, both, made, items_in}
 use Rattle.ynl_config.specs.Readings.{Gives}
-use Rattle.ynl_config.specs.Seen.{access_in, queue_view, parts_view}
+use Rattle.ynl_config.specs.Seen.{KeptLabels, settings_view, queue_view, KeptRows, rows_view, parts_view}
 
 -- what follows on rows and one more reading has the fault that the two have together
 pub both_lost : {A B C : Type 0} (rows : Result (Vec A Global) ConfigFault) (row : Result B ConfigFault) (f : List A × B → Result C ConfigFault) (fault : ConfigFault)
@@ -43,25 +38,18 @@ made_given f (Err e) read h = sym h
 
 -- ---- a queue
 
-pub queue_seen : (keys : Result (Unit {0}) ConfigFault) (path : Result (Bor (List ℕ)) ConfigFault) (bounds : Result Bounds ConfigFault) (leaf : Result LeafSettings ConfigFault)
-    (access : Result Kept ConfigFault) (shares : Result (Vec LabelCapacity Global) ConfigFault)
-    → both keys (both (made (λ s. s.now) path) (both bounds (both leaf (both (access_in access) (items_in shares)))))
-    ≡ made queue_view (both keys (both path (both bounds (both leaf (both access shares)))))
-queue_seen keys path bounds leaf access shares =
-    ap (λ r. both keys (both (made (λ s. s.now) path) (both bounds (both leaf r)))) (made_both access_of (λ rows. rows.items) access shares)
-    ∙ ap (λ r. both keys (both (made (λ s. s.now) path) (both bounds r))) (both_made _ leaf (both access shares))
-    ∙ ap (λ r. both keys (both (made (λ s. s.now) path) r)) (both_made _ bounds (both leaf (both access shares)))
-    ∙ ap (both keys) (made_both (λ s. s.now) _ path (both bounds (both leaf (both access shares))))
-    ∙ both_made _ keys (both path (both bounds (both leaf (both access shares))))
+pub queue_seen : (keys : Result (Unit {0}) ConfigFault) (path : Result (Bor (List ℕ)) ConfigFault) (bounds : Result Bounds ConfigFault) (settings : Result (LeafSettings × KeptLabels) ConfigFault)
+    → both keys (both (made (λ s. s.now) path) (both bounds (made settings_view settings))) ≡ made queue_view (both keys (both path (both bounds settings)))
+queue_seen keys path bounds settings =
+    ap (λ r. both keys (both (made (λ s. s.now) path) r)) (both_made settings_view bounds settings)
+    ∙ ap (both keys) (made_both (λ s. s.now) _ path (both bounds settings))
+    ∙ both_made _ keys (both path (both bounds settings))
 
 -- ---- the whole text
 
-pub parts_seen : (keys : Result (Unit {0}) ConfigFault) (version : Result Version ConfigFault) (numbers : Result Numbers ConfigFault)
-    (labels : Result (Vec LabelRow Global) ConfigFault) (queues : Result (Vec WrittenRow Global) ConfigFault)
-    → both keys (both version (both numbers (both (items_in labels) (items_in queues))))
-    ≡ made parts_view (both keys (both version (both numbers (both labels queues))))
-parts_seen keys version numbers labels queues =
-    ap (λ r. both keys (both version (both numbers r))) (made_both (λ rows. rows.items) (λ rows. rows.items) labels queues)
-    ∙ ap (λ r. both keys (both version r)) (both_made _ numbers (both labels queues))
-    ∙ ap (both keys) (both_made _ version (both numbers (both labels queues)))
-    ∙ both_made _ keys (both version (both numbers (both labels queues)))
+pub parts_seen : (keys : Result (Unit {0}) ConfigFault) (version : Result Version ConfigFault) (numbers : Result Numbers ConfigFault) (rows : Result KeptRows ConfigFault)
+    → both keys (both version (both numbers (made rows_view rows))) ≡ made parts_view (both keys (both version (both numbers rows)))
+parts_seen keys version numbers rows =
+    ap (λ r. both keys (both version r)) (both_made rows_view numbers rows)
+    ∙ ap (both keys) (both_made _ version (both numbers rows))
+    ∙ both_made _ keys (both version (both numbers rows))

@@ -1,6 +1,7 @@
 pub mod Found
 pub mod Granted
 pub mod Joined
+pub mod KeyTables
 pub mod Known
 pub mod PlaceViews
 pub mod Placed

@@ -2,7 +2,9 @@ pub mod Access
 pub mod Anywhere
 pub mod Earliest
 pub mod GrantTests
+pub mod KeyTables
 pub mod Known
+pub mod Lent
 pub mod Meaning
 pub mod Misplaced
 pub mod Places

@@ -19,18 +19,38 @@ use Rattle.ynl_config.specs.Tables.{QueueParts, Parts}
 abbrev pub access_in : Result Kept ConfigFault → Result Access ConfigFault
 access_in = made access_of
 
+-- the labels that a queue may use and its shares of labels, as they are kept
+abbrev pub KeptLabels : Type 0
+KeptLabels = Kept × Vec LabelCapacity Global
+
+-- and as the model's values
+abbrev pub labels_view : KeptLabels → Access × List LabelCapacity
+labels_view p = (access_of p.0, p.1.items)
+
+-- a leaf's settings and a queue's labels, as the model's values
+abbrev pub settings_view : LeafSettings × KeptLabels → LeafSettings × (Access × List LabelCapacity)
+settings_view p = (p.0, labels_view p.1)
+
 -- what a queue's table says, as it is kept
 abbrev pub KeptQueue : Type 0
-KeptQueue = Unit {0} × (Bor (List ℕ) × (Bounds × (LeafSettings × (Kept × Vec LabelCapacity Global))))
+KeptQueue = Unit {0} × (Bor (List ℕ) × (Bounds × (LeafSettings × KeptLabels)))
 
 -- a queue's parts, as the model's values
 abbrev pub queue_view : KeptQueue → QueueParts
-queue_view p = (p.0, (p.1.0.now, (p.1.1.0, (p.1.1.1.0, (access_of p.1.1.1.1.0, p.1.1.1.1.1.items)))))
+queue_view p = (p.0, (p.1.0.now, (p.1.1.0, settings_view p.1.1.1)))
+
+-- labels and queues, as they are kept
+abbrev pub KeptRows : Type 0
+KeptRows = Vec LabelRow Global × Vec WrittenRow Global
+
+-- and as the model's values
+abbrev pub rows_view : KeptRows → List LabelRow × List WrittenRow
+rows_view p = (p.0.items, p.1.items)
 
 -- what a text says, as it is kept
 abbrev pub KeptParts : Type 0
-KeptParts = Unit {0} × (Version × (Numbers × (Vec LabelRow Global × Vec WrittenRow Global)))
+KeptParts = Unit {0} × (Version × (Numbers × KeptRows))
 
 -- the parts of a text, as the model's values
 abbrev pub parts_view : KeptParts → Parts
-parts_view p = (p.0, (p.1.0, (p.1.1.0, (p.1.1.1.0.items, p.1.1.1.1.items))))
+parts_view p = (p.0, (p.1.0, (p.1.1.0, rows_view p.1.1.1)))

@@ -1,6 +1,6 @@
 //! From a text to the configuration, or to its first fault and the place of that.
 
-ghost use Rattle.std.specs.Prelude.{◌≡◌, ◌<◌, length, IfOk, IfErr, true, unwrap_or, option_map, option_and_then};
+ghost use Rattle.std.specs.Prelude.{◌≡◌, ◌<◌, length, IfOk, IfErr, true, unwrap_or, option_and_then};
 ghost use Rattle.std.specs.Result.{IsOk, result_ok};
 ghost use Rattle.toml.specs.View.{table_view};
 ghost use Rattle.ynl_model.specs.Accepted.{is_accepted};
@@ -14,6 +14,7 @@ use crate::faults::ConfigFault;
 use crate::places::{Misplaced, Place};
 use crate::row_places::place_together;
 use crate::table_places::place_in_tables;
+use crate::telling::keep;
 use crate::written::written_in;
 use std::alloc::{AllocError, Global};
 use toml::Table;
@@ -38,34 +39,26 @@ fn syntax_line(alloc: Global, text: &[u8]) -> Result<Option<u64>, AllocError> {
 }
 
 /// The first place of a fault that rows have together.
-fn place_of_rows(
-    alloc: Global,
-    fault: ConfigFault,
-    table: &Table,
-) -> Result<Option<Place>, AllocError>
-    ensures { IfOk result (λ p. option_map place_of p ≡ option_and_then (place_together fault) (result_ok (written_in (table_view table.now)))) }
+fn place_of_rows(alloc: Global, fault: ConfigFault, table: &Table) -> Result<Place, AllocError>
+    ensures { IfOk result (λ p. place_of p ≡ unwrap_or (option_and_then (place_together fault) (result_ok (written_in (table_view table.now)))) nowhere) }
 {
     match written_in(alloc, table)? {
         Ok(written) => place_together(alloc, fault, written),
-        Err(_) => Ok(None),
+        Err(_) => Ok(Place::nowhere()),
     }
 }
 
 /// The first place of a fault.
 #[tactic(auto, unfolding(crate::specs::Misplaced::first_place))]
-fn first_place(
-    alloc: Global,
-    fault: ConfigFault,
-    table: &Table,
-) -> Result<Option<Place>, AllocError>
-    ensures { IfOk result (λ p. option_map place_of p ≡ first_place fault (table_view table.now)) }
+fn first_place(alloc: Global, fault: ConfigFault, table: &Table) -> Result<Place, AllocError>
+    ensures { IfOk result (λ p. place_of p ≡ unwrap_or (first_place fault (table_view table.now)) nowhere) }
 {
     if fault.is_of_tables() {
-        place_in_tables(alloc, fault, table)
+        keep(alloc, place_in_tables(alloc, fault, table)?)
     } else if fault.is_of_rows() {
         place_of_rows(alloc, fault, table)
     } else {
-        Ok(None)
+        Ok(Place::nowhere())
     }
 }
 
@@ -74,10 +67,7 @@ fn misplaced(alloc: Global, fault: ConfigFault, table: &Table) -> Result<Misplac
     ensures fault { IfOk result (λ m. m.fault ≡ fault) }
     ensures place { IfOk result (λ m. place_of m.place ≡ unwrap_or (first_place fault (table_view table.now)) nowhere) }
 {
-    let place = match first_place(alloc, fault, table)? {
-        Some(place) => place,
-        None => Place::nowhere(),
-    };
+    let place = first_place(alloc, fault, table)?;
     Ok(Misplaced { fault, place })
 }
 

@@ -4,6 +4,7 @@ ghost use Rattle.std.specs.Prelude.{◌≡◌};
 ghost use Rattle.ynl_config.specs.Anywhere.{same_fault};
 ghost use Rattle.ynl_config.specs.Earliest.{fault_word, rank, earlier, is_of_tables, is_of_rows};
 
+use std::fmt;
 use thiserror::Error;
 use ynl_model::{LabelFault, TreeFault};
 
@@ -12,61 +13,42 @@ use ynl_model::{LabelFault, TreeFault};
 #[derive(Clone, Copy, Debug, PartialEq, Eq, Error)]
 pub enum ConfigFault {
     /// The text is longer than 1,048,576 bytes.
-    #[error("the text is too long")]
     Size,
     /// The bytes are no TOML text.
-    #[error("not a TOML text")]
     Syntax,
     /// A table has a key that it cannot have.
-    #[error("an unknown key")]
     UnknownKey,
     /// The version, a label's name or a queue's path is not there.
-    #[error("a required key is missing")]
     MissingKey,
     /// A value is of another kind.
-    #[error("a value of another kind")]
     WrongKind,
     /// The version is neither 1 nor 2.
-    #[error("an unknown version")]
     Version,
     /// A number is out of its range, or a state is neither RUNNING nor STOPPED.
-    #[error("a number out of range, or an unknown state")]
     Range,
     /// A text is no name of a label.
-    #[error("not a label")]
     BadLabel,
     /// There are more than 64 labels.
-    #[error("more than 64 labels")]
     TooManyLabels,
     /// Two labels have one name.
-    #[error("two labels of one name")]
     DuplicateLabel,
     /// A path has more than eight names.
-    #[error("a path of more than eight names")]
     TooDeep,
     /// There are more than 1,024 queues, or more than 64 just below one.
-    #[error("too many queues")]
     TooMany,
     /// A path does not begin with `root.`, or has a part that is no name.
-    #[error("not a path")]
     BadPath,
     /// Two queues have one path.
-    #[error("two queues of one path")]
     DuplicateQueue,
     /// A queue's parent is neither root nor configured.
-    #[error("a queue without a parent")]
     NoParent,
     /// A queue names a label that is not configured.
-    #[error("an unknown label")]
     NoSuchLabel,
     /// A queue's labels are not within its parent's, or it speaks of one that it may not use.
-    #[error("labels that are not within the parent's")]
     NotSubset,
     /// A queue's maximum is below its capacity.
-    #[error("a maximum below the capacity")]
     MaximumBelowCapacity,
     /// The capacities just below a queue do not sum to the whole.
-    #[error("capacities that do not sum to the whole")]
     SumNot100,
 }
 
@@ -155,6 +137,18 @@ impl ConfigFault {
         } else {
             other
         }
+    }
+}
+
+impl fmt::Display for ConfigFault {
+    ghost use Rattle.std.specs.Prelude.{Some};
+    ghost use Rattle.ynl_config.specs.Earliest.{fault_word};
+
+    ghost output = { λ fault. Some (fault_word fault) };
+
+    fn fmt<W: fmt::Write>(&self, f: &mut fmt::Formatter<W>) -> fmt::Result {
+        let word = self.word();
+        write!(f, "{word}")
     }
 }
 

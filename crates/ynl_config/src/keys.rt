@@ -1,14 +1,17 @@
 //! Which keys a table of a configuration may have.
 
-ghost use Rattle.std.specs.Prelude.{◌≡◌, find, not, option_map, string_bytes};
+ghost use Rattle.std.specs.Prelude.{◌≡◌, find, option_map, string_bytes};
 ghost use Rattle.std.specs.List.{list_any};
 ghost use Rattle.std.specs.Str.{bytes_eq};
 ghost use Rattle.std.specs.BTreeMap.{keys};
 ghost use Rattle.toml.specs.View.{table_view};
 ghost use Rattle.ynl_config.specs.Known as spec;
-ghost use Rattle.ynl_config.specs.Places.{unknown_key};
+ghost use Rattle.ynl_config.specs.KeyTables.{is_faulty};
+ghost use Rattle.ynl_config.specs.Places.{is_name, keys_in, share_table, unknown_key};
 
 use crate::faults::ConfigFault;
+use crate::fields::find;
+use crate::values::name_of;
 use toml::Table;
 
 /// The tables of a configuration: the whole text, a label, a queue, and a queue's share of a label.
@@ -87,10 +90,50 @@ pub(crate) fn is_known(kind: TableKind, key: &str) -> bool
     }
 }
 
-fn unknown_entry(kind: TableKind, table: &Table) -> Option<&String>
-    ensures { option_map (λ key. key.now) result ≡ find (λ key. not (spec.is_known kind (string_bytes key))) (keys table.now) }
+/// Whether a text is the name of a label.
+pub(crate) fn is_name(text: &str) -> bool
+    ensures { result ≡ is_name text.now }
 {
-    table.keys().find(|key| !is_known(kind, key.as_str()))
+    name_of(text).is_ok()
+}
+
+/// The table at a key.
+pub(crate) fn table_at<'t>(table: &'t Table, key: &str) -> Option<&'t Table>
+    ensures { option_map (λ t. table_view t.now) result ≡ share_table (table_view table.now) key.now }
+{
+    match find(table, key) {
+        Some(value) => value.as_table(),
+        None => None,
+    }
+}
+
+/// What is wrong with a key of a table.
+#[derive(Clone, Copy)]
+pub(crate) enum KeyFault {
+    /// A table of this kind may not have it.
+    Unknown(TableKind),
+    /// It is the name of no label.
+    NoName,
+    /// No table stands there.
+    NoTable,
+}
+
+fn is_faulty(fault: KeyFault, table: &Table, key: &str) -> bool
+    ensures { result ≡ is_faulty fault (table_view table.now) key.now }
+{
+    match fault {
+        KeyFault::Unknown(kind) => !is_known(kind, key),
+        KeyFault::NoName => !is_name(key),
+        KeyFault::NoTable => table_at(table, key).is_none(),
+    }
+}
+
+fn faulty_entry(fault: KeyFault, table: &Table) -> Option<&String>
+    ensures { option_map (λ key. key.now) result ≡ find (λ key. is_faulty fault (table_view table.now) (string_bytes key)) (keys table.now) }
+{
+    table
+        .keys()
+        .find(|key| is_faulty(fault, table, key.as_str()))
 }
 
 /// The text of a key.
@@ -103,12 +146,19 @@ pub(crate) fn text_of_key(key: Option<&String>) -> Option<&str>
     }
 }
 
+/// The first key with the fault.
+pub(crate) fn faulty_key(fault: KeyFault, table: &Table) -> Option<&str>
+    ensures { option_map (λ key. key.now) result ≡ find (is_faulty fault (table_view table.now)) (keys_in (table_view table.now)) }
+{
+    text_of_key(faulty_entry(fault, table))
+}
+
 /// The first key that the table may not have.
 #[tactic(auto, unfolding(crate::specs::Places::unknown_key))]
 pub(crate) fn unknown_key(kind: TableKind, table: &Table) -> Option<&str>
     ensures { option_map (λ key. key.now) result ≡ unknown_key kind (table_view table.now) }
 {
-    text_of_key(unknown_entry(kind, table))
+    faulty_key(KeyFault::Unknown(kind), table)
 }
 
 /// Whether all keys are known, as a fault where they are not.

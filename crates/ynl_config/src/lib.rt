@@ -17,6 +17,7 @@ mod fields;
 mod keys;
 mod label_rows;
 mod law;
+mod lent;
 mod listed;
 mod places;
 mod queues;

@@ -1,7 +1,7 @@
 //! Where a fault of a configuration is.
 
-ghost use Rattle.std.specs.Prelude.{◌≡◌, option_map};
-ghost use Rattle.ynl_config.specs.Places.{told_of, place_of, nowhere, at_row, row_word};
+ghost use Rattle.std.specs.Prelude.{◌≡◌};
+ghost use Rattle.ynl_config.specs.Places.{place_of, nowhere, row_word};
 
 use crate::faults::ConfigFault;
 
@@ -83,19 +83,5 @@ impl Place {
             maximum: None,
             sum: None,
         }
-    }
-
-    /// The place of a row of this number.
-    pub(crate) fn at_row(kind: RowKind, row: u64, name: Option<ToldValue>) -> Place
-        ensures { place_of result ≡ at_row kind row (option_map told_of name) }
-    {
-        let mut place = Place::nowhere();
-        place.table = Some(kind);
-        place.row = Some(row);
-        match kind {
-            RowKind::Label => place.label = name,
-            RowKind::Queue => place.queue = name,
-        }
-        place
     }
 }

@@ -1,9 +1,10 @@
 //! The queues of a configuration.
 
-ghost use Rattle.std.specs.Prelude.{◌≡◌, IfOk, map, string_bytes};
+ghost use Rattle.std.specs.Prelude.{◌≡◌, IfOk, codes, map, string_bytes};
 ghost use Rattle.toml.specs.View.{table_view, view, items_view};
-ghost use Rattle.ynl_config.specs.Earliest.{all_of, items_in};
-ghost use Rattle.ynl_config.specs.Seen.{access_in, queue_view};
+ghost use Rattle.ynl_config.specs.Earliest.{all_of, both, items_in, made};
+ghost use Rattle.ynl_config.specs.Readings.{number_at, percent_at};
+ghost use Rattle.ynl_config.specs.Seen.{access_in, labels_view, settings_view, queue_view};
 ghost use Rattle.ynl_config.specs.Tables.{in_table, queue_in, share_of, pairs_in, values_in};
 ghost use Rattle.ynl_config.specs.Tables as spec;
 
@@ -27,7 +28,7 @@ struct Bounds {
     maximum: Hundredths,
 }
 
-pub(crate) fn tenth() -> Hundredths
+fn tenth() -> Hundredths
     ensures { result ≡ 1000 }
 {
     match Hundredths::new(1000) {
@@ -36,14 +37,20 @@ pub(crate) fn tenth() -> Hundredths
     }
 }
 
+/// Capacity and maximum.
+fn capacities_at(table: &Table, version: Version) -> Result<(Hundredths, Hundredths), ConfigFault>
+    ensures { result ≡ spec.capacities_at version (table_view table.now) }
+{
+    let capacity = percent_at(table, "capacity", version, 0, Hundredths::NOTHING);
+    let maximum = percent_at(table, "maximum-capacity", version, 0, Hundredths::WHOLE);
+    both(capacity, maximum)
+}
+
 fn share_in(table: &Table, version: Version, name: &str) -> Result<LabelCapacity, ConfigFault>
     ensures { result ≡ spec.share_in version name.now (table_view table.now) }
 {
     let keys = known_keys(TableKind::LabelCapacity, table);
-    let label = name_of(name);
-    let capacity = percent_at(table, "capacity", version, 0, Hundredths::NOTHING);
-    let maximum = percent_at(table, "maximum-capacity", version, 0, Hundredths::WHOLE);
-    match both(keys, both(label, both(capacity, maximum))) {
+    match both(keys, both(name_of(name), capacities_at(table, version))) {
         Ok((_, (label, (capacity, maximum)))) => Ok(LabelCapacity {
             label,
             capacity,
@@ -97,10 +104,7 @@ fn shares_at(
 fn bounds_in(table: &Table, version: Version) -> Result<Bounds, ConfigFault>
     ensures { result ≡ spec.bounds_in version (table_view table.now) }
 {
-    let stopped = stopped_at(table, "state");
-    let capacity = percent_at(table, "capacity", version, 0, Hundredths::NOTHING);
-    let maximum = percent_at(table, "maximum-capacity", version, 0, Hundredths::WHOLE);
-    match both(stopped, both(capacity, maximum)) {
+    match both(stopped_at(table, "state"), capacities_at(table, version)) {
         Ok((stopped, share)) => Ok(Bounds {
             stopped,
             capacity: share.0,
@@ -108,6 +112,18 @@ fn bounds_in(table: &Table, version: Version) -> Result<Bounds, ConfigFault>
         }),
         Err(fault) => Err(fault),
     }
+}
+
+/// How often a user may take that much, how much masters may take, and the most applications.
+fn limits_in(table: &Table, version: Version) -> Result<(u16, (Hundredths, u32)), ConfigFault>
+    ensures { result ≡ both (number_at (codes "user-limit-factor") 1 10000 100 (table_view table.now))
+        (both (percent_at (codes "maximum-am-resource-percent") version 0 1000 (table_view table.now))
+        (number_at (codes "maximum-applications") 1 1000000 10000 (table_view table.now))) }
+{
+    let factor = factor_at(table, "user-limit-factor", 10000, 100);
+    let masters = percent_at(table, "maximum-am-resource-percent", version, 0, tenth());
+    let most = count_at(table, "maximum-applications", 1000000, 10000);
+    both(factor, both(masters, most))
 }
 
 fn leaf_in(table: &Table, version: Version) -> Result<LeafSettings, ConfigFault>
@@ -121,10 +137,7 @@ fn leaf_in(table: &Table, version: Version) -> Result<LeafSettings, ConfigFault>
         1,
         Hundredths::WHOLE,
     );
-    let factor = factor_at(table, "user-limit-factor", 10000, 100);
-    let masters = percent_at(table, "maximum-am-resource-percent", version, 0, tenth());
-    let most = count_at(table, "maximum-applications", 1000000, 10000);
-    match both(label, both(user, both(factor, both(masters, most)))) {
+    match both(label, both(user, limits_in(table, version))) {
         Ok((label, (user, (factor, (masters, most))))) => Ok(LeafSettings {
             default_label: label,
             minimum_user_limit_percent: user,
@@ -149,14 +162,36 @@ pub(crate) fn access_at(
     }
 }
 
+/// The labels that a queue may use, and its shares of labels.
+type QueueLabels = (Access, Vec<LabelCapacity>);
+
+fn labels_in(
+    alloc: Global,
+    table: &Table,
+    version: Version,
+) -> Result<Result<QueueLabels, ConfigFault>, AllocError>
+    ensures { IfOk result (λ read. made labels_view read ≡ both (spec.access_at (table_view table.now)) (spec.shares_at version (table_view table.now))) }
+{
+    let access = access_at(alloc, table)?;
+    let shares = shares_at(alloc, table, version)?;
+    Ok(both(access, shares))
+}
+
+/// The settings that work in leaves alone, and a queue's labels.
+fn settings_in(
+    alloc: Global,
+    table: &Table,
+    version: Version,
+) -> Result<Result<(LeafSettings, QueueLabels), ConfigFault>, AllocError>
+    ensures { IfOk result (λ read. made settings_view read
+        ≡ both (spec.leaf_in version (table_view table.now)) (both (spec.access_at (table_view table.now)) (spec.shares_at version (table_view table.now)))) }
+{
+    let labels = labels_in(alloc, table, version)?;
+    Ok(both(leaf_in(table, version), labels))
+}
+
 /// What a queue's table says: its keys, its path, and its settings.
-type QueueParts<'t> = (
-    (),
-    (
-        &'t str,
-        (Bounds, (LeafSettings, (Access, Vec<LabelCapacity>))),
-    ),
-);
+type QueueParts<'t> = ((), (&'t str, (Bounds, (LeafSettings, QueueLabels))));
 
 fn queue_of_parts(alloc: Global, parts: QueueParts<'_>) -> Result<WrittenQueue, AllocError>
     ensures { IfOk result (λ queue. queue ≡ spec.queue_row (queue_view parts.entry)) }
@@ -184,13 +219,8 @@ fn queue_in(
     let keys = known_keys(TableKind::Queue, table);
     let path = text_at(table, "path");
     let bounds = bounds_in(table, version);
-    let leaf = leaf_in(table, version);
-    let access = access_at(alloc, table)?;
-    let shares = shares_at(alloc, table, version)?;
-    match both(
-        keys,
-        both(path, both(bounds, both(leaf, both(access, shares)))),
-    ) {
+    let settings = settings_in(alloc, table, version)?;
+    match both(keys, both(path, both(bounds, settings))) {
         Ok(parts) => {
             let queue = queue_of_parts(alloc, parts)?;
             Ok(Ok(queue))

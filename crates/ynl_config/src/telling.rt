@@ -1,11 +1,13 @@
-//! Values as they are told.
+//! Values as they are told, and places as they are kept.
 
 ghost use Rattle.std.specs.Prelude.{◌≡◌, IfOk, option_map};
 ghost use Rattle.toml.specs.View.{table_view, view};
 ghost use Rattle.ynl_config.specs.Places.{told_of, place_of};
 ghost use Rattle.ynl_config.specs.Places as spec;
+ghost use Rattle.ynl_config.specs.Lent.{shown_of, shown, lent_of, found_of};
 
 use crate::fields::find;
+use crate::lent::{LentPlace, LentValue};
 use crate::places::{Place, ToldValue};
 use std::alloc::{AllocError, Global};
 use toml::{Table, Value};
@@ -13,8 +15,32 @@ use toml::{Table, Value};
 /// The most bytes of a text that is told.
 const MOST_TOLD: usize = 256;
 
-/// The text as it is told, unless it is too long.
-pub(crate) fn told_text(alloc: Global, text: &str) -> Result<Option<ToldValue>, AllocError>
+/// The value, if it is a text or an integer.
+#[tactic(auto, unfolding(crate::specs::Places::told))]
+fn lent(value: &Value) -> Option<LentValue<'_>>
+    ensures { shown result ≡ spec.told (view value.now) }
+{
+    if let Some(text) = value.as_str() {
+        return Some(LentValue::Text(text));
+    }
+    match value.as_integer() {
+        Some(integer) => Some(LentValue::Integer(integer)),
+        None => None,
+    }
+}
+
+/// What is told of the value at a key.
+pub(crate) fn lent_at<'t>(table: &'t Table, key: &str) -> Option<LentValue<'t>>
+    ensures { shown result ≡ spec.told_at key.now (table_view table.now) }
+{
+    match find(table, key) {
+        Some(value) => lent(value),
+        None => None,
+    }
+}
+
+/// The text as it is kept, unless it is too long.
+fn kept_text(alloc: Global, text: &str) -> Result<Option<ToldValue>, AllocError>
     ensures { IfOk result (λ told. option_map told_of told ≡ spec.told_text text.now) }
 {
     if text.len() > MOST_TOLD {
@@ -24,53 +50,57 @@ pub(crate) fn told_text(alloc: Global, text: &str) -> Result<Option<ToldValue>, 
     Ok(Some(ToldValue::Text(text)))
 }
 
-/// The value as it is told, if it is a text or an integer.
-#[tactic(auto, unfolding(crate::specs::Places::told))]
-pub(crate) fn told(alloc: Global, value: &Value) -> Result<Option<ToldValue>, AllocError>
-    ensures { IfOk result (λ told. option_map told_of told ≡ spec.told (view value.now)) }
+/// The value as it is kept.
+fn kept_value(alloc: Global, value: LentValue<'_>) -> Result<Option<ToldValue>, AllocError>
+    ensures { IfOk result (λ told. option_map told_of told ≡ shown_of value.entry) }
 {
-    if let Some(text) = value.as_str() {
-        return told_text(alloc, text);
+    match value {
+        LentValue::Text(text) => kept_text(alloc, text),
+        LentValue::Path(path) => {
+            let text = path.text(alloc)?;
+            kept_text(alloc, text.as_str())
+        }
+        LentValue::Integer(integer) => Ok(Some(ToldValue::Integer(integer))),
+        LentValue::Count(count) => Ok(Some(ToldValue::Count(count))),
     }
-    match value.as_integer() {
-        Some(integer) => Ok(Some(ToldValue::Integer(integer))),
+}
+
+fn kept(alloc: Global, value: Option<LentValue<'_>>) -> Result<Option<ToldValue>, AllocError>
+    ensures { IfOk result (λ told. option_map told_of told ≡ shown value.entry) }
+{
+    match value {
+        Some(value) => kept_value(alloc, value),
         None => Ok(None),
     }
 }
 
-/// What is told of the value at a key.
-pub(crate) fn told_at(
-    alloc: Global,
-    table: &Table,
-    key: &str,
-) -> Result<Option<ToldValue>, AllocError>
-    ensures { IfOk result (λ told. option_map told_of told ≡ spec.told_at key.now (table_view table.now)) }
+fn kept_place(alloc: Global, place: LentPlace<'_>) -> Result<Place, AllocError>
+    ensures { IfOk result (λ p. place_of p ≡ lent_of place.entry) }
 {
-    match find(table, key) {
-        Some(value) => told(alloc, value),
-        None => Ok(None),
-    }
+    let queue = kept(alloc, place.queue)?;
+    let label = kept(alloc, place.label)?;
+    let key = kept(alloc, place.key)?;
+    let value = kept(alloc, place.value)?;
+    Ok(Place {
+        table: place.table,
+        row: place.row,
+        queue,
+        label,
+        key,
+        value,
+        line: None,
+        capacity: place.capacity,
+        maximum: place.maximum,
+        sum: place.sum,
+    })
 }
 
-// They take the place, so that no caller has one to let go where memory is refused.
-impl Place {
-    /// The place with this key.
-    pub(crate) fn with_key(self, alloc: Global, key: &str) -> Result<Place, AllocError>
-        ensures { IfOk result (λ p. place_of p
-            ≡ record (place_of self) { key = spec.told_text key.now }) }
-    {
-        let mut place = self;
-        place.key = told_text(alloc, key)?;
-        Ok(place)
-    }
-
-    /// The place with this label.
-    pub(crate) fn with_label(self, alloc: Global, label: &str) -> Result<Place, AllocError>
-        ensures { IfOk result (λ p. place_of p
-            ≡ record (place_of self) { label = spec.told_text label.now }) }
-    {
-        let mut place = self;
-        place.label = told_text(alloc, label)?;
-        Ok(place)
+/// The place that was found, as it is kept.
+pub(crate) fn keep(alloc: Global, found: Option<LentPlace<'_>>) -> Result<Place, AllocError>
+    ensures { IfOk result (λ p. place_of p ≡ found_of found.entry) }
+{
+    match found {
+        Some(place) => kept_place(alloc, place),
+        None => Ok(Place::nowhere()),
     }
 }

@@ -8,41 +8,35 @@ ghost use Rattle.ynl_resource.specs.Ranges.{most_queues};
 ghost use Rattle.ynl_resource.specs.declared.labels.Label.TheVariants.{Named};
 ghost use Rattle.ynl_model.specs.Nodes.{partition_labels};
 ghost use Rattle.ynl_model.specs.Queues.{may_use};
-ghost use Rattle.ynl_config.specs.Places.{place_of, first_from, nowhere, told_text};
+ghost use Rattle.ynl_config.specs.Places.{first_from, nowhere, told_text};
 ghost use Rattle.ynl_config.specs.GrantTests as test;
 ghost use Rattle.ynl_config.specs.RowPlaces as spec;
+ghost use Rattle.ynl_config.specs.Lent.{shown_of, lent_of, seen, label_of};
 ghost use Rattle.ynl_config.specs.Misplaced.{place_at_queue, place_in_tree};
 
 use crate::faults::ConfigFault;
-use crate::places::{Place, RowKind};
-use crate::telling::told_text;
+use crate::lent::{LentPlace, LentValue};
+use crate::places::RowKind;
 use std::alloc::{AllocError, Global};
 use ynl_model::LabelCapacity;
 use ynl_queues::labels::Labels;
 use ynl_queues::{Draft, Grant, QueueRow, parent_of, total_capacity};
 use ynl_resource::{Label, Name, Path, WHOLE};
 
-fn path_place(alloc: Global, number: u64, path: &Path) -> Result<Place, AllocError>
-    ensures { IfOk result (λ p. place_of p ≡ spec.path_place number path.now) }
+fn path_place(number: u64, path: &Path) -> LentPlace<'_>
+    ensures { lent_of result ≡ spec.path_place number path.now }
 {
-    let text = path.text(alloc)?;
-    let told = told_text(alloc, text.as_str())?;
-    Ok(Place::at_row(RowKind::Queue, number, told))
+    LentPlace::at_row(RowKind::Queue, number, Some(LentValue::Path(path)))
 }
 
 /// The place of the row, if a fault is there.
-fn if_there(
-    alloc: Global,
-    there: bool,
-    number: u64,
-    path: &Path,
-) -> Result<Option<Place>, AllocError>
-    ensures { IfOk result (λ p. option_map place_of p ≡ spec.if_there there (spec.path_place number path.now)) }
+fn if_there(there: bool, number: u64, path: &Path) -> Option<LentPlace<'_>>
+    ensures { option_map lent_of result ≡ spec.if_there there (spec.path_place number path.now) }
 {
     if there {
-        Ok(Some(path_place(alloc, number, path)?))
+        Some(path_place(number, path))
     } else {
-        Ok(None)
+        None
     }
 }
 
@@ -52,72 +46,58 @@ fn has_path(rows: &[QueueRow], count: usize, path: &Path) -> bool
     rows.iter().take(count).any(|other| *path == other.path)
 }
 
-fn repeated_queue(
-    alloc: Global,
-    config: &Draft,
-    number: u64,
-    row: &QueueRow,
-) -> Result<Option<Place>, AllocError>
-    ensures { IfOk result (λ p. option_map place_of p ≡ spec.repeated_queue config.now number row.now) }
+fn repeated_queue<'t>(config: &Draft, number: u64, row: &'t QueueRow) -> Option<LentPlace<'t>>
+    ensures { option_map lent_of result ≡ spec.repeated_queue config.now number row.now }
 {
     let before = (number as usize).saturating_sub(1);
     let there = has_path(config.queues(), before, &row.path);
-    if_there(alloc, there, number, &row.path)
+    if_there(there, number, &row.path)
 }
 
-fn orphan(
-    alloc: Global,
-    config: &Draft,
-    number: u64,
-    row: &QueueRow,
-) -> Result<Option<Place>, AllocError>
-    ensures { IfOk result (λ p. option_map place_of p ≡ spec.orphan config.now number row.now) }
+fn orphan<'t>(config: &Draft, number: u64, row: &'t QueueRow) -> Option<LentPlace<'t>>
+    ensures { option_map lent_of result ≡ spec.orphan config.now number row.now }
 {
     let there = !config.is_queue(parent_of(row.path.names()));
-    if_there(alloc, there, number, &row.path)
+    if_there(there, number, &row.path)
 }
 
 /// The place at a key of a queue's row, and the label at fault there.
-fn at_label(
-    alloc: Global,
-    number: u64,
-    path: &Path,
-    key: &str,
-    label: &Label,
-) -> Result<Place, AllocError>
-    ensures { IfOk result (λ p. place_of p ≡ spec.at_label number path.now key.now label.now) }
+fn at_label<'t>(number: u64, path: &'t Path, key: &'t str, label: &'t str) -> LentPlace<'t>
+    ensures { lent_of result ≡ record (spec.path_place number path.now) { key = told_text key.now; label = told_text label.now } }
 {
-    let place = path_place(alloc, number, path)?.with_key(alloc, key)?;
-    place.with_label(alloc, label.as_str())
+    let mut place = path_place(number, path);
+    place.key = Some(LentValue::Text(key));
+    place.label = Some(LentValue::Text(label));
+    place
 }
 
 /// The labels at fault of a queue's row: of those listed, the default label, and of those of its shares.
 #[derive(Clone, Copy)]
-struct AtFault {
-    listed: Option<Name>,
-    default: Option<Label>,
-    shared: Option<Name>,
+struct AtFault<'t> {
+    listed: Option<&'t Name>,
+    default: Option<&'t Label>,
+    shared: Option<&'t Name>,
 }
 
 /// The place of the first of the labels at fault.
-fn label_at_fault(
-    alloc: Global,
-    number: u64,
-    path: &Path,
-    labels: AtFault,
-) -> Result<Option<Place>, AllocError>
-    ensures { IfOk result (λ p. option_map place_of p ≡ spec.label_at_fault number path.now labels.listed labels.default labels.shared) }
+fn label_at_fault<'t>(number: u64, path: &'t Path, labels: AtFault<'t>) -> Option<LentPlace<'t>>
+    ensures { option_map lent_of result
+        ≡ spec.label_at_fault number path.now (seen labels.entry.listed) (seen labels.entry.default) (seen labels.entry.shared) }
 {
-    let (key, label) = if let Some(name) = labels.listed {
-        ("accessible-node-labels", Label::Named(name))
+    if let Some(name) = labels.listed {
+        Some(at_label(number, path, "accessible-node-labels", name.as_str()))
     } else if let Some(label) = labels.default {
-        ("default-node-label-expression", label)
+        Some(at_label(
+            number,
+            path,
+            "default-node-label-expression",
+            label.as_str(),
+        ))
     } else if let Some(name) = labels.shared {
-        ("label", Label::Named(name))
+        Some(at_label(number, path, "label", name.as_str()))
     } else {
-        return Ok(None);
-    };
-    Ok(Some(at_label(alloc, number, path, key, &label)?))
+        None
+    }
 }
 
 fn is_unknown(config: &Draft, name: Name) -> bool
@@ -126,69 +106,64 @@ fn is_unknown(config: &Draft, name: Name) -> bool
     !config.labels().has(&Label::Named(name))
 }
 
-fn unknown_listed(config: &Draft, row: &QueueRow) -> Option<Name>
-    ensures { result ≡ spec.unknown_listed config.now row.now }
+fn unknown_listed<'t>(config: &Draft, row: &'t QueueRow) -> Option<&'t Name>
+    ensures { seen result ≡ spec.unknown_listed config.now row.now }
 {
     unknown_name(config, row.access.listed())
 }
 
-fn unknown_name(config: &Draft, names: &[Name]) -> Option<Name>
-    ensures { result ≡ find (spec.is_unknown config.now) names.now }
+fn unknown_name<'t>(config: &Draft, names: &'t [Name]) -> Option<&'t Name>
+    ensures { seen result ≡ find (spec.is_unknown config.now) names.now }
 {
     for i in 0..names.len() {
         if is_unknown(config, names[i]) {
-            return Some(names[i]);
+            return Some(&names[i]);
         }
     }
     None
 }
 
-fn unknown_share(config: &Draft, shares: &[LabelCapacity]) -> Option<Name>
-    ensures { result ≡ find (spec.is_unknown config.now) (map (λ given. given.label) shares.now) }
+fn unknown_share<'t>(config: &Draft, shares: &'t [LabelCapacity]) -> Option<&'t Name>
+    ensures { seen result ≡ find (spec.is_unknown config.now) (map (λ given. given.label) shares.now) }
 {
     for i in 0..shares.len() {
         if is_unknown(config, shares[i].label) {
-            return Some(shares[i].label);
+            return Some(&shares[i].label);
         }
     }
     None
 }
 
-fn unknown_shared(config: &Draft, row: &QueueRow) -> Option<Name>
-    ensures { result ≡ spec.unknown_shared config.now row.now }
+fn unknown_shared<'t>(config: &Draft, row: &'t QueueRow) -> Option<&'t Name>
+    ensures { seen result ≡ spec.unknown_shared config.now row.now }
 {
     unknown_share(config, &row.capacities)
 }
 
-fn unknown_default(config: &Draft, row: &QueueRow) -> Option<Label>
-    ensures { result ≡ spec.unknown_default config.now row.now }
+fn unknown_default<'t>(config: &Draft, row: &'t QueueRow) -> Option<&'t Label>
+    ensures { seen result ≡ spec.unknown_default config.now row.now }
 {
-    let default = row.leaf.default_label;
-    label_if(!config.labels().has(&default), default)
+    let default = &row.leaf.default_label;
+    label_if(!config.labels().has(default), default)
 }
 
 /// The label, if a fault is there.
-fn label_if(there: bool, label: Label) -> Option<Label>
-    ensures { result ≡ spec.label_if there label }
+fn label_if(there: bool, label: &Label) -> Option<&Label>
+    ensures { seen result ≡ spec.label_if there label.now }
 {
     if there { Some(label) } else { None }
 }
 
 #[tactic(auto, unfolding(crate::specs::RowPlaces::unknown_label))]
-fn unknown_label(
-    alloc: Global,
-    config: &Draft,
-    number: u64,
-    row: &QueueRow,
-) -> Result<Option<Place>, AllocError>
-    ensures { IfOk result (λ p. option_map place_of p ≡ spec.unknown_label config.now number row.now) }
+fn unknown_label<'t>(config: &Draft, number: u64, row: &'t QueueRow) -> Option<LentPlace<'t>>
+    ensures { option_map lent_of result ≡ spec.unknown_label config.now number row.now }
 {
     let found = AtFault {
         listed: unknown_listed(config, row),
         default: unknown_default(config, row),
         shared: unknown_shared(config, row),
     };
-    label_at_fault(alloc, number, &row.path, found)
+    label_at_fault(number, &row.path, found)
 }
 
 /// Whether a queue may use a label that the one above it may not.
@@ -199,8 +174,8 @@ fn goes_beyond(labels: &Labels, queue: &Grant, above: &Grant, name: Name) -> boo
     queue.may_use(labels, &label) && !above.may_use(labels, &label)
 }
 
-fn name_beyond(config: &Draft, queue: &[Name]) -> Option<Name>
-    ensures { result ≡ find (spec.goes_beyond config.now queue.now) (spec.names_of config.now) }
+fn name_beyond<'t>(config: &'t Draft, queue: &[Name]) -> Option<&'t Name>
+    ensures { seen result ≡ find (spec.goes_beyond config.now queue.now) (spec.names_of config.now) }
 {
     let labels = config.labels();
     let below = config.grant(queue);
@@ -208,43 +183,65 @@ fn name_beyond(config: &Draft, queue: &[Name]) -> Option<Name>
     let rows = labels.rows();
     for i in 0..rows.len() {
         if goes_beyond(labels, &below, &above, rows[i].name) {
-            return Some(rows[i].name);
+            return Some(&rows[i].name);
         }
     }
     None
 }
 
-fn share_beyond(config: &Draft, row: &QueueRow) -> Option<Name>
-    ensures { result ≡ find (λ name. not (may_use config.now row.now.path (Named name))) (map (λ given. given.label) row.now.capacities) }
+fn share_beyond<'t>(config: &Draft, row: &'t QueueRow) -> Option<&'t Name>
+    ensures { seen result ≡ find (λ name. not (may_use config.now row.now.path (Named name))) (map (λ given. given.label) row.now.capacities) }
 {
     let labels = config.labels();
     let queue = config.grant(row.path.names());
     let shares = row.capacities.as_slice();
     for i in 0..shares.len() {
         if !queue.may_use(labels, &Label::Named(shares[i].label)) {
-            return Some(shares[i].label);
+            return Some(&shares[i].label);
         }
     }
     None
 }
 
 #[tactic(auto, unfolding(crate::specs::RowPlaces::label_beyond))]
-fn label_beyond(
-    alloc: Global,
-    config: &Draft,
-    number: u64,
-    row: &QueueRow,
-) -> Result<Option<Place>, AllocError>
-    ensures { IfOk result (λ p. option_map place_of p ≡ spec.label_beyond config.now number row.now) }
+fn label_beyond<'t>(config: &'t Draft, number: u64, row: &'t QueueRow) -> Option<LentPlace<'t>>
+    ensures { option_map lent_of result ≡ spec.label_beyond config.now number row.now }
 {
     let queue = row.path.names();
-    let default = row.leaf.default_label;
+    let default = &row.leaf.default_label;
     let found = AtFault {
         listed: name_beyond(config, queue),
-        default: label_if(!config.may_use(queue, &default), default),
+        default: label_if(!config.may_use(queue, default), default),
         shared: share_beyond(config, row),
     };
-    label_at_fault(alloc, number, &row.path, found)
+    label_at_fault(number, &row.path, found)
+}
+
+/// A partition, by the name of its label.
+#[derive(Clone, Copy)]
+enum Partition<'t> {
+    Default,
+    Labelled(&'t Name),
+}
+
+impl<'t> Partition<'t> {
+    fn label(self) -> Label
+        ensures { result ≡ label_of self.entry }
+    {
+        match self {
+            Partition::Default => Label::Unlabelled,
+            Partition::Labelled(name) => Label::Named(*name),
+        }
+    }
+
+    fn text(self) -> &'t str
+        ensures { result.now ≡ label_text (label_of self.entry) }
+    {
+        match self {
+            Partition::Default => "",
+            Partition::Labelled(name) => name.as_str(),
+        }
+    }
 }
 
 fn is_low(labels: &Labels, queue: &Grant, label: &Label) -> bool
@@ -255,41 +252,36 @@ fn is_low(labels: &Labels, queue: &Grant, label: &Label) -> bool
     capacity > maximum
 }
 
-fn low_partition(labels: &Labels, queue: &Grant) -> Option<Label>
-    ensures { result ≡ find (test.is_low labels.now queue.now) (partition_labels labels.now) }
+fn low_partition<'t>(labels: &'t Labels, queue: &Grant) -> Option<Partition<'t>>
+    ensures { option_map label_of result ≡ find (test.is_low labels.now queue.now) (partition_labels labels.now) }
 {
     if is_low(labels, queue, &Label::Unlabelled) {
-        return Some(Label::Unlabelled);
+        return Some(Partition::Default);
     }
     let rows = labels.rows();
     for i in 0..rows.len() {
-        let label = Label::Named(rows[i].name);
-        if is_low(labels, queue, &label) {
-            return Some(label);
+        if is_low(labels, queue, &Label::Named(rows[i].name)) {
+            return Some(Partition::Labelled(&rows[i].name));
         }
     }
     None
 }
 
 #[tactic(auto, unfolding(crate::specs::RowPlaces::low_maximum))]
-fn low_maximum(
-    alloc: Global,
-    config: &Draft,
-    number: u64,
-    row: &QueueRow,
-) -> Result<Option<Place>, AllocError>
-    ensures { IfOk result (λ p. option_map place_of p ≡ spec.low_maximum config.now number row.now) }
+fn low_maximum<'t>(config: &'t Draft, number: u64, row: &'t QueueRow) -> Option<LentPlace<'t>>
+    ensures { option_map lent_of result ≡ spec.low_maximum config.now number row.now }
 {
     let labels = config.labels();
     let queue = config.grant(row.path.names());
-    let Some(label) = low_partition(labels, &queue) else {
-        return Ok(None);
+    let Some(partition) = low_partition(labels, &queue) else {
+        return None;
     };
-    let mut place = path_place(alloc, number, &row.path)?;
-    place.label = told_text(alloc, label.as_str())?;
+    let label = partition.label();
+    let mut place = path_place(number, &row.path);
+    place.label = Some(LentValue::Text(partition.text()));
     place.capacity = Some(queue.capacity_on(labels, &label).number());
     place.maximum = Some(queue.maximum_on(labels, &label).number());
-    Ok(Some(place))
+    Some(place)
 }
 
 /// Whether what queues have together is the whole of a partition, or nothing of a label.
@@ -304,104 +296,107 @@ fn comes_out(labels: &Labels, queues: &[Grant], label: &Label) -> bool
     }
 }
 
-fn odd_partition(labels: &Labels, queues: &[Grant]) -> Option<Label>
+fn odd_partition<'t>(labels: &'t Labels, queues: &[Grant]) -> Option<Partition<'t>>
     requires { length queues.now ≤ most_queues }
-    ensures { result ≡ find (λ label. not (test.comes_out labels.now queues.now label)) (partition_labels labels.now) }
+    ensures { option_map label_of result ≡ find (λ label. not (test.comes_out labels.now queues.now label)) (partition_labels labels.now) }
 {
     if !comes_out(labels, queues, &Label::Unlabelled) {
-        return Some(Label::Unlabelled);
+        return Some(Partition::Default);
     }
     let rows = labels.rows();
     for i in 0..rows.len() {
-        let label = Label::Named(rows[i].name);
-        if !comes_out(labels, queues, &label) {
-            return Some(label);
+        if !comes_out(labels, queues, &Label::Named(rows[i].name)) {
+            return Some(Partition::Labelled(&rows[i].name));
         }
     }
     None
 }
 
-/// The place of a sum on a partition, with the queue's text.
-fn sum_place(alloc: Global, text: &str, label: &Label, sum: u64) -> Result<Place, AllocError>
-    ensures { IfOk result (λ p. place_of p ≡ record nowhere { queue = told_text text.now; label = told_text (label_text label.now); sum = Some sum }) }
+/// The place of a sum on a partition.
+fn sum_place<'t>(queue: LentValue<'t>, label: &'t str, sum: u64) -> LentPlace<'t>
+    ensures { lent_of result ≡ record nowhere { queue = shown_of queue.entry; label = told_text label.now; sum = Some sum } }
 {
-    let queue = told_text(alloc, text)?;
-    let mut place = Place::nowhere();
-    place.queue = queue;
-    place.sum = Some(sum);
-    place.with_label(alloc, label.as_str())
+    LentPlace {
+        queue: Some(queue),
+        label: Some(LentValue::Text(label)),
+        sum: Some(sum),
+        ..LentPlace::nowhere()
+    }
 }
 
 /// The place of the first partition of which what stands just below a queue comes to something else, with the
 /// queue's text.
-fn wrong_sum(
+fn wrong_sum<'t>(
     alloc: Global,
-    config: &Draft,
+    config: &'t Draft,
     queue: &[Name],
-    text: &str,
-) -> Result<Option<Place>, AllocError>
+    text: LentValue<'t>,
+) -> Result<Option<LentPlace<'t>>, AllocError>
     requires few { length config.now.queues ≤ most_queues }
-    requires text { text.now ≡ path_text queue.now }
-    ensures { IfOk result (λ p. option_map place_of p ≡ spec.wrong_sum config.now queue.now) }
+    requires text { shown_of text ≡ told_text (path_text queue.now) }
+    ensures { IfOk result (λ p. option_map lent_of p ≡ spec.wrong_sum config.now queue.now) }
 {
     let labels = config.labels();
     let below = config.grants_below(alloc, queue)?;
-    let Some(label) = odd_partition(labels, &below) else {
+    let Some(partition) = odd_partition(labels, &below) else {
         return Ok(None);
     };
-    let sum = total_capacity(labels, &below, &label);
-    Ok(Some(sum_place(alloc, text, &label, sum)?))
+    let sum = total_capacity(labels, &below, &partition.label());
+    Ok(Some(sum_place(text, partition.text(), sum)))
 }
 
 #[tactic(auto, unfolding(ynl_resource::specs::Texts::path_text))]
-fn wrong_root(alloc: Global, config: &Draft) -> Result<Option<Place>, AllocError>
+fn wrong_root(alloc: Global, config: &Draft) -> Result<Option<LentPlace<'_>>, AllocError>
     requires { length config.now.queues ≤ most_queues }
-    ensures { IfOk result (λ p. option_map place_of p ≡ spec.wrong_sum config.now root) }
+    ensures { IfOk result (λ p. option_map lent_of p ≡ spec.wrong_sum config.now root) }
 {
-    wrong_sum(alloc, config, &[], "root")
+    wrong_sum(alloc, config, &[], LentValue::Text("root"))
 }
 
-fn wrong_parent(alloc: Global, config: &Draft, row: &QueueRow) -> Result<Option<Place>, AllocError>
+fn wrong_parent<'t>(
+    alloc: Global,
+    config: &'t Draft,
+    row: &'t QueueRow,
+) -> Result<Option<LentPlace<'t>>, AllocError>
     requires { length config.now.queues ≤ most_queues }
-    ensures { IfOk result (λ p. option_map place_of p ≡ spec.wrong_parent config.now row.now) }
+    ensures { IfOk result (λ p. option_map lent_of p ≡ spec.wrong_parent config.now row.now) }
 {
     let queue = row.path.names();
     if config.is_leaf(queue) {
         return Ok(None);
     }
-    let text = row.path.text(alloc)?;
-    wrong_sum(alloc, config, queue, text.as_str())
+    wrong_sum(alloc, config, queue, LentValue::Path(&row.path))
 }
 
-fn place_at_queue(
+fn place_at_queue<'t>(
     alloc: Global,
     fault: ConfigFault,
-    config: &Draft,
+    config: &'t Draft,
     number: u64,
-    row: &QueueRow,
-) -> Result<Option<Place>, AllocError>
+    row: &'t QueueRow,
+) -> Result<Option<LentPlace<'t>>, AllocError>
     requires { length config.now.queues ≤ most_queues }
-    ensures { IfOk result (λ p. option_map place_of p ≡ place_at_queue fault config.now number row.now) }
+    ensures { IfOk result (λ p. option_map lent_of p ≡ place_at_queue fault config.now number row.now) }
 {
     match fault {
-        ConfigFault::DuplicateQueue => repeated_queue(alloc, config, number, row),
-        ConfigFault::NoParent => orphan(alloc, config, number, row),
-        ConfigFault::NoSuchLabel => unknown_label(alloc, config, number, row),
-        ConfigFault::NotSubset => label_beyond(alloc, config, number, row),
-        ConfigFault::MaximumBelowCapacity => low_maximum(alloc, config, number, row),
+        ConfigFault::DuplicateQueue => Ok(repeated_queue(config, number, row)),
+        ConfigFault::NoParent => Ok(orphan(config, number, row)),
+        ConfigFault::NoSuchLabel => Ok(unknown_label(config, number, row)),
+        ConfigFault::NotSubset => Ok(label_beyond(config, number, row)),
+        ConfigFault::MaximumBelowCapacity => Ok(low_maximum(config, number, row)),
         ConfigFault::SumNot100 => wrong_parent(alloc, config, row),
         _ => Ok(None),
     }
 }
 
-fn place_in_queues(
+fn place_in_queues<'t>(
     alloc: Global,
     fault: ConfigFault,
-    config: &Draft,
-    rows: &[QueueRow],
-) -> Result<Option<Place>, AllocError>
+    config: &'t Draft,
+    rows: &'t [QueueRow],
+) -> Result<Option<LentPlace<'t>>, AllocError>
     requires { length config.now.queues ≤ most_queues }
-    ensures { IfOk result (λ p. option_map place_of p ≡ first_from (place_at_queue fault config.now) 1 rows.now) }
+    ensures { IfOk result (λ p. option_map lent_of p ≡ first_from (place_at_queue fault config.now) 1 rows.now) }
 {
     for i in 0..rows.len() {
         let place = place_at_queue(alloc, fault, config, i as u64 + 1, &rows[i])?;
@@ -418,9 +413,9 @@ pub(crate) fn place_in_tree(
     alloc: Global,
     fault: ConfigFault,
     config: &Draft,
-) -> Result<Option<Place>, AllocError>
+) -> Result<Option<LentPlace<'_>>, AllocError>
     requires { length config.now.queues ≤ most_queues }
-    ensures { IfOk result (λ p. option_map place_of p ≡ place_in_tree fault config.now) }
+    ensures { IfOk result (λ p. option_map lent_of p ≡ place_in_tree fault config.now) }
 {
     if fault.is(ConfigFault::SumNot100) {
         if let Some(place) = wrong_root(alloc, config)? {

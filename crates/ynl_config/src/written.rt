@@ -2,7 +2,8 @@
 
 ghost use Rattle.std.specs.Prelude.{◌≡◌, IfOk};
 ghost use Rattle.toml.specs.View.{table_view};
-ghost use Rattle.ynl_config.specs.Seen.{parts_view};
+ghost use Rattle.ynl_config.specs.Earliest.{both, made};
+ghost use Rattle.ynl_config.specs.Seen.{rows_view, parts_view};
 ghost use Rattle.ynl_config.specs.Tables as spec;
 
 use crate::faults::ConfigFault;
@@ -84,6 +85,19 @@ fn written_of(parts: Parts) -> Written
     }
 }
 
+/// The labels and the queues.
+fn rows_in(
+    alloc: Global,
+    table: &Table,
+    version: Version,
+) -> Result<Result<(Vec<LabelRow>, Vec<WrittenQueue>), ConfigFault>, AllocError>
+    ensures { IfOk result (λ read. made rows_view read ≡ both (spec.labels_at (table_view table.now)) (spec.queues_at version (table_view table.now))) }
+{
+    let labels = labels_at(alloc, table)?;
+    let queues = queues_at(alloc, table, version)?;
+    Ok(both(labels, queues))
+}
+
 /// All that the text says, or the earliest fault of its tables and values.
 pub(crate) fn written_in(
     alloc: Global,
@@ -94,9 +108,8 @@ pub(crate) fn written_in(
     let keys = known_keys(TableKind::Top, table);
     let version = version_at(table);
     let numbers = numbers_in(table);
-    let labels = labels_at(alloc, table)?;
-    let queues = queues_at(alloc, table, any_version(version))?;
-    match both(keys, both(version, both(numbers, both(labels, queues)))) {
+    let rows = rows_in(alloc, table, any_version(version))?;
+    match both(keys, both(version, both(numbers, rows))) {
         Ok(parts) => Ok(Ok(written_of(parts))),
         Err(fault) => Ok(Err(fault)),
     }

@@ -1,9 +1,0 @@
-use Rattle.std.proofs.Common.{◌∙◌, ap, option_map}
-use Rattle.std.specs.Prelude.{string_bytes}
-use Rattle.ynl_config.specs.Places.{unknown_key}
-use Rattle.ynl_config.proofs.PlaceViews.{find_keys}
-use Rattle.ynl_config.proofs.keys.unknown_key.Goals as goal
-
-pub returns : goal.returns
-unfolding unknown_key
-returns c = c.text_of_key.ensures ∙ ap (option_map string_bytes) c.unknown_entry.ensures ∙ find_keys _ c.args.table.now.entries
