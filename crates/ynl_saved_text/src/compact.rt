@@ -3,25 +3,15 @@
 
 ghost use Rattle.std.specs.Prelude.{IfSome};
 ghost use Rattle.ynl_fields.specs.Reading.{HasClock};
-ghost use Rattle.ynl_resource.specs.Amounts.{IsSize};
 ghost use Rattle.ynl_saved_text.specs.StateLines.{IsRanged};
 
 use ynl_fields::Cursor;
 use ynl_model::{AskRow, Node, Placed, What};
-use ynl_resource::{Id, MOST_CLOCK, MOST_COUNT, Name, Size};
+use ynl_resource::{Id, MOST_CLOCK, MOST_COUNT, Name};
 use ynl_saved::StateLine;
 
 /// Where the first byte of a key stands, behind a brace or a comma and a quote.
 const KEY: usize = 2;
-
-/// The size of so much memory and of the virtual cores that are told here, behind `front`. It stands alone, since that a size
-/// is in range follows from its parts at some length.
-fn told_size(line: &mut Cursor<'_>, front: &[u8], memory: u64) -> Option<Size>
-    ensures { IfSome result (λ size. IsSize size) }
-{
-    let vcores = line.number(front)?;
-    Size::new(memory, vcores)
-}
 
 fn cut_node(line: &mut Cursor<'_>, into: &mut StateLine) -> Option<()>
     ensures { IfSome result (λ _. IsRanged into.new) }
@@ -30,7 +20,7 @@ fn cut_node(line: &mut Cursor<'_>, into: &mut StateLine) -> Option<()>
     let memory = line.number(b",\"memory\":")?;
     let name = line.name(b",\"node\":\"")?;
     let stamp = line.within(b",\"stamp\":", MOST_CLOCK)?;
-    let size = told_size(line, b",\"state\":\"node\",\"vcores\":", memory)?;
+    let size = line.size(b",\"state\":\"node\",\"vcores\":", memory)?;
     *into = StateLine::Node(Node {
         name,
         label,
@@ -48,7 +38,7 @@ fn cut_live(line: &mut Cursor<'_>, app: Name, into: &mut StateLine) -> Option<()
     let memory = line.number(b",\"memory\":")?;
     let queue = line.path(b",\"queue\":\"")?;
     let user = line.name(b",\"state\":\"live\",\"user\":\"")?;
-    let master = told_size(line, b",\"vcores\":", memory)?;
+    let master = line.size(b",\"vcores\":", memory)?;
     *into = StateLine::Live {
         queue,
         app,
@@ -68,7 +58,7 @@ fn cut_ask(line: &mut Cursor<'_>, app: Name, into: &mut StateLine) -> Option<()>
     let memory = line.number(b",\"memory\":")?;
     let priority = line.small(b",\"priority\":", u32::MAX)?;
     let tenant = line.name(b",\"state\":\"ask\",\"tenant\":\"")?;
-    let size = told_size(line, b",\"vcores\":", memory)?;
+    let size = line.size(b",\"vcores\":", memory)?;
     let ask = AskRow {
         label,
         priority,
@@ -98,7 +88,7 @@ fn cut_asked(line: &mut Cursor<'_>, app: Name, id: Id, into: &mut StateLine) -> 
     let node = line.name(b",\"node\":\"")?;
     let priority = line.small(b",\"priority\":", u32::MAX)?;
     let tenant = line.name(b",\"state\":\"container\",\"tenant\":\"")?;
-    let size = told_size(line, b",\"vcores\":", memory)?;
+    let size = line.size(b",\"vcores\":", memory)?;
     *into = StateLine::Container(Placed {
         id,
         node,
@@ -118,7 +108,7 @@ fn cut_master(line: &mut Cursor<'_>, app: Name, id: Id, into: &mut StateLine) ->
     let memory = line.number(b",\"memory\":")?;
     let node = line.name(b",\"node\":\"")?;
     let tenant = line.name(b",\"state\":\"container\",\"tenant\":\"")?;
-    let size = told_size(line, b",\"vcores\":", memory)?;
+    let size = line.size(b",\"vcores\":", memory)?;
     *into = StateLine::Container(Placed {
         id,
         node,
