@@ -1,13 +1,14 @@
 -- The front of a text as a number, and the order of texts.
 use native.Mathlib.Nat.{mul-le-mul_right}
-use Rattle.std.proofs.Common.{◌≡◌, ◌≢◌, ℕ, zero, suc, ◌+◌, ◌*◌, ◌^◌, ◌<◌, ◌≤◌, List, [], ◌∷◌, refl, sym, ap, ◌∙◌, arith, ◌-◌, length, get_or, take, drop, replicate}
+use Rattle.std.proofs.Common.{◌≡◌, ◌≢◌, ℕ, zero, suc, ◌+◌, ◌*◌, ◌^◌, ◌<◌, ◌≤◌, Bool, true, cond, nat_le, List, [], ◌∷◌, Some, None, refl, sym, ap, ◌∙◌, arith, ◌-◌, length, get_or, take, drop, replicate}
+use Rattle.std.proofs.lemmas.Bool.Decides.{nat_tests}
 use Rattle.std.proofs.Common.{Ordering, Less, Equal, Greater, nat_cmp}
 use Rattle.std.specs.Bool.{⊤}
 use Rattle.std.specs.Ordering.{MatchOrdering, ordering_then}
 use Rattle.std.specs.Cmp.Lexicographic.{slice_cmp}
 use Rattle.std.specs.Cmp.{nat_cmp_is, ranks}
-use Rattle.ynl_resource.specs.Heads.{head_of}
-use Rattle.ynl_resource.specs.Padded.{IsPadded}
+use Rattle.ynl_resource.specs.Heads.{code_of, head_of}
+use Rattle.ynl_resource.specs.Padded.{IsPadded, length-kept}
 
 -- each is a byte
 abbrev pub AreBytes : List ℕ → Type 0
@@ -73,23 +74,36 @@ head_kept (suc n) k zero place h = sym (ap (head_of (suc n)) h ∙ zeros (suc n)
 head_kept (suc n) k (suc len) [] h = refl
 head_kept (suc n) k (suc len) (x ∷ place) h = ap (λ rest. x * 256 ^ n + rest) (head_kept n k len place h)
 
-head_digits : (bytes : List ℕ) → 8 ≤ length bytes →
-    get_or bytes 0 0 * 72057594037927936 + get_or bytes 1 0 * 281474976710656 + get_or bytes 2 0 * 1099511627776 + get_or bytes 3 0 * 4294967296
-    + get_or bytes 4 0 * 16777216 + get_or bytes 5 0 * 65536 + get_or bytes 6 0 * 256 + get_or bytes 7 0 ≡ head_of 8 bytes
-head_digits (a ∷ b ∷ c ∷ d ∷ e ∷ f ∷ g ∷ h ∷ bytes) long = omega arith
-head_digits [] long = absurd (omega (arith, long))
-head_digits (a ∷ []) long = absurd (omega (arith, long))
-head_digits (a ∷ b ∷ []) long = absurd (omega (arith, long))
-head_digits (a ∷ b ∷ c ∷ []) long = absurd (omega (arith, long))
-head_digits (a ∷ b ∷ c ∷ d ∷ []) long = absurd (omega (arith, long))
-head_digits (a ∷ b ∷ c ∷ d ∷ e ∷ []) long = absurd (omega (arith, long))
-head_digits (a ∷ b ∷ c ∷ d ∷ e ∷ f ∷ []) long = absurd (omega (arith, long))
-head_digits (a ∷ b ∷ c ∷ d ∷ e ∷ f ∷ g ∷ []) long = absurd (omega (arith, long))
+-- the bytes from a place on, so many, as digits of one number
+abbrev pub digits_at : ℕ → ℕ → List ℕ → ℕ
+digits_at zero k bytes = 0
+digits_at (suc n) k bytes = get_or bytes k 0 * 256 ^ n + digits_at n (suc k) bytes
 
-pub head_read : (place : List ℕ) (len : ℕ) → IsPadded 64 0 place len →
-    get_or place 0 0 * 72057594037927936 + get_or place 1 0 * 281474976710656 + get_or place 2 0 * 1099511627776 + get_or place 3 0 * 4294967296
-    + get_or place 4 0 * 16777216 + get_or place 5 0 * 65536 + get_or place 6 0 * 256 + get_or place 7 0 ≡ head_of 8 (take len place)
-head_read place len p = head_digits place (let whole = p.whole in omega (arith, whole)) ∙ sym (head_kept 8 (64 - len) len place p.rest)
+digits_none : (n k : ℕ) → digits_at n k [] ≡ 0
+digits_none zero k = refl
+digits_none (suc n) k = let rest = digits_none n (suc k) in omega (arith, rest)
+
+digits_behind : (n k x : ℕ) (xs : List ℕ) → digits_at n (suc k) (x ∷ xs) ≡ digits_at n k xs
+digits_behind zero k x xs = refl
+digits_behind (suc n) k x xs = ap (λ rest. get_or xs k 0 * 256 ^ n + rest) (digits_behind n (suc k) x xs)
+
+digits_head : (n : ℕ) (bytes : List ℕ) → digits_at n 0 bytes ≡ head_of n bytes
+digits_head zero bytes = refl
+digits_head (suc n) [] = digits_none (suc n) 0
+digits_head (suc n) (x ∷ xs) = ap (λ rest. x * 256 ^ n + rest) (digits_behind n 0 x xs ∙ digits_head n xs)
+
+-- what the digits of a place come to, of which zeros stand behind the text
+pub digits_read : (n : ℕ) (place : List ℕ) (len : ℕ) → IsPadded 64 0 place len → digits_at n 0 place ≡ head_of n (take len place)
+digits_read n place len p = digits_head n place ∙ sym (head_kept n (64 - len) len place p.rest)
+
+-- the number of a short text is the code that it has
+pub code_read : (place text : List ℕ) (len number : ℕ) → IsPadded 64 0 place len → take len place ≡ text → len ≤ 16 → number ≡ digits_at 16 0 place → Some number ≡ code_of text
+code_read place text len number p same small is =
+    ap (λ (n : ℕ). Some n) (is ∙ digits_read 16 place len p ∙ ap (head_of 16) same)
+    ∙ ap (λ (b : Bool). cond b (Some (head_of 16 text)) None) (sym short)
+  where
+    short : nat_le (length text) 16 ≡ true
+    short = let long = ap length (sym same) ∙ length-kept 64 0 place len p in grind (arith, nat_tests)
 
 -- ---- of a text that is no longer than that
 

@@ -5,7 +5,7 @@ ghost use Rattle.std.specs.Bool.{OnTrue};
 ghost use Rattle.std.specs.Cmp.{partial_equiv_from_equiv};
 ghost use Rattle.std.specs.Ordering.{nat_cmp};
 ghost use Rattle.std.specs.Cmp.Lexicographic.{slice_cmp, pointwise, nat_list_eq_equiv, nat_list_cmp_total, texts_po, texts_ties};
-ghost use Rattle.ynl_resource.specs.Heads.{head_of};
+ghost use Rattle.ynl_resource.specs.Heads.{code_of, head_of};
 ghost use Rattle.ynl_resource.specs.NameText.{is_name, is_name_byte};
 ghost use Rattle.ynl_resource.specs.Texts.{name_in_front, read_name};
 
@@ -113,6 +113,22 @@ impl Name {
     {
         let b = &self.bytes;
         u64::from_be_bytes([b[0], b[1], b[2], b[3], b[4], b[5], b[6], b[7]])
+    }
+
+    /// All of the name as one number, if it has at most sixteen bytes: they are the number's digits to the base 256, with
+    /// zeros behind them. No byte of a name is 0, so no two names have one number.
+    pub fn code(&self) -> Option<u128>
+        ensures value { result ≡ code_of self.now }
+        ensures name { IsTrue (is_name self.now) }
+    {
+        if self.len > 16 {
+            return None;
+        }
+        let b = &self.bytes;
+        Some(u128::from_be_bytes([
+            b[0], b[1], b[2], b[3], b[4], b[5], b[6], b[7], b[8], b[9], b[10], b[11], b[12], b[13],
+            b[14], b[15],
+        ]))
     }
 
     /// Whether the number of its first bytes is all of it.

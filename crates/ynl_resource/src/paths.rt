@@ -1,6 +1,7 @@
 //! Paths of queues.
 
-ghost use Rattle.std.specs.Prelude.{◌≡◌, ◌<◌, ◌≤◌, length, nat_eq, count_by, ◌++◌, ◌∷◌, IsTrue, OnOk, IfOk, Ok};
+ghost use Rattle.std.specs.Prelude.{◌≡◌, ◌<◌, ◌≤◌, length, nat_eq, count_by, ◌++◌, ◌∷◌, [], false, IsTrue, OnOk, IfOk, Ok};
+ghost use Rattle.std.specs.Bool.{OnTrue};
 ghost use Rattle.std.specs.Option.{SomeIff};
 ghost use Rattle.std.specs.String.{string_bytes};
 ghost use Rattle.std.specs.Cmp.{partial_equiv_from_equiv};
@@ -98,6 +99,33 @@ impl Path {
             names,
             len: len as u8,
         })
+    }
+
+    /// The path of root.
+    pub fn root() -> Path
+        ensures { result ≡ [] }
+    {
+        let Ok(root) = Name::of_bytes(b"root") else {
+            unreachable!();
+        };
+        Path {
+            names: [root; 7],
+            len: 0,
+        }
+    }
+
+    /// The name comes last, if the path has room for one more: it has eight names at most, root among them.
+    pub fn push(&mut self, name: &Name) -> bool
+        ensures pushed { OnTrue result (self.new ≡ self.old ++ name.now ∷ []) }
+        ensures full { result ≡ false → (self.new ≡ self.old) × (length self.old ≡ 7) }
+    {
+        let len = self.len as usize;
+        if len >= self.names.len() {
+            return false;
+        }
+        self.names[len] = *name;
+        self.len += 1;
+        true
     }
 
     /// The path's text.

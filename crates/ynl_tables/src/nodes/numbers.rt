@@ -1,17 +1,14 @@
 //! Numbers under names.
 
-ghost use Rattle.std.specs.Prelude.{◌≡◌, ◌≤◌, length, IsTrue, Some, None, OnOk, OnErr, if◌then◌else◌};
+ghost use Rattle.std.specs.Prelude.{◌≡◌, IsTrue, Some, None, OnOk, OnErr, if◌then◌else◌};
 ghost use Rattle.ynl_resource.specs.declared.names.Name.{Name as NodeName};
 ghost use Rattle.ynl_resource.specs.NameText.{is_name};
 ghost use Rattle.ynl_resource.specs.Names.{same_name};
-ghost use Rattle.ynl_tables.specs.nodes.Numbers.{code_of, number_in};
+ghost use Rattle.ynl_tables.specs.nodes.Numbers.{number_in};
 
 use std::alloc::{AllocError, Global};
 use std::collections::{BTreeMap, HashMap};
 use ynl_resource::{HashSeed, Name};
-
-/// The most bytes of a name that is short: so many bytes are one `u128`.
-const SHORT: usize = 16;
 
 /// Numbers under names. A name takes 65 bytes, and most are far shorter: so a short one stands here as one number, which is
 /// hashed with the run's own keys, since strangers choose names; and only a longer one in full.
@@ -19,19 +16,6 @@ const SHORT: usize = 16;
 pub(crate) struct Numbers {
     short: HashMap<u128, u32, HashSeed>,
     long: BTreeMap<Name, u32>,
-}
-
-/// The bytes as the digits of one number. No byte of a name is 0, so no two short names have one number, whatever their
-/// lengths.
-fn code(bytes: &[u8]) -> u128
-    requires { length bytes.now ≤ 16 }
-    ensures { result ≡ code_of bytes.now (length bytes.now) }
-{
-    let mut code: u128 = 0;
-    for i in 0..bytes.len() {
-        code = code * 256 + u128::from(bytes[i]);
-    }
-    code
 }
 
 impl Numbers {
@@ -50,11 +34,9 @@ impl Numbers {
         ensures value { result ≡ number_in self.now name.now }
         ensures name { IsTrue (is_name name.now) }
     {
-        let bytes = name.as_bytes();
-        if bytes.len() <= SHORT {
-            self.short.get(&code(bytes)).copied()
-        } else {
-            self.long.get(name).copied()
+        match name.code() {
+            Some(code) => self.short.get(&code).copied(),
+            None => self.long.get(name).copied(),
         }
     }
 
@@ -66,11 +48,13 @@ impl Numbers {
         ensures absent { OnErr result (number_in self.old name.now ≡ None) }
         ensures name { IsTrue (is_name name.now) }
     {
-        let bytes = name.as_bytes();
-        if bytes.len() <= SHORT {
-            self.short.insert(code(bytes), number)?;
-        } else {
-            self.long.insert(*name, number)?;
+        match name.code() {
+            Some(code) => {
+                self.short.insert(code, number)?;
+            }
+            None => {
+                self.long.insert(*name, number)?;
+            }
         }
         Ok(())
     }
@@ -81,11 +65,13 @@ impl Numbers {
             ≡ (if same_name name.now other then None else number_in self.old other) }
         ensures name { IsTrue (is_name name.now) }
     {
-        let bytes = name.as_bytes();
-        if bytes.len() <= SHORT {
-            let _number = self.short.remove(&code(bytes));
-        } else {
-            let _number = self.long.remove(name);
+        match name.code() {
+            Some(code) => {
+                let _number = self.short.remove(&code);
+            }
+            None => {
+                let _number = self.long.remove(name);
+            }
         }
     }
 }

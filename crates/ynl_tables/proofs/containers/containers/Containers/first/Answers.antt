@@ -1,5 +1,5 @@
 -- The rows have the numbers of the containers that a contract sees.
-use Rattle.std.proofs.Common.{◌≡◌, sym, ap, ◌∙◌}
+use Rattle.std.proofs.Common.{sym, ap, ◌∙◌}
 use Rattle.ynl_slots.specs.Slots.{number_in}
 use Rattle.ynl_slots.proofs.Walks.{number_shown}
 use Rattle.ynl_tables.specs.declared.containers.row.Row.{Row}

@@ -1,4 +1,4 @@
-use Rattle.std.proofs.Common.{◌≡◌, ◌∙◌, ◌++◌, ◌∷◌, [], ap, sym, subst, cond, Option, Some, ◌<◌, List, ℕ, length, refl, arith}
+use Rattle.std.proofs.Common.{◌∙◌, ◌++◌, ◌∷◌, [], ap, sym, subst, cond, Some, List, ℕ, refl, arith}
 use Rattle.std.specs.BTreeMap.{get, is_at}
 use Rattle.ynl_resource.specs.Names.{name_order}
 use Rattle.ynl_resource.specs.declared.names.Name.{Name}
