@@ -21,13 +21,28 @@ fn name_bytes(name: &Name) -> &[u8]
     name.as_bytes()
 }
 
-/// Adds bytes.
+/// Adds bytes, however many.
+// It stands in the program once: what a processor keeps of the program at hand is little.
+#[inline(never)]
+fn add_bytes(text: &mut Vec<u8>, more: &[u8]) -> Result<(), AllocError>
+    ensures added { OnOk result (text.new.items ≡ text.old.items ++ more.now) }
+    ensures len { OnOk result (vec_len text.new ≡ vec_len text.old + length more.now) }
+    ensures capacity { vec_capacity text.old ≤ vec_capacity text.new }
+    ensures full { OnErr result (vec_capacity text.old < vec_len text.old + length more.now) }
+{
+    text.extend_from_slice(more)
+}
+
+/// Adds bytes. What is to be done where there is no room for them does not stand beside each piece.
 pub fn add<const N: usize>(text: &mut Vec<u8>, more: &[u8; N]) -> Result<(), AllocError>
     ensures added { OnOk result (text.new.items ≡ text.old.items ++ more.now) }
     ensures len { OnOk result (vec_len text.new ≡ vec_len text.old + length more.now) }
     ensures capacity { vec_capacity text.old ≤ vec_capacity text.new }
     ensures full { OnErr result (vec_capacity text.old < vec_len text.old + length more.now) }
 {
+    if text.capacity() - text.len() < N {
+        return add_bytes(text, more);
+    }
     text.extend_from_slice(more)
 }
 
@@ -42,8 +57,8 @@ pub fn add_text<const N: usize>(
     ensures capacity { vec_capacity text.old ≤ vec_capacity text.new }
     ensures full { OnErr result (vec_capacity text.old < vec_len text.old + length (front.now ++ more.now)) }
 {
-    text.extend_from_slice(front)?;
-    text.extend_from_slice(more)
+    add(text, front)?;
+    add_bytes(text, more)
 }
 
 /// Adds what stands before a name, and the name.
@@ -92,11 +107,7 @@ pub fn add_number<const N: usize>(
     ensures full { OnErr result (vec_capacity text.old < vec_len text.old + length (front.now ++ decimal number)) }
     ensures plain { escape (decimal number) ≡ decimal number }
 {
-    text.extend_from_slice(front)?;
-    if number < 10 {
-        text.push(b'0' + number as u8)?;
-        return Ok(());
-    }
+    add(text, front)?;
     add_digits(text, number)
 }
 
@@ -107,8 +118,11 @@ fn add_digits(text: &mut Vec<u8>, number: u64) -> Result<(), AllocError>
     ensures capacity { vec_capacity text.old ≤ vec_capacity text.new }
     ensures full { OnErr result (vec_capacity text.old < vec_len text.old + length (decimal number)) }
 {
+    if number < 10 {
+        return add(text, &[b'0' + number as u8]);
+    }
     let mut digits = Buffer::new();
-    text.extend_from_slice(digits.format(number).as_bytes())
+    add_bytes(text, digits.format(number).as_bytes())
 }
 
 /// Adds what stands before an id, and its text.

@@ -96,8 +96,23 @@ impl<'a> Cursor<'a> {
     }
 
     pub fn path(&mut self, front: &[u8]) -> Option<Path> {
-        let text = self.text(front)?;
-        Path::parse(text).ok()
+        if !self.skips(front) || !self.skips(b"root") {
+            return None;
+        }
+        let mut path = Path::root();
+        for _below in 0..8 {
+            if !self.skips(b".") {
+                break;
+            }
+            let name = self.bare_name()?;
+            if !path.push(&name) {
+                return None;
+            }
+        }
+        if !self.skips(QUOTE) {
+            return None;
+        }
+        Some(path)
     }
 
     pub fn label(&mut self, front: &[u8]) -> Option<Label> {
