@@ -83,6 +83,8 @@ impl<T: Least> Line<T> {
 
     /// Makes room for twice as many tickets as there are, or for one. It fails if memory is refused, and at 2^32 - 1
     /// tickets.
+    // Done seldom, as `pack` is.
+    #[inline(never)]
     pub(crate) fn reserve(&mut self, alloc: Global) -> Result<(), AllocError>
         ensures tickets { self.new.tickets ≡ self.old.tickets }
         ensures masters { IsFilledUp T.none self.old.masters self.new.masters }

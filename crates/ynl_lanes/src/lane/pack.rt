@@ -35,6 +35,8 @@ fn put(seats: &mut Slots<SeatRow>, level: Level, ticket: u32, slot: u32)
 }
 
 /// All seats of a line move up to its front, in order.
+// Done seldom: it does not stand where room is made for each seat.
+#[inline(never)]
 fn pack<T: Least>(seats: &mut Slots<SeatRow>, line: &mut Line<T>, level: Level)
     requires line { IsLine line.old }
     requires seats { AreIn level line.old.tickets seats.old.entries }
