@@ -206,6 +206,8 @@ pub(crate) fn offered_in(
     if none_waits(cluster, p, leaf, kind) {
         return Ok(offered);
     }
+    // Room for all at once, as most applications ask for one thing.
+    offered.reserve(apps.len())?;
     for i in 0..apps.len() {
         add_offered(cluster, p, kind, apps[i], i as u64, &mut offered)?;
     }
