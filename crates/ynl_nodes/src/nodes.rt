@@ -1,6 +1,6 @@
 //! Nodes in the order of joining.
 
-ghost use Rattle.std.specs.Prelude.{◌≡◌, ◌<◌, [], ◌∷◌, ◌++◌, Some, None, false, IfOk, OnOk, OnErr};
+ghost use Rattle.std.specs.Prelude.{◌≡◌, ◌<◌, [], ◌∷◌, ◌++◌, Some, None, false, IfOk, OnOk, OnErr, option_copied};
 ghost use Rattle.std.specs.BTreeMap.{IsOrdered, IsUnchanged, Updates};
 ghost use Rattle.std.specs.List.{AllByRecursion};
 ghost use Rattle.std.specs.Ordering.{nat_cmp};
@@ -57,12 +57,12 @@ impl Nodes {
         self.nodes.values().copied().collect(alloc)
     }
 
-    /// The node of a name.
-    pub fn find(&self, name: &Name) -> Option<Node>
-        ensures { result ≡ find_node self.now name.now }
+    /// The node of a name, which is lent.
+    pub fn find(&self, name: &Name) -> Option<&Node>
+        ensures { option_copied result ≡ find_node self.now name.now }
     {
         match self.numbers.get(name) {
-            Some(number) => self.nodes.get(number).copied(),
+            Some(number) => self.nodes.get(number),
             None => None,
         }
     }

@@ -2,6 +2,7 @@
 
 ghost use Rattle.std.specs.Prelude.{◌≡◌, ◌≤◌, [], length, map, None, Some, true, false, OnOk, OnErr, IfOk};
 ghost use Rattle.std.specs.Option.{option_map_or};
+ghost use Rattle.ynl_resource.specs.Names.{same_label};
 ghost use Rattle.ynl_resource.specs.Ranges.{most_nodes};
 ghost use Rattle.ynl_model.specs.Nodes.{nodes_of};
 ghost use Rattle.ynl_model.specs.Promises.{without_stamp};
@@ -46,6 +47,12 @@ fn without_stamp(node: &Node) -> Tracked
     }
 }
 
+fn is_on(node: &Node, label: &Label) -> bool
+    ensures { result ≡ same_label node.now.label label.now }
+{
+    node.label == *label
+}
+
 fn names_of(alloc: Global, nodes: &[Node]) -> Result<Vec<Name>, AllocError>
     ensures { IfOk result (λ names. names.items ≡ map (λ node. node.name) nodes.now) }
 {
@@ -82,7 +89,7 @@ impl Track {
         ensures { result ≡ tracked self.now name.now }
     {
         match self.nodes.find(name) {
-            Some(node) => Some(without_stamp(&node)),
+            Some(node) => Some(without_stamp(node)),
             None => None,
         }
     }
@@ -91,8 +98,8 @@ impl Track {
     pub(crate) fn has(&self, name: &Name, label: &Label) -> bool
         ensures { result ≡ is_in self.now name.now label.now }
     {
-        match self.node(name) {
-            Some(node) => node.label == *label,
+        match self.nodes.find(name) {
+            Some(node) => is_on(node, label),
             None => false,
         }
     }
@@ -151,7 +158,7 @@ impl Track {
         ensures ok { OnOk result (self.new ≡ option_map_or (λ node. joined (dropped self.old node) name.now label.now node.size) (tracked self.old name.now) self.old) }
         ensures err { OnErr result (self.new ≡ self.old) }
     {
-        match self.nodes.find(name) {
+        match self.nodes.find(name).copied() {
             Some(node) => self.nodes.rejoin(&node, label, NO_STAMP),
             None => Ok(()),
         }
@@ -177,7 +184,7 @@ impl Track {
     fn lose(&mut self, name: &Name)
         ensures { self.new ≡ option_map_or (dropped self.old) (tracked self.old name.now) self.old }
     {
-        if let Some(node) = self.nodes.find(name) {
+        if let Some(node) = self.nodes.find(name).copied() {
             self.nodes.leave(&node);
         }
     }

@@ -11,9 +11,9 @@ returns-in-Some c =
     let view = c.args.self.now in
     let node = c.in-Some.node in
     ap unstamped c.leave.ensures ∙ left_is nodes node ∙ ap (λ track. dropped track (without_stamp node)) c.self.view_is
-    ∙ sym (ap (λ found. option_map_or (dropped view) found view) (found_is nodes view c.self.view_is c.args.name.now (Some node) c.in-Some.ensures))
+    ∙ sym (ap (λ found. option_map_or (dropped view) found view) (found_is nodes view c.self.view_is c.args.name.now (Some node) (c.in-Some.ensures ∙ c.find.ensures)))
 
 pub returns-in_default : goal.returns-in_default
 returns-in_default c =
     let view = c.args.self.now in
-    sym (ap (λ found. option_map_or (dropped view) found view) (found_is c.self.inside.nodes view c.self.view_is c.args.name.now None c.in_default.ensures))
+    sym (ap (λ found. option_map_or (dropped view) found view) (found_is c.self.inside.nodes view c.self.view_is c.args.name.now None (c.in_default.ensures ∙ c.find.ensures)))
