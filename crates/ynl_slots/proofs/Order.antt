@@ -9,7 +9,8 @@ use Rattle.std.proofs.lemmas.Option.{same_Some, none-some, get_or_from_slice_get
 use Rattle.ynl_slots.specs.declared.slots.Slot.{Slot}
 use Rattle.ynl_slots.specs.declared.slots.Slot.TheVariants.{Free, Live}
 use Rattle.ynl_slots.specs.Chain.{first_or, next_set, IsRun, IsChain}
-use Rattle.ynl_slots.specs.Kept.{number_of, slot_at, row_of, before_of, after_of, links_of, before_set, after_set, changed, filled, row_in, links_in, entry, rows_from, IsSound, IsOrdered}
+use Rattle.ynl_slots.specs.Kept.{slot_at, row_of, before_of, after_of, links_of, before_set, after_set, changed, filled, row_in, links_in, entry, rows_from, IsSound, IsOrdered}
+use Rattle.ynl_slots.specs.Number.{number_of}
 use Rattle.ynl_slots.specs.Slots.{IsLive, IsUnused, HasDistinctNumbers, with_row, without, number_in, IsAfter}
 use Rattle.ynl_slots.proofs.Lists.{all_then, all_front, all_back, all_append, all_any}
 use Rattle.ynl_slots.proofs.Entries.{itself, other}

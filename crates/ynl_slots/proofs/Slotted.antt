@@ -6,7 +6,8 @@ use Rattle.ynl_slots.specs.declared.chain.Links.{Links}
 use Rattle.ynl_slots.specs.declared.slots.Slot.{Slot}
 use Rattle.ynl_slots.specs.declared.slots.Slot.TheVariants.{Free, Live}
 use Rattle.ynl_slots.specs.Chain.{next_set, prev_set}
-use Rattle.ynl_slots.specs.Kept.{number_of, slot_at, row_of, before_of, after_of, links_of, before_set, after_set, changed, filled, row_in, links_in, IsSound}
+use Rattle.ynl_slots.specs.Kept.{slot_at, row_of, before_of, after_of, links_of, before_set, after_set, changed, filled, row_in, links_in, IsSound}
+use Rattle.ynl_slots.specs.Number.{number_of}
 use Rattle.ynl_slots.proofs.Entries.{itself}
 use Rattle.ynl_slots.proofs.Chaining.{AtSets}
 use Rattle.ynl_slots.proofs.FreeList.{IsSound-rewrite}

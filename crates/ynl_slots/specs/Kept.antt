@@ -2,15 +2,12 @@
 use Rattle.std.specs.Prelude.{◌≡◌, ℕ, zero, suc, ◌+◌, ◌-◌, ◌^◌, ◌<◌, List, [], ◌∷◌, ◌++◌, length, map, min, get_or, set, Option, Some, None, is_some, count_by, nat_eq, slice_get, vec_capacity, if◌then◌else◌}
 use Rattle.std.specs.List.{AllByRecursion}
 use Rattle.ynl_slots.specs.Chain.{IsChain}
+use Rattle.ynl_slots.specs.Number.{number_of}
 use Rattle.ynl_slots.specs.Slots.{Numbered}
 use Rattle.ynl_slots.specs.declared.chain.Links.{Links}
 use Rattle.ynl_slots.specs.declared.slots.Slot.{Slot}
 use Rattle.ynl_slots.specs.declared.slots.Slot.TheVariants.{Free, Live}
 use Rattle.ynl_slots.specs.declared.slots.Slots.TheInside.{Inside}
-
--- a number, or none for the one that no slot has
-abbrev pub number_of : ℕ → Option ℕ
-number_of n = if nat_eq n (2 ^ 32 - 1) then None else Some n
 
 module _ {T : Type 0} where
   -- the slot of a number, and a free one where there is none

@@ -1,3 +1,4 @@
+pub mod Number
 pub mod Slots
 pub mod Kept
 pub mod Lends

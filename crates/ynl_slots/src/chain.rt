@@ -6,13 +6,14 @@ ghost use Rattle.ynl_slots.specs.declared.chain.Links.{Links};
 ghost use Rattle.ynl_slots.specs.Slots.{IsLive};
 ghost use Rattle.ynl_slots.specs.Chain.{IsChain, IsLinked, IsIn, SetsLinks, SetsNext, SetsPrev, Appends, AppendsAt, Removes, RemovesAt};
 
+use crate::number::MaybeRow;
 use crate::slots::Slots;
 
 /// The numbers of the rows before and after a row of a chain.
 #[derive(Clone, Copy)]
 pub struct Links {
-    pub prev: Option<u32>,
-    pub next: Option<u32>,
+    pub prev: MaybeRow,
+    pub next: MaybeRow,
 }
 
 /// A row that may stand in a chain. `K` tells the chains apart if a row may stand in several.
@@ -33,8 +34,8 @@ pub trait Linked<K> {
 /// The ends of a chain of rows. The rows between them are found by their links.
 #[derive(Clone, Copy)]
 pub struct Chain {
-    first: Option<u32>,
-    last: Option<u32>,
+    first: MaybeRow,
+    last: MaybeRow,
 }
 
 impl Chain {
@@ -43,8 +44,8 @@ impl Chain {
         ensures { (at : ℕ → Option Links) → IsChain at result [] }
     {
         Chain {
-            first: None,
-            last: None,
+            first: MaybeRow::NONE,
+            last: MaybeRow::NONE,
         }
     }
 
@@ -52,7 +53,7 @@ impl Chain {
     pub fn first(&self) -> Option<u32>
         ensures { result ≡ self.now.first }
     {
-        self.first
+        self.first.get()
     }
 
     /// Adds a row at the end of the chain.
@@ -64,11 +65,16 @@ impl Chain {
             rows.old.entries rows.new.entries }
         ensures room { rows.new.room ≡ rows.old.room }
     {
+        let last = rows.number(number);
         let prev = self.last;
-        set_next::<K, T>(rows, prev, Some(number));
-        relink::<K, T>(rows, number, Links { prev, next: None });
-        self.first = self.first.or(Some(number));
-        self.last = Some(number);
+        set_next::<K, T>(rows, prev, last);
+        let links = Links {
+            prev,
+            next: MaybeRow::NONE,
+        };
+        relink::<K, T>(rows, number, links);
+        self.first = self.first.or(last);
+        self.last = last;
     }
 
     /// Takes a row out of the chain. Its own links stay.
@@ -87,10 +93,10 @@ impl Chain {
 }
 
 /// The end of a chain after a row went: it is the same if the row had one beside it there.
-fn end_of(end: Option<u32>, beside: Option<u32>, other: Option<u32>) -> Option<u32>
+fn end_of(end: MaybeRow, beside: MaybeRow, other: MaybeRow) -> MaybeRow
     ensures { result ≡ (if is_some beside then end else other) }
 {
-    if beside.is_some() { end } else { other }
+    if beside.get().is_some() { end } else { other }
 }
 
 /// Writes the links of a row.
@@ -104,12 +110,12 @@ fn relink<K, T: Linked<K>>(rows: &mut Slots<T>, number: u32, links: Links)
 }
 
 /// Writes which row comes after a row, if there is one.
-fn set_next<K, T: Linked<K>>(rows: &mut Slots<T>, number: Option<u32>, next: Option<u32>)
+fn set_next<K, T: Linked<K>>(rows: &mut Slots<T>, number: MaybeRow, next: MaybeRow)
     requires { ForSome number (λ n. IsLive n rows.old.entries) }
     ensures links { SetsNext T.links T.with_links number next rows.old.entries rows.new.entries }
     ensures room { rows.new.room ≡ rows.old.room }
 {
-    if let Some(number) = number {
+    if let Some(number) = number.get() {
         let row = &mut rows[number];
         let prev = row.links().prev;
         row.set_links(Links { prev, next });
@@ -117,12 +123,12 @@ fn set_next<K, T: Linked<K>>(rows: &mut Slots<T>, number: Option<u32>, next: Opt
 }
 
 /// Writes which row comes before a row, if there is one.
-fn set_prev<K, T: Linked<K>>(rows: &mut Slots<T>, number: Option<u32>, prev: Option<u32>)
+fn set_prev<K, T: Linked<K>>(rows: &mut Slots<T>, number: MaybeRow, prev: MaybeRow)
     requires { ForSome number (λ n. IsLive n rows.old.entries) }
     ensures links { SetsPrev T.links T.with_links number prev rows.old.entries rows.new.entries }
     ensures room { rows.new.room ≡ rows.old.room }
 {
-    if let Some(number) = number {
+    if let Some(number) = number.get() {
         let row = &mut rows[number];
         let next = row.links().next;
         row.set_links(Links { prev, next });

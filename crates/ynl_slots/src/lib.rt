@@ -2,7 +2,9 @@
 #![tactic(auto)]
 
 pub use chain::{Chain, Linked, Links};
+pub use number::MaybeRow;
 pub use slots::Slots;
 
 mod chain;
+mod number;
 mod slots;

@@ -4,15 +4,13 @@ ghost use Rattle.std.specs.Prelude.{◌≡◌, ◌≤◌, ◌<◌, ◌+◌, ◌-
 ghost use Rattle.std.specs.Map.{lookup};
 ghost use Rattle.std.specs.Borrow.{Lends, sem};
 ghost use Rattle.ynl_slots.specs.Slots.{number_in, IsLive, IsAfter, IsUnused, IsOnly, HasDistinctNumbers, without};
-ghost use Rattle.ynl_slots.specs.Kept.{after_of, after_set, before_of, before_set, changed, filled, number_of, row_in, row_of, slot_at, slot_with, CanFill, Fills};
+ghost use Rattle.ynl_slots.specs.Kept.{after_of, after_set, before_of, before_set, changed, filled, row_in, row_of, slot_at, slot_with, CanFill, Fills};
 
+use crate::number::{END, MaybeRow};
 use std::alloc::{AllocError, Global};
 use std::marker::Model;
 use std::mem;
 use std::ops::{Index, IndexMut};
-
-/// No slot has this number.
-const END: u32 = u32::MAX;
 
 #[derive(Drop)]
 enum Slot<T> {
@@ -169,6 +167,16 @@ impl<T> Slots<T> {
         number
     }
 
+    /// The number of a row, as one that may be of none.
+    pub(crate) fn number(&self, number: u32) -> MaybeRow
+        requires { IsLive number self.now.entries }
+        ensures { result ≡ Some number }
+    {
+        // Opens the slots, which end before the number of no row.
+        let _slots = self.slots.len();
+        MaybeRow::of(number)
+    }
+
     /// The row under a number, if there is one.
     pub fn get(&self, number: u32) -> Option<&T>
         ensures value { option_copied result ≡ lookup (nat_eq number) self.now.entries }
@@ -181,7 +189,7 @@ impl<T> Slots<T> {
     pub fn first(&self) -> Option<u32>
         ensures { result ≡ number_in self.now.entries 0 }
     {
-        some_number(self.first)
+        MaybeRow::of(self.first).get()
     }
 
     /// The number of the row that was pushed next after the one under a number, if there is one.
@@ -189,7 +197,8 @@ impl<T> Slots<T> {
         requires { IsLive number self.now.entries }
         ensures { IsAfter number self.now.entries result }
     {
-        some_number(after_at(&self.slots, number))
+        let after = after_at(&self.slots, number);
+        MaybeRow::of(after).get()
     }
 
     /// Takes out the row under a number. The next push fills its slot.
@@ -262,13 +271,6 @@ impl<T: Copy> Slots<T> {
         }
         Ok(rows)
     }
-}
-
-/// A number, if a slot may have it.
-fn some_number(number: u32) -> Option<u32>
-    ensures { result ≡ number_of number }
-{
-    if number == END { None } else { Some(number) }
 }
 
 /// The end of the rows after a change: it is the same if a row stands beside the one that came or went.

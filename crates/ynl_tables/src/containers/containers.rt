@@ -13,7 +13,7 @@ use std::alloc::{AllocError, Global};
 use std::collections::HashMap;
 use std::marker::Model;
 use std::ops::Index;
-use ynl_slots::{Chain, Links, Slots};
+use ynl_slots::{Chain, Links, MaybeRow, Slots};
 
 /// The containers of a partition under numbers. A container is found by its number or its clock in constant time. Each node
 /// and each application with containers has the ends of a chain of them, which stand with its own row. A contract sees the
@@ -39,8 +39,8 @@ impl Model for Containers {
 
 /// The links of a row that is in no chain yet.
 const UNLINKED: Links = Links {
-    prev: None,
-    next: None,
+    prev: MaybeRow::NONE,
+    next: MaybeRow::NONE,
 };
 
 impl Containers {
@@ -178,7 +178,8 @@ impl Containers {
         requires { IsLive number self.now.entries }
         ensures { IsNextOfNode self.now number result }
     {
-        self.rows[number].of_node.next
+        let links = self.rows[number].of_node;
+        links.next.get()
     }
 
     /// The next container of the same application, if there is one.
@@ -186,7 +187,8 @@ impl Containers {
         requires { IsLive number self.now.entries }
         ensures { IsNextOfApp self.now number result }
     {
-        self.rows[number].of_app.next
+        let links = self.rows[number].of_app;
+        links.next.get()
     }
 
     /// Takes out the container under a number, also from the chains of its node and of its application. It takes no memory.

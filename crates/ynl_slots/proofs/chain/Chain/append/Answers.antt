@@ -1,4 +1,3 @@
-use Rattle.std.proofs.Common.{Some}
 use Rattle.ynl_slots.specs.Chain.{next_set}
 use Rattle.ynl_slots.proofs.Chaining.{last_live, stays_live, appended}
 use Rattle.ynl_slots.proofs.chain.Chain.append.Goals as goal
@@ -8,8 +7,8 @@ set_next-requires g c n is = last_live g.T.Linked.links c.args.rows.now.entries 
 
 pub relink-requires : goal.relink-requires
 relink-requires g c =
-    stays_live g.T.Linked.with_links c.args.self.now.last (λ r. next_set (Some c.args.number) (g.T.Linked.links r)) c.args.rows.now.entries c.set_next.new.rows.entries c.args.number c.set_next.ensures.links c.requires.live
+    stays_live g.T.Linked.with_links c.args.self.now.last (λ r. next_set c.number-last.result (g.T.Linked.links r)) c.args.rows.now.entries c.set_next.new.rows.entries c.args.number c.set_next.ensures.links c.requires.live
 
 pub returns-clause-chain : goal.returns-clause-chain
 returns-clause-chain g c =
-    appended g.T.Linked.links g.T.Linked.with_links g.met.T.Linked.relinked c.args.rows.now.entries c.set_next.new.rows.entries c.relink.new.rows.entries c.args.self.now c.args.number c.or-self.result c.requires.live c.set_next.ensures.links c.relink.ensures.links c.or-self.ensures
+    rw c.number-last.ensures (appended g.T.Linked.links g.T.Linked.with_links g.met.T.Linked.relinked c.args.rows.now.entries c.set_next.new.rows.entries c.relink.new.rows.entries c.args.self.now c.args.number c.or-self.result c.requires.live (rw c.number-last.ensures at c.set_next.ensures.links) c.relink.ensures.links (rw c.number-last.ensures at c.or-self.ensures))

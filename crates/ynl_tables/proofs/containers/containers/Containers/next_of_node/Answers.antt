@@ -12,6 +12,6 @@ pub index-requires : goal.index-requires
 index-requires c = live_row c.args.number c.self.inside.rows.entries (subst (λ (t : Table). IsLive c.args.number t.entries) (sym c.self.view_is) c.requires)
 
 pub returns : goal.returns
-returns c =
+returns c = subst (λ o. IsNextOfNode c.args.self.now c.args.number o) (sym c.get.ensures) (
     subst (λ (t : Table). IsNextOfNode t c.args.number c.index.result.now.of_node.next) c.self.view_is
-    (next_is (λ x. x.node) (containers_of c.self.inside.rows.entries) (distinct_of_rows (λ row. row.container) c.self.inside.rows.entries c.self.invariant.distinct) (λ row. row.of_node) c.self.inside.rows.entries c.args.number c.index.result.now c.index.ensures)
+    (next_is (λ x. x.node) (containers_of c.self.inside.rows.entries) (distinct_of_rows (λ row. row.container) c.self.inside.rows.entries c.self.invariant.distinct) (λ row. row.of_node) c.self.inside.rows.entries c.args.number c.index.result.now c.index.ensures))
