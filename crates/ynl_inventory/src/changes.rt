@@ -1,6 +1,6 @@
 //! What a container that comes or goes changes of its node and of its application.
 
-ghost use Rattle.std.specs.Prelude.{◌≡◌, nat_eq, IfSome, IsTrue};
+ghost use Rattle.std.specs.Prelude.{◌≡◌, ◌<◌, ◌-◌, ◌^◌, nat_eq, IfSome, IsTrue};
 ghost use Rattle.std.specs.Map.{lookup};
 ghost use Rattle.ynl_resource.specs.Amounts.{fits_in, less, plus, IsSmall};
 ghost use Rattle.ynl_slots.specs.Slots.{IsLive, with_row};
@@ -11,7 +11,7 @@ ghost use Rattle.ynl_inventory.specs.Parts.{owned_part, released_part, taken_par
 
 use crate::partition::Placement;
 use ynl_resource::Size;
-use ynl_slots::Chain;
+use ynl_slots::{Chain, MaybeRow};
 use ynl_tables::apps::Apps;
 use ynl_tables::containers::{Container, Role};
 use ynl_tables::nodes::Nodes;
@@ -37,6 +37,7 @@ pub(crate) fn owned(apps: &mut Apps, placed: &Placement, p: u8, chain: Chain, nu
     requires live { IsLive placed.now.app apps.old.entries }
     requires place { IfSome (lookup (nat_eq placed.now.app) apps.old.entries)
         (λ row. IsLive p row.chains) }
+    requires small { number < 2 ^ 32 - 1 }
     ensures apps { apps.new ≡ with_app placed.now.app (λ row.
         owned_part placed.now.role number
         (record row { chains = with_row p chain row.chains })) apps.old }
@@ -46,7 +47,7 @@ pub(crate) fn owned(apps: &mut Apps, placed: &Placement, p: u8, chain: Chain, nu
     let app = placed.app;
     apps.set_chain(app, p, chain);
     match placed.role {
-        Role::Master => apps.set_master(app, Some(number)),
+        Role::Master => apps.set_master(app, MaybeRow::some(number)),
         Role::Ask { .. } => {}
     }
 }
@@ -56,6 +57,7 @@ pub(crate) fn taken(apps: &mut Apps, placed: &Placement, p: u8, chain: Chain, nu
     requires live { IsLive placed.now.app apps.old.entries }
     requires place { IfSome (lookup (nat_eq placed.now.app) apps.old.entries)
         (λ row. IsLive p row.chains) }
+    requires small { number < 2 ^ 32 - 1 }
     ensures apps { apps.new ≡ with_app placed.now.app (λ row.
         taken_part placed.now.role number
         (record row { chains = with_row p chain row.chains })) apps.old }
@@ -100,7 +102,7 @@ pub(crate) fn released(apps: &mut Apps, ended: &Container, p: u8, chain: Chain)
     let app = ended.app;
     apps.set_chain(app, p, chain);
     match ended.role {
-        Role::Master => apps.set_master(app, None),
+        Role::Master => apps.set_master(app, MaybeRow::NONE),
         Role::Ask { .. } => {}
     }
 }

@@ -416,7 +416,7 @@ impl Inventory {
             (λ row. result ≡ runs_at self.now.rows app row) }
     {
         let row = &self.apps[app];
-        row.master.is_some()
+        row.master.get().is_some()
     }
 
     /// The number of a live application's master in its home partition, if it runs.
@@ -426,7 +426,7 @@ impl Inventory {
             (λ row. result ≡ master_of self.now.rows app row) }
     {
         let row = &self.apps[app];
-        row.master
+        row.master.get()
     }
 
     /// The container under a number in a partition.

@@ -2,7 +2,7 @@
 
 ghost use Rattle.std.specs.Map.{lookup};
 ghost use Rattle.ynl_model.specs.Nodes.{rises};
-ghost use Rattle.std.specs.Prelude.{nat_eq, Some, IfSome, OnOk, ◌≡◌, ◌<◌, ◌≤◌, ◌+◌, ◌++◌, ◌∷◌, []};
+ghost use Rattle.std.specs.Prelude.{nat_eq, Some, IfSome, OnOk, ◌≡◌, ◌<◌, ◌≤◌, ◌+◌, ◌-◌, ◌^◌, ◌++◌, ◌∷◌, []};
 ghost use Rattle.ynl_slots.specs.Slots.{IsLive, IsUnused, without};
 ghost use Rattle.ynl_tables.specs.containers.Table.{IsAbove};
 ghost use Rattle.ynl_tables.specs.containers.Chains.{IsNodeChain, IsAppChain, KeepsNodes, KeepsApps};
@@ -62,6 +62,7 @@ impl Partition {
         ensures entries { self.new.containers.entries ≡ self.old.containers.entries
             ++ (result, placed_on placed.now clock) ∷ [] }
         ensures unused { IsUnused result self.old.containers.entries }
+        ensures small { result < 2 ^ 32 - 1 }
         ensures of_node { IsNodeChain self.new.containers of_node.new placed.now.node }
         ensures of_app { IsAppChain self.new.containers of_app.new placed.now.app }
         ensures nodes { KeepsNodes placed.now.node self.old.containers self.new.containers }
@@ -98,6 +99,7 @@ impl Partition {
         ensures entries { self.new.containers.entries ≡ self.old.containers.entries
             ++ (result, placed_on placed.now (self.old.clock + 1)) ∷ [] }
         ensures unused { IsUnused result self.old.containers.entries }
+        ensures small { result < 2 ^ 32 - 1 }
         ensures of_node { IsNodeChain self.new.containers of_node.new placed.now.node }
         ensures of_app { IsAppChain self.new.containers of_app.new placed.now.app }
         ensures nodes { KeepsNodes placed.now.node self.old.containers self.new.containers }

@@ -21,11 +21,12 @@ use ynl_tables::containers::Role;
 pub fn ticket_of(row: &AppRow, p: u8) -> Option<u32>
     ensures { result ≡ ticket_on p (app_row row.now) }
 {
-    if row.home == p {
+    let ticket = if row.home == p {
         row.tickets.home
     } else {
         row.tickets.default
-    }
+    };
+    ticket.get()
 }
 
 /// Whether an ask of a user that uses so much may be placed.

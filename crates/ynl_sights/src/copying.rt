@@ -13,7 +13,7 @@ ghost use Rattle.ynl_sights.specs.Copying.{bids_at, offers_at};
 ghost use Rattle.ynl_sights.specs.Rows.{asks_in, guest_bids_in, masters_in, offers_in};
 ghost use Rattle.ynl_sights.specs.Sights.{guests_in, offer_of, sighted};
 
-use crate::gathering::{apps_of, none_waits, offered_in};
+use crate::gathering::{list_apps, none_waits, offered_in};
 use crate::rows::{GuestSight, LeafSight};
 use crate::sights::Sight;
 use crate::ways::{limits_of, start, way_of};
@@ -29,6 +29,7 @@ fn add_leaf_sight(
     cluster: &Cluster,
     p: u8,
     leaf: usize,
+    apps: &mut Vec<u32>,
     out: &mut Vec<LeafSight>,
 ) -> Result<(), AllocError>
     requires there { IsCell cluster.now p leaf }
@@ -48,9 +49,9 @@ fn add_leaf_sight(
     let mut place = start(cluster, p);
     let way = way_of(alloc, cluster, p, leaf, &mut place)?;
     let limits = limits_of(cluster, p, leaf, &place);
-    let apps = apps_of(alloc, cluster, leaf)?;
-    let masters = offered_in(alloc, cluster, p, leaf, Kind::Master, &apps)?;
-    let asks = offered_in(alloc, cluster, p, leaf, Kind::Ask, &apps)?;
+    list_apps(cluster, leaf, apps)?;
+    let masters = offered_in(alloc, cluster, p, leaf, Kind::Master, apps)?;
+    let asks = offered_in(alloc, cluster, p, leaf, Kind::Ask, apps)?;
     out.push(LeafSight {
         way,
         limits,
@@ -70,8 +71,9 @@ fn leaf_sights(alloc: Global, cluster: &Cluster, p: u8) -> Result<Vec<LeafSight>
     let queues = cluster.inventory().layout().len();
     // With room for all at once: to grow would move the sights of a busy cluster again and again.
     let mut sights = Vec::with_capacity(alloc, queues)?;
+    let mut apps = Vec::new(alloc);
     for queue in 1..queues {
-        add_leaf_sight(alloc, cluster, p, queue, &mut sights)?;
+        add_leaf_sight(alloc, cluster, p, queue, &mut apps, &mut sights)?;
     }
     Ok(sights)
 }
@@ -82,6 +84,7 @@ fn add_guest_sight(
     alloc: Global,
     cluster: &Cluster,
     leaf: usize,
+    apps: &mut Vec<u32>,
     out: &mut Vec<GuestSight>,
 ) -> Result<(), AllocError>
     requires there { IsCell cluster.now 0 leaf }
@@ -97,8 +100,8 @@ fn add_guest_sight(
     }
     let mut place = start(cluster, 0);
     let way = way_of(alloc, cluster, 0, leaf, &mut place)?;
-    let apps = apps_of(alloc, cluster, leaf)?;
-    let asks = offered_in(alloc, cluster, 0, leaf, Kind::Ask, &apps)?;
+    list_apps(cluster, leaf, apps)?;
+    let asks = offered_in(alloc, cluster, 0, leaf, Kind::Ask, apps)?;
     out.push(GuestSight { way, asks })?;
     Ok(())
 }
@@ -115,8 +118,9 @@ fn guest_sights(alloc: Global, cluster: &Cluster, p: u8) -> Result<Vec<GuestSigh
     }
     let queues = inventory.layout().len();
     let mut sights = Vec::with_capacity(alloc, queues)?;
+    let mut apps = Vec::new(alloc);
     for queue in 1..queues {
-        add_guest_sight(alloc, cluster, queue, &mut sights)?;
+        add_guest_sight(alloc, cluster, queue, &mut apps, &mut sights)?;
     }
     Ok(sights)
 }

@@ -152,15 +152,19 @@ fn add_asks(
     Ok(())
 }
 
-/// The live applications of a leaf, in the order of submission. Each has a seat in the leaf's lane on
-/// DEFAULT, wherever it is at home.
-pub(crate) fn apps_of(alloc: Global, cluster: &Cluster, leaf: usize) -> Result<Vec<u32>, AllocError>
+/// The list becomes that of the live applications of a leaf, in the order of submission. Each has a seat in
+/// the leaf's lane on DEFAULT, wherever it is at home.
+pub(crate) fn list_apps(
+    cluster: &Cluster,
+    leaf: usize,
+    apps: &mut Vec<u32>,
+) -> Result<(), AllocError>
     requires { HasNumber cluster.now.rows.paths leaf }
-    ensures { IfOk result (λ apps. AreAppsOf cluster.now.rows leaf apps.items) }
+    ensures { OnOk result (AreAppsOf cluster.now.rows leaf apps.new.items) }
 {
     // Opens the inventory, which has DEFAULT.
     let _ = cluster.inventory();
-    cluster.lane(0, leaf).apps(alloc)
+    cluster.lane(0, leaf).list_apps(apps)
 }
 
 /// Adds what an application wants of a kind on the partition.

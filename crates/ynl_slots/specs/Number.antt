@@ -15,12 +15,12 @@ standing_for (Some n) = n
 abbrev pub shown : Inside → Option ℕ
 shown a = number_of a.number
 
-abbrev pub kept : Option ℕ → Inside
-kept o = record { number = standing_for o }
+abbrev pub fields_of : Option ℕ → Inside
+fields_of o = record { number = standing_for o }
 
-pub kept_back : (a : Inside) → kept (shown a) ≡ a
-kept_back a = go (nat_eq a.number (2 ^ 32 - 1)) refl
+pub fields_back : (a : Inside) → fields_of (shown a) ≡ a
+fields_back a = go (nat_eq a.number (2 ^ 32 - 1)) refl
   where
-    go : (b : Bool) → nat_eq a.number (2 ^ 32 - 1) ≡ b → kept (cond b None (Some a.number)) ≡ a
+    go : (b : Bool) → nat_eq a.number (2 ^ 32 - 1) ≡ b → fields_of (cond b None (Some a.number)) ≡ a
     go true is = let same : 2 ^ 32 - 1 ≡ a.number = grind (arith, nat_tests) in ap (λ n. record { number = n }) same
     go false is = refl

@@ -1,6 +1,6 @@
 //! Chains of rows: each row names the one before it and the one after it.
 
-ghost use Rattle.std.specs.Prelude.{◌≡◌, ℕ, Option, Some, None, is_some, if◌then◌else◌, []};
+ghost use Rattle.std.specs.Prelude.{◌≡◌, ℕ, Option, Some, is_some, if◌then◌else◌, []};
 ghost use Rattle.std.specs.Option.{ForSome};
 ghost use Rattle.ynl_slots.specs.declared.chain.Links.{Links};
 ghost use Rattle.ynl_slots.specs.Slots.{IsLive};
@@ -36,6 +36,12 @@ pub trait Linked<K> {
 pub struct Chain {
     first: MaybeRow,
     last: MaybeRow,
+}
+
+impl Default for Chain {
+    fn default() -> Chain {
+        Chain::new()
+    }
 }
 
 impl Chain {

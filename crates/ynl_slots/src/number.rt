@@ -1,6 +1,6 @@
 //! The number of a row, or of none.
 
-ghost use Rattle.std.specs.Prelude.{◌≡◌};
+ghost use Rattle.std.specs.Prelude.{◌≡◌, ◌<◌, ◌-◌, ◌^◌, Some};
 ghost use Rattle.std.specs.Option.{option_or};
 ghost use Rattle.ynl_slots.specs.Number.{number_of};
 
@@ -20,18 +20,26 @@ impl Model for MaybeRow {
 
     ghost Value = { Option ℕ };
 
-    ghost use Rattle.ynl_slots.specs.Number.{shown, kept, kept_back};
+    ghost use Rattle.ynl_slots.specs.Number.{shown, fields_of, fields_back};
 
     ghost view = { shown };
 
-    ghost inverse = { kept };
+    ghost inverse = { fields_of };
 
-    ghost inverse_ok = { λ a _. kept_back a };
+    ghost inverse_ok = { λ a _. fields_back a };
 }
 
 impl MaybeRow {
     /// The number of no row.
     pub const NONE: MaybeRow = MaybeRow { number: END };
+
+    /// The number of a row.
+    pub fn some(number: u32) -> MaybeRow
+        requires { number < 2 ^ 32 - 1 }
+        ensures { result ≡ Some number }
+    {
+        MaybeRow { number }
+    }
 
     /// The number, or none if no slot has it.
     pub(crate) fn of(number: u32) -> MaybeRow

@@ -1,6 +1,6 @@
 //! Rows in slots, with a list of the free ones.
 
-ghost use Rattle.std.specs.Prelude.{◌≡◌, ◌≤◌, ◌<◌, ◌+◌, ◌-◌, ◌^◌, ◌++◌, ◌∷◌, ◌==◌, [], length, map, vec_capacity, None, Some, IsSome, IsOk, OnOk, IfOk, IfSome, if◌then◌else◌, nat_eq, option_copied};
+ghost use Rattle.std.specs.Prelude.{◌≡◌, ◌≤◌, ◌<◌, ◌+◌, ◌-◌, ◌^◌, ◌++◌, ◌∷◌, ◌==◌, [], length, map, vec_capacity, Some, IsSome, IsOk, OnOk, IfOk, IfSome, if◌then◌else◌, nat_eq, option_copied};
 ghost use Rattle.std.specs.Map.{lookup};
 ghost use Rattle.std.specs.Borrow.{Lends, sem};
 ghost use Rattle.ynl_slots.specs.Slots.{number_in, IsLive, IsAfter, IsUnused, IsOnly, HasDistinctNumbers, without};
@@ -151,6 +151,7 @@ impl<T> Slots<T> {
         requires { 0 < self.old.room }
         ensures entries { self.new.entries ≡ self.old.entries ++ (result, row) ∷ [] }
         ensures unused { IsUnused result self.old.entries }
+        ensures small { result < 2 ^ 32 - 1 }
         ensures room { self.old.room ≡ self.new.room + 1 }
     {
         let number = self.free;

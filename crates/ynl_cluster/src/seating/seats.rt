@@ -18,6 +18,7 @@ use crate::seating::waits::ticket_on;
 use std::alloc::AllocError;
 use ynl_inventory::Inventory;
 use ynl_lanes::table::Lanes;
+use ynl_slots::MaybeRow;
 use ynl_tables::apps::{AppRow, Tickets};
 
 /// Takes all memory that the seats of a user's next application of a leaf need, so `seat` takes none. It fails if memory is
@@ -45,14 +46,14 @@ fn add_seats(inventory: &Inventory, lanes: &mut Lanes, app: u32) -> Tickets
     let home = lanes.add(row.home as usize, row.leaf as usize, app);
     if row.home == 0 {
         return Tickets {
-            home: Some(home),
-            default: None,
+            home: MaybeRow::some(home),
+            default: MaybeRow::NONE,
         };
     }
     let default = lanes.add(0, row.leaf as usize, app);
     Tickets {
-        home: Some(home),
-        default: Some(default),
+        home: MaybeRow::some(home),
+        default: MaybeRow::some(default),
     }
 }
 

@@ -73,7 +73,7 @@ pub(crate) fn ticket_on(p: u8, row: &AppRow) -> u32
     } else {
         row.tickets.default
     };
-    match ticket {
+    match ticket.get() {
         Some(ticket) => ticket,
         None => unreachable!(),
     }

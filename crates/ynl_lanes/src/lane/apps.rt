@@ -1,12 +1,12 @@
 //! The applications of a lane's seats.
 
-ghost use Rattle.std.specs.Prelude.{◌≡◌, ◌+◌, map, IfOk, OnOk};
+ghost use Rattle.std.specs.Prelude.{◌≡◌, ◌+◌, map, OnOk};
 ghost use Rattle.ynl_lanes.specs.lane.Apps.{apps_before};
 ghost use Rattle.ynl_lanes.specs.lane.Rows.{IsSeated};
 
 use crate::lane::levels::{Level, seat_at};
 use crate::lane::rows::Rows;
-use std::alloc::{AllocError, Global};
+use std::alloc::AllocError;
 
 impl Rows {
     /// The application of the seat in a slot, if one stands there, comes last.
@@ -20,15 +20,17 @@ impl Rows {
         Ok(())
     }
 
-    /// The applications of all seats, in the order of the lane. It goes from slot to slot, so it needs no sort.
-    pub(crate) fn apps(&self, alloc: Global) -> Result<Vec<u32>, AllocError>
+    /// The list becomes that of the applications of all seats, in the order of the lane. It goes from slot to slot, so it
+    /// needs no sort.
+    pub(crate) fn list_apps(&self, apps: &mut Vec<u32>) -> Result<(), AllocError>
         requires { IsSeated self.now }
-        ensures { IfOk result (λ apps. apps.items ≡ map (λ e. e.1.app) self.now.seats.entries) }
+        ensures { OnOk result (apps.new.items ≡ map (λ e. e.1.app) self.now.seats.entries) }
     {
-        let mut apps = Vec::with_capacity(alloc, self.seats.len())?;
+        apps.clear();
+        apps.reserve(self.seats.len())?;
         for slot in 0..self.line.len() {
-            self.add_app(slot, &mut apps)?;
+            self.add_app(slot, apps)?;
         }
-        Ok(apps)
+        Ok(())
     }
 }

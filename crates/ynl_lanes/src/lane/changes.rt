@@ -1,6 +1,6 @@
 //! How the rows of a lane change.
 
-ghost use Rattle.std.specs.Prelude.{◌≡◌, ◌≢◌, ◌<◌, ◌+◌, ◌-◌, IsTrue, option_map, length, Some, nat_eq};
+ghost use Rattle.std.specs.Prelude.{◌≡◌, ◌≢◌, ◌<◌, ◌+◌, ◌-◌, ◌^◌, IsTrue, option_map, length, Some, nat_eq};
 ghost use Rattle.std.specs.Map.{lookup};
 ghost use Rattle.ynl_slots.specs.Slots.{HasDistinctNumbers, IsLive, with_row, without};
 ghost use Rattle.ynl_lanes.specs.lane.Changes.{SetsWaits, SetsValues, SetsUsed, PushesOwn, PushesSeat, IsOwnRoom, IsPulled, ShowSame, ShowsOther};
@@ -117,6 +117,7 @@ impl Rows {
         requires own_room { IsOwnRoom user self.old.users.entries }
         ensures kept { IsKept self.new }
         ensures seats { PushesSeat app user result self.old.seats.entries self.new.seats.entries }
+        ensures small { result < 2 ^ 32 - 1 }
         ensures users { ShowsOther user (λ shown. record shown { live = shown.live + 1 }) self.old.users.entries self.new.users.entries }
     {
         let slot = self.line.len() as u32;

@@ -1,6 +1,6 @@
 //! A lane: the seats of a leaf's applications on one partition, their users, and the search of them.
 
-ghost use Rattle.std.specs.Prelude.{◌≡◌, ◌↔◌, ◌<◌, [], ℕ, length, map, Option, Some, None, IsSome, IsTrue, OnOk, OnErr, IfOk, IfSome, nat_eq, option_map};
+ghost use Rattle.std.specs.Prelude.{◌≡◌, ◌↔◌, ◌<◌, ◌-◌, ◌^◌, [], ℕ, length, map, Option, Some, None, IsSome, IsTrue, OnOk, OnErr, IfSome, nat_eq, option_map};
 ghost use Rattle.std.specs.Map.{lookup};
 ghost use Rattle.ynl_lanes.specs.lows.Lows.{IsBelow};
 ghost use Rattle.ynl_slots.specs.Slots.{without};
@@ -129,11 +129,11 @@ impl Lane {
         }
     }
 
-    /// The applications of the seats, in the order of the seats. It fails if memory is refused.
-    pub fn apps(&self, alloc: Global) -> Result<Vec<u32>, AllocError>
-        ensures { IfOk result (λ apps. apps.items ≡ map (λ e. e.1.app) self.now.seats) }
+    /// The list becomes that of the applications of the seats, in the order of the seats. It fails if memory is refused.
+    pub fn list_apps(&self, apps: &mut Vec<u32>) -> Result<(), AllocError>
+        ensures { OnOk result (apps.new.items ≡ map (λ e. e.1.app) self.now.seats) }
     {
-        self.rows.apps(alloc)
+        self.rows.list_apps(apps)
     }
 
     /// A size, in MB and virtual cores, that no request of a kind that waits is below. It may be below all of them.
@@ -179,6 +179,7 @@ impl Lane {
     pub fn add(&mut self, app: u32) -> u32
         requires { IsSome self.old.ready }
         ensures seats { IfSome self.old.ready (λ user. Adds app result user self.old.seats self.new.seats) }
+        ensures small { result < 2 ^ 32 - 1 }
         ensures ready { self.new.ready ≡ None }
     {
         let Some(user) = self.ready else {

@@ -1,6 +1,6 @@
 //! The lanes of all leaves on all partitions.
 
-ghost use Rattle.std.specs.Prelude.{◌≡◌, IfOk, IsSome, replicate};
+ghost use Rattle.std.specs.Prelude.{◌≡◌, ◌<◌, ◌-◌, ◌^◌, IfOk, IsSome, replicate};
 ghost use Rattle.ynl_lanes.specs.lane.Rows.{IsUse};
 ghost use Rattle.ynl_lanes.specs.lane.Seats.{IsSeat};
 ghost use Rattle.ynl_lanes.specs.table.Lanes.{AddsOne, Changes, Enters, IsLaneAt, Removes, Reserves, SetsUsed, lane_at, no_seats};
@@ -66,7 +66,8 @@ impl Lanes {
     pub fn add(&mut self, partition: usize, queue: usize, app: u32) -> u32
         requires lane { IsLaneAt partition queue self.old }
         requires ready { IsSome (lane_at partition queue self.old).ready }
-        ensures { Changes partition queue (AddsOne app result) self.old self.new }
+        ensures lanes { Changes partition queue (AddsOne app result) self.old self.new }
+        ensures small { result < 2 ^ 32 - 1 }
     {
         self.lanes[partition][queue].add(app)
     }

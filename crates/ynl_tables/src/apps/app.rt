@@ -7,14 +7,15 @@ use crate::apps::asks::Asks;
 use crate::apps::chains::Chains;
 use std::alloc::Global;
 use ynl_resource::Size;
+use ynl_slots::MaybeRow;
 
 /// The tickets of an application in the lanes of its leaf.
 #[derive(Clone, Copy)]
 pub struct Tickets {
     /// In the lane of its home partition.
-    pub home: Option<u32>,
+    pub home: MaybeRow,
     /// In the lane of DEFAULT, where that is another.
-    pub default: Option<u32>,
+    pub default: MaybeRow,
 }
 
 /// A live application. Its tenant has its name, at its turn.
@@ -32,7 +33,7 @@ pub struct AppRow {
     pub home: u8,
     pub master_size: Size,
     /// The number of its master, once that is placed, among the containers of the home partition.
-    pub master: Option<u32>,
+    pub master: MaybeRow,
     pub tickets: Tickets,
     pub asks: Asks,
     pub chains: Chains,
@@ -72,10 +73,10 @@ impl AppRow {
             user: new.user,
             home: new.home,
             master_size: new.master_size,
-            master: None,
+            master: MaybeRow::NONE,
             tickets: Tickets {
-                home: None,
-                default: None,
+                home: MaybeRow::NONE,
+                default: MaybeRow::NONE,
             },
             asks: Asks::new(alloc),
             chains: Chains::new(alloc),

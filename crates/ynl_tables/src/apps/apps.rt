@@ -12,7 +12,7 @@ use crate::apps::asks::Ask;
 use std::alloc::{AllocError, Global};
 use std::marker::Model;
 use std::ops::Index;
-use ynl_slots::{Chain, Slots};
+use ynl_slots::{Chain, MaybeRow, Slots};
 
 /// The live applications of a cluster under numbers. An application is found by its number in constant time. A contract
 /// sees the applications under their numbers, in the order in which they were added, and how many more take no memory.
@@ -141,7 +141,7 @@ impl Apps {
     }
 
     /// Sets the number of an application's master.
-    pub fn set_master(&mut self, number: u32, master: Option<u32>)
+    pub fn set_master(&mut self, number: u32, master: MaybeRow)
         requires { IsLive number self.old.entries }
         ensures { self.new ≡ with_app number (λ app. record app { master = master }) self.old }
     {

@@ -1,19 +1,21 @@
 //! The chains of an application's containers.
 
-ghost use Rattle.std.specs.Prelude.{◌≡◌, ◌++◌, ◌∷◌, ℕ, [], IsOk, OnOk, OnErr, nat_eq};
+ghost use Rattle.std.specs.Prelude.{◌≡◌, ◌<◌, ◌++◌, ◌∷◌, ℕ, [], Some, IsOk, OnOk, OnErr, nat_eq, slice_get, slice_set};
 ghost use Rattle.std.specs.List.{position_or_len};
+ghost use Rattle.smallvec.specs.SmallVec.{small_vec_len};
 ghost use Rattle.ynl_slots.specs.Slots.{IsLive, HasDistinctNumbers, with_row};
 ghost use Rattle.ynl_tables.specs.apps.Chains.{chain_of, with_place};
 
+use smallvec::SmallVec;
 use std::alloc::{AllocError, Global};
 use std::marker::Model;
 use ynl_slots::Chain;
 
-/// The chains of an application's containers, by the numbers of their partitions. They are few. A contract sees the
+/// The chains of an application's containers, by the numbers of their partitions. They are few, and the first two take no memory. A contract sees the
 /// chains under those numbers, in the order in which their places were made.
 #[derive(Drop)]
 pub struct Chains {
-    rows: Vec<(u8, Chain)>,
+    rows: SmallVec<(u8, Chain), 2>,
 }
 
 impl Model for Chains {
@@ -34,7 +36,7 @@ impl Chains {
         ensures { result ≡ [] }
     {
         Chains {
-            rows: Vec::new(alloc),
+            rows: SmallVec::new(alloc),
         }
     }
 
@@ -43,8 +45,8 @@ impl Chains {
         ensures value { result ≡ chain_of partition self.now }
         ensures distinct { HasDistinctNumbers self.now }
     {
-        let place = place_of(&self.rows, partition);
-        match self.rows.get(place) {
+        let rows = self.rows.as_slice();
+        match rows.get(place_of(rows, partition)) {
             Some(row) => row.1,
             None => Chain::new(),
         }
@@ -58,7 +60,7 @@ impl Chains {
         ensures place { OnOk result (IsLive partition self.new) }
         ensures same { (p : ℕ) → chain_of p self.new ≡ chain_of p self.old }
     {
-        if place_of(&self.rows, partition) < self.rows.len() {
+        if place_of(self.rows.as_slice(), partition) < self.rows.len() {
             return Ok(());
         }
         push_row(&mut self.rows, (partition, Chain::new()))?;
@@ -70,9 +72,8 @@ impl Chains {
         requires { IsLive partition self.old }
         ensures { self.new ≡ with_row partition chain self.old }
     {
-        let place = place_of(&self.rows, partition);
-        let row = &mut self.rows[place];
-        row.1 = chain;
+        let place = place_of(self.rows.as_slice(), partition);
+        set_row(&mut self.rows, place, chain);
     }
 }
 
@@ -88,12 +89,23 @@ fn place_of(rows: &[(u8, Chain)], partition: u8) -> usize
     rows.len()
 }
 
-/// The row comes last. Of most applications there are one or two for good, so no room is taken for more.
-fn push_row(rows: &mut Vec<(u8, Chain)>, row: (u8, Chain)) -> Result<(), AllocError>
+/// The row comes last. Of most applications there are one or two for good, which take no memory, and so no room is taken for more.
+fn push_row(rows: &mut SmallVec<(u8, Chain), 2>, row: (u8, Chain)) -> Result<(), AllocError>
     ensures ok { OnOk result (rows.new.items ≡ rows.old.items ++ row ∷ []) }
     ensures err { OnErr result (rows.new.items ≡ rows.old.items) }
 {
     rows.reserve_exact(1)?;
     rows.push_reserved(row);
     Ok(())
+}
+
+/// The row in a place has another chain.
+fn set_row(rows: &mut SmallVec<(u8, Chain), 2>, place: usize, chain: Chain)
+    requires { place < small_vec_len rows.old }
+    ensures { (row : _) → slice_get rows.old.items place ≡ Some row
+        → rows.new.items ≡ slice_set rows.old.items place (row.0, chain) }
+{
+    if let Some(row) = rows.get_mut(place) {
+        row.1 = chain;
+    }
 }

@@ -1,6 +1,6 @@
 //! The containers of a partition.
 
-ghost use Rattle.std.specs.Prelude.{◌≡◌, ◌<◌, ◌≤◌, ◌+◌, ◌++◌, ◌∷◌, [], length, map, nat_eq, option_copied, option_map, Some, IfOk, IsOk, OnOk, IfSome};
+ghost use Rattle.std.specs.Prelude.{◌≡◌, ◌<◌, ◌≤◌, ◌+◌, ◌-◌, ◌^◌, ◌++◌, ◌∷◌, [], length, map, nat_eq, option_copied, option_map, Some, IfOk, IsOk, OnOk, IfSome};
 ghost use Rattle.std.specs.Map.{lookup};
 ghost use Rattle.ynl_slots.specs.Slots.{number_in, IsAfter, IsLive, IsUnused, HasDistinctNumbers, without};
 ghost use Rattle.ynl_slots.specs.declared.chain.Chain.{Chain};
@@ -93,6 +93,7 @@ impl Containers {
         requires of_app { IsAppChain self.old of_app.old container.app }
         ensures entries { self.new.entries ≡ self.old.entries ++ (result, container) ∷ [] }
         ensures unused { IsUnused result self.old.entries }
+        ensures small { result < 2 ^ 32 - 1 }
         ensures of_node { IsNodeChain self.new of_node.new container.node }
         ensures of_app { IsAppChain self.new of_app.new container.app }
         ensures nodes { KeepsNodes container.node self.old self.new }

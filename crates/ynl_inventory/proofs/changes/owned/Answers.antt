@@ -21,7 +21,7 @@ set_master-requires c =
 pub returns-in-Master-clause-apps : goal.returns-in-Master-clause-apps
 returns-in-Master-clause-apps c =
     app-twice c.args.placed.now.app (λ row. record row { master = Some c.args.number }) (λ row. record row { chains = with_row c.args.p c.args.chain row.chains }) c.args.apps.now c.set_chain.new.self
-    c.set_master.new.self c.set_master.ensures c.set_chain.ensures
+    c.set_master.new.self (rw c.some.ensures at c.set_master.ensures) c.set_chain.ensures
     ∙ ap (λ (r : Role). with_app c.args.placed.now.app (λ row. owned_part r c.args.number (record row { chains = with_row c.args.p c.args.chain row.chains })) c.args.apps.now) (sym c.in-Master.is)
 
 pub returns-in-Ask-clause-apps : goal.returns-in-Ask-clause-apps

@@ -10,4 +10,4 @@ pub index-row-requires : goal.index-row-requires
 index-row-requires c = app-live c.self.inside c.args.app (subst (λ (h : Held). IsLive c.args.app h.rows.apps) (sym c.self.view_is) c.requires)
 
 pub returns : goal.returns
-returns c = master-read c.self.inside c.args.self.now c.self.view_is c.self.invariant c.args.app c.index-row.result.now c.index-row.ensures
+returns c = rw c.get.ensures (master-read c.self.inside c.args.self.now c.self.view_is c.self.invariant c.args.app c.index-row.result.now c.index-row.ensures)

@@ -25,3 +25,9 @@ returns-clause-unused g c =
     let room = room_bounds (vec_capacity c.self.inside.slots) c.self.inside.len (rw (← c.self.view_is) at c.requires) in
     let place = free_place _ _ _ c.self.invariant.sound c.self.invariant.fits room.1 in
     rw (← c.self.view_is) (pushed_unused _ _ _ _ c.self.invariant.ordered c.self.invariant.fits c.self.inside.free c.args.row place.0 place.1 place.2)
+
+pub returns-clause-small : goal.returns-clause-small
+returns-clause-small g c =
+    let room = room_bounds (vec_capacity c.self.inside.slots) c.self.inside.len (rw (← c.self.view_is) at c.requires) in
+    let place = free_place _ _ _ c.self.invariant.sound c.self.invariant.fits room.1 in
+    place.2

@@ -11,4 +11,4 @@ returns c =
     let own : c.len-own_slot.result ≡ length c.index.result.now.line.tickets = omega (arith, c.len-own_slot.ensures) in
     let both = pushed c.args.self.now (record c.args.self.now { seats = c.push-ticket.new.self; users = c.push_own.new.users; line = c.push.new.self }) c.requires.kept c.args.app c.args.user c.push-ticket.result c.push-ticket.ensures.unused c.requires.room c.requires.own_room c.push_own.ensures _
     refl slot (own ∙ ap (λ (r : UserRow). length r.line.tickets) same) refl c.push-ticket.ensures.entries c.push.ensures.tickets c.push.ensures.masters c.push.ensures.asks in
-    record { kept = both.0; seats = search rules; users = both.1 }
+    record { kept = both.0; seats = search rules; small = c.push-ticket.ensures.small; users = both.1 }

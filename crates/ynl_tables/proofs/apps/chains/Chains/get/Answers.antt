@@ -11,8 +11,8 @@ returns-in-Some-clause-value c =
     let n : ℕ = c.args.partition in
     let chains : List (ℕ × Chain) = c.self.inside.rows.items in
     let test = λ (row : ℕ × Chain). nat_eq n row.0 in
-    let place : c.place_of-place.result ≡ position_or_len test chains = c.place_of-place.ensures ∙ ap (position_or_len test) c.deref.ensures.value in
-    let at : Some c.in-Some.row.now ≡ slice_get chains (position_or_len test chains) = ap option_copied (sym c.in-Some.is) ∙ item_read c.deref-2.result.now c.place_of-place.result c.get.result c.get.ensures.lookup.0 c.get.ensures.lookup.1 ∙ (λ i. slice_get (c.deref-2.ensures.value i) (place i)) in
+    let place : c.place_of.result ≡ position_or_len test chains = c.place_of.ensures ∙ ap (position_or_len test) c.as_slice-rows.ensures in
+    let at : Some c.in-Some.row.now ≡ slice_get chains (position_or_len test chains) = ap option_copied (sym c.in-Some.is) ∙ item_read c.as_slice-rows.result.now c.place_of.result c.get.result c.get.ensures.lookup.0 c.get.ensures.lookup.1 ∙ (λ i. slice_get (c.as_slice-rows.ensures i) (place i)) in
     ap (λ (o : Option (ℕ × Chain)). unwrap_or (option_map (λ (row : ℕ × Chain). row.1) o) no_chain) at
     ∙ ap (λ (o : Option Chain). unwrap_or o no_chain) (sym (lookup-place n chains))
     ∙ ap (chain_of n) c.self.view_is
@@ -22,8 +22,8 @@ returns-in-None-clause-value c =
     let n : ℕ = c.args.partition in
     let chains : List (ℕ × Chain) = c.self.inside.rows.items in
     let test = λ (row : ℕ × Chain). nat_eq n row.0 in
-    let place : c.place_of-place.result ≡ position_or_len test chains = c.place_of-place.ensures ∙ ap (position_or_len test) c.deref.ensures.value in
-    let at : None ≡ slice_get chains (position_or_len test chains) = ap option_copied (sym c.in-None.is) ∙ item_read c.deref-2.result.now c.place_of-place.result c.get.result c.get.ensures.lookup.0 c.get.ensures.lookup.1 ∙ (λ i. slice_get (c.deref-2.ensures.value i) (place i)) in
+    let place : c.place_of.result ≡ position_or_len test chains = c.place_of.ensures ∙ ap (position_or_len test) c.as_slice-rows.ensures in
+    let at : None ≡ slice_get chains (position_or_len test chains) = ap option_copied (sym c.in-None.is) ∙ item_read c.as_slice-rows.result.now c.place_of.result c.get.result c.get.ensures.lookup.0 c.get.ensures.lookup.1 ∙ (λ i. slice_get (c.as_slice-rows.ensures i) (place i)) in
     empty_chain c.new.result c.new.ensures
     ∙ ap (λ (o : Option (ℕ × Chain)). unwrap_or (option_map (λ (row : ℕ × Chain). row.1) o) no_chain) at
     ∙ ap (λ (o : Option Chain). unwrap_or o no_chain) (sym (lookup-place n chains))

@@ -18,8 +18,8 @@ pub returns-then-place_of-len-clause-place : goal.returns-then-place_of-len-clau
 returns-then-place_of-len-clause-place c =
     let n : ℕ = c.args.partition in
     let chains : List (ℕ × Chain) = c.self.inside.rows.items in
-    let place = c.place_of.ensures ∙ ap (position_or_len (λ (row : ℕ × Chain). nat_eq n row.0)) c.deref.ensures.value in
-    let within : c.place_of.result < length chains = omega (arith, c.self.inside.rows.ok.0) in
+    let place = c.place_of.ensures ∙ ap (position_or_len (λ (row : ℕ × Chain). nat_eq n row.0)) c.as_slice.ensures in
+    let within : c.place_of.result < length chains = omega (arith, c.len.ensures.value) in
     subst (IsLive n) c.self.view_is (live-there n chains c.place_of.result place within)
 
 pub returns-then-place_of-len-clause-ok : goal.returns-then-place_of-len-clause-ok
@@ -29,8 +29,8 @@ pub returns-in_err-push_row-clause-there : goal.returns-in_err-push_row-clause-t
 returns-in_err-push_row-clause-there c = λ h.
     let n : ℕ = c.args.partition in
     let chains : List (ℕ × Chain) = c.self.inside.rows.items in
-    let place = c.place_of.ensures ∙ ap (position_or_len (λ (row : ℕ × Chain). nat_eq n row.0)) c.deref.ensures.value in
-    let past : length chains ≤ c.place_of.result = omega (arith, c.self.inside.rows.ok.0) in
+    let place = c.place_of.ensures ∙ ap (position_or_len (λ (row : ℕ × Chain). nat_eq n row.0)) c.as_slice.ensures in
+    let past : length chains ≤ c.place_of.result = omega (arith, c.len.ensures.value) in
     let unused : IsUnused n chains = unused-there n chains c.place_of.result place past in
     absurd (true≢false (sym (subst (IsLive n) (sym c.self.view_is) h) ∙ ap is_some (lookup-unused n chains unused)))
 
@@ -38,8 +38,8 @@ pub invariant_of-self-2 : goal.invariant_of-self-2
 invariant_of-self-2 c =
     let n : ℕ = c.args.partition in
     let chains : List (ℕ × Chain) = c.self.inside.rows.items in
-    let place = c.place_of.ensures ∙ ap (position_or_len (λ (row : ℕ × Chain). nat_eq n row.0)) c.deref.ensures.value in
-    let past : length chains ≤ c.place_of.result = omega (arith, c.self.inside.rows.ok.0) in
+    let place = c.place_of.ensures ∙ ap (position_or_len (λ (row : ℕ × Chain). nat_eq n row.0)) c.as_slice.ensures in
+    let past : length chains ≤ c.place_of.result = omega (arith, c.len.ensures.value) in
     let unused : IsUnused n chains = unused-there n chains c.place_of.result place past in
     distinct_after n chains c.push_row.new.rows.items c.new.result unused c.new.ensures c.in_ok-push_row.ensures.ok c.self.invariant
 
@@ -47,8 +47,8 @@ pub returns-clause-ok : goal.returns-clause-ok
 returns-clause-ok c =
     let n : ℕ = c.args.partition in
     let chains : List (ℕ × Chain) = c.self.inside.rows.items in
-    let place = c.place_of.ensures ∙ ap (position_or_len (λ (row : ℕ × Chain). nat_eq n row.0)) c.deref.ensures.value in
-    let past : length chains ≤ c.place_of.result = omega (arith, c.self.inside.rows.ok.0) in
+    let place = c.place_of.ensures ∙ ap (position_or_len (λ (row : ℕ × Chain). nat_eq n row.0)) c.as_slice.ensures in
+    let past : length chains ≤ c.place_of.result = omega (arith, c.len.ensures.value) in
     let unused : IsUnused n chains = unused-there n chains c.place_of.result place past in
     place_pushed n chains c.push_row.new.rows.items c.new.result unused c.new.ensures c.in_ok-push_row.ensures.ok ∙ ap (with_place n) c.self.view_is
 
@@ -56,8 +56,8 @@ pub returns-clause-place : goal.returns-clause-place
 returns-clause-place c =
     let n : ℕ = c.args.partition in
     let chains : List (ℕ × Chain) = c.self.inside.rows.items in
-    let place = c.place_of.ensures ∙ ap (position_or_len (λ (row : ℕ × Chain). nat_eq n row.0)) c.deref.ensures.value in
-    let past : length chains ≤ c.place_of.result = omega (arith, c.self.inside.rows.ok.0) in
+    let place = c.place_of.ensures ∙ ap (position_or_len (λ (row : ℕ × Chain). nat_eq n row.0)) c.as_slice.ensures in
+    let past : length chains ≤ c.place_of.result = omega (arith, c.len.ensures.value) in
     let unused : IsUnused n chains = unused-there n chains c.place_of.result place past in
     live_after n chains c.push_row.new.rows.items c.new.result unused c.new.ensures c.in_ok-push_row.ensures.ok
 
@@ -65,7 +65,7 @@ pub returns-clause-same : goal.returns-clause-same
 returns-clause-same c = λ p.
     let n : ℕ = c.args.partition in
     let chains : List (ℕ × Chain) = c.self.inside.rows.items in
-    let place = c.place_of.ensures ∙ ap (position_or_len (λ (row : ℕ × Chain). nat_eq n row.0)) c.deref.ensures.value in
-    let past : length chains ≤ c.place_of.result = omega (arith, c.self.inside.rows.ok.0) in
+    let place = c.place_of.ensures ∙ ap (position_or_len (λ (row : ℕ × Chain). nat_eq n row.0)) c.as_slice.ensures in
+    let past : length chains ≤ c.place_of.result = omega (arith, c.len.ensures.value) in
     let unused : IsUnused n chains = unused-there n chains c.place_of.result place past in
     chains_stay n chains c.push_row.new.rows.items c.new.result unused c.new.ensures c.in_ok-push_row.ensures.ok p ∙ ap (chain_of p) c.self.view_is

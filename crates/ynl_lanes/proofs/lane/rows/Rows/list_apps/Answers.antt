@@ -1,9 +1,9 @@
 use Rattle.std.proofs.Common.{◌≤◌, length, sym, ◌∙◌, arith}
 use Rattle.ynl_lanes.proofs.lane.Listing.{first-none, end-all}
-use Rattle.ynl_lanes.proofs.lane.rows.Rows.apps.Goals as goal
+use Rattle.ynl_lanes.proofs.lane.rows.Rows.list_apps.Goals as goal
 
 pub loop-slot-init : goal.loop-slot-init
-loop-slot-init c = c.in_ok-apps.ensures.items ∙ sym (first-none c.args.self.now c.requires)
+loop-slot-init c = c.reserve.ensures.items ∙ c.clear.ensures.items ∙ sym (first-none c.args.self.now c.requires)
 
 pub returns : goal.returns
 returns c =
