@@ -9,7 +9,6 @@ pub mod Handed
 pub mod Fronts
 pub mod Held
 pub mod Inputs
-pub mod Keepings
 pub mod Pieces
 pub mod Readings
 pub mod Runs

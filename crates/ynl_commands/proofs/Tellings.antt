@@ -1,11 +1,11 @@
 -- Lines of events that are written one after another.
-use Rattle.std.proofs.Common.{◌≡◌, ◌≢◌, ℕ, ◌+◌, ◌<◌, List, [], ◌∷◌, ◌++◌, length, take, drop, Bool, Option, Some, None, Result, Ok, Err, refl, sym, ap, subst, ◌∙◌, arith, append-nil, append_assoc, length-append, length-drop, inr}
+use Rattle.std.proofs.Common.{◌≡◌, ◌≢◌, ℕ, ◌+◌, ◌<◌, ◌≤◌, List, [], ◌∷◌, ◌++◌, length, take, drop, Bool, Option, Some, None, Result, Ok, Err, refl, sym, ap, subst, ◌∙◌, arith, append-nil, append_assoc, length-append, get_or, inr}
 use Rattle.std.specs.Prelude.{IsTrue, IfErr, option_map}
 use Rattle.std.specs.List.{concat}
 use Rattle.std.specs.Io.KnownBytes.{Appends}
 use Rattle.std.proofs.KnownBytes.{Appends-nil, Appends-trans}
 use Rattle.std.proofs.lemmas.List.Folds.{concat-append}
-use Rattle.std.proofs.lemmas.List.{take-append-le, take_at}
+use Rattle.std.proofs.lemmas.List.{drop_all, drop_more, take-append-le, take_at}
 use Rattle.std.proofs.Math.Seq.{take-append-add}
 use Rattle.ynl_resource.specs.declared.names.Name.{Name}
 use Rattle.ynl_resource.specs.declared.labels.Label.{Label}
@@ -19,20 +19,17 @@ use Rattle.ynl_commands.specs.declared.run.ToolFault.{ToolFault}
 use Rattle.ynl_commands.specs.declared.run.ToolFault.TheVariants.{Read, Write, NoMemory, Unclosed}
 use Rattle.ynl_lines.specs.declared.faults.LineFault.{LineFault}
 use Rattle.ynl_lines.specs.declared.faults.InputFault.TheVariants.{Script as InScript}
-use Rattle.ynl_lines.specs.Reading.{event_of_line}
 use Rattle.ynl_lines.specs.Writing.{fault_text}
 use Rattle.ynl_commands.specs.declared.run.Summary.{Summary}
 use Rattle.ynl_commands.specs.declared.tenant.Stand.{Stand}
-use Rattle.ynl_commands.specs.Lines.{IsPlain, AppendsPart, HoldsBack}
+use Rattle.ynl_commands.specs.Lines.{AppendsPart, HoldsBack}
 use Rattle.ynl_commands.specs.Input.{Stream, between}
-use Rattle.ynl_commands.specs.Keeping.{Keeps}
 use Rattle.ynl_commands.specs.Run.{line_of, faulty, fault_lines_of, fault_lines}
 use Rattle.ynl_commands.specs.Running.{Writes}
 use Rattle.ynl_commands.specs.Readings.{ReadsTo}
 use Rattle.ynl_commands.specs.Script.{Script, script_way, script_of}
 use Rattle.ynl_commands.specs.Telling.{lines_from, seen_lines_from, sight_lines, stepped_by, view_lines, tenant_lines, AppendsLines, IsOpened, HoldsSight, LeavesLines, MovesOn, SaysLines, IsToldOf, TellsAll, TellsWhole, TellsTenant}
 use Rattle.ynl_commands.proofs.Fronts.{part_of_more, part_after}
-use Rattle.ynl_commands.proofs.Keepings.{NextKept, next_kept, after_line, none_kept}
 use Rattle.ynl_commands.proofs.Runs.{of_some}
 
 -- ---- lines, and more lines
@@ -126,90 +123,72 @@ module _ (core : World) (place : ℕ) where
   found_first None rest = refl
   found_first (Some e) rest = refl
 
--- The lines of the events so far were written, up to what is held back of them, and the text of the others is left.
-pub record ToldSoFar (old new : Option (List ℕ)) (held : List ℕ) (c : Config) (t : Name) (p : Label) (first now : Stand) (events : List Event) (place : ℕ) (text : List ℕ) : Type 0 where
-  pub left : List Event
-  pub kept : Keeps text left
+-- The lines of the events so far were written, up to what is held back of them, and the others are left.
+pub record ToldSoFar (old new : Option (List ℕ)) (held : List ℕ) (c : Config) (t : Name) (p : Label) (first now : Stand) (events : List Event) (place : ℕ) : Type 0 where
   pub done : List (List ℕ)
-  pub goes_on : lines_from c t p first.core 0 first.track events ≡ done ++ lines_from c t p now.core place now.track left
+  pub goes_on : lines_from c t p first.core 0 first.track events ≡ done ++ lines_from c t p now.core place now.track (drop place events)
   pub holds : HoldsBack old new held (concat done)
 
-pub none_told : (a : Option (List ℕ)) (held : List ℕ) (c : Config) (t : Name) (p : Label) (stand : Stand) (events : List Event) (text : List ℕ) → held ≡ [] → Keeps text events → ToldSoFar a a held c t p stand stand events 0 text
-none_told a held c t p stand events text none kept = record { left = events; kept = kept; done = []; goes_on = refl; holds = record { sent = []; written = Appends-nil a; all = none } }
+pub none_told : (a : Option (List ℕ)) (held : List ℕ) (c : Config) (t : Name) (p : Label) (stand : Stand) (events : List Event) → held ≡ [] → ToldSoFar a a held c t p stand stand events 0
+none_told a held c t p stand events none = record { done = []; goes_on = refl; holds = record { sent = []; written = Appends-nil a; all = none } }
 
-module _ (a b : Option (List ℕ)) (held : List ℕ) (c : Config) (t : Name) (p : Label) (first now : Stand) (events : List Event) (place : ℕ) (text : List ℕ) (so : ToldSoFar a b held c t p first now events place text) where
-  module _ (next : NextKept text so.left) where
+module _ (a b : Option (List ℕ)) (held : List ℕ) (c : Config) (t : Name) (p : Label) (first now : Stand) (events : List Event) (place : ℕ) (so : ToldSoFar a b held c t p first now events place) where
+  module _ (event : Event) (more : place < length events) (at : event ≡ get_or events place event) where
     abbrev found : Option Event
-    found = seen_of t p c now.track next.event
+    found = seen_of t p c now.track event
 
     abbrev rest : List Viewed
-    rest = view_from t p c (place + 1) (track_step c now.track next.event) next.events
+    rest = view_from t p c (place + 1) (track_step c now.track event) (drop (place + 1) events)
+
+    next : drop place events ≡ event ∷ drop (place + 1) events
+    next = drop_more events place event more ∙ ap (λ e. e ∷ drop (place + 1) events) (sym at)
 
     -- the next event is told, if it is seen, and then the rest
     then_next : lines_from c t p first.core 0 first.track events ≡ so.done ++ (sight_lines now.core place found ++ seen_lines_from (stepped_by now.core found) rest)
     then_next =
         so.goes_on
-        ∙ ap (λ es. so.done ++ lines_from c t p now.core place now.track es) next.is
+        ∙ ap (λ es. so.done ++ lines_from c t p now.core place now.track es) next
         ∙ ap (λ ls. so.done ++ ls) (found_first now.core place found rest)
 
-    told_more : (after : Stand) (kept : List ℕ) → MovesOn c t p now after next.event → kept ≡ held ++ concat (sight_lines now.core place found) → ToldSoFar a b kept c t p first after events (place + 1) next.rest
+    told_more : (after : Stand) (kept : List ℕ) → MovesOn c t p now after event → kept ≡ held ++ concat (sight_lines now.core place found) → ToldSoFar a b kept c t p first after events (place + 1)
     told_more after kept moved told = record {
-      left = next.events;
-      kept = next.kept;
       done = so.done ++ sight_lines now.core place found;
       goes_on =
           then_next
           ∙ sym (append_assoc so.done (sight_lines now.core place found) (seen_lines_from (stepped_by now.core found) rest))
           ∙ ap (λ core. (so.done ++ sight_lines now.core place found) ++ seen_lines_from core rest) (sym moved.core)
-          ∙ ap (λ track. (so.done ++ sight_lines now.core place found) ++ lines_from c t p after.core (place + 1) track next.events) (sym moved.track);
+          ∙ ap (λ track. (so.done ++ sight_lines now.core place found) ++ lines_from c t p after.core (place + 1) track (drop (place + 1) events)) (sym moved.track);
       holds = held_more a b so.done (sight_lines now.core place found) held kept so.holds told;
     }
 
+    pub event_told : {A E : Type 0} (after : Stand) (kept : List ℕ) (r : Result A E) (x : A) → r ≡ Ok x → HoldsSight held kept c t p now after place event r → ToldSoFar a b kept c t p first after events (place + 1)
+    event_told after kept r x is told = let h = subst (HoldsSight held kept c t p now after place event) is told in told_more after kept h.0 h.1
+
   -- what is held back is as it was
-  pub told_same : (kept : List ℕ) → kept ≡ held → ToldSoFar a b kept c t p first now events place text
-  told_same kept is = subst (λ k. ToldSoFar a b k c t p first now events place text) (sym is) so
+  told_same : (kept : List ℕ) → kept ≡ held → ToldSoFar a b kept c t p first now events place
+  told_same kept is = subst (λ k. ToldSoFar a b k c t p first now events place) (sym is) so
+
+  pub event_refused : {A E : Type 0} (event : Event) (after : Stand) (kept : List ℕ) (r : Result A E) (f : E) → r ≡ Err f → HoldsSight held kept c t p now after place event r → ToldSoFar a b kept c t p first now events place
+  event_refused event after kept r f is told = told_same kept (subst (HoldsSight held kept c t p now after place event) is told)
 
   module _ (d : Option (List ℕ)) where
     -- some of it is written
-    pub told_on : (kept : List ℕ) → HoldsBack b d kept held → ToldSoFar a d kept c t p first now events place text
-    told_on kept h = record { left = so.left; kept = so.kept; done = so.done; goes_on = so.goes_on; holds = held_on a b d so.done held so.holds kept h }
+    pub told_on : (kept : List ℕ) → HoldsBack b d kept held → ToldSoFar a d kept c t p first now events place
+    told_on kept h = record { done = so.done; goes_on = so.goes_on; holds = held_on a b d so.done held so.holds kept h }
 
     -- there was no memory for the next line
     pub told_refused : Appends b d held → LeavesLines a d (lines_from c t p first.core 0 first.track events) NoMemory
-    told_refused wrote = subst (λ ls. LeavesLines a d ls NoMemory) (sym so.goes_on) (held_refused a b d so.done held so.holds (lines_from c t p now.core place now.track so.left) wrote)
+    told_refused wrote = subst (λ ls. LeavesLines a d ls NoMemory) (sym so.goes_on) (held_refused a b d so.done held so.holds (lines_from c t p now.core place now.track (drop place events)) wrote)
 
     -- a write failed
     pub told_failed : AppendsPart b d held → LeavesLines a d (lines_from c t p first.core 0 first.track events) Write
-    told_failed part = subst (λ ls. LeavesLines a d ls Write) (sym so.goes_on) (held_failed a b d so.done held so.holds (lines_from c t p now.core place now.track so.left) part)
+    told_failed part = subst (λ ls. LeavesLines a d ls Write) (sym so.goes_on) (held_failed a b d so.done held so.holds (lines_from c t p now.core place now.track (drop place events)) part)
 
     -- no event is left
-    pub told_all : length text ≡ 0 → Appends b d held → Appends a d (concat (lines_from c t p first.core 0 first.track events))
-    told_all none wrote =
-        subst (λ ls. Appends a d (concat ls)) (sym (so.goes_on ∙ ap (λ es. so.done ++ lines_from c t p now.core place now.track es) (none_kept text so.left none so.kept) ∙ append-nil so.done))
+    pub told_all : length events ≤ place → Appends b d held → Appends a d (concat (lines_from c t p first.core 0 first.track events))
+    told_all past wrote =
+        subst (λ ls. Appends a d (concat ls)) (sym (so.goes_on ∙ ap (λ es. so.done ++ lines_from c t p now.core place now.track es) (drop_all place events past) ∙ append-nil so.done))
         (held_written a b d so.done held so.holds wrote)
-
--- A line that was read again: what stands at a place of the text that is kept.
-module _ {A E : Type 0} (a b : Option (List ℕ)) (held kept : List ℕ) (c : Config) (t : Name) (p : Label) (first now after : Stand) (events : List Event) (place : ℕ) (text line : List ℕ) (at : ℕ) (r : Result A E)
-    (so : ToldSoFar a b held c t p first now events place (drop at text)) (more : at < length text)
-    (first_line : (line' rest : List ℕ) → IsPlain line' → drop at text ≡ line' ++ 10 ∷ rest → line ≡ line')
-    (tells : (e : Event) → event_of_line line ≡ Ok e → HoldsSight held kept c t p now after place e r) where
-  next : NextKept (drop at text) so.left
-  next = next_kept (drop at text) so.left (let n = length-drop at text in omega (arith, n, more)) so.kept
-
-  is_line : line ≡ next.begins.line
-  is_line = first_line next.begins.line next.rest next.begins.plain next.begins.is
-
-  tells_next : HoldsSight held kept c t p now after place next.event r
-  tells_next = tells next.event (ap event_of_line is_line ∙ next.begins.said)
-
-  pub line_told : (x : A) → r ≡ Ok x → ToldSoFar a b kept c t p first after events (place + 1) (drop (at + (length line + 1)) text)
-  line_told x is =
-      let h = subst (HoldsSight held kept c t p now after place next.event) is tells_next in
-      subst (ToldSoFar a b kept c t p first after events (place + 1)) (sym (ap (λ l. drop (at + (length l + 1)) text) is_line ∙ after_line text at next.event next.rest next.begins))
-      (told_more a b held c t p first now events place (drop at text) so next after kept h.0 h.1)
-
-  pub line_refused : (f : E) → r ≡ Err f → ToldSoFar a b kept c t p first now events place (drop at text)
-  line_refused f is = told_same a b held c t p first now events place (drop at text) so kept (subst (HoldsSight held kept c t p now after place next.event) is tells_next)
 
 -- the lines from the beginning are those of the view
 pub told_of_view : {A : Type 0} (a b : Option (List ℕ)) (c : Config) (t : Name) (p : Label) (stand : Stand) (events : List Event) (r : Result A ToolFault) → IsOpened c t stand
@@ -217,11 +196,6 @@ pub told_of_view : {A : Type 0} (a b : Option (List ℕ)) (c : Config) (t : Name
 told_of_view a b c t p stand events r opened said =
     subst (λ core. SaysLines a b (lines_from c t p core 0 [] events) r) opened.core
     (subst (λ track. SaysLines a b (lines_from c t p stand.core 0 track events) r) opened.track said)
-
--- what was said of these events
-pub said_of : {A : Type 0} (a b : Option (List ℕ)) (c : Config) (t : Name) (p : Label) (text those : List ℕ) (r is : Result A ToolFault) → text ≡ those → r ≡ is
-    → ((events : List Event) → Keeps text events → SaysLines a b (view_lines c t p events) r) → (events : List Event) → Keeps those events → SaysLines a b (view_lines c t p events) is
-said_of a b c t p text those r is same e said events kept = subst (SaysLines a b (view_lines c t p events)) e (said events (subst (λ k. Keeps k events) (sym same) kept))
 
 -- ---- a script that was read, and what the tenant is told of it
 

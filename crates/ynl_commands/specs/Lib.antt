@@ -6,7 +6,6 @@ pub mod Evidence
 pub mod Explaining
 pub mod Handed
 pub mod Input
-pub mod Keeping
 pub mod Lines
 pub mod Readings
 pub mod Run

@@ -19,7 +19,6 @@ mod evidence;
 mod evidence_audit;
 pub mod evidence_laws;
 mod explaining;
-mod kept;
 pub mod lines_in;
 pub mod lines_out;
 mod run;

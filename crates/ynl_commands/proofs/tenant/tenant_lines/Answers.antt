@@ -5,10 +5,9 @@ use Rattle.ynl_model.specs.Accepted.{is_accepted}
 use Rattle.ynl_lines.specs.declared.faults.InputFault.TheVariants.{Script as InScript}
 use Rattle.ynl_commands.specs.declared.run.Summary.{Summary}
 use Rattle.ynl_commands.specs.Input.{between}
-use Rattle.ynl_commands.specs.Keeping.{KeepsScript}
-use Rattle.ynl_commands.specs.Readings.{come_to}
-use Rattle.ynl_commands.specs.Telling.{TellsTenant}
-use Rattle.ynl_commands.proofs.Tellings.{said_of, fails_early, ends_whole, ends_broken, tells_whole}
+use Rattle.ynl_commands.specs.Script.{ReadsScript, script_read}
+use Rattle.ynl_commands.specs.Telling.{SaysLines, TellsTenant, view_lines}
+use Rattle.ynl_commands.proofs.Tellings.{fails_early, ends_whole, ends_broken, tells_whole}
 use Rattle.ynl_commands.proofs.tenant.tenant_lines.Goals as goal
 
 -- what is seen was not told to its end
@@ -18,13 +17,13 @@ returns-in_err-tell_view g c =
     let k = c.args.config in
     let t = c.args.tenant.now in
     let l = c.args.label.now in
-    let reader = between (g.R.Read.remaining c.args.reader.now) (g.R.Read.remaining c.keep_script.new.reader) in
+    let reader = between (g.R.Read.remaining c.args.reader.now) (g.R.Read.remaining c.read_script.new.reader) in
     let w = g.W.Write.contents c.args.writer.now in
     let v = g.W.Write.contents c.tell_view.new.writer in
     let script = c.in_ok-script.script in
-    let read = subst (KeepsScript reader) c.in_ok-script.was c.keep_script.ensures in
-    let said = said_of w v k t l c.deref.result.now script.text.items c.tell_view.result (Err p.0) c.deref.ensures.value (c.in_err-tell_view.was ∙ ap Err (sym p.2)) c.tell_view.ensures read.events read.kept in
-    let steps = subst (TellsTenant reader (between w v) (is_accepted k) k t l) (sym p.1) (fails_early reader w v k t l (is_accepted k) (come_to read.events script.lines script.fault) read.read p.0 said) in
+    let read = subst (ReadsScript reader) c.in_ok-script.was c.read_script.ensures.steps in
+    let said = subst (SaysLines w v (view_lines k t l script.events)) (c.in_err-tell_view.was ∙ ap Err (sym p.2)) c.tell_view.ensures in
+    let steps = subst (TellsTenant reader (between w v) (is_accepted k) k t l) (sym p.1) (fails_early reader w v k t l (is_accepted k) (script_read script) read p.0 said) in
     record { whole = tells_whole reader (between w v) (is_accepted k) k t l c.from_residual-in_err-tell_view.result steps; steps = steps }
 
 -- a line had a fault
@@ -33,14 +32,14 @@ returns-in-Some g c =
     let k = c.args.config in
     let t = c.args.tenant.now in
     let l = c.args.label.now in
-    let reader = between (g.R.Read.remaining c.args.reader.now) (g.R.Read.remaining c.keep_script.new.reader) in
+    let reader = between (g.R.Read.remaining c.args.reader.now) (g.R.Read.remaining c.read_script.new.reader) in
     let w = g.W.Write.contents c.args.writer.now in
     let v = g.W.Write.contents c.tell_view.new.writer in
     let u = g.W.Write.contents c.report.new.writer in
     let script = c.in_ok-script.script in
-    let read = subst (KeepsScript reader) c.in_ok-script.was c.keep_script.ensures in
-    let said = said_of w v k t l c.deref.result.now script.text.items c.tell_view.result (Ok c.in_ok-tell_view.field-0) c.deref.ensures.value c.in_ok-tell_view.was c.tell_view.ensures read.events read.kept in
-    let steps = ends_broken reader w u k t l (is_accepted k) (come_to read.events script.lines script.fault) read.read c.requires (λ is. is) v c.in-Some.fault c.report.result c.in-Some.is said c.report.ensures.text c.report.ensures.fault in
+    let read = subst (ReadsScript reader) c.in_ok-script.was c.read_script.ensures.steps in
+    let said = subst (SaysLines w v (view_lines k t l script.events)) c.in_ok-tell_view.was c.tell_view.ensures in
+    let steps = ends_broken reader w u k t l (is_accepted k) (script_read script) read c.requires (λ is. is) v c.in-Some.fault c.report.result c.in-Some.is said c.report.ensures.text c.report.ensures.fault in
     record { whole = tells_whole reader (between w u) (is_accepted k) k t l c.report.result steps; steps = steps }
 
 -- no line had one
@@ -49,12 +48,12 @@ returns g c =
     let k = c.args.config in
     let t = c.args.tenant.now in
     let l = c.args.label.now in
-    let reader = between (g.R.Read.remaining c.args.reader.now) (g.R.Read.remaining c.keep_script.new.reader) in
+    let reader = between (g.R.Read.remaining c.args.reader.now) (g.R.Read.remaining c.read_script.new.reader) in
     let w = g.W.Write.contents c.args.writer.now in
     let v = g.W.Write.contents c.tell_view.new.writer in
     let script = c.in_ok-script.script in
-    let read = subst (KeepsScript reader) c.in_ok-script.was c.keep_script.ensures in
-    let said = said_of w v k t l c.deref.result.now script.text.items c.tell_view.result (Ok c.in_ok-tell_view.field-0) c.deref.ensures.value c.in_ok-tell_view.was c.tell_view.ensures read.events read.kept in
+    let read = subst (ReadsScript reader) c.in_ok-script.was c.read_script.ensures.steps in
+    let said = subst (SaysLines w v (view_lines k t l script.events)) c.in_ok-tell_view.was c.tell_view.ensures in
     let summary : Summary = record { lines = script.lines; fault = None } in
-    let steps : TellsTenant reader (between w v) (is_accepted k) k t l (Ok summary) = ends_whole reader w v k t l (is_accepted k) (come_to read.events script.lines script.fault) read.read c.requires (λ is. is) summary refl (ap (option_map InScript) (sym c.in-None.is)) c.in-None.is said in
+    let steps : TellsTenant reader (between w v) (is_accepted k) k t l (Ok summary) = ends_whole reader w v k t l (is_accepted k) (script_read script) read c.requires (λ is. is) summary refl (ap (option_map InScript) (sym c.in-None.is)) c.in-None.is said in
     record { whole = tells_whole reader (between w v) (is_accepted k) k t l (Ok summary) steps; steps = steps }
