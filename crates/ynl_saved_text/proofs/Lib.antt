@@ -5,4 +5,5 @@ pub mod OneLine
 pub mod InOrder
 pub mod TextReads
 pub mod Clocked
+pub mod Ranged
 pub mod Parts

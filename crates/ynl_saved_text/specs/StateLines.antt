@@ -185,6 +185,15 @@ partition_at d = do
   clock' ← within most_clock clock
   Ok (Partition label' clock')
 
+-- a node, from what stands under its keys, texts and numbers: the first fault in the names and then in the ranges, or the line
+abbrev pub node_of : List ℕ → ℕ → List ℕ → ℕ → ℕ → Result StateLine StateFault
+node_of label memory node stamp vcores = do
+  label' ← label_at label
+  node' ← name_at node
+  stamp' ← within most_clock stamp
+  size ← size_at memory vcores
+  Ok (Node (record { name = node'; label = label'; size = size; stamp = stamp' }))
+
 -- a node, with its partition, its size and its stamp
 unfoldable pub node_at : Data → Result StateLine StateFault
 node_at d = do
@@ -194,13 +203,9 @@ node_at d = do
   node ← text_at (codes "node") d
   stamp ← number_at (codes "stamp") d
   vcores ← number_at (codes "vcores") d
-  label' ← label_at label
-  node' ← name_at node
-  stamp' ← within most_clock stamp
-  size ← size_at memory vcores
-  Ok (Node (record { name = node'; label = label'; size = size; stamp = stamp' }))
+  node_of label memory node stamp vcores
 
--- a live application, from what stands under its keys, texts and numbers: the first fault in the names and then in the ranges, or the line
+-- a live application, in the same way
 abbrev pub live_of : List ℕ → List ℕ → ℕ → List ℕ → List ℕ → ℕ → Result StateLine StateFault
 live_of app label memory queue user vcores = do
   app' ← name_at app
@@ -297,10 +302,9 @@ container_of wanted app id memory node tenant vcores = do
   size ← size_at memory vcores
   Ok (Holds (record { id = id'; node = node'; tenant = tenant'; app = app'; what = what; size = size }))
 
--- a container on a node
-unfoldable pub container_at : Data → Result StateLine StateFault
-container_at d = do
-  wanted ← wanted_at d
+-- the same, from the keys that a container has whatever it is for
+abbrev pub container_with : Data → Option (List ℕ × ℕ) → Result StateLine StateFault
+container_with d wanted = do
   app ← text_at (codes "app") d
   id ← text_at (codes "id") d
   memory ← number_at (codes "memory") d
@@ -308,6 +312,14 @@ container_at d = do
   tenant ← text_at (codes "tenant") d
   vcores ← number_at (codes "vcores") d
   container_of wanted app id memory node tenant vcores
+
+-- a container that was asked for
+abbrev pub asked_container : Data → Result StateLine StateFault
+asked_container d = asked_at d >>= container_with d
+
+-- a container on a node
+unfoldable pub container_at : Data → Result StateLine StateFault
+container_at d = wanted_at d >>= container_with d
 
 -- a queue that is stopped
 unfoldable pub stopped_at : Data → Result StateLine StateFault

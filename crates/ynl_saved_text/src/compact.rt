@@ -1,9 +1,9 @@
 //! Lines in the compact form, of the kinds of which a state has many. What is read here is a guess: who asks compares the
-//! line with the text that is written for it. So contracts say that its numbers are in range, and no more.
+//! line with the text that is written for it. So contracts say that its clocks and counts are in range, and no more.
 
 ghost use Rattle.std.specs.Prelude.{IfSome};
 ghost use Rattle.ynl_fields.specs.Reading.{HasClock};
-ghost use Rattle.ynl_saved_text.specs.StateLines.{IsRanged};
+ghost use Rattle.ynl_saved_text.specs.StateLines.{IsClocked};
 
 use ynl_fields::Cursor;
 use ynl_model::{AskRow, Node, Placed, What};
@@ -14,7 +14,7 @@ use ynl_saved::StateLine;
 const KEY: usize = 2;
 
 fn cut_node(line: &mut Cursor<'_>, into: &mut StateLine) -> Option<()>
-    ensures { IfSome result (λ _. IsRanged into.new) }
+    ensures { IfSome result (λ _. IsClocked into.new) }
 {
     let label = line.label(b"{\"label\":\"")?;
     let memory = line.number(b",\"memory\":")?;
@@ -32,7 +32,7 @@ fn cut_node(line: &mut Cursor<'_>, into: &mut StateLine) -> Option<()>
 
 /// A live application, from what stands behind its name.
 fn cut_live(line: &mut Cursor<'_>, app: Name, into: &mut StateLine) -> Option<()>
-    ensures { IfSome result (λ _. IsRanged into.new) }
+    ensures { IfSome result (λ _. IsClocked into.new) }
 {
     let label = line.label(b",\"label\":\"")?;
     let memory = line.number(b",\"memory\":")?;
@@ -51,7 +51,7 @@ fn cut_live(line: &mut Cursor<'_>, app: Name, into: &mut StateLine) -> Option<()
 
 /// What an application asks for, from what stands behind its name.
 fn cut_ask(line: &mut Cursor<'_>, app: Name, into: &mut StateLine) -> Option<()>
-    ensures { IfSome result (λ _. IsRanged into.new) }
+    ensures { IfSome result (λ _. IsClocked into.new) }
 {
     let count = line.small(b",\"count\":", MOST_COUNT)?;
     let label = line.label(b",\"label\":\"")?;
@@ -71,7 +71,7 @@ fn cut_ask(line: &mut Cursor<'_>, app: Name, into: &mut StateLine) -> Option<()>
 
 /// A finished application, from what stands behind its name.
 fn cut_finished(line: &mut Cursor<'_>, app: Name, into: &mut StateLine) -> Option<()>
-    ensures { IfSome result (λ _. IsRanged into.new) }
+    ensures { IfSome result (λ _. IsClocked into.new) }
 {
     let queue = line.path(b",\"queue\":\"")?;
     *into = StateLine::Finished { queue, app };
@@ -81,7 +81,7 @@ fn cut_finished(line: &mut Cursor<'_>, app: Name, into: &mut StateLine) -> Optio
 /// A container that was asked for under a label, from what stands behind its id.
 fn cut_asked(line: &mut Cursor<'_>, app: Name, id: Id, into: &mut StateLine) -> Option<()>
     requires { HasClock id }
-    ensures { IfSome result (λ _. IsRanged into.new) }
+    ensures { IfSome result (λ _. IsClocked into.new) }
 {
     let label = line.label(b",\"label\":\"")?;
     let memory = line.number(b",\"memory\":")?;
@@ -103,7 +103,7 @@ fn cut_asked(line: &mut Cursor<'_>, app: Name, id: Id, into: &mut StateLine) -> 
 /// A container that is a master, from what stands behind its id.
 fn cut_master(line: &mut Cursor<'_>, app: Name, id: Id, into: &mut StateLine) -> Option<()>
     requires { HasClock id }
-    ensures { IfSome result (λ _. IsRanged into.new) }
+    ensures { IfSome result (λ _. IsClocked into.new) }
 {
     let memory = line.number(b",\"memory\":")?;
     let node = line.name(b",\"node\":\"")?;
@@ -123,7 +123,7 @@ fn cut_master(line: &mut Cursor<'_>, app: Name, id: Id, into: &mut StateLine) ->
 /// A container, from what stands behind its id. A master has no label.
 fn cut_by_id(line: &mut Cursor<'_>, app: Name, id: &Id, into: &mut StateLine) -> Option<()>
     requires { HasClock id.now }
-    ensures { IfSome result (λ _. IsRanged into.new) }
+    ensures { IfSome result (λ _. IsClocked into.new) }
 {
     match line.ahead(KEY)? {
         b'l' => cut_asked(line, app, *id, into),
@@ -133,7 +133,7 @@ fn cut_by_id(line: &mut Cursor<'_>, app: Name, id: &Id, into: &mut StateLine) ->
 
 /// A container, from what stands behind the name of its application.
 fn cut_container(line: &mut Cursor<'_>, app: Name, into: &mut StateLine) -> Option<()>
-    ensures { IfSome result (λ _. IsRanged into.new) }
+    ensures { IfSome result (λ _. IsClocked into.new) }
 {
     match line.id(b",\"id\":\"") {
         Some(id) => cut_by_id(line, app, &id, into),
@@ -143,7 +143,7 @@ fn cut_container(line: &mut Cursor<'_>, app: Name, into: &mut StateLine) -> Opti
 
 /// What a line tells that begins with the name of an application. The next key tells the kinds apart.
 fn cut_of_app(line: &mut Cursor<'_>, into: &mut StateLine) -> Option<()>
-    ensures { IfSome result (λ _. IsRanged into.new) }
+    ensures { IfSome result (λ _. IsClocked into.new) }
 {
     let app = line.name(b"{\"app\":\"")?;
     match line.ahead(KEY)? {
@@ -157,7 +157,7 @@ fn cut_of_app(line: &mut Cursor<'_>, into: &mut StateLine) -> Option<()>
 /// What a line in the compact form tells, if it is of a kind of which a state has many: it is put into `into`, since a
 /// line is large. It may end otherwise than the text of what it tells.
 pub fn cut_line(line: &[u8], into: &mut StateLine) -> Option<()>
-    ensures { IfSome result (λ _. IsRanged into.new) }
+    ensures { IfSome result (λ _. IsClocked into.new) }
 {
     let mut line = Cursor::new(line);
     match line.ahead(KEY)? {

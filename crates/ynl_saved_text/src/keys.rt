@@ -1,15 +1,14 @@
-//! What stands under the keys of a line: texts and numbers, and the names and amounts that they are.
+//! What stands under the keys of a line: texts and numbers, and the amounts that they are.
 
 ghost use Rattle.std.specs.Prelude.{◌≡◌, ◌≤◌, IfOk};
 ghost use Rattle.ynl_fields.specs.Trees.{data_at};
-ghost use Rattle.ynl_resource.specs.Amounts.{IsSize};
 ghost use Rattle.ynl_resource.specs.Ranges.{whole};
-ghost use Rattle.ynl_fields.specs.Reading.{Gives, HasClock};
+ghost use Rattle.ynl_fields.specs.Reading.{Gives};
 ghost use Rattle.ynl_saved_text.specs.Keys as spec;
 
 use crate::faults::StateFault;
 use ynl_fields::Fields;
-use ynl_resource::{Hundredths, Id, Label, Name, Path, Size};
+use ynl_resource::{Hundredths, Size};
 
 /// The text under a key.
 #[tactic(auto, unfolding(crate::specs::Keys::text_at))]
@@ -50,55 +49,9 @@ pub fn keys_are(line: &Fields<'_, '_>, count: usize) -> Result<(), StateFault>
     }
 }
 
-/// The name that a text is.
-#[tactic(auto, unfolding(crate::specs::Keys::name_at))]
-pub fn name_at(text: &str) -> Result<Name, StateFault>
-    ensures { result ≡ spec.name_at text.now }
-{
-    match Name::parse(text) {
-        Ok(name) => Ok(name),
-        Err(_) => Err(StateFault::Name),
-    }
-}
-
-/// The label that a text is.
-#[tactic(auto, unfolding(crate::specs::Keys::label_at))]
-pub fn label_at(text: &str) -> Result<Label, StateFault>
-    ensures { result ≡ spec.label_at text.now }
-{
-    match Label::parse(text) {
-        Ok(label) => Ok(label),
-        Err(_) => Err(StateFault::Name),
-    }
-}
-
-/// The path that a text is.
-#[tactic(auto, unfolding(crate::specs::Keys::path_at))]
-pub fn path_at(text: &str) -> Result<Path, StateFault>
-    ensures { result ≡ spec.path_at text.now }
-{
-    match Path::parse(text) {
-        Ok(path) => Ok(path),
-        Err(_) => Err(StateFault::Name),
-    }
-}
-
-/// The id that a text is.
-#[tactic(auto, unfolding(crate::specs::Keys::id_at))]
-pub fn id_at(text: &str) -> Result<Id, StateFault>
-    ensures id { result ≡ spec.id_at text.now }
-    ensures ranged { IfOk result (λ id. HasClock id) }
-{
-    match Id::parse(text) {
-        Ok(id) => Ok(id),
-        Err(_) => Err(StateFault::Name),
-    }
-}
-
 /// The size; memory is in MB.
 pub fn size_at(memory: u64, vcores: u64) -> Result<Size, StateFault>
-    ensures size { result ≡ spec.size_at memory vcores }
-    ensures ranged { IfOk result (λ size. IsSize size) }
+    ensures { result ≡ spec.size_at memory vcores }
 {
     Size::new(memory, vcores).ok_or(StateFault::Range)
 }
@@ -118,8 +71,7 @@ pub fn within(most: u64, number: u64) -> Result<u64, StateFault>
 
 /// The same of a number of 32 bits.
 pub fn within_small(most: u32, number: u64) -> Result<u32, StateFault>
-    ensures value { result ≡ spec.within most number }
-    ensures ranged { IfOk result (λ n. n ≤ most) }
+    ensures { result ≡ spec.within most number }
 {
     let number = within(u64::from(most), number)?;
     Ok(number as u32)
@@ -127,8 +79,7 @@ pub fn within_small(most: u32, number: u64) -> Result<u32, StateFault>
 
 /// The share, from hundredths of a percent.
 pub fn share_at(number: u64) -> Result<Hundredths, StateFault>
-    ensures share { result ≡ spec.within whole number }
-    ensures ranged { IfOk result (λ share. share ≤ whole) }
+    ensures { result ≡ spec.within whole number }
 {
     Hundredths::new(number).ok_or(StateFault::Range)
 }

@@ -35,8 +35,7 @@ fn in_order(before: Option<StateKind>, kind: StateKind) -> Result<StateKind, Sta
 
 /// The line of a kind.
 fn line_by(kind: StateKind, object: &Fields<'_, '_>) -> Result<StateLine, StateFault>
-    ensures line { result ≡ spec.line_by kind (data_at object.now.stands) }
-    ensures ranged { IfOk result (λ line. IsRanged line) }
+    ensures { result ≡ spec.line_by kind (data_at object.now.stands) }
 {
     match kind {
         StateKind::Begin => begin_at(object),
@@ -55,7 +54,6 @@ fn line_by(kind: StateKind, object: &Fields<'_, '_>) -> Result<StateLine, StateF
 /// Reads a line of a kind.
 fn read_by(kind: StateKind, object: &Fields<'_, '_>, into: &mut StateLine) -> Result<(), StateFault>
     ensures line { Gives (λ _. into.new) result (spec.line_by kind (data_at object.now.stands)) }
-    ensures ranged { OnOk result (IsRanged into.new) }
     ensures kept { OnErr result (into.new ≡ into.old) }
 {
     // No `?`, which gets no proof where the value has a name in it.
@@ -76,7 +74,6 @@ fn line_at(
     into: &mut StateLine,
 ) -> Result<(), StateFault>
     ensures line { Gives (λ _. into.new) result (spec.line_at before (data_at object.now.stands)) }
-    ensures ranged { OnOk result (IsRanged into.new) }
     ensures kept { OnErr result (into.new ≡ into.old) }
 {
     let word = match object.get("state") {
@@ -97,7 +94,6 @@ fn read_by_value(
 ) -> Result<Result<(), StateFault>, AllocError>
     ensures line { IfOk result (λ read. Gives (λ _. into.new) read (spec.line_behind before line.now)) }
     ensures text { OnErr result (IsUtf8 line.now) }
-    ensures ranged { IfOk result (λ read. OnOk read (IsRanged into.new)) }
     ensures kept { IfOk result (λ read. OnErr read (into.new ≡ into.old)) }
     ensures none { OnErr result (into.new ≡ into.old) }
 {
@@ -120,7 +116,6 @@ fn read_into(
 ) -> Result<Result<(), StateFault>, AllocError>
     ensures line { IfOk result (λ read. Gives (λ _. into.new) read (spec.line_behind before line.now)) }
     ensures text { OnErr result (IsUtf8 line.now) }
-    ensures ranged { IfOk result (λ read. OnOk read (IsRanged into.new)) }
     ensures kept { IfOk result (λ read. OnErr read (into.new ≡ into.old)) }
     ensures none { OnErr result (into.new ≡ into.old) }
 {
@@ -147,7 +142,6 @@ fn read_compact(
 ) -> Result<bool, AllocError>
     ensures line { IfOk result (λ read. IsTrue read → spec.line_behind before line.now ≡ Ok into.new) }
     ensures text { OnErr result (IsUtf8 line.now) }
-    ensures ranged { IfOk result (λ read. IsTrue read → IsRanged into.new) }
     ensures kept { IfOk result (λ read. read ≡ false → into.new ≡ into.old) }
     ensures none { OnErr result (into.new ≡ into.old) }
 {
@@ -225,6 +219,32 @@ impl StateReader {
         }
     }
 
+    /// Reads a line, as `read` says. That its numbers are in range then follows from the line itself, whatever was called.
+    fn take(&mut self, alloc: Global, line: &[u8]) -> Result<Result<(), StateFault>, AllocError>
+        ensures line { IfOk result (λ read. Gives (λ _. self.new.line) read (spec.line_behind self.old.before line.now)) }
+        ensures before { IfOk result (λ read. OnOk read (self.new.before ≡ Some (spec.kind_of_line self.new.line))) }
+        ensures text { OnErr result (IsUtf8 line.now) }
+        ensures kept { IfOk result (λ read. OnErr read (self.new ≡ self.old)) }
+        ensures none { OnErr result (self.new ≡ self.old) }
+    {
+        let before = self.held.before;
+        if read_compact(
+            &mut self.text,
+            &mut self.guess,
+            before,
+            line,
+            &mut self.held.line,
+        )? {
+            self.held.before = Some(kind_of_line(&self.held.line));
+            return Ok(Ok(()));
+        }
+        let read = read_into(alloc, &mut self.scratch, before, line, &mut self.held.line)?;
+        if read.is_ok() {
+            self.held.before = Some(kind_of_line(&self.held.line));
+        }
+        Ok(read)
+    }
+
     /// Reads a line, without its newline, behind the one that was read last, or returns its first fault, and then holds
     /// what it held. So it does where memory is refused. Bytes that are no text take no memory.
     ///
@@ -247,21 +267,6 @@ impl StateReader {
         ensures kept { IfOk result (λ read. OnErr read (self.new ≡ self.old)) }
         ensures none { OnErr result (self.new ≡ self.old) }
     {
-        let before = self.held.before;
-        if read_compact(
-            &mut self.text,
-            &mut self.guess,
-            before,
-            line,
-            &mut self.held.line,
-        )? {
-            self.held.before = Some(kind_of_line(&self.held.line));
-            return Ok(Ok(()));
-        }
-        let read = read_into(alloc, &mut self.scratch, before, line, &mut self.held.line)?;
-        if read.is_ok() {
-            self.held.before = Some(kind_of_line(&self.held.line));
-        }
-        Ok(read)
+        self.take(alloc, line)
     }
 }

@@ -1,24 +1,20 @@
 //! From objects to the lines of applications.
 
-ghost use Rattle.std.specs.Prelude.{◌≡◌, IfOk};
+ghost use Rattle.std.specs.Prelude.{◌≡◌};
 ghost use Rattle.ynl_fields.specs.Trees.{data_at};
-ghost use Rattle.ynl_saved_text.specs.StateLines.{IsRanged};
 ghost use Rattle.ynl_saved_text.specs.StateLines as spec;
 
 use crate::faults::StateFault;
-use crate::keys::{
-    keys_are, label_at, name_at, number_at, path_at, size_at, text_at, within_small,
-};
+use crate::keys::{keys_are, number_at, size_at, text_at, within_small};
 use ynl_fields::Fields;
 use ynl_model::AskRow;
-use ynl_resource::MOST_COUNT;
+use ynl_resource::{Label, MOST_COUNT, Name, Path};
 use ynl_saved::StateLine;
 
 /// `live`: an application that is not finished, with its home label and the size of its master.
 #[tactic(auto, unfolding(crate::specs::StateLines::live_at))]
 pub fn live_at(object: &Fields<'_, '_>) -> Result<StateLine, StateFault>
-    ensures line { result ≡ spec.live_at (data_at object.now.stands) }
-    ensures ranged { IfOk result (λ line. IsRanged line) }
+    ensures { result ≡ spec.live_at (data_at object.now.stands) }
 {
     keys_are(object, 7)?;
     let app = text_at(object, "app")?;
@@ -31,6 +27,7 @@ pub fn live_at(object: &Fields<'_, '_>) -> Result<StateLine, StateFault>
 }
 
 /// A live application, from what stands under its keys.
+#[tactic(auto, unfolding(crate::specs::Keys::name_at, crate::specs::Keys::label_at, crate::specs::Keys::path_at))]
 fn live_of(
     app: &str,
     label: &str,
@@ -39,13 +36,16 @@ fn live_of(
     user: &str,
     vcores: u64,
 ) -> Result<StateLine, StateFault>
-    ensures line { result ≡ spec.live_of app.now label.now memory queue.now user.now vcores }
-    ensures ranged { IfOk result (λ line. IsRanged line) }
+    ensures { result ≡ spec.live_of app.now label.now memory queue.now user.now vcores }
 {
-    let app = name_at(app)?;
-    let label = label_at(label)?;
-    let queue = path_at(queue)?;
-    let user = name_at(user)?;
+    let (Ok(app), Ok(label), Ok(queue), Ok(user)) = (
+        Name::parse(app),
+        Label::parse(label),
+        Path::parse(queue),
+        Name::parse(user),
+    ) else {
+        return Err(StateFault::Name);
+    };
     let master = size_at(memory, vcores)?;
     Ok(StateLine::Live {
         queue,
@@ -59,8 +59,7 @@ fn live_of(
 /// `ask`: what an application asks for.
 #[tactic(auto, unfolding(crate::specs::StateLines::ask_at))]
 pub fn ask_at(object: &Fields<'_, '_>) -> Result<StateLine, StateFault>
-    ensures line { result ≡ spec.ask_at (data_at object.now.stands) }
-    ensures ranged { IfOk result (λ line. IsRanged line) }
+    ensures { result ≡ spec.ask_at (data_at object.now.stands) }
 {
     keys_are(object, 8)?;
     let app = text_at(object, "app")?;
@@ -74,6 +73,7 @@ pub fn ask_at(object: &Fields<'_, '_>) -> Result<StateLine, StateFault>
 }
 
 /// An ask, from what stands under its keys.
+#[tactic(auto, unfolding(crate::specs::Keys::name_at, crate::specs::Keys::label_at))]
 fn ask_of(
     app: &str,
     count: u64,
@@ -83,12 +83,15 @@ fn ask_of(
     tenant: &str,
     vcores: u64,
 ) -> Result<StateLine, StateFault>
-    ensures line { result ≡ spec.ask_of app.now count label.now memory priority tenant.now vcores }
-    ensures ranged { IfOk result (λ line. IsRanged line) }
+    ensures { result ≡ spec.ask_of app.now count label.now memory priority tenant.now vcores }
 {
-    let app = name_at(app)?;
-    let label = label_at(label)?;
-    let tenant = name_at(tenant)?;
+    let (Ok(app), Ok(label), Ok(tenant)) = (
+        Name::parse(app),
+        Label::parse(label),
+        Name::parse(tenant),
+    ) else {
+        return Err(StateFault::Name);
+    };
     let count = within_small(MOST_COUNT, count)?;
     let priority = within_small(u32::MAX, priority)?;
     let size = size_at(memory, vcores)?;
@@ -105,15 +108,15 @@ fn ask_of(
 }
 
 /// `finished`: an application that is finished.
-#[tactic(auto, unfolding(crate::specs::StateLines::finished_at))]
+#[tactic(auto, unfolding(crate::specs::StateLines::finished_at, crate::specs::Keys::name_at, crate::specs::Keys::path_at))]
 pub fn finished_at(object: &Fields<'_, '_>) -> Result<StateLine, StateFault>
-    ensures line { result ≡ spec.finished_at (data_at object.now.stands) }
-    ensures ranged { IfOk result (λ line. IsRanged line) }
+    ensures { result ≡ spec.finished_at (data_at object.now.stands) }
 {
     keys_are(object, 3)?;
     let app = text_at(object, "app")?;
     let queue = text_at(object, "queue")?;
-    let app = name_at(app)?;
-    let queue = path_at(queue)?;
+    let (Ok(app), Ok(queue)) = (Name::parse(app), Path::parse(queue)) else {
+        return Err(StateFault::Name);
+    };
     Ok(StateLine::Finished { queue, app })
 }

@@ -1,16 +1,15 @@
 //! From objects to the lines of partitions and nodes, and to the first and the last line.
 
-ghost use Rattle.std.specs.Prelude.{◌≡◌, IfOk};
+ghost use Rattle.std.specs.Prelude.{◌≡◌};
 ghost use Rattle.ynl_fields.specs.Reading.{Gives};
 ghost use Rattle.ynl_fields.specs.Trees.{data_at};
-ghost use Rattle.ynl_saved_text.specs.StateLines.{IsRanged};
 ghost use Rattle.ynl_saved_text.specs.StateLines as spec;
 
 use crate::faults::StateFault;
-use crate::keys::{keys_are, label_at, name_at, number_at, size_at, text_at, within};
+use crate::keys::{keys_are, number_at, size_at, text_at, within};
 use ynl_fields::Fields;
 use ynl_model::Node;
-use ynl_resource::MOST_CLOCK;
+use ynl_resource::{Label, MOST_CLOCK, Name};
 use ynl_saved::StateLine;
 
 /// The only version of the text.
@@ -31,8 +30,7 @@ fn version_at(number: u64) -> Result<(), StateFault>
 /// `begin`: the version.
 #[tactic(auto, unfolding(crate::specs::StateLines::begin_at))]
 pub fn begin_at(object: &Fields<'_, '_>) -> Result<StateLine, StateFault>
-    ensures line { result ≡ spec.begin_at (data_at object.now.stands) }
-    ensures ranged { IfOk result (λ line. IsRanged line) }
+    ensures { result ≡ spec.begin_at (data_at object.now.stands) }
 {
     keys_are(object, 2)?;
     let number = number_at(object, "version")?;
@@ -41,15 +39,16 @@ pub fn begin_at(object: &Fields<'_, '_>) -> Result<StateLine, StateFault>
 }
 
 /// `partition`: its clock.
-#[tactic(auto, unfolding(crate::specs::StateLines::partition_at))]
+#[tactic(auto, unfolding(crate::specs::StateLines::partition_at, crate::specs::Keys::label_at))]
 pub fn partition_at(object: &Fields<'_, '_>) -> Result<StateLine, StateFault>
-    ensures line { result ≡ spec.partition_at (data_at object.now.stands) }
-    ensures ranged { IfOk result (λ line. IsRanged line) }
+    ensures { result ≡ spec.partition_at (data_at object.now.stands) }
 {
     keys_are(object, 3)?;
     let clock = number_at(object, "clock")?;
     let label = text_at(object, "label")?;
-    let label = label_at(label)?;
+    let Ok(label) = Label::parse(label) else {
+        return Err(StateFault::Name);
+    };
     let clock = within(MOST_CLOCK, clock)?;
     Ok(StateLine::Partition { label, clock })
 }
@@ -57,8 +56,7 @@ pub fn partition_at(object: &Fields<'_, '_>) -> Result<StateLine, StateFault>
 /// `node`: its partition, its size and its stamp.
 #[tactic(auto, unfolding(crate::specs::StateLines::node_at))]
 pub fn node_at(object: &Fields<'_, '_>) -> Result<StateLine, StateFault>
-    ensures line { result ≡ spec.node_at (data_at object.now.stands) }
-    ensures ranged { IfOk result (λ line. IsRanged line) }
+    ensures { result ≡ spec.node_at (data_at object.now.stands) }
 {
     keys_are(object, 6)?;
     let label = text_at(object, "label")?;
@@ -66,8 +64,23 @@ pub fn node_at(object: &Fields<'_, '_>) -> Result<StateLine, StateFault>
     let node = text_at(object, "node")?;
     let stamp = number_at(object, "stamp")?;
     let vcores = number_at(object, "vcores")?;
-    let label = label_at(label)?;
-    let name = name_at(node)?;
+    node_of(label, memory, node, stamp, vcores)
+}
+
+/// A node, from what stands under its keys.
+#[tactic(auto, unfolding(crate::specs::Keys::name_at, crate::specs::Keys::label_at))]
+fn node_of(
+    label: &str,
+    memory: u64,
+    node: &str,
+    stamp: u64,
+    vcores: u64,
+) -> Result<StateLine, StateFault>
+    ensures { result ≡ spec.node_of label.now memory node.now stamp vcores }
+{
+    let (Ok(label), Ok(name)) = (Label::parse(label), Name::parse(node)) else {
+        return Err(StateFault::Name);
+    };
     let stamp = within(MOST_CLOCK, stamp)?;
     let size = size_at(memory, vcores)?;
     Ok(StateLine::Node(Node {
@@ -81,8 +94,7 @@ pub fn node_at(object: &Fields<'_, '_>) -> Result<StateLine, StateFault>
 /// `end`: how many lines stand before it.
 #[tactic(auto, unfolding(crate::specs::StateLines::end_at))]
 pub fn end_at(object: &Fields<'_, '_>) -> Result<StateLine, StateFault>
-    ensures line { result ≡ spec.end_at (data_at object.now.stands) }
-    ensures ranged { IfOk result (λ line. IsRanged line) }
+    ensures { result ≡ spec.end_at (data_at object.now.stands) }
 {
     keys_are(object, 2)?;
     let lines = number_at(object, "lines")?;
