@@ -18,33 +18,37 @@ use Rattle.ynl_check.specs.declared.checking.Form.TheVariants.{Lines, Plain}
 use Rattle.ynl_words.specs.declared.words.Kind.TheVariants.{Sequential, Check, Live}
 use Rattle.ynl_words.specs.declared.words.SequentialKind.TheVariants.{Run, Tenant, Audit, Evidence, AuditEvidence, Explain, Save}
 
+-- an option of this name that takes a value
+abbrev pub valued : Text → Rule
+valued name = record (new_rule name) { long = Some name; value_names = 1 }
+
 -- the option `--config FILE`
 abbrev pub config_rule : Rule
-config_rule = record (new_rule (codes "config")) { long = Some (codes "config"); value_names = 1 }
+config_rule = valued (codes "config")
 
 -- the option `--from FILE`
 abbrev pub from_rule : Rule
-from_rule = record (new_rule (codes "from")) { long = Some (codes "from"); value_names = 1 }
+from_rule = valued (codes "from")
 
 -- the option `--tenant NAME`, which is required
 abbrev pub tenant_rule : Rule
-tenant_rule = record (new_rule (codes "tenant")) { long = Some (codes "tenant"); value_names = 1; required = true }
+tenant_rule = record (valued (codes "tenant")) { required = true }
 
 -- the option `--label LABEL`, which is required
 abbrev pub label_rule : Rule
-label_rule = record (new_rule (codes "label")) { long = Some (codes "label"); value_names = 1; required = true }
+label_rule = record (valued (codes "label")) { required = true }
 
 -- the option `--app NAME`, which is required
 abbrev pub app_rule : Rule
-app_rule = record (new_rule (codes "app")) { long = Some (codes "app"); value_names = 1; required = true }
+app_rule = record (valued (codes "app")) { required = true }
 
 -- the option `--workers N`, from 1 to 64, without which it is 2
 abbrev pub workers_rule : Rule
-workers_rule = record (new_rule (codes "workers")) { long = Some (codes "workers"); value_names = 1; parser = Some (Unsigned 1 64); defaults = codes "2" ∷ [] }
+workers_rule = record (valued (codes "workers")) { parser = Some (Unsigned 1 64); defaults = codes "2" ∷ [] }
 
 -- the option `--rounds R`, from 0 to 1000, without which it is 1
 abbrev pub rounds_rule : Rule
-rounds_rule = record (new_rule (codes "rounds")) { long = Some (codes "rounds"); value_names = 1; parser = Some (Unsigned 0 1000); defaults = codes "1" ∷ [] }
+rounds_rule = record (valued (codes "rounds")) { parser = Some (Unsigned 0 1000); defaults = codes "1" ∷ [] }
 
 -- the flag `--plain`
 abbrev pub plain_rule : Rule
@@ -58,9 +62,9 @@ with_files a = with_rule (with_rule a config_rule) from_rule
 abbrev pub run_command : App
 run_command = with_files (new_app (codes "run"))
 
--- a subcommand with two options more, and behind them the one that names the configuration
-abbrev pub with_options : App → Rule → Rule → App
-with_options a first second = with_rule (with_rule (with_rule a first) second) config_rule
+-- a subcommand with the options that name a tenant's partition, and behind them the one that names the configuration
+abbrev pub with_partition : App → App
+with_partition a = with_rule (with_rule (with_rule a tenant_rule) label_rule) config_rule
 
 -- a subcommand with two options more, and behind them those that name the files
 abbrev pub with_options_and_files : App → Rule → Rule → App
@@ -68,15 +72,15 @@ with_options_and_files a first second = with_files (with_rule (with_rule a first
 
 -- the subcommand `tenant`
 abbrev pub tenant_command : App
-tenant_command = with_options (new_app (codes "tenant")) tenant_rule label_rule
+tenant_command = with_partition (new_app (codes "tenant"))
 
 -- the option `--tenant NAME` of an audit
 abbrev pub audit_tenant_rule : Rule
-audit_tenant_rule = record (new_rule (codes "tenant")) { long = Some (codes "tenant"); value_names = 1 }
+audit_tenant_rule = valued (codes "tenant")
 
 -- the option `--label LABEL` of an audit
 abbrev pub audit_label_rule : Rule
-audit_label_rule = record (new_rule (codes "label")) { long = Some (codes "label"); value_names = 1 }
+audit_label_rule = valued (codes "label")
 
 -- the subcommand `audit`
 abbrev pub audit_command : App
@@ -84,7 +88,7 @@ audit_command = with_options_and_files (new_app (codes "audit")) audit_tenant_ru
 
 -- the subcommand `evidence`
 abbrev pub evidence_command : App
-evidence_command = with_options (new_app (codes "evidence")) tenant_rule label_rule
+evidence_command = with_partition (new_app (codes "evidence"))
 
 -- the subcommand `explain`
 abbrev pub explain_command : App

@@ -8,7 +8,7 @@ ghost use Rattle.clap.specs.declared.builder.command.Command.TheViews.{out-Comma
 ghost use Rattle.ynl_words.specs.Words as spec;
 
 use crate::options::{
-    label_option, partition_in, tenant_option, value_in, with_options, with_options_and_files,
+    bare, partition_in, value_in, valued, with_options_and_files, with_partition,
 };
 use crate::words::{Kind, SequentialKind};
 use clap::{Arg, ArgMatches, Command};
@@ -89,20 +89,14 @@ fn audit_tenant_option<'a>(alloc: Global) -> Arg<'a>
     ensures rule { rule_of result ≡ spec.audit_tenant_rule }
     ensures local { result.global ≡ false }
 {
-    Arg::new(alloc, "tenant")
-        .long("tenant")
-        .value_name("NAME")
-        .help(AUDIT_TENANT_HELP)
+    valued(alloc, "tenant", "NAME", AUDIT_TENANT_HELP)
 }
 
 fn audit_label_option<'a>(alloc: Global) -> Arg<'a>
     ensures rule { rule_of result ≡ spec.audit_label_rule }
     ensures local { result.global ≡ false }
 {
-    Arg::new(alloc, "label")
-        .long("label")
-        .value_name("LABEL")
-        .help(AUDIT_LABEL_HELP)
+    valued(alloc, "label", "LABEL", AUDIT_LABEL_HELP)
 }
 
 /// The subcommand `audit`.
@@ -110,12 +104,9 @@ pub(crate) fn audit_command<'a>(alloc: Global) -> Result<Command<'a>, AllocError
     ensures app { IfOk result (λ c. app_of c ≡ spec.audit_command) }
     ensures local { IfOk result (λ c. (fields_of c).has_globals ≡ false) }
 {
-    let bare = Command::new(alloc, "audit")
-        .about(AUDIT_ABOUT)
-        .after_help(AUDIT_AFTER);
     with_options_and_files(
         alloc,
-        bare,
+        bare(alloc, "audit", AUDIT_ABOUT, AUDIT_AFTER),
         audit_tenant_option(alloc),
         audit_label_option(alloc),
     )
@@ -126,10 +117,10 @@ pub(crate) fn evidence_command<'a>(alloc: Global) -> Result<Command<'a>, AllocEr
     ensures app { IfOk result (λ c. app_of c ≡ spec.evidence_command) }
     ensures local { IfOk result (λ c. (fields_of c).has_globals ≡ false) }
 {
-    let bare = Command::new(alloc, "evidence")
-        .about(EVIDENCE_ABOUT)
-        .after_help(EVIDENCE_AFTER);
-    with_options(alloc, bare, tenant_option(alloc), label_option(alloc))
+    with_partition(
+        alloc,
+        bare(alloc, "evidence", EVIDENCE_ABOUT, EVIDENCE_AFTER),
+    )
 }
 
 /// Whether an audit is given the tenant or the label alone.

@@ -6,7 +6,7 @@ ghost use Rattle.clap.specs.Words.{found_of, rows_of};
 ghost use Rattle.clap.specs.declared.builder.command.Command.TheViews.{out-Command as fields_of};
 ghost use Rattle.ynl_words.specs.Words as spec;
 
-use crate::options::{config_option, form_in, plain_option, value_in};
+use crate::options::{bare, config_option, form_in, plain_option, value_in};
 use crate::words::Kind;
 use clap::{ArgMatches, Command};
 use std::alloc::{AllocError, Global};
@@ -44,11 +44,7 @@ fn check_in_form<'a>(alloc: Global) -> Result<Command<'a>, AllocError>
     ensures app { IfOk result (λ c. app_of c ≡ with_rule (new_app (codes "check")) spec.plain_rule) }
     ensures local { IfOk result (λ c. (fields_of c).has_globals ≡ false) }
 {
-    let plain = plain_option(alloc, PLAIN_HELP);
-    Command::new(alloc, "check")
-        .about(CHECK_ABOUT)
-        .after_help(CHECK_AFTER)
-        .arg(plain)
+    bare(alloc, "check", CHECK_ABOUT, CHECK_AFTER).arg(plain_option(alloc, PLAIN_HELP))
 }
 
 /// The subcommand `check`.
@@ -56,8 +52,7 @@ pub(crate) fn check_command<'a>(alloc: Global) -> Result<Command<'a>, AllocError
     ensures app { IfOk result (λ c. app_of c ≡ spec.check_command) }
     ensures local { IfOk result (λ c. (fields_of c).has_globals ≡ false) }
 {
-    let config = config_option(alloc);
-    check_in_form(alloc)?.arg(config)
+    check_in_form(alloc)?.arg(config_option(alloc))
 }
 
 /// What `check` asks for with these options.

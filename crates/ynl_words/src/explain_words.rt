@@ -8,7 +8,7 @@ ghost use Rattle.clap.specs.declared.builder.command.Command.TheViews.{out-Comma
 ghost use Rattle.ynl_words.specs.Words as spec;
 
 use crate::options::{
-    form_in, name_in, plain_option, tenant_option, value_in, with_options_and_files,
+    bare, form_in, name_in, plain_option, tenant_option, value_in, valued, with_options_and_files,
 };
 use crate::words::{Kind, Question, SequentialKind};
 use clap::{Arg, ArgMatches, Command};
@@ -57,11 +57,7 @@ fn app_option<'a>(alloc: Global) -> Arg<'a>
     ensures rule { rule_of result ≡ spec.app_rule }
     ensures local { result.global ≡ false }
 {
-    Arg::new(alloc, "app")
-        .long("app")
-        .value_name("NAME")
-        .help(APP_HELP)
-        .required(true)
+    valued(alloc, "app", "NAME", APP_HELP).required(true)
 }
 
 /// The subcommand with the first of its options.
@@ -69,11 +65,7 @@ fn explain_named<'a>(alloc: Global) -> Result<Command<'a>, AllocError>
     ensures app { IfOk result (λ c. app_of c ≡ with_rule (new_app (codes "explain")) spec.tenant_rule) }
     ensures local { IfOk result (λ c. (fields_of c).has_globals ≡ false) }
 {
-    let tenant = tenant_option(alloc);
-    Command::new(alloc, "explain")
-        .about(EXPLAIN_ABOUT)
-        .after_help(EXPLAIN_AFTER)
-        .arg(tenant)
+    bare(alloc, "explain", EXPLAIN_ABOUT, EXPLAIN_AFTER).arg(tenant_option(alloc))
 }
 
 /// The subcommand `explain`.

@@ -8,7 +8,7 @@ ghost use Rattle.clap.specs.Words.{found_of, rows_of};
 ghost use Rattle.clap.specs.declared.builder.command.Command.TheViews.{out-Command as fields_of};
 ghost use Rattle.ynl_words.specs.Words as spec;
 
-use crate::options::{value_in, with_options_and_files};
+use crate::options::{bare, value_in, valued, with_options_and_files};
 use crate::words::Kind;
 use clap::builder::ValueParser;
 use clap::{Arg, ArgMatches, Command};
@@ -95,10 +95,7 @@ fn workers_option<'a>(alloc: Global) -> Arg<'a>
     ensures rule { rule_of result ≡ spec.workers_rule }
     ensures local { result.global ≡ false }
 {
-    Arg::new(alloc, "workers")
-        .long("workers")
-        .value_name("N")
-        .help(WORKERS_HELP)
+    valued(alloc, "workers", "N", WORKERS_HELP)
         .value_parser(ValueParser::unsigned(1, 64))
         .default_value("2")
 }
@@ -107,10 +104,7 @@ fn rounds_option<'a>(alloc: Global) -> Arg<'a>
     ensures rule { rule_of result ≡ spec.rounds_rule }
     ensures local { result.global ≡ false }
 {
-    Arg::new(alloc, "rounds")
-        .long("rounds")
-        .value_name("R")
-        .help(ROUNDS_HELP)
+    valued(alloc, "rounds", "R", ROUNDS_HELP)
         .value_parser(ValueParser::unsigned(0, 1000))
         .default_value("1")
 }
@@ -120,10 +114,12 @@ pub(crate) fn live_command<'a>(alloc: Global) -> Result<Command<'a>, AllocError>
     ensures app { IfOk result (λ c. app_of c ≡ spec.live_command) }
     ensures local { IfOk result (λ c. (fields_of c).has_globals ≡ false) }
 {
-    let bare = Command::new(alloc, "live")
-        .about(LIVE_ABOUT)
-        .after_help(LIVE_AFTER);
-    with_options_and_files(alloc, bare, workers_option(alloc), rounds_option(alloc))
+    with_options_and_files(
+        alloc,
+        bare(alloc, "live", LIVE_ABOUT, LIVE_AFTER),
+        workers_option(alloc),
+        rounds_option(alloc),
+    )
 }
 
 /// The number that a text is.

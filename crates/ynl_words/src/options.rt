@@ -2,7 +2,7 @@
 
 ghost use Rattle.std.specs.Prelude.{◌≡◌, IfOk, option_map, false};
 ghost use Rattle.std.specs.Option.{option_and_then, option_map_or};
-ghost use Rattle.clap.specs.Simple.{app_of, with_rule};
+ghost use Rattle.clap.specs.Simple.{app_of, new_app, with_rule};
 ghost use Rattle.clap.specs.Walk.{first_of, rule_of};
 ghost use Rattle.clap.specs.Words.{found_of, rows_of};
 ghost use Rattle.clap.specs.declared.builder.command.Command.TheViews.{out-Command as fields_of};
@@ -22,15 +22,44 @@ const TENANT_HELP: &str = "The tenant, by the name of its top-level queue";
 
 const LABEL_HELP: &str = "The label of its partition";
 
+/// A subcommand without options. A proof of many questions on a command or an option takes long, so those that all are
+/// asked are asked in one place.
+pub(crate) fn bare<'a>(
+    alloc: Global,
+    name: &'a str,
+    about: &'a str,
+    after_help: &'a str,
+) -> Command<'a>
+    ensures app { app_of result ≡ new_app name.now }
+    ensures local { (fields_of result).has_globals ≡ false }
+{
+    Command::new(alloc, name)
+        .about(about)
+        .after_help(after_help)
+}
+
+/// An option that takes a value.
+pub(crate) fn valued<'a>(
+    alloc: Global,
+    name: &'a str,
+    value: &'a str,
+    help: &'a str,
+) -> Arg<'a>
+    ensures rule { rule_of result ≡ spec.valued name.now }
+    ensures local { result.global ≡ false }
+{
+    Arg::new(alloc, name)
+        .long(name)
+        .value_name(value)
+        .help(help)
+}
+
 /// The option that names the file of the configuration.
 pub(crate) fn config_option<'a>(alloc: Global) -> Arg<'a>
     ensures rule { rule_of result ≡ spec.config_rule }
     ensures local { result.global ≡ false }
 {
-    Arg::new(alloc, "config")
-        .long("config")
-        .value_name("FILE")
-        .help(CONFIG_HELP)
+    valued(alloc, "config", "FILE", CONFIG_HELP)
 }
 
 /// The option that names the file of the state to begin from.
@@ -38,10 +67,7 @@ fn from_option<'a>(alloc: Global) -> Arg<'a>
     ensures rule { rule_of result ≡ spec.from_rule }
     ensures local { result.global ≡ false }
 {
-    Arg::new(alloc, "from")
-        .long("from")
-        .value_name("FILE")
-        .help(FROM_HELP)
+    valued(alloc, "from", "FILE", FROM_HELP)
 }
 
 /// The option that names the tenant.
@@ -49,23 +75,15 @@ pub(crate) fn tenant_option<'a>(alloc: Global) -> Arg<'a>
     ensures rule { rule_of result ≡ spec.tenant_rule }
     ensures local { result.global ≡ false }
 {
-    Arg::new(alloc, "tenant")
-        .long("tenant")
-        .value_name("NAME")
-        .help(TENANT_HELP)
-        .required(true)
+    valued(alloc, "tenant", "NAME", TENANT_HELP).required(true)
 }
 
 /// The option that names the label.
-pub(crate) fn label_option<'a>(alloc: Global) -> Arg<'a>
+fn label_option<'a>(alloc: Global) -> Arg<'a>
     ensures rule { rule_of result ≡ spec.label_rule }
     ensures local { result.global ≡ false }
 {
-    Arg::new(alloc, "label")
-        .long("label")
-        .value_name("LABEL")
-        .help(LABEL_HELP)
-        .required(true)
+    valued(alloc, "label", "LABEL", LABEL_HELP).required(true)
 }
 
 /// The flag for what a reader is to read.
@@ -79,7 +97,7 @@ pub(crate) fn plain_option<'a>(alloc: Global, help: &'a str) -> Arg<'a>
         .help(help)
 }
 
-/// The subcommand with two options more. A proof of many questions on a command takes long, so this is a step.
+/// The subcommand with two options more.
 fn with_two<'a>(
     command: Command<'a>,
     first: Arg<'a>,
@@ -95,22 +113,17 @@ fn with_two<'a>(
     command.arg(first)?.arg(second)
 }
 
-/// The subcommand with two options more, and behind them the one that names the configuration.
-pub(crate) fn with_options<'a>(
+/// The subcommand with the options that name a tenant's partition, and behind them the one that names the configuration.
+pub(crate) fn with_partition<'a>(
     alloc: Global,
     command: Command<'a>,
-    first: Arg<'a>,
-    second: Arg<'a>,
 ) -> Result<Command<'a>, AllocError>
     requires command { (fields_of command).has_globals ≡ false }
-    requires first { first.global ≡ false }
-    requires second { second.global ≡ false }
-    ensures app { IfOk result (λ c. app_of c
-        ≡ spec.with_options (app_of command.entry) (rule_of first.entry) (rule_of second.entry)) }
+    ensures app { IfOk result (λ c. app_of c ≡ spec.with_partition (app_of command.entry)) }
     ensures local { IfOk result (λ c. (fields_of c).has_globals ≡ false) }
 {
-    let config = config_option(alloc);
-    with_two(command, first, second)?.arg(config)
+    let named = with_two(command, tenant_option(alloc), label_option(alloc))?;
+    named.arg(config_option(alloc))
 }
 
 /// The subcommand with the options that name the files of the configuration and of the state to begin from.

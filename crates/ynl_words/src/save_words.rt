@@ -5,7 +5,7 @@ ghost use Rattle.clap.specs.Simple.{app_of};
 ghost use Rattle.clap.specs.declared.builder.command.Command.TheViews.{out-Command as fields_of};
 ghost use Rattle.ynl_words.specs.Words as spec;
 
-use crate::options::with_files;
+use crate::options::{bare, with_files};
 use clap::Command;
 use std::alloc::{AllocError, Global};
 
@@ -48,10 +48,5 @@ pub(crate) fn save_command<'a>(alloc: Global) -> Result<Command<'a>, AllocError>
     ensures app { IfOk result (λ c. app_of c ≡ spec.save_command) }
     ensures local { IfOk result (λ c. (fields_of c).has_globals ≡ false) }
 {
-    with_files(
-        alloc,
-        Command::new(alloc, "save")
-            .about(SAVE_ABOUT)
-            .after_help(SAVE_AFTER),
-    )
+    with_files(alloc, bare(alloc, "save", SAVE_ABOUT, SAVE_AFTER))
 }

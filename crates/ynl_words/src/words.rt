@@ -19,9 +19,7 @@ use crate::audit_words::{
 use crate::check_words::{check_command, check_kind};
 use crate::explain_words::{explain_command, explain_kind};
 use crate::live_words::{Workers, live_command, live_kind};
-use crate::options::{
-    label_option, partition_in, tenant_option, value_in, with_files, with_options,
-};
+use crate::options::{bare, partition_in, value_in, with_files, with_partition};
 use crate::save_words::save_command;
 use clap::error::ErrorKind;
 use clap::{ArgMatches, Command};
@@ -211,12 +209,7 @@ fn run<'a>(alloc: Global) -> Result<Command<'a>, AllocError>
     ensures app { IfOk result (λ c. app_of c ≡ spec.run_command) }
     ensures local { IfOk result (λ c. (fields_of c).has_globals ≡ false) }
 {
-    with_files(
-        alloc,
-        Command::new(alloc, "run")
-            .about(RUN_ABOUT)
-            .after_help(RUN_AFTER),
-    )
+    with_files(alloc, bare(alloc, "run", RUN_ABOUT, RUN_AFTER))
 }
 
 /// The subcommand `tenant`.
@@ -224,10 +217,7 @@ fn tenant<'a>(alloc: Global) -> Result<Command<'a>, AllocError>
     ensures app { IfOk result (λ c. app_of c ≡ spec.tenant_command) }
     ensures local { IfOk result (λ c. (fields_of c).has_globals ≡ false) }
 {
-    let bare = Command::new(alloc, "tenant")
-        .about(TENANT_ABOUT)
-        .after_help(TENANT_AFTER);
-    with_options(alloc, bare, tenant_option(alloc), label_option(alloc))
+    with_partition(alloc, bare(alloc, "tenant", TENANT_ABOUT, TENANT_AFTER))
 }
 
 /// The command without its subcommands.
