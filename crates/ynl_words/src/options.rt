@@ -39,12 +39,7 @@ pub(crate) fn bare<'a>(
 }
 
 /// An option that takes a value.
-pub(crate) fn valued<'a>(
-    alloc: Global,
-    name: &'a str,
-    value: &'a str,
-    help: &'a str,
-) -> Arg<'a>
+pub(crate) fn valued<'a>(alloc: Global, name: &'a str, value: &'a str, help: &'a str) -> Arg<'a>
     ensures rule { rule_of result ≡ spec.valued name.now }
     ensures local { result.global ≡ false }
 {
