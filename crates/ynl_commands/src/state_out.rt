@@ -12,7 +12,7 @@ use crate::run::ToolFault;
 use std::alloc::Global;
 use std::io::Write;
 use ynl_saved::{LineSink, StateLine};
-use ynl_saving::Saving;
+use ynl_snapshots::Saving;
 use ynl_states::{StateSize, add_line, tell_state};
 
 /// Lines of a state on their way to a writer.

@@ -12,7 +12,7 @@ use Rattle.ynl_saved.specs.Saving.{lines_before_end}
 use Rattle.ynl_saved.proofs.Restored.{first-sound}
 use Rattle.ynl_saved.proofs.Tellable.{IsTellable}
 use Rattle.ynl_saved.proofs.Telling.{tells}
-use Rattle.ynl_restoring.specs.Telling.{Telling, Tells}
+use Rattle.ynl_snapshots.specs.restoring.Telling.{Telling, Tells}
 use Rattle.ynl_core.specs.Copying.{Follows}
 use Rattle.ynl_core.specs.Reached.{WorksAndIsTold}
 use Rattle.ynl_core.specs.World.{World}

@@ -2,7 +2,7 @@
 use Rattle.std.specs.Prelude.{◌≡◌, ⊤, false, Result, Ok, Err}
 use Rattle.ynl_saved.specs.declared.lines.StateLine.{StateLine}
 use Rattle.ynl_saved.specs.Restoring.{Restored, is_sound_line, restored_with}
-use Rattle.ynl_restoring.specs.Telling.{Telling, Tells}
+use Rattle.ynl_snapshots.specs.restoring.Telling.{Telling, Tells}
 use Rattle.ynl_core.specs.declared.copying.CopyFault.{CopyFault}
 use Rattle.ynl_core.specs.declared.copying.CopyFault.TheVariants.{NoMemory, Unsound}
 

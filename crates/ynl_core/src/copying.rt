@@ -3,14 +3,14 @@
 ghost use Rattle.std.specs.Prelude.{◌≡◌, IfOk, IsTrue};
 ghost use Rattle.ynl_model.specs.Accepted.{is_accepted};
 ghost use Rattle.ynl_saved.specs.Restoring.{nothing_restored};
-ghost use Rattle.ynl_restoring.specs.Telling.{Tells};
+ghost use Rattle.ynl_snapshots.specs.restoring.Telling.{Tells};
 
 use crate::cluster::Core;
 use crate::memory::NoMemory;
 use std::alloc::{AllocError, Global};
 use std::marker::Model;
 use ynl_queues::Config;
-use ynl_restoring::Restoring;
+use ynl_snapshots::Restoring;
 use ynl_saved::{LineSink, StateLine};
 
 /// Why no line more is taken.
@@ -43,7 +43,7 @@ struct Copying {
 }
 
 impl Model for Copying {
-    ghost use Rattle.ynl_restoring.specs.Telling.{Telling};
+    ghost use Rattle.ynl_snapshots.specs.restoring.Telling.{Telling};
 
     ghost Value = { Telling };
 

@@ -2,12 +2,12 @@
 
 ghost use Rattle.std.specs.Prelude.{◌≡◌, IfOk};
 ghost use Rattle.ynl_saved.specs.Restoring.{Restored};
-ghost use Rattle.ynl_restoring.specs.Telling.{Tells};
+ghost use Rattle.ynl_snapshots.specs.restoring.Telling.{Tells};
 
 use crate::cluster::Core;
 use crate::memory::NoMemory;
 use std::alloc::Global;
-use ynl_restoring::Restoring;
+use ynl_snapshots::Restoring;
 
 impl Core {
     /// The cluster that the lines of a saved state told. It goes on as the one of that state would. `Err` only if

@@ -16,7 +16,7 @@ use Rattle.ynl_saved_text.specs.Texts.{Progress, bad_line, limit, line_or_fault,
 use Rattle.ynl_saved_text.specs.declared.faults.StateFault.{StateFault}
 use Rattle.ynl_saved_text.specs.declared.faults.StateFault.TheVariants.{Size, Unsound}
 use Rattle.ynl_saved_text.specs.declared.read.LastLine.{LastLine}
-use Rattle.ynl_restoring.specs.Telling.{Telling, Tells, TakesLine}
+use Rattle.ynl_snapshots.specs.restoring.Telling.{Telling, Tells, TakesLine}
 use Rattle.ynl_states.specs.Reading.{ComesTo, IsAt}
 
 -- an ask that is read counts no more than an ask may

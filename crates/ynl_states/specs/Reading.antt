@@ -4,7 +4,7 @@ use Rattle.ynl_model.specs.Queues.{Config}
 use Rattle.ynl_core.specs.World.{World}
 use Rattle.ynl_saved.specs.Asks.{AllWithin}
 use Rattle.ynl_saved.proofs.Restored.{IsRestored}
-use Rattle.ynl_restoring.specs.Telling.{Telling, Tells}
+use Rattle.ynl_snapshots.specs.restoring.Telling.{Telling, Tells}
 use Rattle.ynl_saved.specs.Restoring.{Restored}
 use Rattle.ynl_saved_text.specs.Texts.{Progress, state_read}
 use Rattle.ynl_saved_text.specs.declared.faults.BadState.{BadState}

@@ -11,7 +11,7 @@ use std::marker::Model;
 use ynl_core::NoMemory;
 use ynl_saved::{LineSink, StateLine};
 use ynl_saved_text::StateFault;
-use ynl_saving::Saving;
+use ynl_snapshots::Saving;
 
 /// What the text of a state takes.
 #[derive(Clone, Copy)]

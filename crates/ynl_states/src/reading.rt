@@ -11,7 +11,7 @@ use crate::lines::first_line;
 use std::alloc::{AllocError, Global};
 use ynl_fields::is_blank;
 use ynl_queues::Config;
-use ynl_restoring::Restoring;
+use ynl_snapshots::Restoring;
 use ynl_saved_text::{BadState, StateFault, StateReader};
 
 /// How long a text may be, in bytes.

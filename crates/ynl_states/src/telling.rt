@@ -5,7 +5,7 @@ ghost use Rattle.ynl_saved.specs.Handing.{Hands};
 ghost use Rattle.ynl_saved.specs.Saving.{lines_before_end, state_lines};
 
 use ynl_saved::{LineSink, StateLine};
-use ynl_saving::Saving;
+use ynl_snapshots::Saving;
 
 /// Tells all lines of a state, one after another, to where the sink fails: the last tells how many stand before it.
 pub fn tell_state<S: LineSink>(

@@ -10,7 +10,7 @@ use std::alloc::Global;
 use ynl_core::{Core, NoMemory};
 use ynl_saved::{LineSink, StateLine};
 use ynl_saved_text::StateFault;
-use ynl_saving::Saving;
+use ynl_snapshots::Saving;
 
 /// Adds all lines of a state, the last of which tells how many stand before it.
 fn add_state(saving: &Saving<'_>, text: &mut StateText) -> Result<(), TextFault>

@@ -4,8 +4,8 @@ use Rattle.std.specs.Prelude.{IfOk}
 use Rattle.ynl_saved.specs.Handing.{FailsAmong, TakesAll}
 use Rattle.ynl_saved.specs.Restoring.{Restored}
 use Rattle.ynl_saved.specs.Saving.{lines_before_end}
-use Rattle.ynl_saving.specs.Saved.{Saved}
-use Rattle.ynl_restoring.specs.Telling.{Telling, Tells}
+use Rattle.ynl_snapshots.specs.saving.Saved.{Saved}
+use Rattle.ynl_snapshots.specs.restoring.Telling.{Telling, Tells}
 use Rattle.ynl_core.specs.Copying.{Follows}
 use Rattle.ynl_core.specs.Reached.{WorksAndIsTold}
 use Rattle.ynl_core.specs.World.{World}

@@ -1,7 +1,7 @@
 -- A line is taken where it goes with what the lines before it told, whatever that is.
 use Rattle.std.proofs.Common.{◌≡◌, false, subst, ◌∙◌, arith}
 use Rattle.ynl_saved.specs.Restoring.{Restored, is_sound_line}
-use Rattle.ynl_restoring.specs.Telling.{Telling, Tells}
+use Rattle.ynl_snapshots.specs.restoring.Telling.{Telling, Tells}
 use Rattle.ynl_core.proofs.copying.CopyingLineSink.take.Goals as goal
 
 pub take-requires : goal.take-requires

@@ -1,0 +1,2 @@
+pub mod saving
+pub mod restoring
