@@ -144,8 +144,7 @@ impl Restoring {
         if !has_label(&self.partitions, &node.label) {
             return Ok(false);
         }
-        let taken = take_node(&mut self.cluster, node)?;
-        Ok(taken)
+        take_node(&mut self.cluster, node)
     }
 
     /// Takes the line of a maximum.
@@ -183,18 +182,12 @@ impl Restoring {
                 user,
                 label,
                 master,
-            } => Ok(take_live(&mut self.cluster, queue, app, user, label, master)?),
-            StateLine::Ask { tenant, app, ask } => {
-                Ok(take_ask(&mut self.cluster, tenant, app, ask)?)
+            } => take_live(&mut self.cluster, queue, app, user, label, master),
+            StateLine::Ask { tenant, app, ask } => take_ask(&mut self.cluster, tenant, app, ask),
+            StateLine::Finished { queue, app } => take_finished(&mut self.cluster, queue, app),
+            StateLine::Container(placed) => {
+                take_container(&mut self.cluster, placed, &mut self.lasts)
             }
-            StateLine::Finished { queue, app } => {
-                Ok(take_finished(&mut self.cluster, queue, app)?)
-            }
-            StateLine::Container(placed) => Ok(take_container(
-                &mut self.cluster,
-                placed,
-                &mut self.lasts,
-            )?),
             StateLine::Stopped { queue } => Ok(take_stopped(&mut self.cluster, queue)),
             StateLine::Maximum {
                 queue,

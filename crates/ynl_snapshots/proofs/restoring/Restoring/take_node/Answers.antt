@@ -1,6 +1,7 @@
 -- A node's line is taken.
 use Rattle.std.proofs.Common.{◌∙◌, ap, refl, sym, subst}
 use Rattle.std.specs.List.{list_any}
+use Rattle.std.proofs.lemmas.Result.{IfOk-weaker}
 use Rattle.ynl_resource.specs.Names.{same_label}
 use Rattle.ynl_saved.specs.declared.lines.StateLine.TheVariants.{Node}
 use Rattle.ynl_saved.specs.Restoring.{with_line}
@@ -16,9 +17,12 @@ returns-then-not-has_label c r h =
 
 pub returns : goal.returns
 unfolding with_line
-returns c r h =
-    let told = subst (λ (t : Telling). Tells t r) (sym c.self.view_is) h in
+returns c =
     let any = ap (list_any (same_label c.args.node.now.label)) (sym c.deref.ensures.value) ∙ sym c.has_label.ensures ∙ c.if-not-has_label.false in
-    subst (λ (t : Telling). TakesKind t r (Node c.args.node.now) (record (telling_of c.self.inside) { cluster = c.take_node.new.cluster }) c.in_ok-taken.taken) c.self.view_is
-    (plain-kind (telling_of c.self.inside) r told (Node c.args.node.now) c.amount.ensures.range refl refl refl c.take_node.new.cluster c.in_ok-taken.taken
-    (c.in_ok-taken.ensures r told.state (sym (told.partitions c.args.node.now.label) ∙ any) (told-known (telling_of c.self.inside) r told c.args.node.now.label any)))
+    IfOk-weaker c.take_node.result _ _
+    (λ taken takes r h.
+    let told = subst (λ (t : Telling). Tells t r) (sym c.self.view_is) h in
+    subst (λ (t : Telling). TakesKind t r (Node c.args.node.now) (record (telling_of c.self.inside) { cluster = c.take_node.new.cluster }) taken) c.self.view_is
+    (plain-kind (telling_of c.self.inside) r told (Node c.args.node.now) c.amount.ensures.range refl refl refl c.take_node.new.cluster taken
+    (takes r told.state (sym (told.partitions c.args.node.now.label) ∙ any) (told-known (telling_of c.self.inside) r told c.args.node.now.label any))))
+    c.take_node.ensures
