@@ -1,11 +1,10 @@
 -- The queues and partitions of which a maximum had a line, by numbers.
 use Rattle.std.proofs.Common.{◌≡◌, ◌<◌, ℕ, Bool, true, false, ◌&&◌, ◌||◌, nat_eq, List, [], ◌∷◌, ◌++◌, length, slice_index_or, refl, sym, ap, subst, ◌∙◌, arith}
 use Rattle.std.specs.List.{list_any}
-use Rattle.std.specs.Option.{option_map_or}
 use Rattle.std.proofs.lemmas.Bool.Decides.{nat_tests}
-use Rattle.std.proofs.lemmas.List.{get_or-map, length-map}
+use Rattle.std.proofs.lemmas.List.{length-map}
 use Rattle.std.proofs.lemmas.List.Folds.{list_any-append}
-use Rattle.std.proofs.lemmas.Option.{same_Some, slice_get-get_or}
+use Rattle.std.proofs.lemmas.Option.{get_or_from_slice_get}
 use Rattle.ynl_resource.specs.Names.{same_label, same_path}
 use Rattle.ynl_resource.specs.declared.labels.Label.{Label}
 use Rattle.ynl_resource.specs.declared.labels.Label.TheVariants.{Unlabelled}
@@ -17,12 +16,12 @@ use Rattle.ynl_layout.proofs.settings.StopsMean.{other-path, own-path}
 use Rattle.ynl_inventory.specs.Rows.{PartitionRow}
 use Rattle.ynl_inventory.specs.Sound.{IsFor, IsSound}
 use Rattle.ynl_inventory.proofs.Asking.{same-label}
-use Rattle.ynl_inventory.proofs.Lookups.{place-there}
 use Rattle.ynl_cluster.proofs.requests.Members.{any-agree}
 use Rattle.ynl_cluster.specs.Cluster.{ClusterView, label_of}
 use Rattle.ynl_admission.specs.declared.queues.CellNumbers.{CellNumbers}
 use Rattle.ynl_admission.specs.Named.{IsCellBelowRoot}
 use Rattle.ynl_snapshots.specs.restoring.Telling.{AreMaxima, IsCellIn, cell_label, is_cell_of}
+use Rattle.ynl_snapshots.proofs.saving.QueuePlaces.{label-there}
 
 -- one more at the end, or at the front
 pub turn : (a x : Bool) → (a || (x || false)) ≡ (x || a)
@@ -37,12 +36,7 @@ module _ (w : ClusterView) (sound : IsSound w.rows) (configured : IsFor w.config
 
   -- a partition has the configured label of its number
   label-configured : (p : ℕ) → p < length w.rows.partitions → slice_index_or (partition_labels w.config.labels) p Unlabelled ≡ label_of w p
-  label-configured p within =
-      let its = place-there w.rows.partitions p within in
-      ap (λ (labels : List Label). slice_index_or labels p Unlabelled) (sym configured.labels)
-      ∙ get_or-map (λ (row : PartitionRow). row.label) w.rows.partitions p its.0 Unlabelled within
-      ∙ ap (λ (row : PartitionRow). row.label) (same_Some (slice_index_or w.rows.partitions p its.0) its.0 (sym (slice_get-get_or w.rows.partitions p its.0 within) ∙ its.1))
-      ∙ sym (ap (λ o. option_map_or (λ (row : PartitionRow). row.label) o Unlabelled) its.1)
+  label-configured p within = get_or_from_slice_get (partition_labels w.config.labels) p (label_of w p) Unlabelled (label-there w configured p within)
 
   module _ (queue : Path) (label : Label) (cell : CellNumbers) (its : IsCellBelowRoot w queue label cell) where
     -- its numbers are configured

@@ -1,9 +1,8 @@
 -- Clocks that are set, and the lines of partitions.
-use Rattle.std.proofs.Common.{◌≡◌, ◌≤◌, ◌<◌, ℕ, Bool, true, false, not, cond, nat_eq, nat_le, ◌&&◌, List, [], ◌∷◌, slice_get, Option, Some, refl, sym, ap, subst, ◌∙◌, arith}
+use Rattle.std.proofs.Common.{◌≡◌, ◌≤◌, ℕ, Bool, true, false, not, cond, nat_eq, nat_le, ◌&&◌, List, [], ◌∷◌, slice_get, Option, Some, refl, sym, ap, subst, ◌∙◌}
 use Rattle.std.specs.Prelude.{IfSome}
 use Rattle.std.specs.List.{AllByRecursion, list_any}
 use Rattle.std.specs.Map.{lookup}
-use Rattle.std.proofs.lemmas.Bool.Decides.{nat_tests}
 use Rattle.std.proofs.lemmas.Option.{same_Some, slice_get_within}
 use Rattle.ynl_resource.specs.Names.{same_label}
 use Rattle.ynl_resource.specs.Tables.{update}
@@ -129,9 +128,3 @@ partition-sound c r label shown known within new e f = (λ i. e i && not (new i)
     go : (b : Bool) → (b && true && within) ≡ (b && within)
     go true = refl
     go false = refl
-
-pub within-as : (shown limit : ℕ) → shown ≤ limit → nat_le shown limit ≡ true
-within-as shown limit h = grind (arith, nat_tests, h)
-
-pub beyond-as : (shown limit : ℕ) → limit < shown → nat_le shown limit ≡ false
-beyond-as shown limit h = grind (arith, nat_tests, h)

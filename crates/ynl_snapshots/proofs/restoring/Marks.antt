@@ -1,5 +1,5 @@
 -- The marks of stopped queues, and the lines that tell them.
-use Rattle.std.proofs.Common.{◌≡◌, ◌≢◌, ◌<◌, ◌≤◌, ◌-◌, ℕ, zero, suc, Bool, true, false, not, ◌&&◌, ◌||◌, List, [], ◌∷◌, length, nat_eq, nat_le, get_or, slice_get, Some, refl, sym, ap, subst, ◌∙◌, arith}
+use Rattle.std.proofs.Common.{◌≡◌, ◌≢◌, ◌<◌, ◌-◌, ℕ, zero, suc, Bool, true, false, not, ◌&&◌, ◌||◌, List, [], ◌∷◌, length, nat_eq, nat_le, get_or, slice_get, Some, refl, sym, ap, subst, ◌∙◌, arith}
 use Rattle.std.specs.List.{list_any}
 use Rattle.std.proofs.lemmas.Bool.Decides.{nat_tests}
 use Rattle.std.proofs.lemmas.Option.{none-some, same_Some}
@@ -81,13 +81,6 @@ pub maximum-sound : (c : Config) (r : Restored) (queue : Path) (label : Label) (
 unfolding is_sound_line
 maximum-sound c r queue label share there top may enough new e f g h =
     (λ i. e i && not (f i) && g i && h i && not (new i)) ∙ always (there && not top && may && enough)
-
--- whether a share is enough
-pub enough-as : (capacity share : ℕ) → capacity ≤ share → nat_le capacity share ≡ true
-enough-as capacity share h = grind (arith, nat_tests, h)
-
-pub too-little : (capacity share : ℕ) → share < capacity → nat_le capacity share ≡ false
-too-little capacity share h = grind (arith, nat_tests, h)
 
 -- a maximum that a line told goes with none, and so does one that does not go where none was told
 pub maximum-told : (c : Config) (r : Restored) (queue : Path) (label : Label) (share : ℕ)

@@ -28,14 +28,12 @@ use Rattle.ynl_laws.proofs.Events.Chosen.{none-holds}
 use Rattle.ynl_laws.proofs.Lists.{Each-weaker, none-found}
 use Rattle.ynl_laws.proofs.Logic.{and-false, either-false, either-true, is_some-map, not-false}
 use Rattle.ynl_laws.proofs.Names.{same-label_path, same-label_self}
-use Rattle.ynl_slots.proofs.Lists.{all_from}
 use Rattle.ynl_tables.proofs.containers.Removing.{at_live}
 use Rattle.ynl_tables.specs.declared.apps.asks.Ask.{Ask}
 use Rattle.ynl_tables.specs.apps.Asks.{find_ask as find_row, is_ask_of as is_row_of}
 use Rattle.ynl_inventory.specs.Rows.{AppRow}
 use Rattle.ynl_inventory.specs.Meaning.{app_name, app_of, ask_of}
 use Rattle.ynl_inventory.specs.Sound.{HasPartition, IsAskedOn, IsFor, IsSound}
-use Rattle.ynl_inventory.proofs.Asked.{asked-there}
 use Rattle.ynl_inventory.proofs.Asking.{same-ask}
 use Rattle.ynl_inventory.proofs.Finding.{not-true as unless}
 use Rattle.ynl_cluster.specs.Cluster.{ClusterView, label_of, maxima_in, path_of, state_in, stops_in}
@@ -47,6 +45,7 @@ use Rattle.ynl_saved.specs.Restoring.{asks_on, is_given, is_sound_line, may_ask,
 use Rattle.ynl_saved.proofs.Leaved.{found-name}
 use Rattle.ynl_snapshots.proofs.restoring.Clocks.{alike}
 use Rattle.ynl_snapshots.proofs.restoring.Owners.{own-apps}
+use Rattle.ynl_snapshots.proofs.saving.Apps.{each-asked}
 
 -- ---- what is tested
 
@@ -151,13 +150,9 @@ module _ (w : ClusterView) (sound : IsSound w.rows) (n : ℕ) (row : AppRow) (fo
   pub home-known : IsFor w.config w.rows → has_label w.config.labels (app_of w.rows (n, row)).home ≡ true
   home-known is = label-known w.config w.rows is (label_of w row.home) row.home (sound.apps n row found).home refl
 
-  -- what it asks for it asks for on partitions that are there
-  each-asked : AllByRecursion (λ (ask : Ask). HasPartition w.rows ask.partition) row.asks
-  each-asked = all_from (λ (ask : Ask). HasPartition w.rows ask.partition) row.asks (asked-there w.rows sound row.home (sound.apps n row found).home row.asks (sound.apps n row found).asked)
-
   -- what it asks for of a label and a priority is the ask of the partition and the priority
   pub ask-found : (p priority : ℕ) → HasPartition w.rows p → find_ask (app_of w.rows (n, row)) (label_of w p) priority ≡ option_map (ask_of w.rows.partitions) (find_row p priority row.asks)
-  ask-found p priority there = go row.asks each-asked
+  ask-found p priority there = go row.asks (each-asked w.rows sound n row found)
     where
       go : (asks : List Ask) → AllByRecursion (λ (ask : Ask). HasPartition w.rows ask.partition) asks
           → find (is_ask_of (label_of w p) priority) (map (ask_of w.rows.partitions) asks) ≡ option_map (ask_of w.rows.partitions) (find (is_row_of p priority) asks)

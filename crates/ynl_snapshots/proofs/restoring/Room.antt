@@ -14,6 +14,7 @@ use Rattle.ynl_cluster.specs.Cluster.{ClusterView, label_of, maxima_in, state_in
 use Rattle.ynl_admission.specs.Named.{IsNodeNamed}
 use Rattle.ynl_search.proofs.FreeMeans.{free-means}
 use Rattle.ynl_saved.specs.Restoring.{is_given, last_clock, may_stand}
+use Rattle.ynl_saved.proofs.Sound.{nat-le}
 use Rattle.ynl_snapshots.specs.restoring.Placing.{AreLasts, StandsOn}
 use Rattle.ynl_snapshots.proofs.restoring.Lasts.{last-at}
 
@@ -36,9 +37,6 @@ last-read w sound placed n named lasts are own =
 pub not-behind : (last clock : ℕ) → clock ≤ last → nat_lt last clock ≡ false
 not-behind last clock h = grind (arith, nat_tests, h)
 
-within : (a b : ℕ) → a ≤ b → nat_le a b ≡ true
-within a b h = grind (arith, nat_tests, h)
-
 behind : (a b : ℕ) → a < b → nat_lt a b ≡ true
 behind a b h = grind (arith, nat_tests, h)
 
@@ -48,6 +46,6 @@ pub stands-told : (w : ClusterView) → IsSound w.rows → (placed : Placed) (n 
 stands-told w sound placed n stands given =
     let node =
     room-told w sound placed n stands.named
-    ∙ (λ i. (ap (λ l. same_label l placed.id.label) stands.own ∙ same-label_self placed.id.label) i && within placed.id.clock stands.named.row.stamp stands.stamped i && stands.fits i)
+    ∙ (λ i. (ap (λ l. same_label l placed.id.label) stands.own ∙ same-label_self placed.id.label) i && nat-le placed.id.clock stands.named.row.stamp stands.stamped i && stands.fits i)
     in
     λ i. node i && behind (last_clock (state_in w) placed.id.label) placed.id.clock stands.later i && given i

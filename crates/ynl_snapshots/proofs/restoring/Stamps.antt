@@ -30,6 +30,7 @@ use Rattle.ynl_admission.specs.Named.{IsPartitionOf}
 use Rattle.ynl_saved.specs.declared.lines.StateLine.TheVariants.{Node as NodeLine}
 use Rattle.ynl_saved.specs.Restoring.{is_sound_line, with_node, Restored}
 use Rattle.ynl_snapshots.proofs.restoring.Clocks.{as-it-is, clocks-own, twice}
+use Rattle.ynl_snapshots.proofs.restoring.Taken.{nat-beyond}
 
 -- ---- what is tested
 
@@ -46,7 +47,7 @@ pub no-stamp : (shown stamp : ℕ) → stamp ≡ 0 → is_from_to 1 shown stamp 
 no-stamp shown stamp h = ap (λ n. is_from_to 1 shown n) h
 
 pub later-stamp : (shown stamp : ℕ) → shown < stamp → is_from_to 1 shown stamp ≡ false
-later-stamp shown stamp h = let beyond : nat_le stamp shown ≡ false = grind (arith, nat_tests, h) in ap (λ b. nat_le 1 stamp && b) beyond ∙ and-false (nat_le 1 stamp)
+later-stamp shown stamp h = ap (λ b. nat_le 1 stamp && b) (nat-beyond stamp shown h) ∙ and-false (nat_le 1 stamp)
 
 pub own-stamp : (shown stamp : ℕ) → 0 < stamp → stamp ≤ shown → is_from_to 1 shown stamp ≡ true
 own-stamp shown stamp above within =

@@ -1,6 +1,7 @@
 -- Live applications in places, and what the model has of them.
 use Rattle.std.proofs.Common.{◌≡◌, ◌<◌, ℕ, List, [], length, map, slice_get, Some, option_map, nat_eq, sym, ap, subst, ◌∙◌}
 use Rattle.std.specs.Prelude.{IfSome, slice_index_or}
+use Rattle.std.specs.List.{AllByRecursion}
 use Rattle.std.specs.Map.{lookup}
 use Rattle.std.specs.Option.{option_and_then, option_map_or}
 use Rattle.std.proofs.lemmas.Option.{get_or_from_slice_get, same_Some, slice_get-map, slice_get_within}
@@ -39,11 +40,12 @@ module _ (v : Rows) (sound : IsSound v) (app : ℕ) (row : AppRow) (found : look
       let n = slice_get_within v.tenants row.tenant (submitted_to v.tenants row.tenant) (tenant-there v.tenants row.tenant row.turn ((sound.apps app row found).name, record { leaf = row.leaf; app = Some app }) (sound.apps app row found).submitted) in
       subst (λ (k : ℕ). row.tenant < k) sound.many n
 
-  -- an ask's partition is there
+  -- what it asks for it asks for on partitions that are there
+  pub each-asked : AllByRecursion (λ (ask : Ask). HasPartition v ask.partition) row.asks
+  each-asked = let its = sound.apps app row found in all_from (λ (ask : Ask). HasPartition v ask.partition) row.asks (asked-there v sound row.home its.home row.asks its.asked)
+
   pub ask-partition : (place : ℕ) (ask : Ask) → slice_get row.asks place ≡ Some ask → HasPartition v ask.partition
-  ask-partition place ask at =
-      let its = sound.apps app row found in
-      in-place (λ (ask : Ask). HasPartition v ask.partition) row.asks place ask (all_from (λ (ask : Ask). HasPartition v ask.partition) row.asks (asked-there v sound row.home its.home row.asks its.asked)) at
+  ask-partition place ask at = in-place (λ (ask : Ask). HasPartition v ask.partition) row.asks place ask each-asked at
 
   -- what is told of it is what the model has
   pub live-told : (leaf : Path) (name user : Name) (home : Label) → leaf ≡ path_at v.paths row.leaf → name ≡ app_name v.tenants row.tenant row.turn → slice_get v.users row.user ≡ Some user

@@ -1,9 +1,8 @@
 -- Queues in places, and what the model has set of them.
-use Rattle.std.proofs.Common.{◌≡◌, ◌<◌, ◌≤◌, ◌+◌, ◌-◌, ℕ, suc, Bool, Option, None, List, [], ◌∷◌, length, slice_get, Some, option_map, refl, sym, ap, ◌∙◌, arith}
+use Rattle.std.proofs.Common.{◌≡◌, ◌<◌, ◌≤◌, ◌+◌, ◌-◌, ℕ, Bool, Option, None, List, [], ◌∷◌, length, slice_get, Some, option_map, refl, sym, ap, ◌∙◌, arith}
 use Rattle.std.specs.Option.{option_map_or, IsSome}
 use Rattle.std.proofs.lemmas.List.{length-map}
-use Rattle.std.proofs.lemmas.Option.{get_or_from_slice_get, slice_get-map}
-use Rattle.ynl_resource.specs.Names.{root}
+use Rattle.std.proofs.lemmas.Option.{slice_get-map}
 use Rattle.ynl_resource.specs.declared.labels.Label.{Label}
 use Rattle.ynl_resource.specs.declared.labels.Label.TheVariants.{Unlabelled}
 use Rattle.ynl_resource.specs.declared.paths.Path.{Path}
@@ -11,11 +10,12 @@ use Rattle.ynl_model.specs.Nodes.{partition_labels}
 use Rattle.ynl_model.specs.Queues.{QueueRow}
 use Rattle.ynl_model.specs.declared.queues.StopRow.{StopRow}
 use Rattle.ynl_layout.specs.settings.Meaning.{stops_of}
-use Rattle.ynl_layout.specs.Paths.{HasNumber, path_at, paths_of}
+use Rattle.ynl_layout.specs.Paths.{HasNumber, paths_of}
 use Rattle.ynl_inventory.specs.Rows.{PartitionRow}
 use Rattle.ynl_inventory.specs.Sound.{HasPartition, IsFor}
 use Rattle.ynl_inventory.proofs.Lookups.{place-there}
 use Rattle.ynl_cluster.specs.Cluster.{ClusterView, label_of, path_of, state_in}
+use Rattle.ynl_snapshots.proofs.saving.Rows.{path-own}
 
 module _ (w : ClusterView) (configured : IsFor w.config w.rows) (i : ℕ) (inside : i < length w.config.queues) where
   -- the queue in a place has the number behind it
@@ -32,11 +32,7 @@ module _ (w : ClusterView) (configured : IsFor w.config w.rows) (i : ℕ) (insid
 
   -- and its path
   pub queue-path : path_of w (i + 1) ≡ queue-row.0.path
-  queue-path =
-      let next : i + 1 ≡ suc i = omega arith in
-      ap (path_at w.rows.paths) next
-      ∙ get_or_from_slice_get w.rows.paths i queue-row.0.path root
-      (ap (λ (paths : List Path). slice_get paths i) configured.paths ∙ slice_get-map (λ (row : QueueRow). row.path) w.config.queues i ∙ ap (option_map (λ (row : QueueRow). row.path)) queue-row.1)
+  queue-path = path-own w configured i queue-row.0 queue-row.1
 
 -- the label of a partition is that of its place
 pub label-there : (w : ClusterView) → IsFor w.config w.rows → (p : ℕ) → HasPartition w.rows p → slice_get (partition_labels w.config.labels) p ≡ Some (label_of w p)

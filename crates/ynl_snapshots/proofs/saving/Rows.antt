@@ -104,14 +104,6 @@ module _ (w : ClusterView) (p : ℕ) where
       go None is h = tt
       go (Some there) is h = λ i. PartitionLine ((labelled ∙ ap (λ o. option_map_or (λ (row : PartitionRow). row.label) o Unlabelled) is) i) (h i)
 
-  -- it is the line in that place
-  pub line-there : HasPartition w.rows p → (line : StateLine) → IfSome (slice_get (state_in w).partitions p) (λ row. line ≡ partition_line row) → slice_get (map partition_line (state_in w).partitions) p ≡ Some line
-  line-there has line told =
-      let there = place-there w.rows.partitions p has in
-      let at : slice_get (state_in w).partitions p ≡ Some (partition_of w.rows there.0) = slice_get-map (partition_of w.rows) w.rows.partitions p ∙ ap (option_map (partition_of w.rows)) there.1 in
-      slice_get-map partition_line (state_in w).partitions p ∙ ap (option_map partition_line) at
-      ∙ ap (λ (line : StateLine). Some line) (sym (at_live (λ (row : Partition). line ≡ partition_line row) (slice_get (state_in w).partitions p) (partition_of w.rows there.0) told at))
-
   -- as many as are counted are there
   pub partition-counted : (h : Held) → h ≡ held_in w → (count : ℕ) → count ≡ length h.rows.partitions → p < count → HasPartition w.rows p
   partition-counted h is count counts below = subst (λ (h : Held). p < length h.rows.partitions) is (subst (λ n. p < n) counts below)
@@ -121,6 +113,13 @@ module _ (w : ClusterView) (p : ℕ) where
   partition-there has =
       let there = place-there w.rows.partitions p has in
       (there.0, there.1, slice_get-map (partition_of w.rows) w.rows.partitions p ∙ ap (option_map (partition_of w.rows)) there.1)
+
+  -- its line is the one in that place
+  pub line-there : HasPartition w.rows p → (line : StateLine) → IfSome (slice_get (state_in w).partitions p) (λ row. line ≡ partition_line row) → slice_get (map partition_line (state_in w).partitions) p ≡ Some line
+  line-there has line told =
+      let there = partition-there has in
+      slice_get-map partition_line (state_in w).partitions p ∙ ap (option_map partition_line) there.2
+      ∙ ap (λ (line : StateLine). Some line) (sym (at_live (λ (row : Partition). line ≡ partition_line row) (slice_get (state_in w).partitions p) (partition_of w.rows there.0) told there.2))
 
 -- ---- nodes
 
@@ -200,13 +199,14 @@ module _ (w : ClusterView) (configured : IsFor w.config w.rows) (i : ℕ) (row :
   pub path-there : slice_get w.rows.paths i ≡ Some row.path
   path-there = ap (λ (paths : List Path). slice_get paths i) configured.paths ∙ slice_get-map (λ (row : QueueRow). row.path) w.config.queues i ∙ ap (option_map (λ (row : QueueRow). row.path)) at
 
+  pub path-own : path_at w.rows.paths (i + 1) ≡ row.path
+  path-own = let next : suc i ≡ i + 1 = omega arith in ap (path_at w.rows.paths) (sym next) ∙ get_or_from_slice_get w.rows.paths i row.path root path-there
+
   -- the queue is a leaf where it is one of the configuration
   pub leaf-here : is_leaf w.config row.path ≡ true → IsLeaf w.rows (i + 1)
   leaf-here leaf =
-      let next : suc i ≡ i + 1 = omega arith in
-      let path : path_at w.rows.paths (i + 1) ≡ row.path = ap (path_at w.rows.paths) (sym next) ∙ get_or_from_slice_get w.rows.paths i row.path root path-there in
       let inside = slice_get_within w.rows.paths i row.path path-there in
-      record { there = omega (arith, inside); none_below = ap (has_none_below w.rows.paths) path ∙ configured-leaf w configured row.path ∙ leaf }
+      record { there = omega (arith, inside); none_below = ap (has_none_below w.rows.paths) path-own ∙ configured-leaf w configured row.path ∙ leaf }
 
   -- its lines are a leaf's, or none
   pub queue-told : (leaf : Bool) → leaf ≡ is_leaf w.config row.path → (path : Path) → slice_get w.rows.paths i ≡ Some path → queue_lines w.rows (i + 1, path) ≡ cond leaf (leaf_lines (leaf_of w.rows (i + 1))) []
@@ -217,9 +217,10 @@ module _ (w : ClusterView) (configured : IsFor w.config w.rows) (i : ℕ) (row :
 -- the queue that stands in a place, with its number
 pub queue-at : (w : ClusterView) → IsFor w.config w.rows → (i : ℕ) → i < length w.config.queues → (path : Path) × (slice_get w.rows.paths i ≡ Some path) × (slice_get (numbered 1 w.rows.paths) i ≡ Some (i + 1, path))
 queue-at w configured i inside =
-    let there = place-there w.rows.paths i (subst (λ n. i < n) (sym (length-map w.config.queues (λ (row : QueueRow). row.path)) ∙ sym (ap length configured.paths)) inside) in
+    let row = place-there w.config.queues i inside in
+    let at = path-there w configured i row.0 row.1 in
     let same : 1 + i ≡ i + 1 = omega arith in
-    (there.0, there.1, numbered-at 1 w.rows.paths i there.0 there.1 ∙ ap (λ (n : ℕ). Some (n, there.0)) same)
+    (row.0.path, at, numbered-at 1 w.rows.paths i row.0.path at ∙ ap (λ (n : ℕ). Some (n, row.0.path)) same)
 
 -- as many as the configuration has
 pub queues-counted : (w : ClusterView) → IsFor w.config w.rows → length (numbered 1 w.rows.paths) ≡ length w.config.queues

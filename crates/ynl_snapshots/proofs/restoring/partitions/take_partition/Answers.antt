@@ -5,8 +5,9 @@ use Rattle.ynl_model.specs.Cluster.{in_partition}
 use Rattle.ynl_cluster.specs.Cluster.{ClusterView, state_in}
 use Rattle.ynl_saved.specs.declared.lines.StateLine.TheVariants.{Partition}
 use Rattle.ynl_saved.specs.Restoring.{with_line}
-use Rattle.ynl_snapshots.proofs.restoring.Clocks.{beyond-as, may-go, partition-sound, within-as}
-use Rattle.ynl_snapshots.proofs.restoring.Taken.{refused, taken}
+use Rattle.ynl_saved.proofs.Sound.{nat-le}
+use Rattle.ynl_snapshots.proofs.restoring.Clocks.{may-go, partition-sound}
+use Rattle.ynl_snapshots.proofs.restoring.Taken.{nat-beyond, refused, taken}
 use Rattle.ynl_snapshots.proofs.restoring.partitions.take_partition.Goals as goal
 
 pub set_clock-requires-clause-can : goal.set_clock-requires-clause-can
@@ -23,14 +24,14 @@ pub returns-then-limit-clock : goal.returns-then-limit-clock
 returns-then-limit-clock c r is new =
     let beyond : clock_limit c.args.cluster.now.config.labels c.args.label.now < c.args.clock = rw (c.limit.ensures, c.labels.ensures, c.deref.ensures, c.config.ensures) at c.if-limit-clock.true in
     refused c.args.cluster.now r (Partition c.args.label.now c.args.clock)
-    (partition-sound c.args.cluster.now.config r c.args.label.now c.args.clock true false new (sym c.in-Some.ensures.known) (beyond-as c.args.clock (clock_limit c.args.cluster.now.config.labels c.args.label.now) beyond))
+    (partition-sound c.args.cluster.now.config r c.args.label.now c.args.clock true false new (sym c.in-Some.ensures.known) (nat-beyond c.args.clock (clock_limit c.args.cluster.now.config.labels c.args.label.now) beyond))
 
 pub returns : goal.returns
 unfolding with_line
 returns c r is new =
     let goes : c.args.clock ≤ clock_limit c.args.cluster.now.config.labels c.args.label.now = rw (c.limit.ensures, c.labels.ensures, c.deref.ensures, c.config.ensures) at c.if-limit-clock.false in
     taken c.args.cluster.now c.set_clock.new.self r (Partition c.args.label.now c.args.clock)
-    (partition-sound c.args.cluster.now.config r c.args.label.now c.args.clock true true new (sym c.in-Some.ensures.known) (within-as c.args.clock (clock_limit c.args.cluster.now.config.labels c.args.label.now) goes))
+    (partition-sound c.args.cluster.now.config r c.args.label.now c.args.clock true true new (sym c.in-Some.ensures.known) (nat-le c.args.clock (clock_limit c.args.cluster.now.config.labels c.args.label.now) goes))
     (ap (λ (w : ClusterView). w.config) c.set_clock.ensures.rows)
     (c.set_clock.ensures.state
     ∙ ap (λ label. record (state_in c.args.cluster.now) { partitions = in_partition label (λ row. record row { clock = c.args.clock }) (state_in c.args.cluster.now).partitions }) c.in-Some.ensures.some.own)

@@ -3,7 +3,9 @@ use Rattle.std.proofs.Common.{◌≡◌, ◌∙◌, ◌<◌, ◌≤◌, nat_eq, 
 use Rattle.ynl_resource.specs.Names.{root, same_path}
 use Rattle.ynl_model.specs.Queues.{capacity_on, may_use}
 use Rattle.ynl_snapshots.proofs.restoring.Known.{unknown-barred}
-use Rattle.ynl_snapshots.proofs.restoring.Marks.{enough-as, maximum-sound, not-root, too-little}
+use Rattle.ynl_saved.proofs.Sound.{nat-le}
+use Rattle.ynl_snapshots.proofs.restoring.Marks.{maximum-sound, not-root}
+use Rattle.ynl_snapshots.proofs.restoring.Taken.{nat-beyond}
 use Rattle.ynl_snapshots.proofs.restoring.queues.maximum_cell.Goals as goal
 
 pub returns-in_default-clause-sound : goal.returns-in_default-clause-sound
@@ -39,7 +41,7 @@ returns-then-number-clause-sound c r new =
     in
     let less : c.args.share < capacity_on c.args.cluster.now.config c.args.queue.now c.args.label.now = omega (arith, capacity) in
     maximum-sound c.args.cluster.now.config r c.args.queue.now c.args.label.now c.args.share true false true false new (sym c.in-Some.ensures.known) (c.in-Some.ensures.root ∙ not-root c.in-Some.number above) may
-    (too-little (capacity_on c.args.cluster.now.config c.args.queue.now c.args.label.now) c.args.share less)
+    (nat-beyond (capacity_on c.args.cluster.now.config c.args.queue.now c.args.label.now) c.args.share less)
 
 pub returns-clause-sound : goal.returns-clause-sound
 returns-clause-sound c r new =
@@ -50,4 +52,4 @@ returns-clause-sound c r new =
     in
     let within : capacity_on c.args.cluster.now.config c.args.queue.now c.args.label.now ≤ c.args.share = omega (arith, capacity) in
     maximum-sound c.args.cluster.now.config r c.args.queue.now c.args.label.now c.args.share true false true true new (sym c.in-Some.ensures.known) (c.in-Some.ensures.root ∙ not-root c.in-Some.number above) may
-    (enough-as (capacity_on c.args.cluster.now.config c.args.queue.now c.args.label.now) c.args.share within)
+    (nat-le (capacity_on c.args.cluster.now.config c.args.queue.now c.args.label.now) c.args.share within)
