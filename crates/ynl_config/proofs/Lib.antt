@@ -8,4 +8,3 @@ pub mod Placed
 pub mod Ranges
 pub mod Spaces
 pub mod Told
-pub mod Views

@@ -22,8 +22,13 @@ use ynl_queues::Config;
 
 /// The number of the line on which the byte of this index stands.
 fn line_of(text: &[u8], index: usize) -> u64 {
-    let before = text.iter().take(index).filter(|b| **b == b'\n').count();
-    (before as u64).saturating_add(1)
+    let mut line: u64 = 1;
+    for byte in text.iter().take(index) {
+        if *byte == b'\n' {
+            line = line.saturating_add(1);
+        }
+    }
+    line
 }
 
 /// The line on which reading found that the bytes are no TOML text.

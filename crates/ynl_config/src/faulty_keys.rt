@@ -85,22 +85,15 @@ fn has<T: Drop>(fault: ConfigFault, reading: Result<T, ConfigFault>) -> bool
     }
 }
 
-fn is_table(value: &Value) -> bool
-    ensures { result ≡ is_table (view value.now) }
-{
-    value.as_table().is_some()
-}
-
-fn all_tables(values: &[Value]) -> bool
-    ensures { result ≡ list_all (λ value. is_table (view value)) values.now }
-{
-    values.iter().all(|value| is_table(value))
-}
-
 fn are_tables(values: &[Value]) -> bool
     ensures { result ≡ list_all is_table (values_in (items_view values.now)) }
 {
-    all_tables(values)
+    for i in 0..values.len() {
+        if values[i].as_table().is_none() {
+            return false;
+        }
+    }
+    true
 }
 
 /// Whether an array of tables stands at the key, if anything does.
@@ -194,43 +187,37 @@ fn first_key(
     None
 }
 
-fn faulty_top_key(fault: ConfigFault, table: &Table) -> Option<&'static str>
-    ensures { option_map (λ key. key.now) result ≡ first_that_holds (spec.top_keys fault (table_view table.now)) }
+/// The key of a table of this kind at which the fault is.
+fn key_with<'t>(
+    kind: TableKind,
+    fault: ConfigFault,
+    version: Version,
+    table: &'t Table,
+    keys: &[(&'static str, Reading)],
+) -> Option<&'t str>
+    ensures { option_map (λ key. key.now) result ≡ spec.key_with fault (spec.unknown_key kind (table_view table.now))
+        (map (λ key. (key.0.now, has_at fault version (table_view table.now) key.0.now key.1)) keys.now) }
 {
-    // None of them is a percentage, so any version will do.
-    first_key(fault, Version::Whole, table, &TOP_KEYS)
+    match fault {
+        ConfigFault::UnknownKey => unknown_key(kind, table),
+        _ => first_key(fault, version, table, keys),
+    }
 }
 
 /// The key of the whole text at which the fault is.
 pub(crate) fn top_key<'t>(fault: ConfigFault, table: &'t Table) -> Option<&'t str>
     ensures { option_map (λ key. key.now) result ≡ spec.top_key fault (table_view table.now) }
 {
-    match fault {
-        ConfigFault::UnknownKey => unknown_key(TableKind::Top, table),
-        _ => faulty_top_key(fault, table),
-    }
-}
-
-fn faulty_label_key(fault: ConfigFault, table: &Table) -> Option<&'static str>
-    ensures { option_map (λ key. key.now) result ≡ first_that_holds (spec.label_keys fault (table_view table.now)) }
-{
-    first_key(fault, Version::Whole, table, &LABEL_KEYS)
+    // None of them is a percentage, so any version will do.
+    key_with(TableKind::Top, fault, Version::Whole, table, &TOP_KEYS)
 }
 
 /// The key of a label's row at which the fault is.
+#[tactic(auto, unfolding(crate::specs::Places::label_keys))]
 pub(crate) fn label_key<'t>(fault: ConfigFault, table: &'t Table) -> Option<&'t str>
     ensures { option_map (λ key. key.now) result ≡ spec.label_key fault (table_view table.now) }
 {
-    match fault {
-        ConfigFault::UnknownKey => unknown_key(TableKind::Label, table),
-        _ => faulty_label_key(fault, table),
-    }
-}
-
-fn faulty_share_key(fault: ConfigFault, version: Version, table: &Table) -> Option<&'static str>
-    ensures { option_map (λ key. key.now) result ≡ first_that_holds (spec.share_keys fault version (table_view table.now)) }
-{
-    first_key(fault, version, table, &SHARE_KEYS)
+    key_with(TableKind::Label, fault, Version::Whole, table, &LABEL_KEYS)
 }
 
 /// The key of a queue's share of a label at which the fault is.
@@ -241,10 +228,7 @@ pub(crate) fn share_key<'t>(
 ) -> Option<&'t str>
     ensures { option_map (λ key. key.now) result ≡ spec.share_key fault version (table_view table.now) }
 {
-    match fault {
-        ConfigFault::UnknownKey => unknown_key(TableKind::LabelCapacity, table),
-        _ => faulty_share_key(fault, version, table),
-    }
+    key_with(TableKind::LabelCapacity, fault, version, table, &SHARE_KEYS)
 }
 
 fn faulty_queue_key(

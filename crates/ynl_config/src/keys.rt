@@ -1,9 +1,8 @@
 //! Which keys a table of a configuration may have.
 
-ghost use Rattle.std.specs.Prelude.{◌≡◌, find, option_map, string_bytes};
+ghost use Rattle.std.specs.Prelude.{◌≡◌, find, option_map};
 ghost use Rattle.std.specs.List.{list_any};
 ghost use Rattle.std.specs.Str.{bytes_eq};
-ghost use Rattle.std.specs.BTreeMap.{keys};
 ghost use Rattle.toml.specs.View.{table_view};
 ghost use Rattle.ynl_config.specs.Known as spec;
 ghost use Rattle.ynl_config.specs.KeyTables.{is_faulty};
@@ -33,6 +32,10 @@ const TOP_KEYS: [&str; 7] = [
     "queue",
 ];
 
+const LABEL_KEYS: [&str; 3] = ["name", "exclusive", "clock-limit"];
+
+const SHARE_KEYS: [&str; 2] = ["capacity", "maximum-capacity"];
+
 /// A queue's share of DEFAULT, and its own settings.
 const QUEUE_KEYS: [&str; 11] = [
     "capacity",
@@ -51,42 +54,22 @@ const QUEUE_KEYS: [&str; 11] = [
 fn is_among(key: &str, keys: &[&str]) -> bool
     ensures { result ≡ list_any (λ known. bytes_eq key.now known.now) keys.now }
 {
-    keys.iter().any(|known| key == *known)
+    for i in 0..keys.len() {
+        if key == keys[i] {
+            return true;
+        }
+    }
+    false
 }
 
-fn is_top_key(key: &str) -> bool
-    ensures { result ≡ spec.is_top_key key.now }
-{
-    is_among(key, &TOP_KEYS)
-}
-
-fn is_label_key(key: &str) -> bool
-    ensures { result ≡ spec.is_label_key key.now }
-{
-    key == "name" || key == "exclusive" || key == "clock-limit"
-}
-
-fn is_queue_key(key: &str) -> bool
-    ensures { result ≡ spec.is_queue_key key.now }
-{
-    is_among(key, &QUEUE_KEYS)
-}
-
-fn is_share_key(key: &str) -> bool
-    ensures { result ≡ spec.is_share_key key.now }
-{
-    key == "capacity" || key == "maximum-capacity"
-}
-
-#[tactic(auto, unfolding(crate::specs::Known::is_known))]
 pub(crate) fn is_known(kind: TableKind, key: &str) -> bool
     ensures { result ≡ spec.is_known kind key.now }
 {
     match kind {
-        TableKind::Top => is_top_key(key),
-        TableKind::Label => is_label_key(key),
-        TableKind::Queue => is_queue_key(key),
-        TableKind::LabelCapacity => is_share_key(key),
+        TableKind::Top => is_among(key, &TOP_KEYS),
+        TableKind::Label => is_among(key, &LABEL_KEYS),
+        TableKind::Queue => is_among(key, &QUEUE_KEYS),
+        TableKind::LabelCapacity => is_among(key, &SHARE_KEYS),
     }
 }
 
@@ -128,29 +111,16 @@ fn is_faulty(fault: KeyFault, table: &Table, key: &str) -> bool
     }
 }
 
-fn faulty_entry(fault: KeyFault, table: &Table) -> Option<&String>
-    ensures { option_map (λ key. key.now) result ≡ find (λ key. is_faulty fault (table_view table.now) (string_bytes key)) (keys table.now) }
-{
-    table
-        .keys()
-        .find(|key| is_faulty(fault, table, key.as_str()))
-}
-
-/// The text of a key.
-pub(crate) fn text_of_key(key: Option<&String>) -> Option<&str>
-    ensures { option_map (λ text. text.now) result ≡ option_map string_bytes (option_map (λ key. key.now) key.entry) }
-{
-    match key {
-        Some(key) => Some(key.as_str()),
-        None => None,
-    }
-}
-
 /// The first key with the fault.
 pub(crate) fn faulty_key(fault: KeyFault, table: &Table) -> Option<&str>
     ensures { option_map (λ key. key.now) result ≡ find (is_faulty fault (table_view table.now)) (keys_in (table_view table.now)) }
 {
-    text_of_key(faulty_entry(fault, table))
+    for (key, _) in table {
+        if is_faulty(fault, table, key.as_str()) {
+            return Some(key.as_str());
+        }
+    }
+    None
 }
 
 /// The first key that the table may not have.

@@ -52,7 +52,12 @@ fn parts(alloc: Global, text: &str) -> Result<Vec<&str>, AllocError>
 fn lists(names: &[Name], name: &Name) -> bool
     ensures { result ≡ list_any (same_name name.now) names.now }
 {
-    names.iter().any(|listed| *name == *listed)
+    for i in 0..names.len() {
+        if *name == names[i] {
+            return true;
+        }
+    }
+    false
 }
 
 fn with_name(mut names: Vec<Name>, name: Name) -> Result<Vec<Name>, AllocError>

@@ -1,6 +1,6 @@
 //! The places of the faults that the rows of a text have together: first the labels and the paths' texts, then the tree.
 
-ghost use Rattle.std.specs.Prelude.{◌≡◌, ◌≤◌, IfOk, IfSome, length, take, option_map, option_and_then, unwrap_or};
+ghost use Rattle.std.specs.Prelude.{◌≡◌, ◌≤◌, ◌-◌, IfOk, IfSome, length, take, option_map, option_and_then, unwrap_or};
 ghost use Rattle.std.specs.List.{list_any};
 ghost use Rattle.ynl_resource.specs.Names.{same_name};
 ghost use Rattle.ynl_resource.specs.Ranges.{most_queues};
@@ -33,12 +33,20 @@ fn count_place<'t>(count: usize) -> LentPlace<'t>
 }
 
 fn has_name(rows: &[LabelRow], count: usize, name: &Name) -> bool
+    requires { count ≤ length rows.now }
     ensures { result ≡ list_any (λ other. same_name name.now other.name) (take count rows.now) }
 {
-    rows.iter().take(count).any(|other| *name == other.name)
+    let before = &rows[..count];
+    for i in 0..before.len() {
+        if *name == before[i].name {
+            return true;
+        }
+    }
+    false
 }
 
 fn repeated_label<'t>(rows: &[LabelRow], number: u64, row: &'t LabelRow) -> Option<LentPlace<'t>>
+    requires { number - 1 ≤ length rows.now }
     ensures { option_map lent_of result ≡ spec.repeated_label rows.now number row.now }
 {
     let before = (number as usize).saturating_sub(1);

@@ -1,7 +1,6 @@
 //! The places of the faults that single tables and values of a text have.
 
-ghost use Rattle.std.specs.Prelude.{◌≡◌, IfOk, find, not, is_some, option_map, string_bytes};
-ghost use Rattle.std.specs.BTreeMap.{keys};
+ghost use Rattle.std.specs.Prelude.{◌≡◌, IfOk, find, not, is_some, option_map};
 ghost use Rattle.std.specs.List.{slice_split};
 ghost use Rattle.toml.specs.View.{table_view, view, items_view};
 ghost use Rattle.ynl_config.specs.Access.{is_comma, trimmed};
@@ -13,7 +12,7 @@ ghost use Rattle.ynl_config.specs.Lent.{shown, lent_of};
 use crate::faults::ConfigFault;
 use crate::faulty_keys::{label_key, queue_key, share_key, top_key};
 use crate::fields::{find, version_at};
-use crate::keys::{KeyFault, faulty_key, is_name, table_at, text_of_key};
+use crate::keys::{KeyFault, faulty_key, is_name, table_at};
 use crate::lent::{LentPlace, LentValue};
 use crate::listed::trimmed;
 use crate::places::RowKind;
@@ -164,16 +163,15 @@ fn key_in_share<'t>(
     }
 }
 
-fn faulty_entry(fault: ConfigFault, version: Version, shares: &Table) -> Option<&String>
-    ensures { option_map (λ key. key.now) result ≡ find (λ key. is_some (spec.key_in_share fault version (table_view shares.now) (string_bytes key))) (keys shares.now) }
-{
-    shares.keys().find(|name| key_in_share(fault, version, shares, name.as_str()).is_some())
-}
-
 fn faulty_share(fault: ConfigFault, version: Version, shares: &Table) -> Option<&str>
     ensures { option_map (λ key. key.now) result ≡ find (λ key. is_some (spec.key_in_share fault version (table_view shares.now) key)) (keys_in (table_view shares.now)) }
 {
-    text_of_key(faulty_entry(fault, version, shares))
+    for (name, _) in shares {
+        if key_in_share(fault, version, shares, name.as_str()).is_some() {
+            return Some(name.as_str());
+        }
+    }
+    None
 }
 
 /// The place in a queue's share of the label of this name.
@@ -247,25 +245,6 @@ fn place_in_row<'t>(
     }
 }
 
-fn place_in_values<'t>(
-    alloc: Global,
-    fault: ConfigFault,
-    version: Version,
-    kind: RowKind,
-    values: &'t [Value],
-) -> Result<Option<LentPlace<'t>>, AllocError>
-    ensures { IfOk result (λ p. option_map lent_of p ≡ first_from (λ number value. spec.place_in_row fault version kind number (view value)) 1 values.now) }
-{
-    for i in 0..values.len() {
-        let number = i as u64 + 1;
-        let place = place_in_row(alloc, fault, version, kind, number, &values[i])?;
-        if place.is_some() {
-            return Ok(place);
-        }
-    }
-    Ok(None)
-}
-
 fn place_in_rows<'t>(
     alloc: Global,
     fault: ConfigFault,
@@ -275,7 +254,14 @@ fn place_in_rows<'t>(
 ) -> Result<Option<LentPlace<'t>>, AllocError>
     ensures { IfOk result (λ p. option_map lent_of p ≡ first_from (spec.place_in_row fault version kind) 1 (values_in (items_view values.now))) }
 {
-    place_in_values(alloc, fault, version, kind, values)
+    for i in 0..values.len() {
+        let number = i as u64 + 1;
+        let place = place_in_row(alloc, fault, version, kind, number, &values[i])?;
+        if place.is_some() {
+            return Ok(place);
+        }
+    }
+    Ok(None)
 }
 
 /// The place in the rows of a kind.

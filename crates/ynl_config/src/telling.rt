@@ -4,7 +4,7 @@ ghost use Rattle.std.specs.Prelude.{◌≡◌, IfOk, option_map};
 ghost use Rattle.toml.specs.View.{table_view, view};
 ghost use Rattle.ynl_config.specs.Places.{told_of, place_of};
 ghost use Rattle.ynl_config.specs.Places as spec;
-ghost use Rattle.ynl_config.specs.Lent.{shown_of, shown, lent_of, found_of};
+ghost use Rattle.ynl_config.specs.Lent.{shown, lent_of, found_of};
 
 use crate::fields::find;
 use crate::lent::{LentPlace, LentValue};
@@ -51,25 +51,17 @@ fn kept_text(alloc: Global, text: &str) -> Result<Option<ToldValue>, AllocError>
 }
 
 /// The value as it is kept.
-fn kept_value(alloc: Global, value: LentValue<'_>) -> Result<Option<ToldValue>, AllocError>
-    ensures { IfOk result (λ told. option_map told_of told ≡ shown_of value.entry) }
-{
-    match value {
-        LentValue::Text(text) => kept_text(alloc, text),
-        LentValue::Path(path) => {
-            let text = path.text(alloc)?;
-            kept_text(alloc, text.as_str())
-        }
-        LentValue::Integer(integer) => Ok(Some(ToldValue::Integer(integer))),
-        LentValue::Count(count) => Ok(Some(ToldValue::Count(count))),
-    }
-}
-
 fn kept(alloc: Global, value: Option<LentValue<'_>>) -> Result<Option<ToldValue>, AllocError>
     ensures { IfOk result (λ told. option_map told_of told ≡ shown value.entry) }
 {
     match value {
-        Some(value) => kept_value(alloc, value),
+        Some(LentValue::Text(text)) => kept_text(alloc, text),
+        Some(LentValue::Path(path)) => {
+            let text = path.text(alloc)?;
+            kept_text(alloc, text.as_str())
+        }
+        Some(LentValue::Integer(integer)) => Ok(Some(ToldValue::Integer(integer))),
+        Some(LentValue::Count(count)) => Ok(Some(ToldValue::Count(count))),
         None => Ok(None),
     }
 }

@@ -14,11 +14,15 @@ pub(crate) fn both<A: Drop, B: Drop>(
 ) -> Result<(A, B), ConfigFault>
     ensures { result ≡ spec.both first second }
 {
-    match (first, second) {
-        (Ok(first), Ok(second)) => Ok((first, second)),
-        (Ok(_), Err(fault)) => Err(fault),
-        (Err(fault), Ok(_)) => Err(fault),
-        (Err(fault), Err(other)) => Err(fault.earlier(other)),
+    match first {
+        Ok(first) => match second {
+            Ok(second) => Ok((first, second)),
+            Err(fault) => Err(fault),
+        },
+        Err(fault) => match second {
+            Ok(_) => Err(fault),
+            Err(other) => Err(fault.earlier(other)),
+        },
     }
 }
 

@@ -1,6 +1,6 @@
 //! The places of the faults of a tree of queues.
 
-ghost use Rattle.std.specs.Prelude.{◌≡◌, ◌≤◌, IfOk, length, map, find, take, not, Some, option_map};
+ghost use Rattle.std.specs.Prelude.{◌≡◌, ◌≤◌, ◌-◌, IfOk, length, map, find, take, not, Some, option_map};
 ghost use Rattle.std.specs.List.{list_any};
 ghost use Rattle.ynl_resource.specs.Names.{same_path, root};
 ghost use Rattle.ynl_resource.specs.Texts.{label_text, path_text};
@@ -41,12 +41,21 @@ fn if_there(there: bool, number: u64, path: &Path) -> Option<LentPlace<'_>>
 }
 
 fn has_path(rows: &[QueueRow], count: usize, path: &Path) -> bool
+    requires { count ≤ length rows.now }
     ensures { result ≡ list_any (λ other. same_path path.now other.path) (take count rows.now) }
 {
-    rows.iter().take(count).any(|other| *path == other.path)
+    let before = &rows[..count];
+    for i in 0..before.len() {
+        let other = &before[i];
+        if *path == other.path {
+            return true;
+        }
+    }
+    false
 }
 
 fn repeated_queue<'t>(config: &Draft, number: u64, row: &'t QueueRow) -> Option<LentPlace<'t>>
+    requires { number - 1 ≤ length config.now.queues }
     ensures { option_map lent_of result ≡ spec.repeated_queue config.now number row.now }
 {
     let before = (number as usize).saturating_sub(1);
@@ -84,32 +93,22 @@ fn label_at_fault<'t>(number: u64, path: &'t Path, labels: AtFault<'t>) -> Optio
     ensures { option_map lent_of result
         ≡ spec.label_at_fault number path.now (seen labels.entry.listed) (seen labels.entry.default) (seen labels.entry.shared) }
 {
-    if let Some(name) = labels.listed {
-        Some(at_label(number, path, "accessible-node-labels", name.as_str()))
+    let (key, label) = if let Some(name) = labels.listed {
+        ("accessible-node-labels", name.as_str())
     } else if let Some(label) = labels.default {
-        Some(at_label(
-            number,
-            path,
-            "default-node-label-expression",
-            label.as_str(),
-        ))
+        ("default-node-label-expression", label.as_str())
     } else if let Some(name) = labels.shared {
-        Some(at_label(number, path, "label", name.as_str()))
+        ("label", name.as_str())
     } else {
-        None
-    }
+        return None;
+    };
+    Some(at_label(number, path, key, label))
 }
 
 fn is_unknown(config: &Draft, name: Name) -> bool
     ensures { result ≡ spec.is_unknown config.now name }
 {
     !config.labels().has(&Label::Named(name))
-}
-
-fn unknown_listed<'t>(config: &Draft, row: &'t QueueRow) -> Option<&'t Name>
-    ensures { seen result ≡ spec.unknown_listed config.now row.now }
-{
-    unknown_name(config, row.access.listed())
 }
 
 fn unknown_name<'t>(config: &Draft, names: &'t [Name]) -> Option<&'t Name>
@@ -134,12 +133,6 @@ fn unknown_share<'t>(config: &Draft, shares: &'t [LabelCapacity]) -> Option<&'t 
     None
 }
 
-fn unknown_shared<'t>(config: &Draft, row: &'t QueueRow) -> Option<&'t Name>
-    ensures { seen result ≡ spec.unknown_shared config.now row.now }
-{
-    unknown_share(config, &row.capacities)
-}
-
 fn unknown_default<'t>(config: &Draft, row: &'t QueueRow) -> Option<&'t Label>
     ensures { seen result ≡ spec.unknown_default config.now row.now }
 {
@@ -159,9 +152,9 @@ fn unknown_label<'t>(config: &Draft, number: u64, row: &'t QueueRow) -> Option<L
     ensures { option_map lent_of result ≡ spec.unknown_label config.now number row.now }
 {
     let found = AtFault {
-        listed: unknown_listed(config, row),
+        listed: unknown_name(config, row.access.listed()),
         default: unknown_default(config, row),
-        shared: unknown_shared(config, row),
+        shared: unknown_share(config, &row.capacities),
     };
     label_at_fault(number, &row.path, found)
 }
@@ -375,7 +368,8 @@ fn place_at_queue<'t>(
     number: u64,
     row: &'t QueueRow,
 ) -> Result<Option<LentPlace<'t>>, AllocError>
-    requires { length config.now.queues ≤ most_queues }
+    requires few { length config.now.queues ≤ most_queues }
+    requires before { number - 1 ≤ length config.now.queues }
     ensures { IfOk result (λ p. option_map lent_of p ≡ place_at_queue fault config.now number row.now) }
 {
     match fault {
@@ -393,11 +387,11 @@ fn place_in_queues<'t>(
     alloc: Global,
     fault: ConfigFault,
     config: &'t Draft,
-    rows: &'t [QueueRow],
 ) -> Result<Option<LentPlace<'t>>, AllocError>
     requires { length config.now.queues ≤ most_queues }
-    ensures { IfOk result (λ p. option_map lent_of p ≡ first_from (place_at_queue fault config.now) 1 rows.now) }
+    ensures { IfOk result (λ p. option_map lent_of p ≡ first_from (place_at_queue fault config.now) 1 config.now.queues) }
 {
+    let rows = config.queues();
     for i in 0..rows.len() {
         let place = place_at_queue(alloc, fault, config, i as u64 + 1, &rows[i])?;
         if place.is_some() {
@@ -422,5 +416,5 @@ pub(crate) fn place_in_tree(
             return Ok(Some(place));
         }
     }
-    place_in_queues(alloc, fault, config, config.queues())
+    place_in_queues(alloc, fault, config)
 }

@@ -1,8 +1,10 @@
-use Rattle.std.proofs.Common.{◌≡◌, take, map}
-use Rattle.toml.specs.View.{view}
-use Rattle.ynl_config.specs.Earliest.{all_of, items_in}
-use Rattle.ynl_config.specs.Tables.{in_table, queue_in}
+use Rattle.std.proofs.Common.{◌≡◌, drop, map, fold}
+use Rattle.toml.specs.View.{items_view}
+use Rattle.ynl_config.specs.Earliest.{and_one, all_of, items_in}
+use Rattle.ynl_config.specs.Tables.{in_table, queue_in, values_in}
 use Rattle.ynl_config.proofs.queues.queues_of.Given as goal
 
 abbrev pub invariant-loop-value : goal.invariant-loop-value
-invariant-loop-value l = items_in l.rows ≡ all_of (map (λ value. in_table (queue_in l.version) (view value)) (take l.value-index l.values))
+invariant-loop-value l =
+    fold and_one (items_in l.rows) (map (in_table (queue_in l.version)) (values_in (items_view (drop l.value-index l.values))))
+    ≡ all_of (map (in_table (queue_in l.version)) (values_in (items_view l.values)))

@@ -1,7 +1,0 @@
-use Rattle.std.proofs.Common.{◌∙◌, arith}
-use Rattle.ynl_config.specs.Tables.{in_table, queue_in}
-use Rattle.ynl_config.proofs.Views.{all_read}
-use Rattle.ynl_config.proofs.queues.queues_of.Goals as goal
-
-pub returns : goal.returns
-returns c = c.loop-value.invariant ∙ all_read (in_table (queue_in c.args.version)) c.args.values.now c.loop-value.value-index (omega (arith, c.loop-value-test.false))
