@@ -1,9 +1,10 @@
 -- What the closed journal of a session shows.
-use Rattle.std.proofs.Common.{◌≡◌, ℕ, ◌+◌, ◌*◌, refl, sym, ap, ◌∙◌, arith, List, [], ◌∷◌, ◌++◌, cond, Bool, true, false, length, drop, subst, Vec, All}
+use Rattle.std.proofs.Common.{◌≡◌, ℕ, ◌+◌, ◌*◌, refl, sym, ap, ◌∙◌, arith, List, [], ◌∷◌, ◌++◌, cond, Bool, true, false, length, drop, subst, All}
 use Rattle.std.specs.Prelude.{map, sum_by, count_by, IsTrue}
-use Rattle.std.specs.declared.alloc.Global.{Global}
+use Rattle.std.specs.List.Sorted.{IsPermutation}
 use Rattle.std.proofs.lemmas.List.{map-append}
 use Rattle.std.proofs.lemmas.List.Sums.{sum_by-cons, sum_by-append}
+use Rattle.std.proofs.lemmas.List.Sorted.{sum_by-IsPermutation}
 use Rattle.std.proofs.lemmas.List.Elements.{All-head, All-tail, All-nil, All-cons, All-append}
 use Rattle.ynl_resource.specs.declared.names.Name.{Name}
 use Rattle.ynl_resource.specs.Names.{same_name}
@@ -20,7 +21,7 @@ use Rattle.ynl_live.specs.declared.receipts.Receipt.{Receipt}
 use Rattle.ynl_live.specs.Receipts.{all_receipts, EachOnce, IsAt, ListFits, entry_of}
 use Rattle.ynl_live.specs.Alone.{ShowTenantsAloneFrom}
 use Rattle.ynl_live.proofs.Sums.{count_alike}
-use Rattle.ynl_session.specs.Dealt.{times_in, AreDealt}
+use Rattle.ynl_session.specs.Dealt.{times_in}
 use Rattle.ynl_session.specs.Handed.{is_workers, asks, commits, answers, AddsRounds}
 use Rattle.ynl_session.specs.Scripted.{AreCalls}
 use Rattle.ynl_session.specs.Sessions.{nodes_after, nodes_left, IsSession}
@@ -100,11 +101,11 @@ module _ (entries : List Entry) (events : List Event) (first : List Receipt) (mo
       ap events_in split ∙ map-append (λ (e : Entry). e.event) (map entry_of first) rest
       ∙ ap (λ es. es ++ events_in rest) (events_called 0 events first calls)
 
-pub session : (free : Type 0) (w : World) (events : List Event) (rounds : ℕ) (entries : List Entry) (dealt : List (Vec Name Global)) (first : List Receipt) (lists : List (List Receipt))
-    → AreCalls 0 events first → AddsRounds free dealt rounds (first ∷ []) lists → Apart (places w.state) → AreDealt (nodes_after w events) dealt
+pub session : (free : Type 0) (w : World) (events : List Event) (rounds : ℕ) (entries : List Entry) (nodes : List Name) (first : List Receipt) (lists : List (List Receipt))
+    → AreCalls 0 events first → AddsRounds free nodes rounds (first ∷ []) lists → Apart (places w.state) → IsPermutation (nodes_after w events) nodes
     → IsHistoryFrom w.config w.state entries → ShowTenantsAloneFrom w entries → All (λ list. ListFits entries list) lists → EachOnce (length entries) (all_receipts lists)
     → IsSession free w events rounds entries
-session free w events rounds entries dealt first lists calls adds apart are_dealt history alone fits once =
+session free w events rounds entries nodes first lists calls adds apart same history alone fits once =
     let F : List (List Receipt) → Type 0 = λ ls. All (λ list. ListFits entries list) ls in
     let O : List (List Receipt) → Type 0 = λ ls. EachOnce (length entries) (all_receipts ls) in
     let fit : F (first ∷ adds.more) = subst F adds.all fits in
@@ -127,7 +128,7 @@ session free w events rounds entries dealt first lists calls adds apart are_deal
           ap events_in (empty_from_none after count);
       asked = λ is node.
           sum_by_mapped (λ e. cond (asks node e) 1 0) (λ (e : Entry). e.event) after ∙ alike (λ e. cond (asks node e.event) 1 0) ∙ adds.asked is node
-          ∙ ap (λ n. rounds * n) (are_dealt node) ∙ rounds_over w events rounds node apart;
+          ∙ ap (λ n. rounds * n) (sum_by-IsPermutation (λ (other : Name). cond (same_name other node) 1 0) (nodes_after w events) nodes same) ∙ rounds_over w events rounds node apart;
       answered = λ q. let d = commits_are q in let e = answers_are q in let h = adds.answered q in omega (arith, d, e, h);
       committed = λ is q. commits_are q ∙ adds.committed is q ∙ sym (answers_are q);
       alone = alone;

@@ -1,5 +1,5 @@
 -- What the workers of a round called.
-use Rattle.std.proofs.Common.{◌≡◌, ℕ, suc, ◌+◌, ◌*◌, ◌≤◌, refl, sym, ap, ◌∙◌, arith, List, [], ◌∷◌, ◌++◌, Bool, cond, length, take, subst, Some, None, Option, Vec, All, inl, inr, ◌⊎◌, append_assoc, Result, Ok, Err}
+use Rattle.std.proofs.Common.{◌≡◌, ℕ, suc, ◌+◌, ◌*◌, ◌≤◌, ◌<◌, ◌≢◌, append-nil, refl, sym, ap, ◌∙◌, arith, List, [], ◌∷◌, ◌++◌, Bool, cond, length, take, subst, Some, None, Option, Vec, All, inl, inr, ◌⊎◌, append_assoc, Result, Ok, Err}
 use Rattle.std.specs.Prelude.{map, count_by, IsTrue, MatchOption, OnOk}
 use Rattle.std.specs.declared.alloc.Global.{Global}
 use Rattle.std.proofs.lemmas.List.Sums.{sum_by-cons, sum_by-append}
@@ -19,8 +19,8 @@ use Rattle.ynl_workers.specs.declared.working.WorkerEnd.{WorkerEnd}
 use Rattle.ynl_workers.specs.Turns.{IsAsked, IsWhole, IsHalted, proposal_in}
 use Rattle.ynl_workers.specs.Works.{IsWork}
 use Rattle.ynl_workers.specs.Rounds.{IsRound}
-use Rattle.ynl_session.specs.Dealt.{times_in, all_dealt}
-use Rattle.ynl_session.specs.Handed.{is_workers, asks, commits, answered_in, answers, AddsRounds}
+use Rattle.ynl_session.specs.Dealt.{times_in, all_dealt, AreDealt}
+use Rattle.ynl_session.specs.Handed.{is_workers, asks, commits, answered_in, answers, AddsRounds, AreNotHalted}
 
 -- 1 for true
 abbrev as_number : Bool → ℕ
@@ -191,39 +191,92 @@ round_tells free (s ∷ ss) (l ∷ ls) (w ∷ ws) a b round ended =
     let rest = round_tells free ss ls ws (omega arith) (omega arith) (λ k. round (suc k)) (All-tail HasEnded w ws ended) in
     TellsFree-append free l.items (all_dealt ls) w.receipts.items (all_receipts (map (λ w. w.receipts.items) ws)) here rest
 
--- one round
-pub AddsRounds-one : (free : Type 0) (seats : List Standing) (lists : List (Vec Name Global)) (ends : List WorkerEnd) (old new : List (List Receipt)) → length seats ≡ length ends → length lists ≡ length ends → IsRound free seats lists ends → All HasEnded ends → new ≡ old ++ map (λ w. w.receipts.items) ends → AddsRounds free lists 1 old new
-AddsRounds-one free seats lists ends old new a b round ended is =
+-- the workers' ends of one round over some nodes that were dealt out
+pub AddsRounds-one : (free : Type 0) (seats : List Standing) (nodes : List Name) (lists : List (Vec Name Global)) (ends : List WorkerEnd) (old new : List (List Receipt)) → length seats ≡ length ends → length lists ≡ length ends → (free → AreDealt nodes lists) → IsRound free seats lists ends → All HasEnded ends → new ≡ old ++ map (λ w. w.receipts.items) ends → AddsRounds free nodes 1 old new
+AddsRounds-one free seats nodes lists ends old new a b dealt round ended is =
     let t = round_tells free seats lists ends a b round ended in
     record {
       more = map (λ w. w.receipts.items) ends;
       all = is;
       workers = t.workers;
       idle = λ none. absurd (omega (arith, none));
-      asked = λ is n. t.asked is n ∙ (let e : times_in n (all_dealt lists) ≡ 1 * times_in n (all_dealt lists) = omega arith in e);
+      asked = λ is n. t.asked is n ∙ (let d = dealt is n in let e : times_in n (all_dealt lists) ≡ 1 * times_in n nodes = omega (arith, d) in e);
       answered = t.answered;
       committed = t.committed;
     }
 
--- rounds, and one more
-pub AddsRounds-more : (free : Type 0) (dealt : List (Vec Name Global)) (k : ℕ) (a b c : List (List Receipt)) → AddsRounds free dealt k a b → AddsRounds free dealt 1 b c → AddsRounds free dealt (k + 1) a c
-AddsRounds-more free dealt k a b c first next =
+-- the same, where it is known to have come to its end
+pub AddsRounds-if : {T E : Type 0} (r : Result T E) (free : Type 0) (seats : List Standing) (nodes : List Name) (lists : List (Vec Name Global)) (ends : List WorkerEnd) (old new : List (List Receipt)) → length seats ≡ length ends → length lists ≡ length ends → (free → AreDealt nodes lists) → IsRound free seats lists ends → OnOk r (All HasEnded ends) → OnOk r (new ≡ old ++ map (λ w. w.receipts.items) ends) → OnOk r (AddsRounds free nodes 1 old new)
+AddsRounds-if (Ok x) free seats nodes lists ends old new a b dealt round ended is = AddsRounds-one free seats nodes lists ends old new a b dealt round ended is
+AddsRounds-if (Err e) free seats nodes lists ends old new a b dealt round ended is = tt
+
+-- where the gate lets each worker go on, none is halted
+pub none_halted : (free : Type 0) (seats : List Standing) (lists : List (Vec Name Global)) (ends : List WorkerEnd) → length seats ≡ length ends → length lists ≡ length ends → IsRound free seats lists ends → free → All (λ worker. worker.end ≢ Halted) ends
+none_halted free seats lists [] a b round is = All-nil (λ (worker : WorkerEnd). worker.end ≢ Halted)
+none_halted free [] lists (w ∷ ws) a b round is = absurd (omega (arith, a))
+none_halted free (s ∷ ss) [] (w ∷ ws) a b round is = absurd (omega (arith, b))
+none_halted free (s ∷ ss) (l ∷ ls) (w ∷ ws) a b round is =
+    All-cons (λ (worker : WorkerEnd). worker.end ≢ Halted) w ws
+    (λ halted. (subst (IsWork free l.items w.receipts.items) halted (round 0 s l w refl refl refl).work).0 is)
+    (none_halted free ss ls ws (omega (arith, a)) (omega (arith, b)) (λ k. round (suc k)) is)
+
+-- the same, whatever the call came to
+pub OnOk-not_halted : {T E : Type 0} (r : Result T E) (free : Type 0) (seats : List Standing) (lists : List (Vec Name Global)) (ends : List WorkerEnd) (was now : List Bool) → length seats ≡ length ends → length lists ≡ length ends → IsRound free seats lists ends → (All (λ worker. worker.end ≢ Halted) ends → now ≡ was) → (free → AreNotHalted was) → OnOk r (free → AreNotHalted now)
+OnOk-not_halted (Ok x) free seats lists ends was now a b round same none = λ is. subst AreNotHalted (sym (same (none_halted free seats lists ends a b round is))) (none is)
+OnOk-not_halted (Err e) free seats lists ends was now a b round same none = tt
+
+-- rounds, and then others
+AddsRounds-joined : (free : Type 0) (xs ys zs : List Name) (j k m : ℕ) (a b c : List (List Receipt)) → ((n : Name) → m * times_in n zs ≡ j * times_in n xs + k * times_in n ys) → 0 < m → AddsRounds free xs j a b → AddsRounds free ys k b c → AddsRounds free zs m a c
+AddsRounds-joined free xs ys zs j k m a b c times some first next =
     let both : all_receipts (first.more ++ next.more) ≡ all_receipts first.more ++ all_receipts next.more = flat_map-append (λ (v : List Receipt). v) first.more next.more in
     record {
       more = first.more ++ next.more;
-      all = next.all ∙ ap (λ xs. xs ++ next.more) first.all ∙ append_assoc a first.more next.more;
+      all = next.all ∙ ap (λ ls. ls ++ next.more) first.all ∙ append_assoc a first.more next.more;
       workers = subst (All IsOfWorker) (sym both) (All-append IsOfWorker (all_receipts first.more) (all_receipts next.more) first.workers next.workers);
-      idle = λ none. absurd (omega (arith, none));
-      asked = λ is n.
-          let p = ap (asked_in n) both ∙ sum_by-append (λ (r : Receipt). cond (asks n r.event) 1 0) (all_receipts first.more) (all_receipts next.more) in
-          let x = first.asked is n in
-          let y = next.asked is n in
-          omega (arith, p, x, y);
-      answered = λ q. subst (λ xs. committed_in q xs ≤ answers_in q xs) (sym both) (at_most_both q (all_receipts first.more) (all_receipts next.more) (first.answered q) (next.answered q));
-      committed = λ is q. subst (λ xs. committed_in q xs ≡ answers_in q xs) (sym both) (just_both q (all_receipts first.more) (all_receipts next.more) (first.committed is q) (next.committed is q));
+      idle = λ none. absurd (omega (arith, none, some));
+      asked = λ is n. ap (asked_in n) both ∙ sum_by-append (λ (r : Receipt). cond (asks n r.event) 1 0) (all_receipts first.more) (all_receipts next.more) ∙ (λ i. first.asked is n i + next.asked is n i) ∙ sym (times n);
+      answered = λ q. subst (λ rs. committed_in q rs ≤ answers_in q rs) (sym both) (at_most_both q (all_receipts first.more) (all_receipts next.more) (first.answered q) (next.answered q));
+      committed = λ is q. subst (λ rs. committed_in q rs ≡ answers_in q rs) (sym both) (just_both q (all_receipts first.more) (all_receipts next.more) (first.committed is q) (next.committed is q));
     }
 
--- the same, where it is known to have come to its end
-pub AddsRounds-if : {T E : Type 0} (r : Result T E) (free : Type 0) (seats : List Standing) (lists : List (Vec Name Global)) (ends : List WorkerEnd) (old new : List (List Receipt)) → length seats ≡ length ends → length lists ≡ length ends → IsRound free seats lists ends → OnOk r (All HasEnded ends) → OnOk r (new ≡ old ++ map (λ w. w.receipts.items) ends) → OnOk r (AddsRounds free lists 1 old new)
-AddsRounds-if (Ok x) free seats lists ends old new a b round ended is = AddsRounds-one free seats lists ends old new a b round ended is
-AddsRounds-if (Err e) free seats lists ends old new a b round ended is = tt
+-- rounds, and one more
+pub AddsRounds-more : (free : Type 0) (nodes : List Name) (k : ℕ) (a b c : List (List Receipt)) → AddsRounds free nodes k a b → AddsRounds free nodes 1 b c → AddsRounds free nodes (k + 1) a c
+AddsRounds-more free nodes k a b c first next = AddsRounds-joined free nodes nodes nodes k 1 (k + 1) a b c (λ n. omega arith) (omega arith) first next
+
+-- ---- stretches
+
+-- a round over the nodes that are not left
+pub record AddsSoFar (free : Type 0) (nodes left : List Name) (old now : List (List Receipt)) : Type 0 where
+  pub done : List Name
+  pub all : done ++ left ≡ nodes
+  pub adds : AddsRounds free done 1 old now
+
+pub AddsSoFar-none : (free : Type 0) (nodes : List Name) (old : List (List Receipt)) → AddsSoFar free nodes nodes old old
+AddsSoFar-none free nodes old = record {
+  done = [];
+  all = refl;
+  adds = record {
+    more = [];
+    all = sym (append-nil old);
+    workers = All-nil IsOfWorker;
+    idle = λ none. refl;
+    asked = λ is n. refl;
+    answered = λ q. omega arith;
+    committed = λ is q. refl;
+  };
+}
+
+pub AddsSoFar-more : (free : Type 0) (nodes left stretch others : List Name) (old now next : List (List Receipt)) → stretch ++ others ≡ left → AddsRounds free stretch 1 now next → AddsSoFar free nodes left old now → AddsSoFar free nodes others old next
+AddsSoFar-more free nodes left stretch others old now next cut adds so = record {
+  done = so.done ++ stretch;
+  all = append_assoc so.done stretch others ∙ ap (λ ns. so.done ++ ns) cut ∙ so.all;
+  adds =
+      AddsRounds-joined free so.done stretch (so.done ++ stretch) 1 1 1 old now next
+      (λ n. (let t : times_in n (so.done ++ stretch) ≡ times_in n so.done + times_in n stretch = sum_by-append (λ (x : Name). cond (same_name x n) 1 0) so.done stretch in omega (arith, t)))
+      (omega arith) so.adds adds;
+}
+
+-- and where none is left, over all of them
+pub AddsSoFar-all : (free : Type 0) (nodes left : List Name) (old now : List (List Receipt)) → length left ≡ 0 → AddsSoFar free nodes left old now → AddsRounds free nodes 1 old now
+AddsSoFar-all free nodes [] old now none so = subst (λ ns. AddsRounds free ns 1 old now) (sym (append-nil so.done) ∙ so.all) so.adds
+AddsSoFar-all free nodes (node ∷ left) old now none so = absurd (omega (arith, none))

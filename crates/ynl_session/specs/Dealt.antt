@@ -1,7 +1,7 @@
 -- Nodes that are dealt out.
 use Rattle.std.specs.Prelude.{◌≡◌, ℕ, ◌+◌, ◌%◌, ◌<◌, ◌==◌, if◌then◌else◌, List, [], ◌∷◌, length, count_by, slice_index_or, Vec}
 use Rattle.std.specs.List.{flat_map}
-use Rattle.std.specs.List.Sorted.{IsPermutation, IsSorted}
+use Rattle.std.specs.List.Sorted.{IsSorted}
 use Rattle.std.specs.Ordering.{nat_cmp}
 use Rattle.std.specs.Cmp.Lexicographic.{slice_cmp}
 use Rattle.std.specs.declared.alloc.Global.{Global}
@@ -32,10 +32,3 @@ AreInTurn nodes lists = (k : ℕ) (list : Vec Name Global) → k < length lists 
 -- names in byte order
 abbrev pub AreInOrder : List Name → Type 0
 AreInOrder names = IsSorted (slice_cmp nat_cmp) names
-
--- these names, put in byte order, stand in the lists in turn
-pub record AreDealtInOrder (names : List Name) (lists : List (Vec Name Global)) : Type 0 where
-  pub nodes : List Name
-  pub all : IsPermutation names nodes
-  pub order : AreInOrder nodes
-  pub turns : AreInTurn nodes lists

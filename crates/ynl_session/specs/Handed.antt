@@ -1,7 +1,6 @@
 -- What rounds of workers hand in.
-use Rattle.std.specs.Prelude.{◌≡◌, ℕ, ◌*◌, ◌≤◌, Bool, true, false, List, [], ◌++◌, All, count_by, Option, Some, option_and_then, Vec, IsTrue}
+use Rattle.std.specs.Prelude.{◌≡◌, ℕ, ◌*◌, ◌≤◌, Bool, true, false, List, [], ◌++◌, All, count_by, Option, Some, option_and_then, IsTrue}
 use Rattle.std.specs.List.{Any}
-use Rattle.std.specs.declared.alloc.Global.{Global}
 use Rattle.ynl_resource.specs.declared.names.Name.{Name}
 use Rattle.ynl_resource.specs.Names.{same_name}
 use Rattle.ynl_model.specs.declared.events.Event.{Event}
@@ -14,7 +13,7 @@ use Rattle.ynl_live.specs.Receipts.{all_receipts, entry_of}
 use Rattle.ynl_workers.specs.declared.working.End.TheVariants.{Behind}
 use Rattle.ynl_workers.specs.declared.working.WorkerEnd.{WorkerEnd}
 use Rattle.ynl_workers.specs.Turns.{proposal_in}
-use Rattle.ynl_session.specs.Dealt.{times_in, all_dealt}
+use Rattle.ynl_session.specs.Dealt.{times_in}
 
 -- the events that workers call
 abbrev pub is_workers : Event → Bool
@@ -49,13 +48,17 @@ WasBehind worker = (entered : ℕ) × (worker.end ≡ Behind entered)
 abbrev pub OneWasBehind : List WorkerEnd → Type 0
 OneWasBehind workers = Any WasBehind workers
 
+-- none of the workers was halted
+abbrev pub AreNotHalted : List Bool → Type 0
+AreNotHalted halted = All (λ one. one ≡ false) halted
+
 -- The lists with those of so many rounds more: all calls are workers', and no proposal is committed more often than it was answered. Where no
--- worker is halted, each node was asked about once a round for each time that it was dealt, and each proposal committed as often as answered.
-pub record AddsRounds (free : Type 0) (dealt : List (Vec Name Global)) (rounds : ℕ) (old new : List (List Receipt)) : Type 0 where
+-- worker is halted, each node was asked about once a round for each time that it stands in the list, and each proposal committed as often as answered.
+pub record AddsRounds (free : Type 0) (nodes : List Name) (rounds : ℕ) (old new : List (List Receipt)) : Type 0 where
   pub more : List (List Receipt)
   pub all : new ≡ old ++ more
   pub workers : All (λ receipt. IsTrue (is_workers receipt.event)) (all_receipts more)
   pub idle : rounds ≡ 0 → more ≡ []
-  pub asked : free → (node : Name) → count_by (λ receipt. asks node receipt.event) (all_receipts more) ≡ rounds * times_in node (all_dealt dealt)
+  pub asked : free → (node : Name) → count_by (λ receipt. asks node receipt.event) (all_receipts more) ≡ rounds * times_in node nodes
   pub answered : (proposal : Proposal) → count_by (λ receipt. commits proposal receipt.event) (all_receipts more) ≤ count_by (λ receipt. answers proposal (entry_of receipt)) (all_receipts more)
   pub committed : free → (proposal : Proposal) → count_by (λ receipt. commits proposal receipt.event) (all_receipts more) ≡ count_by (λ receipt. answers proposal (entry_of receipt)) (all_receipts more)

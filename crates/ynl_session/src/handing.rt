@@ -1,17 +1,56 @@
 //! Seats and receipts that are handed in at the end.
 
-ghost use Rattle.std.specs.Prelude.{◌≡◌, ◌⊎◌, [], ◌∷◌, ◌++◌, map, All, OnOk, IfOk, IfErr, vec_len};
+ghost use Rattle.std.specs.Prelude.{◌≡◌, ◌≢◌, ◌<◌, ◌⊎◌, [], ◌∷◌, ◌++◌, length, map, All, OnOk, IfOk, IfErr, vec_len};
 ghost use Rattle.ynl_workers.specs.declared.working.End.TheVariants.{Whole, Halted};
 ghost use Rattle.ynl_session.specs.Faults.{ended};
-ghost use Rattle.ynl_session.specs.Handed.{AddsRounds, OneWasBehind};
+ghost use Rattle.ynl_session.specs.Handed.{AddsRounds, AreNotHalted, OneWasBehind};
 
+use crate::dealing::deal;
 use crate::sessions::SessionFault;
 use std::alloc::{AllocError, Global};
 use std::sync::Wait;
 use std::thread::Threads;
 use ynl_live::{Live, Receipts, Seat};
 use ynl_resource::Name;
-use ynl_workers::{End, Gate, WorkerEnd, run_round};
+use ynl_workers::{End, Gate, Go, Sight, WorkerEnd, run_round};
+
+/// How many nodes each worker goes over before its receipts are taken in. As it makes them, each takes 1.3 KB; taken in, some 100
+/// bytes.
+const STRETCH: usize = 256;
+
+/// Workers on a scheduler: so many, each on a seat that is split off this one.
+#[derive(Clone, Copy)]
+pub(crate) struct Crew<'a> {
+    pub(crate) live: &'a Live,
+    pub(crate) seat: &'a Seat,
+    pub(crate) workers: usize,
+}
+
+/// The gate in a later stretch of a round: the turns before it are counted.
+#[derive(Clone, Copy)]
+struct Onward<'a, G> {
+    gate: &'a G,
+    before: u64,
+}
+
+impl<G: Gate> Gate for Onward<'_, G> {
+    ghost is_free = { λ onward. G.is_free onward.gate.now };
+
+    fn before_plan(&self, worker: u64, turn: u64, sight: &Sight) {
+        self.gate
+            .before_plan(worker, self.before.saturating_add(turn), sight);
+    }
+
+    fn before_commit(&self, worker: u64, turn: u64) -> Go {
+        self.gate
+            .before_commit(worker, self.before.saturating_add(turn))
+    }
+
+    fn after_commit(&self, worker: u64, turn: u64) {
+        self.gate
+            .after_commit(worker, self.before.saturating_add(turn));
+    }
+}
 
 /// The seats that are handed in, and the receipts of each.
 #[derive(Drop)]
@@ -29,6 +68,32 @@ fn split_seats(alloc: Global, seat: &Seat, count: usize) -> Result<Vec<Seat>, Al
         seats.push(seat.split())?;
     }
     Ok(seats)
+}
+
+/// Workers that were halted get no more nodes in their round.
+fn leave_out(lists: &mut Vec<Vec<Name>>, halted: &[bool])
+    requires { length halted.now ≡ vec_len lists.old }
+    ensures count { vec_len lists.new ≡ vec_len lists.old }
+    ensures none { AreNotHalted halted.now → lists.new.items ≡ lists.old.items }
+{
+    for k in 0..lists.len() {
+        if halted[k] {
+            lists[k].clear();
+        }
+    }
+}
+
+/// Notes which of the workers were halted.
+fn note_halted(ends: &[WorkerEnd], halted: &mut Vec<bool>)
+    requires { length ends.now ≡ vec_len halted.old }
+    ensures count { vec_len halted.new ≡ vec_len halted.old }
+    ensures none { All (λ worker. worker.end ≢ Halted) ends.now → halted.new.items ≡ halted.old.items }
+{
+    for k in 0..ends.len() {
+        if ends[k].end == End::Halted {
+            halted[k] = true;
+        }
+    }
 }
 
 /// Whether a worker went over its nodes or was halted, or else why a session is not closed.
@@ -64,7 +129,7 @@ impl Handed {
         Ok(())
     }
 
-    /// Takes in what the workers of a round hand back, if each went over its nodes or was halted.
+    /// Takes in what the workers of a stretch hand back, if each went over its nodes or was halted.
     fn take(&mut self, alloc: Global, ends: Vec<WorkerEnd>) -> Result<(), SessionFault>
         ensures ended { OnOk result (All (λ worker. (worker.end ≡ Whole) ⊎ (worker.end ≡ Halted)) ends.items) }
         ensures lists { OnOk result (self.new.lists.items ≡ self.old.lists.items ++ map (λ worker. worker.receipts.items) ends.items) }
@@ -77,21 +142,55 @@ impl Handed {
         Ok(())
     }
 
-    /// Runs a round, a worker for each list of nodes, on new seats that are split off this one.
+    /// Lets the crew go over these nodes, which are dealt out to it in turn.
+    fn run_stretch<T: Threads + Wait + Sync, G: Gate + Sync>(
+        &mut self,
+        rt: &T,
+        alloc: Global,
+        crew: &Crew<'_>,
+        nodes: &[Name],
+        gate: &G,
+        halted: &mut Vec<bool>,
+    ) -> Result<(), SessionFault>
+        requires workers { 0 < crew.now.workers }
+        requires count { vec_len halted.old ≡ crew.now.workers }
+        requires free { G.is_free gate.now → AreNotHalted halted.old.items }
+        ensures count { vec_len halted.new ≡ vec_len halted.old }
+        ensures free { OnOk result (G.is_free gate.now → AreNotHalted halted.new.items) }
+        ensures adds { OnOk result (AddsRounds (G.is_free gate.now) nodes.now 1 self.old.lists.items self.new.lists.items) }
+    {
+        let mut dealt = deal(alloc, nodes, crew.workers)?;
+        leave_out(&mut dealt, halted);
+        let seats = split_seats(alloc, crew.seat, dealt.len())?;
+        let ends = run_round(rt, alloc, crew.live, seats, &dealt, gate)?;
+        note_halted(&ends, halted);
+        self.take(alloc, ends)
+    }
+
+    /// Runs a round: the crew goes over the nodes stretch by stretch.
     fn run_round<T: Threads + Wait + Sync, G: Gate + Sync>(
         &mut self,
         rt: &T,
         alloc: Global,
-        live: &Live,
-        seat: &Seat,
-        dealt: &[Vec<Name>],
+        crew: &Crew<'_>,
+        nodes: &[Name],
         gate: &G,
     ) -> Result<(), SessionFault>
-        ensures { OnOk result (AddsRounds (G.is_free gate.now) dealt.now 1 self.old.lists.items self.new.lists.items) }
+        requires { 0 < crew.now.workers }
+        ensures { OnOk result (AddsRounds (G.is_free gate.now) nodes.now 1 self.old.lists.items self.new.lists.items) }
     {
-        let seats = split_seats(alloc, seat, dealt.len())?;
-        let ends = run_round(rt, alloc, live, seats, dealt, gate)?;
-        self.take(alloc, ends)
+        let mut halted = vec![in alloc; false; crew.workers]?;
+        let most = crew.workers.saturating_mul(STRETCH);
+        let mut left = nodes;
+        let mut before: u64 = 0;
+        while !left.is_empty() {
+            let (stretch, others) = left.split_at(left.len().min(most));
+            let onward = Onward { gate, before };
+            self.run_stretch(rt, alloc, crew, stretch, &onward, &mut halted)?;
+            left = others;
+            before = before.saturating_add(STRETCH as u64);
+        }
+        Ok(())
     }
 
     /// Runs so many rounds, one after another.
@@ -99,16 +198,16 @@ impl Handed {
         &mut self,
         rt: &T,
         alloc: Global,
-        live: &Live,
-        seat: &Seat,
-        dealt: &[Vec<Name>],
+        crew: &Crew<'_>,
+        nodes: &[Name],
         rounds: u64,
         gate: &G,
     ) -> Result<(), SessionFault>
-        ensures { OnOk result (AddsRounds (G.is_free gate.now) dealt.now rounds self.old.lists.items self.new.lists.items) }
+        requires { 0 < crew.now.workers }
+        ensures { OnOk result (AddsRounds (G.is_free gate.now) nodes.now rounds self.old.lists.items self.new.lists.items) }
     {
         for _ in 0..rounds {
-            self.run_round(rt, alloc, live, seat, dealt, gate)?;
+            self.run_round(rt, alloc, crew, nodes, gate)?;
         }
         Ok(())
     }

@@ -1,14 +1,13 @@
 //! Sessions.
 
-ghost use Rattle.std.specs.Prelude.{◌≡◌, ◌<◌, IfOk, vec_len};
+ghost use Rattle.std.specs.Prelude.{◌≡◌, ◌<◌, IfOk};
 ghost use Rattle.std.specs.List.Sorted.{IsPermutation};
 ghost use Rattle.ynl_laws.specs.Working.{Apart, places};
-ghost use Rattle.ynl_session.specs.Dealt.{AreDealt, AreDealtInOrder, AreInOrder};
+ghost use Rattle.ynl_session.specs.Dealt.{AreInOrder};
 ghost use Rattle.ynl_session.specs.Faults.{fault_of_cause};
 ghost use Rattle.ynl_session.specs.Sessions.{nodes_after, IsSession};
 
-use crate::dealing::deal;
-use crate::handing::Handed;
+use crate::handing::{Crew, Handed};
 use crate::scripted::call_events;
 use std::alloc::{AllocError, Global};
 use std::sync::Wait;
@@ -102,26 +101,9 @@ fn nodes_in_order(alloc: Global, start: &Start, events: &Events) -> Result<Vec<N
     Ok(nodes)
 }
 
-/// The nodes that the events leave, by name in byte order, dealt out to so many workers in turn.
-fn dealt_nodes(
-    alloc: Global,
-    start: &Start,
-    events: &Events,
-    workers: usize,
-) -> Result<Vec<Vec<Name>>, SessionFault>
-    requires { 0 < workers }
-    ensures apart { Apart (places start.now.state) }
-    ensures count { IfOk result (λ lists. vec_len lists ≡ workers) }
-    ensures dealt { IfOk result (λ lists. AreDealt (nodes_after start.now events.now) lists.items) }
-    ensures turns { IfOk result (λ lists. AreDealtInOrder (nodes_after start.now events.now) lists.items) }
-{
-    let nodes = nodes_in_order(alloc, start, events)?;
-    Ok(deal(alloc, &nodes, workers)?)
-}
-
 /// Calls the events on a cluster like the one of this start, runs so many rounds of workers over the nodes that
 /// these leave, and closes the journal. In each round the nodes, by name in byte order, are dealt out to the
-/// workers in turn.
+/// workers in turn, in stretches: the next one begins when all workers have ended with theirs.
 ///
 /// `Unclosed` comes where the journal is not closed for another cause than want of memory, where an event of
 /// the script got another place than its number, or where a call was told that its seat is of another
@@ -138,12 +120,17 @@ pub fn run_session<T: Threads + Wait + Sync, G: Gate + Sync>(
     requires { 0 < workers }
     ensures { IfOk result (λ entries. IsSession (G.is_free gate.now) start events.now rounds entries) }
 {
-    let dealt = dealt_nodes(alloc, &start, events, workers)?;
+    let nodes = nodes_in_order(alloc, &start, events)?;
     let (live, mut seat) = Live::begin(alloc, start)?;
     let receipts = call_events(rt, alloc, &live, &mut seat, events)?;
     let apart = seat.split();
     let mut handed = Handed::first(alloc, seat, receipts)?;
-    handed.run_rounds(rt, alloc, &live, &apart, &dealt, rounds, gate)?;
+    let crew = Crew {
+        live: &live,
+        seat: &apart,
+        workers,
+    };
+    handed.run_rounds(rt, alloc, &crew, &nodes, rounds, gate)?;
     let Handed { seats, lists } = handed;
     match close(alloc, live, seats, &lists) {
         Ok(closed) => Ok(closed.entries),
