@@ -16,7 +16,7 @@ loop-left-init g c = (
 pub loop-left-preserved : goal.loop-left-preserved
 loop-left-preserved g c = (
   AddsSoFar-more (g.G.Gate.is_free c.args.gate.now) c.args.nodes.now c.loop-left.left.now c.split_at.result.0.now c.split_at.result.1.now c.args.self.now.lists.items c.loop-left.self.lists.items c.run_stretch.new.self.lists.items
-  ((λ i. c.split_at.ensures.front i ++ c.split_at.ensures.back i) ∙ take-append-drop _ c.loop-left.left.now) c.in_ok-run_stretch.ensures.adds c.loop-left.invariant.0,
+      ((λ i. c.split_at.ensures.front i ++ c.split_at.ensures.back i) ∙ take-append-drop _ c.loop-left.left.now) c.in_ok-run_stretch.ensures.adds c.loop-left.invariant.0,
   omega (arith, c.in_ok-run_stretch.ensures.count, c.loop-left.invariant.1),
   c.in_ok-run_stretch.ensures.free,
 )
