@@ -28,10 +28,10 @@ use ynl_queues::Config;
 use ynl_reading::{explain, master_limit_of, user_limit_of};
 use ynl_replies::{containers, nodes};
 use ynl_resource::{Label, Name, Path, Refusal, Resource, Size};
-use ynl_snapshots::Saving;
 use ynl_search::notes::Shut;
 use ynl_service::{check, proposed};
 use ynl_sights::Sight;
+use ynl_snapshots::Saving;
 use ynl_waits::Explained;
 
 /// A cluster: what it is configured with, and its state. It keeps the rooms in which a search found

@@ -10,8 +10,8 @@ use crate::memory::NoMemory;
 use std::alloc::{AllocError, Global};
 use std::marker::Model;
 use ynl_queues::Config;
-use ynl_snapshots::Restoring;
 use ynl_saved::{LineSink, StateLine};
+use ynl_snapshots::Restoring;
 
 /// Why no line more is taken.
 #[derive(Clone, Copy)]

@@ -11,8 +11,8 @@ use crate::lines::first_line;
 use std::alloc::{AllocError, Global};
 use ynl_fields::is_blank;
 use ynl_queues::Config;
-use ynl_snapshots::Restoring;
 use ynl_saved_text::{BadState, StateFault, StateReader};
+use ynl_snapshots::Restoring;
 
 /// How long a text may be, in bytes.
 const MOST: usize = 268_435_456;
