@@ -1,4 +1,4 @@
-//! Sessions whose workers are halted, or are more than there are nodes.
+//! Sessions whose workers are halted, are more than there are nodes, or have more than a stretch of them.
 
 ghost use Rattle.std.specs.Prelude.{◌<◌};
 
@@ -25,17 +25,28 @@ fn script<R: Abort>(rt: &R) -> [Event; 4] {
     ]
 }
 
-/// The closed journal of the script and so many rounds.
+/// The script, and so many nodes of DEFAULT more, by name between its two.
+fn events_with<R: Abort>(rt: &R, alloc: Global, nodes: u64) -> Events {
+    let mut events = Events::of(alloc, &script(rt)).expect(rt, "memory");
+    for number in 0..nodes {
+        let node = format!(in alloc; "g1x{number}").expect(rt, "memory");
+        events.push(&registered(rt, &node, "")).expect(rt, "memory");
+    }
+    events
+}
+
+/// The closed journal of the script, with so many nodes more, and so many rounds.
 fn played<R: Threads + Wait + Abort + Sync, G: Gate + Sync>(
     rt: &R,
     alloc: Global,
+    nodes: u64,
     workers: usize,
     rounds: u64,
     gate: &G,
 ) -> Vec<Entry>
     requires { 0 < workers }
 {
-    let events = Events::of(alloc, &script(rt)).expect(rt, "memory");
+    let events = events_with(rt, alloc, nodes);
     let start = Start::opened(worked(rt, alloc).expect(rt, "memory"));
     let ran = run_session(rt, alloc, start, &events, workers, rounds, gate);
     ran.expect(rt, "a journal").to_vec().expect(rt, "memory")
@@ -66,7 +77,7 @@ fn others(entries: &[Entry]) -> usize {
 /// Each round begins anew with the first node, where the worker is halted.
 #[test]
 fn session_that_is_halted_commits_nothing(rt: HostRuntime) {
-    let entries = played(&rt, rt.alloc(), 1, 2, &HaltsAt::turn(0));
+    let entries = played(&rt, rt.alloc(), 0, 1, 2, &HaltsAt::turn(0));
     assert!(rt; commits(&entries) == 0);
     assert!(rt; times_asked(&rt, &entries, "g1") == 2);
     assert!(rt; entries.len() == 6);
@@ -76,9 +87,19 @@ fn session_that_is_halted_commits_nothing(rt: HostRuntime) {
 #[test]
 fn workers_may_be_more_than_nodes(rt: HostRuntime) {
     let gate = open();
-    let entries = played(&rt, rt.alloc(), 5, 1, &gate);
+    let entries = played(&rt, rt.alloc(), 0, 5, 1, &gate);
     assert!(rt; gate.noted() == (101, 101));
     assert!(rt; times_asked(&rt, &entries, "g1") == 1);
     assert!(rt; times_asked(&rt, &entries, "g2") == 1);
     assert!(rt; others(&entries) == 6);
+}
+
+/// A worker goes over 256 nodes in a stretch. Turns are counted through the round, and where the worker is halted in its first
+/// stretch it gets no node of the second.
+#[test]
+fn stretches_are_one_round(rt: HostRuntime) {
+    let halted = played(&rt, rt.alloc(), 256, 1, 1, &HaltsAt::turn(0));
+    assert!(rt; commits(&halted) == 0 && times_asked(&rt, &halted, "g2") == 0);
+    let later = played(&rt, rt.alloc(), 256, 1, 1, &HaltsAt::turn(257));
+    assert!(rt; commits(&later) == 1 && times_asked(&rt, &later, "g2") == 1);
 }
