@@ -14,7 +14,7 @@ use Rattle.ynl_laws.proofs.Service.OrderTotal.{key_order_total}
 use Rattle.ynl_resource.specs.declared.amounts.Resource.{Resource}
 use Rattle.ynl_sights.specs.Sights.{Bid, Offer, passes, first_bid, open_guests, open_bids, Seen, has_room}
 use Rattle.ynl_sights.specs.Planning.{bid_of, sooner, HoldsFirst, open_in}
-use Rattle.ynl_sights.specs.declared.planning.Held.{Held}
+use Rattle.ynl_sights.specs.declared.rows.Held.{Held}
 
 pub then : (a b c : Option Held) (xs ys : List Bid) → HoldsFirst a xs b → HoldsFirst b ys c → HoldsFirst a (xs ++ ys) c
 then a b c xs ys first next = next ∙ ap (λ o. fold sooner o ys) first ∙ sym (fold-append sooner (option_map bid_of a) xs ys)

@@ -72,10 +72,10 @@ none-there v sound among q inner =
 -- ---- what is copied of them
 
 -- of one queue more
-pub one-more : {X Y : Type 0} (f : X → List Y) (of_leaf : ℕ → List Y) (paths : List Path) (queue : ℕ) → 1 ≤ queue → HasNumber paths queue → (has_none_below paths (path_at paths queue) ≡ false → of_leaf queue ≡ [])
-    → (done longer : List X) → flat_map f done ≡ flat_map of_leaf (leaves_before paths queue) → flat_map f longer ≡ flat_map f done ++ of_leaf queue
-    → flat_map f longer ≡ flat_map of_leaf (leaves_before paths (queue + 1))
-one-more {Y = Y} f of_leaf paths queue some inside none done longer so_far grown =
+pub one-more : {Y : Type 0} (of_leaf : ℕ → List Y) (paths : List Path) (queue : ℕ) → 1 ≤ queue → HasNumber paths queue → (has_none_below paths (path_at paths queue) ≡ false → of_leaf queue ≡ [])
+    → (done longer : List Y) → done ≡ flat_map of_leaf (leaves_before paths queue) → longer ≡ done ++ of_leaf queue
+    → longer ≡ flat_map of_leaf (leaves_before paths (queue + 1))
+one-more {Y = Y} of_leaf paths queue some inside none done longer so_far grown =
     let k = queue - 1 in
     let next : k + 1 ≡ queue + 1 - 1 = omega (arith, some) in
     grown
@@ -86,11 +86,6 @@ one-more {Y = Y} f of_leaf paths queue some inside none done longer so_far grown
     own : (b : Bool) → has_none_below paths (path_at paths queue) ≡ b → flat_map of_leaf (cond b (queue ∷ []) []) ≡ of_leaf queue
     own true is = append-nil (of_leaf queue)
     own false is = sym (none is)
-
--- the one that is added last
-pub added : {X Y : Type 0} (f : X → List Y) (done longer : List X) (one : X) (own : List Y) → longer ≡ done ++ one ∷ [] → f one ≡ own → flat_map f longer ≡ flat_map f done ++ own
-added f done longer one own grown is =
-    ap (flat_map f) grown ∙ flat_map-append f done (one ∷ []) ∙ ap (λ last. flat_map f done ++ last) (append-nil (f one) ∙ is)
 
 -- ---- partitions that take guests
 

@@ -1,128 +1,133 @@
 //! A sight is copied from a cluster.
 
-ghost use Rattle.std.specs.Prelude.{◌≡◌, ◌<◌, ◌++◌, IfOk, OnOk, Some, flat_map, map, nat_eq};
+ghost use Rattle.std.specs.Prelude.{◌≡◌, ◌<◌, IfOk, OnOk, Some, map, nat_eq};
 ghost use Rattle.std.specs.Map.{lookup};
 ghost use Rattle.ynl_model.specs.Service.{items_for};
 ghost use Rattle.ynl_slots.specs.Slots.{IsLive};
 ghost use Rattle.ynl_inventory.specs.Rows.{NodeRow};
 ghost use Rattle.ynl_inventory.specs.Meaning.{node_of};
 ghost use Rattle.ynl_inventory.specs.Sound.{HasPartition};
-ghost use Rattle.ynl_cluster.specs.requests.Requests.{asked, master_wanted};
 ghost use Rattle.ynl_cluster.specs.Cluster.{label_of, state_in, IsCell};
-ghost use Rattle.ynl_sights.specs.Copying.{bids_at, offers_at};
-ghost use Rattle.ynl_sights.specs.Rows.{asks_in, guest_bids_in, masters_in, offers_in};
+ghost use Rattle.ynl_sights.specs.Copying.{AddsGuests, AddsLeaf, IsAt};
+ghost use Rattle.ynl_sights.specs.Rows.{guest_bids_in, offers_in, AreGuests, AreLeaves};
 ghost use Rattle.ynl_sights.specs.Sights.{guests_in, offer_of, sighted};
 
-use crate::gathering::{list_apps, none_waits, offered_in};
-use crate::rows::{GuestSight, LeafSight};
+use crate::gathering::{add_guests, add_wanted, list_apps, none_waits};
+use crate::rows::{GuestSights, LeafSights, Ways};
 use crate::sights::Sight;
-use crate::ways::{limits_of, start, way_of};
+use crate::ways::{add_way, limits_of, start};
 use std::alloc::{AllocError, Global};
 use ynl_cluster::Cluster;
 use ynl_lanes::lane::Kind;
 use ynl_model::Node;
+use ynl_search::Place;
 
 /// Adds a queue with what is wanted of it on a partition. One of which nothing is wanted, as of any
 /// that is no leaf, costs a look at its lane.
-fn add_leaf_sight(
-    alloc: Global,
+fn add_leaf(
     cluster: &Cluster,
     p: u8,
+    root: &Place,
     leaf: usize,
     apps: &mut Vec<u32>,
-    out: &mut Vec<LeafSight>,
+    out: &mut LeafSights,
 ) -> Result<(), AllocError>
     requires there { IsCell cluster.now p leaf }
     requires below_root { 0 < leaf }
-    ensures masters { OnOk result (flat_map masters_in out.new.items
-        ≡ flat_map masters_in out.old.items
-        ++ offers_at cluster.now p (master_wanted cluster.now.rows p) leaf) }
-    ensures asks { OnOk result (flat_map (asks_in (label_of cluster.now p)) out.new.items
-        ≡ flat_map (asks_in (label_of cluster.now p)) out.old.items
-        ++ offers_at cluster.now p (asked cluster.now.rows p) leaf) }
+    requires root { IsAt cluster.now p 0 root.now }
+    requires leaves { AreLeaves out.old }
+    ensures { OnOk result (AddsLeaf cluster.now p leaf out.old out.new) }
 {
     // Opens the inventory, whose rows are sound.
     let _ = cluster.inventory();
     if none_waits(cluster, p, leaf, Kind::Master) && none_waits(cluster, p, leaf, Kind::Ask) {
         return Ok(());
     }
-    let mut place = start(cluster, p);
-    let way = way_of(alloc, cluster, p, leaf, &mut place)?;
-    let limits = limits_of(cluster, p, leaf, &place);
+    let number = out.limits.len();
+    let mut place = *root;
+    add_way(cluster, p, leaf, &mut place, &mut out.ways)?;
+    out.limits.push(limits_of(cluster, p, leaf, &place))?;
     list_apps(cluster, leaf, apps)?;
-    let masters = offered_in(alloc, cluster, p, leaf, Kind::Master, apps)?;
-    let asks = offered_in(alloc, cluster, p, leaf, Kind::Ask, apps)?;
-    out.push(LeafSight {
-        way,
-        limits,
-        masters,
-        asks,
-    })?;
+    add_wanted(cluster, p, leaf, number, apps, out)?;
     Ok(())
 }
 
 /// What is wanted on a partition, leaf by leaf.
-fn leaf_sights(alloc: Global, cluster: &Cluster, p: u8) -> Result<Vec<LeafSight>, AllocError>
+fn leaf_sights(alloc: Global, cluster: &Cluster, p: u8) -> Result<LeafSights, AllocError>
     requires { HasPartition cluster.now.rows p }
-    ensures { IfOk result (λ sights. offers_in (label_of cluster.now p) sights.items
+    ensures leaves { IfOk result AreLeaves }
+    ensures offers { IfOk result (λ leaves. offers_in (label_of cluster.now p) leaves
         ≡ map (offer_of cluster.now.config (state_in cluster.now) (label_of cluster.now p))
         (items_for (state_in cluster.now) (label_of cluster.now p))) }
 {
     let queues = cluster.inventory().layout().len();
-    // With room for all at once: to grow would move the sights of a busy cluster again and again.
-    let mut sights = Vec::with_capacity(alloc, queues)?;
+    let root = start(cluster, p);
+    let mut leaves = LeafSights {
+        ways: Ways::with_capacity(alloc, queues)?,
+        limits: Vec::with_capacity(alloc, queues)?,
+        masters: Vec::new(alloc),
+        asks: Vec::new(alloc),
+    };
     let mut apps = Vec::new(alloc);
     for queue in 1..queues {
-        add_leaf_sight(alloc, cluster, p, queue, &mut apps, &mut sights)?;
+        add_leaf(cluster, p, &root, queue, &mut apps, &mut leaves)?;
     }
-    Ok(sights)
+    Ok(leaves)
 }
 
 /// Adds a queue with what is asked for there on DEFAULT. One where nothing is asked for costs a look
 /// at its lane.
-fn add_guest_sight(
-    alloc: Global,
+fn add_guest_leaf(
     cluster: &Cluster,
+    root: &Place,
     leaf: usize,
     apps: &mut Vec<u32>,
-    out: &mut Vec<GuestSight>,
+    out: &mut GuestSights,
 ) -> Result<(), AllocError>
     requires there { IsCell cluster.now 0 leaf }
     requires below_root { 0 < leaf }
-    ensures { OnOk result (flat_map guest_bids_in out.new.items
-        ≡ flat_map guest_bids_in out.old.items
-        ++ bids_at cluster.now 0 (asked cluster.now.rows 0) leaf) }
+    requires root { IsAt cluster.now 0 0 root.now }
+    requires guests { AreGuests out.old }
+    ensures { OnOk result (AddsGuests cluster.now leaf out.old out.new) }
 {
     // Opens the inventory, whose rows are sound.
     let _ = cluster.inventory();
     if none_waits(cluster, 0, leaf, Kind::Ask) {
         return Ok(());
     }
-    let mut place = start(cluster, 0);
-    let way = way_of(alloc, cluster, 0, leaf, &mut place)?;
+    let number = out.ways.spans.len();
+    let mut place = *root;
+    add_way(cluster, 0, leaf, &mut place, &mut out.ways)?;
     list_apps(cluster, leaf, apps)?;
-    let asks = offered_in(alloc, cluster, 0, leaf, Kind::Ask, apps)?;
-    out.push(GuestSight { way, asks })?;
+    add_guests(cluster, leaf, number, apps, &mut out.asks)?;
     Ok(())
 }
 
 /// What a partition could take as guests, leaf by leaf, if it takes any.
-fn guest_sights(alloc: Global, cluster: &Cluster, p: u8) -> Result<Vec<GuestSight>, AllocError>
+fn guest_sights(alloc: Global, cluster: &Cluster, p: u8) -> Result<GuestSights, AllocError>
     requires { HasPartition cluster.now.rows p }
-    ensures { IfOk result (λ sights. flat_map guest_bids_in sights.items
+    ensures guests { IfOk result AreGuests }
+    ensures bids { IfOk result (λ guests. guest_bids_in guests
         ≡ guests_in cluster.now.config (state_in cluster.now) (label_of cluster.now p)) }
 {
     let inventory = cluster.inventory();
     if !inventory.takes_guests(p) {
-        return Ok(Vec::new(alloc));
+        return Ok(GuestSights {
+            ways: Ways::with_capacity(alloc, 0)?,
+            asks: Vec::new(alloc),
+        });
     }
     let queues = inventory.layout().len();
-    let mut sights = Vec::with_capacity(alloc, queues)?;
+    let root = start(cluster, 0);
+    let mut guests = GuestSights {
+        ways: Ways::with_capacity(alloc, queues)?,
+        asks: Vec::new(alloc),
+    };
     let mut apps = Vec::new(alloc);
     for queue in 1..queues {
-        add_guest_sight(alloc, cluster, queue, &mut apps, &mut sights)?;
+        add_guest_leaf(cluster, &root, queue, &mut apps, &mut guests)?;
     }
-    Ok(sights)
+    Ok(guests)
 }
 
 /// A node, as the model has it.

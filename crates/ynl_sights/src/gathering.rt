@@ -11,10 +11,10 @@ ghost use Rattle.ynl_inventory.specs.Sound.{HasPartition, IsAskedOn};
 ghost use Rattle.ynl_cluster.specs.requests.Laws.{in_leaf};
 ghost use Rattle.ynl_cluster.specs.seating.Seating.{shares, user_use};
 ghost use Rattle.ynl_cluster.specs.Cluster.{IsCell};
-ghost use Rattle.ynl_sights.specs.Copying.{asked_shown, asks_shown, items_in, kind_shown, kind_wanted, master_shown, one_by_one, shown, shown_as, AreAppsOf};
+ghost use Rattle.ynl_sights.specs.Copying.{asked_shown, asks_shown, items_in, kind_wanted, master_shown, shown, shown_as, shown_in, AreAppsOf};
 
-use crate::rows::{Offered, Wanted};
-use std::alloc::{AllocError, Global};
+use crate::rows::{LeafSights, Offered, Position, Wanted};
+use std::alloc::AllocError;
 use std::snapshot::Snapshot;
 use ynl_cluster::Cluster;
 use ynl_lanes::lane::Kind;
@@ -56,13 +56,13 @@ pub(crate) fn none_waits(cluster: &Cluster, p: u8, leaf: usize, kind: Kind) -> b
 
 /// A request of an application that stands in this place in its leaf, with what its user uses of
 /// the leaf's part of a partition.
-fn offered_of(cluster: &Cluster, p: u8, app: u32, place: u64, size: Size, priority: u32) -> Offered
+fn offered_of(cluster: &Cluster, p: u8, app: u32, position: Position, size: Size, priority: u32) -> Offered
     requires live { IsLive app cluster.now.rows.apps }
     requires partition { HasPartition cluster.now.rows p }
     requires shares { IfSome (lookup (nat_eq app) cluster.now.rows.apps)
         (λ row. shares p row ≡ true) }
     ensures { (row : AppRow) → lookup (nat_eq app) cluster.now.rows.apps ≡ Some row
-        → shown result ≡ shown_as cluster.now.rows p place row size priority }
+        → shown result ≡ shown_as cluster.now.rows p position row size priority }
 {
     let user_used = used_by(cluster, p, app);
     let inventory = cluster.inventory();
@@ -70,7 +70,7 @@ fn offered_of(cluster: &Cluster, p: u8, app: u32, place: u64, size: Size, priori
     Offered {
         user_used,
         wanted: Wanted {
-            place,
+            position,
             size,
             priority,
             app: *inventory.app_name(app),
@@ -84,7 +84,7 @@ fn add_master(
     cluster: &Cluster,
     p: u8,
     app: u32,
-    place: u64,
+    position: Position,
     out: &mut Vec<Offered>,
 ) -> Result<(), AllocError>
     requires live { IsLive app cluster.now.rows.apps }
@@ -92,12 +92,12 @@ fn add_master(
     ensures { OnOk result ((row : AppRow)
         → lookup (nat_eq app) cluster.now.rows.apps ≡ Some row
         → map shown out.new.items
-        ≡ map shown out.old.items ++ master_shown cluster.now.rows p place app row) }
+        ≡ map shown out.old.items ++ master_shown cluster.now.rows p position app row) }
 {
     let inventory = cluster.inventory();
     let row = inventory.app(app);
     if row.home == p && !inventory.runs(app) {
-        out.push(offered_of(cluster, p, app, place, row.master_size, 0))?;
+        out.push(offered_of(cluster, p, app, position, row.master_size, 0))?;
     }
     Ok(())
 }
@@ -107,7 +107,7 @@ fn add_ask(
     cluster: &Cluster,
     p: u8,
     app: u32,
-    place: u64,
+    position: Position,
     ask: &Ask,
     out: &mut Vec<Offered>,
 ) -> Result<(), AllocError>
@@ -118,10 +118,10 @@ fn add_ask(
     ensures { OnOk result ((row : AppRow)
         → lookup (nat_eq app) cluster.now.rows.apps ≡ Some row
         → map shown out.new.items
-        ≡ map shown out.old.items ++ asks_shown cluster.now.rows p place row (ask.now ∷ [])) }
+        ≡ map shown out.old.items ++ asks_shown cluster.now.rows p position row (ask.now ∷ [])) }
 {
     if ask.partition == p {
-        out.push(offered_of(cluster, p, app, place, ask.size, ask.priority))?;
+        out.push(offered_of(cluster, p, app, position, ask.size, ask.priority))?;
     }
     Ok(())
 }
@@ -131,7 +131,7 @@ fn add_asks(
     cluster: &Cluster,
     p: u8,
     app: u32,
-    place: u64,
+    position: Position,
     out: &mut Vec<Offered>,
 ) -> Result<(), AllocError>
     requires live { IsLive app cluster.now.rows.apps }
@@ -139,7 +139,7 @@ fn add_asks(
     ensures { OnOk result ((row : AppRow)
         → lookup (nat_eq app) cluster.now.rows.apps ≡ Some row
         → map shown out.new.items
-        ≡ map shown out.old.items ++ asked_shown cluster.now.rows p place app row) }
+        ≡ map shown out.old.items ++ asked_shown cluster.now.rows p position app row) }
 {
     let inventory = cluster.inventory();
     if !inventory.runs(app) {
@@ -147,7 +147,7 @@ fn add_asks(
     }
     let asks = inventory.app(app).asks.as_slice();
     for ask in asks {
-        add_ask(cluster, p, app, place, ask, out)?;
+        add_ask(cluster, p, app, position, ask, out)?;
     }
     Ok(())
 }
@@ -167,53 +167,57 @@ pub(crate) fn list_apps(
     cluster.lane(0, leaf).list_apps(apps)
 }
 
-/// Adds what an application wants of a kind on the partition.
-fn add_offered(
-    cluster: &Cluster,
-    p: u8,
-    kind: Kind,
-    app: u32,
-    place: u64,
-    out: &mut Vec<Offered>,
-) -> Result<(), AllocError>
-    requires live { IsLive app cluster.now.rows.apps }
-    requires partition { HasPartition cluster.now.rows p }
-    ensures { OnOk result ((row : AppRow)
-        → lookup (nat_eq app) cluster.now.rows.apps ≡ Some row
-        → map shown out.new.items
-        ≡ map shown out.old.items ++ kind_shown kind cluster.now.rows p place app row) }
-{
-    match kind {
-        Kind::Master => add_master(cluster, p, app, place, out),
-        Kind::Ask => add_asks(cluster, p, app, place, out),
-    }
-}
-
-/// What is wanted of a kind of a leaf on the partition, where these are its applications. If nothing of the kind waits it goes
-/// over none of them.
-pub(crate) fn offered_in(
-    alloc: Global,
+/// Adds what is wanted of a leaf on the partition, where these are its applications. The leaf has this number in the sight.
+pub(crate) fn add_wanted(
     cluster: &Cluster,
     p: u8,
     leaf: usize,
-    kind: Kind,
+    number: usize,
     apps: &[u32],
-) -> Result<Vec<Offered>, AllocError>
+    out: &mut LeafSights,
+) -> Result<(), AllocError>
     requires apps { AreAppsOf cluster.now.rows leaf apps.now }
-    requires there { IsCell cluster.now p leaf }
-    ensures { IfOk result (λ offered. map shown offered.items
-        ≡ one_by_one (kind_shown kind cluster.now.rows p) 0 (in_leaf leaf cluster.now.rows.apps)) }
+    requires partition { HasPartition cluster.now.rows p }
+    ensures masters { OnOk result (map shown out.new.masters.items ≡ map shown out.old.masters.items
+        ++ shown_in (master_shown cluster.now.rows p) number (in_leaf leaf cluster.now.rows.apps)) }
+    ensures asks { OnOk result (map shown out.new.asks.items ≡ map shown out.old.asks.items
+        ++ shown_in (asked_shown cluster.now.rows p) number (in_leaf leaf cluster.now.rows.apps)) }
+    ensures ways { out.new.ways ≡ out.old.ways }
+    ensures limits { out.new.limits ≡ out.old.limits }
 {
     // Opens the inventory, whose rows are sound.
     let _ = cluster.inventory();
-    let mut offered = Vec::new(alloc);
-    if none_waits(cluster, p, leaf, kind) {
-        return Ok(offered);
-    }
-    // Room for all at once, as most applications ask for one thing.
-    offered.reserve(apps.len())?;
     for i in 0..apps.len() {
-        add_offered(cluster, p, kind, apps[i], i as u64, &mut offered)?;
+        let position = Position {
+            leaf: number,
+            place: i as u64,
+        };
+        add_master(cluster, p, apps[i], position, &mut out.masters)?;
+        add_asks(cluster, p, apps[i], position, &mut out.asks)?;
     }
-    Ok(offered)
+    Ok(())
+}
+
+/// Adds what is asked for in a leaf on DEFAULT, where these are its applications. The leaf has this number among the guests'.
+pub(crate) fn add_guests(
+    cluster: &Cluster,
+    leaf: usize,
+    number: usize,
+    apps: &[u32],
+    out: &mut Vec<Offered>,
+) -> Result<(), AllocError>
+    requires { AreAppsOf cluster.now.rows leaf apps.now }
+    ensures { OnOk result (map shown out.new.items ≡ map shown out.old.items
+        ++ shown_in (asked_shown cluster.now.rows 0) number (in_leaf leaf cluster.now.rows.apps)) }
+{
+    // Opens the inventory, whose rows are sound.
+    let _ = cluster.inventory();
+    for i in 0..apps.len() {
+        let position = Position {
+            leaf: number,
+            place: i as u64,
+        };
+        add_asks(cluster, 0, apps[i], position, out)?;
+    }
+    Ok(())
 }

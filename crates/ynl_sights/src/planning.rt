@@ -1,6 +1,6 @@
 //! The choice made from a sight.
 
-ghost use Rattle.std.specs.Prelude.{◌≡◌, ◌≤◌, ◌<◌, ◌^◌, ◌∷◌, [], map, option_map, flat_map, filter};
+ghost use Rattle.std.specs.Prelude.{◌≡◌, ◌≤◌, ◌<◌, ◌^◌, ◌∷◌, [], length, map, option_map, filter};
 ghost use Rattle.std.specs.List.{list_all};
 ghost use Rattle.std.specs.Ordering.{nat_cmp};
 ghost use Rattle.std.specs.Cmp.Lexicographic.{slice_cmp};
@@ -10,13 +10,15 @@ ghost use Rattle.ynl_model.specs.Queues.{Config};
 ghost use Rattle.ynl_model.specs.Service.{key_order, standing_order as by_standing};
 ghost use Rattle.ynl_model.specs.declared.nodes.Node.{Node as Noded};
 ghost use Rattle.ynl_sights.specs.Sights.{chosen, first_bid, has_room, keeps_share, open_bids, passes, planned, sighted, stays_within};
-ghost use Rattle.ynl_sights.specs.Rows.{bid_in, offer_in, tests_in, reach_in, reach_of_queue, standing_in, masters_in, asks_in, guest_bids_in};
-ghost use Rattle.ynl_sights.specs.declared.rows.Offered.{Offered as Offering};
-ghost use Rattle.ynl_sights.specs.declared.rows.Way.{Way as Road};
+ghost use Rattle.ynl_sights.specs.Rows.{asks_in, bid_in, guest_bids_in, masters_in, offer_by, offers_of, reach_in, reach_of_queue, standing_in, tests_in, AreGuests, AreLeaves, IsOf};
+ghost use Rattle.std.specs.Prelude.{List};
+ghost use Rattle.ynl_resource.specs.declared.amounts.Resource.{Resource as Amount};
+ghost use Rattle.ynl_sights.specs.declared.rows.QueueSight.{QueueSight as Queue};
+ghost use Rattle.ynl_sights.specs.declared.rows.Wanted.{Wanted as Want};
 ghost use Rattle.ynl_sights.specs.Planning.{bid_of, overtakes, HoldsFirst, open_in};
 
 use crate::order::{rank_order, standing_order};
-use crate::rows::{GuestSight, LeafSight, Limits, Margin, Offered, QueueSight, Wanted, Way};
+use crate::rows::{GuestSights, Held, LeafSights, Limits, Margin, Offered, QueueSight, Wanted};
 use crate::sights::Sight;
 use std::cmp::Ordering;
 use ynl_model::{Node, Proposal, What};
@@ -37,18 +39,10 @@ fn ways_order(a: &[QueueSight], b: &[QueueSight]) -> Ordering
     }
 }
 
-/// A request where it stands in the sight.
-#[derive(Clone, Copy)]
-struct Held<'a> {
-    way: &'a Way,
-    wanted: &'a Wanted,
-    what: What,
-}
-
 fn turn_order(a: &Held<'_>, b: &Held<'_>) -> Ordering
     ensures { result ≡ slice_cmp nat_cmp (bid_of a.now).key.turn (bid_of b.now).key.turn }
 {
-    match a.wanted.place.cmp(&b.wanted.place) {
+    match a.wanted.position.place.cmp(&b.wanted.position.place) {
         Ordering::Equal => rank_order(&a.what, &b.what),
         other => other,
     }
@@ -57,7 +51,7 @@ fn turn_order(a: &Held<'_>, b: &Held<'_>) -> Ordering
 fn order(a: &Held<'_>, b: &Held<'_>) -> Ordering
     ensures { result ≡ key_order (bid_of a.now).key (bid_of b.now).key }
 {
-    match ways_order(a.way.queues.as_slice(), b.way.queues.as_slice()) {
+    match ways_order(a.way, b.way) {
         Ordering::Equal => turn_order(a, b),
         other => other,
     }
@@ -92,7 +86,7 @@ fn stay_within(queues: &[QueueSight], size: &Resource) -> bool
 /// Whether a request keeps the master share, which is tested for masters alone.
 fn keeps_share(limits: &Limits, what: &What, size: &Resource) -> bool
     requires { (size.now.memory < 2 ^ 32) × (size.now.vcores ≤ 65536) }
-    ensures { (way : Road) (offered : Offering) → result ≡ keeps_share what.now size.now (tests_in way limits.now offered) }
+    ensures { (way : List Queue) (used : Amount) (wanted : Want) → result ≡ keeps_share what.now size.now (tests_in way limits.now used wanted) }
 {
     match what {
         What::Master => {
@@ -103,15 +97,14 @@ fn keeps_share(limits: &Limits, what: &What, size: &Resource) -> bool
 }
 
 /// Whether a request passes its tests.
-fn passes(free: &Resource, leaf: &LeafSight, what: &What, offered: &Offered) -> bool
-    ensures { result ≡ passes free.now (offer_in leaf.now what.now offered.now) }
+fn passes(free: &Resource, way: &[QueueSight], limits: &Limits, what: &What, offered: &Offered) -> bool
+    ensures { result ≡ passes free.now (offer_by way.now limits.now what.now offered.now.user_used offered.now.wanted) }
 {
     let size = offered.wanted.size.amount();
     if !size.fits_in(*free) {
         return false;
     }
-    let limits = &leaf.limits;
-    if !stays_within(&limits.root, &size) || !stay_within(leaf.way.queues.as_slice(), &size) {
+    if !stays_within(&limits.root, &size) || !stay_within(way, &size) {
         return false;
     }
     let with = offered.user_used.add(size);
@@ -119,7 +112,8 @@ fn passes(free: &Resource, leaf: &LeafSight, what: &What, offered: &Offered) -> 
 }
 
 /// A request that comes up is held if it is before the one that is.
-fn hold_wanted<'a>(way: &'a Way, what: &What, wanted: &'a Wanted, held: &mut Option<Held<'a>>)
+fn hold_wanted<'a>(way: &'a [QueueSight], what: &What, wanted: &'a Wanted, held: &mut Option<Held<'a>>)
+    requires { 0 < length way.now }
     ensures { HoldsFirst held.old (bid_in way.now what.now wanted.now ∷ []) held.new }
 {
     let next = Held {
@@ -135,59 +129,42 @@ fn hold_wanted<'a>(way: &'a Way, what: &What, wanted: &'a Wanted, held: &mut Opt
 /// A request for the partition, which is held if it passes its tests and is before the one that is.
 fn hold_offered<'a>(
     free: &Resource,
-    leaf: &'a LeafSight,
+    leaves: &'a LeafSights,
     what: &What,
     offered: &'a Offered,
     held: &mut Option<Held<'a>>,
 )
-    ensures { HoldsFirst held.old (open_in free.now (offer_in leaf.now what.now offered.now ∷ [])) held.new }
+    requires leaves { AreLeaves leaves.now }
+    requires there { IsOf (length leaves.now.ways.spans.items) offered.now }
+    ensures { HoldsFirst held.old (open_in free.now (offers_of leaves.now what.now offered.now)) held.new }
 {
-    if passes(free, leaf, what, offered) {
-        hold_wanted(&leaf.way, what, &offered.wanted, held);
-    }
-}
-
-/// The masters of a leaf.
-fn hold_masters<'a>(free: &Resource, leaf: &'a LeafSight, held: &mut Option<Held<'a>>)
-    ensures { HoldsFirst held.old (open_in free.now (masters_in leaf.now)) held.new }
-{
-    let masters = leaf.masters.as_slice();
-    for offered in masters {
-        hold_offered(free, leaf, &What::Master, offered, held);
-    }
-}
-
-/// What is asked for in a leaf on the partition.
-fn hold_asks<'a>(free: &Resource, label: &Label, leaf: &'a LeafSight, held: &mut Option<Held<'a>>)
-    ensures { HoldsFirst held.old (open_in free.now (asks_in label.now leaf.now)) held.new }
-{
-    let asks = leaf.asks.as_slice();
-    for offered in asks {
-        let what = What::Ask(*label, offered.wanted.priority);
-        hold_offered(free, leaf, &what, offered, held);
+    let leaf = offered.wanted.position.leaf;
+    let way = leaves.ways.way(leaf);
+    if passes(free, way, &leaves.limits[leaf], what, offered) {
+        hold_wanted(way, what, &offered.wanted, held);
     }
 }
 
 /// The masters of all leaves.
-fn hold_all_masters<'a>(free: &Resource, leaves: &'a [LeafSight], held: &mut Option<Held<'a>>)
-    ensures { HoldsFirst held.old (open_in free.now (flat_map masters_in leaves.now)) held.new }
+fn hold_masters<'a>(free: &Resource, leaves: &'a LeafSights, held: &mut Option<Held<'a>>)
+    requires { AreLeaves leaves.now }
+    ensures { HoldsFirst held.old (open_in free.now (masters_in leaves.now)) held.new }
 {
-    for leaf in leaves {
-        hold_masters(free, leaf, held);
+    let masters = leaves.masters.as_slice();
+    for offered in masters {
+        hold_offered(free, leaves, &What::Master, offered, held);
     }
 }
 
-/// What is asked for in all leaves.
-fn hold_all_asks<'a>(
-    free: &Resource,
-    label: &Label,
-    leaves: &'a [LeafSight],
-    held: &mut Option<Held<'a>>,
-)
-    ensures { HoldsFirst held.old (open_in free.now (flat_map (asks_in label.now) leaves.now)) held.new }
+/// What is asked for on the partition in all leaves.
+fn hold_asks<'a>(free: &Resource, label: &Label, leaves: &'a LeafSights, held: &mut Option<Held<'a>>)
+    requires { AreLeaves leaves.now }
+    ensures { HoldsFirst held.old (open_in free.now (asks_in label.now leaves.now)) held.new }
 {
-    for leaf in leaves {
-        hold_asks(free, label, leaf, held);
+    let asks = leaves.asks.as_slice();
+    for offered in asks {
+        let what = What::Ask(*label, offered.wanted.priority);
+        hold_offered(free, leaves, &what, offered, held);
     }
 }
 
@@ -196,36 +173,23 @@ fn first_wanted(sight: &Sight) -> Option<Held<'_>>
     ensures { option_map bid_of result ≡ first_bid (open_bids sight.now) }
 {
     let mut held = None;
-    hold_all_masters(&sight.free, sight.leaves.as_slice(), &mut held);
-    hold_all_asks(
-        &sight.free,
-        &sight.node.label,
-        sight.leaves.as_slice(),
-        &mut held,
-    );
+    hold_masters(&sight.free, &sight.leaves, &mut held);
+    hold_asks(&sight.free, &sight.node.label, &sight.leaves, &mut held);
     held
 }
 
-/// The guests of a leaf that have room.
-fn hold_guests<'a>(free: &Resource, leaf: &'a GuestSight, held: &mut Option<Held<'a>>)
-    ensures { HoldsFirst held.old (filter (has_room free.now) (guest_bids_in leaf.now)) held.new }
+/// The guests that have room.
+fn hold_guests<'a>(free: &Resource, guests: &'a GuestSights, held: &mut Option<Held<'a>>)
+    requires { AreGuests guests.now }
+    ensures { HoldsFirst held.old (filter (has_room free.now) (guest_bids_in guests.now)) held.new }
 {
-    let asks = leaf.asks.as_slice();
+    let asks = guests.asks.as_slice();
     for offered in asks {
         let wanted = &offered.wanted;
         if wanted.size.amount().fits_in(*free) {
             let what = What::Ask(Label::Unlabelled, wanted.priority);
-            hold_wanted(&leaf.way, &what, wanted, held);
+            hold_wanted(guests.ways.way(wanted.position.leaf), &what, wanted, held);
         }
-    }
-}
-
-/// The guests of all leaves that have room.
-fn hold_all_guests<'a>(free: &Resource, leaves: &'a [GuestSight], held: &mut Option<Held<'a>>)
-    ensures { HoldsFirst held.old (filter (has_room free.now) (flat_map guest_bids_in leaves.now)) held.new }
-{
-    for leaf in leaves {
-        hold_guests(free, leaf, held);
     }
 }
 
@@ -234,7 +198,7 @@ fn first_guest(sight: &Sight) -> Option<Held<'_>>
     ensures { option_map bid_of result ≡ first_bid (filter (has_room sight.now.free) sight.now.guests) }
 {
     let mut held = None;
-    hold_all_guests(&sight.free, sight.guests.as_slice(), &mut held);
+    hold_guests(&sight.free, &sight.guests, &mut held);
     held
 }
 
@@ -254,7 +218,7 @@ fn proposal_of(node: &Node, held: &Held<'_>) -> Proposal
     Proposal {
         node: node.name,
         stamp: node.stamp,
-        tenant: held.way.queues[0].name,
+        tenant: held.way[0].name,
         app: held.wanted.app,
         what: held.what,
         size: held.wanted.size,

@@ -1,10 +1,12 @@
 //! The rows of a sight: leaves of which something is wanted on a partition, the queues on the way to each, and its requests.
 
-ghost use Rattle.std.specs.Prelude.{◌<◌, length};
+ghost use Rattle.std.specs.Prelude.{◌≡◌, ◌<◌, [], length, IfOk};
 ghost use Rattle.ynl_lanes.specs.lane.Rows.{IsUse};
 ghost use Rattle.ynl_cluster.specs.uses.Tallies.{IsTotal};
 
+use std::alloc::{AllocError, Global};
 use std::snapshot::Snapshot;
+use ynl_model::What;
 use ynl_resource::{Name, Resource, Size};
 use ynl_search::limits::Limits as UserLimits;
 
@@ -24,11 +26,44 @@ pub(crate) struct QueueSight {
     pub name: Name,
 }
 
-/// The queues on the way to a leaf, from the top-level queue down to the leaf. The first has the name of the tenant.
+/// Where the queues on the way to a leaf are among those on all ways.
+#[derive(Clone, Copy)]
+pub(crate) struct Span {
+    pub start: usize,
+    pub end: usize,
+}
+
+/// The ways to some leaves, which have numbers from 0 on. The queues on each stand one after another, from the top-level
+/// queue down to the leaf. The first has the name of the tenant.
 #[derive(Drop)]
-pub(crate) struct Way {
+pub(crate) struct Ways {
     pub queues: Vec<QueueSight>,
-    ghost some: { 0 < length queues.items },
+    pub spans: Vec<Span>,
+}
+
+impl Ways {
+    ghost use Rattle.ynl_sights.specs.Rows.{way_at, AreWays};
+
+    /// No ways, with room for those to so many leaves.
+    pub fn with_capacity(alloc: Global, leaves: usize) -> Result<Ways, AllocError>
+        ensures { IfOk result (λ ways. ways.spans.items ≡ []) }
+    {
+        Ok(Ways {
+            queues: Vec::with_capacity(alloc, leaves)?,
+            spans: Vec::with_capacity(alloc, leaves)?,
+        })
+    }
+
+    /// The queues on the way to a leaf.
+    pub fn way(&self, leaf: usize) -> &[QueueSight]
+        requires ways { AreWays self.now }
+        requires there { leaf < length self.now.spans.items }
+        ensures way { result.now ≡ way_at self.now leaf }
+        ensures some { 0 < length result.now }
+    {
+        let span = self.spans[leaf];
+        &self.queues[span.start..span.end]
+    }
 }
 
 /// What the requests of a leaf are tested against, besides the margins on its way: root's margin, the limits of its users, and
@@ -43,11 +78,18 @@ pub(crate) struct Limits {
     ghost small: { IsTotal masters },
 }
 
-/// A request of an application, with the application's place in the leaf. The priority is an ask's; of a master it says
+/// Where an application stands: the number of its leaf among those of a sight, and its place in the leaf.
+#[derive(Clone, Copy)]
+pub(crate) struct Position {
+    pub leaf: usize,
+    pub place: u64,
+}
+
+/// A request of an application, with the application's position. The priority is an ask's; of a master it says
 /// nothing. No choice reads the name of the user, so a row takes no bytes for it: it is there for what a sight means alone.
 #[derive(Drop)]
 pub(crate) struct Wanted {
-    pub place: u64,
+    pub position: Position,
     pub size: Size,
     pub priority: u32,
     pub app: Name,
@@ -62,35 +104,27 @@ pub(crate) struct Offered {
     ghost small: { IsUse user_used },
 }
 
-/// A leaf with what is wanted of it on the node's partition.
-pub(crate) struct LeafSight {
-    pub way: Way,
-    pub limits: Limits,
+/// A request where it stands in the sight.
+#[derive(Clone, Copy)]
+pub(crate) struct Held<'a> {
+    pub way: &'a [QueueSight],
+    pub wanted: &'a Wanted,
+    pub what: What,
+    ghost some: { 0 < length way.now },
+}
+
+/// The leaves of which something is wanted on the node's partition, and the requests of all of them, by kind.
+#[derive(Drop)]
+pub(crate) struct LeafSights {
+    pub ways: Ways,
+    pub limits: Vec<Limits>,
     pub masters: Vec<Offered>,
     pub asks: Vec<Offered>,
 }
 
-// By hand, as that of `Sight`.
-impl Drop for LeafSight {
-    fn drop(self) {
-        let LeafSight {
-            way: _,
-            limits: _,
-            masters: _,
-            asks: _,
-        } = self;
-    }
-}
-
-/// A leaf with what is asked for there on DEFAULT. Guests are tested for room alone.
-pub(crate) struct GuestSight {
-    pub way: Way,
+/// The leaves where something is asked for on DEFAULT, with all that is. Guests are tested for room alone.
+#[derive(Drop)]
+pub(crate) struct GuestSights {
+    pub ways: Ways,
     pub asks: Vec<Offered>,
-}
-
-// By hand, as that of `Sight`.
-impl Drop for GuestSight {
-    fn drop(self) {
-        let GuestSight { way: _, asks: _ } = self;
-    }
 }

@@ -1,6 +1,6 @@
 //! The copy of what a choice on a node reads.
 
-use crate::rows::{GuestSight, LeafSight};
+use crate::rows::{GuestSights, LeafSights};
 use std::marker::Model;
 use ynl_model::Node;
 use ynl_resource::Resource;
@@ -11,8 +11,8 @@ use ynl_resource::Resource;
 pub struct Sight {
     pub(crate) node: Node,
     pub(crate) free: Resource,
-    pub(crate) leaves: Vec<LeafSight>,
-    pub(crate) guests: Vec<GuestSight>,
+    pub(crate) leaves: LeafSights,
+    pub(crate) guests: GuestSights,
 }
 
 // By hand, so that crates above call it: one that is derived is proved anew in each of them, with all that it holds.
@@ -29,9 +29,11 @@ impl Drop for Sight {
 
 impl Model for Sight {
     ghost use Rattle.ynl_sights.specs.Sights.{Seen};
-    ghost use Rattle.ynl_sights.specs.SightFields.{seen_of};
+    ghost use Rattle.ynl_sights.specs.SightFields.{seen_of, IsSight};
 
     ghost Value = { Seen };
 
     ghost view = { seen_of };
+
+    ghost invariant = { IsSight };
 }

@@ -1,12 +1,13 @@
 //! The queues on the way to a leaf and the leaf's limits, as they are copied.
 
-ghost use Rattle.std.specs.Prelude.{◌<◌, IfOk, OnOk};
+ghost use Rattle.std.specs.Prelude.{◌<◌, length, OnOk};
 ghost use Rattle.ynl_inventory.specs.Sound.{HasPartition};
 ghost use Rattle.ynl_cluster.specs.Cluster.{path_of, IsCell};
-ghost use Rattle.ynl_sights.specs.Copying.{AreLimitsOf, IsAt, IsQueueOf, IsWayOf};
+ghost use Rattle.ynl_sights.specs.Copying.{AddsAll, AddsWay, AreLimitsOf, IsAt, IsQueueOf};
+ghost use Rattle.ynl_sights.specs.Rows.{AreWays};
 
-use crate::rows::{Limits, Margin, QueueSight, Way};
-use std::alloc::{AllocError, Global};
+use crate::rows::{Limits, Margin, QueueSight, Span, Ways};
+use std::alloc::AllocError;
 use ynl_cluster::Cluster;
 use ynl_resource::Resource;
 use ynl_search::{Place, child_at, root_at, tests_of};
@@ -42,30 +43,51 @@ fn queue_at(cluster: &Cluster, p: u8, queue: usize, place: &Place) -> QueueSight
     }
 }
 
-/// The way to a leaf. The place becomes the leaf's.
-pub(crate) fn way_of(
-    alloc: Global,
+/// Adds the queues on the way to a leaf. The place becomes the leaf's.
+fn add_queues(
     cluster: &Cluster,
     p: u8,
     leaf: usize,
     place: &mut Place,
-) -> Result<Way, AllocError>
+    queues: &mut Vec<QueueSight>,
+) -> Result<(), AllocError>
     requires there { IsCell cluster.now p leaf }
     requires below_root { 0 < leaf }
     requires place { IsAt cluster.now p 0 place.old }
-    ensures way { IfOk result (IsWayOf cluster.now p leaf) }
+    ensures queues { OnOk result (AddsAll cluster.now p leaf queues.old.items queues.new.items) }
+    ensures some { OnOk result (length queues.old.items < length queues.new.items) }
     ensures place { OnOk result (IsAt cluster.now p leaf place.new) }
 {
     let inventory = cluster.inventory();
     let line = inventory.layout().line(leaf);
-    let depths = line.len() - 1;
-    let mut queues = Vec::with_capacity(alloc, depths)?;
-    for depth in 0..depths {
+    for depth in 0..line.len() - 1 {
         let queue = line[depth + 1];
         *place = child_at(cluster, p, place, queue);
         queues.push(queue_at(cluster, p, queue, place))?;
     }
-    Ok(Way { queues })
+    Ok(())
+}
+
+/// Adds the way to a leaf. The place becomes the leaf's.
+pub(crate) fn add_way(
+    cluster: &Cluster,
+    p: u8,
+    leaf: usize,
+    place: &mut Place,
+    ways: &mut Ways,
+) -> Result<(), AllocError>
+    requires there { IsCell cluster.now p leaf }
+    requires below_root { 0 < leaf }
+    requires place { IsAt cluster.now p 0 place.old }
+    requires ways { AreWays ways.old }
+    ensures ways { OnOk result (AddsWay cluster.now p leaf ways.old ways.new) }
+    ensures place { OnOk result (IsAt cluster.now p leaf place.new) }
+{
+    let start = ways.queues.len();
+    add_queues(cluster, p, leaf, place, &mut ways.queues)?;
+    let end = ways.queues.len();
+    ways.spans.push(Span { start, end })?;
+    Ok(())
 }
 
 /// What the requests of a leaf are tested against, where the leaf was reached.

@@ -22,18 +22,22 @@ loop-queue-preserved c =
     let many = c.len-queues.ensures.value ∙ ap (λ (paths : List Path). length (root ∷ paths)) (c.layout.ensures ∙ ap (λ (h : Held). h.rows.paths) c.inventory-inventory.ensures.value) in
     let there : HasNumber w.rows.paths queue = omega (arith, c.loop-queue-test.true, many) in
     let see = bid_of w.config (state_in w) (label_of w 0) in
-    one-more guest_bids_in (bids_at w 0 (asked w.rows 0)) w.rows.paths queue c.loop-queue.auto.queue there (λ inner. ap (map see) (none-there w.rows c.inventory-inventory.ensures.sound (asked w.rows 0) queue inner))
-    c.loop-queue.sights.items c.add_guest_sight.new.out.items c.loop-queue.invariant c.in_ok-add_guest_sight.ensures
+    record {
+      guests = c.in_ok-add_guest_leaf.ensures.guests;
+      bids =
+          one-more (bids_at w 0 (asked w.rows 0)) w.rows.paths queue c.loop-queue.auto.queue there (λ inner. ap (map see) (none-there w.rows c.inventory-inventory.ensures.sound (asked w.rows 0) queue inner))
+          (guest_bids_in c.loop-queue.guests) (guest_bids_in c.add_guest_leaf.new.out) c.loop-queue.invariant.bids c.in_ok-add_guest_leaf.ensures.bids;
+    }
 
-pub returns : goal.returns
-returns c =
+pub returns-clause-bids : goal.returns-clause-bids
+returns-clause-bids c =
     let w = c.args.cluster.now in
     let is = c.inventory-inventory.ensures in
     let see = bid_of w.config (state_in w) in
     let takes : takes_guests w.config (label_of w c.args.p) ≡ true =
     sym (takes-told w.config w.rows.partitions is.configured.guests c.args.p c.requires c.takes_guests.result (rw is.value at c.takes_guests.ensures)) ∙ c.if-not-takes_guests.false in
     let many = c.len-queues.ensures.value ∙ ap (λ (paths : List Path). length (root ∷ paths)) (c.layout.ensures ∙ ap (λ (h : Held). h.rows.paths) c.inventory-inventory.ensures.value) in
-    c.loop-queue.invariant
+    c.loop-queue.invariant.bids
     ∙ ap (flat_map (bids_at w 0 (asked w.rows 0))) (all-before w.rows.paths c.loop-queue.queue (omega (arith, c.loop-queue-test.false, many)))
     ∙ sym (map-flat (see (label_of w 0)) (items_in w.rows (asked w.rows 0)) (leaf_numbers w.rows.paths))
     ∙ ap (map (see (label_of w 0))) (sym (asks-listed w is.sound 0 is.sound.some))

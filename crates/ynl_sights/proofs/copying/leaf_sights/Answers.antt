@@ -26,16 +26,17 @@ loop-queue-preserved c =
     let asks = offers_at w p (asked w.rows p) in
     let see = offer_of w.config (state_in w) (label_of w p) in
     record {
+      leaves = c.in_ok-add_leaf.ensures.leaves;
       masters =
-          one-more masters_in masters w.rows.paths queue c.loop-queue.auto.queue there (λ inner. ap (map see) (none-there w.rows c.inventory.ensures.sound (master_wanted w.rows p) queue inner))
-          c.loop-queue.sights.items c.add_leaf_sight.new.out.items c.loop-queue.invariant.masters c.in_ok-add_leaf_sight.ensures.masters;
+          one-more masters w.rows.paths queue c.loop-queue.auto.queue there (λ inner. ap (map see) (none-there w.rows c.inventory.ensures.sound (master_wanted w.rows p) queue inner))
+          (masters_in c.loop-queue.leaves) (masters_in c.add_leaf.new.out) c.loop-queue.invariant.masters c.in_ok-add_leaf.ensures.masters;
       asks =
-          one-more (asks_in (label_of w p)) asks w.rows.paths queue c.loop-queue.auto.queue there (λ inner. ap (map see) (none-there w.rows c.inventory.ensures.sound (asked w.rows p) queue inner))
-          c.loop-queue.sights.items c.add_leaf_sight.new.out.items c.loop-queue.invariant.asks c.in_ok-add_leaf_sight.ensures.asks;
+          one-more asks w.rows.paths queue c.loop-queue.auto.queue there (λ inner. ap (map see) (none-there w.rows c.inventory.ensures.sound (asked w.rows p) queue inner))
+          (asks_in (label_of w p) c.loop-queue.leaves) (asks_in (label_of w p) c.add_leaf.new.out) c.loop-queue.invariant.asks c.in_ok-add_leaf.ensures.asks;
     }
 
-pub returns : goal.returns
-returns c =
+pub returns-clause-offers : goal.returns-clause-offers
+returns-clause-offers c =
     let w = c.args.cluster.now in
     let p = c.args.p in
     let see = offer_of w.config (state_in w) (label_of w p) in

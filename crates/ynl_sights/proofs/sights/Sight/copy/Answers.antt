@@ -24,8 +24,8 @@ returns c = λ row at.
     let label : label_of w c.node.result.now.partition ≡ label_of w row.partition = ap (λ (r : NodeRow). label_of w r.partition) same in
     let node : c.node_at.result ≡ node_of w.rows.partitions row = c.node_at.ensures row at in
     let room = c.free.ensures ∙ ap (λ (h : Held). free_of h.rows c.args.node) is.value ∙ sym (free-means w.rows is.sound c.args.node row at (stops_in w) (maxima_in w)) in
-    let own = c.in_ok-leaves.leaves.items in
+    let own = c.in_ok-leaves.leaves in
     let offers =
-    ap (λ (l : Label). offers_in l own) (ap (λ (n : Node). n.label) node ∙ sym label) ∙ c.in_ok-leaves.ensures ∙ ap (λ (l : Label). map (offer_of w.config s l) (items_for s l)) label in
-    let guests = c.in_ok-guests.ensures ∙ ap (guests_in w.config s) label in
+    ap (λ (l : Label). offers_in l own) (ap (λ (n : Node). n.label) node ∙ sym label) ∙ c.in_ok-leaves.ensures.offers ∙ ap (λ (l : Label). map (offer_of w.config s l) (items_for s l)) label in
+    let guests = c.in_ok-guests.ensures.bids ∙ ap (guests_in w.config s) label in
     λ i. record { node = node i; free = room i; offers = offers i; guests = guests i }

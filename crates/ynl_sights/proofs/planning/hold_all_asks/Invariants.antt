@@ -1,8 +1,0 @@
-use Rattle.std.proofs.Common.{take}
-use Rattle.std.specs.Prelude.{flat_map}
-use Rattle.ynl_sights.specs.Rows.{asks_in}
-use Rattle.ynl_sights.specs.Planning.{HoldsFirst, open_in}
-use Rattle.ynl_sights.proofs.planning.hold_all_asks.Given as goal
-
-abbrev pub invariant-loop-leaf : goal.invariant-loop-leaf
-invariant-loop-leaf l = HoldsFirst l.initial.held (open_in l.free (flat_map (asks_in l.label) (take l.leaf-index l.leaves))) l.held
