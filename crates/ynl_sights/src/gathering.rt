@@ -56,7 +56,14 @@ pub(crate) fn none_waits(cluster: &Cluster, p: u8, leaf: usize, kind: Kind) -> b
 
 /// A request of an application that stands in this place in its leaf, with what its user uses of
 /// the leaf's part of a partition.
-fn offered_of(cluster: &Cluster, p: u8, app: u32, position: Position, size: Size, priority: u32) -> Offered
+fn offered_of(
+    cluster: &Cluster,
+    p: u8,
+    app: u32,
+    position: Position,
+    size: Size,
+    priority: u32,
+) -> Offered
     requires live { IsLive app cluster.now.rows.apps }
     requires partition { HasPartition cluster.now.rows p }
     requires shares { IfSome (lookup (nat_eq app) cluster.now.rows.apps)

@@ -97,7 +97,13 @@ fn keeps_share(limits: &Limits, what: &What, size: &Resource) -> bool
 }
 
 /// Whether a request passes its tests.
-fn passes(free: &Resource, way: &[QueueSight], limits: &Limits, what: &What, offered: &Offered) -> bool
+fn passes(
+    free: &Resource,
+    way: &[QueueSight],
+    limits: &Limits,
+    what: &What,
+    offered: &Offered,
+) -> bool
     ensures { result ≡ passes free.now (offer_by way.now limits.now what.now offered.now.user_used offered.now.wanted) }
 {
     let size = offered.wanted.size.amount();
@@ -112,7 +118,12 @@ fn passes(free: &Resource, way: &[QueueSight], limits: &Limits, what: &What, off
 }
 
 /// A request that comes up is held if it is before the one that is.
-fn hold_wanted<'a>(way: &'a [QueueSight], what: &What, wanted: &'a Wanted, held: &mut Option<Held<'a>>)
+fn hold_wanted<'a>(
+    way: &'a [QueueSight],
+    what: &What,
+    wanted: &'a Wanted,
+    held: &mut Option<Held<'a>>,
+)
     requires { 0 < length way.now }
     ensures { HoldsFirst held.old (bid_in way.now what.now wanted.now ∷ []) held.new }
 {
@@ -157,7 +168,12 @@ fn hold_masters<'a>(free: &Resource, leaves: &'a LeafSights, held: &mut Option<H
 }
 
 /// What is asked for on the partition in all leaves.
-fn hold_asks<'a>(free: &Resource, label: &Label, leaves: &'a LeafSights, held: &mut Option<Held<'a>>)
+fn hold_asks<'a>(
+    free: &Resource,
+    label: &Label,
+    leaves: &'a LeafSights,
+    held: &mut Option<Held<'a>>,
+)
     requires { AreLeaves leaves.now }
     ensures { HoldsFirst held.old (open_in free.now (asks_in label.now leaves.now)) held.new }
 {
