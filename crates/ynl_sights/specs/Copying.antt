@@ -111,6 +111,11 @@ asks_shown v p position row asks = map (λ ask. shown_as v p position row ask.si
 abbrev pub asked_shown : Rows → ℕ → Position → ℕ → AppRow → List (Resource × Wanted)
 asked_shown v p position n row = if runs_at v n row then asks_shown v p position row row.asks else []
 
+-- what an application wants of a kind on a partition: its master, or what it asks for
+abbrev pub kind_shown : Kind → Rows → ℕ → Position → ℕ → AppRow → List (Resource × Wanted)
+kind_shown kind.Master v p = master_shown v p
+kind_shown kind.Ask v p = asked_shown v p
+
 -- numbers are those of the live applications of a leaf, in the order of submission
 abbrev pub AreAppsOf : Rows → ℕ → List ℕ → Type 0
 AreAppsOf v q numbers = numbers ≡ map (λ e. e.0) (in_leaf q v.apps)

@@ -12,7 +12,7 @@ ghost use Rattle.ynl_sights.specs.Copying.{AddsGuests, AddsLeaf, IsAt};
 ghost use Rattle.ynl_sights.specs.Rows.{guest_bids_in, offers_in, AreGuests, AreLeaves};
 ghost use Rattle.ynl_sights.specs.Sights.{guests_in, offer_of, sighted};
 
-use crate::gathering::{add_guests, add_wanted, list_apps, none_waits};
+use crate::gathering::{Busy, add_wanted, count_apps, list_apps, none_waits};
 use crate::rows::{GuestSights, LeafSights, Ways};
 use crate::sights::Sight;
 use crate::ways::{add_way, limits_of, start};
@@ -48,8 +48,13 @@ fn add_leaf(
     add_way(cluster, p, leaf, &mut place, &mut out.ways)?;
     out.limits.push(limits_of(cluster, p, leaf, &place))?;
     list_apps(cluster, leaf, apps)?;
-    add_wanted(cluster, p, leaf, number, apps, out)?;
-    Ok(())
+    let busy = Busy {
+        queue: leaf,
+        number,
+        apps,
+    };
+    add_wanted(cluster, p, &busy, Kind::Master, &mut out.masters)?;
+    add_wanted(cluster, p, &busy, Kind::Ask, &mut out.asks)
 }
 
 /// What is wanted on a partition, leaf by leaf.
@@ -62,11 +67,12 @@ fn leaf_sights(alloc: Global, cluster: &Cluster, p: u8) -> Result<LeafSights, Al
 {
     let queues = cluster.inventory().layout().len();
     let root = start(cluster, p);
+    // With room for most of what comes: to grow would move the rows again and again.
     let mut leaves = LeafSights {
         ways: Ways::with_capacity(alloc, queues)?,
         limits: Vec::with_capacity(alloc, queues)?,
-        masters: Vec::new(alloc),
-        asks: Vec::new(alloc),
+        masters: Vec::with_capacity(alloc, count_apps(cluster, p, Kind::Master))?,
+        asks: Vec::with_capacity(alloc, count_apps(cluster, p, Kind::Ask))?,
     };
     let mut apps = Vec::new(alloc);
     for queue in 1..queues {
@@ -99,8 +105,12 @@ fn add_guest_leaf(
     let mut place = *root;
     add_way(cluster, 0, leaf, &mut place, &mut out.ways)?;
     list_apps(cluster, leaf, apps)?;
-    add_guests(cluster, leaf, number, apps, &mut out.asks)?;
-    Ok(())
+    let busy = Busy {
+        queue: leaf,
+        number,
+        apps,
+    };
+    add_wanted(cluster, 0, &busy, Kind::Ask, &mut out.asks)
 }
 
 /// What a partition could take as guests, leaf by leaf, if it takes any.
@@ -121,7 +131,7 @@ fn guest_sights(alloc: Global, cluster: &Cluster, p: u8) -> Result<GuestSights, 
     let root = start(cluster, 0);
     let mut guests = GuestSights {
         ways: Ways::with_capacity(alloc, queues)?,
-        asks: Vec::new(alloc),
+        asks: Vec::with_capacity(alloc, count_apps(cluster, 0, Kind::Ask))?,
     };
     let mut apps = Vec::new(alloc);
     for queue in 1..queues {

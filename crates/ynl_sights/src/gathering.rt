@@ -1,6 +1,6 @@
 //! What is wanted of a leaf, as it is copied.
 
-ghost use Rattle.std.specs.Prelude.{◌≡◌, [], ◌∷◌, ◌++◌, true, map, nat_eq, IfOk, IfSome, OnOk, Some};
+ghost use Rattle.std.specs.Prelude.{◌≡◌, [], ◌∷◌, ◌++◌, true, map, nat_eq, IfSome, OnOk, Some};
 ghost use Rattle.std.specs.Bool.{OnTrue};
 ghost use Rattle.std.specs.Map.{lookup};
 ghost use Rattle.ynl_slots.specs.Slots.{IsLive};
@@ -11,9 +11,9 @@ ghost use Rattle.ynl_inventory.specs.Sound.{HasPartition, IsAskedOn};
 ghost use Rattle.ynl_cluster.specs.requests.Laws.{in_leaf};
 ghost use Rattle.ynl_cluster.specs.seating.Seating.{shares, user_use};
 ghost use Rattle.ynl_cluster.specs.Cluster.{IsCell};
-ghost use Rattle.ynl_sights.specs.Copying.{asked_shown, asks_shown, items_in, kind_wanted, master_shown, shown, shown_as, shown_in, AreAppsOf};
+ghost use Rattle.ynl_sights.specs.Copying.{asked_shown, asks_shown, items_in, kind_shown, kind_wanted, master_shown, shown, shown_as, shown_in, AreAppsOf};
 
-use crate::rows::{LeafSights, Offered, Position, Wanted};
+use crate::rows::{Offered, Position, Wanted};
 use std::alloc::AllocError;
 use std::snapshot::Snapshot;
 use ynl_cluster::Cluster;
@@ -54,7 +54,7 @@ pub(crate) fn none_waits(cluster: &Cluster, p: u8, leaf: usize, kind: Kind) -> b
     Low::NONE.fits(&least.amount())
 }
 
-/// A request of an application that stands in this place in its leaf, with what its user uses of
+/// A request of an application in this position, with what its user uses of
 /// the leaf's part of a partition.
 fn offered_of(
     cluster: &Cluster,
@@ -174,57 +174,75 @@ pub(crate) fn list_apps(
     cluster.lane(0, leaf).list_apps(apps)
 }
 
-/// Adds what is wanted of a leaf on the partition, where these are its applications. The leaf has this number in the sight.
+/// How many applications there are in the leaves where something of a kind waits on a partition. Most want one thing.
+pub(crate) fn count_apps(cluster: &Cluster, p: u8, kind: Kind) -> usize
+    requires { HasPartition cluster.now.rows p }
+{
+    let queues = cluster.inventory().layout().len();
+    let mut count: usize = 0;
+    for queue in 1..queues {
+        if !none_waits(cluster, p, queue, kind) {
+            count = count.saturating_add(cluster.lane(0, queue).len());
+        }
+    }
+    count
+}
+
+/// Adds what an application wants of a kind on the partition.
+fn add_offered(
+    cluster: &Cluster,
+    p: u8,
+    kind: Kind,
+    app: u32,
+    position: Position,
+    out: &mut Vec<Offered>,
+) -> Result<(), AllocError>
+    requires live { IsLive app cluster.now.rows.apps }
+    requires partition { HasPartition cluster.now.rows p }
+    ensures { OnOk result ((row : AppRow)
+        → lookup (nat_eq app) cluster.now.rows.apps ≡ Some row
+        → map shown out.new.items
+        ≡ map shown out.old.items ++ kind_shown kind cluster.now.rows p position app row) }
+{
+    match kind {
+        Kind::Master => add_master(cluster, p, app, position, out),
+        Kind::Ask => add_asks(cluster, p, app, position, out),
+    }
+}
+
+/// A leaf of which something is wanted: its number as a queue, its number in the sight, and its applications.
+#[derive(Clone, Copy)]
+pub(crate) struct Busy<'a> {
+    pub(crate) queue: usize,
+    pub(crate) number: usize,
+    pub(crate) apps: &'a [u32],
+}
+
+/// Adds what is wanted of a kind of a leaf on the partition. If nothing of the kind waits it goes over none of the applications.
 pub(crate) fn add_wanted(
     cluster: &Cluster,
     p: u8,
-    leaf: usize,
-    number: usize,
-    apps: &[u32],
-    out: &mut LeafSights,
-) -> Result<(), AllocError>
-    requires apps { AreAppsOf cluster.now.rows leaf apps.now }
-    requires partition { HasPartition cluster.now.rows p }
-    ensures masters { OnOk result (map shown out.new.masters.items ≡ map shown out.old.masters.items
-        ++ shown_in (master_shown cluster.now.rows p) number (in_leaf leaf cluster.now.rows.apps)) }
-    ensures asks { OnOk result (map shown out.new.asks.items ≡ map shown out.old.asks.items
-        ++ shown_in (asked_shown cluster.now.rows p) number (in_leaf leaf cluster.now.rows.apps)) }
-    ensures ways { out.new.ways ≡ out.old.ways }
-    ensures limits { out.new.limits ≡ out.old.limits }
-{
-    // Opens the inventory, whose rows are sound.
-    let _ = cluster.inventory();
-    for i in 0..apps.len() {
-        let position = Position {
-            leaf: number,
-            place: i as u64,
-        };
-        add_master(cluster, p, apps[i], position, &mut out.masters)?;
-        add_asks(cluster, p, apps[i], position, &mut out.asks)?;
-    }
-    Ok(())
-}
-
-/// Adds what is asked for in a leaf on DEFAULT, where these are its applications. The leaf has this number among the guests'.
-pub(crate) fn add_guests(
-    cluster: &Cluster,
-    leaf: usize,
-    number: usize,
-    apps: &[u32],
+    leaf: &Busy<'_>,
+    kind: Kind,
     out: &mut Vec<Offered>,
 ) -> Result<(), AllocError>
-    requires { AreAppsOf cluster.now.rows leaf apps.now }
+    requires apps { AreAppsOf cluster.now.rows leaf.now.queue leaf.now.apps.now }
+    requires there { IsCell cluster.now p leaf.now.queue }
     ensures { OnOk result (map shown out.new.items ≡ map shown out.old.items
-        ++ shown_in (asked_shown cluster.now.rows 0) number (in_leaf leaf cluster.now.rows.apps)) }
+        ++ shown_in (kind_shown kind cluster.now.rows p) leaf.now.number (in_leaf leaf.now.queue cluster.now.rows.apps)) }
 {
     // Opens the inventory, whose rows are sound.
     let _ = cluster.inventory();
+    if none_waits(cluster, p, leaf.queue, kind) {
+        return Ok(());
+    }
+    let apps = leaf.apps;
     for i in 0..apps.len() {
         let position = Position {
-            leaf: number,
+            leaf: leaf.number,
             place: i as u64,
         };
-        add_asks(cluster, 0, apps[i], position, out)?;
+        add_offered(cluster, p, kind, apps[i], position, out)?;
     }
     Ok(())
 }

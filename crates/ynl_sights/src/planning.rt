@@ -1,6 +1,6 @@
 //! The choice made from a sight.
 
-ghost use Rattle.std.specs.Prelude.{◌≡◌, ◌≤◌, ◌<◌, ◌^◌, ◌∷◌, [], length, map, option_map, filter};
+ghost use Rattle.std.specs.Prelude.{◌≡◌, ◌≤◌, ◌<◌, ◌^◌, ◌∷◌, List, [], length, map, option_map, filter};
 ghost use Rattle.std.specs.List.{list_all};
 ghost use Rattle.std.specs.Ordering.{nat_cmp};
 ghost use Rattle.std.specs.Cmp.Lexicographic.{slice_cmp};
@@ -11,7 +11,6 @@ ghost use Rattle.ynl_model.specs.Service.{key_order, standing_order as by_standi
 ghost use Rattle.ynl_model.specs.declared.nodes.Node.{Node as Noded};
 ghost use Rattle.ynl_sights.specs.Sights.{chosen, first_bid, has_room, keeps_share, open_bids, passes, planned, sighted, stays_within};
 ghost use Rattle.ynl_sights.specs.Rows.{asks_in, bid_in, guest_bids_in, masters_in, offer_by, offers_of, reach_in, reach_of_queue, standing_in, tests_in, AreGuests, AreLeaves, IsOf};
-ghost use Rattle.std.specs.Prelude.{List};
 ghost use Rattle.ynl_resource.specs.declared.amounts.Resource.{Resource as Amount};
 ghost use Rattle.ynl_sights.specs.declared.rows.QueueSight.{QueueSight as Queue};
 ghost use Rattle.ynl_sights.specs.declared.rows.Wanted.{Wanted as Want};

@@ -44,12 +44,12 @@ pub(crate) struct Ways {
 impl Ways {
     ghost use Rattle.ynl_sights.specs.Rows.{way_at, AreWays};
 
-    /// No ways, with room for those to so many leaves.
+    /// No ways, with room for those to so many leaves, of two queues each.
     pub fn with_capacity(alloc: Global, leaves: usize) -> Result<Ways, AllocError>
         ensures { IfOk result (λ ways. ways.spans.items ≡ []) }
     {
         Ok(Ways {
-            queues: Vec::with_capacity(alloc, leaves)?,
+            queues: Vec::with_capacity(alloc, leaves.saturating_mul(2))?,
             spans: Vec::with_capacity(alloc, leaves)?,
         })
     }
