@@ -1,6 +1,6 @@
 //! What is wanted of a leaf, as it is copied.
 
-ghost use Rattle.std.specs.Prelude.{◌≡◌, [], ◌∷◌, ◌++◌, true, map, nat_eq, IfSome, OnOk, Some};
+ghost use Rattle.std.specs.Prelude.{◌≡◌, ◌≤◌, [], ◌∷◌, ◌++◌, true, length, map, nat_eq, IfSome, OnOk, Some};
 ghost use Rattle.std.specs.Bool.{OnTrue};
 ghost use Rattle.std.specs.Map.{lookup};
 ghost use Rattle.ynl_slots.specs.Slots.{IsLive};
@@ -174,9 +174,11 @@ pub(crate) fn list_apps(
     cluster.lane(0, leaf).list_apps(apps)
 }
 
-/// How many applications there are in the leaves where something of a kind waits on a partition. Most want one thing.
+/// How many applications there are in the leaves where something of a kind waits on a partition, or fewer: no more than are
+/// live. Most want one thing.
 pub(crate) fn count_apps(cluster: &Cluster, p: u8, kind: Kind) -> usize
     requires { HasPartition cluster.now.rows p }
+    ensures { result ≤ length cluster.now.rows.apps }
 {
     let queues = cluster.inventory().layout().len();
     let mut count: usize = 0;
