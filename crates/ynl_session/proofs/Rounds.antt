@@ -243,7 +243,7 @@ AddsRounds-joined free xs ys zs j k m a b c times some first next =
 pub AddsRounds-more : (free : Type 0) (nodes : List Name) (k : ℕ) (a b c : List (List Receipt)) → AddsRounds free nodes k a b → AddsRounds free nodes 1 b c → AddsRounds free nodes (k + 1) a c
 AddsRounds-more free nodes k a b c first next = AddsRounds-joined free nodes nodes nodes k 1 (k + 1) a b c (λ n. omega arith) (omega arith) first next
 
--- ---- stretches
+-- ---- batches
 
 -- a round over the nodes that are not left
 pub record AddsSoFar (free : Type 0) (nodes left : List Name) (old now : List (List Receipt)) : Type 0 where
@@ -266,13 +266,13 @@ AddsSoFar-none free nodes old = record {
   };
 }
 
-pub AddsSoFar-more : (free : Type 0) (nodes left stretch others : List Name) (old now next : List (List Receipt)) → stretch ++ others ≡ left → AddsRounds free stretch 1 now next → AddsSoFar free nodes left old now → AddsSoFar free nodes others old next
-AddsSoFar-more free nodes left stretch others old now next cut adds so = record {
-  done = so.done ++ stretch;
-  all = append_assoc so.done stretch others ∙ ap (λ ns. so.done ++ ns) cut ∙ so.all;
+pub AddsSoFar-more : (free : Type 0) (nodes left batch others : List Name) (old now next : List (List Receipt)) → batch ++ others ≡ left → AddsRounds free batch 1 now next → AddsSoFar free nodes left old now → AddsSoFar free nodes others old next
+AddsSoFar-more free nodes left batch others old now next cut adds so = record {
+  done = so.done ++ batch;
+  all = append_assoc so.done batch others ∙ ap (λ ns. so.done ++ ns) cut ∙ so.all;
   adds =
-      AddsRounds-joined free so.done stretch (so.done ++ stretch) 1 1 1 old now next
-      (λ n. (let t : times_in n (so.done ++ stretch) ≡ times_in n so.done + times_in n stretch = sum_by-append (λ (x : Name). cond (same_name x n) 1 0) so.done stretch in omega (arith, t)))
+      AddsRounds-joined free so.done batch (so.done ++ batch) 1 1 1 old now next
+      (λ n. (let t : times_in n (so.done ++ batch) ≡ times_in n so.done + times_in n batch = sum_by-append (λ (x : Name). cond (same_name x n) 1 0) so.done batch in omega (arith, t)))
       (omega arith) so.adds adds;
 }
 

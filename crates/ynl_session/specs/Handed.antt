@@ -1,6 +1,7 @@
 -- What rounds of workers hand in.
-use Rattle.std.specs.Prelude.{◌≡◌, ℕ, ◌*◌, ◌≤◌, Bool, true, false, List, [], ◌++◌, All, count_by, Option, Some, option_and_then, IsTrue}
+use Rattle.std.specs.Prelude.{◌≡◌, ℕ, ◌*◌, ◌≤◌, ◌<◌, Bool, true, false, ◌||◌, if◌then◌else◌, List, [], ◌++◌, All, count_by, length, slice_index_or, Option, Some, option_and_then, IsTrue, Vec}
 use Rattle.std.specs.List.{Any}
+use Rattle.std.specs.declared.alloc.Global.{Global}
 use Rattle.ynl_resource.specs.declared.names.Name.{Name}
 use Rattle.ynl_resource.specs.Names.{same_name}
 use Rattle.ynl_model.specs.declared.events.Event.{Event}
@@ -10,7 +11,8 @@ use Rattle.ynl_model.specs.declared.entries.Entry.{Entry}
 use Rattle.ynl_journal.specs.Same.{same_proposal}
 use Rattle.ynl_live.specs.declared.receipts.Receipt.{Receipt}
 use Rattle.ynl_live.specs.Receipts.{all_receipts, entry_of}
-use Rattle.ynl_workers.specs.declared.working.End.TheVariants.{Behind}
+use Rattle.ynl_workers.specs.declared.working.End.{End}
+use Rattle.ynl_workers.specs.declared.working.End.TheVariants.{Behind, Halted}
 use Rattle.ynl_workers.specs.declared.working.WorkerEnd.{WorkerEnd}
 use Rattle.ynl_workers.specs.Turns.{proposal_in}
 use Rattle.ynl_session.specs.Dealt.{times_in}
@@ -51,6 +53,19 @@ OneWasBehind workers = Any WasBehind workers
 -- none of the workers was halted
 abbrev pub AreNotHalted : List Bool → Type 0
 AreNotHalted halted = All (λ one. one ≡ false) halted
+
+-- a worker ended as halted
+abbrev pub is_halted : End → Bool
+is_halted Halted = true
+is_halted _ = false
+
+-- the nodes of workers, without those of the halted ones
+abbrev pub LeavesOut : List Bool → List (Vec Name Global) → List (Vec Name Global) → Type 0
+LeavesOut halted old new = (k : ℕ) (list : Vec Name Global) (is : Bool) → k < length old → (slice_index_or new k list).items ≡ (if slice_index_or halted k is then [] else (slice_index_or old k list).items)
+
+-- halted are those who were before, and those who ended so
+abbrev pub NotesHalted : List WorkerEnd → List Bool → List Bool → Type 0
+NotesHalted ends old new = (k : ℕ) (worker : WorkerEnd) (is : Bool) → k < length old → slice_index_or new k is ≡ (slice_index_or old k is || is_halted (slice_index_or ends k worker).end)
 
 -- The lists with those of so many rounds more: all calls are workers', and no proposal is committed more often than it was answered. Where no
 -- worker is halted, each node was asked about once a round for each time that it stands in the list, and each proposal committed as often as answered.

@@ -3,7 +3,7 @@
 ghost use Rattle.std.specs.Prelude.{◌≡◌, ◌≢◌, ◌<◌, ◌⊎◌, [], ◌∷◌, ◌++◌, length, map, All, OnOk, IfOk, IfErr, vec_len};
 ghost use Rattle.ynl_workers.specs.declared.working.End.TheVariants.{Whole, Halted};
 ghost use Rattle.ynl_session.specs.Faults.{ended};
-ghost use Rattle.ynl_session.specs.Handed.{AddsRounds, AreNotHalted, OneWasBehind};
+ghost use Rattle.ynl_session.specs.Handed.{AddsRounds, AreNotHalted, LeavesOut, NotesHalted, OneWasBehind};
 
 use crate::dealing::deal;
 use crate::sessions::SessionFault;
@@ -14,9 +14,9 @@ use ynl_live::{Live, Receipts, Seat};
 use ynl_resource::Name;
 use ynl_workers::{End, Gate, Go, Sight, WorkerEnd, run_round};
 
-/// How many nodes each worker goes over before its receipts are taken in. As it makes them, each takes 1.3 KB; taken in, some 100
-/// bytes.
-const STRETCH: usize = 256;
+/// How many nodes each worker goes over in a batch. As a worker makes them, its receipts take 1.3 KB each; taken in when the batch
+/// has ended, some 100 bytes.
+const BATCH: usize = 256;
 
 /// Workers on a scheduler: so many, each on a seat that is split off this one.
 #[derive(Clone, Copy)]
@@ -26,7 +26,7 @@ pub(crate) struct Crew<'a> {
     pub(crate) workers: usize,
 }
 
-/// The gate in a later stretch of a round: the turns before it are counted.
+/// The gate in a later batch of a round: the turns before it are counted.
 #[derive(Clone, Copy)]
 struct Onward<'a, G> {
     gate: &'a G,
@@ -74,6 +74,7 @@ fn split_seats(alloc: Global, seat: &Seat, count: usize) -> Result<Vec<Seat>, Al
 fn leave_out(lists: &mut Vec<Vec<Name>>, halted: &[bool])
     requires { length halted.now ≡ vec_len lists.old }
     ensures count { vec_len lists.new ≡ vec_len lists.old }
+    ensures left { LeavesOut halted.now lists.old.items lists.new.items }
     ensures none { AreNotHalted halted.now → lists.new.items ≡ lists.old.items }
 {
     for k in 0..lists.len() {
@@ -87,6 +88,7 @@ fn leave_out(lists: &mut Vec<Vec<Name>>, halted: &[bool])
 fn note_halted(ends: &[WorkerEnd], halted: &mut Vec<bool>)
     requires { length ends.now ≡ vec_len halted.old }
     ensures count { vec_len halted.new ≡ vec_len halted.old }
+    ensures noted { NotesHalted ends.now halted.old.items halted.new.items }
     ensures none { All (λ worker. worker.end ≢ Halted) ends.now → halted.new.items ≡ halted.old.items }
 {
     for k in 0..ends.len() {
@@ -129,7 +131,7 @@ impl Handed {
         Ok(())
     }
 
-    /// Takes in what the workers of a stretch hand back, if each went over its nodes or was halted.
+    /// Takes in what the workers of a batch hand back, if each went over its nodes or was halted.
     fn take(&mut self, alloc: Global, ends: Vec<WorkerEnd>) -> Result<(), SessionFault>
         ensures ended { OnOk result (All (λ worker. (worker.end ≡ Whole) ⊎ (worker.end ≡ Halted)) ends.items) }
         ensures lists { OnOk result (self.new.lists.items ≡ self.old.lists.items ++ map (λ worker. worker.receipts.items) ends.items) }
@@ -143,7 +145,7 @@ impl Handed {
     }
 
     /// Lets the crew go over these nodes, which are dealt out to it in turn.
-    fn run_stretch<T: Threads + Wait + Sync, G: Gate + Sync>(
+    fn run_batch<T: Threads + Wait + Sync, G: Gate + Sync>(
         &mut self,
         rt: &T,
         alloc: Global,
@@ -167,7 +169,7 @@ impl Handed {
         self.take(alloc, ends)
     }
 
-    /// Runs a round: the crew goes over the nodes stretch by stretch.
+    /// Runs a round: the crew goes over the nodes batch by batch.
     fn run_round<T: Threads + Wait + Sync, G: Gate + Sync>(
         &mut self,
         rt: &T,
@@ -180,15 +182,11 @@ impl Handed {
         ensures { OnOk result (AddsRounds (G.is_free gate.now) nodes.now 1 self.old.lists.items self.new.lists.items) }
     {
         let mut halted = vec![in alloc; false; crew.workers]?;
-        let most = crew.workers.saturating_mul(STRETCH);
-        let mut left = nodes;
         let mut before: u64 = 0;
-        while !left.is_empty() {
-            let (stretch, others) = left.split_at(left.len().min(most));
+        for batch in nodes.chunks(crew.workers.saturating_mul(BATCH)) {
             let onward = Onward { gate, before };
-            self.run_stretch(rt, alloc, crew, stretch, &onward, &mut halted)?;
-            left = others;
-            before = before.saturating_add(STRETCH as u64);
+            self.run_batch(rt, alloc, crew, batch, &onward, &mut halted)?;
+            before = before.saturating_add(BATCH as u64);
         }
         Ok(())
     }

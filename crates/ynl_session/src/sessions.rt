@@ -103,7 +103,7 @@ fn nodes_in_order(alloc: Global, start: &Start, events: &Events) -> Result<Vec<N
 
 /// Calls the events on a cluster like the one of this start, runs so many rounds of workers over the nodes that
 /// these leave, and closes the journal. In each round the nodes, by name in byte order, are dealt out to the
-/// workers in turn, in stretches: the next one begins when all workers have ended with theirs.
+/// workers in turn, in batches: the next one begins when all workers have ended with theirs.
 ///
 /// `Unclosed` comes where the journal is not closed for another cause than want of memory, where an event of
 /// the script got another place than its number, or where a call was told that its seat is of another

@@ -6,7 +6,7 @@ use Rattle.ynl_workers.specs.declared.working.End.TheVariants.{Halted}
 use Rattle.ynl_session.specs.Dealt.{AreDealt}
 use Rattle.ynl_session.specs.Handed.{AreNotHalted}
 use Rattle.ynl_session.proofs.Rounds.{AddsRounds-if, OnOk-not_halted}
-use Rattle.ynl_session.proofs.handing.Handed.run_stretch.Goals as goal
+use Rattle.ynl_session.proofs.handing.Handed.run_batch.Goals as goal
 
 -- where no worker was halted before, each has the nodes that it was dealt
 pub returns-clause-adds : goal.returns-clause-adds
