@@ -84,27 +84,7 @@ impl ConfigFault {
     fn rank(self) -> u8
         ensures { result ≡ rank self }
     {
-        match self {
-            ConfigFault::Size => 0,
-            ConfigFault::Syntax => 1,
-            ConfigFault::UnknownKey => 2,
-            ConfigFault::MissingKey => 3,
-            ConfigFault::WrongKind => 4,
-            ConfigFault::Version => 5,
-            ConfigFault::Range => 6,
-            ConfigFault::BadLabel => 7,
-            ConfigFault::TooManyLabels => 8,
-            ConfigFault::DuplicateLabel => 9,
-            ConfigFault::TooDeep => 10,
-            ConfigFault::TooMany => 11,
-            ConfigFault::BadPath => 12,
-            ConfigFault::DuplicateQueue => 13,
-            ConfigFault::NoParent => 14,
-            ConfigFault::NoSuchLabel => 15,
-            ConfigFault::NotSubset => 16,
-            ConfigFault::MaximumBelowCapacity => 17,
-            ConfigFault::SumNot100 => 18,
-        }
+        self as u8
     }
 
     /// Whether it is the other.
