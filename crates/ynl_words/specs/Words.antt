@@ -1,11 +1,13 @@
 -- The command line.
-use Rattle.std.specs.Prelude.{◌≡◌, ℕ, Bool, true, not, ◌&&◌, ◌||◌, List, [], ◌∷◌, length, nat_lt, nat_le, Option, Some, None, is_some, option_and_then, option_map, codes, if◌then◌else◌}
+use Rattle.std.specs.Prelude.{◌≡◌, ℕ, Bool, true, false, not, ◌&&◌, ◌||◌, List, [], ◌∷◌, length, nat_lt, nat_le, Option, Some, None, is_some, option_and_then, option_map, codes, if◌then◌else◌}
 use Rattle.std.specs.Option.{option_map_or, option_zip}
 use Rattle.std.specs.Result.{result_ok}
 use Rattle.std.specs.Str.{bytes_eq, all_ascii_digits}
 use Rattle.std.specs.Str.Parse.{digits_value, without_leading_plus}
 use Rattle.clap.specs.Walk.{Rule, Row, Text, first_of}
-use Rattle.clap.specs.Simple.{App, new_app, new_rule, on_top, subcommand_of, with_rule, with_subcommand}
+use Rattle.clap.specs.Simple.{App, app_of, new_app, new_rule, on_top, subcommand_of, with_rule, with_subcommand}
+use Rattle.clap.specs.declared.builder.command.Command.{Command}
+use Rattle.clap.specs.declared.builder.command.Command.TheViews.{out-Command}
 use Rattle.clap.specs.declared.builder.action.ArgAction.TheVariants.{SetTrue}
 use Rattle.clap.specs.declared.builder.value_parser.ValueParser.TheVariants.{Unsigned}
 use Rattle.ynl_resource.specs.declared.names.Name.{Name}
@@ -17,6 +19,11 @@ use Rattle.ynl_check.specs.declared.checking.Form.{Form}
 use Rattle.ynl_check.specs.declared.checking.Form.TheVariants.{Lines, Plain}
 use Rattle.ynl_words.specs.declared.words.Kind.TheVariants.{Sequential, Check, Live}
 use Rattle.ynl_words.specs.declared.words.SequentialKind.TheVariants.{Run, Tenant, Audit, Evidence, AuditEvidence, Explain, Save}
+
+-- what a command takes, none of it in all subcommands
+pub record IsApp (a : App) (c : Command) : Type 0 where
+  pub app : app_of c ≡ a
+  pub local : (out-Command c).has_globals ≡ false
 
 -- an option of this name that takes a value
 abbrev pub valued : Text → Rule
@@ -110,29 +117,10 @@ live_command = with_options_and_files (new_app (codes "live")) workers_rule roun
 abbrev pub bare_command : App
 bare_command = on_top (λ s. record s { subcommand_required = true }) (new_app (codes "ynl"))
 
--- the command `ynl` without `evidence`, `explain`, `save`, `check` and `live`
-abbrev pub command_of_journals : App
-command_of_journals = with_subcommand (with_subcommand (with_subcommand bare_command run_command.top) tenant_command.top) audit_command.top
-
--- the same with `evidence`
-abbrev pub command_of_evidence : App
-command_of_evidence = with_subcommand command_of_journals evidence_command.top
-
--- the same with `explain`
-abbrev pub command_of_explanations : App
-command_of_explanations = with_subcommand command_of_evidence explain_command.top
-
--- the same with `save`
-abbrev pub command_of_states : App
-command_of_states = with_subcommand command_of_explanations save_command.top
-
--- the same with `check`
-abbrev pub command_of_checks : App
-command_of_checks = with_subcommand command_of_states check_command.top
-
 -- the command `ynl`
 abbrev pub command : App
-command = with_subcommand command_of_checks live_command.top
+command = with_subcommand (with_subcommand (with_subcommand (with_subcommand (with_subcommand (with_subcommand (with_subcommand (with_subcommand bare_command
+    run_command.top) tenant_command.top) audit_command.top) evidence_command.top) explain_command.top) save_command.top) check_command.top) live_command.top
 
 -- the file that the options of a subcommand name for the configuration, where they name one
 abbrev pub file_met : Text × List Row → Option Text

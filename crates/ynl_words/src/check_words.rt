@@ -1,12 +1,11 @@
 //! The words of the subcommand `check`.
 
-ghost use Rattle.std.specs.Prelude.{◌≡◌, IfOk, codes, false};
-ghost use Rattle.clap.specs.Simple.{app_of, new_app, with_rule};
+ghost use Rattle.std.specs.Prelude.{◌≡◌, IfOk};
 ghost use Rattle.clap.specs.Words.{found_of, rows_of};
-ghost use Rattle.clap.specs.declared.builder.command.Command.TheViews.{out-Command as fields_of};
+ghost use Rattle.ynl_words.specs.Words.{IsApp};
 ghost use Rattle.ynl_words.specs.Words as spec;
 
-use crate::options::{bare, config_option, form_in, plain_option, value_in};
+use crate::options::{bare, config_option, form_in, plain_option, value_in, with_option};
 use crate::words::Kind;
 use clap::{ArgMatches, Command};
 use std::alloc::{AllocError, Global};
@@ -39,20 +38,13 @@ Example:
 
 const PLAIN_HELP: &str = "Draw the tree in columns, and tell a fault in a sentence";
 
-/// The subcommand with the first of its options.
-fn check_in_form<'a>(alloc: Global) -> Result<Command<'a>, AllocError>
-    ensures app { IfOk result (λ c. app_of c ≡ with_rule (new_app (codes "check")) spec.plain_rule) }
-    ensures local { IfOk result (λ c. (fields_of c).has_globals ≡ false) }
-{
-    bare(alloc, "check", CHECK_ABOUT, CHECK_AFTER).arg(plain_option(alloc, PLAIN_HELP))
-}
-
 /// The subcommand `check`.
 pub(crate) fn check_command<'a>(alloc: Global) -> Result<Command<'a>, AllocError>
-    ensures app { IfOk result (λ c. app_of c ≡ spec.check_command) }
-    ensures local { IfOk result (λ c. (fields_of c).has_globals ≡ false) }
+    ensures { IfOk result (IsApp spec.check_command) }
 {
-    check_in_form(alloc)?.arg(config_option(alloc))
+    let command = bare(alloc, "check", CHECK_ABOUT, CHECK_AFTER);
+    let command = with_option(command, plain_option(alloc, PLAIN_HELP));
+    with_option(command, config_option(alloc))
 }
 
 /// What `check` asks for with these options.

@@ -1,14 +1,14 @@
 //! The words of the subcommand `explain`.
 
-ghost use Rattle.std.specs.Prelude.{◌≡◌, IfOk, codes, false};
-ghost use Rattle.clap.specs.Simple.{app_of, new_app, with_rule};
+ghost use Rattle.std.specs.Prelude.{◌≡◌, IfOk, false};
 ghost use Rattle.clap.specs.Walk.{rule_of};
 ghost use Rattle.clap.specs.Words.{found_of, rows_of};
-ghost use Rattle.clap.specs.declared.builder.command.Command.TheViews.{out-Command as fields_of};
+ghost use Rattle.ynl_words.specs.Words.{IsApp};
 ghost use Rattle.ynl_words.specs.Words as spec;
 
 use crate::options::{
-    bare, form_in, name_in, plain_option, tenant_option, value_in, valued, with_options_and_files,
+    bare, form_in, name_in, plain_option, tenant_option, value_in, valued, with_option,
+    with_options_and_files,
 };
 use crate::words::{Kind, Question, SequentialKind};
 use clap::{Arg, ArgMatches, Command};
@@ -60,20 +60,14 @@ fn app_option<'a>(alloc: Global) -> Arg<'a>
     valued(alloc, "app", "NAME", APP_HELP).required(true)
 }
 
-/// The subcommand with the first of its options.
-fn explain_named<'a>(alloc: Global) -> Result<Command<'a>, AllocError>
-    ensures app { IfOk result (λ c. app_of c ≡ with_rule (new_app (codes "explain")) spec.tenant_rule) }
-    ensures local { IfOk result (λ c. (fields_of c).has_globals ≡ false) }
-{
-    bare(alloc, "explain", EXPLAIN_ABOUT, EXPLAIN_AFTER).arg(tenant_option(alloc))
-}
-
 /// The subcommand `explain`.
 pub(crate) fn explain_command<'a>(alloc: Global) -> Result<Command<'a>, AllocError>
-    ensures app { IfOk result (λ c. app_of c ≡ spec.explain_command) }
-    ensures local { IfOk result (λ c. (fields_of c).has_globals ≡ false) }
+    ensures { IfOk result (IsApp spec.explain_command) }
 {
-    let named = explain_named(alloc)?;
+    let named = with_option(
+        bare(alloc, "explain", EXPLAIN_ABOUT, EXPLAIN_AFTER),
+        tenant_option(alloc),
+    );
     with_options_and_files(
         alloc,
         named,

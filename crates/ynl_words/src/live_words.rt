@@ -2,10 +2,9 @@
 
 ghost use Rattle.std.specs.Prelude.{◌≡◌, ◌≤◌, IfOk, option_map, false};
 ghost use Rattle.std.specs.Option.{option_and_then};
-ghost use Rattle.clap.specs.Simple.{app_of};
 ghost use Rattle.clap.specs.Walk.{rule_of};
 ghost use Rattle.clap.specs.Words.{found_of, rows_of};
-ghost use Rattle.clap.specs.declared.builder.command.Command.TheViews.{out-Command as fields_of};
+ghost use Rattle.ynl_words.specs.Words.{IsApp};
 ghost use Rattle.ynl_words.specs.Words as spec;
 
 use crate::options::{bare, value_in, valued, with_options_and_files};
@@ -111,8 +110,7 @@ fn rounds_option<'a>(alloc: Global) -> Arg<'a>
 
 /// The subcommand `live`.
 pub(crate) fn live_command<'a>(alloc: Global) -> Result<Command<'a>, AllocError>
-    ensures app { IfOk result (λ c. app_of c ≡ spec.live_command) }
-    ensures local { IfOk result (λ c. (fields_of c).has_globals ≡ false) }
+    ensures { IfOk result (IsApp spec.live_command) }
 {
     with_options_and_files(
         alloc,

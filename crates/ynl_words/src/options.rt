@@ -2,10 +2,10 @@
 
 ghost use Rattle.std.specs.Prelude.{◌≡◌, IfOk, option_map, false};
 ghost use Rattle.std.specs.Option.{option_and_then, option_map_or};
-ghost use Rattle.clap.specs.Simple.{app_of, new_app, with_rule};
-ghost use Rattle.clap.specs.Walk.{first_of, rule_of};
+ghost use Rattle.clap.specs.Simple.{App, new_app, with_rule};
+ghost use Rattle.clap.specs.Walk.{Rule, first_of, rule_of};
 ghost use Rattle.clap.specs.Words.{found_of, rows_of};
-ghost use Rattle.clap.specs.declared.builder.command.Command.TheViews.{out-Command as fields_of};
+ghost use Rattle.ynl_words.specs.Words.{IsApp};
 ghost use Rattle.ynl_words.specs.Words as spec;
 
 use clap::{Arg, ArgAction, ArgMatches, Command};
@@ -22,20 +22,20 @@ const TENANT_HELP: &str = "The tenant, by the name of its top-level queue";
 
 const LABEL_HELP: &str = "The label of its partition";
 
-/// A subcommand without options. A proof of many questions on a command or an option takes long, so those that all are
-/// asked are asked in one place.
+/// A subcommand without options.
 pub(crate) fn bare<'a>(
     alloc: Global,
     name: &'a str,
     about: &'a str,
     after_help: &'a str,
-) -> Command<'a>
-    ensures app { app_of result ≡ new_app name.now }
-    ensures local { (fields_of result).has_globals ≡ false }
+) -> Result<Command<'a>, AllocError>
+    ensures { IfOk result (IsApp (new_app name.now)) }
 {
-    Command::new(alloc, name)
-        .about(about)
-        .after_help(after_help)
+    Ok(
+        Command::new(alloc, name)
+            .about(about)
+            .after_help(after_help),
+    )
 }
 
 /// An option that takes a value.
@@ -92,60 +92,55 @@ pub(crate) fn plain_option<'a>(alloc: Global, help: &'a str) -> Arg<'a>
         .help(help)
 }
 
-/// The subcommand with two options more.
-fn with_two<'a>(
-    command: Command<'a>,
-    first: Arg<'a>,
-    second: Arg<'a>,
+/// The subcommand with an option more. Each is handed on as a result, so that one is let go here alone where memory is
+/// refused.
+pub(crate) fn with_option<'a>(
+    command: Result<Command<'a>, AllocError>,
+    option: Arg<'a>,
 ) -> Result<Command<'a>, AllocError>
-    requires command { (fields_of command).has_globals ≡ false }
-    requires first { first.global ≡ false }
-    requires second { second.global ≡ false }
-    ensures app { IfOk result (λ c. app_of c ≡ with_rule
-        (with_rule (app_of command.entry) (rule_of first.entry)) (rule_of second.entry)) }
-    ensures local { IfOk result (λ c. (fields_of c).has_globals ≡ false) }
+    requires { option.global ≡ false }
+    ensures { (a : App) (r : Rule) → rule_of option.entry ≡ r → IfOk command.entry (IsApp a) → IfOk result (IsApp (with_rule a r)) }
 {
-    command.arg(first)?.arg(second)
+    command?.arg(option)
 }
 
 /// The subcommand with the options that name a tenant's partition, and behind them the one that names the configuration.
 pub(crate) fn with_partition<'a>(
     alloc: Global,
-    command: Command<'a>,
+    command: Result<Command<'a>, AllocError>,
 ) -> Result<Command<'a>, AllocError>
-    requires command { (fields_of command).has_globals ≡ false }
-    ensures app { IfOk result (λ c. app_of c ≡ spec.with_partition (app_of command.entry)) }
-    ensures local { IfOk result (λ c. (fields_of c).has_globals ≡ false) }
+    ensures { (a : App) → IfOk command.entry (IsApp a) → IfOk result (IsApp (spec.with_partition a)) }
 {
-    let named = with_two(command, tenant_option(alloc), label_option(alloc))?;
-    named.arg(config_option(alloc))
+    let command = with_option(command, tenant_option(alloc));
+    let command = with_option(command, label_option(alloc));
+    with_option(command, config_option(alloc))
 }
 
 /// The subcommand with the options that name the files of the configuration and of the state to begin from.
-pub(crate) fn with_files<'a>(alloc: Global, command: Command<'a>) -> Result<Command<'a>, AllocError>
-    requires command { (fields_of command).has_globals ≡ false }
-    ensures app { IfOk result (λ c. app_of c ≡ spec.with_files (app_of command.entry)) }
-    ensures local { IfOk result (λ c. (fields_of c).has_globals ≡ false) }
+pub(crate) fn with_files<'a>(
+    alloc: Global,
+    command: Result<Command<'a>, AllocError>,
+) -> Result<Command<'a>, AllocError>
+    ensures { (a : App) → IfOk command.entry (IsApp a) → IfOk result (IsApp (spec.with_files a)) }
 {
-    with_two(command, config_option(alloc), from_option(alloc))
+    let command = with_option(command, config_option(alloc));
+    with_option(command, from_option(alloc))
 }
 
 /// The subcommand with two options more, and behind them those that name the files.
 pub(crate) fn with_options_and_files<'a>(
     alloc: Global,
-    command: Command<'a>,
+    command: Result<Command<'a>, AllocError>,
     first: Arg<'a>,
     second: Arg<'a>,
 ) -> Result<Command<'a>, AllocError>
-    requires command { (fields_of command).has_globals ≡ false }
     requires first { first.global ≡ false }
     requires second { second.global ≡ false }
-    ensures app { IfOk result (λ c. app_of c
-        ≡ spec.with_options_and_files (app_of command.entry) (rule_of first.entry) (rule_of second.entry)) }
-    ensures local { IfOk result (λ c. (fields_of c).has_globals ≡ false) }
+    ensures { (a : App) (r s : Rule) → rule_of first.entry ≡ r → rule_of second.entry ≡ s → IfOk command.entry (IsApp a)
+        → IfOk result (IsApp (spec.with_options_and_files a r s)) }
 {
-    let longer = with_two(command, first, second)?;
-    with_files(alloc, longer)
+    let command = with_option(with_option(command, first), second);
+    with_files(alloc, command)
 }
 
 /// The text that an option is given.

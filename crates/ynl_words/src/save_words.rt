@@ -1,8 +1,7 @@
 //! The words of the subcommand `save`.
 
-ghost use Rattle.std.specs.Prelude.{◌≡◌, IfOk, false};
-ghost use Rattle.clap.specs.Simple.{app_of};
-ghost use Rattle.clap.specs.declared.builder.command.Command.TheViews.{out-Command as fields_of};
+ghost use Rattle.std.specs.Prelude.{IfOk};
+ghost use Rattle.ynl_words.specs.Words.{IsApp};
 ghost use Rattle.ynl_words.specs.Words as spec;
 
 use crate::options::{bare, with_files};
@@ -45,8 +44,7 @@ Examples:
 
 /// The subcommand `save`.
 pub(crate) fn save_command<'a>(alloc: Global) -> Result<Command<'a>, AllocError>
-    ensures app { IfOk result (λ c. app_of c ≡ spec.save_command) }
-    ensures local { IfOk result (λ c. (fields_of c).has_globals ≡ false) }
+    ensures { IfOk result (IsApp spec.save_command) }
 {
     with_files(alloc, bare(alloc, "save", SAVE_ABOUT, SAVE_AFTER))
 }

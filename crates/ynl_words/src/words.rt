@@ -1,15 +1,15 @@
 //! The words of the command line.
 
-ghost use Rattle.std.specs.Prelude.{◌≡◌, ◌∷◌, [], IfOk, IfErr, IsErr, Some, None, is_some, option_map, drop, map, codes, true, false};
+ghost use Rattle.std.specs.Prelude.{◌≡◌, ◌∷◌, [], IfOk, IfErr, IsErr, Some, None, is_some, option_map, drop, map, codes, true};
 ghost use Rattle.std.specs.String.{string_bytes};
-ghost use Rattle.clap.specs.Simple.{app_of, with_subcommand};
+ghost use Rattle.clap.specs.Simple.{App, with_subcommand};
 ghost use Rattle.clap.specs.Faults.{fault_of};
 ghost use Rattle.clap.specs.Kinds.{IsAmong};
 ghost use Rattle.clap.specs.Takes.{takes};
 ghost use Rattle.clap.specs.Values.{kind_of};
 ghost use Rattle.clap.specs.declared.error.Error.{Error};
 ghost use Rattle.clap.specs.Words.{found_of, rows_of};
-ghost use Rattle.clap.specs.declared.builder.command.Command.TheViews.{out-Command as fields_of};
+ghost use Rattle.ynl_words.specs.Words.{IsApp};
 ghost use Rattle.ynl_words.specs.Words as spec;
 ghost use Rattle.ynl_words.specs.declared.words.WordsFault.TheVariants.{Words, BadName, Unpaired, FromWithTenant, NoMemory};
 
@@ -206,24 +206,21 @@ Example:
   ynl tenant --tenant eng --label gpu --config cluster.toml < events";
 
 fn run<'a>(alloc: Global) -> Result<Command<'a>, AllocError>
-    ensures app { IfOk result (λ c. app_of c ≡ spec.run_command) }
-    ensures local { IfOk result (λ c. (fields_of c).has_globals ≡ false) }
+    ensures { IfOk result (IsApp spec.run_command) }
 {
     with_files(alloc, bare(alloc, "run", RUN_ABOUT, RUN_AFTER))
 }
 
 /// The subcommand `tenant`.
 fn tenant<'a>(alloc: Global) -> Result<Command<'a>, AllocError>
-    ensures app { IfOk result (λ c. app_of c ≡ spec.tenant_command) }
-    ensures local { IfOk result (λ c. (fields_of c).has_globals ≡ false) }
+    ensures { IfOk result (IsApp spec.tenant_command) }
 {
     with_partition(alloc, bare(alloc, "tenant", TENANT_ABOUT, TENANT_AFTER))
 }
 
 /// The command without its subcommands.
 fn bare_command<'a>(alloc: Global) -> Result<Command<'a>, AllocError>
-    ensures app { IfOk result (λ c. app_of c ≡ spec.bare_command) }
-    ensures local { IfOk result (λ c. (fields_of c).has_globals ≡ false) }
+    ensures { IfOk result (IsApp spec.bare_command) }
 {
     let named = Command::new(alloc, "ynl").bin_name("ynl")?;
     Ok(
@@ -234,76 +231,29 @@ fn bare_command<'a>(alloc: Global) -> Result<Command<'a>, AllocError>
     )
 }
 
-/// The same with the first of them.
-fn command_of_run<'a>(alloc: Global) -> Result<Command<'a>, AllocError>
-    ensures app { IfOk result (λ c. app_of c ≡ with_subcommand spec.bare_command spec.run_command.top) }
-    ensures local { IfOk result (λ c. (fields_of c).has_globals ≡ false) }
+/// The command with a subcommand more.
+fn with<'a>(
+    command: Result<Command<'a>, AllocError>,
+    subcommand: Result<Command<'a>, AllocError>,
+) -> Result<Command<'a>, AllocError>
+    ensures { (a b : App) → IfOk command.entry (IsApp a) → IfOk subcommand.entry (IsApp b) → IfOk result (IsApp (with_subcommand a b.top)) }
 {
-    let run = run(alloc)?;
-    bare_command(alloc)?.subcommand(run)
-}
-
-/// The same with the first two.
-fn command_of_events<'a>(alloc: Global) -> Result<Command<'a>, AllocError>
-    ensures app { IfOk result (λ c. app_of c ≡ with_subcommand (with_subcommand spec.bare_command spec.run_command.top) spec.tenant_command.top) }
-    ensures local { IfOk result (λ c. (fields_of c).has_globals ≡ false) }
-{
-    let tenant = tenant(alloc)?;
-    command_of_run(alloc)?.subcommand(tenant)
-}
-
-/// The same with the first three.
-fn command_of_journals<'a>(alloc: Global) -> Result<Command<'a>, AllocError>
-    ensures app { IfOk result (λ c. app_of c ≡ spec.command_of_journals) }
-    ensures local { IfOk result (λ c. (fields_of c).has_globals ≡ false) }
-{
-    let audit = audit_command(alloc)?;
-    command_of_events(alloc)?.subcommand(audit)
-}
-
-/// The same with `evidence`.
-fn command_of_evidence<'a>(alloc: Global) -> Result<Command<'a>, AllocError>
-    ensures app { IfOk result (λ c. app_of c ≡ spec.command_of_evidence) }
-    ensures local { IfOk result (λ c. (fields_of c).has_globals ≡ false) }
-{
-    let evidence = evidence_command(alloc)?;
-    command_of_journals(alloc)?.subcommand(evidence)
-}
-
-/// The same with `explain`.
-fn command_of_explanations<'a>(alloc: Global) -> Result<Command<'a>, AllocError>
-    ensures app { IfOk result (λ c. app_of c ≡ spec.command_of_explanations) }
-    ensures local { IfOk result (λ c. (fields_of c).has_globals ≡ false) }
-{
-    let explain = explain_command(alloc)?;
-    command_of_evidence(alloc)?.subcommand(explain)
-}
-
-/// The same with `save`.
-fn command_of_states<'a>(alloc: Global) -> Result<Command<'a>, AllocError>
-    ensures app { IfOk result (λ c. app_of c ≡ spec.command_of_states) }
-    ensures local { IfOk result (λ c. (fields_of c).has_globals ≡ false) }
-{
-    let save = save_command(alloc)?;
-    command_of_explanations(alloc)?.subcommand(save)
-}
-
-/// The same with `check`.
-fn command_of_checks<'a>(alloc: Global) -> Result<Command<'a>, AllocError>
-    ensures app { IfOk result (λ c. app_of c ≡ spec.command_of_checks) }
-    ensures local { IfOk result (λ c. (fields_of c).has_globals ≡ false) }
-{
-    let check = check_command(alloc)?;
-    command_of_states(alloc)?.subcommand(check)
+    let subcommand = subcommand?;
+    command?.subcommand(subcommand)
 }
 
 /// The command `ynl`.
 fn command<'a>(alloc: Global) -> Result<Command<'a>, AllocError>
-    ensures app { IfOk result (λ c. app_of c ≡ spec.command) }
-    ensures local { IfOk result (λ c. (fields_of c).has_globals ≡ false) }
+    ensures { IfOk result (IsApp spec.command) }
 {
-    let live = live_command(alloc)?;
-    command_of_checks(alloc)?.subcommand(live)
+    let command = with(bare_command(alloc), run(alloc));
+    let command = with(command, tenant(alloc));
+    let command = with(command, audit_command(alloc));
+    let command = with(command, evidence_command(alloc));
+    let command = with(command, explain_command(alloc));
+    let command = with(command, save_command(alloc));
+    let command = with(command, check_command(alloc));
+    with(command, live_command(alloc))
 }
 
 /// What `tenant` asks for with these options, unless one of them is a bad name.
