@@ -222,13 +222,9 @@ fn tenant<'a>(alloc: Global) -> Result<Command<'a>, AllocError>
 fn bare_command<'a>(alloc: Global) -> Result<Command<'a>, AllocError>
     ensures { IfOk result (IsApp spec.bare_command) }
 {
-    let named = Command::new(alloc, "ynl").bin_name("ynl")?;
-    Ok(
-        named
-            .about(ABOUT)
-            .after_help(AFTER)
-            .subcommand_required(true),
-    )
+    bare(alloc, "ynl", ABOUT, AFTER)?
+        .subcommand_required(true)
+        .bin_name("ynl")
 }
 
 /// The command with a subcommand more.
