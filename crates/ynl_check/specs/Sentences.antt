@@ -8,11 +8,15 @@ use Rattle.ynl_config.specs.declared.places.RowKind.TheVariants.{Label, Queue}
 use Rattle.ynl_config.specs.Places.{Place, Shown}
 use Rattle.ynl_check.specs.Pieces.{or_dots, percent, plain, quoted}
 
+-- a row of this kind, with its number and its name
+abbrev pub named_row : List ℕ → Option ℕ → Option Shown → List ℕ
+named_row kind number name = concat (kind ∷ or_dots decimal number ∷ codes " (" ∷ or_dots quoted name ∷ codes "): " ∷ [])
+
 -- the row of a place, with its name
 abbrev pub row_by : Option RowKind → Place → List ℕ
 row_by None p = []
-row_by (Some Label) p = concat (codes "label row " ∷ or_dots decimal p.row ∷ codes " (" ∷ or_dots quoted p.label ∷ codes "): " ∷ [])
-row_by (Some Queue) p = concat (codes "queue row " ∷ or_dots decimal p.row ∷ codes " (" ∷ or_dots quoted p.queue ∷ codes "): " ∷ [])
+row_by (Some Label) p = named_row (codes "label row ") p.row p.label
+row_by (Some Queue) p = named_row (codes "queue row ") p.row p.queue
 
 unfoldable pub row_text : Place → List ℕ
 row_text p = row_by p.table p

@@ -8,31 +8,22 @@ use crate::pieces::{Piece, put_pieces, put_word};
 use std::alloc::AllocError;
 use ynl_config::{ConfigFault, Misplaced, Place, RowKind, ToldValue};
 
-fn put_label_row(text: Vec<u8>, place: &Place) -> Result<Vec<u8>, AllocError>
-    ensures { IfOk result (λ longer. longer.items ≡ text.items ++ spec.row_by (Some RowKind.Label) (place_of place.now)) }
+/// The text with a row of this kind more, with its number and its name.
+fn put_named_row<'a>(
+    text: Vec<u8>,
+    kind: &'a str,
+    number: Option<u64>,
+    name: &'a Option<ToldValue>,
+) -> Result<Vec<u8>, AllocError>
+    ensures { IfOk result (λ longer. longer.items ≡ text.items ++ spec.named_row kind.now number (option_map told name.now)) }
 {
     put_pieces(
         text,
         &[
-            Piece::Word("label row "),
-            Piece::Number(place.row),
+            Piece::Word(kind),
+            Piece::Number(number),
             Piece::Word(" ("),
-            Piece::Told(&place.label),
-            Piece::Word("): "),
-        ],
-    )
-}
-
-fn put_queue_row(text: Vec<u8>, place: &Place) -> Result<Vec<u8>, AllocError>
-    ensures { IfOk result (λ longer. longer.items ≡ text.items ++ spec.row_by (Some RowKind.Queue) (place_of place.now)) }
-{
-    put_pieces(
-        text,
-        &[
-            Piece::Word("queue row "),
-            Piece::Number(place.row),
-            Piece::Word(" ("),
-            Piece::Told(&place.queue),
+            Piece::Told(name),
             Piece::Word("): "),
         ],
     )
@@ -44,8 +35,8 @@ fn put_row(text: Vec<u8>, place: &Place) -> Result<Vec<u8>, AllocError>
     ensures { IfOk result (λ longer. longer.items ≡ text.items ++ spec.row_text (place_of place.now)) }
 {
     match place.table {
-        Some(RowKind::Label) => put_label_row(text, place),
-        Some(RowKind::Queue) => put_queue_row(text, place),
+        Some(RowKind::Label) => put_named_row(text, "label row ", place.row, &place.label),
+        Some(RowKind::Queue) => put_named_row(text, "queue row ", place.row, &place.queue),
         None => Ok(text),
     }
 }
