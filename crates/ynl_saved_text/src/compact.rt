@@ -2,22 +2,34 @@
 //! line with the text that is written for it. So contracts say that its clocks and counts are in range, and no more.
 
 ghost use Rattle.std.specs.Prelude.{IfSome};
-ghost use Rattle.ynl_fields.specs.Reading.{HasClock};
 ghost use Rattle.ynl_saved_text.specs.StateLines.{IsClocked};
 
 use ynl_fields::Cursor;
 use ynl_model::{AskRow, Node, Placed, What};
-use ynl_resource::{Id, MOST_CLOCK, MOST_COUNT, Name};
+use ynl_resource::{Label, MOST_CLOCK, MOST_COUNT, Name, Size};
 use ynl_saved::StateLine;
 
 /// Where the first byte of a key stands, behind a brace or a comma and a quote.
 const KEY: usize = 2;
 
+/// A label, and the memory that is told behind it.
+fn cut_labelled(line: &mut Cursor<'_>, front: &[u8]) -> Option<(Label, u64)> {
+    let label = line.label(front)?;
+    let memory = line.number(b",\"memory\":")?;
+    Some((label, memory))
+}
+
+/// The name of a user or a tenant, and the size whose memory was told before it.
+fn cut_owned(line: &mut Cursor<'_>, front: &[u8], memory: u64) -> Option<(Name, Size)> {
+    let owner = line.name(front)?;
+    let size = line.size(b",\"vcores\":", memory)?;
+    Some((owner, size))
+}
+
 fn cut_node(line: &mut Cursor<'_>, into: &mut StateLine) -> Option<()>
     ensures { IfSome result (λ _. IsClocked into.new) }
 {
-    let label = line.label(b"{\"label\":\"")?;
-    let memory = line.number(b",\"memory\":")?;
+    let (label, memory) = cut_labelled(line, b"{\"label\":\"")?;
     let name = line.name(b",\"node\":\"")?;
     let stamp = line.within(b",\"stamp\":", MOST_CLOCK)?;
     let size = line.size(b",\"state\":\"node\",\"vcores\":", memory)?;
@@ -34,11 +46,9 @@ fn cut_node(line: &mut Cursor<'_>, into: &mut StateLine) -> Option<()>
 fn cut_live(line: &mut Cursor<'_>, app: Name, into: &mut StateLine) -> Option<()>
     ensures { IfSome result (λ _. IsClocked into.new) }
 {
-    let label = line.label(b",\"label\":\"")?;
-    let memory = line.number(b",\"memory\":")?;
+    let (label, memory) = cut_labelled(line, b",\"label\":\"")?;
     let queue = line.path(b",\"queue\":\"")?;
-    let user = line.name(b",\"state\":\"live\",\"user\":\"")?;
-    let master = line.size(b",\"vcores\":", memory)?;
+    let (user, master) = cut_owned(line, b",\"state\":\"live\",\"user\":\"", memory)?;
     *into = StateLine::Live {
         queue,
         app,
@@ -54,11 +64,9 @@ fn cut_ask(line: &mut Cursor<'_>, app: Name, into: &mut StateLine) -> Option<()>
     ensures { IfSome result (λ _. IsClocked into.new) }
 {
     let count = line.small(b",\"count\":", MOST_COUNT)?;
-    let label = line.label(b",\"label\":\"")?;
-    let memory = line.number(b",\"memory\":")?;
+    let (label, memory) = cut_labelled(line, b",\"label\":\"")?;
     let priority = line.small(b",\"priority\":", u32::MAX)?;
-    let tenant = line.name(b",\"state\":\"ask\",\"tenant\":\"")?;
-    let size = line.size(b",\"vcores\":", memory)?;
+    let (tenant, size) = cut_owned(line, b",\"state\":\"ask\",\"tenant\":\"", memory)?;
     let ask = AskRow {
         label,
         priority,
@@ -78,67 +86,43 @@ fn cut_finished(line: &mut Cursor<'_>, app: Name, into: &mut StateLine) -> Optio
     Some(())
 }
 
-/// A container that was asked for under a label, from what stands behind its id.
-fn cut_asked(line: &mut Cursor<'_>, app: Name, id: Id, into: &mut StateLine) -> Option<()>
-    requires { HasClock id }
-    ensures { IfSome result (λ _. IsClocked into.new) }
-{
-    let label = line.label(b",\"label\":\"")?;
-    let memory = line.number(b",\"memory\":")?;
-    let node = line.name(b",\"node\":\"")?;
-    let priority = line.small(b",\"priority\":", u32::MAX)?;
-    let tenant = line.name(b",\"state\":\"container\",\"tenant\":\"")?;
-    let size = line.size(b",\"vcores\":", memory)?;
-    *into = StateLine::Container(Placed {
-        id,
-        node,
-        tenant,
-        app,
-        what: What::Ask(label, priority),
-        size,
-    });
-    Some(())
-}
-
-/// A container that is a master, from what stands behind its id.
-fn cut_master(line: &mut Cursor<'_>, app: Name, id: Id, into: &mut StateLine) -> Option<()>
-    requires { HasClock id }
-    ensures { IfSome result (λ _. IsClocked into.new) }
-{
-    let memory = line.number(b",\"memory\":")?;
-    let node = line.name(b",\"node\":\"")?;
-    let tenant = line.name(b",\"state\":\"container\",\"tenant\":\"")?;
-    let size = line.size(b",\"vcores\":", memory)?;
-    *into = StateLine::Container(Placed {
-        id,
-        node,
-        tenant,
-        app,
-        what: What::Master,
-        size,
-    });
-    Some(())
-}
-
-/// A container, from what stands behind its id. A master has no label.
-fn cut_by_id(line: &mut Cursor<'_>, app: Name, id: &Id, into: &mut StateLine) -> Option<()>
-    requires { HasClock id.now }
-    ensures { IfSome result (λ _. IsClocked into.new) }
-{
-    match line.ahead(KEY)? {
-        b'l' => cut_asked(line, app, *id, into),
-        _ => cut_master(line, app, *id, into),
+/// The label of what was asked for and the memory behind it, or the memory alone, of a master.
+fn cut_wanted(line: &mut Cursor<'_>) -> Option<(Option<Label>, u64)> {
+    if line.ahead(KEY)? == b'l' {
+        let (label, memory) = cut_labelled(line, b",\"label\":\"")?;
+        return Some((Some(label), memory));
     }
+    let memory = line.number(b",\"memory\":")?;
+    Some((None, memory))
+}
+
+/// What a container is for, from its label and its priority.
+fn cut_what(line: &mut Cursor<'_>, label: Option<Label>) -> Option<What> {
+    let Some(label) = label else {
+        return Some(What::Master);
+    };
+    let priority = line.small(b",\"priority\":", u32::MAX)?;
+    Some(What::Ask(label, priority))
 }
 
 /// A container, from what stands behind the name of its application.
 fn cut_container(line: &mut Cursor<'_>, app: Name, into: &mut StateLine) -> Option<()>
     ensures { IfSome result (λ _. IsClocked into.new) }
 {
-    match line.id(b",\"id\":\"") {
-        Some(id) => cut_by_id(line, app, &id, into),
-        None => None,
-    }
+    let id = line.id(b",\"id\":\"")?;
+    let (label, memory) = cut_wanted(line)?;
+    let node = line.name(b",\"node\":\"")?;
+    let what = cut_what(line, label)?;
+    let (tenant, size) = cut_owned(line, b",\"state\":\"container\",\"tenant\":\"", memory)?;
+    *into = StateLine::Container(Placed {
+        id,
+        node,
+        tenant,
+        app,
+        what,
+        size,
+    });
+    Some(())
 }
 
 /// What a line tells that begins with the name of an application. The next key tells the kinds apart.
