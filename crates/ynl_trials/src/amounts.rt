@@ -8,7 +8,9 @@ fn amounts_are_scaled(rt: HostRuntime) {
         memory: 10,
         vcores: 3,
     };
-    assert!(rt; whole.scale_floor(3333, 10000).memory == 3);
-    assert!(rt; whole.scale_ceil(3333, 10000).memory == 4);
-    assert!(rt; Refusal::BelowCapacity.number() == 28);
+    let (less, more) = (
+        whole.scale_floor(3333, 10000),
+        whole.scale_ceil(3333, 10000),
+    );
+    assert!(rt; less.memory == 3 && more.memory == 4 && Refusal::BelowCapacity.number() == 28);
 }

@@ -1,7 +1,9 @@
 //! Rounds of workers.
 
-use crate::values::name;
+use crate::events::Caller;
+use crate::values::{keep, name};
 use crate::watch::watched;
+use crate::workers::{joined, run};
 use std::alloc::Global;
 use std::process::Abort;
 use std::rt::Clock;
@@ -9,7 +11,7 @@ use std::sync::Wait;
 use std::thread::Threads;
 use ynl_live::{Live, Receipts, Seat};
 use ynl_resource::Name;
-use ynl_workers::{End, Gate, WorkerEnd, run_round};
+use ynl_workers::{End, Gate};
 
 /// As many nodes are gone over in a round, if there are so many.
 const IN_A_ROUND: usize = 128;
@@ -21,8 +23,7 @@ pub(crate) struct Crew {
     seat: Seat,
     workers: u64,
     nodes: Vec<Name>,
-    pub(crate) seats: Vec<Seat>,
-    pub(crate) lists: Vec<Receipts>,
+    pub(crate) callers: Vec<Caller>,
     /// The longest commit, in microseconds.
     pub(crate) longest: u64,
 }
@@ -32,7 +33,7 @@ fn names<R: Abort>(rt: &R, alloc: Global, count: u64) -> Vec<Name> {
     let mut names = Vec::new(alloc);
     for number in 0..count {
         let text = format!(in alloc; "n{number}").expect(rt, "memory");
-        names.push(name(rt, &text)).expect(rt, "memory");
+        keep(rt, &mut names, name(rt, &text));
     }
     names
 }
@@ -50,8 +51,7 @@ impl Crew {
             seat,
             workers,
             nodes: names(rt, alloc, count),
-            seats: Vec::new(alloc),
-            lists: Vec::new(alloc),
+            callers: Vec::new(alloc),
             longest: 0,
         }
     }
@@ -60,7 +60,7 @@ impl Crew {
     fn deal<R: Abort>(&self, rt: &R, round: u64) -> Vec<Vec<Name>> {
         let mut lists = Vec::new(self.alloc);
         for _ in 0..self.workers {
-            lists.push(Vec::new(self.alloc)).expect(rt, "memory");
+            keep(rt, &mut lists, Vec::new(self.alloc));
         }
         let count = lists.len();
         let first = (round as usize)
@@ -69,7 +69,7 @@ impl Crew {
             .unwrap_or(0);
         for (i, node) in self.nodes.iter().skip(first).take(IN_A_ROUND).enumerate() {
             if let Some(list) = lists.get_mut(i.checked_rem(count).unwrap_or(0)) {
-                list.push(*node).expect(rt, "memory");
+                keep(rt, list, *node);
             }
         }
         lists
@@ -79,25 +79,12 @@ impl Crew {
     fn split_seats<R: Abort>(&self, rt: &R) -> Vec<Seat> {
         let mut seats = Vec::new(self.alloc);
         for _ in 0..self.workers {
-            seats.push(self.seat.split()).expect(rt, "memory");
+            keep(rt, &mut seats, self.seat.split());
         }
         seats
     }
 
-    /// Keeps what a worker hands back.
-    fn keep<R: Abort>(&mut self, rt: &R, worker: WorkerEnd) {
-        let WorkerEnd {
-            seat,
-            receipts,
-            end,
-        } = worker;
-        assert!(rt; end == End::Whole);
-        self.seats.push(seat).expect(rt, "memory");
-        let list = Receipts::of(self.alloc, &receipts).expect(rt, "memory");
-        self.lists.push(list).expect(rt, "memory");
-    }
-
-    fn run_one_round<R: Threads + Wait + Abort + Sync, G: Gate + Sync>(
+    fn run_one_round<R: Threads + Wait + Print + Abort + Sync, G: Gate + Sync>(
         &mut self,
         rt: &R,
         live: &Live,
@@ -106,12 +93,15 @@ impl Crew {
     ) {
         let lists = self.deal(rt, round);
         let seats = self.split_seats(rt);
-        for worker in run_workers(rt, self.alloc, live, seats, &lists, gate) {
-            self.keep(rt, worker);
+        assert!(rt; lists.len() == seats.len());
+        for worker in run(rt, self.alloc, live, seats, &lists, gate) {
+            assert!(rt; worker.end == End::Whole);
+            let caller = joined(rt, Receipts::new(self.alloc), worker);
+            keep(rt, &mut self.callers, caller);
         }
     }
 
-    pub(crate) fn run_rounds<R: Threads + Wait + Clock + Abort + Sync>(
+    pub(crate) fn run_rounds<R: Threads + Wait + Clock + Print + Abort + Sync>(
         &mut self,
         rt: &R,
         live: &Live,
@@ -122,21 +112,5 @@ impl Crew {
             self.run_one_round(rt, live, &watch, round);
         }
         self.longest = watch.longest();
-    }
-}
-
-/// A round of workers. It has no contract, since that of `run_round` would stand in the proof of its caller.
-fn run_workers<R: Threads + Wait + Abort + Sync, G: Gate + Sync>(
-    rt: &R,
-    alloc: Global,
-    live: &Live,
-    seats: Vec<Seat>,
-    lists: &[Vec<Name>],
-    gate: &G,
-) -> Vec<WorkerEnd> {
-    assert!(rt; lists.len() == seats.len());
-    match run_round(rt, alloc, live, seats, lists, gate) {
-        Ok(ends) => ends,
-        Err(_) => panic!(rt; "out of memory"),
     }
 }

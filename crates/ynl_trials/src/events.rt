@@ -1,15 +1,13 @@
-//! Events on a configuration of two tenants, and calls that keep their receipts.
+//! A scheduler of two tenants, and its callers.
 
-ghost use Rattle.std.specs.Prelude.{◌≡◌, IfOk, vec_len};
-
-use crate::values::{label, name, path, size};
-use std::alloc::{AllocError, Global};
+use crate::values::{SCRIPT, event_of, keep, tell_refused};
+use std::alloc::Global;
 use std::process::Abort;
 use std::sync::Wait;
 use ynl_config::read_config;
 use ynl_core::NoMemory;
 use ynl_live::{Cause, Live, Receipt, Receipts, Seat, Unclosed, close};
-use ynl_model::{Event, Reply};
+use ynl_model::Event;
 use ynl_queues::Config;
 
 /// Two tenants: eng has gpu for itself alone, in two leaves, and mkt has ssd, which is lent.
@@ -52,87 +50,96 @@ pub(crate) fn worked<R: Abort>(rt: &R, alloc: Global) -> Result<Config, NoMemory
     Ok(read.expect(rt, "a configuration"))
 }
 
-pub(crate) fn submit<R: Abort>(rt: &R, app: &str, memory: u64) -> Event {
-    Event::Submit {
-        queue: path(rt, "root.eng.ml"),
-        app: name(rt, app),
-        user: name(rt, "ann"),
-        label: Some(label(rt, "gpu")),
-        master: size(rt, memory, 1),
-    }
-}
-
-pub(crate) fn ask<R: Abort>(rt: &R) -> Event {
-    Event::Ask {
-        tenant: name(rt, "eng"),
-        app: name(rt, "j1"),
-        label: label(rt, "gpu"),
-        priority: 1,
-        count: 2,
-        size: size(rt, 2000, 2),
-    }
-}
-
-pub(crate) fn poll<R: Abort>(rt: &R, app: &str) -> Event {
-    Event::Poll {
-        tenant: name(rt, "eng"),
-        app: name(rt, app),
-        label: label(rt, "gpu"),
-    }
-}
-
-pub(crate) fn opened<R: Abort>(rt: &R, alloc: Global) -> Result<(Live, Seat), NoMemory> {
+fn open<R: Abort>(rt: &R, alloc: Global) -> Result<(Live, Seat), NoMemory> {
     Live::open(alloc, worked(rt, alloc)?)
 }
 
-/// Calls once, and keeps the receipt.
-pub(crate) fn called<R: Wait>(
+// Run with each allocation failing in turn: where memory is refused at the first try, which a line
+// tells, the second goes on.
+pub(crate) fn opened<R: Print + Abort>(rt: &R, alloc: Global) -> (Live, Caller) {
+    let (live, seat) = match open(rt, alloc) {
+        Ok(opened) => opened,
+        Err(NoMemory) => {
+            tell_refused(rt);
+            open(rt, alloc).expect(rt, "memory")
+        }
+    };
+    (live, Caller::new(alloc, seat))
+}
+
+/// A seat, and the receipts of its calls.
+#[derive(Drop)]
+pub(crate) struct Caller {
+    pub(crate) seat: Seat,
+    pub(crate) receipts: Receipts,
+}
+
+impl Caller {
+    pub(crate) fn new(alloc: Global, seat: Seat) -> Caller {
+        Caller {
+            seat,
+            receipts: Receipts::new(alloc),
+        }
+    }
+
+    /// Keeps a receipt of its seat.
+    pub(crate) fn keep<R: Abort>(&mut self, rt: &R, receipt: &Receipt) {
+        if self.receipts.push(receipt).is_err() {
+            self.receipts.push(receipt).expect(rt, "memory");
+        }
+    }
+
+    /// Calls, and keeps the receipt. The seat is as it was where memory is refused.
+    pub(crate) fn call<R: Wait + Print + Abort>(
+        &mut self,
+        rt: &R,
+        live: &Live,
+        event: &Event,
+    ) -> Receipt {
+        let (calls, front) = (self.seat.calls(), self.seat.front());
+        let receipt = match live.call(rt, &mut self.seat, *event) {
+            Ok(receipt) => receipt,
+            Err(_) => {
+                tell_refused(rt);
+                assert!(rt; self.seat.calls() == calls && self.seat.front() == front);
+                live.call(rt, &mut self.seat, *event)
+                    .expect(rt, "a receipt")
+            }
+        };
+        self.keep(rt, &receipt);
+        receipt
+    }
+}
+
+/// A scheduler that was called with the script, by one caller: each event has the next place.
+pub(crate) fn play_script<R: Wait + Print + Abort>(rt: &R, alloc: Global) -> (Live, Caller) {
+    let (live, mut caller) = opened(rt, alloc);
+    for (place, line) in SCRIPT.iter().enumerate() {
+        let receipt = caller.call(rt, &live, &event_of(rt, alloc, line));
+        assert!(rt; receipt.place == place as u64);
+    }
+    (live, caller)
+}
+
+/// The seats of callers and their lists, as they are handed in.
+pub(crate) fn handed_in<R: Abort>(
     rt: &R,
-    live: &Live,
-    seat: &mut Seat,
-    receipts: &mut Vec<Receipt>,
-    event: Event,
-) -> Option<()> {
-    let receipt = live.call(rt, seat, event).ok()?;
-    receipts.push(receipt).ok()
-}
-
-/// A list of one. An array of values that are let go costs a proof of its own.
-pub(crate) fn one<T: Drop>(alloc: Global, item: T) -> Result<Vec<T>, AllocError>
-    ensures { IfOk result (λ list. vec_len list ≡ 1) }
-{
-    let mut list = Vec::new(alloc);
-    list.push(item)?;
-    Ok(list)
-}
-
-/// A list of two.
-pub(crate) fn two<T: Drop>(alloc: Global, first: T, second: T) -> Result<Vec<T>, AllocError>
-    ensures { IfOk result (λ list. vec_len list ≡ 2) }
-{
-    let mut list = one(alloc, first)?;
-    list.push(second)?;
-    Ok(list)
-}
-
-/// A receipt of a list.
-pub(crate) fn receipt_of(
-    lists: &mut Vec<Vec<Receipt>>,
-    list: usize,
-    at: usize,
-) -> Option<&mut Receipt> {
-    lists.get_mut(list)?.get_mut(at)
-}
-
-/// Puts another reply into a receipt, and answers its place.
-pub(crate) fn reply_with(receipt: &mut Receipt, reply: Reply) -> u64 {
-    receipt.reply = reply;
-    receipt.place
+    alloc: Global,
+    callers: Vec<Caller>,
+) -> (Vec<Seat>, Vec<Receipts>) {
+    let mut seats = Vec::new(alloc);
+    let mut lists = Vec::new(alloc);
+    for caller in callers {
+        let Caller { seat, receipts } = caller;
+        keep(rt, &mut seats, seat);
+        keep(rt, &mut lists, receipts);
+    }
+    (seats, lists)
 }
 
 /// The number of entries of the closed journal, or what comes back at a cause. It has no contract, since that of
 /// `close` would stand in the proof of each test.
-pub(crate) fn ended(
+fn closed_once(
     alloc: Global,
     live: Live,
     seats: Vec<Seat>,
@@ -142,47 +149,38 @@ pub(crate) fn ended(
     Ok(closed.entries.len())
 }
 
-/// The same of lists that are not yet kept as bytes.
-pub(crate) fn tried(
-    alloc: Global,
-    live: Live,
-    seats: Vec<Seat>,
-    lists: &[Vec<Receipt>],
-) -> Result<usize, Unclosed> {
-    let Ok(kept) = kept_lists(alloc, lists) else {
-        let cause = Cause::NoMemory;
-        return Err(Unclosed { cause, live, seats });
-    };
-    ended(alloc, live, seats, &kept)
-}
-
-/// The lists as they are handed in.
-fn kept_lists(alloc: Global, lists: &[Vec<Receipt>]) -> Result<Vec<Receipts>, AllocError> {
-    let mut kept = Vec::new(alloc);
-    for list in lists {
-        kept.push(Receipts::of(alloc, list)?)?;
-    }
-    Ok(kept)
-}
-
-/// The number of entries of the closed journal of one caller.
-pub(crate) fn closed_alone<R: Abort>(
+/// The same; at the second try where memory is refused, which a line tells.
+pub(crate) fn ended<R: Print + Abort>(
     rt: &R,
     alloc: Global,
     live: Live,
-    seat: Seat,
-    receipts: Vec<Receipt>,
-) -> Option<usize> {
-    let seats = one(alloc, seat).expect(rt, "memory");
-    let lists = one(alloc, receipts).expect(rt, "memory");
-    closed_len(alloc, live, seats, lists.as_slice())
+    seats: Vec<Seat>,
+    lists: &[Receipts],
+) -> Result<usize, Unclosed> {
+    match closed_once(alloc, live, seats, lists) {
+        Err(
+            Unclosed {
+                cause: Cause::NoMemory,
+                live,
+                seats,
+            },
+        ) => {
+            tell_refused(rt);
+            closed_once(alloc, live, seats, lists)
+        }
+        ended => ended,
+    }
 }
 
-pub(crate) fn closed_len(
+/// The number of entries of the closed journal of these callers.
+pub(crate) fn closed<R: Print + Abort>(
+    rt: &R,
     alloc: Global,
     live: Live,
-    seats: Vec<Seat>,
-    lists: &[Vec<Receipt>],
-) -> Option<usize> {
-    tried(alloc, live, seats, lists).ok()
+    callers: Vec<Caller>,
+) -> usize {
+    let (seats, lists) = handed_in(rt, alloc, callers);
+    ended(rt, alloc, live, seats, &lists)
+        .ok()
+        .expect(rt, "a journal")
 }

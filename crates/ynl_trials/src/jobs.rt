@@ -1,16 +1,13 @@
 //! Jobs whose reader fails once, and that have as many workers as asked.
 
+use crate::cluster::opened;
 use crate::streams::{FailsOnce, Sink};
+use crate::values::configured;
+use crate::workers::open;
 use std::alloc::Global;
 use std::process::Abort;
-use std::sync::Wait;
-use std::sync::atomic::{AtomicU64, Ordering};
-use std::thread::Threads;
-use ynl_config::built_in;
-use ynl_core::Core;
 use ynl_journal::Start;
 use ynl_tool::{ToolFault, live_lines, run_lines};
-use ynl_workers::{Gate, Go, Sight};
 
 /// The fault that ended a job, if one did.
 type Ended = Option<ToolFault>;
@@ -20,22 +17,12 @@ const ALL_KINDS: &[u8] =
     b"{\"event\":\"register\",\"label\":\"gpu\",\"memory\":10000,\"node\":\"g1\",\"vcores\":10}\n{\"app\":\"j1\",\"event\":\"submit\",\"label\":\"gpu\",\"memory\":1000,\"queue\":\"root.eng\",\"user\":\"ann\",\"vcores\":1}\n{\"event\":\"heartbeat\",\"node\":\"g1\"}\n{\"app\":\"j1\",\"count\":2,\"event\":\"ask\",\"label\":\"gpu\",\"memory\":1000,\"priority\":1,\"tenant\":\"eng\",\"vcores\":1}\n{\"event\":\"propose\",\"node\":\"g1\"}\n{\"event\":\"commit\",\"proposal\":{\"app\":\"j1\",\"label\":\"gpu\",\"memory\":1000,\"node\":\"g1\",\"priority\":1,\"stamp\":2,\"tenant\":\"eng\",\"vcores\":1,\"what\":\"ask\"}}\n{\"event\":\"heartbeat\",\"node\":\"g1\"}\n{\"app\":\"j1\",\"event\":\"poll\",\"label\":\"gpu\",\"tenant\":\"eng\"}\n{\"event\":\"usage\",\"label\":\"gpu\",\"queue\":\"root.eng\"}\n{\"event\":\"release\",\"id\":\"gpu#3\",\"tenant\":\"eng\"}\n{\"event\":\"exited\",\"id\":\"gpu#4\",\"node\":\"g1\"}\n{\"event\":\"maximum\",\"label\":\"gpu\",\"maximum\":10000,\"queue\":\"root.eng\"}\n{\"event\":\"stop\",\"queue\":\"root.eng\"}\n{\"event\":\"start\",\"queue\":\"root.eng\"}\n{\"app\":\"j1\",\"event\":\"finish\",\"tenant\":\"eng\"}\n{\"event\":\"relabel\",\"label\":\"\",\"node\":\"g1\"}\n{\"event\":\"lost\",\"node\":\"g1\"}\n";
 
 /// Runs the events by a reader that fails at that look.
-fn run_once<R: Abort>(rt: &R, alloc: Global, looks: u64, writer: &mut Sink) -> Ended {
+fn run_once<R: Print + Abort>(rt: &R, alloc: Global, looks: u64, writer: &mut Sink) -> Ended {
     let mut reader = FailsOnce {
         left: ALL_KINDS,
         looks,
     };
-    let config = built_in(alloc).expect(rt, "memory");
-    let core = Core::open(alloc, config).expect(rt, "memory");
-    run_lines(alloc, core, &mut reader, writer).err()
-}
-
-/// The replies to all events.
-fn all_replies<R: Abort>(rt: &R, alloc: Global) -> Vec<u8> {
-    let mut writer = Sink::new(Vec::new(alloc));
-    let ended = run_once(rt, alloc, u64::MAX, &mut writer);
-    assert!(rt; ended.is_none());
-    writer.taken
+    run_lines(alloc, opened(rt, alloc), &mut reader, writer).err()
 }
 
 fn lines(text: &[u8]) -> usize {
@@ -43,7 +30,7 @@ fn lines(text: &[u8]) -> usize {
 }
 
 /// Whether a reader that fails at that look ends the run there, behind one write of the replies to the lines before it.
-fn ends_at<R: Abort>(rt: &R, alloc: Global, looks: usize, replies: &[u8]) -> bool {
+fn ends_at<R: Print + Abort>(rt: &R, alloc: Global, looks: usize, replies: &[u8]) -> bool {
     let mut writer = Sink::new(Vec::new(alloc));
     let ended = run_once(rt, alloc, looks as u64, &mut writer);
     let is_front = replies.starts_with(&writer.taken) && lines(&writer.taken) == looks;
@@ -56,9 +43,10 @@ fn ends_at<R: Abort>(rt: &R, alloc: Global, looks: usize, replies: &[u8]) -> boo
 #[test]
 fn ends_where_a_reader_fails_once(rt: HostRuntime) {
     let alloc = rt.alloc();
-    let replies = all_replies(&rt, alloc);
+    let mut replies = Sink::new(Vec::new(alloc));
+    assert!(rt; run_once(&rt, alloc, u64::MAX, &mut replies).is_none());
     for looks in 0..=lines(ALL_KINDS) {
-        assert!(rt; ends_at(&rt, alloc, looks, &replies), "{looks}");
+        assert!(rt; ends_at(&rt, alloc, looks, &replies.taken), "{looks}");
     }
 }
 
@@ -66,59 +54,17 @@ fn ends_where_a_reader_fails_once(rt: HostRuntime) {
 const TWO_NODES: &[u8] =
     b"{\"event\":\"register\",\"label\":\"gpu\",\"memory\":10000,\"node\":\"g1\",\"vcores\":10}\n{\"event\":\"register\",\"label\":\"gpu\",\"memory\":10000,\"node\":\"g2\",\"vcores\":10}\n{\"app\":\"j1\",\"event\":\"submit\",\"label\":\"gpu\",\"memory\":1000,\"queue\":\"root.eng\",\"user\":\"ann\",\"vcores\":1}\n{\"app\":\"j2\",\"event\":\"submit\",\"label\":\"gpu\",\"memory\":1000,\"queue\":\"root.eng\",\"user\":\"ann\",\"vcores\":1}\n";
 
-/// Lets each worker go on, and notes whether the second one committed.
-#[derive(Drop)]
-struct Free {
-    second: AtomicU64,
-}
-
-impl Free {
-    fn new() -> Free {
-        Free {
-            second: AtomicU64::new(0),
-        }
-    }
-}
-
-impl Gate for Free {
-    ghost use Rattle.std.specs.Prelude.{⊤};
-
-    ghost is_free = { λ _. ⊤ };
-
-    fn before_plan(&self, _worker: u64, _turn: u64, _sight: &Sight) {}
-
-    fn before_commit(&self, _worker: u64, _turn: u64) -> Go {
-        Go::On
-    }
-
-    fn after_commit(&self, worker: u64, _turn: u64) {
-        if worker == 1 {
-            self.second.store(1, Ordering::SeqCst);
-        }
-    }
-}
-
-/// Has two workers go over the nodes, once.
-fn live_once<R: Threads + Wait + Abort + Sync>(
-    rt: &R,
-    alloc: Global,
-    gate: &Free,
-    writer: &mut Sink,
-) -> Ended {
+// Two workers go over the nodes, once. Whichever comes first, each is answered a master, so that the second commits too.
+#[test]
+fn lives_with_as_many_workers_as_asked(rt: HostRuntime) {
+    let alloc = rt.alloc();
     let mut reader = FailsOnce {
         left: TWO_NODES,
         looks: u64::MAX,
     };
-    let start = Start::opened(built_in(alloc).expect(rt, "memory"));
-    live_lines(rt, alloc, start, 2, 1, gate, &mut reader, writer).err()
-}
-
-// Whichever worker comes first, each is answered a master, so that the second commits too.
-#[test]
-fn lives_with_as_many_workers_as_asked(rt: HostRuntime) {
-    let mut writer = Sink::new(Vec::new(rt.alloc()));
-    let gate = Free::new();
-    let ended = live_once(&rt, rt.alloc(), &gate, &mut writer);
-    assert!(rt; ended.is_none());
-    assert!(rt; gate.second.load(Ordering::SeqCst) == 1);
+    let mut writer = Sink::new(Vec::new(alloc));
+    let gate = open();
+    let start = Start::opened(configured(&rt, alloc));
+    let ended = live_lines(&rt, alloc, start, 2, 1, &gate, &mut reader, &mut writer);
+    assert!(rt; ended.is_ok() && gate.noted() == (101, 101));
 }

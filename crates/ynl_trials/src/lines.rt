@@ -2,7 +2,6 @@
 
 use crate::values::tell_refused;
 use std::alloc::{AllocError, Global};
-use std::test::Fail;
 use ynl_lines::{read_event, read_line, write_event, write_line};
 
 /// An event with spaces and in another order, and its text in the compact form.
@@ -24,20 +23,11 @@ const ENTRIES: [&str; 8] = [
     r#"{"event":{"event":"usage","label":"","queue":"root.eng"},"place":18446744073709551615,"reply":{"guaranteed":{"memory":0,"vcores":0},"guests":{"memory":0,"vcores":0},"masters":{"memory":1000,"vcores":1},"maximum":{"memory":562949953421312,"vcores":0},"reply":"usage","used":{"memory":1000,"vcores":1}}}"#,
 ];
 
-/// The text of the event that a line is, if it is one.
-fn event_text(alloc: Global, line: &str) -> Result<Option<Vec<u8>>, AllocError> {
-    match read_event(alloc, line.as_bytes()) {
-        Ok(Ok(event)) => Ok(Some(write_event(alloc, &event)?)),
-        Ok(Err(_)) => Ok(None),
-        Err(e) => Err(e),
-    }
-}
-
-/// Whether a line is the event that has this text.
-fn is_event(alloc: Global, line: &str, text: &str) -> Result<bool, AllocError> {
-    match event_text(alloc, line)? {
-        Some(written) => Ok(written.as_slice() == text.as_bytes()),
-        None => Ok(false),
+/// Whether the line with spaces is the event that has its text.
+fn is_event(alloc: Global) -> Result<bool, AllocError> {
+    match read_event(alloc, SPACED.as_bytes())? {
+        Ok(event) => Ok(write_event(alloc, &event)?.as_slice() == COMPACT.as_bytes()),
+        Err(_) => Ok(false),
     }
 }
 
@@ -56,20 +46,19 @@ fn have_their_texts(alloc: Global) -> Result<bool, AllocError> {
             return Ok(false);
         }
     }
-    is_event(alloc, SPACED, COMPACT)
+    is_event(alloc)
 }
 
 // Run with each allocation failing in turn: where memory is refused at the first try, which a line
 // tells, the second reads and writes.
 #[test]
-fn are_read_and_written_at_the_second_try(rt: HostRuntime) -> Result<(), Fail> {
+fn are_read_and_written_at_the_second_try(rt: HostRuntime) {
     let have = match have_their_texts(rt.alloc()) {
         Ok(have) => have,
         Err(AllocError) => {
             tell_refused(&rt);
-            have_their_texts(rt.alloc())?
+            have_their_texts(rt.alloc()).expect(&rt, "memory")
         }
     };
     assert!(rt; have);
-    Ok(())
 }

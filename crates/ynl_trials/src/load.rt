@@ -1,7 +1,10 @@
 //! A live scheduler under load: a crew goes over its nodes in rounds, beside a caller that submits, asks,
 //! finishes, and loses nodes.
 
+use crate::cluster::opened;
 use crate::crew::Crew;
+use crate::events::handed_in;
+use crate::values::{configured, keep};
 use crate::writer::Writer;
 use std::alloc::Global;
 use std::io::{BufWriter, Eprint, Write};
@@ -11,11 +14,9 @@ use std::sync::Wait;
 use std::thread::{Threads, join_mut};
 use std::time::Instant;
 use std::{env, io};
-use ynl_config::built_in;
-use ynl_core::Core;
 use ynl_journal::audit;
 use ynl_lines::write_line;
-use ynl_live::{Closed, Live, close};
+use ynl_live::{Live, close};
 use ynl_model::Entry;
 use ynl_packed::Entries;
 
@@ -44,7 +45,7 @@ fn load_of<R: Abort>(rt: &R, alloc: Global, text: &str) -> Load {
     let mut numbers = Vec::new(alloc);
     for word in text.split(' ') {
         let number = word.parse::<u64>().expect(rt, "a number");
-        numbers.push(number).expect(rt, "memory");
+        keep(rt, &mut numbers, number);
     }
     match numbers.as_slice() {
         [workers, nodes, rounds, steps, waiting] => Load {
@@ -60,13 +61,14 @@ fn load_of<R: Abort>(rt: &R, alloc: Global, text: &str) -> Load {
 
 /// Has the workers and the caller beside them at work at once, and answers how long that took, in
 /// milliseconds.
-fn put_to_work<R: Threads + Wait + Clock + Abort + Sync>(
+fn put_to_work<R: Threads + Wait + Clock + Print + Abort + Sync>(
     rt: &R,
     live: &Live,
     load: Load,
     crew: &mut Crew,
     writer: &mut Writer,
 ) -> u128 {
+    writer.begin(rt, live, load.nodes, load.waiting);
     let start = Instant::now(rt).expect(rt, "a clock");
     join_mut(
         rt,
@@ -78,44 +80,25 @@ fn put_to_work<R: Threads + Wait + Clock + Abort + Sync>(
 
 /// The closed journal of all callers.
 fn closed<R: Abort>(rt: &R, alloc: Global, live: Live, crew: Crew, writer: Writer) -> Entries {
-    let Writer { seat, receipts, .. } = writer;
-    let Crew {
-        mut seats,
-        mut lists,
-        ..
-    } = crew;
-    seats.push(seat).expect(rt, "memory");
-    lists.push(receipts).expect(rt, "memory");
+    let mut callers = crew.callers;
+    keep(rt, &mut callers, writer.caller);
+    let (seats, lists) = handed_in(rt, alloc, callers);
     match close(alloc, live, seats, &lists) {
-        Ok(Closed { entries, .. }) => entries,
+        Ok(closed) => closed.entries,
         Err(unclosed) => panic!(rt; "{}", unclosed.cause),
     }
 }
 
-/// Registers the nodes, and has the crew and the writer do the rest of the load. Answers the milliseconds of that.
-fn play<R: Threads + Wait + Clock + Abort + Sync>(
-    rt: &R,
-    live: &Live,
-    load: Load,
-    crew: &mut Crew,
-    writer: &mut Writer,
-) -> u128 {
-    writer.register_nodes(rt, live, load.nodes);
-    writer.submit_waiting(rt, live, load.waiting);
-    put_to_work(rt, live, load, crew, writer)
-}
-
 /// The entries of the load, with its figures on standard error.
-fn played<R: Threads + Wait + Clock + Eprint + Abort + Sync>(
+fn played<R: Threads + Wait + Clock + Print + Eprint + Abort + Sync>(
     rt: &R,
     alloc: Global,
     load: Load,
 ) -> Entries {
-    let config = built_in(alloc).expect(rt, "memory");
-    let (live, seat) = Live::open(alloc, config).expect(rt, "memory");
+    let (live, seat) = Live::open(alloc, configured(rt, alloc)).expect(rt, "memory");
     let mut crew = Crew::new(rt, alloc, seat.split(), load.workers, load.nodes);
     let mut writer = Writer::new(alloc, seat);
-    let took = play(rt, &live, load, &mut crew, &mut writer);
+    let took = put_to_work(rt, &live, load, &mut crew, &mut writer);
     let (commit, call) = (crew.longest, writer.longest);
     let entries = closed(rt, alloc, live, crew, writer);
     let calls = (entries.len() as u64)
@@ -148,10 +131,9 @@ fn write_journal<R: Abort, W: Write + Drop>(rt: &R, alloc: Global, to: W, entrie
 }
 
 /// Whether each entry has a reply, and all of them pass their audit.
-fn is_history<R: Abort>(rt: &R, alloc: Global, entries: &[Entry]) -> bool {
-    let config = built_in(alloc).expect(rt, "memory");
-    let mut core = Core::open(alloc, config).expect(rt, "memory");
-    entries.iter().all(|entry| entry.reply.is_some()) && audit(&mut core, entries).is_ok()
+fn is_history<R: Print + Abort>(rt: &R, alloc: Global, entries: &[Entry]) -> bool {
+    let has_all = entries.iter().all(|entry| entry.reply.is_some());
+    has_all && audit(&mut opened(rt, alloc), entries).is_ok()
 }
 
 /// The journal of a crew and a caller closes, has each reply, and passes its audit. Where `LOAD` is set, it is written.

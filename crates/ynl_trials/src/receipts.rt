@@ -1,8 +1,8 @@
 //! Receipts that are exchanged, altered, missing, there twice or of another scheduler: the journal is not closed,
 //! and is where the right ones are handed in after all.
 
-use crate::events::{ask, ended, opened, poll, submit, two};
-use crate::values::{heartbeat, registered};
+use crate::events::{ended, opened};
+use crate::values::{ASK, HEARTBEAT, NODE, POLL, SUBMIT, event_of, keep, two};
 use std::alloc::Global;
 use std::process::Abort;
 use std::sync::Wait;
@@ -31,7 +31,8 @@ enum Tells {
 /// from `m` on with another reply. Those from `s` on are of a scheduler with another node.
 type Row = (&'static str, &'static str, Cause);
 
-const EXCHANGED: &[Row] = &[
+const ROWS: &[Row] = &[
+    // exchanged
     ("204", "135", Cause::Mismatch(0)),
     ("324", "105", Cause::Mismatch(2)),
     ("420", "135", Cause::Mismatch(2)),
@@ -42,9 +43,7 @@ const EXCHANGED: &[Row] = &[
     ("042", "135", Cause::Mismatch(2)),
     ("054", "132", Cause::Mismatch(4)),
     ("024", "153", Cause::Mismatch(3)),
-];
-
-const TWICE: &[Row] = &[
+    // there twice
     ("124", "135", Cause::Mismatch(1)),
     ("224", "135", Cause::Mismatch(2)),
     ("324", "135", Cause::Mismatch(2)),
@@ -75,9 +74,7 @@ const TWICE: &[Row] = &[
     ("024", "132", Cause::Mismatch(2)),
     ("024", "133", Cause::Mismatch(3)),
     ("024", "134", Cause::Mismatch(4)),
-];
-
-const MISSING: &[Row] = &[
+    // missing
     ("24", "135", Cause::ReceiptsMissing),
     ("04", "135", Cause::ReceiptsMissing),
     ("02", "135", Cause::ReceiptsMissing),
@@ -89,9 +86,7 @@ const MISSING: &[Row] = &[
     ("0024", "135", Cause::ReceiptsMissing),
     ("024", "135s", Cause::ReceiptsMissing),
     ("", "012345", Cause::ReceiptsMissing),
-];
-
-const ALTERED: &[Row] = &[
+    // altered, or of another scheduler
     ("a24", "135", Cause::Mismatch(2)),
     ("024", "b35", Cause::Mismatch(3)),
     ("0c4", "135", Cause::Mismatch(4)),
@@ -127,93 +122,78 @@ const EXCHANGED_NEIGHBOURS: &[(&str, &str)] = &[
 ];
 
 /// A node that registers, and an application that is given its master and a container on `g1`.
-fn script<R: Abort>(rt: &R, node: &str) -> [Event; 6] {
-    [
-        registered(rt, node, "gpu"),
-        submit(rt, "j1", 1000),
-        heartbeat(rt, "g1"),
-        ask(rt),
-        heartbeat(rt, "g1"),
-        poll(rt, "j1"),
-    ]
-}
+const EVENTS: [&str; 6] = [NODE, SUBMIT, HEARTBEAT, ASK, HEARTBEAT, POLL];
+
+/// The same of another node.
+const OTHER_NODE: [&str; 6] = [
+    r#"{"event":"register","label":"gpu","memory":10000,"node":"g2","vcores":10}"#,
+    SUBMIT,
+    HEARTBEAT,
+    ASK,
+    HEARTBEAT,
+    POLL,
+];
+
+/// An event that nobody calls with.
+const OTHER_EVENT: &str =
+    r#"{"app":"j7","event":"submit","label":"gpu","memory":1000,"queue":"root.eng.ml","user":"ann","vcores":1}"#;
 
 /// A receipt that is made to tell this.
 fn altered(receipt: Receipt, tells: Tells, other: &Event) -> Receipt {
     let Receipt {
+        mut place,
+        mut event,
+        mut reply,
+    } = receipt;
+    match tells {
+        Tells::TheTruth => {}
+        Tells::AnotherPlace => place = place.wrapping_add(2),
+        Tells::AnotherEvent => event = *other,
+        Tells::AnotherReply => reply = Reply::Refused(Refusal::NameUsed),
+    }
+    Receipt {
         place,
         event,
         reply,
-    } = receipt;
-    match tells {
-        Tells::TheTruth => Receipt {
-            place,
-            event,
-            reply,
-        },
-        Tells::AnotherPlace => Receipt {
-            place: place.wrapping_add(2),
-            event,
-            reply,
-        },
-        Tells::AnotherEvent => Receipt {
-            place,
-            event: *other,
-            reply,
-        },
-        Tells::AnotherReply => Receipt {
-            place,
-            event,
-            reply: Reply::Refused(Refusal::NameUsed),
-        },
     }
 }
 
-/// Calls on the seats in turn, and puts the receipts behind those that are there.
-fn call_in_turn<R: Wait + Abort>(
-    rt: &R,
-    callers: &mut Callers,
-    receipts: &mut Vec<Receipt>,
-    node: &str,
-    tells: Tells,
-) {
-    let other = submit(rt, "j7", 1000);
-    for (number, event) in script(rt, node).into_iter().enumerate() {
-        let seat = callers.seats.get_mut(number % 2).expect(rt, "a seat");
-        let receipt = callers.live.call(rt, seat, event).expect(rt, "a receipt");
-        receipts
-            .push(altered(receipt, tells, &other))
-            .expect(rt, "memory");
-    }
-}
-
-/// Two callers that called in turn, three times each.
-fn two_callers<R: Wait + Abort>(
+/// Two callers that called in turn, three times each. Their receipts are put behind those that are there.
+fn two_callers<R: Wait + Print + Abort>(
     rt: &R,
     alloc: Global,
     receipts: &mut Vec<Receipt>,
-    node: &str,
+    lines: &[&str],
     tells: Tells,
 ) -> Callers {
-    let (live, first) = opened(rt, alloc).expect(rt, "memory");
-    let second = first.split();
-    let seats = two(alloc, first, second).expect(rt, "memory");
+    let (live, caller) = opened(rt, alloc);
+    let seats = two(rt, alloc, caller.seat.split(), caller.seat.split());
     let mut callers = Callers { live, seats };
-    call_in_turn(rt, &mut callers, receipts, node, tells);
+    let other = event_of(rt, alloc, OTHER_EVENT);
+    for (number, line) in lines.iter().enumerate() {
+        let seat = callers.seats.get_mut(number % 2).expect(rt, "a seat");
+        let event = event_of(rt, alloc, line);
+        let receipt = callers.live.call(rt, seat, event).expect(rt, "a receipt");
+        keep(rt, receipts, altered(receipt, tells, &other));
+    }
     callers
 }
 
 /// Two callers, and all receipts that a row has.
-fn callers_of_rows<R: Wait + Abort>(rt: &R, alloc: Global, receipts: &mut Vec<Receipt>) -> Callers {
-    let callers = two_callers(rt, alloc, receipts, "g1", Tells::TheTruth);
+fn callers_of_rows<R: Wait + Print + Abort>(
+    rt: &R,
+    alloc: Global,
+    receipts: &mut Vec<Receipt>,
+) -> Callers {
+    let callers = two_callers(rt, alloc, receipts, &EVENTS, Tells::TheTruth);
     for tells in [
         Tells::AnotherPlace,
         Tells::AnotherEvent,
         Tells::AnotherReply,
     ] {
-        let _others = two_callers(rt, alloc, receipts, "g1", tells);
+        two_callers(rt, alloc, receipts, &EVENTS, tells);
     }
-    let _others = two_callers(rt, alloc, receipts, "g2", Tells::TheTruth);
+    two_callers(rt, alloc, receipts, &OTHER_NODE, Tells::TheTruth);
     callers
 }
 
@@ -243,12 +223,11 @@ fn lists_of<R: Abort>(
     second: &str,
 ) -> Vec<Receipts> {
     let first = list_of(rt, alloc, receipts, first);
-    let second = list_of(rt, alloc, receipts, second);
-    two(alloc, first, second).expect(rt, "memory")
+    two(rt, alloc, first, list_of(rt, alloc, receipts, second))
 }
 
 /// The journal is not closed, for this cause. All that was handed in comes back.
-pub(crate) fn refused<R: Abort>(
+pub(crate) fn refused<R: Print + Abort>(
     rt: &R,
     alloc: Global,
     callers: Callers,
@@ -256,36 +235,37 @@ pub(crate) fn refused<R: Abort>(
     wanted: Cause,
 ) -> Callers {
     let Callers { live, seats } = callers;
-    let ended = ended(alloc, live, seats, lists);
+    let ended = ended(rt, alloc, live, seats, lists);
     let Unclosed { cause, live, seats } = ended.expect_err(rt, "closed");
     assert!(rt; cause == wanted);
     Callers { live, seats }
 }
 
 /// How many entries the closed journal has.
-pub(crate) fn closed(alloc: Global, callers: Callers, lists: &[Receipts]) -> Option<usize> {
+pub(crate) fn closed_by<R: Print + Abort>(
+    rt: &R,
+    alloc: Global,
+    callers: Callers,
+    lists: &[Receipts],
+) -> usize {
     let Callers { live, seats } = callers;
-    ended(alloc, live, seats, lists).ok()
+    ended(rt, alloc, live, seats, lists)
+        .ok()
+        .expect(rt, "a journal")
 }
 
-/// Tries the rows, and then the right receipts.
-fn try_rows<R: Wait + Abort>(rt: &R, alloc: Global, mut callers: Callers, receipts: &[Receipt]) {
-    for rows in [EXCHANGED, TWICE, MISSING, ALTERED] {
-        for (first, second, cause) in rows {
-            let lists = lists_of(rt, alloc, receipts, first, second);
-            callers = refused(rt, alloc, callers, &lists, *cause);
-        }
-    }
-    let lists = lists_of(rt, alloc, receipts, "024", "135");
-    assert!(rt; closed(alloc, callers, &lists) == Some(6));
-}
-
+/// The rows are tried, and then the right receipts.
 #[test]
 fn closes_where_no_receipt_is_altered(rt: HostRuntime) {
     let alloc = rt.alloc();
     let mut receipts = Vec::new(alloc);
-    let callers = callers_of_rows(&rt, alloc, &mut receipts);
-    try_rows(&rt, alloc, callers, &receipts);
+    let mut callers = callers_of_rows(&rt, alloc, &mut receipts);
+    for (first, second, cause) in ROWS {
+        let lists = lists_of(&rt, alloc, &receipts, first, second);
+        callers = refused(&rt, alloc, callers, &lists, *cause);
+    }
+    let lists = lists_of(&rt, alloc, &receipts, "024", "135");
+    assert!(rt; closed_by(&rt, alloc, callers, &lists) == 6);
 }
 
 /// Nothing ties a receipt to its seat but the number of calls, and that places rise.
@@ -294,8 +274,8 @@ fn closes_where_neighbours_are_exchanged(rt: HostRuntime) {
     let alloc = rt.alloc();
     for (first, second) in EXCHANGED_NEIGHBOURS {
         let mut receipts = Vec::new(alloc);
-        let callers = two_callers(&rt, alloc, &mut receipts, "g1", Tells::TheTruth);
+        let callers = two_callers(&rt, alloc, &mut receipts, &EVENTS, Tells::TheTruth);
         let lists = lists_of(&rt, alloc, &receipts, first, second);
-        assert!(rt; closed(alloc, callers, &lists) == Some(6));
+        assert!(rt; closed_by(&rt, alloc, callers, &lists) == 6);
     }
 }

@@ -2,8 +2,7 @@
 
 use crate::values::tell_refused;
 use std::alloc::{AllocError, Global};
-use std::test::Fail;
-use ynl_saved_text::{StateFault, StateReader, put_state_line};
+use ynl_saved_text::{StateReader, put_state_line};
 
 /// The lines of a state, one of each kind, and a container that was asked for, in the form in which they are written.
 const STATE: [&str; 11] = [
@@ -33,65 +32,57 @@ const FAULTY: [(&str, &str); 5] = [
 ];
 
 /// Whether a line is read, and has its own text.
-fn has_its_text(
-    alloc: Global,
-    reader: &mut StateReader,
-    text: &mut Vec<u8>,
-    line: &str,
-) -> Result<bool, AllocError> {
-    text.clear();
+fn has_its_text(alloc: Global, reader: &mut StateReader, line: &str) -> Result<bool, AllocError> {
     if reader.read(alloc, line.as_bytes())?.is_err() {
         return Ok(false);
     }
-    put_state_line(text, reader.line())?;
+    let mut text = Vec::new(alloc);
+    put_state_line(&mut text, reader.line())?;
     Ok(text.as_slice() == line.as_bytes())
 }
 
-/// Whether a line has the fault of this word.
-fn has_fault(
+/// Whether the first lines of a state, as many, have their texts.
+fn have_their_texts(
     alloc: Global,
     reader: &mut StateReader,
-    line: &str,
-    word: &str,
+    count: usize,
 ) -> Result<bool, AllocError> {
-    let fault: Option<StateFault> = reader.read(alloc, line.as_bytes())?.err();
-    Ok(match fault {
-        Some(fault) => fault.word() == word,
-        None => false,
-    })
-}
-
-/// Whether each line has its text, and each that is none its fault behind the first.
-fn are_as_they_should(alloc: Global) -> Result<bool, AllocError> {
-    let mut text = Vec::new(alloc);
-    let mut reader = StateReader::new(alloc);
-    for line in STATE {
-        if !has_its_text(alloc, &mut reader, &mut text, line)? {
-            return Ok(false);
-        }
-    }
-    let mut reader = StateReader::new(alloc);
-    if !has_its_text(alloc, &mut reader, &mut text, STATE[0])? {
-        return Ok(false);
-    }
-    for (line, word) in FAULTY {
-        if !has_fault(alloc, &mut reader, line, word)? {
+    for line in STATE.iter().take(count) {
+        if !has_its_text(alloc, reader, line)? {
             return Ok(false);
         }
     }
     Ok(true)
 }
 
+/// Whether each line that is none has its fault behind the first one.
+fn have_their_faults(alloc: Global, reader: &mut StateReader) -> Result<bool, AllocError> {
+    for (line, word) in FAULTY {
+        match reader.read(alloc, line.as_bytes())? {
+            Err(fault) if fault.word() == word => {}
+            _ => return Ok(false),
+        }
+    }
+    Ok(true)
+}
+
+fn are_as_they_should(alloc: Global) -> Result<bool, AllocError> {
+    let (mut whole, mut broken) = (StateReader::new(alloc), StateReader::new(alloc));
+    Ok(
+        have_their_texts(alloc, &mut whole, STATE.len())?
+            && have_their_texts(alloc, &mut broken, 1)?
+            && have_their_faults(alloc, &mut broken)?,
+    )
+}
+
 #[test]
-fn a_state_is_read_and_written_at_the_second_try(rt: HostRuntime) -> Result<(), Fail> {
-    let alloc = rt.alloc();
-    let are = match are_as_they_should(alloc) {
+fn a_state_is_read_and_written_at_the_second_try(rt: HostRuntime) {
+    let are = match are_as_they_should(rt.alloc()) {
         Ok(are) => are,
         Err(_) => {
             tell_refused(&rt);
-            are_as_they_should(alloc)?
+            are_as_they_should(rt.alloc()).expect(&rt, "memory")
         }
     };
     assert!(rt; are);
-    Ok(())
 }

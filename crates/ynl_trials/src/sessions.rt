@@ -2,8 +2,8 @@
 
 ghost use Rattle.std.specs.Prelude.{◌<◌};
 
-use crate::events::{ask, submit, worked};
-use crate::values::{name, registered};
+use crate::events::worked;
+use crate::values::{ASK, NODE, SUBMIT, event_of, name, numbered};
 use crate::workers::{HaltsAt, open};
 use std::alloc::Global;
 use std::process::Abort;
@@ -16,21 +16,25 @@ use ynl_session::run_session;
 use ynl_workers::Gate;
 
 /// Two nodes, and an application that waits for its master and asks for two containers.
-fn script<R: Abort>(rt: &R) -> [Event; 4] {
-    [
-        registered(rt, "g2", "gpu"),
-        registered(rt, "g1", "gpu"),
-        submit(rt, "j1", 1000),
-        ask(rt),
-    ]
-}
+const LINES: [&str; 4] = [
+    r#"{"event":"register","label":"gpu","memory":10000,"node":"g2","vcores":10}"#,
+    NODE,
+    SUBMIT,
+    ASK,
+];
 
-/// The script, and so many nodes of DEFAULT more, by name between its two.
+/// A node of DEFAULT.
+const MORE: &str = r#"{"event":"register","label":"","memory":10000,"node":"g1x%","vcores":10}"#;
+
+/// The lines, and so many nodes of DEFAULT more, by name between the two.
 fn events_with<R: Abort>(rt: &R, alloc: Global, nodes: u64) -> Events {
-    let mut events = Events::of(alloc, &script(rt)).expect(rt, "memory");
+    let mut events = Events::new(alloc);
+    for line in LINES {
+        events.push(&event_of(rt, alloc, line)).expect(rt, "memory");
+    }
     for number in 0..nodes {
-        let node = format!(in alloc; "g1x{number}").expect(rt, "memory");
-        events.push(&registered(rt, &node, "")).expect(rt, "memory");
+        let event = numbered(rt, alloc, MORE, number);
+        events.push(&event).expect(rt, "memory");
     }
     events
 }
@@ -66,21 +70,12 @@ fn commits(entries: &[Entry]) -> usize {
         .count()
 }
 
-/// How many entries are no commits.
-fn others(entries: &[Entry]) -> usize {
-    entries
-        .iter()
-        .filter(|entry| !matches!(entry.event, Event::Commit { .. }))
-        .count()
-}
-
 /// Each round begins anew with the first node, where the worker is halted.
 #[test]
 fn session_that_is_halted_commits_nothing(rt: HostRuntime) {
     let entries = played(&rt, rt.alloc(), 0, 1, 2, &HaltsAt::turn(0));
-    assert!(rt; commits(&entries) == 0);
+    assert!(rt; commits(&entries) == 0 && entries.len() == 6);
     assert!(rt; times_asked(&rt, &entries, "g1") == 2);
-    assert!(rt; entries.len() == 6);
 }
 
 /// The first two workers have a turn each, of which the gate was asked and told.
@@ -89,9 +84,8 @@ fn workers_may_be_more_than_nodes(rt: HostRuntime) {
     let gate = open();
     let entries = played(&rt, rt.alloc(), 0, 5, 1, &gate);
     assert!(rt; gate.noted() == (101, 101));
-    assert!(rt; times_asked(&rt, &entries, "g1") == 1);
-    assert!(rt; times_asked(&rt, &entries, "g2") == 1);
-    assert!(rt; others(&entries) == 6);
+    assert!(rt; times_asked(&rt, &entries, "g1") == 1 && times_asked(&rt, &entries, "g2") == 1);
+    assert!(rt; entries.len().saturating_sub(commits(&entries)) == 6);
 }
 
 /// A worker goes over 256 nodes in a stretch. Turns are counted through the round, and where the worker is halted in its first

@@ -1,14 +1,13 @@
 //! What is planned from a copy of a cluster is what the cluster would have chosen when it was copied.
 
-use crate::values::{heartbeat, label, name, size, tell_refused};
+use crate::cluster::answered;
+use crate::values::{HEARTBEAT, SCRIPT, event_of, label, name, size, tell_refused};
 use std::alloc::Global;
 use std::process::Abort;
-use std::test::Fail;
 use ynl_config::read_config;
 use ynl_core::{Core, NoMemory, Sighted};
-use ynl_lines::read_event;
 use ynl_model::{Event, Proposal, Reply, What};
-use ynl_resource::{Label, Refusal};
+use ynl_resource::{Label, Name, Refusal};
 use ynl_sights::plan;
 
 /// Two labels, of which ssd may take guests, and leaves two and one below root.
@@ -70,14 +69,6 @@ capacity = 100
 maximum-am-resource-percent = 100
 "#;
 
-/// A node of each partition, an application on gpu, and two asks of it.
-const ASKED: [&str; 4] = [
-    r#"{"event":"register","label":"gpu","memory":10000,"node":"g1","vcores":10}"#,
-    r#"{"app":"j1","event":"submit","label":"gpu","memory":1000,"queue":"root.eng.ml","user":"ann","vcores":1}"#,
-    r#"{"event":"heartbeat","node":"g1"}"#,
-    r#"{"app":"j1","count":2,"event":"ask","label":"gpu","memory":2000,"priority":1,"tenant":"eng","vcores":2}"#,
-];
-
 /// An application on DEFAULT whose asks are guests of s1.
 const GUESTS: [&str; 6] = [
     r#"{"event":"register","label":"","memory":10000,"node":"d1","vcores":10}"#,
@@ -87,11 +78,6 @@ const GUESTS: [&str; 6] = [
     r#"{"event":"heartbeat","node":"d1"}"#,
     r#"{"app":"x1","count":2,"event":"ask","label":"","memory":2000,"priority":1,"tenant":"eng","vcores":2}"#,
 ];
-
-fn event_of<R: Abort>(rt: &R, alloc: Global, line: &str) -> Result<Event, NoMemory> {
-    let read = read_event(alloc, line.as_bytes())?;
-    Ok(read.expect(rt, "an event"))
-}
 
 /// The proposal of a container that an application of eng asks for.
 fn asked<R: Abort>(rt: &R, node: &str, stamp: u64, app: &str, label: Label) -> Proposal {
@@ -110,30 +96,26 @@ fn opened<R: Abort>(rt: &R, alloc: Global, config: &str) -> Result<Core, NoMemor
     Core::open(alloc, read.expect(rt, "a configuration"))
 }
 
-/// Gives the line to the cluster.
-fn give<R: Abort>(rt: &R, alloc: Global, core: &mut Core, line: &str) -> Result<(), NoMemory> {
-    let _reply = core.apply(event_of(rt, alloc, line)?)?;
-    Ok(())
-}
-
 /// A cluster that was given the lines.
-fn given<R: Abort>(rt: &R, alloc: Global, config: &str, lines: &[&str]) -> Result<Core, NoMemory> {
-    let mut core = opened(rt, alloc, config)?;
+fn given<R: Print + Abort>(rt: &R, alloc: Global, config: &str, lines: &[&str]) -> Core {
+    let mut core = match opened(rt, alloc, config) {
+        Ok(core) => core,
+        Err(NoMemory) => opened(rt, alloc, config).expect(rt, "memory"),
+    };
     for line in lines {
-        give(rt, alloc, &mut core, line)?;
+        answered(rt, &mut core, &event_of(rt, alloc, line));
     }
-    Ok(core)
+    core
 }
 
 // Run with each allocation failing in turn: where memory is refused at the first try, which a line
 // tells, the second copies.
-fn seen<R: Print + Abort>(rt: &R, core: &Core, node: &str) -> Result<Sighted, NoMemory> {
-    let node = name(rt, node);
-    match core.sight(&node) {
-        Ok(sighted) => Ok(sighted),
+fn seen<R: Print + Abort>(rt: &R, core: &Core, node: &Name) -> Sighted {
+    match core.sight(node) {
+        Ok(sighted) => sighted,
         Err(NoMemory) => {
             tell_refused(rt);
-            core.sight(&node)
+            core.sight(node).expect(rt, "memory")
         }
     }
 }
@@ -148,44 +130,48 @@ fn planned(sighted: &Sighted) -> Option<Proposal> {
 
 /// The cluster goes on, the copy does not.
 #[test]
-fn a_copy_is_planned_from_at_the_second_try(rt: HostRuntime) -> Result<(), Fail> {
-    let mut core = given(&rt, rt.alloc(), SHARED, &ASKED)?;
-    let sighted = seen(&rt, &core, "g1")?;
-    let _placed = core.apply(heartbeat(&rt, "g1"))?;
+fn a_copy_is_planned_from_at_the_second_try(rt: HostRuntime) {
+    let alloc = rt.alloc();
+    let mut core = given(&rt, alloc, SHARED, &SCRIPT);
+    let sighted = seen(&rt, &core, &name(&rt, "g1"));
+    answered(&rt, &mut core, &event_of(&rt, alloc, HEARTBEAT));
     let proposal = asked(&rt, "g1", 2, "j1", label(&rt, "gpu"));
     assert!(rt; planned(&sighted) == Some(proposal));
-    let reply = core.apply(Event::Commit { proposal })?;
+    let reply = answered(&rt, &mut core, &Event::Commit { proposal });
     assert!(rt; matches!(&reply, Reply::Refused(Refusal::Stale)));
-    Ok(())
 }
 
 #[test]
-fn a_guest_is_planned_at_the_second_try(rt: HostRuntime) -> Result<(), Fail> {
-    let core = given(&rt, rt.alloc(), SHARED, &GUESTS)?;
-    let sighted = seen(&rt, &core, "s1")?;
+fn a_guest_is_planned_at_the_second_try(rt: HostRuntime) {
+    let core = given(&rt, rt.alloc(), SHARED, &GUESTS);
+    let sighted = seen(&rt, &core, &name(&rt, "s1"));
     let proposal = asked(&rt, "s1", 1, "x1", Label::Unlabelled);
     assert!(rt; planned(&sighted) == Some(proposal));
-    Ok(())
 }
 
-/// Whether what is planned for each node is what the cluster would choose there.
-fn plans_as_it_chooses<R: Abort>(rt: &R, core: &Core, nodes: &[&str]) -> bool {
+/// Gives the lines to a cluster, and answers whether what is planned for each node is what is chosen, after each line.
+fn agrees<R: Print + Abort>(
+    rt: &R,
+    alloc: Global,
+    config: &str,
+    lines: &[&str],
+    nodes: &[&str],
+) -> bool {
+    let mut core = given(rt, alloc, config, &[]);
     let mut as_chosen = true;
-    for node in nodes {
-        let node = name(rt, node);
-        let sighted = core.sight(&node).expect(rt, "memory");
-        as_chosen = as_chosen && planned(&sighted) == core.choose(&node);
+    for line in lines {
+        answered(rt, &mut core, &event_of(rt, alloc, line));
+        as_chosen = as_chosen && plans_as_it_chooses(rt, &core, nodes);
     }
     as_chosen
 }
 
-/// Gives the lines to a cluster, and answers whether what is planned is what is chosen after each.
-fn agrees<R: Abort>(rt: &R, alloc: Global, config: &str, lines: &[&str], nodes: &[&str]) -> bool {
-    let mut core = opened(rt, alloc, config).expect(rt, "memory");
+/// Whether what is planned for each node is what the cluster would choose there.
+fn plans_as_it_chooses<R: Print + Abort>(rt: &R, core: &Core, nodes: &[&str]) -> bool {
     let mut as_chosen = true;
-    for line in lines {
-        give(rt, alloc, &mut core, line).expect(rt, "memory");
-        as_chosen = as_chosen && plans_as_it_chooses(rt, &core, nodes);
+    for node in nodes {
+        let node = name(rt, node);
+        as_chosen = as_chosen && planned(&seen(rt, core, &node)) == core.choose(&node);
     }
     as_chosen
 }

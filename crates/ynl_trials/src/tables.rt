@@ -1,9 +1,8 @@
 //! Calls of tables and of a configuration's index that no command makes, and of which no contract says that they
 //! succeed.
 
-use crate::values::path;
+use crate::values::{configured, path};
 use std::process::Abort;
-use ynl_config::built_in;
 use ynl_queues::Config;
 use ynl_resource::Label;
 use ynl_tables::containers::Containers;
@@ -36,7 +35,6 @@ fn has_its_place<R: Abort>(rt: &R, config: &Config) -> bool {
 
 #[test]
 fn an_index_has_the_queues(rt: HostRuntime) {
-    let config = built_in(rt.alloc()).expect(&rt, "memory");
-    assert!(rt; has_one_queue(&rt, &config));
-    assert!(rt; has_its_place(&rt, &config));
+    let config = configured(&rt, rt.alloc());
+    assert!(rt; has_one_queue(&rt, &config) && has_its_place(&rt, &config));
 }

@@ -1,17 +1,24 @@
 //! What a tenant sees, the answers that are picked, and a cluster without queues.
 
-ghost use Rattle.std.specs.Prelude.{◌≡◌, IfOk, length, vec_len};
+ghost use Rattle.std.specs.Prelude.{◌≡◌, length};
 
-use crate::values::{id, label, name, path, registered, size, tell_refused};
+use crate::values::{
+    NODE, configured, event_of, events_of, id, label, name, one, size, tell_refused, two,
+};
 use std::alloc::Global;
 use std::process::Abort;
-use std::test::Fail;
-use ynl_config::built_in;
 use ynl_core::{Answer, NoMemory, run};
 use ynl_model::{Event, Items, Placed, Reply, What};
 use ynl_queues::Config;
 use ynl_resource::{Label, Name, Refusal};
 use ynl_view::{pick, restrict, sole, view};
+
+const UNLABELLED: &str =
+    r#"{"event":"register","label":"","memory":10000,"node":"d1","vcores":10}"#;
+
+/// An application comes to root.
+const TO_ROOT: &str =
+    r#"{"app":"j1","event":"submit","memory":1,"queue":"root","user":"ann","vcores":1}"#;
 
 /// Whether the answer is a list of containers that were placed.
 fn is_placed(answer: &Answer) -> bool {
@@ -33,27 +40,17 @@ fn seen_of(
     pick(alloc, answers, &seen.places)
 }
 
-/// A container of the tenant's, placed on a node.
-fn container<R: Abort>(rt: &R, tenant: Name) -> Placed {
-    Placed {
+/// A list of one container of the tenant's.
+fn container<R: Abort>(rt: &R, alloc: Global, tenant: Name) -> Items<Placed> {
+    let placed = Placed {
         id: id(rt, "gpu#2"),
         node: tenant,
         tenant,
         app: tenant,
         what: What::Master,
         size: size(rt, 1000, 1),
-    }
-}
-
-/// The answers to two events, of which the second placed something.
-fn two_answers(alloc: Global, placed: Placed) -> Result<Vec<Answer>, NoMemory>
-    ensures { IfOk result (λ answers. vec_len answers ≡ 2) }
-{
-    let list = Items::new(Vec::from_slice(alloc, &[placed])?);
-    let mut answers = Vec::new(alloc);
-    answers.push(Answer::NoMemory)?;
-    answers.push(Answer::Replied(Reply::Placed(list)))?;
-    Ok(answers)
+    };
+    Items::new(one(rt, alloc, placed))
 }
 
 // Run with each allocation failing in turn: where memory is refused at the first try, which a line
@@ -64,56 +61,39 @@ fn picked<R: Print + Abort>(
     config: &Config,
     tenant: &Name,
     gpu: &Label,
-) -> Result<Vec<Answer>, NoMemory> {
-    let events = [registered(rt, "d1", ""), registered(rt, "g1", "gpu")];
-    let answers = two_answers(alloc, container(rt, *tenant))?;
+) -> Vec<Answer> {
+    let events = [event_of(rt, alloc, UNLABELLED), event_of(rt, alloc, NODE)];
+    let placed = Reply::Placed(container(rt, alloc, *tenant));
+    let answers = two(rt, alloc, Answer::NoMemory, Answer::Replied(placed));
     match seen_of(alloc, config, &events, &answers, tenant, gpu) {
-        Ok(picked) => Ok(picked),
+        Ok(picked) => picked,
         Err(NoMemory) => {
             tell_refused(rt);
-            seen_of(alloc, config, &events, &answers, tenant, gpu)
+            seen_of(alloc, config, &events, &answers, tenant, gpu).expect(rt, "memory")
         }
     }
 }
 
 #[test]
-fn picks_at_the_second_try(rt: HostRuntime) -> Result<(), Fail> {
+fn picks_at_the_second_try(rt: HostRuntime) {
+    let alloc = rt.alloc();
     let (eng, gpu) = (name(&rt, "eng"), label(&rt, "gpu"));
-    let config = built_in(rt.alloc())?;
-    assert!(rt; sole(&config, &eng, &gpu));
-    let picked = picked(&rt, rt.alloc(), &config, &eng, &gpu)?;
-    assert!(rt; picked.len() == 1 && picked.iter().all(is_placed));
-    Ok(())
-}
-
-/// An application comes to root.
-fn submitted_to_root<R: Abort>(rt: &R) -> Event {
-    Event::Submit {
-        queue: path(rt, "root"),
-        app: name(rt, "j1"),
-        user: name(rt, "ann"),
-        label: None,
-        master: size(rt, 1, 1),
-    }
-}
-
-/// Whether the event is refused for this reason.
-fn is_refused(answer: &Answer, reason: Refusal) -> bool {
-    match answer {
-        Answer::Replied(Reply::Refused(refusal)) => *refusal == reason,
-        _ => false,
-    }
+    let config = configured(&rt, alloc);
+    let picked = picked(&rt, alloc, &config, &eng, &gpu);
+    assert!(rt; sole(&config, &eng, &gpu) && picked.len() == 1 && picked.iter().all(is_placed));
 }
 
 // No text of a configuration leaves root without a queue.
 #[test]
 fn nobody_submits_to_root(rt: HostRuntime) {
     let alloc = rt.alloc();
-    let config = built_in(alloc).expect(&rt, "memory");
+    let config = configured(&rt, alloc);
     let nobody = restrict(alloc, &config, &name(&rt, "mkt")).expect(&rt, "memory");
     assert!(rt; nobody.queues().is_empty());
-    let ran = run(alloc, nobody, &[submitted_to_root(&rt)]).expect(&rt, "memory");
-    for answer in ran.answers.as_slice() {
-        assert!(rt; is_refused(answer, Refusal::NotALeaf));
-    }
+    let ran = run(alloc, nobody, &events_of(&rt, alloc, &[TO_ROOT])).expect(&rt, "memory");
+    assert!(rt; ran.answers.as_slice().iter().all(is_no_leaf));
+}
+
+fn is_no_leaf(answer: &Answer) -> bool {
+    matches!(answer, Answer::Replied(Reply::Refused(Refusal::NotALeaf)))
 }

@@ -1,5 +1,6 @@
 //! How long the commits of workers take.
 
+use crate::values::keep;
 use std::alloc::Global;
 use std::process::Abort;
 use std::rt::Clock;
@@ -45,7 +46,7 @@ pub(crate) fn watched<R: Clock + Abort>(rt: &R, alloc: Global, workers: u64) -> 
             began: AtomicU64::new(0),
             longest: AtomicU64::new(0),
         };
-        times.push(time).expect(rt, "memory");
+        keep(rt, &mut times, time);
     }
     Watch {
         rt,

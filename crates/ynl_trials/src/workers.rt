@@ -2,9 +2,9 @@
 
 ghost use Rattle.std.specs.Prelude.{◌≡◌, length, vec_len};
 
-use crate::events::{ask, called, closed_len, one, opened, submit, two};
-use crate::values::{heartbeat, id, name, registered};
-use std::alloc::{AllocError, Global};
+use crate::events::{Caller, closed, play_script};
+use crate::values::{id, keep, name, one, tell_refused, two};
+use std::alloc::Global;
 use std::process::Abort;
 use std::rt::Clock;
 use std::sync::Wait;
@@ -12,11 +12,10 @@ use std::sync::atomic::{AtomicU64, Ordering};
 use std::thread;
 use std::thread::Threads;
 use std::time::Duration;
-use ynl_core::NoMemory;
-use ynl_live::{Live, Receipt, Seat};
-use ynl_model::{Event, Reply};
-use ynl_resource::{Id, Name, Refusal};
-use ynl_workers::{End, Gate, Go, Sight, WorkerEnd, run_round};
+use ynl_live::{Live, Receipts, Seat};
+use ynl_model::Reply;
+use ynl_resource::{Name, Refusal};
+use ynl_workers::{End, Gate, Go, Sight, Unrun, WorkerEnd, run_round};
 
 /// Worker 1 waits before its commit until worker 0 is before its plan, or before its own commit, and worker 0
 /// waits there until worker 1's commit is answered. Each wait ends after ten seconds, and is then told to be late.
@@ -151,160 +150,111 @@ pub(crate) fn open() -> HaltsAt {
     HaltsAt::turn(u64::MAX)
 }
 
-/// A node, and an application with its master, that asks for two containers; with its seat and receipts.
-#[derive(Drop)]
-pub(crate) struct Started {
-    pub(crate) live: Live,
-    pub(crate) seat: Seat,
-    pub(crate) receipts: Vec<Receipt>,
-}
-
-pub(crate) fn script<R: Abort>(rt: &R) -> [Event; 4] {
-    [
-        registered(rt, "g1", "gpu"),
-        submit(rt, "j1", 1000),
-        heartbeat(rt, "g1"),
-        ask(rt),
-    ]
-}
-
-pub(crate) fn play_script<R: Wait + Abort>(rt: &R, alloc: Global) -> Result<Started, NoMemory> {
-    let (live, mut seat) = opened(rt, alloc)?;
-    let mut receipts = Vec::new(alloc);
-    for event in script(rt) {
-        called(rt, &live, &mut seat, &mut receipts, event).ok_or(NoMemory)?;
-    }
-    Ok(Started {
-        live,
-        seat,
-        receipts,
-    })
-}
-
 /// The node so many times.
-pub(crate) fn turns<R: Abort>(
-    rt: &R,
-    alloc: Global,
-    count: usize,
-) -> Result<Vec<Name>, AllocError> {
-    vec![in alloc; name(rt, "g1"); count]
-}
-
-/// The last reply of a worker.
-fn last_reply(worker: &WorkerEnd) -> Option<&Reply> {
-    match worker.receipts.last() {
-        Some(receipt) => Some(&receipt.reply),
-        None => None,
+pub(crate) fn turns<R: Abort>(rt: &R, alloc: Global, count: usize) -> Vec<Name> {
+    let mut turns = Vec::new(alloc);
+    for _ in 0..count {
+        keep(rt, &mut turns, name(rt, "g1"));
     }
+    turns
 }
 
-fn is_stale(worker: &WorkerEnd) -> bool {
-    matches!(last_reply(worker), Some(Reply::Refused(Refusal::Stale)))
-}
-
-fn is_committed_as(worker: &WorkerEnd, id: Id) -> bool {
-    match last_reply(worker) {
-        Some(Reply::Committed(container)) => container.id == id,
-        _ => false,
-    }
-}
-
-/// The scheduler, and the seats and the lists of all callers, the script's first.
-pub(crate) fn gathered(
-    alloc: Global,
-    started: Started,
-    ends: Vec<WorkerEnd>,
-) -> Result<(Live, Vec<Seat>, Vec<Vec<Receipt>>), AllocError> {
-    let Started {
-        live,
-        seat,
-        receipts,
-    } = started;
-    let mut seats = one(alloc, seat)?;
-    let mut lists = one(alloc, receipts)?;
-    for worker in ends {
-        let WorkerEnd { seat, receipts, .. } = worker;
-        seats.push(seat)?;
-        lists.push(receipts)?;
-    }
-    Ok((live, seats, lists))
-}
-
-/// A round of workers. It has no contract, since that of `run_round` would stand in the proof of each test.
-pub(crate) fn run<R: Threads + Wait + Sync, G: Gate + Sync>(
+/// A round of workers; where memory is refused, which a line tells, at the second try. It has no contract, since that of
+/// `run_round` would stand in the proof of each test.
+pub(crate) fn run<R: Threads + Wait + Sync + Print + Abort, G: Gate + Sync>(
     rt: &R,
     alloc: Global,
     live: &Live,
     seats: Vec<Seat>,
     lists: &[Vec<Name>],
     gate: &G,
-) -> Result<Vec<WorkerEnd>, NoMemory>
+) -> Vec<WorkerEnd>
     requires { length lists.now ≡ vec_len seats }
 {
     match run_round(rt, alloc, live, seats, lists, gate) {
-        Ok(ends) => Ok(ends),
-        Err(_) => Err(NoMemory),
+        Ok(ends) => ends,
+        Err(Unrun { seats }) => {
+            tell_refused(rt);
+            run_round(rt, alloc, live, seats, lists, gate)
+                .ok()
+                .expect(rt, "memory")
+        }
     }
 }
 
-/// How many entries the closed journal of the script and of all workers has.
-fn closed_after<R: Abort>(
-    rt: &R,
-    alloc: Global,
-    started: Started,
-    ends: Vec<WorkerEnd>,
-) -> Option<usize> {
-    let (live, seats, lists) = gathered(alloc, started, ends).expect(rt, "memory");
-    closed_len(alloc, live, seats, lists.as_slice())
+/// The worker's seat, with its receipts behind these.
+pub(crate) fn joined<R: Abort>(rt: &R, receipts: Receipts, worker: WorkerEnd) -> Caller {
+    let WorkerEnd {
+        seat,
+        receipts: more,
+        ..
+    } = worker;
+    let mut caller = Caller { seat, receipts };
+    for receipt in &more {
+        caller.keep(rt, receipt);
+    }
+    caller
 }
 
-/// Two workers, of which one is stale, and the other's container is committed.
-fn ends_of_two<R: Threads + Wait + Abort + Clock + Sync>(
+/// The callers of the script and of a round.
+fn gathered<R: Abort>(rt: &R, alloc: Global, first: Caller, ends: Vec<WorkerEnd>) -> Vec<Caller> {
+    let mut callers = one(rt, alloc, first);
+    for worker in ends {
+        keep(rt, &mut callers, joined(rt, Receipts::new(alloc), worker));
+    }
+    callers
+}
+
+/// The last reply of a worker.
+fn last_reply<'a, R: Abort>(rt: &R, worker: &'a WorkerEnd) -> &'a Reply {
+    &worker.receipts.last().expect(rt, "a receipt").reply
+}
+
+/// Whether the first of two workers is stale, and the other one's container is committed.
+fn are_overlapped<R: Abort>(rt: &R, ends: &[WorkerEnd]) -> bool {
+    match ends {
+        [first, last] => is_stale(rt, first) && is_committed_as(rt, last, "gpu#3"),
+        _ => false,
+    }
+}
+
+fn is_stale<R: Abort>(rt: &R, worker: &WorkerEnd) -> bool {
+    matches!(last_reply(rt, worker), Reply::Refused(Refusal::Stale))
+}
+
+fn is_committed_as<R: Abort>(rt: &R, worker: &WorkerEnd, text: &str) -> bool {
+    match last_reply(rt, worker) {
+        Reply::Committed(container) => container.id == id(rt, text),
+        _ => false,
+    }
+}
+
+/// The ends of two workers, which have a turn each.
+fn ends_of_two<R: Threads + Wait + Print + Abort + Clock + Sync>(
     rt: &R,
     alloc: Global,
-    started: &Started,
+    live: &Live,
+    seat: &Seat,
     in_plan: bool,
 ) -> Vec<WorkerEnd> {
-    let seats = two(alloc, started.seat.split(), started.seat.split()).expect(rt, "memory");
+    let seats = two(rt, alloc, seat.split(), seat.split());
+    let lists = two(rt, alloc, turns(rt, alloc, 1), turns(rt, alloc, 1));
     let gate = Overlap::new(rt, in_plan);
-    let ends = run(
-        rt,
-        alloc,
-        &started.live,
-        seats,
-        &two_turns(rt, alloc),
-        &gate,
-    );
+    let ends = run(rt, alloc, live, seats, &lists, &gate);
     assert!(rt; gate.late.load(Ordering::SeqCst) == 0);
-    ends.expect(rt, "memory")
+    ends
 }
 
-/// A turn for each of two workers.
-fn two_turns<R: Abort>(rt: &R, alloc: Global) -> Vec<Vec<Name>>
-    ensures { vec_len result ≡ 2 }
-{
-    let first = turns(rt, alloc, 1).expect(rt, "memory");
-    let second = turns(rt, alloc, 1).expect(rt, "memory");
-    two(alloc, first, second).expect(rt, "memory")
-}
-
-fn two_that_overlap<R: Threads + Wait + Abort + Clock + Sync>(
+/// The first of two workers is stale, and the other's container is committed.
+fn two_that_overlap<R: Threads + Wait + Print + Abort + Clock + Sync>(
     rt: &R,
     alloc: Global,
     in_plan: bool,
 ) {
-    let started = play_script(rt, alloc).expect(rt, "memory");
-    let ends = ends_of_two(rt, alloc, &started, in_plan);
-    assert!(rt; are_overlapped(&ends, id(rt, "gpu#3")));
-    assert!(rt; closed_after(rt, alloc, started, ends) == Some(8));
-}
-
-/// Whether the first worker is stale, and the last one's container is committed.
-fn are_overlapped(ends: &[WorkerEnd], id: Id) -> bool {
-    match ends {
-        [first, last] => is_stale(first) && is_committed_as(last, id),
-        _ => false,
-    }
+    let (live, caller) = play_script(rt, alloc);
+    let ends = ends_of_two(rt, alloc, &live, &caller.seat, in_plan);
+    assert!(rt; are_overlapped(rt, &ends));
+    assert!(rt; closed(rt, alloc, live, gathered(rt, alloc, caller, ends)) == 8);
 }
 
 #[test]
@@ -319,38 +269,29 @@ fn workers_overlap_before_the_plan(rt: HostRuntime) {
     two_that_overlap(&rt, rt.alloc(), true);
 }
 
-/// How the one worker of a round ended, and how many receipts it has.
-fn told(ends: &[WorkerEnd]) -> Option<(End, usize)> {
+/// A round of one worker over three turns on the node, which is halted at one of them, ends so, with so many receipts. The
+/// closed journal has those, and the script.
+fn halt_at<R: Threads + Wait + Print + Abort + Sync>(
+    rt: &R,
+    alloc: Global,
+    turn: u64,
+    end: End,
+    receipts: usize,
+) {
+    let (live, caller) = play_script(rt, alloc);
+    let seats = one(rt, alloc, caller.seat.split());
+    let lists = one(rt, alloc, turns(rt, alloc, 3));
+    let ends = run(rt, alloc, &live, seats, &lists, &HaltsAt::turn(turn));
+    assert!(rt; has_ended(&ends, end, receipts));
+    let entries = closed(rt, alloc, live, gathered(rt, alloc, caller, ends));
+    assert!(rt; entries.saturating_sub(4) == receipts);
+}
+
+fn has_ended(ends: &[WorkerEnd], end: End, receipts: usize) -> bool {
     match ends {
-        [worker] => Some((worker.end, worker.receipts.len())),
-        _ => None,
+        [worker] => worker.end == end && worker.receipts.len() == receipts,
+        _ => false,
     }
-}
-
-/// A round of one worker over three turns on the node, which is halted at one of them.
-fn halted<R: Threads + Wait + Abort + Sync>(
-    rt: &R,
-    alloc: Global,
-    started: &Started,
-    turn: u64,
-) -> Vec<WorkerEnd> {
-    let seats = one(alloc, started.seat.split()).expect(rt, "memory");
-    let turns = turns(rt, alloc, 3).expect(rt, "memory");
-    let lists = one(alloc, turns).expect(rt, "memory");
-    let gate = HaltsAt::turn(turn);
-    run(rt, alloc, &started.live, seats, &lists, &gate).expect(rt, "memory")
-}
-
-/// How a worker ends that is halted at a turn of three, how many receipts it has, and how many entries the closed
-/// journal.
-fn halted_at<R: Threads + Wait + Abort + Sync>(
-    rt: &R,
-    alloc: Global,
-    turn: u64,
-) -> (Option<(End, usize)>, Option<usize>) {
-    let started = play_script(rt, alloc).expect(rt, "memory");
-    let ends = halted(rt, alloc, &started, turn);
-    (told(&ends), closed_after(rt, alloc, started, ends))
 }
 
 // A worker is halted before the commit. Two containers are asked for: the third propose is answered none, so no gate
@@ -358,14 +299,7 @@ fn halted_at<R: Threads + Wait + Abort + Sync>(
 #[test]
 fn a_halted_workers_journal_is_closed(rt: HostRuntime) {
     let alloc = rt.alloc();
-    for (turn, end, entries) in [
-        (0, (End::Halted, 1), 5),
-        (1, (End::Halted, 3), 7),
-        (2, (End::Whole, 5), 9),
-    ] {
-        assert!(rt;
-            halted_at(&rt, alloc, turn) == (Some(end), Some(entries)),
-            "{turn}"
-        );
-    }
+    halt_at(&rt, alloc, 0, End::Halted, 1);
+    halt_at(&rt, alloc, 1, End::Halted, 3);
+    halt_at(&rt, alloc, 2, End::Whole, 5);
 }
