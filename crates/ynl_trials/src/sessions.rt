@@ -1,4 +1,4 @@
-//! Sessions whose workers are halted, are more than there are nodes, or have more than a stretch of them.
+//! Sessions whose workers are halted, are more than there are nodes, or have more than a batch of them.
 
 ghost use Rattle.std.specs.Prelude.{◌<◌};
 
@@ -88,10 +88,10 @@ fn workers_may_be_more_than_nodes(rt: HostRuntime) {
     assert!(rt; entries.len().saturating_sub(commits(&entries)) == 6);
 }
 
-/// A worker goes over 256 nodes in a stretch. Turns are counted through the round, and where the worker is halted in its first
-/// stretch it gets no node of the second.
+/// A worker goes over 256 nodes in a batch. Turns are counted through the round, and where the worker is halted in its first
+/// batch it gets no node of the second.
 #[test]
-fn stretches_are_one_round(rt: HostRuntime) {
+fn batches_are_one_round(rt: HostRuntime) {
     let halted = played(&rt, rt.alloc(), 256, 1, 1, &HaltsAt::turn(0));
     assert!(rt; commits(&halted) == 0 && times_asked(&rt, &halted, "g2") == 0);
     let later = played(&rt, rt.alloc(), 256, 1, 1, &HaltsAt::turn(257));
