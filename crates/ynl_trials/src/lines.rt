@@ -25,9 +25,10 @@ const ENTRIES: [&str; 8] = [
 
 /// Whether the line with spaces is the event that has its text.
 fn is_event(alloc: Global) -> Result<bool, AllocError> {
-    match read_event(alloc, SPACED.as_bytes())? {
-        Ok(event) => Ok(write_event(alloc, &event)?.as_slice() == COMPACT.as_bytes()),
-        Err(_) => Ok(false),
+    match read_event(alloc, SPACED.as_bytes()) {
+        Ok(Ok(event)) => Ok(write_event(alloc, &event)?.as_slice() == COMPACT.as_bytes()),
+        Ok(Err(_)) => Ok(false),
+        Err(e) => Err(e),
     }
 }
 
