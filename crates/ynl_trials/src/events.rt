@@ -1,5 +1,6 @@
 //! A scheduler of two tenants, and its callers.
 
+use crate::receipts::{Callers, closed_by};
 use crate::values::{SCRIPT, event_of, keep, tell_refused};
 use std::alloc::Global;
 use std::process::Abort;
@@ -180,7 +181,5 @@ pub(crate) fn closed<R: Print + Abort>(
     callers: Vec<Caller>,
 ) -> usize {
     let (seats, lists) = handed_in(rt, alloc, callers);
-    ended(rt, alloc, live, seats, &lists)
-        .ok()
-        .expect(rt, "a journal")
+    closed_by(rt, alloc, Callers { live, seats }, &lists)
 }

@@ -85,7 +85,7 @@ fn proposed<R: Print + Abort>(rt: &R, book: &mut Book) -> (u64, Sighted) {
         Ok(entered) => entered,
         Err(NoMemory) => {
             tell_refused(rt);
-            assert!(rt; book.len() <= count);
+            assert!(rt; book.len() == count);
             book.enter_propose(&node).expect(rt, "memory")
         }
     }
