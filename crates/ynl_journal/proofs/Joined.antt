@@ -1,5 +1,7 @@
 -- Histories that go on.
-use Rattle.std.proofs.Common.{◌≡◌, List, [], ◌∷◌, ◌++◌, map, Option, Some, refl}
+use Rattle.std.proofs.Common.{◌≡◌, List, [], ◌∷◌, ◌++◌, map, Option, Some, refl, ap, ◌∙◌}
+use Rattle.std.proofs.lemmas.List.{map-append}
+use Rattle.ynl_model.specs.declared.events.Event.{Event}
 use Rattle.ynl_model.specs.declared.replies.Reply.{Reply}
 use Rattle.ynl_model.specs.declared.entries.Entry.{Entry}
 use Rattle.ynl_model.specs.Queues.{Config}
@@ -39,3 +41,12 @@ cut c s (e ∷ es) fs all =
 
 pub histories_go_on : HistoriesGoOn
 histories_go_on c s first second = (cut c s first second, λ parts. joined c s first second parts.0 parts.1)
+
+-- where events lead to, and from there others
+pub after_both : (c : Config) (s : State) (es fs : List Event) → after c s (es ++ fs) ≡ after c (after c s es) fs
+after_both c s [] fs = refl
+after_both c s (e ∷ es) fs = after_both c (step c s e).state es fs
+
+-- the same of the events of entries
+pub led_on : (c : Config) (s : State) (es fs : List Entry) → after c s (events_in (es ++ fs)) ≡ after c (after c s (events_in es)) (events_in fs)
+led_on c s es fs = ap (after c s) (map-append (λ (e : Entry). e.event) es fs) ∙ after_both c s (events_in es) (events_in fs)

@@ -60,7 +60,7 @@ impl Book {
     pub fn open(alloc: Global, config: Config) -> Result<Book, NoMemory>
         ensures { IfOk result (λ book. book ≡ record { config = config; begun = opening config; entries = [] }) }
     {
-        Book::begin(alloc, Arc::new(alloc, Start::opened(config))?)
+        Book::begin(alloc, Arc::new(alloc, Start::opened(alloc, config))?)
     }
 
     /// A book without entries, of a cluster that has a state already: it goes on from there. As for

@@ -62,7 +62,7 @@ impl Live {
     pub fn open(alloc: Global, config: Config) -> Result<(Live, Seat), NoMemory>
         ensures { IfOk result (λ made. (made.0 ≡ opened config) × (made.1 ≡ record { calls = 0; front = 0 })) }
     {
-        Live::begin(alloc, Start::opened(config))
+        Live::begin(alloc, Start::opened(alloc, config))
     }
 
     /// A cluster that goes on from where this one stands, with a journal that has no entry, and the seat of its

@@ -1,7 +1,7 @@
 -- Events and entries as pieces of bytes.
 use Rattle.std.proofs.Common.{◌≡◌, ℕ, ◌<◌, List, [], ◌∷◌, ◌++◌, length, get_or, Option, Some, None, Result, Ok, Err, refl, sym, ap, subst, ◌∙◌}
 use Rattle.std.proofs.lemmas.List.{append-nil, map_push}
-use Rattle.std.proofs.lemmas.List.Elements.{All-push, All-get_or}
+use Rattle.std.proofs.lemmas.List.Elements.{All-append, All-push, All-get_or}
 use Rattle.std.specs.Prelude.{All, OnOk, OnErr}
 use Rattle.std.specs.Option.{option_map_or}
 use Rattle.ynl_model.specs.declared.events.Event.{Event}
@@ -47,6 +47,10 @@ read_is piece e found rest is fits read_found =
 pub pieces_pushed : {X E : Type 0} (Is : List ℕ → Type 0) (r : Result X E) (old new : List (List ℕ)) (piece : List ℕ) → Is piece → OnOk r (new ≡ old ++ piece ∷ []) → OnErr r (new ≡ old) → All Is old → All Is new
 pieces_pushed Is (Ok x) old new piece is ok err all = subst (All Is) (sym ok) (All-push Is old piece all is)
 pieces_pushed Is (Err x) old new piece is ok err all = subst (All Is) (sym err) all
+
+pub pieces_appended : {X E : Type 0} (Is : List ℕ → Type 0) (r : Result X E) (old others new : List (List ℕ)) → All Is others → OnOk r (new ≡ old ++ others) → OnErr r (new ≡ old) → All Is old → All Is new
+pieces_appended Is (Ok x) old others new these ok err all = subst (All Is) (sym ok) (All-append Is old others all these)
+pieces_appended Is (Err x) old others new these ok err all = subst (All Is) (sym err) all
 
 -- ---- entries
 

@@ -90,6 +90,14 @@ impl Entries {
         self.pieces.push(&self.entry)
     }
 
+    /// Puts the entries of another list behind all others. `Err` only if memory is refused; nothing has changed then.
+    pub fn append(&mut self, others: &Entries) -> Result<(), AllocError>
+        ensures ok { OnOk result (self.new ≡ self.old ++ others.now) }
+        ensures err { OnErr result (self.new ≡ self.old) }
+    {
+        self.pieces.append(&others.pieces)
+    }
+
     /// Reads the entry of this number, counted from 0, into a place. What a reply lists takes memory.
     pub fn read(&self, i: usize, into: &mut Entry) -> Result<(), AllocError>
         requires { i < length self.now }

@@ -86,6 +86,14 @@ impl Events {
         self.pieces.push(&self.event)
     }
 
+    /// Puts the events of another list behind all others. `Err` only if memory is refused; nothing has changed then.
+    pub fn append(&mut self, others: &Events) -> Result<(), AllocError>
+        ensures ok { OnOk result (self.new ≡ self.old ++ others.now) }
+        ensures err { OnErr result (self.new ≡ self.old) }
+    {
+        self.pieces.append(&others.pieces)
+    }
+
     /// The bytes of the event of this number.
     pub(crate) fn bytes(&self, i: usize) -> &[u8]
         requires { i < length self.now }

@@ -59,6 +59,21 @@ impl Pieces {
         Ok(())
     }
 
+    /// Puts the pieces of another list behind all others. Where memory is refused nothing has changed.
+    pub(crate) fn append(&mut self, others: &Pieces) -> Result<(), AllocError>
+        ensures ok { OnOk result (self.new ≡ self.old ++ others.now) }
+        ensures err { OnErr result (self.new ≡ self.old) }
+    {
+        let len = self.len();
+        for i in 0..others.len() {
+            if let Err(refused) = self.push(others.get(i)) {
+                self.truncate(len);
+                return Err(refused);
+            }
+        }
+        Ok(())
+    }
+
     /// The piece of this number.
     #[tactic(auto, using(crate::proofs::Cut::len_pieces, crate::proofs::Cut::place_inside, crate::proofs::Cut::piece_at))]
     pub(crate) fn get(&self, i: usize) -> &[u8]

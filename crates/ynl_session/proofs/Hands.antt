@@ -2,8 +2,8 @@
 use Rattle.std.proofs.Common.{◌≡◌, ℕ, ◌+◌, ◌*◌, refl, sym, ap, ◌∙◌, arith, List, [], ◌∷◌, ◌++◌, cond, Bool, true, false, length, drop, subst, All}
 use Rattle.std.specs.Prelude.{map, sum_by, count_by, IsTrue}
 use Rattle.std.specs.List.Sorted.{IsPermutation}
-use Rattle.std.proofs.lemmas.List.{map-append}
-use Rattle.std.proofs.lemmas.List.Sums.{sum_by-cons, sum_by-append}
+use Rattle.std.proofs.lemmas.List.{map-append, append_assoc}
+use Rattle.std.proofs.lemmas.List.Sums.{sum_by-cons}
 use Rattle.std.proofs.lemmas.List.Sorted.{sum_by-IsPermutation}
 use Rattle.std.proofs.lemmas.List.Elements.{All-head, All-tail, All-nil, All-cons, All-append}
 use Rattle.ynl_resource.specs.declared.names.Name.{Name}
@@ -11,22 +11,23 @@ use Rattle.ynl_resource.specs.Names.{same_name}
 use Rattle.ynl_model.specs.declared.events.Event.{Event}
 use Rattle.ynl_model.specs.declared.entries.Entry.{Entry}
 use Rattle.ynl_model.specs.declared.proposals.Proposal.{Proposal}
+use Rattle.ynl_model.specs.Cluster.{opening}
+use Rattle.ynl_model.specs.Events.{after}
 use Rattle.ynl_model.specs.View.{is_there}
 use Rattle.ynl_model.specs.declared.nodes.Tracked.{Tracked}
 use Rattle.ynl_core.specs.World.{World}
 use Rattle.ynl_laws.specs.Working.{Apart, places}
-use Rattle.ynl_laws.proofs.Soundness.Sound.{apart-after}
-use Rattle.ynl_journal.specs.Journal.{IsHistoryFrom, events_in}
+use Rattle.ynl_journal.specs.Journal.{IsHistoryFrom, events_in, replayed, replayed_from}
+use Rattle.ynl_journal.specs.Promises.{ShowsAlone}
+use Rattle.ynl_journal.proofs.Joined.{joined, led_on}
 use Rattle.ynl_live.specs.declared.receipts.Receipt.{Receipt}
 use Rattle.ynl_live.specs.Receipts.{all_receipts, EachOnce, IsAt, ListFits, entry_of}
 use Rattle.ynl_live.specs.Alone.{ShowTenantsAloneFrom}
 use Rattle.ynl_live.proofs.Sums.{count_alike}
 use Rattle.ynl_session.specs.Dealt.{times_in}
 use Rattle.ynl_session.specs.Handed.{is_workers, asks, commits, answers, AddsRounds}
-use Rattle.ynl_session.specs.Scripted.{AreCalls}
 use Rattle.ynl_session.specs.Sessions.{nodes_after, nodes_left, IsSession}
 use Rattle.ynl_session.proofs.Named.{once}
-use Rattle.ynl_session.proofs.Fronts.{front, events_called, length_called}
 
 -- ---- sums
 
@@ -63,12 +64,12 @@ empty_from_none (x ∷ xs) none = absurd (omega (arith, none, sum_by-cons (λ y.
 
 -- ---- nodes
 
--- so many rounds over the nodes that a script leaves
-rounds_over : (w : World) (events : List Event) (rounds : ℕ) (node : Name) → Apart (places w.state) → rounds * times_in node (nodes_after w events) ≡ cond (is_there (nodes_left w events) node) rounds 0
-rounds_over w events rounds node apart =
+-- so many rounds over the nodes of a cluster
+rounds_over : (w : World) (rounds : ℕ) (node : Name) → Apart (places w.state) → rounds * times_in node (nodes_after w []) ≡ cond (is_there (nodes_left w []) node) rounds 0
+rounds_over w rounds node apart =
     ap (λ n. rounds * n)
-    (sum_by_mapped (λ other. cond (same_name other node) 1 0) (λ (found : Tracked). found.name) (nodes_left w events) ∙ once node (nodes_left w events) (apart-after w.config events w.state apart))
-    ∙ elim (is_there (nodes_left w events) node) as (λ b. rounds * cond b 1 0 ≡ cond b rounds 0) [ true ↦ omega arith | false ↦ omega arith ]
+    (sum_by_mapped (λ other. cond (same_name other node) 1 0) (λ (found : Tracked). found.name) (places w.state) ∙ once node (places w.state) apart)
+    ∙ elim (is_there (places w.state) node) as (λ b. rounds * cond b 1 0 ≡ cond b rounds 0) [ true ↦ omega arith | false ↦ omega arith ]
 
 -- ---- receipts
 
@@ -79,57 +80,72 @@ all_at entries (v ∷ vs) fits =
     let here = All-head P v vs fits in
     All-append (IsAt entries) v (all_receipts vs) here.at (all_at entries vs (All-tail P v vs fits))
 
-module _ (entries : List Entry) (events : List Event) (first : List Receipt) (more : List (List Receipt)) (calls : AreCalls 0 events first)
-    (fits : All (λ list. ListFits entries list) (first ∷ more)) (once : EachOnce (length entries) (all_receipts (first ∷ more))) where
-  abbrev rest : List Entry
-  rest = drop (length first) entries
+drop_none : (entries : List Entry) → drop 0 entries ≡ entries
+drop_none [] = refl
+drop_none (e ∷ es) = refl
 
-  split : entries ≡ map entry_of first ++ rest
-  split = front entries events first calls (All-head (λ (list : List Receipt). ListFits entries list) first more fits).at
-
-  -- whatever is counted of what follows the script, the workers' receipts count it alike
-  rests_alike : (f : Entry → ℕ) → sum_by f rest ≡ sum_by (λ r. f (entry_of r)) (all_receipts more)
-  rests_alike f =
-      let alike = count_alike f entries (all_receipts (first ∷ more)) once (all_at entries (first ∷ more) fits) in
-      let left = sum_by-append (λ (r : Receipt). f (entry_of r)) first (all_receipts more) in
-      let right : sum_by f entries ≡ sum_by f (map entry_of first) + sum_by f rest = ap (sum_by f) split ∙ sum_by-append f (map entry_of first) rest in
-      let same = sum_by_mapped f entry_of first in
-      omega (arith, alike, left, right, same)
-
-  begins : events_in entries ≡ events ++ events_in rest
-  begins =
-      ap events_in split ∙ map-append (λ (e : Entry). e.event) (map entry_of first) rest
-      ∙ ap (λ es. es ++ events_in rest) (events_called 0 events first calls)
-
-pub session : (free : Type 0) (w : World) (events : List Event) (rounds : ℕ) (entries : List Entry) (nodes : List Name) (first : List Receipt) (lists : List (List Receipt))
-    → AreCalls 0 events first → AddsRounds free nodes rounds (first ∷ []) lists → Apart (places w.state) → IsPermutation (nodes_after w events) nodes
+-- rounds of workers over the nodes of a cluster, with no script before them
+pub rounds_alone : (free : Type 0) (w : World) (rounds : ℕ) (entries : List Entry) (nodes : List Name) (lists : List (List Receipt))
+    → AddsRounds free nodes rounds [] lists → Apart (places w.state) → IsPermutation (nodes_after w []) nodes
     → IsHistoryFrom w.config w.state entries → ShowTenantsAloneFrom w entries → All (λ list. ListFits entries list) lists → EachOnce (length entries) (all_receipts lists)
-    → IsSession free w events rounds entries
-session free w events rounds entries nodes first lists calls adds apart same history alone fits once =
-    let F : List (List Receipt) → Type 0 = λ ls. All (λ list. ListFits entries list) ls in
-    let O : List (List Receipt) → Type 0 = λ ls. EachOnce (length entries) (all_receipts ls) in
-    let fit : F (first ∷ adds.more) = subst F adds.all fits in
-    let each : O (first ∷ adds.more) = subst O adds.all once in
-    let alike = rests_alike entries events first adds.more calls fit each in
-    let after : List Entry = drop (length first) entries in
-    let commits_are : (q : Proposal) → count_by (commits q) (events_in after) ≡ count_by (λ receipt. commits q receipt.event) (all_receipts adds.more) =
-    λ q. sum_by_mapped (λ e. cond (commits q e) 1 0) (λ (e : Entry). e.event) after ∙ alike (λ e. cond (commits q e.event) 1 0) in
-    let answers_are : (q : Proposal) → count_by (answers q) (drop (length events) entries) ≡ count_by (λ receipt. answers q (entry_of receipt)) (all_receipts adds.more) =
-    λ q. ap (λ n. count_by (answers q) (drop n entries)) (sym (length_called 0 events first calls)) ∙ alike (λ e. cond (answers q e) 1 0) in
+    → IsSession free w [] rounds entries
+rounds_alone free w rounds entries nodes lists adds apart same history alone fits each =
+    let S : (Entry → ℕ) → List (List Receipt) → Type 0 = λ f ls. sum_by f entries ≡ sum_by (λ r. f (entry_of r)) (all_receipts ls) in
+    let alike : (f : Entry → ℕ) → S f adds.more = λ f. subst (S f) adds.all (sym (count_alike f entries (all_receipts lists) each (all_at entries lists fits))) in
+    let commits_are : (q : Proposal) → count_by (commits q) (events_in entries) ≡ count_by (λ receipt. commits q receipt.event) (all_receipts adds.more) =
+    λ q. sum_by_mapped (λ e. cond (commits q e) 1 0) (λ (e : Entry). e.event) entries ∙ alike (λ e. cond (commits q e.event) 1 0) in
+    let answers_are : (q : Proposal) → count_by (answers q) (drop 0 entries) ≡ count_by (λ receipt. answers q (entry_of receipt)) (all_receipts adds.more) =
+    λ q. ap (count_by (answers q)) (drop_none entries) ∙ alike (λ e. cond (answers q e) 1 0) in
     record {
       history = history;
-      further = events_in after;
-      begins = begins entries events first adds.more calls fit each;
+      further = events_in entries;
+      begins = refl;
       workers =
-          all_from_none is_workers (events_in after)
-          (sum_by_mapped (λ e. cond (is_workers e) 0 1) (λ (e : Entry). e.event) after ∙ alike (λ e. cond (is_workers e.event) 0 1) ∙ none_counted (λ (r : Receipt). is_workers r.event) (all_receipts adds.more) adds.workers);
+          all_from_none is_workers (events_in entries)
+          (sum_by_mapped (λ e. cond (is_workers e) 0 1) (λ (e : Entry). e.event) entries ∙ alike (λ e. cond (is_workers e.event) 0 1) ∙ none_counted (λ (r : Receipt). is_workers r.event) (all_receipts adds.more) adds.workers);
       idle = λ none.
-          let count : sum_by (λ (e : Entry). 1) after ≡ 0 = alike (λ e. 1) ∙ ap (λ ls. sum_by (λ (r : Receipt). 1) (all_receipts ls)) (adds.idle none) in
-          ap events_in (empty_from_none after count);
+          let count : sum_by (λ (e : Entry). 1) entries ≡ 0 = alike (λ e. 1) ∙ ap (λ ls. sum_by (λ (r : Receipt). 1) (all_receipts ls)) (adds.idle none) in
+          ap events_in (empty_from_none entries count);
       asked = λ is node.
-          sum_by_mapped (λ e. cond (asks node e) 1 0) (λ (e : Entry). e.event) after ∙ alike (λ e. cond (asks node e.event) 1 0) ∙ adds.asked is node
-          ∙ ap (λ n. rounds * n) (sum_by-IsPermutation (λ (other : Name). cond (same_name other node) 1 0) (nodes_after w events) nodes same) ∙ rounds_over w events rounds node apart;
+          sum_by_mapped (λ e. cond (asks node e) 1 0) (λ (e : Entry). e.event) entries ∙ alike (λ e. cond (asks node e.event) 1 0) ∙ adds.asked is node
+          ∙ ap (λ n. rounds * n) (sum_by-IsPermutation (λ (other : Name). cond (same_name other node) 1 0) (nodes_after w []) nodes same) ∙ rounds_over w rounds node apart;
       answered = λ q. let d = commits_are q in let e = answers_are q in let h = adds.answered q in omega (arith, d, e, h);
       committed = λ is q. commits_are q ∙ adds.committed is q ∙ sym (answers_are q);
       alone = alone;
     }
+
+-- ---- a script before them
+
+drop_first : (first later : List Entry) → drop (length (events_in first)) (first ++ later) ≡ later
+drop_first [] later = drop_none later
+drop_first (e ∷ first) later = drop_first first later
+
+-- a session that goes on from where a script's history leads to
+pub goes_on : (free : Type 0) (w v : World) (events : List Event) (rounds : ℕ) (first later all : List Entry)
+    → events_in first ≡ events → IsHistoryFrom w.config w.state first → v ≡ replayed_from w.config w.state first → IsSession free v [] rounds later → all ≡ first ++ later
+    → IsSession free w events rounds all
+goes_on free w v events rounds first later all same history leads session more =
+    let c = w.config in
+    let S : List Event → List Entry → Type 0 = λ es all. IsSession free w es rounds all in
+    let L : World → Type 0 = λ v. IsSession free v [] rounds later in
+    let s : L (replayed_from c w.state first) = subst L leads session in
+    let rest : (q : Proposal) → count_by (answers q) (drop (length (events_in first)) (first ++ later)) ≡ count_by (answers q) (drop 0 later) =
+    λ q. ap (count_by (answers q)) (drop_first first later ∙ sym (drop_none later)) in
+    let whole : S (events_in first) (first ++ later) = record {
+      history = joined c w.state first later history s.history;
+      further = s.further;
+      begins = map-append (λ (e : Entry). e.event) first later ∙ ap (λ es. events_in first ++ es) s.begins;
+      workers = s.workers;
+      idle = s.idle;
+      asked = s.asked;
+      answered = λ q. let a = s.answered q in let r = rest q in omega (arith, a, r);
+      committed = λ is q. s.committed is q ∙ sym (rest q);
+      alone = λ before closed is accepted t p sole.
+          let state : w.state ≡ after c (opening c) (events_in before) = ap (λ (x : World). x.state) is in
+          let own : IsHistoryFrom c (after c (opening c) (events_in before)) first = subst (λ x. IsHistoryFrom c x first) state history in
+          let led : replayed_from c w.state first ≡ replayed c (before ++ first) =
+          λ i. record { config = c; state = (ap (λ x. after c x (events_in first)) state ∙ sym (led_on c (opening c) before first)) i } in
+          subst (λ es. ShowsAlone c es t p) (append_assoc before first later)
+          (s.alone (before ++ first) (joined c (opening c) before first closed own) led accepted t p sole);
+    } in
+    subst (λ es. S es all) same (subst (S (events_in first)) (sym more) whole)

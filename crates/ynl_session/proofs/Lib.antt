@@ -1,5 +1,4 @@
 mod Named
-mod Fronts
 mod Rounds
 mod Hands
 mod Deals

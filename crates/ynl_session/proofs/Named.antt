@@ -1,26 +1,18 @@
--- Of the nodes that events leave, one has a name that is there, and none has any other.
+-- Of the nodes of a cluster, one has a name that is there, and none has any other.
 use Rattle.std.proofs.Common.{◌≡◌, Bool, true, false, cond, ℕ, ◌+◌, List, [], ◌∷◌, Some, arith, refl, sym, ap, ◌∙◌}
 use Rattle.std.specs.List.{AllByRecursion}
-use Rattle.std.specs.Prelude.{count_by, is_some}
+use Rattle.std.specs.Prelude.{count_by, is_some, map}
 use Rattle.std.proofs.lemmas.List.Sums.{sum_by-cons}
 use mathlib.Core.Bool.{true≢false}
 use Rattle.ynl_resource.specs.Names.{same_name}
 use Rattle.ynl_resource.specs.declared.names.Name.{Name}
-use Rattle.ynl_model.specs.declared.events.Event.{Event}
+use Rattle.ynl_model.specs.declared.nodes.Node.{Node}
 use Rattle.ynl_model.specs.declared.nodes.Tracked.{Tracked}
-use Rattle.ynl_model.specs.Cluster.{State}
-use Rattle.ynl_model.specs.Events.{after, step}
-use Rattle.ynl_model.specs.Queues.{Config}
-use Rattle.ynl_model.specs.View.{is_there, track_from, tracked}
-use Rattle.ynl_laws.specs.Working.{Apart, places}
+use Rattle.ynl_model.specs.Promises.{without_stamp}
+use Rattle.ynl_model.specs.View.{is_there, tracked}
+use Rattle.ynl_laws.specs.Working.{Apart}
 use Rattle.ynl_laws.proofs.Lists.{Each-weaker}
 use Rattle.ynl_laws.proofs.Names.{same-name_sym, same-name_self}
-use Rattle.ynl_laws.proofs.Soundness.Tracked.{step-is}
-
--- what is tracked from a state on is the nodes of the state that the events lead to
-pub track-is : (c : Config) (events : List Event) (s : State) → track_from c (places s) events ≡ places (after c s events)
-track-is c [] s = refl
-track-is c (event ∷ events) s = ap (λ nodes. track_from c nodes events) (sym (step-is c s event)) ∙ track-is c events (step c s event).state
 
 abbrev times : Name → List Tracked → ℕ
 times name nodes = count_by (λ node. same_name node.name name) nodes
@@ -50,3 +42,8 @@ once name (node ∷ nodes) h = more name node nodes ∙ go (same_name node.name 
         → cond b 1 0 + times name nodes ≡ cond (is_some (cond b (Some node) (tracked nodes name))) 1 0
     go true e rest = let zero = none name nodes (Each-weaker _ _ (λ other off. others name node other e off) nodes h.0) in omega (arith, zero)
     go false e rest = omega (arith, rest)
+
+-- a node has its name with its stamp and without
+pub names-unstamped : (nodes : List Node) → map (λ node. node.name) nodes ≡ map (λ node. node.name) (map without_stamp nodes)
+names-unstamped [] = refl
+names-unstamped (node ∷ nodes) = ap (λ names. node.name ∷ names) (names-unstamped nodes)

@@ -1,5 +1,4 @@
 pub mod Dealt
 pub mod Faults
 pub mod Handed
-pub mod Scripted
 pub mod Sessions

@@ -110,15 +110,14 @@ fn has_ended(end: End) -> Result<(), SessionFault>
 }
 
 impl Handed {
-    /// Nothing but the first seat and its receipts.
-    pub(crate) fn first(alloc: Global, seat: Seat, receipts: Receipts) -> Result<Handed, AllocError>
-        ensures { IfOk result (λ handed. handed.lists.items ≡ receipts ∷ []) }
+    /// No seat.
+    pub(crate) fn new(alloc: Global) -> Handed
+        ensures { result.lists.items ≡ [] }
     {
-        let mut seats = Vec::new(alloc);
-        seats.push(seat)?;
-        let mut lists = Vec::new(alloc);
-        lists.push(receipts)?;
-        Ok(Handed { seats, lists })
+        Handed {
+            seats: Vec::new(alloc),
+            lists: Vec::new(alloc),
+        }
     }
 
     /// Takes in a worker's seat and its receipts.

@@ -1,5 +1,4 @@
-//! A session of a live scheduler: the events of a script, rounds of workers over the nodes that these
-//! leave, and the closed journal.
+//! A session of a live scheduler: the events of a script, and rounds of workers over the nodes that these leave.
 //!
 //! What threads do in a session no contract can say before it has ended. Then the journal tells: it is a
 //! history of the cluster, the script stands at its front, and behind it each node of the script was asked
@@ -12,5 +11,4 @@ pub use ynl_workers::{Gate, Go, Sight};
 
 mod dealing;
 mod handing;
-mod scripted;
 mod sessions;

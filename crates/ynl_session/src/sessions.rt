@@ -1,6 +1,6 @@
 //! Sessions.
 
-ghost use Rattle.std.specs.Prelude.{◌≡◌, ◌<◌, IfOk};
+ghost use Rattle.std.specs.Prelude.{◌≡◌, ◌<◌, [], IfOk, map};
 ghost use Rattle.std.specs.List.Sorted.{IsPermutation};
 ghost use Rattle.ynl_laws.specs.Working.{Apart, places};
 ghost use Rattle.ynl_session.specs.Dealt.{AreInOrder};
@@ -8,7 +8,6 @@ ghost use Rattle.ynl_session.specs.Faults.{fault_of_cause};
 ghost use Rattle.ynl_session.specs.Sessions.{nodes_after, IsSession};
 
 use crate::handing::{Crew, Handed};
-use crate::scripted::call_events;
 use std::alloc::{AllocError, Global};
 use std::sync::Wait;
 use std::thread::Threads;
@@ -16,9 +15,9 @@ use thiserror::Error;
 use ynl_core::NoMemory;
 use ynl_journal::Start;
 use ynl_live::{CallFault, Cause, Live, close};
+use ynl_model::Node;
 use ynl_packed::{Entries, Events};
 use ynl_resource::Name;
-use ynl_view::tracked_nodes;
 use ynl_workers::{Gate, Unrun};
 
 /// Why a session has no closed journal.
@@ -89,25 +88,60 @@ fn fault_of(cause: Cause) -> SessionFault
     }
 }
 
-/// The nodes that the events leave, by name in byte order.
-fn nodes_in_order(alloc: Global, start: &Start, events: &Events) -> Result<Vec<Name>, SessionFault>
-    ensures apart { Apart (places start.now.state) }
-    ensures all { IfOk result (λ nodes. IsPermutation (nodes_after start.now events.now) nodes.items) }
-    ensures order { IfOk result (λ nodes. AreInOrder nodes.items) }
+fn names_of(alloc: Global, nodes: &[Node]) -> Result<Vec<Name>, AllocError>
+    ensures { IfOk result (λ names. names.items ≡ map (λ node. node.name) nodes.now) }
 {
-    let before = start.nodes(alloc)?;
-    let mut nodes = tracked_nodes(alloc, start.config(), &before, events)?;
-    nodes.sort()?;
-    Ok(nodes)
+    nodes.iter().map(|node| node.name).collect(alloc)
 }
 
-/// Calls the events on a cluster like the one of this start, runs so many rounds of workers over the nodes that
-/// these leave, and closes the journal. In each round the nodes, by name in byte order, are dealt out to the
-/// workers in turn, in batches: the next one begins when all workers have ended with theirs.
+/// The nodes of a start, by name in byte order.
+fn nodes_in_order(alloc: Global, start: &Start) -> Result<Vec<Name>, SessionFault>
+    ensures apart { IfOk result (λ _. Apart (places start.now.state)) }
+    ensures all { IfOk result (λ nodes. IsPermutation (nodes_after start.now []) nodes.items) }
+    ensures order { IfOk result (λ nodes. AreInOrder nodes.items) }
+{
+    let nodes = start.nodes(alloc)?;
+    let mut names = names_of(alloc, &nodes)?;
+    names.sort()?;
+    Ok(names)
+}
+
+/// The closed journal of so many rounds of workers over the nodes of a live scheduler that begins with this start.
+fn run_rounds<T: Threads + Wait + Sync, G: Gate + Sync>(
+    rt: &T,
+    alloc: Global,
+    start: Start,
+    workers: usize,
+    rounds: u64,
+    gate: &G,
+) -> Result<Entries, SessionFault>
+    requires { 0 < workers }
+    ensures { IfOk result (λ entries. IsSession (G.is_free gate.now) start [] rounds entries) }
+{
+    let nodes = nodes_in_order(alloc, &start)?;
+    let (live, seat) = Live::begin(alloc, start)?;
+    let crew = Crew {
+        live: &live,
+        seat: &seat,
+        workers,
+    };
+    let mut handed = Handed::new(alloc);
+    handed.run_rounds(rt, alloc, &crew, &nodes, rounds, gate)?;
+    let Handed { seats, lists } = handed;
+    match close(alloc, live, seats, &lists) {
+        Ok(closed) => Ok(closed.entries),
+        Err(unclosed) => Err(fault_of(unclosed.cause)),
+    }
+}
+
+/// Applies the events to a cluster like the one of this start, and puts it behind the lock of a live scheduler. Then runs so many
+/// rounds of workers over the nodes that the events left, and answers the history of all. In each round the nodes, by name in byte
+/// order, are dealt out to the workers in turn, in batches: the next one begins when all workers have ended with theirs.
 ///
-/// `Unclosed` comes where the journal is not closed for another cause than want of memory, where an event of
-/// the script got another place than its number, or where a call was told that its seat is of another
-/// scheduler.
+/// The events are one caller's, and no other is there yet: a call of theirs would wait for nobody.
+///
+/// `Unclosed` comes where the journal of the rounds is not closed for another cause than want of memory, or where a call was told
+/// that its seat is of another scheduler.
 pub fn run_session<T: Threads + Wait + Sync, G: Gate + Sync>(
     rt: &T,
     alloc: Global,
@@ -120,20 +154,8 @@ pub fn run_session<T: Threads + Wait + Sync, G: Gate + Sync>(
     requires { 0 < workers }
     ensures { IfOk result (λ entries. IsSession (G.is_free gate.now) start events.now rounds entries) }
 {
-    let nodes = nodes_in_order(alloc, &start, events)?;
-    let (live, mut seat) = Live::begin(alloc, start)?;
-    let receipts = call_events(rt, alloc, &live, &mut seat, events)?;
-    let apart = seat.split();
-    let mut handed = Handed::first(alloc, seat, receipts)?;
-    let crew = Crew {
-        live: &live,
-        seat: &apart,
-        workers,
-    };
-    handed.run_rounds(rt, alloc, &crew, &nodes, rounds, gate)?;
-    let Handed { seats, lists } = handed;
-    match close(alloc, live, seats, &lists) {
-        Ok(closed) => Ok(closed.entries),
-        Err(unclosed) => Err(fault_of(unclosed.cause)),
-    }
+    let (start, mut history) = start.after(alloc, events)?;
+    let later = run_rounds(rt, alloc, start, workers, rounds, gate)?;
+    history.append(&later)?;
+    Ok(history)
 }

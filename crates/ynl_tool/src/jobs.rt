@@ -164,38 +164,24 @@ fn audit_evidence<R: BufRead, W: Write>(
     }
 }
 
-/// Where a job begins: with a cluster that is just opened, or with that of a text's state; or how a job ends that
-/// has none, since it is not begun then.
-fn start(alloc: Global, config: Config, from: Option<&[u8]>) -> Result<Start, Ending>
-    requires { is_accepted config ≡ true }
-    ensures state { IfOk result (λ start. begins config (option_map (λ text. text.now) from.entry) ≡ Ok start.state) }
-    ensures config { IfOk result (λ start. start.config ≡ config) }
-    ensures none { IfErr result (EndsWithoutState config (option_map (λ text. text.now) from.entry)) }
-{
-    match from {
-        None => Ok(Start::opened(config)),
-        Some(text) => match read_state(alloc, config, text) {
-            Ok(Ok(core)) => Ok(Start::resumed(core)),
-            Ok(Err(bad)) => Err(Ok(Err(JobRefusal::State(bad)))),
-            Err(_) => Err(Err(ToolFault::NoMemory)),
-        },
-    }
-}
-
-/// The cluster that a job begins with, or how a job ends that has none.
+/// The cluster that a job begins with: one that is just opened, or that of a text's state; or how a job ends that has none, since
+/// it is not begun then.
 fn begin(alloc: Global, config: Config, from: Option<&[u8]>) -> Result<Core, Ending>
     requires { is_accepted config ≡ true }
     ensures state { IfOk result (λ core. begins config (option_map (λ text. text.now) from.entry) ≡ Ok core.state) }
     ensures config { IfOk result (λ core. core.config ≡ config) }
     ensures none { IfErr result (EndsWithoutState config (option_map (λ text. text.now) from.entry)) }
 {
-    let start = match start(alloc, config, from) {
-        Ok(start) => start,
-        Err(ended) => return Err(ended),
-    };
-    match start.into_cluster(alloc) {
-        Ok(core) => Ok(core),
-        Err(_) => Err(Err(ToolFault::NoMemory)),
+    match from {
+        None => match Core::open(alloc, config) {
+            Ok(core) => Ok(core),
+            Err(_) => Err(Err(ToolFault::NoMemory)),
+        },
+        Some(text) => match read_state(alloc, config, text) {
+            Ok(Ok(core)) => Ok(core),
+            Ok(Err(bad)) => Err(Ok(Err(JobRefusal::State(bad)))),
+            Err(_) => Err(Err(ToolFault::NoMemory)),
+        },
     }
 }
 
@@ -299,10 +285,11 @@ fn live_job<T: Threads + Wait + Sync, R: BufRead, W: Write>(
     requires { is_accepted config ≡ true }
     ensures { LivesJob rounds (option_map (λ text. text.now) from.entry) (between (R.remaining reader.old) (R.remaining reader.new)) (between (W.contents writer.old) (W.contents writer.new)) config result }
 {
-    let start = match start(alloc, config, from) {
-        Ok(start) => start,
+    let core = match begin(alloc, config, from) {
+        Ok(core) => core,
         Err(ended) => return ended,
     };
+    let start = Start::resumed(core);
     let count = workers.number();
     match live_lines(rt, alloc, start, count, rounds, &FreeGate, reader, writer) {
         Ok(summary) => Ok(Ok(summary)),

@@ -141,10 +141,10 @@ fn tell_session<W: Write>(
     tell_end(alloc, script, writer)
 }
 
-/// Reads the script, and only then calls its events on a live scheduler that begins with a cluster like the one of
-/// this start, runs so many rounds of workers over the nodes that these leave, and closes the journal; then writes
-/// each entry in a line with its place. A line with a fault ends the script, is reported in the last line written,
-/// and no round is run.
+/// Reads the script, and only then applies its events to a cluster like the one of this start, runs so many rounds of
+/// workers over the nodes that these leave, on a live scheduler that goes on from there, and closes the journal; then
+/// writes each entry in a line with its place. A line with a fault ends the script, is reported in the last line
+/// written, and no round is run.
 ///
 /// Where the journal is not closed nothing is written, and that is told as `Unclosed`. After a read fault
 /// nothing is written either; where memory was refused, whole lines from the front; after a write fault

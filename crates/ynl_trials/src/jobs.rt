@@ -64,7 +64,7 @@ fn lives_with_as_many_workers_as_asked(rt: HostRuntime) {
     };
     let mut writer = Sink::new(Vec::new(alloc));
     let gate = open();
-    let start = Start::opened(configured(&rt, alloc));
+    let start = Start::opened(alloc, configured(&rt, alloc));
     let ended = live_lines(&rt, alloc, start, 2, 1, &gate, &mut reader, &mut writer);
     assert!(rt; ended.is_ok() && gate.noted() == (101, 101));
 }

@@ -51,7 +51,7 @@ fn played<R: Threads + Wait + Abort + Sync, G: Gate + Sync>(
     requires { 0 < workers }
 {
     let events = events_with(rt, alloc, nodes);
-    let start = Start::opened(worked(rt, alloc).expect(rt, "memory"));
+    let start = Start::opened(alloc, worked(rt, alloc).expect(rt, "memory"));
     let ran = run_session(rt, alloc, start, &events, workers, rounds, gate);
     ran.expect(rt, "a journal").to_vec().expect(rt, "memory")
 }

@@ -1,29 +1,8 @@
-use Rattle.std.proofs.Common.{List, [], ◌∷◌, length, All, subst}
-use Rattle.ynl_resource.specs.declared.names.Name.{Name}
-use Rattle.ynl_core.specs.World.{World}
-use Rattle.ynl_journal.specs.Journal.{IsHistoryFrom}
-use Rattle.ynl_live.specs.Alone.{ShowTenantsAloneFrom}
-use Rattle.ynl_live.specs.declared.receipts.Receipt.{Receipt}
-use Rattle.ynl_live.specs.Receipts.{all_receipts, EachOnce, ListFits}
-use Rattle.ynl_session.specs.Handed.{AddsRounds}
-use Rattle.ynl_session.proofs.Hands.{session}
+use Rattle.ynl_session.proofs.Hands.{goes_on}
 use Rattle.ynl_session.proofs.sessions.run_session.Goals as goal
 
-pub returns-in-Ok : goal.returns-in-Ok
-returns-in-Ok g c =
-    let free = g.G.Gate.is_free c.args.gate.now in
-    let entries = c.in-Ok.closed.entries in
-    let nodes = c.in_ok-nodes.nodes.items in
-    let first = c.in_ok-receipts.receipts in
-    let lists = c.run_rounds.new.self.lists.items in
-    let D : List Name → Type 0 = λ ns. AddsRounds free ns c.args.rounds (first ∷ []) lists in
-    let O : List (List Receipt) → Type 0 = λ old. AddsRounds free c.deref.result.now c.args.rounds old lists in
-    let H : World → Type 0 = λ w. IsHistoryFrom w.config w.state entries in
-    let A : World → Type 0 = λ w. ShowTenantsAloneFrom w entries in
-    let F : List (List Receipt) → Type 0 = λ ls. All (λ list. ListFits entries list) ls in
-    let E : List (List Receipt) → Type 0 = λ ls. EachOnce (length entries) (all_receipts ls) in
-    let same = c.in_ok-live.ensures.0 in
-    session free c.args.start c.args.events.now c.args.rounds entries nodes first lists c.in_ok-receipts.ensures
-    (subst D c.deref.ensures.value (subst O c.in_ok-handed.ensures c.in_ok-run_rounds.ensures))
-    c.in_ok-nodes.ensures.apart c.in_ok-nodes.ensures.all (subst H same c.in-Ok.ensures.history) (subst A same c.in-Ok.ensures.alone)
-    (subst F c.deref-2.ensures.value c.in-Ok.ensures.receipts) (subst E c.deref-2.ensures.value c.in-Ok.ensures.once)
+pub returns : goal.returns
+returns g c =
+    let made = c.in_ok-start.ensures in
+    goes_on (g.G.Gate.is_free c.args.gate.now) c.args.start c.in_ok-start.start c.args.events.now c.args.rounds c.in_ok-start.history c.in_ok-later.later c.append.new.self made.events made.closed made.start c.in_ok-later.ensures
+    c.in_ok-append.ensures.ok
