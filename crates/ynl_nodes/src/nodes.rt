@@ -1,6 +1,6 @@
 //! Nodes in the order of joining.
 
-ghost use Rattle.std.specs.Prelude.{◌≡◌, ◌<◌, [], ◌∷◌, ◌++◌, Some, None, false, IfOk, OnOk, OnErr, option_copied};
+ghost use Rattle.std.specs.Prelude.{◌≡◌, ◌<◌, [], ◌∷◌, ◌++◌, Some, None, false, OnOk, OnErr, option_copied};
 ghost use Rattle.std.specs.BTreeMap.{IsOrdered, IsUnchanged, Updates};
 ghost use Rattle.std.specs.List.{AllByRecursion};
 ghost use Rattle.std.specs.Ordering.{nat_cmp};
@@ -48,13 +48,6 @@ impl Nodes {
             top: 0,
             counts: BTreeMap::new(alloc),
         }
-    }
-
-    /// The nodes, in the order of joining.
-    pub fn all(&self, alloc: Global) -> Result<Vec<Node>, AllocError>
-        ensures { IfOk result (λ nodes. nodes.items ≡ self.now) }
-    {
-        self.nodes.values().copied().collect(alloc)
     }
 
     /// The node of a name, which is lent.

@@ -1,8 +1,8 @@
 -- Lists of events, and of events with replies, as pieces of bytes.
-use Rattle.std.specs.Prelude.{◌≡◌, ℕ, List, [], ◌++◌, map, All, Bool, true, false, Option, Some, None}
+use Rattle.std.specs.Prelude.{◌≡◌, ℕ, List, [], ◌++◌, map, All, Option, Some, None}
 use Rattle.std.specs.Option.{option_map_or}
 use Rattle.ynl_model.specs.declared.events.Event.{Event}
-use Rattle.ynl_model.specs.declared.events.Event.TheVariants.{Register, Lost, Relabel, Heartbeat}
+use Rattle.ynl_model.specs.declared.events.Event.TheVariants.{Heartbeat}
 use Rattle.ynl_model.specs.declared.entries.Entry.{Entry}
 use Rattle.ynl_model.specs.declared.replies.Reply.{Reply}
 use Rattle.ynl_packed.specs.Fits.{FitsEvent}
@@ -23,13 +23,6 @@ events_in pieces = map event_in pieces
 
 abbrev pub AreEvents : List (List ℕ) → Type 0
 AreEvents pieces = All IsEvent pieces
-
--- whether an event can change which nodes there are, and where: one joins, is lost, or goes to another partition
-abbrev pub moves_nodes : Event → Bool
-moves_nodes (Register node label size) = true
-moves_nodes (Lost node) = true
-moves_nodes (Relabel node label) = true
-moves_nodes _ = false
 
 -- an event with its reply
 abbrev pub answered : Event → Reply → Entry

@@ -2,7 +2,6 @@
 
 ghost use Rattle.std.specs.Prelude.{◌≡◌, ◌+◌, ◌^◌, ◌<◌, ◌≤◌, ◌++◌, ◌∷◌, [], length, take, slice_index_or, IfOk, OnOk, OnErr};
 ghost use Rattle.ynl_packed.specs.Fits.{FitsEvent};
-ghost use Rattle.ynl_packed.specs.Lists.{moves_nodes};
 ghost use Rattle.ynl_packed.specs.Spelling.{event_bytes};
 
 use crate::cursor::Cursor;
@@ -113,14 +112,6 @@ impl Events {
             Some(()) => {}
             None => unreachable!(),
         }
-    }
-
-    /// Whether the event of this number can change which nodes there are, and where. Its first byte tells.
-    pub fn moves_nodes(&self, i: usize) -> bool
-        requires { i < length self.now }
-        ensures { (d : _) → result ≡ moves_nodes (slice_index_or self.now i d) }
-    {
-        matches!(self.bytes(i), [0..=2, ..])
     }
 
     /// Keeps so many events of the front.

@@ -1,4 +1,2 @@
 pub mod Seen
 pub mod Unstamped
-pub mod There
-pub mod Tracked

@@ -27,10 +27,6 @@ pub left_is : (nodes : List Node) (node : Node) → unstamped (left node nodes) 
 unfolding left
 left_is nodes node = sym (filter-map without_stamp (λ other. not (same_name other.name node.name && same_label other.label node.label)) nodes)
 
-pub names_is : (nodes : List Node) → map (λ node. node.name) nodes ≡ map (λ node. node.name) (unstamped nodes)
-names_is [] = refl
-names_is (node ∷ nodes) = ap (λ names. node.name ∷ names) (names_is nodes)
-
 none_mapped : {A B : Type 0} (f : A → B) (o : Option A) → option_map f o ≡ None → o ≡ None
 none_mapped f None e = refl
 none_mapped f (Some x) e = cc

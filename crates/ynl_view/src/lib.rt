@@ -5,7 +5,6 @@ pub use exclusivity::sole;
 pub use picking::{copy_reply, pick};
 pub use restriction::restrict;
 pub use track::Track;
-pub use tracking::tracked_nodes;
 pub use viewing::{see, see_into, view};
 pub use views::View;
 
@@ -14,6 +13,5 @@ mod picking;
 mod restriction;
 mod sights;
 mod track;
-mod tracking;
 mod viewing;
 mod views;

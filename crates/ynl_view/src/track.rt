@@ -1,12 +1,9 @@
 //! Where the nodes are, told from node events alone.
 
-ghost use Rattle.std.specs.Prelude.{◌≡◌, ◌≤◌, [], length, map, None, Some, true, false, OnOk, OnErr, IfOk};
+ghost use Rattle.std.specs.Prelude.{◌≡◌, [], None, Some, true, false, OnOk, OnErr};
 ghost use Rattle.std.specs.Option.{option_map_or};
 ghost use Rattle.ynl_resource.specs.Names.{same_label};
-ghost use Rattle.ynl_resource.specs.Ranges.{most_nodes};
-ghost use Rattle.ynl_model.specs.Nodes.{nodes_of};
 ghost use Rattle.ynl_model.specs.Promises.{without_stamp};
-ghost use Rattle.ynl_laws.specs.Working.{Apart};
 ghost use Rattle.ynl_model.specs.View.{tracked, is_in, has_place, registers, relabels, dropped, joined, track_step};
 ghost use Rattle.ynl_model.specs.declared.events.Event.TheVariants.{Register, Relabel};
 
@@ -53,12 +50,6 @@ fn is_on(node: &Node, label: &Label) -> bool
     node.label == *label
 }
 
-fn names_of(alloc: Global, nodes: &[Node]) -> Result<Vec<Name>, AllocError>
-    ensures { IfOk result (λ names. names.items ≡ map (λ node. node.name) nodes.now) }
-{
-    nodes.iter().map(|node| node.name).collect(alloc)
-}
-
 impl Track {
     /// The track before the first event.
     pub fn new(alloc: Global) -> Track
@@ -67,21 +58,6 @@ impl Track {
         Track {
             nodes: Nodes::new(alloc),
         }
-    }
-
-    /// The track where these nodes are there already, in this order: no two have one name, and no partition has
-    /// more than it may.
-    pub fn of(alloc: Global, nodes: &[Node]) -> Result<Track, AllocError>
-        requires apart { Apart (map without_stamp nodes.now) }
-        requires places { (p : _) → length (nodes_of nodes.now p) ≤ most_nodes }
-        ensures { IfOk result (λ track. track ≡ map without_stamp nodes.now) }
-    {
-        let mut track = Track::new(alloc);
-        for i in 0..nodes.len() {
-            let node = &nodes[i];
-            track.join(&node.name, &node.label, &node.size)?;
-        }
-        Ok(track)
     }
 
     /// The node of a name.
@@ -102,14 +78,6 @@ impl Track {
             Some(node) => is_on(node, label),
             None => false,
         }
-    }
-
-    /// The names of the nodes, in the order of joining.
-    pub(crate) fn names(&self, alloc: Global) -> Result<Vec<Name>, AllocError>
-        ensures { IfOk result (λ names. names.items ≡ map (λ node. node.name) self.now) }
-    {
-        let nodes = self.nodes.all(alloc)?;
-        names_of(alloc, &nodes)
     }
 
     fn has_place(&self, label: &Label) -> bool
