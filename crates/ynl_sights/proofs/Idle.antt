@@ -27,8 +27,7 @@ use Rattle.ynl_cluster.proofs.seating.Starting.{are-found}
 use Rattle.ynl_cluster.specs.Cluster.{AskSizes, ClusterView, IsCell, IsLaneIn}
 use Rattle.ynl_search.specs.notes.Lanes.{IsLaneOf}
 use Rattle.ynl_search.proofs.notes.LaneOf.{lane-is}
-use Rattle.ynl_sights.specs.declared.rows.Position.{Position}
-use Rattle.ynl_sights.specs.Copying.{items_in, kind_shown, kind_wanted, one_by_one, position_at, shown_as, shown_in}
+use Rattle.ynl_sights.specs.Copying.{items_in, kind_wanted}
 use Rattle.ynl_sights.proofs.Places.{each-own, IsOwn}
 
 -- nothing of a kind waits in a leaf's lane on a partition
@@ -120,37 +119,3 @@ module _ (w : ClusterView) (sound : IsSound w.rows) (sizes : AskSizes w.rows) (p
       → ((ticket : ℕ) (seat : Seat) → lookup (nat_eq ticket) lane.seats ≡ Some seat → IsWaiting (of_kind k seat.waits) → IsBelow low (of_kind k seat.waits)) → IsBelow no_size low
       → items_in w.rows (kind_wanted k w.rows p) q ≡ []
   idle k low least none = none-wanted k (none-waits w p q lane there k low least none)
-
--- ---- and nothing is copied
-
-cons-nil : {X : Type 0} (x : X) (xs : List X) → x ∷ xs ≡ [] → ⊥
-cons-nil x xs e = cc
-
-empty-parts : {X : Type 0} (xs ys : List X) → xs ++ ys ≡ [] → (xs ≡ []) × (ys ≡ [])
-empty-parts [] ys e = (refl, e)
-empty-parts (x ∷ xs) ys e = absurd (cons-nil x (xs ++ ys) e)
-
-module _ (v : Rows) (p : ℕ) where
-  -- of an application that wants nothing of a kind nothing is copied
-  one-shown : (k : Kind) (position : Position) (e : ℕ × AppRow) → map (item_for v e.1) (kind_wanted k v p e.0 e.1) ≡ [] → kind_shown k v p position e.0 e.1 ≡ []
-  one-shown kind.Master position e none = go (not (runs_at v e.0 e.1) && nat_eq e.1.home p) none
-    where
-      go : (b : Bool) → map (item_for v e.1) (cond b (master_request e.1 ∷ []) []) ≡ [] → cond b (shown_as v p position e.1 e.1.master 0 ∷ []) [] ≡ []
-      go true none = absurd (cons-nil _ _ none)
-      go false none = refl
-  one-shown kind.Ask position e none = go (runs_at v e.0 e.1) (filter (λ ask. nat_eq ask.partition p) e.1.asks) none
-    where
-      go : (b : Bool) (asks : List Ask) → map (item_for v e.1) (cond b (map ask_request asks) []) ≡ [] → cond b (map (λ ask. shown_as v p position e.1 ask.size ask.priority) asks) [] ≡ []
-      go true [] none = refl
-      go true (ask ∷ asks) none = absurd (cons-nil _ _ none)
-      go false asks none = refl
-
-  -- nor of any number of them
-  none-one-by-one : (k : Kind) (leaf place : ℕ) (apps : List (ℕ × AppRow)) → flat_map (λ e. map (item_for v e.1) (kind_wanted k v p e.0 e.1)) apps ≡ [] → one_by_one (λ n. kind_shown k v p (position_at leaf n)) place apps ≡ []
-  none-one-by-one k leaf place [] none = refl
-  none-one-by-one k leaf place (e ∷ apps) none =
-      let parts = empty-parts (map (item_for v e.1) (kind_wanted k v p e.0 e.1)) (flat_map (λ e. map (item_for v e.1) (kind_wanted k v p e.0 e.1)) apps) none in
-      λ i. one-shown k (position_at leaf place) e parts.0 i ++ none-one-by-one k leaf (place + 1) apps parts.1 i
-
-  pub none-shown : (k : Kind) (leaf : ℕ) (apps : List (ℕ × AppRow)) → flat_map (λ e. map (item_for v e.1) (kind_wanted k v p e.0 e.1)) apps ≡ [] → shown_in (kind_shown k v p) leaf apps ≡ []
-  none-shown k leaf apps none = none-one-by-one k leaf 0 apps none

@@ -22,6 +22,7 @@ use Rattle.ynl_search.specs.Places.{IsSmallPlace}
 use Rattle.ynl_search.specs.Scenes.{IsPlaceOf}
 use Rattle.ynl_sights.specs.Sights.{Bid, Offer, bid_of, offer_of, reach_of}
 use Rattle.ynl_sights.specs.Rows.{asks_in, guest_bids_in, masters_in, reach_in, reach_of_queue, standing_in, user_limit_in, way_at, AreGuests, AreLeaves, AreWays}
+use Rattle.ynl_sights.specs.declared.gathering.Busy.{Busy}
 use Rattle.ynl_sights.specs.declared.rows.QueueSight.{QueueSight}
 use Rattle.ynl_sights.specs.declared.rows.Ways.{Ways}
 use Rattle.ynl_sights.specs.declared.rows.Limits.{Limits}
@@ -111,11 +112,6 @@ asks_shown v p position row asks = map (λ ask. shown_as v p position row ask.si
 abbrev pub asked_shown : Rows → ℕ → Position → ℕ → AppRow → List (Resource × Wanted)
 asked_shown v p position n row = if runs_at v n row then asks_shown v p position row row.asks else []
 
--- what an application wants of a kind on a partition: its master, or what it asks for
-abbrev pub kind_shown : Kind → Rows → ℕ → Position → ℕ → AppRow → List (Resource × Wanted)
-kind_shown kind.Master v p = master_shown v p
-kind_shown kind.Ask v p = asked_shown v p
-
 -- numbers are those of the live applications of a leaf, in the order of submission
 abbrev pub AreAppsOf : Rows → ℕ → List ℕ → Type 0
 AreAppsOf v q numbers = numbers ≡ map (λ e. e.0) (in_leaf q v.apps)
@@ -132,6 +128,10 @@ position_at leaf place = record { leaf = leaf; place = place }
 -- of all applications of the leaf of a number
 abbrev pub shown_in : {X : Type 0} → (Position → ℕ → AppRow → List X) → ℕ → List (ℕ × AppRow) → List X
 shown_in each leaf apps = one_by_one (λ place. each (position_at leaf place)) 0 apps
+
+-- what each application of a leaf shows is added
+abbrev pub AddsShown : (Rows → ℕ → Position → ℕ → AppRow → List (Resource × Wanted)) → Rows → ℕ → Busy → List Offered → List Offered → Type 0
+AddsShown each v p leaf old new = map shown new ≡ map shown old ++ shown_in (each v p) leaf.number (in_leaf leaf.queue v.apps)
 
 -- some requests of the applications of a leaf, as the model has them
 abbrev pub items_in : Rows → (ℕ → AppRow → List Request) → ℕ → List Item

@@ -12,7 +12,7 @@ ghost use Rattle.ynl_sights.specs.Copying.{AddsGuests, AddsLeaf, IsAt};
 ghost use Rattle.ynl_sights.specs.Rows.{guest_bids_in, offers_in, AreGuests, AreLeaves};
 ghost use Rattle.ynl_sights.specs.Sights.{guests_in, offer_of, sighted};
 
-use crate::gathering::{Busy, add_wanted, count_apps, list_apps, none_waits};
+use crate::gathering::{Busy, add_asked, add_wanted, list_apps, none_waits, room_for_asks};
 use crate::rows::{GuestSights, LeafSights, Ways};
 use crate::sights::Sight;
 use crate::ways::{add_way, limits_of, start};
@@ -53,8 +53,8 @@ fn add_leaf(
         number,
         apps,
     };
-    add_wanted(cluster, p, &busy, Kind::Master, &mut out.masters)?;
-    add_wanted(cluster, p, &busy, Kind::Ask, &mut out.asks)
+    add_wanted(cluster, p, &busy, &mut out.masters, &mut out.asks)?;
+    Ok(())
 }
 
 /// What is wanted on a partition, leaf by leaf.
@@ -67,12 +67,12 @@ fn leaf_sights(alloc: Global, cluster: &Cluster, p: u8) -> Result<LeafSights, Al
 {
     let queues = cluster.inventory().layout().len();
     let root = start(cluster, p);
-    // With room for most of what comes: to grow would move the rows again and again.
+    // With room for most of what comes. Few masters wait in a leaf at a time.
     let mut leaves = LeafSights {
         ways: Ways::with_capacity(alloc, queues)?,
         limits: Vec::with_capacity(alloc, queues)?,
-        masters: Vec::with_capacity(alloc, count_apps(cluster, p, Kind::Master))?,
-        asks: Vec::with_capacity(alloc, count_apps(cluster, p, Kind::Ask))?,
+        masters: Vec::with_capacity(alloc, queues)?,
+        asks: Vec::with_capacity(alloc, room_for_asks(cluster, queues))?,
     };
     let mut apps = Vec::new(alloc);
     for queue in 1..queues {
@@ -110,7 +110,7 @@ fn add_guest_leaf(
         number,
         apps,
     };
-    add_wanted(cluster, 0, &busy, Kind::Ask, &mut out.asks)
+    add_asked(cluster, 0, &busy, &mut out.asks)
 }
 
 /// What a partition could take as guests, leaf by leaf, if it takes any.
@@ -131,7 +131,7 @@ fn guest_sights(alloc: Global, cluster: &Cluster, p: u8) -> Result<GuestSights, 
     let root = start(cluster, 0);
     let mut guests = GuestSights {
         ways: Ways::with_capacity(alloc, queues)?,
-        asks: Vec::with_capacity(alloc, count_apps(cluster, 0, Kind::Ask))?,
+        asks: Vec::with_capacity(alloc, room_for_asks(cluster, queues))?,
     };
     let mut apps = Vec::new(alloc);
     for queue in 1..queues {

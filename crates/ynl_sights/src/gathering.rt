@@ -1,6 +1,6 @@
 //! What is wanted of a leaf, as it is copied.
 
-ghost use Rattle.std.specs.Prelude.{◌≡◌, ◌≤◌, [], ◌∷◌, ◌++◌, true, length, map, nat_eq, IfSome, OnOk, Some};
+ghost use Rattle.std.specs.Prelude.{◌≡◌, ◌+◌, ◌*◌, ◌≤◌, [], ◌∷◌, ◌++◌, true, length, map, nat_eq, IfSome, OnOk, Some};
 ghost use Rattle.std.specs.Bool.{OnTrue};
 ghost use Rattle.std.specs.Map.{lookup};
 ghost use Rattle.ynl_slots.specs.Slots.{IsLive};
@@ -8,10 +8,9 @@ ghost use Rattle.ynl_layout.specs.Paths.{HasNumber};
 ghost use Rattle.ynl_lanes.specs.lane.Rows.{IsUse};
 ghost use Rattle.ynl_inventory.specs.Rows.{AppRow};
 ghost use Rattle.ynl_inventory.specs.Sound.{HasPartition, IsAskedOn};
-ghost use Rattle.ynl_cluster.specs.requests.Laws.{in_leaf};
 ghost use Rattle.ynl_cluster.specs.seating.Seating.{shares, user_use};
 ghost use Rattle.ynl_cluster.specs.Cluster.{IsCell};
-ghost use Rattle.ynl_sights.specs.Copying.{asked_shown, asks_shown, items_in, kind_shown, kind_wanted, master_shown, shown, shown_as, shown_in, AreAppsOf};
+ghost use Rattle.ynl_sights.specs.Copying.{asked_shown, asks_shown, items_in, kind_wanted, master_shown, position_at, shown, shown_as, AddsShown, AreAppsOf};
 
 use crate::rows::{Offered, Position, Wanted};
 use std::alloc::AllocError;
@@ -174,42 +173,25 @@ pub(crate) fn list_apps(
     cluster.lane(0, leaf).list_apps(apps)
 }
 
-/// How many applications there are in the leaves where something of a kind waits on a partition, or fewer: no more than are
-/// live. Most want one thing.
-pub(crate) fn count_apps(cluster: &Cluster, p: u8, kind: Kind) -> usize
-    requires { HasPartition cluster.now.rows p }
+/// How many applications there are in all leaves, or fewer: no more than are live. Each has a seat on DEFAULT.
+fn count_apps(cluster: &Cluster) -> usize
     ensures { result ≤ length cluster.now.rows.apps }
 {
     let queues = cluster.inventory().layout().len();
     let mut count: usize = 0;
     for queue in 1..queues {
-        if !none_waits(cluster, p, queue, kind) {
-            count = count.saturating_add(cluster.lane(0, queue).len());
-        }
+        count = count.saturating_add(cluster.lane(0, queue).len());
     }
     count
 }
 
-/// Adds what an application wants of a kind on the partition.
-fn add_offered(
-    cluster: &Cluster,
-    p: u8,
-    kind: Kind,
-    app: u32,
-    position: Position,
-    out: &mut Vec<Offered>,
-) -> Result<(), AllocError>
-    requires live { IsLive app cluster.now.rows.apps }
-    requires partition { HasPartition cluster.now.rows p }
-    ensures { OnOk result ((row : AppRow)
-        → lookup (nat_eq app) cluster.now.rows.apps ≡ Some row
-        → map shown out.new.items
-        ≡ map shown out.old.items ++ kind_shown kind cluster.now.rows p position app row) }
+/// Room for the asks of a sight, where there are so many queues: for one of each application, since to grow would move the rows
+/// again and again, and for eight of each queue, which is more than half of what a sight takes. So the system's allocator keeps
+/// the memory of one sight for the next. What is not used of it is never touched.
+pub(crate) fn room_for_asks(cluster: &Cluster, queues: usize) -> usize
+    ensures { result ≤ length cluster.now.rows.apps + 8 * queues }
 {
-    match kind {
-        Kind::Master => add_master(cluster, p, app, position, out),
-        Kind::Ask => add_asks(cluster, p, app, position, out),
-    }
+    count_apps(cluster).saturating_add(queues.saturating_mul(8))
 }
 
 /// A leaf of which something is wanted: its number as a queue, its number in the sight, and its applications.
@@ -220,31 +202,59 @@ pub(crate) struct Busy<'a> {
     pub(crate) apps: &'a [u32],
 }
 
-/// Adds what is wanted of a kind of a leaf on the partition. If nothing of the kind waits it goes over none of the applications.
+/// The position of an application of a leaf by its place there.
+fn position_in(leaf: &Busy<'_>, place: usize) -> Position
+    ensures { result ≡ position_at leaf.now.number place }
+{
+    Position {
+        leaf: leaf.number,
+        place: place as u64,
+    }
+}
+
+/// Adds what is wanted of a leaf on the partition.
 pub(crate) fn add_wanted(
     cluster: &Cluster,
     p: u8,
     leaf: &Busy<'_>,
-    kind: Kind,
+    masters: &mut Vec<Offered>,
+    asks: &mut Vec<Offered>,
+) -> Result<(), AllocError>
+    requires apps { AreAppsOf cluster.now.rows leaf.now.queue leaf.now.apps.now }
+    requires there { IsCell cluster.now p leaf.now.queue }
+    ensures masters { OnOk result (AddsShown master_shown cluster.now.rows p
+        leaf.now masters.old.items masters.new.items) }
+    ensures asks { OnOk result (AddsShown asked_shown cluster.now.rows p
+        leaf.now asks.old.items asks.new.items) }
+{
+    // Opens the inventory, whose rows are sound.
+    let _ = cluster.inventory();
+    let apps = leaf.apps;
+    for i in 0..apps.len() {
+        let position = position_in(leaf, i);
+        add_master(cluster, p, apps[i], position, masters)?;
+        add_asks(cluster, p, apps[i], position, asks)?;
+    }
+    Ok(())
+}
+
+/// Adds what is asked for of a leaf on the partition.
+pub(crate) fn add_asked(
+    cluster: &Cluster,
+    p: u8,
+    leaf: &Busy<'_>,
     out: &mut Vec<Offered>,
 ) -> Result<(), AllocError>
     requires apps { AreAppsOf cluster.now.rows leaf.now.queue leaf.now.apps.now }
     requires there { IsCell cluster.now p leaf.now.queue }
-    ensures { OnOk result (map shown out.new.items ≡ map shown out.old.items
-        ++ shown_in (kind_shown kind cluster.now.rows p) leaf.now.number (in_leaf leaf.now.queue cluster.now.rows.apps)) }
+    ensures { OnOk result (AddsShown asked_shown cluster.now.rows p
+        leaf.now out.old.items out.new.items) }
 {
     // Opens the inventory, whose rows are sound.
     let _ = cluster.inventory();
-    if none_waits(cluster, p, leaf.queue, kind) {
-        return Ok(());
-    }
     let apps = leaf.apps;
     for i in 0..apps.len() {
-        let position = Position {
-            leaf: leaf.number,
-            place: i as u64,
-        };
-        add_offered(cluster, p, kind, apps[i], position, out)?;
+        add_asks(cluster, p, apps[i], position_in(leaf, i), out)?;
     }
     Ok(())
 }
