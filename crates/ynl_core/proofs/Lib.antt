@@ -6,3 +6,4 @@ mod Sighting
 pub mod RunMore
 mod Alone
 mod Copied
+pub mod Listing

@@ -8,3 +8,4 @@ pub mod Sightings
 pub mod Explaining
 pub mod Copying
 pub mod CopyingFields
+pub mod Ending

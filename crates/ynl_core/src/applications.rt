@@ -36,6 +36,8 @@ impl Core {
             Err(refusal) => return Ok(Some(refusal)),
         };
         let _sized = master.amount();
+        // Opens the rows, which are sound, here and below.
+        let _ = self.cluster.inventory();
         let new = NewSubmission {
             tenant: numbers.tenant,
             leaf: numbers.leaf,
@@ -43,7 +45,9 @@ impl Core {
             home: numbers.home,
             master_size: *master,
         };
+        let _ = self.cluster.inventory();
         submit(&mut self.cluster, &mut self.shut, app, &new)?;
+        self.lists.forget(numbers.leaf as usize);
         Ok(None)
     }
 
@@ -65,7 +69,9 @@ impl Core {
             Err(refusal) => return Ok(Some(refusal)),
         };
         let _sized = row.size.amount();
+        let leaf = self.cluster.inventory().app(asking.app).leaf;
         ask(&mut self.cluster, &mut self.shut, asking.app, asking.ask)?;
+        self.lists.forget(leaf as usize);
         Ok(None)
     }
 
@@ -79,7 +85,11 @@ impl Core {
             Ok(app) => app,
             Err(refusal) => return Some(refusal),
         };
+        let leaf = self.cluster.inventory().app(app).leaf;
         finish(&mut self.cluster, &mut self.shut, app);
+        // Opens the rows, which are sound.
+        let _ = self.cluster.inventory();
+        self.lists.forget(leaf as usize);
         None
     }
 

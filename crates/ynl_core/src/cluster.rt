@@ -18,10 +18,10 @@ ghost use Rattle.ynl_waits.specs.Laws.{AreNextPlaced, IsNotCommitted, IsNotPlace
 ghost use Rattle.ynl_waits.specs.Waits.{explained_of};
 
 use crate::memory::NoMemory;
-use crate::sightings::Sighted;
+use crate::sightings::{Sighted, look};
 use std::alloc::Global;
 use std::marker::Model;
-use ynl_admission::{node_named, partition_of, placing};
+use ynl_admission::{node_named, partition_of};
 use ynl_cluster::Cluster;
 use ynl_model::{AskRow, Event, Node, Placed, Proposal, Reply};
 use ynl_queues::Config;
@@ -30,16 +30,18 @@ use ynl_replies::{containers, nodes};
 use ynl_resource::{Label, Name, Path, Refusal, Resource, Size};
 use ynl_search::notes::Shut;
 use ynl_service::{check, proposed};
-use ynl_sights::Sight;
+use ynl_sights::LeafLists;
 use ynl_snapshots::Saving;
 use ynl_waits::Explained;
 
 /// A cluster: what it is configured with, and its state. It keeps the rooms in which a search found
-/// nothing below a queue, so that heartbeats search there no more until something is wanted.
+/// nothing below a queue, so that heartbeats search there no more until something is wanted, and the lists
+/// of what is wanted of leaves, so that the next sight makes anew those alone that a change made wrong.
 pub struct Core {
     pub(crate) alloc: Global,
     pub(crate) cluster: Cluster,
     pub(crate) shut: Shut,
+    pub(crate) lists: LeafLists,
 }
 
 // By hand, so that crates above call it: one that is derived is proved anew in each of them, with all that it holds.
@@ -49,6 +51,7 @@ impl Drop for Core {
             alloc: _,
             cluster: _,
             shut: _,
+            lists: _,
         } = self;
     }
 }
@@ -96,6 +99,7 @@ impl Core {
             alloc,
             cluster,
             shut,
+            lists: LeafLists::none(alloc),
         })
     }
 
@@ -199,17 +203,23 @@ impl Core {
 
     /// A copy of what a choice on the node reads, or the first reason for which nothing may be placed there. The choice from the
     /// copy is the reply to a propose on the node now. Nothing changes; `Err` only if memory is refused.
-    #[tactic(auto, unfolding(ynl_model::specs::Events::reasons))]
     #[inline(never)]
     pub fn sight(&self, node: &Name) -> Result<Sighted, NoMemory>
         ensures sighting { IfOk result (IsSighting self.now node.now) }
         ensures told { IfOk result (λ sighted. Answers self.now (Propose node.now) self.now (reply_by sighted)) }
     {
-        let node = match placing(&self.cluster, node) {
-            Ok(node) => node,
-            Err(refusal) => return Ok(Sighted::Refused(refusal)),
-        };
-        Ok(Sighted::Seen(Sight::copy(self.alloc, &self.cluster, node)?))
+        let mut lists = LeafLists::none(self.alloc);
+        look(self.alloc, &self.cluster, &mut lists, node)
+    }
+
+    /// The same as `sight`, which keeps its lists of what is wanted of leaves: the next one shares those that still hold.
+    #[inline(never)]
+    pub fn see(&mut self, node: &Name) -> Result<Sighted, NoMemory>
+        ensures sighting { IfOk result (IsSighting self.old node.now) }
+        ensures told { IfOk result (λ sighted. Answers self.old (Propose node.now) self.new (reply_by sighted)) }
+        ensures same { self.new ≡ self.old }
+    {
+        look(self.alloc, &self.cluster, &mut self.lists, node)
     }
 
     /// What would be placed on the node next, with its stamp; nothing where there is no such node. It

@@ -1,17 +1,33 @@
 //! What happens to containers, and what is proposed and committed.
 
-ghost use Rattle.std.specs.Prelude.{◌≡◌, IfOk, IsOk, IsTrue, OnErr};
+ghost use Rattle.std.specs.Prelude.{◌≡◌, IfOk, IsOk, IsSome, IsTrue, OnErr};
 ghost use Rattle.ynl_model.specs.declared.events.Event.TheVariants.{Commit, Exited, Propose, Release};
+ghost use Rattle.ynl_inventory.specs.Parts.{held_at};
+ghost use Rattle.ynl_inventory.specs.Sound.{IsSound};
+ghost use Rattle.ynl_core.specs.Ending.{IsOfLeaf};
 ghost use Rattle.ynl_core.specs.Sure.{is_refused};
 ghost use Rattle.ynl_core.specs.World.{done_unless, Answers};
 
 use crate::cluster::Core;
 use crate::memory::NoMemory;
 use ynl_admission as admission;
+use ynl_admission::Held;
+use ynl_cluster::Cluster;
 use ynl_model::{Proposal, Reply};
 use ynl_resource::{Id, Name, Refusal};
 use ynl_search::notes::{end, place};
 use ynl_service::{check, proposed};
+
+/// The leaf of the application whose container this is.
+fn leaf_of(cluster: &Cluster, held: &Held) -> usize
+    requires { IsSome (held_at cluster.now.rows held.now.partition held.now.number) }
+    ensures leaf { IsOfLeaf cluster.now.rows held.now.partition held.now.number result }
+    ensures sound { IsSound cluster.now.rows }
+{
+    let inventory = cluster.inventory();
+    let container = inventory.container(held.partition, held.number);
+    inventory.app(container.app).leaf as usize
+}
 
 impl Core {
     /// A container ended by itself.
@@ -24,12 +40,14 @@ impl Core {
             Ok(held) => held,
             Err(refusal) => return Some(refusal),
         };
+        let leaf = leaf_of(&self.cluster, &held);
         end(
             &mut self.cluster,
             &mut self.shut,
             held.partition,
             held.number,
         );
+        self.lists.forget(leaf);
         None
     }
 
@@ -43,12 +61,14 @@ impl Core {
             Ok(held) => held,
             Err(refusal) => return Some(refusal),
         };
+        let leaf = leaf_of(&self.cluster, &held);
         end(
             &mut self.cluster,
             &mut self.shut,
             held.partition,
             held.number,
         );
+        self.lists.forget(leaf);
         None
     }
 
@@ -79,9 +99,12 @@ impl Core {
             Err(refusal) => return Ok(Reply::Refused(refusal)),
         };
         let _sized = proposal.size.amount();
-        let p = self.cluster.inventory().node(placement.node).partition;
+        let inventory = self.cluster.inventory();
+        let p = inventory.node(placement.node).partition;
+        let leaf = inventory.app(placement.app).leaf;
         self.cluster.reserve_for(p, 1)?;
         let placed = place(&mut self.cluster, &mut self.shut, &placement);
+        self.lists.forget(leaf as usize);
         Ok(Reply::Committed(placed))
     }
 }

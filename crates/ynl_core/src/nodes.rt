@@ -34,6 +34,7 @@ impl Core {
         let _sized = size.amount();
         self.cluster.join(name, p, *size)?;
         self.shut.forget_all();
+        self.lists.forget_all();
         Ok(None)
     }
 
@@ -49,6 +50,7 @@ impl Core {
         };
         self.cluster.leave(node);
         self.shut.forget_all();
+        self.lists.forget_all();
         None
     }
 
@@ -70,6 +72,7 @@ impl Core {
         };
         self.cluster.relabel(moved.node, moved.partition)?;
         self.shut.forget_all();
+        self.lists.forget_all();
         Ok(None)
     }
 
@@ -97,6 +100,7 @@ impl Core {
         placed.reserve(count as usize)?;
         self.cluster.reserve_for(p, count)?;
         serve(&mut self.cluster, &mut self.shut, node, count, placed);
+        self.lists.forget_all();
         Ok(None)
     }
 

@@ -24,6 +24,7 @@ impl Core {
         };
         self.cluster.set_stopped(number, true);
         self.shut.forget_all();
+        self.lists.forget_all();
         None
     }
 
@@ -39,6 +40,7 @@ impl Core {
         };
         self.cluster.set_stopped(number, false);
         self.shut.forget_all();
+        self.lists.forget_all();
         None
     }
 
@@ -59,6 +61,7 @@ impl Core {
         };
         self.cluster.set_maximum(cell.partition, cell.queue, share);
         self.shut.forget_all();
+        self.lists.forget_all();
         None
     }
 

@@ -147,7 +147,7 @@ impl Book {
         let place = self.events.len();
         let event = Event::Propose { node: *node };
         keep(&mut self.events, &mut self.planned, &event)?;
-        match self.core.sight(node) {
+        match self.core.see(node) {
             Ok(sighted) => {
                 self.planned.push_reserved(true);
                 Ok((place as u64, sighted))

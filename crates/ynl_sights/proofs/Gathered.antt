@@ -28,12 +28,11 @@ more each k (suc i) (a ∷ apps) e at =
     ∙ ap (λ rest. each k a.0 a.1 ++ rest) (more each (k + 1) i apps e at ∙ ap (λ n. one_by_one each (k + 1) (take i apps) ++ each n e.0 e.1) there)
     ∙ sym (append_assoc (each k a.0 a.1) (one_by_one each (k + 1) (take i apps)) (each (k + suc i) e.0 e.1))
 
-pub taken : {X : Type 0} (each : ℕ → ℕ → AppRow → List X) (apps : List (ℕ × AppRow)) (i n : ℕ) (row : AppRow) → slice_get apps i ≡ Some (n, row) → (base olds news : List X)
-    → olds ≡ base ++ one_by_one each 0 (take i apps) → news ≡ olds ++ each i n row → news ≡ base ++ one_by_one each 0 (take (i + 1) apps)
-taken each apps i n row at base olds news so_far added =
+pub taken : {X : Type 0} (each : ℕ → ℕ → AppRow → List X) (apps : List (ℕ × AppRow)) (i n : ℕ) (row : AppRow) → slice_get apps i ≡ Some (n, row) → (olds news : List X)
+    → olds ≡ one_by_one each 0 (take i apps) → news ≡ olds ++ each i n row → news ≡ one_by_one each 0 (take (i + 1) apps)
+taken each apps i n row at olds news so_far added =
     let here : i ≡ 0 + i = omega arith in
-    added ∙ (λ j. so_far j ++ each (here j) n row)
-    ∙ append_assoc base (one_by_one each 0 (take i apps)) (each (0 + i) n row) ∙ ap (λ rest. base ++ rest) (sym (more each 0 i apps (n, row) at))
+    added ∙ (λ j. so_far j ++ each (here j) n row) ∙ sym (more each 0 i apps (n, row) at)
 
 -- what is found in a place
 pub read-at : {X : Type 0} (xs : List X) (k : ℕ) (x none : X) → slice_get xs k ≡ Some x → get_or xs k none ≡ x

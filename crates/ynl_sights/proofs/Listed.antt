@@ -11,7 +11,7 @@ use Rattle.ynl_resource.specs.declared.labels.Label.{Label}
 use Rattle.ynl_model.specs.Applications.{Application, LeafApps, all_apps}
 use Rattle.ynl_model.specs.declared.applications.AskRow.{AskRow}
 use Rattle.ynl_model.specs.Cluster.{State, runs, waits}
-use Rattle.ynl_model.specs.Service.{Item, ask_item, asks_for, asks_of, items_for, master_item, masters_for}
+use Rattle.ynl_model.specs.Service.{Item, ask_item, asks_for, asks_of, master_item, masters_for}
 use Rattle.ynl_laws.proofs.Lists.{Each-kept, filter-agree, filter-map, flat-map, map-map}
 use Rattle.ynl_slots.proofs.Lists.{all_from}
 use Rattle.ynl_tables.specs.declared.apps.asks.Ask.{Ask}
@@ -152,8 +152,8 @@ module _ (w : ClusterView) (sound : IsSound w.rows) (p : ℕ) (has : HasPartitio
       flat-map (λ (row : LeafApps). row.apps) (leaf_of w.rows) (leaf_numbers w.rows.paths)
       ∙ flat-alike (λ q. (leaf_of w.rows q).apps) (λ q. map (app_of w.rows) (in_leaf q w.rows.apps)) (λ q. in-order w.rows q sound) (leaf_numbers w.rows.paths)
 
-  pub masters-are : masters_for s label ≡ flat_map (items_in w.rows (master_wanted w.rows p)) (leaf_numbers w.rows.paths)
-  masters-are =
+  pub masters-listed : masters_for s label ≡ flat_map (items_in w.rows (master_wanted w.rows p)) (leaf_numbers w.rows.paths)
+  masters-listed =
       ap (λ apps. map master_item (filter is_waiting apps)) apps-are
       ∙ ap (map master_item) (filter-flat is_waiting (λ q. map (app_of w.rows) (in_leaf q w.rows.apps)) (leaf_numbers w.rows.paths))
       ∙ map-flat master_item (λ q. filter is_waiting (map (app_of w.rows) (in_leaf q w.rows.apps))) (leaf_numbers w.rows.paths)
@@ -168,8 +168,3 @@ module _ (w : ClusterView) (sound : IsSound w.rows) (p : ℕ) (has : HasPartitio
       ∙ flat-flat (asks_of label) (λ q. filter (runs s) (map (app_of w.rows) (in_leaf q w.rows.apps))) (leaf_numbers w.rows.paths)
       ∙ flat-alike (λ q. flat_map (asks_of label) (filter (runs s) (map (app_of w.rows) (in_leaf q w.rows.apps)))) (items_in w.rows (asked w.rows p))
       (λ q. asks-own (in_leaf q w.rows.apps) (own-apps q)) (leaf_numbers w.rows.paths)
-
-  pub items-listed : items_for s label
-      ≡ flat_map (items_in w.rows (master_wanted w.rows p)) (leaf_numbers w.rows.paths) ++ flat_map (items_in w.rows (asked w.rows p)) (leaf_numbers w.rows.paths)
-  unfolding items_for
-  items-listed = λ i. masters-are i ++ asks-listed i

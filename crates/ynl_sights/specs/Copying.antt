@@ -1,5 +1,5 @@
 -- What is copied of a cluster is what there is to see of it.
-use Rattle.std.specs.Prelude.{◌≡◌, ℕ, ◌+◌, ◌<◌, not, ◌&&◌, nat_eq, List, [], ◌∷◌, ◌++◌, map, filter, flat_map, length, take, slice_index_or, if◌then◌else◌}
+use Rattle.std.specs.Prelude.{◌≡◌, ℕ, ◌+◌, not, ◌&&◌, nat_eq, List, [], ◌∷◌, ◌++◌, map, filter, flat_map, length, take, slice_index_or, if◌then◌else◌}
 use Rattle.ynl_resource.specs.Amounts.{nothing}
 use Rattle.ynl_resource.specs.Names.{root, way_to}
 use Rattle.ynl_resource.specs.declared.amounts.Resource.{Resource}
@@ -20,16 +20,11 @@ use Rattle.ynl_cluster.specs.Cluster.{ClusterView, label_of, path_of, state_in}
 use Rattle.ynl_search.specs.declared.place.Place.{Place}
 use Rattle.ynl_search.specs.Places.{IsSmallPlace}
 use Rattle.ynl_search.specs.Scenes.{IsPlaceOf}
-use Rattle.ynl_sights.specs.Sights.{Bid, Offer, bid_of, offer_of, reach_of}
-use Rattle.ynl_sights.specs.Rows.{asks_in, guest_bids_in, masters_in, reach_in, reach_of_queue, standing_in, user_limit_in, way_at, AreGuests, AreLeaves, AreWays}
-use Rattle.ynl_sights.specs.declared.gathering.Busy.{Busy}
+use Rattle.ynl_sights.specs.Sights.{Offer, offer_of, reach_of}
+use Rattle.ynl_sights.specs.Rows.{asks_in, masters_in, reach_in, reach_of_queue, standing_in, user_limit_in, AreLeaves}
 use Rattle.ynl_sights.specs.declared.rows.QueueSight.{QueueSight}
-use Rattle.ynl_sights.specs.declared.rows.Ways.{Ways}
 use Rattle.ynl_sights.specs.declared.rows.Limits.{Limits}
 use Rattle.ynl_sights.specs.declared.rows.LeafSights.{LeafSights}
-use Rattle.ynl_sights.specs.declared.rows.GuestSights.{GuestSights}
-use Rattle.ynl_sights.specs.declared.rows.Offered.{Offered}
-use Rattle.ynl_sights.specs.declared.rows.Position.{Position}
 use Rattle.ynl_sights.specs.declared.rows.Wanted.{Wanted}
 
 -- ---- ways and limits
@@ -65,16 +60,8 @@ pub record AddsTo (w : ClusterView) (p : ℕ) (leaf : Path) (depth : ℕ) (old n
 abbrev pub AddsAll : ClusterView → ℕ → ℕ → List QueueSight → List QueueSight → Type 0
 AddsAll w p q old new = AddsTo w p (path_of w q) (length (path_of w q)) old new
 
--- the way to a leaf is added
-pub record AddsWay (w : ClusterView) (p q : ℕ) (old new : Ways) : Type 0 where
-  pub count : length new.spans.items ≡ length old.spans.items + 1
-  pub ways : AreWays new
-  pub kept : (leaf : ℕ) → leaf < length old.spans.items → way_at new leaf ≡ way_at old leaf
-  pub own : AreAllTo w p q (way_at new (length old.spans.items))
-
 -- limits are those of a leaf on a partition
 pub record AreLimitsOf (w : ClusterView) (p q : ℕ) (limits : Limits) : Type 0 where
-  pub root : reach_in limits.root ≡ reach_of (state_in w) (label_of w p) root
   pub user_limit : (size : Resource) → user_limit_in limits size ≡ user_limit w.config (state_in w) (path_of w q) (label_of w p) size
   pub masters : limits.masters ≡ masters_used (state_in w) (path_of w q) (label_of w p)
   pub master_limit : limits.master_limit ≡ master_limit w.config (state_in w) (path_of w q) (label_of w p)
@@ -82,35 +69,31 @@ pub record AreLimitsOf (w : ClusterView) (p q : ℕ) (limits : Limits) : Type 0 
 
 -- ---- what applications want
 
--- what a request shows: what its user uses, and the rest
-abbrev pub shown : Offered → Resource × Wanted
-shown offered = (offered.user_used, offered.wanted)
-
 -- a request of an application that stands so
-abbrev pub wanted_as : Rows → Position → AppRow → Resource → ℕ → Wanted
-wanted_as v position row size priority = record {
-  position = position;
+abbrev pub wanted_as : Rows → ℕ → AppRow → Resource → ℕ → Wanted
+wanted_as v place row size priority = record {
+  place = place;
   size = size;
   priority = priority;
   app = app_name v.tenants row.tenant row.turn;
-  user = record { marker = record {}; value = slice_index_or v.users row.user [] };
+  user = slice_index_or v.users row.user [];
 }
 
 -- with what its user uses of the leaf's part of a partition
-abbrev pub shown_as : Rows → ℕ → Position → AppRow → Resource → ℕ → Resource × Wanted
-shown_as v p position row size priority = (user_use v p row.leaf row.user, wanted_as v position row size priority)
+abbrev pub shown_as : Rows → ℕ → ℕ → AppRow → Resource → ℕ → Resource × Wanted
+shown_as v p place row size priority = (user_use v p row.leaf row.user, wanted_as v place row size priority)
 
 -- an application's master, which is wanted on the home partition while the application does not run
-abbrev pub master_shown : Rows → ℕ → Position → ℕ → AppRow → List (Resource × Wanted)
-master_shown v p position n row = if not (runs_at v n row) && nat_eq row.home p then shown_as v p position row row.master 0 ∷ [] else []
+abbrev pub master_shown : Rows → ℕ → ℕ → ℕ → AppRow → List (Resource × Wanted)
+master_shown v p place n row = if not (runs_at v n row) && nat_eq row.home p then shown_as v p place row row.master 0 ∷ [] else []
 
 -- some asks of an application, as far as they are for a partition
-abbrev pub asks_shown : Rows → ℕ → Position → AppRow → List Ask → List (Resource × Wanted)
-asks_shown v p position row asks = map (λ ask. shown_as v p position row ask.size ask.priority) (filter (λ ask. nat_eq ask.partition p) asks)
+abbrev pub asks_shown : Rows → ℕ → ℕ → AppRow → List Ask → List (Resource × Wanted)
+asks_shown v p place row asks = map (λ ask. shown_as v p place row ask.size ask.priority) (filter (λ ask. nat_eq ask.partition p) asks)
 
 -- what an application asks for on a partition while it runs
-abbrev pub asked_shown : Rows → ℕ → Position → ℕ → AppRow → List (Resource × Wanted)
-asked_shown v p position n row = if runs_at v n row then asks_shown v p position row row.asks else []
+abbrev pub asked_shown : Rows → ℕ → ℕ → ℕ → AppRow → List (Resource × Wanted)
+asked_shown v p place n row = if runs_at v n row then asks_shown v p place row row.asks else []
 
 -- numbers are those of the live applications of a leaf, in the order of submission
 abbrev pub AreAppsOf : Rows → ℕ → List ℕ → Type 0
@@ -121,18 +104,6 @@ abbrev pub one_by_one : {X : Type 0} → (ℕ → ℕ → AppRow → List X) →
 one_by_one each place [] = []
 one_by_one each place (e ∷ apps) = each place e.0 e.1 ++ one_by_one each (place + 1) apps
 
--- the position in a place in a leaf
-abbrev pub position_at : ℕ → ℕ → Position
-position_at leaf place = record { leaf = leaf; place = place }
-
--- of all applications of the leaf of a number
-abbrev pub shown_in : {X : Type 0} → (Position → ℕ → AppRow → List X) → ℕ → List (ℕ × AppRow) → List X
-shown_in each leaf apps = one_by_one (λ place. each (position_at leaf place)) 0 apps
-
--- what each application of a leaf shows is added
-abbrev pub AddsShown : (Rows → ℕ → Position → ℕ → AppRow → List (Resource × Wanted)) → Rows → ℕ → Busy → List Offered → List Offered → Type 0
-AddsShown each v p leaf old new = map shown new ≡ map shown old ++ shown_in (each v p) leaf.number (in_leaf leaf.queue v.apps)
-
 -- some requests of the applications of a leaf, as the model has them
 abbrev pub items_in : Rows → (ℕ → AppRow → List Request) → ℕ → List Item
 items_in v among q = flat_map (λ e. map (item_for v e.1) (among e.0 e.1)) (in_leaf q v.apps)
@@ -141,10 +112,6 @@ items_in v among q = flat_map (λ e. map (item_for v e.1) (among e.0 e.1)) (in_l
 abbrev pub offers_at : ClusterView → ℕ → (ℕ → AppRow → List Request) → ℕ → List Offer
 offers_at w p among q = map (offer_of w.config (state_in w) (label_of w p)) (items_in w.rows among q)
 
--- and as guests
-abbrev pub bids_at : ClusterView → ℕ → (ℕ → AppRow → List Request) → ℕ → List Bid
-bids_at w p among q = map (bid_of w.config (state_in w) (label_of w p)) (items_in w.rows among q)
-
 -- what an application wants on a partition, of a kind: its master, or what it asks for
 abbrev pub kind_wanted : Kind → Rows → ℕ → ℕ → AppRow → List Request
 kind_wanted kind.Master v p = master_wanted v p
@@ -152,13 +119,13 @@ kind_wanted kind.Ask v p = asked v p
 
 -- ---- leaf after leaf
 
+-- leaves have ways, below what root uses of a partition and may use
+pub record AreLeavesOn (w : ClusterView) (p : ℕ) (leaves : LeafSights) : Type 0 where
+  pub root : reach_in leaves.root ≡ reach_of (state_in w) (label_of w p) root
+  pub ways : AreLeaves leaves
+
 -- a leaf is added with what is wanted of it
 pub record AddsLeaf (w : ClusterView) (p q : ℕ) (old new : LeafSights) : Type 0 where
-  pub leaves : AreLeaves new
+  pub leaves : AreLeavesOn w p new
   pub masters : masters_in new ≡ masters_in old ++ offers_at w p (master_wanted w.rows p) q
   pub asks : asks_in (label_of w p) new ≡ asks_in (label_of w p) old ++ offers_at w p (asked w.rows p) q
-
--- with what is asked for there on DEFAULT
-pub record AddsGuests (w : ClusterView) (q : ℕ) (old new : GuestSights) : Type 0 where
-  pub guests : AreGuests new
-  pub bids : guest_bids_in new ≡ guest_bids_in old ++ bids_at w 0 (asked w.rows 0) q

@@ -1,6 +1,6 @@
 //! What is wanted of a leaf, as it is copied.
 
-ghost use Rattle.std.specs.Prelude.{◌≡◌, ◌+◌, ◌*◌, ◌≤◌, [], ◌∷◌, ◌++◌, true, length, map, nat_eq, IfSome, OnOk, Some};
+ghost use Rattle.std.specs.Prelude.{◌≡◌, [], ◌∷◌, ◌++◌, true, map, nat_eq, IfOk, IfSome, OnOk, Some};
 ghost use Rattle.std.specs.Bool.{OnTrue};
 ghost use Rattle.std.specs.Map.{lookup};
 ghost use Rattle.ynl_slots.specs.Slots.{IsLive};
@@ -10,11 +10,12 @@ ghost use Rattle.ynl_inventory.specs.Rows.{AppRow};
 ghost use Rattle.ynl_inventory.specs.Sound.{HasPartition, IsAskedOn};
 ghost use Rattle.ynl_cluster.specs.seating.Seating.{shares, user_use};
 ghost use Rattle.ynl_cluster.specs.Cluster.{IsCell};
-ghost use Rattle.ynl_sights.specs.Copying.{asked_shown, asks_shown, items_in, kind_wanted, master_shown, position_at, shown, shown_as, AddsShown, AreAppsOf};
+ghost use Rattle.ynl_sights.specs.Copying.{asked_shown, asks_shown, items_in, kind_wanted, master_shown, shown_as, AreAppsOf};
+ghost use Rattle.ynl_sights.specs.Lists.{IsListOf};
+ghost use Rattle.ynl_sights.specs.Rows.{shown};
 
-use crate::rows::{Offered, Position, Wanted};
-use std::alloc::AllocError;
-use std::snapshot::Snapshot;
+use crate::rows::{LeafList, Offered, Wanted};
+use std::alloc::{AllocError, Global};
 use ynl_cluster::Cluster;
 use ynl_lanes::lane::Kind;
 use ynl_lanes::lows::Low;
@@ -53,22 +54,15 @@ pub(crate) fn none_waits(cluster: &Cluster, p: u8, leaf: usize, kind: Kind) -> b
     Low::NONE.fits(&least.amount())
 }
 
-/// A request of an application in this position, with what its user uses of
+/// A request of an application in this place, with what its user uses of
 /// the leaf's part of a partition.
-fn offered_of(
-    cluster: &Cluster,
-    p: u8,
-    app: u32,
-    position: Position,
-    size: Size,
-    priority: u32,
-) -> Offered
+fn offered_of(cluster: &Cluster, p: u8, app: u32, place: u64, size: Size, priority: u32) -> Offered
     requires live { IsLive app cluster.now.rows.apps }
     requires partition { HasPartition cluster.now.rows p }
     requires shares { IfSome (lookup (nat_eq app) cluster.now.rows.apps)
         (λ row. shares p row ≡ true) }
     ensures { (row : AppRow) → lookup (nat_eq app) cluster.now.rows.apps ≡ Some row
-        → shown result ≡ shown_as cluster.now.rows p position row size priority }
+        → shown result ≡ shown_as cluster.now.rows p place row size priority }
 {
     let user_used = used_by(cluster, p, app);
     let inventory = cluster.inventory();
@@ -76,11 +70,11 @@ fn offered_of(
     Offered {
         user_used,
         wanted: Wanted {
-            position,
+            place,
             size,
             priority,
             app: *inventory.app_name(app),
-            user: Snapshot::of(inventory.user_name(row.user)),
+            user: *inventory.user_name(row.user),
         },
     }
 }
@@ -90,7 +84,7 @@ fn add_master(
     cluster: &Cluster,
     p: u8,
     app: u32,
-    position: Position,
+    place: u64,
     out: &mut Vec<Offered>,
 ) -> Result<(), AllocError>
     requires live { IsLive app cluster.now.rows.apps }
@@ -98,12 +92,12 @@ fn add_master(
     ensures { OnOk result ((row : AppRow)
         → lookup (nat_eq app) cluster.now.rows.apps ≡ Some row
         → map shown out.new.items
-        ≡ map shown out.old.items ++ master_shown cluster.now.rows p position app row) }
+        ≡ map shown out.old.items ++ master_shown cluster.now.rows p place app row) }
 {
     let inventory = cluster.inventory();
     let row = inventory.app(app);
     if row.home == p && !inventory.runs(app) {
-        out.push(offered_of(cluster, p, app, position, row.master_size, 0))?;
+        out.push(offered_of(cluster, p, app, place, row.master_size, 0))?;
     }
     Ok(())
 }
@@ -113,7 +107,7 @@ fn add_ask(
     cluster: &Cluster,
     p: u8,
     app: u32,
-    position: Position,
+    place: u64,
     ask: &Ask,
     out: &mut Vec<Offered>,
 ) -> Result<(), AllocError>
@@ -124,10 +118,10 @@ fn add_ask(
     ensures { OnOk result ((row : AppRow)
         → lookup (nat_eq app) cluster.now.rows.apps ≡ Some row
         → map shown out.new.items
-        ≡ map shown out.old.items ++ asks_shown cluster.now.rows p position row (ask.now ∷ [])) }
+        ≡ map shown out.old.items ++ asks_shown cluster.now.rows p place row (ask.now ∷ [])) }
 {
     if ask.partition == p {
-        out.push(offered_of(cluster, p, app, position, ask.size, ask.priority))?;
+        out.push(offered_of(cluster, p, app, place, ask.size, ask.priority))?;
     }
     Ok(())
 }
@@ -137,7 +131,7 @@ fn add_asks(
     cluster: &Cluster,
     p: u8,
     app: u32,
-    position: Position,
+    place: u64,
     out: &mut Vec<Offered>,
 ) -> Result<(), AllocError>
     requires live { IsLive app cluster.now.rows.apps }
@@ -145,7 +139,7 @@ fn add_asks(
     ensures { OnOk result ((row : AppRow)
         → lookup (nat_eq app) cluster.now.rows.apps ≡ Some row
         → map shown out.new.items
-        ≡ map shown out.old.items ++ asked_shown cluster.now.rows p position app row) }
+        ≡ map shown out.old.items ++ asked_shown cluster.now.rows p place app row) }
 {
     let inventory = cluster.inventory();
     if !inventory.runs(app) {
@@ -153,7 +147,7 @@ fn add_asks(
     }
     let asks = inventory.app(app).asks.as_slice();
     for ask in asks {
-        add_ask(cluster, p, app, position, ask, out)?;
+        add_ask(cluster, p, app, place, ask, out)?;
     }
     Ok(())
 }
@@ -173,88 +167,26 @@ pub(crate) fn list_apps(
     cluster.lane(0, leaf).list_apps(apps)
 }
 
-/// How many applications there are in all leaves, or fewer: no more than are live. Each has a seat on DEFAULT.
-fn count_apps(cluster: &Cluster) -> usize
-    ensures { result ≤ length cluster.now.rows.apps }
-{
-    let queues = cluster.inventory().layout().len();
-    let mut count: usize = 0;
-    for queue in 1..queues {
-        count = count.saturating_add(cluster.lane(0, queue).len());
-    }
-    count
-}
-
-/// Room for the asks of a sight, where there are so many queues: for one of each application, since to grow would move the rows
-/// again and again, and for eight of each queue, which is more than half of what a sight takes. So the system's allocator keeps
-/// the memory of one sight for the next. What is not used of it is never touched.
-pub(crate) fn room_for_asks(cluster: &Cluster, queues: usize) -> usize
-    ensures { result ≤ length cluster.now.rows.apps + 8 * queues }
-{
-    count_apps(cluster).saturating_add(queues.saturating_mul(8))
-}
-
-/// A leaf of which something is wanted: its number as a queue, its number in the sight, and its applications.
-#[derive(Clone, Copy)]
-pub(crate) struct Busy<'a> {
-    pub(crate) queue: usize,
-    pub(crate) number: usize,
-    pub(crate) apps: &'a [u32],
-}
-
-/// The position of an application of a leaf by its place there.
-fn position_in(leaf: &Busy<'_>, place: usize) -> Position
-    ensures { result ≡ position_at leaf.now.number place }
-{
-    Position {
-        leaf: leaf.number,
-        place: place as u64,
-    }
-}
-
-/// Adds what is wanted of a leaf on the partition.
-pub(crate) fn add_wanted(
+/// What is wanted of a leaf on a partition.
+pub(crate) fn list_of(
+    alloc: Global,
     cluster: &Cluster,
     p: u8,
-    leaf: &Busy<'_>,
-    masters: &mut Vec<Offered>,
-    asks: &mut Vec<Offered>,
-) -> Result<(), AllocError>
-    requires apps { AreAppsOf cluster.now.rows leaf.now.queue leaf.now.apps.now }
-    requires there { IsCell cluster.now p leaf.now.queue }
-    ensures masters { OnOk result (AddsShown master_shown cluster.now.rows p
-        leaf.now masters.old.items masters.new.items) }
-    ensures asks { OnOk result (AddsShown asked_shown cluster.now.rows p
-        leaf.now asks.old.items asks.new.items) }
+    leaf: usize,
+) -> Result<LeafList, AllocError>
+    requires { IsCell cluster.now p leaf }
+    ensures { IfOk result (IsListOf cluster.now.rows p leaf) }
 {
     // Opens the inventory, whose rows are sound.
     let _ = cluster.inventory();
-    let apps = leaf.apps;
+    let mut listed = Vec::new(alloc);
+    list_apps(cluster, leaf, &mut listed)?;
+    let apps = listed.as_slice();
+    let mut masters = Vec::new(alloc);
+    let mut asks = Vec::with_capacity(alloc, apps.len())?;
     for i in 0..apps.len() {
-        let position = position_in(leaf, i);
-        add_master(cluster, p, apps[i], position, masters)?;
-        add_asks(cluster, p, apps[i], position, asks)?;
+        add_master(cluster, p, apps[i], i as u64, &mut masters)?;
+        add_asks(cluster, p, apps[i], i as u64, &mut asks)?;
     }
-    Ok(())
-}
-
-/// Adds what is asked for of a leaf on the partition.
-pub(crate) fn add_asked(
-    cluster: &Cluster,
-    p: u8,
-    leaf: &Busy<'_>,
-    out: &mut Vec<Offered>,
-) -> Result<(), AllocError>
-    requires apps { AreAppsOf cluster.now.rows leaf.now.queue leaf.now.apps.now }
-    requires there { IsCell cluster.now p leaf.now.queue }
-    ensures { OnOk result (AddsShown asked_shown cluster.now.rows p
-        leaf.now out.old.items out.new.items) }
-{
-    // Opens the inventory, whose rows are sound.
-    let _ = cluster.inventory();
-    let apps = leaf.apps;
-    for i in 0..apps.len() {
-        add_asks(cluster, p, apps[i], position_in(leaf, i), out)?;
-    }
-    Ok(())
+    Ok(LeafList { masters, asks })
 }

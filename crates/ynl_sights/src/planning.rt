@@ -10,14 +10,16 @@ ghost use Rattle.ynl_model.specs.Queues.{Config};
 ghost use Rattle.ynl_model.specs.Service.{key_order, standing_order as by_standing};
 ghost use Rattle.ynl_model.specs.declared.nodes.Node.{Node as Noded};
 ghost use Rattle.ynl_sights.specs.Sights.{chosen, first_bid, has_room, keeps_share, open_bids, passes, planned, sighted, stays_within};
-ghost use Rattle.ynl_sights.specs.Rows.{asks_in, bid_in, guest_bids_in, masters_in, offer_by, offers_of, reach_in, reach_of_queue, standing_in, tests_in, AreGuests, AreLeaves, IsOf};
+ghost use Rattle.ynl_sights.specs.Rows.{asks_at, asks_in, bid_in, bids_of, masters_at, masters_in, offer_at, offer_by, reach_in, reach_of_queue, shown, standing_in, tests_in, AreLeaves, IsSpan};
+ghost use Rattle.ynl_resource.specs.declared.labels.Label.TheVariants.{Unlabelled};
 ghost use Rattle.ynl_resource.specs.declared.amounts.Resource.{Resource as Amount};
+ghost use Rattle.ynl_sights.specs.declared.rows.Margin.{Margin as Reaches};
 ghost use Rattle.ynl_sights.specs.declared.rows.QueueSight.{QueueSight as Queue};
 ghost use Rattle.ynl_sights.specs.declared.rows.Wanted.{Wanted as Want};
 ghost use Rattle.ynl_sights.specs.Planning.{bid_of, overtakes, HoldsFirst, open_in};
 
 use crate::order::{rank_order, standing_order};
-use crate::rows::{GuestSights, Held, LeafSights, Limits, Margin, Offered, QueueSight, Wanted};
+use crate::rows::{Held, LeafSight, LeafSights, Limits, Margin, Offered, QueueSight, Wanted};
 use crate::sights::Sight;
 use std::cmp::Ordering;
 use ynl_model::{Node, Proposal, What};
@@ -41,7 +43,7 @@ fn ways_order(a: &[QueueSight], b: &[QueueSight]) -> Ordering
 fn turn_order(a: &Held<'_>, b: &Held<'_>) -> Ordering
     ensures { result ≡ slice_cmp nat_cmp (bid_of a.now).key.turn (bid_of b.now).key.turn }
 {
-    match a.wanted.position.place.cmp(&b.wanted.position.place) {
+    match a.wanted.place.cmp(&b.wanted.place) {
         Ordering::Equal => rank_order(&a.what, &b.what),
         other => other,
     }
@@ -85,7 +87,7 @@ fn stay_within(queues: &[QueueSight], size: &Resource) -> bool
 /// Whether a request keeps the master share, which is tested for masters alone.
 fn keeps_share(limits: &Limits, what: &What, size: &Resource) -> bool
     requires { (size.now.memory < 2 ^ 32) × (size.now.vcores ≤ 65536) }
-    ensures { (way : List Queue) (used : Amount) (wanted : Want) → result ≡ keeps_share what.now size.now (tests_in way limits.now used wanted) }
+    ensures { (root : Reaches) (way : List Queue) (used : Amount) (wanted : Want) → result ≡ keeps_share what.now size.now (tests_in root way limits.now used wanted) }
 {
     match what {
         What::Master => {
@@ -98,18 +100,19 @@ fn keeps_share(limits: &Limits, what: &What, size: &Resource) -> bool
 /// Whether a request passes its tests.
 fn passes(
     free: &Resource,
+    root: &Margin,
     way: &[QueueSight],
     limits: &Limits,
     what: &What,
     offered: &Offered,
 ) -> bool
-    ensures { result ≡ passes free.now (offer_by way.now limits.now what.now offered.now.user_used offered.now.wanted) }
+    ensures { result ≡ passes free.now (offer_by root.now way.now limits.now what.now (shown offered.now)) }
 {
     let size = offered.wanted.size.amount();
     if !size.fits_in(*free) {
         return false;
     }
-    if !stays_within(&limits.root, &size) || !stay_within(way, &size) {
+    if !stays_within(root, &size) || !stay_within(way, &size) {
         return false;
     }
     let with = offered.user_used.add(size);
@@ -140,18 +143,33 @@ fn hold_wanted<'a>(
 fn hold_offered<'a>(
     free: &Resource,
     leaves: &'a LeafSights,
+    leaf: &'a LeafSight,
     what: &What,
     offered: &'a Offered,
     held: &mut Option<Held<'a>>,
 )
-    requires leaves { AreLeaves leaves.now }
-    requires there { IsOf (length leaves.now.ways.spans.items) offered.now }
-    ensures { HoldsFirst held.old (open_in free.now (offers_of leaves.now what.now offered.now)) held.new }
+    requires { IsSpan leaves.now.queues.items leaf.now }
+    ensures { HoldsFirst held.old (open_in free.now (offer_at leaves.now leaf.now what.now offered.now ∷ [])) held.new }
 {
-    let leaf = offered.wanted.position.leaf;
-    let way = leaves.ways.way(leaf);
-    if passes(free, way, &leaves.limits[leaf], what, offered) {
+    let way = leaves.way(leaf);
+    if passes(free, &leaves.root, way, &leaf.limits, what, offered) {
         hold_wanted(way, what, &offered.wanted, held);
+    }
+}
+
+/// The masters of a leaf.
+fn hold_masters_of<'a>(
+    free: &Resource,
+    leaves: &'a LeafSights,
+    leaf: &'a LeafSight,
+    held: &mut Option<Held<'a>>,
+)
+    requires { IsSpan leaves.now.queues.items leaf.now }
+    ensures { HoldsFirst held.old (open_in free.now (masters_at leaves.now leaf.now)) held.new }
+{
+    let masters = leaf.list.masters.as_slice();
+    for offered in masters {
+        hold_offered(free, leaves, leaf, &What::Master, offered, held);
     }
 }
 
@@ -160,9 +178,27 @@ fn hold_masters<'a>(free: &Resource, leaves: &'a LeafSights, held: &mut Option<H
     requires { AreLeaves leaves.now }
     ensures { HoldsFirst held.old (open_in free.now (masters_in leaves.now)) held.new }
 {
-    let masters = leaves.masters.as_slice();
-    for offered in masters {
-        hold_offered(free, leaves, &What::Master, offered, held);
+    let all = leaves.leaves.as_slice();
+    for leaf in all {
+        hold_masters_of(free, leaves, leaf, held);
+    }
+}
+
+/// What is asked for on the partition in a leaf.
+fn hold_asks_of<'a>(
+    free: &Resource,
+    label: &Label,
+    leaves: &'a LeafSights,
+    leaf: &'a LeafSight,
+    held: &mut Option<Held<'a>>,
+)
+    requires { IsSpan leaves.now.queues.items leaf.now }
+    ensures { HoldsFirst held.old (open_in free.now (asks_at label.now leaves.now leaf.now)) held.new }
+{
+    let asks = leaf.list.asks.as_slice();
+    for offered in asks {
+        let what = What::Ask(*label, offered.wanted.priority);
+        hold_offered(free, leaves, leaf, &what, offered, held);
     }
 }
 
@@ -176,10 +212,9 @@ fn hold_asks<'a>(
     requires { AreLeaves leaves.now }
     ensures { HoldsFirst held.old (open_in free.now (asks_in label.now leaves.now)) held.new }
 {
-    let asks = leaves.asks.as_slice();
-    for offered in asks {
-        let what = What::Ask(*label, offered.wanted.priority);
-        hold_offered(free, leaves, &what, offered, held);
+    let all = leaves.leaves.as_slice();
+    for leaf in all {
+        hold_asks_of(free, label, leaves, leaf, held);
     }
 }
 
@@ -193,18 +228,35 @@ fn first_wanted(sight: &Sight) -> Option<Held<'_>>
     held
 }
 
-/// The guests that have room.
-fn hold_guests<'a>(free: &Resource, guests: &'a GuestSights, held: &mut Option<Held<'a>>)
-    requires { AreGuests guests.now }
-    ensures { HoldsFirst held.old (filter (has_room free.now) (guest_bids_in guests.now)) held.new }
+/// The guests of a leaf that have room.
+fn hold_guests_of<'a>(
+    free: &Resource,
+    guests: &'a LeafSights,
+    leaf: &'a LeafSight,
+    held: &mut Option<Held<'a>>,
+)
+    requires { IsSpan guests.now.queues.items leaf.now }
+    ensures { HoldsFirst held.old (filter (has_room free.now) (bids_of (asks_at Unlabelled guests.now leaf.now))) held.new }
 {
-    let asks = guests.asks.as_slice();
+    let way = guests.way(leaf);
+    let asks = leaf.list.asks.as_slice();
     for offered in asks {
         let wanted = &offered.wanted;
         if wanted.size.amount().fits_in(*free) {
             let what = What::Ask(Label::Unlabelled, wanted.priority);
-            hold_wanted(guests.ways.way(wanted.position.leaf), &what, wanted, held);
+            hold_wanted(way, &what, wanted, held);
         }
+    }
+}
+
+/// The guests that have room.
+fn hold_guests<'a>(free: &Resource, guests: &'a LeafSights, held: &mut Option<Held<'a>>)
+    requires { AreLeaves guests.now }
+    ensures { HoldsFirst held.old (filter (has_room free.now) (bids_of (asks_in Unlabelled guests.now))) held.new }
+{
+    let all = guests.leaves.as_slice();
+    for leaf in all {
+        hold_guests_of(free, guests, leaf, held);
     }
 }
 
@@ -213,7 +265,9 @@ fn first_guest(sight: &Sight) -> Option<Held<'_>>
     ensures { option_map bid_of result ≡ first_bid (filter (has_room sight.now.free) sight.now.guests) }
 {
     let mut held = None;
-    hold_guests(&sight.free, &sight.guests, &mut held);
+    if let Some(guests) = &sight.guests {
+        hold_guests(&sight.free, guests, &mut held);
+    }
     held
 }
 

@@ -1,6 +1,6 @@
 //! The copy of what a choice on a node reads.
 
-use crate::rows::{GuestSights, LeafSights};
+use crate::rows::LeafSights;
 use std::marker::Model;
 use ynl_model::Node;
 use ynl_resource::Resource;
@@ -12,7 +12,7 @@ pub struct Sight {
     pub(crate) node: Node,
     pub(crate) free: Resource,
     pub(crate) leaves: LeafSights,
-    pub(crate) guests: GuestSights,
+    pub(crate) guests: Option<LeafSights>,
 }
 
 // By hand, so that crates above call it: one that is derived is proved anew in each of them, with all that it holds.

@@ -1,12 +1,14 @@
 //! The queues on the way to a leaf and the leaf's limits, as they are copied.
 
-ghost use Rattle.std.specs.Prelude.{◌<◌, length, OnOk};
+ghost use Rattle.std.specs.Prelude.{◌≡◌, ◌<◌, length, OnOk};
+ghost use Rattle.ynl_resource.specs.Names.{root};
 ghost use Rattle.ynl_inventory.specs.Sound.{HasPartition};
-ghost use Rattle.ynl_cluster.specs.Cluster.{path_of, IsCell};
-ghost use Rattle.ynl_sights.specs.Copying.{AddsAll, AddsWay, AreLimitsOf, IsAt, IsQueueOf};
-ghost use Rattle.ynl_sights.specs.Rows.{AreWays};
+ghost use Rattle.ynl_cluster.specs.Cluster.{label_of, path_of, state_in, IsCell};
+ghost use Rattle.ynl_sights.specs.Copying.{AddsAll, AreLimitsOf, IsAt, IsQueueOf};
+ghost use Rattle.ynl_sights.specs.Rows.{reach_in};
+ghost use Rattle.ynl_sights.specs.Sights.{reach_of};
 
-use crate::rows::{Limits, Margin, QueueSight, Span, Ways};
+use crate::rows::{Limits, Margin, QueueSight};
 use std::alloc::AllocError;
 use ynl_cluster::Cluster;
 use ynl_resource::Resource;
@@ -44,7 +46,7 @@ fn queue_at(cluster: &Cluster, p: u8, queue: usize, place: &Place) -> QueueSight
 }
 
 /// Adds the queues on the way to a leaf. The place becomes the leaf's.
-fn add_queues(
+pub(crate) fn add_queues(
     cluster: &Cluster,
     p: u8,
     leaf: usize,
@@ -68,28 +70,6 @@ fn add_queues(
     Ok(())
 }
 
-/// Adds the way to a leaf. The place becomes the leaf's.
-pub(crate) fn add_way(
-    cluster: &Cluster,
-    p: u8,
-    leaf: usize,
-    place: &mut Place,
-    ways: &mut Ways,
-) -> Result<(), AllocError>
-    requires there { IsCell cluster.now p leaf }
-    requires below_root { 0 < leaf }
-    requires place { IsAt cluster.now p 0 place.old }
-    requires ways { AreWays ways.old }
-    ensures ways { OnOk result (AddsWay cluster.now p leaf ways.old ways.new) }
-    ensures place { OnOk result (IsAt cluster.now p leaf place.new) }
-{
-    let start = ways.queues.len();
-    add_queues(cluster, p, leaf, place, &mut ways.queues)?;
-    let end = ways.queues.len();
-    ways.spans.push(Span { start, end })?;
-    Ok(())
-}
-
 /// What the requests of a leaf are tested against, where the leaf was reached.
 pub(crate) fn limits_of(cluster: &Cluster, p: u8, leaf: usize, place: &Place) -> Limits
     requires there { IsCell cluster.now p leaf }
@@ -99,13 +79,20 @@ pub(crate) fn limits_of(cluster: &Cluster, p: u8, leaf: usize, place: &Place) ->
 {
     let tests = tests_of(cluster, p, place);
     Limits {
-        root: Margin {
-            used: cluster.used(p, 0).used,
-            maximum: cluster.total(p),
-        },
         users: tests.limits(),
         masters: tests.masters(),
         master_limit: tests.master_limit(),
         no_master: !tests.has_master(),
+    }
+}
+
+/// What root uses of a partition, and all that is there.
+pub(crate) fn margin_of_root(cluster: &Cluster, p: u8) -> Margin
+    requires { HasPartition cluster.now.rows p }
+    ensures { reach_in result ≡ reach_of (state_in cluster.now) (label_of cluster.now p) root }
+{
+    Margin {
+        used: cluster.used(p, 0).used,
+        maximum: cluster.total(p),
     }
 }

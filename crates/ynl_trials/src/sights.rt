@@ -120,6 +120,17 @@ fn seen<R: Print + Abort>(rt: &R, core: &Core, node: &Name) -> Sighted {
     }
 }
 
+/// The same, of a cluster that keeps its lists.
+fn seen_again<R: Print + Abort>(rt: &R, core: &mut Core, node: &Name) -> Sighted {
+    match core.see(node) {
+        Ok(sighted) => sighted,
+        Err(NoMemory) => {
+            tell_refused(rt);
+            core.see(node).expect(rt, "memory")
+        }
+    }
+}
+
 /// What is planned from what was seen; a refusal plans nothing.
 fn planned(sighted: &Sighted) -> Option<Proposal> {
     match sighted {
@@ -161,17 +172,20 @@ fn agrees<R: Print + Abort>(
     let mut as_chosen = true;
     for line in lines {
         answered(rt, &mut core, &event_of(rt, alloc, line));
-        as_chosen = as_chosen && plans_as_it_chooses(rt, &core, nodes);
+        as_chosen = as_chosen && plans_as_it_chooses(rt, &mut core, nodes);
     }
     as_chosen
 }
 
-/// Whether what is planned for each node is what the cluster would choose there.
-fn plans_as_it_chooses<R: Print + Abort>(rt: &R, core: &Core, nodes: &[&str]) -> bool {
+/// Whether what is planned for each node is what the cluster would choose there, with the lists that are kept and without.
+fn plans_as_it_chooses<R: Print + Abort>(rt: &R, core: &mut Core, nodes: &[&str]) -> bool {
     let mut as_chosen = true;
     for node in nodes {
         let node = name(rt, node);
-        as_chosen = as_chosen && planned(&seen(rt, core, &node)) == core.choose(&node);
+        let choice = core.choose(&node);
+        as_chosen = as_chosen
+            && planned(&seen(rt, core, &node)) == choice
+            && planned(&seen_again(rt, core, &node)) == choice;
     }
     as_chosen
 }
@@ -203,6 +217,15 @@ const MORNING: [&str; 22] = [
     r#"{"event":"heartbeat","node":"s1"}"#,
 ];
 
+/// What changes the lists of one leaf each.
+const EVENING: [&str; 5] = [
+    r#"{"event":"release","id":"gpu#7","tenant":"eng"}"#,
+    r##"{"event":"exited","id":"#4","node":"d1"}"##,
+    r#"{"app":"j2","event":"finish","tenant":"eng"}"#,
+    r#"{"app":"j4","event":"submit","label":"gpu","memory":100,"queue":"root.eng.etl","user":"cat","vcores":1}"#,
+    r#"{"app":"x1","count":1,"event":"ask","label":"","memory":100,"priority":1,"tenant":"eng","vcores":1}"#,
+];
+
 /// Names of 64 bytes.
 const LONG: [&str; 5] = [
     r#"{"event":"register","label":"","memory":10000,"node":"d1","vcores":10}"#,
@@ -218,4 +241,28 @@ fn plans_are_choices(rt: HostRuntime) {
     assert!(rt; agrees(&rt, alloc, SHARED, &MORNING, &["g1", "d1", "s1"]));
     assert!(rt; agrees(&rt, alloc, SHARED, &GUESTS, &["g1", "d1", "s1"]));
     assert!(rt; agrees(&rt, alloc, DEEP, &LONG, &["d1"]));
+}
+
+/// Each plan is committed, until nothing more is chosen, and then leaves change: what is kept of other leaves holds.
+#[test]
+fn kept_lists_hold(rt: HostRuntime) {
+    let alloc = rt.alloc();
+    let nodes = ["g1", "d1", "s1"];
+    let mut core = given(&rt, alloc, SHARED, &MORNING);
+    let mut last = 0;
+    for turn in 0..20 {
+        let node = name(&rt, nodes[turn % 3]);
+        if let Some(proposal) = planned(&seen_again(&rt, &mut core, &node)) {
+            let reply = answered(&rt, &mut core, &Event::Commit { proposal });
+            assert!(rt; matches!(&reply, Reply::Committed(_)));
+            last = turn;
+        }
+        assert!(rt; plans_as_it_chooses(&rt, &mut core, &nodes));
+    }
+    assert!(rt; last == 12);
+    for line in EVENING {
+        let reply = answered(&rt, &mut core, &event_of(&rt, alloc, line));
+        assert!(rt; matches!(&reply, Reply::Done));
+        assert!(rt; plans_as_it_chooses(&rt, &mut core, &nodes));
+    }
 }

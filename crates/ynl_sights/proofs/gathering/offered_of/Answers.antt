@@ -24,5 +24,5 @@ returns c = λ row at.
     read-at w.rows.users mine.user c.user_name.result.now [] (rw is.value at c.user_name.ensures) in
     let name = name-is w c.args.app mine found c.inventory-inventory.result.now is.value c.app_name.result.now c.app_name.ensures in
     let used = c.used_by-user_used.ensures.value mine found in
-    (λ i. (used i, record { position = c.args.position; size = c.args.size; priority = c.args.priority; app = name i; user = record { marker = record {}; value = (c.of.ensures ∙ sym user) i } }))
-    ∙ ap (λ (r : AppRow). shown_as w.rows c.args.p c.args.position r c.args.size c.args.priority) (same_Some mine row (sym found ∙ at))
+    (λ i. (used i, record { place = c.args.place; size = c.args.size; priority = c.args.priority; app = name i; user = sym user i }))
+    ∙ ap (λ (r : AppRow). shown_as w.rows c.args.p c.args.place r c.args.size c.args.priority) (same_Some mine row (sym found ∙ at))

@@ -1,12 +1,10 @@
 -- What is told of the tests of a leaf is what the model says of the leaf.
-use Rattle.std.proofs.Common.{not, sym, ap, subst, ◌∙◌}
+use Rattle.std.proofs.Common.{not, ap, subst, ◌∙◌}
 use Rattle.ynl_resource.specs.Amounts.{nothing}
-use Rattle.ynl_model.specs.declared.uses.Use.{Use}
 use Rattle.ynl_search.specs.declared.limits.limits.Limits.{Limits}
 use Rattle.ynl_search.specs.limits.Limits.{limit_of}
 use Rattle.ynl_cluster.specs.Cluster.{label_of, path_of, state_in}
 use Rattle.ynl_search.specs.Leaves.{AreTests}
-use Rattle.ynl_search.proofs.Steps.{maximum-root}
 use Rattle.ynl_sights.proofs.ways.limits_of.Goals as goal
 
 pub returns : goal.returns
@@ -17,7 +15,6 @@ returns c =
     let are : AreTests w.config s label nothing (path_of w c.args.leaf) c.tests_of-tests.result =
     subst (λ q. AreTests w.config s label nothing (path_of w q) c.tests_of-tests.result) c.requires.place.queue (c.tests_of-tests.ensures.tests nothing c.requires.place.is) in
     record {
-      root = λ i. record { used = (ap (λ (u : Use). u.used) c.used.ensures.value) i; maximum = (c.total.ensures.value ∙ sym (maximum-root s label)) i };
       user_limit = λ size. ap (λ (limits : Limits). limit_of limits size) c.limits.ensures ∙ are.limit size;
       masters = c.masters.ensures.value ∙ are.masters;
       master_limit = c.master_limit.ensures ∙ are.master_limit;

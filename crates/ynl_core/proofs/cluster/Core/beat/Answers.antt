@@ -29,4 +29,5 @@ invariant_of-self-2 c =
           (c.serve.ensures.config ∙ ap (λ (v : ClusterView). v.config) c.reserve_for.ensures.rows)
           (does.beats w u c.args.name.now c.in-Ok.node named (state ∙ ap (λ times. (beat w.config of times (state_in w)).state) count)) tt c.self.invariant.working;
       shut = c.serve.ensures.shut;
+      lists = c.forget_all.ensures u.rows;
     }

@@ -1,11 +1,17 @@
-use Rattle.std.proofs.Common.{◌≡◌, None, ap, subst, ◌∙◌}
+use Rattle.std.proofs.Common.{◌≡◌, None, sym, ap, subst, ◌∙◌}
 use Rattle.ynl_resource.specs.Refusals.{first_that_holds}
 use Rattle.ynl_model.specs.declared.events.Event.TheVariants.{Commit}
 use Rattle.ynl_model.specs.declared.replies.Reply.TheVariants.{Committed}
 use Rattle.ynl_model.specs.Changes.{container_of, place}
 use Rattle.ynl_model.specs.Events.{accepted, reasons}
 use Rattle.ynl_inventory.specs.Meaning.{item_of, node_of}
+use Rattle.ynl_inventory.specs.Changes.{with_placed}
+use Rattle.ynl_inventory.specs.Parts.{app_row}
+use Rattle.ynl_inventory.specs.Rows.{Rows}
 use Rattle.ynl_inventory.specs.Sound.{IsPlaceable}
+use Rattle.ynl_sights.specs.Lists.{AreListsOf}
+use Rattle.ynl_sights.proofs.Placed.{placed-elsewhere}
+use Rattle.ynl_sights.proofs.Staying.{lists-stay}
 use Rattle.ynl_cluster.specs.Cluster.{ClusterView, state_in}
 use Rattle.ynl_core.specs.World.{Answers, World}
 use Rattle.ynl_core.proofs.Accepted as does
@@ -13,7 +19,7 @@ use Rattle.ynl_core.proofs.Known.{shut-stays}
 use Rattle.ynl_core.proofs.Stepping.{answers, works, world_in}
 use Rattle.ynl_core.proofs.cluster.Core.commit.Goals as goal
 
-module _ (c : goal.After-place-placed) where
+module _ (c : goal.After-forget) where
   abbrev w : ClusterView
   w = c.self.inside.cluster
 
@@ -55,6 +61,12 @@ invariant_of-self-2 c = record {
       c.place-placed.ensures.shut
       (shut-stays (w c) (roomy c) c.check.new.shut (ap (λ (v : ClusterView). v.config) c.reserve_for.ensures.rows) (ap state_in c.reserve_for.ensures.rows) (ap (λ (v : ClusterView). v.rows.partitions) c.reserve_for.ensures.rows)
       (ap (λ (v : ClusterView). v.rows.paths) c.reserve_for.ensures.rows) c.check.ensures.shut);
+  lists =
+      subst (λ (v : Rows). AreListsOf v c.forget.new.self) (sym (ap (λ (v : ClusterView). v.rows) c.place-placed.ensures.rows.1 ∙ ap (λ (v : ClusterView). with_placed c.place-placed.ensures.rows.0 c.in-Ok.placement.node c.in-Ok.placement.app c.in-Ok.placement.role c.in-Ok.placement.size v.rows) c.reserve_for.ensures.rows))
+      (lists-stay (w c).rows c.inventory-inventory.ensures.sound _ c.app.result.now.leaf
+      (placed-elsewhere (w c).rows c.inventory-inventory.ensures.sound c.place-placed.ensures.rows.0 c.in-Ok.placement.node c.in-Ok.placement.app c.in-Ok.placement.role c.in-Ok.placement.size (app_row c.app.result.now)
+      (rw c.inventory-inventory.ensures.value at c.app.ensures))
+      c.self.inside.lists c.forget.new.self c.forget.ensures.gone c.forget.ensures.others c.self.invariant.lists);
 }
 
 pub returns-clause-ok : goal.returns-clause-ok

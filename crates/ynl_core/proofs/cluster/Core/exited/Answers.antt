@@ -4,6 +4,7 @@ use Rattle.ynl_model.specs.declared.events.Event.TheVariants.{Exited}
 use Rattle.ynl_model.specs.declared.replies.Reply.TheVariants.{Done}
 use Rattle.ynl_cluster.specs.Cluster.{ClusterView}
 use Rattle.ynl_core.proofs.Accepted as does
+use Rattle.ynl_core.proofs.Listing.{lists-end}
 use Rattle.ynl_core.proofs.Stepping.{works}
 use Rattle.ynl_tables.specs.declared.containers.container.Container.{Container}
 use Rattle.ynl_model.specs.Changes.{end}
@@ -20,4 +21,7 @@ invariant_of-self c =
           (does.exited c.self.inside.cluster c.end.new.cluster c.args.name.now c.args.id.now c.in-Ok.held c.in-Ok.ensures.ends
           (c.end.ensures.state ∙ ap (λ (x : Container). end c.self.inside.cluster.config (state_in c.self.inside.cluster) (placed_of c.self.inside.cluster.rows (label_of c.self.inside.cluster c.in-Ok.held.partition) x)) same)) tt c.self.invariant.working;
       shut = c.end.ensures.shut c.self.invariant.shut;
+      lists =
+          lists-end c.self.inside.cluster.rows c.end.new.cluster.rows c.leaf_of-leaf.ensures.sound c.in-Ok.held.partition c.in-Ok.held.number c.end.result.node c.leaf_of-leaf.result c.leaf_of-leaf.ensures.leaf
+          (ap (λ (w : ClusterView). w.rows) c.end.ensures.rows) c.self.inside.lists c.forget.new.self c.forget.ensures.gone c.forget.ensures.others c.self.invariant.lists;
     }

@@ -14,4 +14,5 @@ invariant_of-self c = record {
       (does.bounds c.self.inside.cluster c.set_maximum.new.self c.args.queue.now c.args.label.now c.args.share c.in-Ok.cell c.in-Ok.ensures.cell c.set_maximum.ensures.state)
       tt c.self.invariant.working;
   shut = none-shut c.set_maximum.new.self c.self.inside.shut c.forget_all.new.self c.forget_all.ensures.own c.forget_all.ensures.guests;
+  lists = c.forget_all-2.ensures c.set_maximum.new.self.rows;
 }

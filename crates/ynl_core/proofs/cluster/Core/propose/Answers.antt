@@ -8,7 +8,7 @@ use Rattle.ynl_model.specs.declared.replies.Reply.TheVariants.{Proposed}
 use Rattle.ynl_core.proofs.cluster.Core.propose.Goals as goal
 
 pub invariant_of-self : goal.invariant_of-self
-invariant_of-self c = record { working = c.self.invariant.working; shut = c.proposed.ensures.shut }
+invariant_of-self c = record { working = c.self.invariant.working; shut = c.proposed.ensures.shut; lists = c.self.invariant.lists }
 
 pub returns-clause-ok : goal.returns-clause-ok
 returns-clause-ok c =

@@ -12,4 +12,5 @@ invariant_of-self-2 c = record {
       works c.self.inside.cluster c.join.new.self (Register c.args.name.now c.args.label.now c.args.size.now) Done (c.in-Ok.ensures.free c.args.size.now) (ap (λ (w : ClusterView). w.config) c.in_ok-join.ensures.ok)
       (does.registered c.self.inside.cluster c.join.new.self c.args.name.now c.args.label.now c.args.size.now c.in-Ok.p c.in-Ok.ensures.joins c.in_ok-join.ensures.state) c.amount-sized.ensures.range c.self.invariant.working;
   shut = none-shut c.join.new.self c.self.inside.shut c.forget_all.new.self c.forget_all.ensures.own c.forget_all.ensures.guests;
+  lists = c.forget_all-2.ensures c.join.new.self.rows;
 }

@@ -15,6 +15,7 @@ invariant_of-self-2 c =
           works c.self.inside.cluster c.relabel-2.new.self (Relabel c.args.name.now c.args.label.now) Done c.in-Ok.ensures.free (ap (λ (w : ClusterView). w.config) (c.in_ok-relabel.ensures.rows node.row node.found))
           (does.relabelled c.self.inside.cluster c.relabel-2.new.self c.args.name.now c.args.label.now c.in-Ok.moved c.in-Ok.ensures.moves (c.in_ok-relabel.ensures.state node.row node.found)) tt c.self.invariant.working;
       shut = none-shut c.relabel-2.new.self c.self.inside.shut c.forget_all.new.self c.forget_all.ensures.own c.forget_all.ensures.guests;
+      lists = c.forget_all-2.ensures c.relabel-2.new.self.rows;
     }
 
 pub returns-clause-ok : goal.returns-clause-ok

@@ -14,4 +14,5 @@ invariant_of-self c =
           works c.self.inside.cluster c.set_stopped.new.self (Stop c.args.queue.now) Done c.in-Ok.ensures.free (ap (λ (w : ClusterView). w.config) c.set_stopped.ensures.rows)
           (does.stops c.self.inside.cluster c.set_stopped.new.self c.args.queue.now c.in-Ok.number queue.queue c.set_stopped.ensures.state) tt c.self.invariant.working;
       shut = none-shut c.set_stopped.new.self c.self.inside.shut c.forget_all.new.self c.forget_all.ensures.own c.forget_all.ensures.guests;
+      lists = c.forget_all-2.ensures c.set_stopped.new.self.rows;
     }

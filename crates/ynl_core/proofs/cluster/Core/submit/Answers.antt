@@ -10,11 +10,16 @@ use Rattle.ynl_inventory.specs.Meaning.{label_at}
 use Rattle.ynl_cluster.specs.Cluster.{ClusterView, state_in}
 use Rattle.ynl_core.specs.World.{Answers, World}
 use Rattle.ynl_core.proofs.Accepted as does
+use Rattle.ynl_inventory.specs.Rows.{Rows}
+use Rattle.ynl_sights.specs.Lists.{AreListsOf}
+use Rattle.ynl_sights.proofs.Staying.{lists-stay}
+use Rattle.ynl_sights.proofs.Submitted.{submitted-elsewhere}
 use Rattle.ynl_core.proofs.Known.{shut-stays, user-leaves}
+use Rattle.ynl_core.proofs.Listing.{lists-known}
 use Rattle.ynl_core.proofs.Stepping.{answers, works, world_in}
 use Rattle.ynl_core.proofs.cluster.Core.submit.Goals as goal
 
-module _ (c : goal.In_ok-submit) where
+module _ (c : goal.After-forget) where
   abbrev w : ClusterView
   w = c.self.inside.cluster
 
@@ -51,6 +56,13 @@ invariant_of-self-2 c = record {
   working =
       works (w c) (u c) (Submit c.args.queue.now c.args.app.now c.args.user.now c.args.label.now c.args.master.now) Done (c.in-Ok.ensures.free c.args.user.now) (config c) (submits c) c.amount-sized.ensures.range c.self.invariant.working;
   shut = c.in_ok-submit.ensures.shut (shut-stays (w c) (known c) c.self.inside.shut (ap (λ (v : ClusterView). v.config) c.in_ok-user.ensures.ok) c.in_ok-user.ensures.state (partitions c) (paths c) c.self.invariant.shut);
+  lists =
+      let v = (known c).rows in
+      subst (λ (rows : Rows). AreListsOf rows c.forget.new.self) (sym (ap (λ (v : ClusterView). v.rows) c.in_ok-submit.ensures.rows.1))
+      (lists-stay v c.inventory-2.ensures.sound _ c.in-Ok.numbers.leaf
+      (submitted-elsewhere v c.inventory-2.ensures.sound _ c.in_ok-submit.ensures.unused c.in_ok-submit.ensures.rows.0 c.args.app.now c.in-Ok.numbers.tenant c.in-Ok.numbers.leaf c.in_ok-user.field-0 c.in-Ok.numbers.home _)
+      c.self.inside.lists c.forget.new.self c.forget.ensures.gone c.forget.ensures.others
+      (lists-known (w c).rows v c.inventory.ensures.sound c.args.user.now (ap (λ (v : ClusterView). v.rows) c.in_ok-user.ensures.ok) c.self.inside.lists c.self.invariant.lists));
 }
 
 pub returns-clause-ok : goal.returns-clause-ok
@@ -72,4 +84,7 @@ invariant_of-self-in_err-submit c =
           subst (λ (v : ClusterView). WorksAndIsTold v.config (state_in v)) (sym same)
           (subst (λ configured. WorksAndIsTold configured (state_in known)) (sym config) (subst (WorksAndIsTold w.config) (sym c.in_ok-user.ensures.state) c.self.invariant.working));
       shut = c.in_err-submit.ensures.shut (shut-stays w known c.self.inside.shut config c.in_ok-user.ensures.state partitions paths c.self.invariant.shut);
+      lists =
+          subst (λ (v : ClusterView). AreListsOf v.rows c.self.inside.lists) (sym same)
+          (lists-known w.rows known.rows c.inventory.ensures.sound c.args.user.now (ap (λ (v : ClusterView). v.rows) c.in_ok-user.ensures.ok) c.self.inside.lists c.self.invariant.lists);
     }

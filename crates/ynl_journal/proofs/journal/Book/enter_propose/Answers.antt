@@ -4,7 +4,7 @@ use Rattle.ynl_model.specs.declared.events.Event.TheVariants.{Propose}
 use Rattle.ynl_core.specs.World.{World}
 use Rattle.ynl_core.specs.Sightings.{IsSighting, reply_by, reply_before}
 use Rattle.ynl_journal.specs.Journal.{Journal, entry}
-use Rattle.ynl_journal.proofs.Booked.{journal, len_from, state_grown, counted_grown, reply_known, world_known, entry_grown, written_before}
+use Rattle.ynl_journal.proofs.Booked.{journal, config_grown, len_from, state_grown, counted_grown, reply_known, world_known, entry_grown, written_before}
 use Rattle.ynl_journal.proofs.journal.Book.enter_propose.Goals as goal
 
 pub invariant_of-self-in-Ok : goal.invariant_of-self-in-Ok
@@ -13,8 +13,8 @@ invariant_of-self-in-Ok c =
     let event : Event = Propose c.args.node.now in
     let planned = c.push_reserved.ensures.items ∙ ap (λ (ps : List Bool). ps ++ true ∷ []) c.keep.ensures.planned in
     record {
-      config = c.self.invariant.config;
-      state = state_grown was.start.value.state was.core was.core was.events event (reply_by c.in-Ok.sighted) c.self.invariant.state c.in-Ok.ensures.told c.keep.new.events c.in_ok-keep.ensures.events;
+      config = config_grown was.start.value was.core c.see.new.self event (reply_by c.in-Ok.sighted) c.self.invariant.config c.in-Ok.ensures.told;
+      state = state_grown was.start.value.state was.core c.see.new.self was.events event (reply_by c.in-Ok.sighted) c.self.invariant.state c.in-Ok.ensures.told c.keep.new.events c.in_ok-keep.ensures.events;
       counted = counted_grown was.events c.keep.new.events was.planned.items c.push_reserved.new.self.items event true c.self.invariant.counted c.in_ok-keep.ensures.events planned;
     }
 
@@ -30,13 +30,13 @@ returns-in-Ok-clause-sighting c =
 pub returns-in-Ok-clause-reply : goal.returns-in-Ok-clause-reply
 returns-in-Ok-clause-reply c =
     let was = c.self.inside in
-    rw (← c.self.view_is) (reply_known was.start.value.state was.core was.core was.events (Propose c.args.node.now) (reply_by c.in-Ok.sighted) c.self.invariant.state c.in-Ok.ensures.told was.planned.items c.self.invariant.counted)
+    rw (← c.self.view_is) (reply_known was.start.value.state was.core c.see.new.self was.events (Propose c.args.node.now) (reply_by c.in-Ok.sighted) c.self.invariant.state c.in-Ok.ensures.told was.planned.items c.self.invariant.counted)
 
 pub returns-in-Ok-clause-entry : goal.returns-in-Ok-clause-entry
 returns-in-Ok-clause-entry c =
     let was = c.self.inside in
     let event : Event = Propose c.args.node.now in
     let planned = c.push_reserved.ensures.items ∙ ap (λ (ps : List Bool). ps ++ true ∷ []) c.keep.ensures.planned in
-    entry_grown was.start.value.state was.core was.core was.events event (reply_by c.in-Ok.sighted) c.self.invariant.state c.in-Ok.ensures.told c.keep.new.events was.planned.items
+    entry_grown was.start.value.state was.core c.see.new.self was.events event (reply_by c.in-Ok.sighted) c.self.invariant.state c.in-Ok.ensures.told c.keep.new.events was.planned.items
     c.push_reserved.new.self.items true (reply_before c.in-Ok.sighted) c.self.invariant.counted c.in_ok-keep.ensures.events planned (written_before c.in-Ok.sighted)
     ∙ ap (λ (j : Journal). journal j.config j.begun (j.entries ++ entry event (reply_before c.in-Ok.sighted) ∷ [])) c.self.view_is
