@@ -16,6 +16,8 @@ use ynl_saved_text::BadState;
 /// than 268,435,456 bytes has the fault `Size`, and one without its last line the fault `Cut`.
 ///
 /// `Err` only if memory is refused.
+// Inlined, its 28 KB would stand in the caller's frame until the job has ended.
+#[inline(never)]
 pub fn read_state(
     alloc: Global,
     config: Config,

@@ -292,6 +292,8 @@ fn kind_of(subcommand: &str, options: &ArgMatches<'_>) -> Option<Kind>
 /// program's name. Words that `clap` takes give their job, unless memory is refused, or the tenant or the
 /// application is no name, or the label none, or of the two an audit is given one alone, or both and a state.
 /// Of all others its error is told, which has one of the kinds that its definitions find.
+// Inlined, its 36 KB would stand in the caller's frame until the job has ended.
+#[inline(never)]
 pub fn parse_words<'a>(alloc: Global, words: &'a [String]) -> Result<Job<'a>, WordsFault>
     ensures run { drop 1 (map string_bytes words.now) ≡ codes "run" ∷ [] → IfErr result (λ e. e ≡ NoMemory) }
     ensures kind { IfOk result (λ job. spec.kind_of (map string_bytes words.now) ≡ Some job.kind) }
